@@ -1,0 +1,28 @@
+use thiserror::Error;
+
+/// Memory was refused.
+#[derive(Clone, Copy, Debug, PartialEq, Eq, Error)]
+#[error("memory was refused")]
+pub struct Memory;
+
+/// A counter stands at its limit, 2^63, and would have to rise.
+#[derive(Clone, Copy, Debug, PartialEq, Eq, Error)]
+#[error("a counter is worn")]
+pub struct Worn;
+
+/// Why a run was refused. Of several causes the first in this order is answered.
+#[derive(Clone, Copy, Debug, PartialEq, Eq, Error)]
+pub enum Fault {
+    /// Memory was refused.
+    #[error("F1")]
+    Memory,
+    /// A counter stands at its limit, 2^63, and would have to rise.
+    #[error("F2")]
+    Worn,
+    /// A sink failed to take what was written.
+    #[error("F3")]
+    Write,
+    /// The threads of a parallel run did not hand on what they were given.
+    #[error("F4")]
+    Relay,
+}

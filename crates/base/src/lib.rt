@@ -1,0 +1,10 @@
+//! What every crate of swimsim speaks of: moments, members, the keys of events, the limits and the
+//! faults. In `specs/` a cluster of any deterministic machine, its next step and its run.
+#![tactic(auto)]
+
+mod fault;
+mod key;
+pub mod limits;
+
+pub use fault::{Fault, Memory, Worn};
+pub use key::{Key, MemberId, Moment};
