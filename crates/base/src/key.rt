@@ -1,4 +1,5 @@
-ghost use Rattle.std.specs.Prelude.{◌≡◌, ℕ};
+ghost use Rattle.std.specs.Prelude.{◌≡◌, ◌^◌, ◌<◌, ℕ};
+ghost use Rattle.std.specs.Cmp.{IsTotalOrder};
 
 use std::marker::Model;
 

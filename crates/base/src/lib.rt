@@ -4,7 +4,9 @@
 
 mod fault;
 mod key;
+mod order;
 pub mod limits;
 
 pub use fault::{Fault, Memory, Worn};
 pub use key::{Key, MemberId, Moment};
+pub use order::key_order;

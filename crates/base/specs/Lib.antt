@@ -1,0 +1,4 @@
+pub mod Order
+pub mod World
+pub mod Run
+pub mod Rising
