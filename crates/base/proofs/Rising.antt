@@ -23,15 +23,15 @@ by_order a b Greater e not_before other = absurd (not_before (key_total.antisymm
 before_other : (a b : Key) → ¬ (IsBefore b a) → ¬ (b ≡ a) → IsBefore a b
 before_other a b = by_order a b (key_cmp a b) refl
 
-all_append : {A : Type 0} (P : A → Type 0) (xs ys : List A) → AllByRecursion P xs → AllByRecursion P ys → AllByRecursion P (xs ++ ys)
+pub all_append : {A : Type 0} (P : A → Type 0) (xs ys : List A) → AllByRecursion P xs → AllByRecursion P ys → AllByRecursion P (xs ++ ys)
 all_append P [] ys a b = b
 all_append P (x ∷ xs) ys a b = (a.0, all_append P xs ys a.1 b)
 
-all_weaker : {A : Type 0} (P Q : A → Type 0) → ((x : A) → P x → Q x) → (xs : List A) → AllByRecursion P xs → AllByRecursion Q xs
+pub all_weaker : {A : Type 0} (P Q : A → Type 0) → ((x : A) → P x → Q x) → (xs : List A) → AllByRecursion P xs → AllByRecursion Q xs
 all_weaker P Q f [] a = tt
 all_weaker P Q f (x ∷ xs) a = (f x a.0, all_weaker P Q f xs a.1)
 
-rising_append : {A : Type 0} (before : A → A → Type 0) (xs ys : List A) → IsRising before xs → IsRising before ys → AllByRecursion (λ x. AllByRecursion (before x) ys) xs → IsRising before (xs ++ ys)
+pub rising_append : {A : Type 0} (before : A → A → Type 0) (xs ys : List A) → IsRising before xs → IsRising before ys → AllByRecursion (λ x. AllByRecursion (before x) ys) xs → IsRising before (xs ++ ys)
 rising_append before [] ys a b across = b
 rising_append before (x ∷ xs) ys a b across = (all_append (before x) xs ys a.0 across.0, rising_append before xs ys a.1 b across.1)
 

@@ -18,7 +18,8 @@ MakesLater {S} {C} step = (k : Key) (c : C) (s : S) → AllByRecursion (λ e. k.
 
 -- ---- pending events
 
-tells : (a b : Key) → eq_by_cmp key_cmp a b ≡ true → a ≡ b
+-- keys that compare alike are one
+pub tells : (a b : Key) → eq_by_cmp key_cmp a b ≡ true → a ≡ b
 tells a b e = key_exact a b (equal (key_cmp a b) e)
   where
     equal : (o : Ordering) → is_eq o ≡ true → o ≡ Equal
