@@ -1,0 +1,2 @@
+pub mod HealthRuns
+pub mod RelaySets

@@ -1,0 +1,4 @@
+pub mod Health
+pub mod Probe
+pub mod NackDelay
+pub mod Relays
