@@ -1,0 +1,5 @@
+pub mod DrawLemmas
+pub mod PlaceLemmas
+pub mod RangeLemmas
+pub mod OrderLemmas
+pub mod FractionLemmas
