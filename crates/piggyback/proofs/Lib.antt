@@ -1,0 +1,9 @@
+pub mod Tally
+pub mod Rising
+pub mod Counting
+pub mod Holding
+pub mod Sorting
+pub mod Once
+pub mod Counts
+pub mod Runs
+pub mod Owned

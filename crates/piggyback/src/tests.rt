@@ -1,0 +1,125 @@
+use super::*;
+use incarnation::Claim;
+use std::process::Abort;
+use std::test::Fail;
+
+fn alive(subject: u16) -> Update {
+    Update {
+        subject: MemberId(subject),
+        claim: Claim::Alive,
+        inc: 5,
+        accuser: MemberId(subject),
+    }
+}
+
+fn suspect(subject: u16) -> Update {
+    Update {
+        subject: MemberId(subject),
+        claim: Claim::Suspect,
+        inc: 5,
+        accuser: MemberId(9),
+    }
+}
+
+fn count_of(buffer: &Buffer, subject: u16) -> Option<u64> {
+    buffer.of(MemberId(subject)).map(|(_, count)| count)
+}
+
+// The counts of the subjects 1 to 4.
+fn counts(buffer: &Buffer) -> [Option<u64>; 4] {
+    [
+        count_of(buffer, 1),
+        count_of(buffer, 2),
+        count_of(buffer, 3),
+        count_of(buffer, 4),
+    ]
+}
+
+// A buffer with counts 2, 0, 0, 1 for the subjects 1, 4, 3, 2.
+fn unevenly_sent(rt: &impl AllocGlobal) -> Result<Buffer, Memory> {
+    let mut buffer = Buffer::new(rt.alloc())?;
+    for subject in [1, 4, 3, 2] {
+        buffer.put(alive(subject))?;
+    }
+    for subject in [1, 2, 1] {
+        let _ = buffer.pick(1, 9, Some(alive(subject)))?;
+    }
+    Ok(buffer)
+}
+
+#[test]
+fn the_least_sent_go_first(rt: HostRuntime) -> Result<(), Fail> {
+    let mut buffer = unevenly_sent(&rt)?;
+    assert_eq!(rt; counts(&buffer), [Some(2), Some(1), Some(0), Some(0)]);
+    let updates = buffer.pick(2, 9, None)?;
+    assert_eq!(rt; updates.as_slice(), [alive(3), alive(4)].as_slice());
+    assert_eq!(rt; counts(&buffer), [Some(2), Some(1), Some(1), Some(1)]);
+    Ok(())
+}
+
+#[test]
+fn a_buddy_goes_before_all(rt: HostRuntime) -> Result<(), Fail> {
+    let mut buffer = unevenly_sent(&rt)?;
+    let updates = buffer.pick(2, 9, Some(suspect(1)))?;
+    assert_eq!(rt; updates.as_slice(), [suspect(1), alive(3)].as_slice());
+    assert_eq!(rt; counts(&buffer), [Some(3), Some(1), Some(1), Some(0)]);
+    assert_eq!(rt; buffer.of(MemberId(1)), Some((alive(1), 3)));
+    Ok(())
+}
+
+#[test]
+fn a_buddy_needs_no_entry_and_no_room(rt: HostRuntime) -> Result<(), Fail> {
+    let mut buffer = Buffer::new(rt.alloc())?;
+    buffer.put(alive(1))?;
+    let updates = buffer.pick(6, 9, Some(suspect(7)))?;
+    assert_eq!(rt; updates.as_slice(), [suspect(7), alive(1)].as_slice());
+    assert_eq!(rt; buffer.of(MemberId(7)), None);
+    assert_eq!(rt; buffer.pick(0, 9, Some(suspect(1)))?.len(), 0);
+    assert_eq!(rt; count_of(&buffer, 1), Some(1));
+    Ok(())
+}
+
+#[test]
+fn a_put_begins_anew(rt: HostRuntime) -> Result<(), Fail> {
+    let mut buffer = unevenly_sent(&rt)?;
+    buffer.put(suspect(1))?;
+    assert_eq!(rt; buffer.of(MemberId(1)), Some((suspect(1), 0)));
+    assert_eq!(rt; counts(&buffer), [Some(0), Some(1), Some(0), Some(0)]);
+    Ok(())
+}
+
+#[test]
+fn what_was_sent_often_enough_is_dropped(rt: HostRuntime) -> Result<(), Fail> {
+    let mut buffer = unevenly_sent(&rt)?;
+    // Subject 1 was sent twice already, so under a limit of 2 it is dropped without being carried.
+    let updates = buffer.pick(6, 2, None)?;
+    assert_eq!(rt;
+        updates.as_slice(),
+        [alive(3), alive(4), alive(2)].as_slice()
+    );
+    assert_eq!(rt; counts(&buffer), [None, None, Some(1), Some(1)]);
+    assert_eq!(rt; buffer.pick(6, 2, None)?.len(), 2);
+    assert_eq!(rt; counts(&buffer), [None; 4]);
+    Ok(())
+}
+
+// With ample memory nothing is refused here. To see refusals, run the tests with an allocation that
+// fails: whichever call it hits, the buffer stays as it was.
+#[test]
+fn a_refusal_changes_nothing(rt: HostRuntime) -> Result<(), Fail> {
+    let mut buffer = Buffer::new(rt.alloc())?;
+    for subject in [1, 4, 3, 2] {
+        let before = counts(&buffer);
+        if buffer.put(alive(subject)).is_err() {
+            assert_eq!(rt; counts(&buffer), before, "after a put that was refused");
+        }
+    }
+    for buddy in [None, Some(suspect(1))] {
+        let before = counts(&buffer);
+        match buffer.pick(2, 2, buddy) {
+            Ok(updates) => assert_eq!(rt; updates.len(), 2),
+            Err(Memory) => assert_eq!(rt; counts(&buffer), before, "after a pick that was refused"),
+        }
+    }
+    Ok(())
+}
