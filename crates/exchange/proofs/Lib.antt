@@ -1,0 +1,10 @@
+pub mod Worn
+pub mod Targets
+pub mod Pending
+pub mod Openings
+pub mod Members
+pub mod Steps
+pub mod Fairness
+pub mod Naming
+pub mod Left
+pub mod Runs

@@ -1,0 +1,33 @@
+use Rattle.std.proofs.Common.{◌++◌, [], ◌∷◌, map, length, ap, ◌∙◌, sym, arith}
+use Rattle.std.specs.List.{range_with_len}
+use Rattle.std.specs.FinMap.{empty, insert}
+use Rattle.std.proofs.lemmas.List.FromFn.{map-range_with_len_more, length-map-range_with_len}
+use Rattle.base.specs.Order.{key_cmp}
+use Rattle.base.specs.World.{with_events}
+use Rattle.exchange.specs.declared.member.Content.TheVariants.{Start}
+use Rattle.exchange.specs.Opening.{waiting, start_key}
+use Rattle.exchange.proofs.Openings.{opened}
+use Rattle.exchange.proofs.Pending.{added, with_events_more}
+use Rattle.exchange.proofs.cluster.open.Goals as goal
+
+pub loop-number-preserved : goal.loop-number-preserved
+unfolding key_cmp
+loop-number-preserved c =
+    let i = c.loop-number.number in
+    record {
+      members = c.in-Ok.ensures.items ∙ ap (λ l. l ++ waiting ∷ []) c.loop-number.invariant.members ∙ sym (map-range_with_len_more (λ _. waiting) 0 i i (omega arith));
+      pending =
+          added c.loop-number.pending c.insert.new.self (start_key i) Start c.in-Ok-insert.ensures.updates.0 ∙ ap (λ m. insert m (start_key i) Start) c.loop-number.invariant.pending
+          ∙ sym (with_events_more (map (λ m. (start_key m, Start)) (range_with_len 0 i)) (start_key i, Start) empty)
+          ∙ ap (with_events empty) (sym (map-range_with_len_more (λ m. (start_key m, Start)) 0 i i (omega arith)));
+    }
+
+pub returns-clause-ok : goal.returns-clause-ok
+returns-clause-ok c =
+    opened c.args.scenario.now (record { members = c.loop-number.members; pending = c.loop-number.pending }) c.loop-number.number (omega (arith, c.members-number-end.ensures.count))
+    c.loop-number.invariant.members c.loop-number.invariant.pending
+
+pub returns-clause-size : goal.returns-clause-size
+returns-clause-size c =
+    let many = ap length c.loop-number.invariant.members ∙ length-map-range_with_len (λ _. waiting) 0 c.loop-number.number in
+    omega (arith, many, c.members-number-end.ensures.count)

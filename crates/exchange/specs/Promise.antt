@@ -1,0 +1,27 @@
+-- What a run writes.
+use Rattle.std.specs.Prelude.{◌≡◌, ℕ, ◌≤◌, ◌⊎◌, List, Option, length}
+use Rattle.std.specs.Io.KnownBytes.{Appends}
+use Rattle.scenario.specs.Setup.{Setup, member_count}
+use Rattle.trace.specs.declared.row.Row.{Row}
+use Rattle.trace.specs.Text.{trace_text}
+use Rattle.trace.specs.Sinks.{AppendsBeginning}
+use Rattle.exchange.specs.Opening.{IsRunOf}
+
+-- The scenarios that run so far: members start their first period at once, and there is one member, or there
+-- are two and at most one period begins. In no such run a probe fails, an update rides or chance decides.
+pub record RunsYet (s : Setup) : Type 0 where
+  pub at_once : s.swim.spread ≡ 1
+  pub few : (member_count s ≡ 1) ⊎ ((member_count s ≡ 2) × (s.end ≤ s.swim.period))
+
+-- the trace of the scenario's run was appended, which has so many rows
+pub record WritesTrace (s : Setup) (old new : Option (List ℕ)) (count : ℕ) : Type 0 where
+  pub rows : List Row
+  pub run : IsRunOf s rows
+  pub counted : count ≡ length rows
+  pub text : Appends old new (trace_text s rows)
+
+-- a beginning of the trace of the scenario's run was appended
+pub record WritesBeginning (s : Setup) (old new : Option (List ℕ)) : Type 0 where
+  pub rows : List Row
+  pub run : IsRunOf s rows
+  pub text : AppendsBeginning old new (trace_text s rows)

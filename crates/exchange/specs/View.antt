@@ -1,0 +1,44 @@
+-- The world that a cluster stands for.
+use Rattle.std.specs.Prelude.{◌≡◌, ℕ, ◌<◌, ◌≤◌, true, List}
+use Rattle.std.specs.List.{enumerate_from}
+use Rattle.std.specs.Ordering.{nat_cmp}
+use Rattle.std.specs.BTreeMap.{BTreeMap}
+use Rattle.std.specs.FinMap.{FinMap, from_entries, contains_key}
+use Rattle.base.specs.declared.key.Key.{Key}
+use Rattle.base.specs.Order.{key_cmp}
+use Rattle.base.specs.World.{World}
+use Rattle.base.specs.Run.{IsFirst}
+use Rattle.exchange.specs.declared.cluster.Cluster.{Cluster}
+use Rattle.exchange.specs.declared.member.Member.{Member}
+use Rattle.exchange.specs.declared.member.Content.{Content}
+use Rattle.exchange.specs.declared.turn.Turn.{Turn}
+use Rattle.exchange.specs.Step.{Effect}
+
+-- members by their places
+abbrev pub members_of : List Member → FinMap nat_cmp Member
+members_of ms = from_entries (enumerate_from 0 ms)
+
+-- the pending events by their keys
+abbrev pub events_in : BTreeMap Key Content → FinMap key_cmp Content
+events_in m = from_entries m.entries
+
+-- the least of these events is due up to the end
+pub record SomeIsDue (events : FinMap key_cmp Content) (end : ℕ) : Type 0 where
+  pub key : Key
+  pub content : Content
+  pub first : IsFirst events key content
+  pub due : key.at ≤ end
+
+-- none of these events is due up to the end
+abbrev pub NoneIsDue : FinMap key_cmp Content → ℕ → Type 0
+NoneIsDue events end = (q : Key) → contains_key events q ≡ true → end < q.at
+
+abbrev pub pending_of : Cluster → FinMap key_cmp Content
+pending_of cluster = events_in cluster.pending
+
+abbrev pub world_of : Cluster → World Member Content
+world_of cluster = record { members = members_of cluster.members.items; pending = pending_of cluster }
+
+-- what a turn has made so far
+abbrev pub effect_of : Turn → Effect
+effect_of turn = record { state = turn.member; events = turn.events.items; rows = turn.rows.items }

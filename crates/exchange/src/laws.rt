@@ -1,0 +1,44 @@
+//! What holds of every run, stated over the definitions alone.
+
+ghost use Rattle.std.specs.Prelude.{◌≡◌, List, map};
+ghost use Rattle.std.specs.FinMap.{remove, get};
+ghost use Rattle.std.specs.Prelude.{Some, ℕ};
+ghost use Rattle.base.specs.Order.{IsBefore};
+ghost use Rattle.base.specs.World.{World, Run, SequentialRun, events_of, outcome};
+ghost use Rattle.base.specs.Rising.{IsRising, IsPlaceBefore, AreNew};
+ghost use Rattle.base.specs.declared.key.Key.{Key};
+ghost use Rattle.scenario.specs.Setup.{Setup, IsSound};
+ghost use Rattle.trace.specs.declared.row.Row.{Row};
+ghost use Rattle.exchange.specs.declared.member.Member.{Member};
+ghost use Rattle.exchange.specs.declared.member.Content.{Content};
+ghost use Rattle.exchange.specs.Step.{step};
+ghost use Rattle.exchange.specs.Opening.{opening, IsRunOf};
+ghost use Rattle.exchange.specs.Rows.{place_of};
+
+/// Every scenario has a run, so a run is finite.
+pub fn a_run_exists()
+    ensures { (s : Setup) → IsSound s → (rows : List Row) × IsRunOf s rows }
+{}
+
+/// No scenario has two.
+pub fn the_run_is_one()
+    ensures { (s : Setup) (first second : List Row) → IsSound s → IsRunOf s first → IsRunOf s second → first ≡ second }
+{}
+
+/// Events are handled in the order of their keys, which rise strictly.
+pub fn keys_rise()
+    ensures { (s : Setup) (keys : List Key) (rows : List Row) → IsSound s → SequentialRun (step s) s.end (opening s) keys rows → IsRising IsBefore keys }
+{}
+
+/// The trace is in the order of its rows' first five fields, and no two rows agree in them.
+pub fn rows_rise()
+    ensures { (s : Setup) (rows : List Row) → IsSound s → IsRunOf s rows → IsRising IsPlaceBefore (map place_of rows) }
+{}
+
+/// No two pending events share a key: wherever a run has come, the events that a step makes have keys
+/// that differ from each other and from those that pend.
+pub fn events_are_new()
+    ensures { (s : Setup) (keys : List Key) (rows : List Row) (w : World Member Content) (k : Key) (c : Content) → IsSound s
+        → Run (step s) s.end (opening s) keys rows w → get w.pending k ≡ Some c
+        → AreNew (remove w.pending k) (events_of (outcome (step s) w k c)) }
+{}

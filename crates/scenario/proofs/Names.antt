@@ -1,0 +1,37 @@
+-- There are as many names as members, and a place in the set of names has the member's name.
+use Rattle.std.proofs.Common.{◌≡◌, ℕ, List, [], ◌∷◌, ◌++◌, ◌+◌, zero-add, append_assoc, codes, map, length, Some, sym, ap, ◌∙◌, String, Global, string_bytes}
+use Rattle.std.specs.List.{slice_get, sum_by}
+use Rattle.std.specs.Fmt.{decimal}
+use Rattle.std.specs.Option.{unwrap_or, option_map}
+use Rattle.std.proofs.lemmas.List.{length-map, map-append}
+use Rattle.std.proofs.lemmas.List.Concat.{length-flat_map}
+use Rattle.std.proofs.lemmas.List.FromFn.{length-map-range_with_len, map-range_with_len_more}
+use Rattle.std.proofs.lemmas.Option.{slice_get-map}
+use Rattle.scenario.specs.Setup.{Setup, Group, names_in, member_names, member_count, name_of}
+
+pub length-member_names : (s : Setup) → length (member_names s) ≡ member_count s
+length-member_names s =
+    length-flat_map names_in s.groups ∙ (λ i. sum_by (λ (g : Group). length-map-range_with_len (λ n. g.name ++ codes "-" ++ decimal n) 0 g.count i) s.groups)
+
+-- as many keys as members
+pub length-names : (keys : List (String Global)) (s : Setup) → map string_bytes keys ≡ member_names s → length keys ≡ member_count s
+length-names keys s named = sym (length-map keys string_bytes) ∙ ap length named ∙ length-member_names s
+
+-- what the key at a member's place spells
+pub name_at : (keys : List (String Global)) (s : Setup) (m : ℕ) (key : String Global) → map string_bytes keys ≡ member_names s → slice_get keys m ≡ Some key → string_bytes key ≡ name_of s m
+name_at keys s m key named found =
+    sym (ap (λ o. unwrap_or (option_map string_bytes o) []) found) ∙ ap (λ o. unwrap_or o []) (sym (slice_get-map string_bytes keys m))
+    ∙ ap (λ names. unwrap_or (slice_get names m) []) named
+
+-- one more member of a group
+pub names_in-more : (name : List ℕ) (n : ℕ) → names_in (record { name = name; count = n + 1 }) ≡ names_in (record { name = name; count = n }) ++ (name ++ codes "-" ++ decimal n) ∷ []
+names_in-more name n = map-range_with_len_more (λ i. name ++ codes "-" ++ decimal i) 0 n n (zero-add n)
+
+-- the names so far, after the next one
+pub names-more : (keys more : List (String Global)) (key : String Global) (front : List (List ℕ)) (name : List ℕ) (n : ℕ)
+    → more ≡ keys ++ key ∷ [] → string_bytes key ≡ name ++ codes "-" ++ decimal n
+    → map string_bytes keys ≡ front ++ names_in (record { name = name; count = n }) → map string_bytes more ≡ front ++ names_in (record { name = name; count = n + 1 })
+names-more keys more key front name n grown spelt named =
+    ap (map string_bytes) grown ∙ map-append string_bytes keys (key ∷ []) ∙ ap (λ k. map string_bytes keys ++ k ∷ []) spelt
+    ∙ ap (λ names. names ++ (name ++ codes "-" ++ decimal n) ∷ []) named ∙ append_assoc front (names_in (record { name = name; count = n })) ((name ++ codes "-" ++ decimal n) ∷ [])
+    ∙ ap (λ names. front ++ names) (sym (names_in-more name n))

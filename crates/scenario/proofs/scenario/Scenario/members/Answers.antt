@@ -1,0 +1,18 @@
+use Rattle.std.proofs.Common.{◌≡◌, subst, ap, ◌∙◌, arith, vec_len}
+use Rattle.scenario.specs.Setup.{member_count, IsSound}
+use Rattle.scenario.specs.View.{setup_of}
+use Rattle.scenario.proofs.Names.{length-names}
+use Rattle.scenario.proofs.scenario.Scenario.members.Goals as goal
+
+pub returns-clause-count : goal.returns-clause-count
+returns-clause-count c =
+    let counted : vec_len c.self.inside.names ≡ member_count (setup_of c.self.inside) = c.self.inside.names.ok.0 ∙ length-names c.self.inside.names.items (setup_of c.self.inside) c.self.invariant.names in
+    c.len.ensures ∙ counted ∙ ap member_count c.self.view_is
+
+pub returns-clause-few : goal.returns-clause-few
+returns-clause-few c =
+    let counted : vec_len c.self.inside.names ≡ member_count (setup_of c.self.inside) = c.self.inside.names.ok.0 ∙ length-names c.self.inside.names.items (setup_of c.self.inside) c.self.invariant.names in
+    omega (arith, c.self.invariant.sound.members)
+
+pub returns-clause-sound : goal.returns-clause-sound
+returns-clause-sound c = subst IsSound c.self.view_is c.self.invariant.sound

@@ -1,0 +1,48 @@
+use thiserror::Error;
+
+/// Why a text was refused.
+#[derive(Clone, Copy, Debug, PartialEq, Eq, Error)]
+#[error("scenario rule {rule}")]
+pub struct Refusal {
+    /// The least rule that the text breaks:
+    /// 1 it is no TOML document, 2 a required table or key is missing, 3 a key is unknown,
+    /// 4 a value is of another kind, 5 a whole number is outside its range, 6 a group name is of
+    /// another form or stands twice, 9 the timeout isn't below the period, 10 there are more than
+    /// 1,024 members; 11 memory was refused.
+    pub rule: u8,
+    /// Where the text breaks the rule, for people. For rule 1 the byte at which the fault begins,
+    /// counted from 0; else the number of the group that breaks it, counted from 1, or 0 where it
+    /// is no group's. Greater numbers than fit are the greatest that fits.
+    pub place: u32,
+}
+
+impl Refusal {
+    ghost use Rattle.std.specs.Prelude.{◌≡◌};
+
+    /// Memory was refused.
+    pub(crate) fn memory() -> Refusal
+        ensures { result.rule ≡ 11 }
+    {
+        Refusal { rule: 11, place: 0 }
+    }
+
+    /// The rule is broken in the group at this index.
+    pub(crate) fn in_group(rule: u8, index: usize) -> Refusal
+        ensures { result.rule ≡ rule }
+    {
+        Refusal {
+            rule,
+            place: number_of(index),
+        }
+    }
+}
+
+/// The number of the item at an index, counted from 1.
+pub(crate) fn number_of(index: usize) -> u32 {
+    u32::try_from(index.saturating_add(1)).unwrap_or(u32::MAX)
+}
+
+/// A place in the text as it is told to people.
+pub(crate) fn place_of(byte: usize) -> u32 {
+    u32::try_from(byte).unwrap_or(u32::MAX)
+}

@@ -1,0 +1,53 @@
+/// How members probe and gossip. Times are in ticks.
+#[derive(Clone, Copy, Debug, PartialEq, Eq)]
+pub struct Swim {
+    /// The protocol period, in ticks (SWIM, section 3.1).
+    pub period: u64,
+    /// How long a direct ping may go unanswered, in ticks; below the period.
+    pub timeout: u64,
+    /// How many members are asked to ping in one's place (SWIM's k).
+    pub helpers: u64,
+    /// The most updates that one message carries.
+    pub carry: u64,
+    /// An update rides at most this times the digits of the cluster's size.
+    pub lambda: u64,
+    /// Members begin their first period within this many ticks of their start.
+    pub spread: u64,
+}
+
+/// How long a suspicion lasts (SWIM, section 4.2; Lifeguard's LHA-Suspicion).
+#[derive(Clone, Copy, Debug, PartialEq, Eq)]
+pub struct Suspicion {
+    /// The shortest suspicion is this many periods times the logarithm of the cluster's size.
+    pub alpha: u64,
+    /// The longest suspicion is this many times the shortest.
+    pub beta: u64,
+}
+
+/// Lifeguard's switches and their settings.
+#[derive(Clone, Copy, Debug, PartialEq, Eq)]
+pub struct Lifeguard {
+    /// LHA-Probe: probes slow down with one's own bad health.
+    pub probe: bool,
+    /// LHA-Suspicion: suspicions end sooner as more members agree.
+    pub suspicion: bool,
+    /// Buddy System: a ping to a suspect tells it so.
+    pub buddy: bool,
+    /// The health counter's ceiling.
+    pub ceiling: u64,
+    /// How many further accusers bring a suspicion to its shortest.
+    pub confirmations: u64,
+    /// When a helper says that it has no answer, in percent of the timeout.
+    pub nack_percent: u64,
+}
+
+/// How messages travel from one member to another.
+#[derive(Clone, Copy, Debug, PartialEq, Eq)]
+pub struct Link {
+    /// The least time on the way, in ticks.
+    pub delay: u64,
+    /// The most that chance adds to it, in ticks.
+    pub jitter: u64,
+    /// How many of a million messages are lost.
+    pub loss: u64,
+}

@@ -1,0 +1,3 @@
+pub mod Beginnings
+mod Fields
+pub mod RowsText

@@ -1,0 +1,5 @@
+pub mod Text
+pub mod Sinks
+pub mod Writers
+pub mod Lines
+pub mod Memory

@@ -1,0 +1,261 @@
+use crate::testing::MemorySink;
+use crate::{Put, Row, Sink, Stopped, What, WriteError, put_all, write_head};
+use base::{MemberId, Moment};
+use std::io;
+use std::io::Write;
+use std::test::Fail;
+
+/// The header as it is told to users, with its line feed.
+const HEADER: &[u8; 48] = b"moment,member,from,number,what,about,value,lost\n";
+
+#[test]
+fn the_header_is_a_line(rt: HostRuntime) {
+    let mut sink = MemorySink::new(rt.alloc());
+    assert_eq!(rt; write_head(&mut sink), Ok(()));
+    assert_eq!(rt; sink.bytes(), HEADER.as_slice());
+    assert_eq!(rt; sink.puts(), 1);
+    assert_eq!(rt; sink.failures(), 0);
+}
+
+#[test]
+fn a_sink_that_takes_40_bytes_holds_a_beginning(rt: HostRuntime) {
+    let mut sink = MemorySink::new(rt.alloc()).failing_after(40);
+    assert_eq!(rt; write_head(&mut sink), Err(WriteError::Stopped));
+    assert_eq!(rt;
+        sink.bytes(),
+        b"moment,member,from,number,what,about,val".as_slice()
+    );
+    assert_eq!(rt; sink.failures(), 1);
+    assert_eq!(rt; sink.put(b"ue"), Err(Stopped));
+    assert_eq!(rt; sink.bytes().len(), 40);
+}
+
+#[test]
+fn one_byte_a_put_gives_the_same(rt: HostRuntime) {
+    let mut sink = MemorySink::new(rt.alloc()).with_short_puts();
+    assert_eq!(rt; write_head(&mut sink), Ok(()));
+    assert_eq!(rt; sink.bytes(), HEADER.as_slice());
+    assert_eq!(rt; sink.puts(), 48);
+}
+
+#[test]
+fn each_put_that_fails_ends_the_writing(rt: HostRuntime) {
+    for number in 1..=48 {
+        let mut sink = MemorySink::new(rt.alloc())
+            .with_short_puts()
+            .failing_at_put(number);
+        assert_eq!(rt; write_head(&mut sink), Err(WriteError::Stopped));
+        assert_eq!(rt; sink.puts(), number);
+        assert_eq!(rt; sink.failures(), 1);
+        let before = number as usize - 1;
+        assert_eq!(rt; sink.bytes(), &HEADER[..before]);
+    }
+}
+
+#[test]
+fn a_put_that_takes_nothing_ends_the_writing(rt: HostRuntime) {
+    let mut sink = MemorySink::new(rt.alloc())
+        .failing_after(7)
+        .answering_zero();
+    assert_eq!(rt; write_head(&mut sink), Err(WriteError::Stopped));
+    assert_eq!(rt; sink.bytes(), b"moment,".as_slice());
+    assert_eq!(rt; sink.puts(), 2);
+    assert_eq!(rt; sink.failures(), 1);
+}
+
+#[test]
+fn nothing_is_put_in_no_put(rt: HostRuntime) {
+    let mut sink = MemorySink::new(rt.alloc()).failing_after(0);
+    assert_eq!(rt; put_all(b"", &mut sink), Ok(()));
+    assert_eq!(rt; sink.puts(), 0);
+    assert_eq!(rt; sink.failures(), 0);
+}
+
+#[test]
+fn a_memory_sink_fails_where_it_is_set_to(rt: HostRuntime) {
+    let mut sink = MemorySink::new(rt.alloc()).failing_at_put(2);
+    assert_eq!(rt; sink.put(b"one"), Ok(3));
+    assert_eq!(rt; sink.put(b"two"), Err(Stopped));
+    assert_eq!(rt; sink.put(b"three"), Ok(5));
+    assert_eq!(rt; sink.put(b""), Ok(0));
+    assert_eq!(rt; sink.bytes(), b"onethree".as_slice());
+    assert_eq!(rt; sink.flush(), Ok(()));
+    assert_eq!(rt; sink.failures(), 1);
+
+    let mut stuck = MemorySink::new(rt.alloc()).failing_at_flush();
+    assert_eq!(rt; stuck.put(b"one"), Ok(3));
+    assert_eq!(rt; stuck.flush(), Err(Stopped));
+    assert_eq!(rt; stuck.failures(), 1);
+    assert_eq!(rt; stuck.bytes(), b"one".as_slice());
+}
+
+/// A writer that takes a few bytes a write, and whose writes and flushes end as they are told.
+#[derive(Drop)]
+struct Scripted {
+    got: Vec<u8>,
+    most: usize,
+    write_fails: bool,
+    flush_fails: bool,
+    flushes: u8,
+}
+
+fn obedient(rt: &HostRuntime) -> Scripted {
+    Scripted {
+        got: Vec::new(rt.alloc()),
+        most: 5,
+        write_fails: false,
+        flush_fails: false,
+        flushes: 0,
+    }
+}
+
+impl Write for Scripted {
+    fn write(&mut self, buf: &[u8]) -> io::Result<usize> {
+        if self.write_fails {
+            return Err(io::Error::from(io::ErrorKind::BrokenPipe));
+        }
+        let taken = buf.len().min(self.most);
+        self.got.extend_from_slice(&buf[..taken])?;
+        Ok(taken)
+    }
+
+    fn flush(&mut self) -> io::Result<()> {
+        self.flushes = self.flushes.saturating_add(1);
+        if self.flush_fails {
+            return Err(io::Error::from(io::ErrorKind::BrokenPipe));
+        }
+        Ok(())
+    }
+}
+
+#[test]
+fn a_writer_is_a_sink(rt: HostRuntime) {
+    let mut sink = Put::new(obedient(&rt));
+    assert_eq!(rt; write_head(&mut sink), Ok(()));
+    assert_eq!(rt; sink.flush(), Ok(()));
+    assert_eq!(rt; sink.failures(), 0);
+    let writer = sink.into_inner();
+    assert_eq!(rt; writer.got.as_slice(), HEADER.as_slice());
+    assert_eq!(rt; writer.flushes, 1);
+}
+
+#[test]
+fn a_failing_write_is_counted(rt: HostRuntime) {
+    let mut writer = obedient(&rt);
+    writer.write_fails = true;
+    let mut sink = Put::new(writer);
+    assert_eq!(rt; sink.put(b"moment"), Err(Stopped));
+    assert_eq!(rt; sink.failures(), 1);
+    assert_eq!(rt; write_head(&mut sink), Err(WriteError::Stopped));
+    assert_eq!(rt; sink.failures(), 2);
+    assert_eq!(rt; sink.into_inner().got.len(), 0);
+}
+
+#[test]
+fn a_failing_flush_is_counted(rt: HostRuntime) {
+    let mut writer = obedient(&rt);
+    writer.flush_fails = true;
+    let mut sink = Put::new(writer);
+    assert_eq!(rt; write_head(&mut sink), Ok(()));
+    assert_eq!(rt; sink.failures(), 0);
+    assert_eq!(rt; sink.flush(), Err(Stopped));
+    assert_eq!(rt; sink.failures(), 1);
+    assert_eq!(rt; sink.into_inner().got.as_slice(), HEADER.as_slice());
+}
+
+#[test]
+fn a_write_that_takes_nothing_is_counted(rt: HostRuntime) {
+    let mut writer = obedient(&rt);
+    writer.most = 0;
+    let mut sink = Put::new(writer);
+    assert_eq!(rt; sink.put(b""), Ok(0));
+    assert_eq!(rt; sink.failures(), 0);
+    assert_eq!(rt; sink.put(b"moment"), Ok(0));
+    assert_eq!(rt; sink.failures(), 1);
+    assert_eq!(rt; write_head(&mut sink), Err(WriteError::Stopped));
+    assert_eq!(rt; sink.failures(), 2);
+}
+
+#[test]
+fn a_vector_is_a_sink(rt: HostRuntime) -> Result<(), Fail> {
+    let mut text = Vec::new(rt.alloc());
+    text.extend_from_slice(b"before: ")?;
+    let mut sink = Put::new(text);
+    assert_eq!(rt; write_head(&mut sink), Ok(()));
+    let text = sink.into_inner();
+    assert_eq!(rt; text.len(), 56);
+    assert_eq!(rt; &text[..8], b"before: ".as_slice());
+    assert_eq!(rt; &text[8..], HEADER.as_slice());
+    Ok(())
+}
+
+#[test]
+fn each_kind_of_row_has_its_word(rt: HostRuntime) {
+    let words = [
+        (What::Start, "start"),
+        (What::Crash, "crash"),
+        (What::Joined, "joined"),
+        (What::Join, "join"),
+        (What::Welcome, "welcome"),
+        (What::Ping, "ping"),
+        (What::PingReq, "ping-req"),
+        (What::Ack, "ack"),
+        (What::Nack, "nack"),
+        (What::Fail, "fail"),
+        (What::Health, "health"),
+        (What::Alive, "alive"),
+        (What::Suspect, "suspect"),
+        (What::Confirm, "confirm"),
+        (What::Accuse, "accuse"),
+        (What::Refute, "refute"),
+        (What::Dead, "dead"),
+    ];
+    for (what, word) in words {
+        assert_eq!(rt; what.word(), word);
+    }
+}
+
+#[test]
+fn rows_are_ordered_by_their_key_first(rt: HostRuntime) {
+    let first = Row {
+        at: Moment(5),
+        member: MemberId(1),
+        from: MemberId(2),
+        number: 3,
+        index: 1,
+        what: What::Suspect,
+        about: Some(MemberId(2)),
+        value: 0,
+        lost: false,
+    };
+    let later = [
+        Row {
+            at: Moment(6),
+            member: MemberId(0),
+            ..first
+        },
+        Row {
+            member: MemberId(2),
+            from: MemberId(0),
+            ..first
+        },
+        Row {
+            from: MemberId(3),
+            number: 0,
+            ..first
+        },
+        Row {
+            number: 4,
+            index: 0,
+            ..first
+        },
+        Row {
+            index: 2,
+            what: What::Start,
+            ..first
+        },
+    ];
+    for row in later {
+        assert!(rt; first < row);
+    }
+}

@@ -1,0 +1,77 @@
+ghost use Rattle.std.specs.Prelude.{◌≡◌, ◌+◌, ◌++◌, ◌<◌, ◌^◌, List, OnOk, OnErr, IfErr, All};
+ghost use Rattle.scenario.specs.Setup.{Setup};
+ghost use Rattle.std.specs.Io.KnownBytes.{Appends};
+ghost use Rattle.trace.specs.declared.row.Row.{Row};
+ghost use Rattle.trace.specs.Sinks.{AppendsBeginning, failures_of_write};
+ghost use Rattle.trace.specs.Text.{header, rows_text, NamesMembers};
+
+use crate::lines::lines;
+use crate::row::Row;
+use crate::sink::{Sink, Stopped, put_all};
+use base::Memory;
+use scenario::Scenario;
+use std::alloc::Global;
+
+/// How many lines are laid into memory before they are put.
+const ROWS_AT_ONCE: usize = 64;
+
+/// Why a text was not put whole.
+#[derive(Clone, Copy, Debug, PartialEq, Eq, thiserror::Error)]
+pub enum WriteError {
+    /// Memory was refused.
+    #[error("memory was refused")]
+    Memory,
+    /// The sink stopped, and has counted a failure.
+    #[error("the sink stopped")]
+    Stopped,
+}
+
+/// Puts the header line. It takes no memory, and so stops only where the sink stops: the sink then
+/// has got a beginning of the line.
+#[tactic(auto, unfolding(crate::specs::Text::header))]
+pub fn write_head<S: Sink>(sink: &mut S) -> Result<(), WriteError>
+    requires { S.failed sink.old < 2 ^ 63 }
+    ensures whole { OnOk result (Appends (S.held sink.old) (S.held sink.new) header) }
+    ensures part { OnErr result (AppendsBeginning (S.held sink.old) (S.held sink.new) header) }
+    ensures stopped { IfErr result (λ error. error ≡ WriteError.Stopped) }
+    ensures failures { S.failed sink.new ≡ S.failed sink.old + failures_of_write result }
+{
+    match put_all(b"moment,member,from,number,what,about,value,lost\n", sink) {
+        Ok(()) => Ok(()),
+        Err(Stopped) => Err(WriteError::Stopped),
+    }
+}
+
+/// Puts the lines of rows. After either refusal the sink has got a beginning of them. Only members
+/// of the scenario's cluster may stand in a row.
+pub fn write_rows<S: Sink>(
+    alloc: Global,
+    rows: &[Row],
+    scenario: &Scenario,
+    sink: &mut S,
+) -> Result<(), WriteError>
+    requires named { All (NamesMembers scenario.now) rows.now }
+    requires few { S.failed sink.old < 2 ^ 63 }
+    ensures whole { OnOk result (Appends (S.held sink.old) (S.held sink.new) (rows_text scenario.now rows.now)) }
+    ensures part { OnErr result (AppendsBeginning (S.held sink.old) (S.held sink.new) (rows_text scenario.now rows.now)) }
+    ensures failures { S.failed sink.new ≡ S.failed sink.old + failures_of_write result }
+{
+    let mut left = rows;
+    while !left.is_empty() {
+        let (next, later) = left.split_at(left.len().min(ROWS_AT_ONCE));
+        let text = match lines(alloc, next, scenario) {
+            Ok(text) => text,
+            Err(Memory) => return Err(WriteError::Memory),
+        };
+        match put_all(text.as_slice(), sink) {
+            Ok(()) => left = later,
+            Err(Stopped) => return Err(WriteError::Stopped),
+        }
+    }
+    Ok(())
+}
+
+/// The text of rows that stand one after the other is the one text after the other.
+pub fn texts_join()
+    ensures { (setup : Setup) (first second : List Row) → rows_text setup (first ++ second) ≡ rows_text setup first ++ rows_text setup second }
+{}
