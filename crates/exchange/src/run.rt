@@ -51,6 +51,7 @@ pub fn run_one<A: Sink, B: Sink>(
     ensures worn { IsErrOf result Fault.Worn → WearsOut scenario.now }
     ensures write { IsErrOf result Fault.Write → A.failed trace.old < A.failed trace.new }
     ensures whole { OnOk result (A.failed trace.new ≡ A.failed trace.old) }
+    ensures others { IfErr result (λ fault. fault ≢ Fault.Write → A.failed trace.new ≡ A.failed trace.old) }
     ensures relay { IfErr result (λ fault. fault ≢ Fault.Relay) }
     ensures report { report.new ≡ report.old }
 {
