@@ -1,0 +1,4 @@
+pub mod SoundLemmas
+pub mod CallLemmas
+pub mod RoundLemmas
+pub mod OthersLemmas

@@ -1,0 +1,3 @@
+pub use Rattle.streams.specs.Draw
+pub mod ProbeOrder
+pub mod Rounds

@@ -1,0 +1,142 @@
+//! Whom a member probes next, by rounds over all that it knows (SWIM, section 4.3), and whom it asks
+//! to probe on its behalf (SWIM, section 3.1).
+#![tactic(auto)]
+
+ghost use Rattle.std.specs.Prelude.{◌≡◌, ◌==◌, IfOk, OnOk, OnErr, ◌<◌, ◌^◌, All, position};
+ghost use Rattle.streams.specs.Draw.{words_of};
+ghost use Rattle.probing.specs.ProbeOrder.{NoRepeats, IsSound, count_of, round_over, next_of, insert_of, remove_of, helpers_of};
+
+pub mod laws;
+
+use base::{MemberId, Memory};
+use std::marker::Model;
+use streams::Stream;
+
+/// The members that a member probes, in the order of its present round, and a mark before the one
+/// that is next: round-robin probing (SWIM, section 4.3). No member is there twice.
+#[derive(Debug, Drop)]
+pub struct Rota {
+    members: Vec<MemberId>,
+    mark: usize,
+}
+
+impl Model for Rota {
+    ghost use Rattle.probing.specs.ProbeOrder.{ProbeOrder, IsSound};
+
+    ghost Value = { ProbeOrder };
+
+    ghost view = { λ rota. record { members = rota.members.items; mark = rota.mark } };
+
+    ghost invariant = { λ rota.
+        IsSound (record { members = rota.members.items; mark = rota.mark }) };
+}
+
+impl Rota {
+    /// A rota of these members, whose first probe begins a round. It takes no memory, so it is never
+    /// refused.
+    pub fn of(members: Vec<MemberId>) -> Result<Self, Memory>
+        requires { NoRepeats members.items }
+        ensures value { result ≡ Ok (round_over members.items) }
+        ensures sound { IfOk result IsSound }
+    {
+        see_numbers(&members);
+        let mark = members.len();
+        Ok(Rota { members, mark })
+    }
+
+    /// The member to probe next, if there is one. Where the round is over, a new one begins: the
+    /// members are shuffled.
+    #[tactic(auto, unfolding(crate::specs::ProbeOrder::next_of))]
+    pub fn next(&mut self, stream: &mut Stream) -> Option<MemberId>
+        ensures drawn { (result, self.new, words_of stream.new)
+            ≡ next_of (words_of stream.old) self.old }
+        ensures sound { IsSound self.new }
+    {
+        if self.members.is_empty() {
+            return None;
+        }
+        if self.mark == self.members.len() {
+            stream.shuffle(&mut self.members);
+            self.mark = 0;
+        }
+        let member = self.members[self.mark];
+        self.mark += 1;
+        Some(member)
+    }
+
+    /// Puts a new member at a place that is drawn. Behind the mark it is probed in this round, before
+    /// it from the next one on. A refusal leaves the rota and the stream as they were.
+    #[tactic(auto, unfolding(crate::specs::ProbeOrder::insert_of))]
+    pub fn insert(&mut self, member: MemberId, stream: &mut Stream) -> Result<(), Memory>
+        requires { count_of self.old.members member ≡ 0 }
+        ensures ok { OnOk result ((self.new, words_of stream.new)
+            ≡ insert_of (words_of stream.old) member self.old) }
+        ensures err { OnErr result ((self.new ≡ self.old) × (stream.new ≡ stream.old)) }
+        ensures sound { IsSound self.new }
+    {
+        if self.members.reserve(1).is_err() {
+            return Err(Memory);
+        }
+        // Distinct numbers of 16 bits are few enough for the draw.
+        see_numbers(&[member]);
+        let place = stream.below(self.members.len() as u32 + 1) as usize;
+        self.members.insert(place, member).unwrap();
+        if place < self.mark {
+            self.mark += 1;
+        }
+        Ok(())
+    }
+
+    /// Takes a member out, if it is there.
+    #[tactic(auto, unfolding(crate::specs::ProbeOrder::remove_of))]
+    pub fn remove(&mut self, member: MemberId)
+        ensures removed { self.new ≡ remove_of member self.old }
+        ensures sound { IsSound self.new }
+    {
+        let Some(place) = place_of(&self.members, member) else {
+            return;
+        };
+        self.members.remove(place);
+        if place < self.mark {
+            self.mark -= 1;
+        }
+    }
+}
+
+/// Reads each number, so that the proof knows that it has 16 bits.
+fn see_numbers(members: &[MemberId])
+    ensures { All (λ member. member < 2 ^ 16) members.now }
+{
+    for member in members {
+        let _number = number(*member);
+    }
+}
+
+/// A member's number.
+fn number(member: MemberId) -> u16
+    ensures { result ≡ member }
+{
+    member.0
+}
+
+/// The place of a member in a list, if it is there.
+fn place_of(members: &[MemberId], member: MemberId) -> Option<usize>
+    ensures { result ≡ position (λ other. other == member) members.now }
+{
+    members.iter().position(|other| *other == member)
+}
+
+/// The helpers of an indirect probe (SWIM, section 3.1): the first `k` of the candidates in a new
+/// order, or all where they are fewer. It takes no memory.
+#[tactic(auto, unfolding(crate::specs::ProbeOrder::helpers_of))]
+pub fn helpers(mut candidates: Vec<MemberId>, k: usize, stream: &mut Stream) -> Vec<MemberId>
+    ensures { (result.items, words_of stream.new)
+        ≡ helpers_of (words_of stream.old) k candidates.items }
+{
+    stream.shuffle(&mut candidates);
+    candidates.truncate(k);
+    candidates
+}
+
+#[cfg(test)]
+mod tests;
