@@ -2,3 +2,4 @@ pub mod Order
 pub mod World
 pub mod Run
 pub mod Rising
+pub mod Logarithm

@@ -4,9 +4,11 @@
 
 mod fault;
 mod key;
-mod order;
 pub mod limits;
+mod logarithm;
+mod order;
 
 pub use fault::{Fault, Memory, Worn};
 pub use key::{Key, MemberId, Moment};
+pub use logarithm::{digits, log_thousandths};
 pub use order::key_order;

@@ -1,0 +1,4 @@
+pub mod Tables
+pub mod Timeouts
+pub mod Entries
+pub mod Timers

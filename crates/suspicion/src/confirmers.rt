@@ -1,0 +1,54 @@
+ghost use Rattle.std.specs.Prelude.{◌≡◌, ◌==◌, ◌<◌, ◌≤◌, [], ◌∷◌, ◌++◌, length};
+ghost use Rattle.std.specs.List.{list_any};
+
+use base::MemberId;
+use std::marker::Model;
+
+/// The accusers of a suspect after the first one, in the order in which they came: nine at most, so
+/// that they are kept in place and take no memory.
+#[derive(Drop)]
+pub(crate) struct Confirmers {
+    members: [MemberId; 9],
+    count: usize,
+}
+
+impl Model for Confirmers {
+    ghost use Rattle.std.specs.Prelude.{◌≡◌, ℕ, List, take, length, ◌≤◌};
+
+    ghost Value = { List ℕ };
+
+    ghost view = { λ confirmers. take confirmers.count confirmers.members };
+
+    ghost invariant = { λ confirmers. (confirmers.count ≤ 9) × (length confirmers.members ≡ 9) };
+}
+
+impl Confirmers {
+    pub(crate) fn new() -> Self
+        ensures { result ≡ [] }
+    {
+        Confirmers {
+            members: [MemberId(0); 9],
+            count: 0,
+        }
+    }
+
+    pub(crate) fn len(&self) -> usize
+        ensures { result ≡ length self.now }
+    {
+        self.count
+    }
+
+    pub(crate) fn contains(&self, member: MemberId) -> bool
+        ensures { result ≡ list_any (λ x. x == member) self.now }
+    {
+        self.members[..self.count].iter().any(|m| *m == member)
+    }
+
+    pub(crate) fn push(&mut self, member: MemberId)
+        requires { length self.old < 9 }
+        ensures { self.new ≡ self.old ++ member ∷ [] }
+    {
+        self.members[self.count] = member;
+        self.count += 1;
+    }
+}

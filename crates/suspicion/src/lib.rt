@@ -1,0 +1,14 @@
+//! Suspicions and their timers: a suspicion lasts long while one member alone accuses, and less with
+//! each further member that confirms it (SWIM, section 4.2; Lifeguard's LHA-Suspicion).
+#![tactic(auto)]
+
+mod confirmers;
+pub mod laws;
+mod standing;
+mod suspicions;
+mod terms;
+#[cfg(test)]
+mod tests;
+
+pub use suspicions::{Accused, Suspicions};
+pub use terms::Terms;

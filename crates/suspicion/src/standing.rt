@@ -1,0 +1,21 @@
+ghost use Rattle.suspicion.specs.Ranges.{IsKept};
+
+use crate::confirmers::Confirmers;
+use crate::terms::Terms;
+use base::{MemberId, Moment};
+
+/// A suspicion that stands.
+#[derive(Drop)]
+pub(crate) struct Standing {
+    /// The settings under which it started.
+    pub(crate) terms: Terms,
+    /// How many members were not confirmed when it started, oneself included.
+    pub(crate) members: u32,
+    pub(crate) since: Moment,
+    /// The first accuser.
+    pub(crate) first: MemberId,
+    pub(crate) confirmers: Confirmers,
+    /// The number of its present timer.
+    pub(crate) timer: u64,
+    ghost kept: { IsKept terms members since },
+}

@@ -1,0 +1,86 @@
+ghost use Rattle.std.specs.Prelude.{◌≡◌, ◌^◌, ◌<◌, ◌≤◌};
+ghost use Rattle.suspicion.specs.Ranges.{AreSound};
+ghost use Rattle.suspicion.specs.Times.{min_timeout, most_confirmations, timeout};
+ghost use Rattle.suspicion.specs.Settings.{terms_of};
+
+use base::log_thousandths;
+use scenario::Scenario;
+
+/// The settings that say how long suspicions last.
+#[derive(Clone, Copy, Debug, PartialEq, Eq)]
+pub struct Terms {
+    /// The protocol period, in ticks (SWIM, section 3.1).
+    pub period: u64,
+    /// The shortest suspicion is this many periods times the logarithm of the cluster's size.
+    pub alpha: u64,
+    /// The longest suspicion is this many times the shortest.
+    pub beta: u64,
+    /// LHA-Suspicion: whether confirmations shorten a suspicion.
+    pub shortens: bool,
+    /// How many confirmations bring a suspicion to its shortest (Lifeguard's K).
+    pub confirmations: u64,
+}
+
+impl Terms {
+    /// A scenario's terms.
+    pub fn of(scenario: &Scenario) -> Self
+        ensures value { result ≡ terms_of scenario.now }
+        ensures sound { AreSound result }
+    {
+        let suspicion = scenario.suspicion();
+        let lifeguard = scenario.lifeguard();
+        Terms {
+            period: scenario.period(),
+            alpha: suspicion.alpha,
+            beta: suspicion.beta,
+            shortens: lifeguard.suspicion,
+            confirmations: lifeguard.confirmations,
+        }
+    }
+
+    /// How long a suspicion lasts, in ticks, that started among this many members and was confirmed
+    /// so often (Lifeguard's LHA-Suspicion).
+    pub fn timeout(self, members: u32, confirmations: u64) -> u64
+        requires sound { AreSound self }
+        requires some { 1 ≤ members }
+        requires few { members ≤ 1024 }
+        ensures value { result ≡ timeout self members confirmations }
+
+        // It is never over at once, and no moment of a run is too late to start it.
+        ensures positive { 1 ≤ result }
+        ensures short { result ≤ 2 ^ 40 }
+    {
+        let shortest = shortest(self, members);
+        let most = most_counted(self, members);
+        if !self.shortens || confirmations >= most {
+            return shortest;
+        }
+        let longest = self.beta * shortest;
+        let reached = u64::from(log_thousandths(confirmations as u32 + 1));
+        let whole = u64::from(log_thousandths(most as u32 + 1));
+        longest - (longest - shortest) * reached / whole
+    }
+}
+
+// How long a suspicion lasts at the least.
+fn shortest(terms: Terms, members: u32) -> u64
+    requires sound { AreSound terms }
+    requires some { 1 ≤ members }
+    requires few { members ≤ 1024 }
+    ensures value { result ≡ min_timeout terms members }
+    ensures positive { 1 ≤ result }
+    ensures short { result < 2 ^ 33 }
+{
+    let logarithm = u64::from(log_thousandths(members)).max(1000);
+    (terms.alpha * logarithm * terms.period / 1000).max(1)
+}
+
+/// How many confirmations count of a suspicion that started among this many members.
+pub(crate) fn most_counted(terms: Terms, members: u32) -> u64
+    requires { 1 ≤ members }
+    ensures { result ≡ most_confirmations terms members }
+{
+    terms
+        .confirmations
+        .min(u64::from(members.saturating_sub(2)))
+}
