@@ -20,7 +20,7 @@ module _ {C : Type 0} (P : Key → C → Type 0) where
   HoldsOfAll pending = (k : Key) (c : C) → get pending k ≡ Some c → P k c
 
   of_inserted : (pending : FinMap key_cmp C) (k : Key) (c : C) (q : Key) (d : C) (b : Bool) → eq_by_cmp key_cmp q k ≡ b → P k c → HoldsOfAll pending
-    → cond b (Some c) (get pending q) ≡ Some d → P q d
+      → cond b (Some c) (get pending q) ≡ Some d → P q d
   of_inserted pending k c q d true e made old here = subst (λ r. P r d) (sym (tells q k e)) (subst (P k) (some_same c d here) made)
   of_inserted pending k c q d false e made old here = old q d here
 
@@ -38,9 +38,9 @@ module _ {C : Type 0} (P : Key → C → Type 0) where
   all_remove pending k old q d here = of_left pending q d (eq_by_cmp key_cmp q k) old (sym (get-remove key_total pending k q) ∙ here)
 
   module _ {S R : Type 0} (step : Machine S C R) (Q : R → Type 0)
-    (keeps : (k : Key) (c : C) (s : S) → P k c → AllByRecursion (λ e. P e.0 e.1) (step k c s).events × AllByRecursion Q (step k c s).rows) where
+      (keeps : (k : Key) (c : C) (s : S) → P k c → AllByRecursion (λ e. P e.0 e.1) (step k c s).events × AllByRecursion Q (step k c s).rows) where
     settled_keeps : (w : World S C) (k : Key) (c : C) (o : Option S) → HoldsOfAll w.pending → P k c
-      → HoldsOfAll (settled w k (option_map (step k c) o)).pending × AllByRecursion Q (rows_of (option_map (step k c) o))
+        → HoldsOfAll (settled w k (option_map (step k c) o)).pending × AllByRecursion Q (rows_of (option_map (step k c) o))
     settled_keeps w k c None all here = (all_remove w.pending k all, tt)
     settled_keeps w k c (Some s) all here =
         let made = keeps k c s here in

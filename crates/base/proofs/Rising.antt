@@ -60,8 +60,8 @@ module _ {S C R : Type 0} (step : Machine S C R) (later : MakesLater step) (end 
       let next = run.4 in
       let first : IsBefore b k = after k (ap is_some next.here) in
       let mid_after : (q : Key) → IsPending run.0 q → IsBefore b q =
-        subst (λ m. (q : Key) → IsPending m q → IsBefore b q) (sym next.world)
-        (holds-settled step later end (IsBefore b) w k next.content (λ q here _. after q here) (λ q h. key_total.trans b k q first (before-from_moments k q h))) in
+      subst (λ m. (q : Key) → IsPending m q → IsBefore b q) (sym next.world)
+      (holds-settled step later end (IsBefore b) w k next.content (λ q here _. after q here) (λ q h. key_total.trans b k q first (before-from_moments k q h))) in
       (first, handled_after b ks run.0 v run.2 mid_after run.5)
 
   -- the keys of the events handled rise strictly
@@ -70,8 +70,8 @@ module _ {S C R : Type 0} (step : Machine S C R) (later : MakesLater step) (end 
   keys_rise (k ∷ ks) w v rows run =
       let next = run.4 in
       let mid_after : (q : Key) → IsPending run.0 q → IsBefore k q =
-        subst (λ m. (q : Key) → IsPending m q → IsBefore k q) (sym next.world)
-        (holds-settled step later end (IsBefore k) w k next.content (λ q here other. before_other k q (next.least q here) other) (λ q h. before-from_moments k q h)) in
+      subst (λ m. (q : Key) → IsPending m q → IsBefore k q) (sym next.world)
+      (holds-settled step later end (IsBefore k) w k next.content (λ q here other. before_other k q (next.least q here) other) (λ q h. before-from_moments k q h)) in
       (handled_after k ks run.0 v run.2 mid_after run.5, keys_rise ks run.0 v run.2 run.5)
 
   module _ (place : R → Key × ℕ) (counts : CountsRows place step) where
@@ -90,7 +90,7 @@ module _ {S C R : Type 0} (step : Machine S C R) (later : MakesLater step) (end 
     rows_all P (k ∷ ks) w v rows all run =
         let made = places_of w run.0 k run.1 run.4 in
         let parts : map place rows ≡ places k (range_with_len 0 made.0) ++ map place run.2 =
-          ap (map place) run.6 ∙ map-append place run.1 run.2 ∙ ap (λ l. l ++ map place run.2) made.1 in
+        ap (map place) run.6 ∙ map-append place run.1 run.2 ∙ ap (λ l. l ++ map place run.2) made.1 in
         subst (λ l. AllByRecursion (λ p. P p.0) l) (sym parts)
         (all_append (λ p. P p.0) (places k (range_with_len 0 made.0)) (map place run.2) (all_places P k (range_with_len 0 made.0) all.0) (rows_all P ks run.0 v run.2 all.1 run.5))
 
@@ -101,12 +101,12 @@ module _ {S C R : Type 0} (step : Machine S C R) (later : MakesLater step) (end 
         let made = places_of w run.0 k run.1 run.4 in
         let own : List (Key × ℕ) = places k (range_with_len 0 made.0) in
         let parts : map place rows ≡ own ++ map place run.2 =
-          ap (map place) run.6 ∙ map-append place run.1 run.2 ∙ ap (λ l. l ++ map place run.2) made.1 in
+        ap (map place) run.6 ∙ map-append place run.1 run.2 ∙ ap (λ l. l ++ map place run.2) made.1 in
         let after : AllByRecursion (λ p. IsBefore k p.0) (map place run.2) = rows_all (IsBefore k) ks run.0 v run.2 (keys_rise (k ∷ ks) w v rows run).0 run.5 in
         let across : AllByRecursion (λ p. AllByRecursion (IsPlaceBefore p) (map place run.2)) own =
-          all_weaker (λ (p : Key × ℕ). p.0 ≡ k) (λ p. AllByRecursion (IsPlaceBefore p) (map place run.2))
-          (λ p same. all_weaker (λ (q : Key × ℕ). IsBefore k q.0) (IsPlaceBefore p) (λ q h. inl (subst (λ l. IsBefore l q.0) (sym same) h)) (map place run.2) after)
-          own (all_places (λ l. l ≡ k) k (range_with_len 0 made.0) refl) in
+        all_weaker (λ (p : Key × ℕ). p.0 ≡ k) (λ p. AllByRecursion (IsPlaceBefore p) (map place run.2))
+        (λ p same. all_weaker (λ (q : Key × ℕ). IsBefore k q.0) (IsPlaceBefore p) (λ q h. inl (subst (λ l. IsBefore l q.0) (sym same) h)) (map place run.2) after)
+        own (all_places (λ l. l ≡ k) k (range_with_len 0 made.0) refl) in
         subst (IsRising IsPlaceBefore) (sym parts) (rising_append IsPlaceBefore own (map place run.2) (places_rise k 0 made.0) (rows_rise ks run.0 v run.2 run.5) across)
 
 -- ---- new events
@@ -138,11 +138,12 @@ module _ {S C R : Type 0} (next : S → ℕ) (step : Machine S C R) (numbers : U
     found q is = (is.0, get-insert nat_cmp_total w.members k.to (step k c s).state q.from ∙ is.1, is.2)
 
     of_made : (q : Key) → q.from ≡ k.to → q.number < next (step k c s).state → Numbered after q
-    of_made q from h =
-        ((step k c s).state,
-         get-insert nat_cmp_total w.members k.to (step k c s).state q.from
-         ∙ ap (λ b. cond b (Some (step k c s).state) (get w.members q.from)) (ap (eq_by_cmp nat_cmp q.from) (sym from) ∙ unsigned_tied q.from q.from ∙ eq-eqb q.from q.from refl),
-         h)
+    of_made q from h = (
+      (step k c s).state,
+      get-insert nat_cmp_total w.members k.to (step k c s).state q.from
+          ∙ ap (λ b. cond b (Some (step k c s).state) (get w.members q.from)) (ap (eq_by_cmp nat_cmp q.from) (sym from) ∙ unsigned_tied q.from q.from ∙ eq-eqb q.from q.from refl),
+      h,
+    )
 
     numbered_after : IsNumbered next w → IsNumbered next after
     numbered_after all =

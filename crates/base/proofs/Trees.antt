@@ -26,20 +26,20 @@ module _ {K X : Type 0} {R : K → K → Ordering} where
     module _ (exact : IsAntisymmetric R) where
       -- entries that differ at one key make maps that differ there
       pub map-insert : (es fs : List (K × X)) (k : K) (v : X) → ((q : K) → found R fs q ≡ cond (is_at (R k) q) (Some v) (found R es q))
-        → from_entries {R = R} fs ≡ insert (from_entries es) k v
+          → from_entries {R = R} fs ≡ insert (from_entries es) k v
       map-insert es fs k v h = same_map total exact _ _ (λ q.
           get-entries fs q ∙ h q ∙ ap (λ b. cond b (Some v) (found R es q)) ((eq_by_cmp_equiv total).symm k q)
           ∙ sym (get-insert total (from_entries es) k v q ∙ ap (cond (is_at (R q) k) (Some v)) (get-entries es q)))
 
       pub map-remove : (es fs : List (K × X)) (k : K) → ((q : K) → found R fs q ≡ cond (is_at (R k) q) None (found R es q))
-        → from_entries {R = R} fs ≡ remove (from_entries es) k
+          → from_entries {R = R} fs ≡ remove (from_entries es) k
       map-remove es fs k h = same_map total exact _ _ (λ q.
           get-entries fs q ∙ h q ∙ ap (λ b. cond b None (found R es q)) ((eq_by_cmp_equiv total).symm k q)
           ∙ sym (get-remove total (from_entries es) k q ∙ ap (cond (is_at (R q) k) None) (get-entries es q)))
 
     -- a lower bound of the entries has no key of the map before it
     pub none_before : (es : List (K × X)) (k : K) → ((q : K) → IsSome (found R es q) → is_gt (R k q) ≡ false)
-      → (q : K) → contains_key (from_entries {R = R} es) q ≡ true → ¬ (R q k ≡ Less)
+        → (q : K) → contains_key (from_entries {R = R} es) q ≡ true → ¬ (R q k ≡ Less)
     none_before es k bound q here before =
         let low : is_gt (R k q) ≡ false = bound q (ap is_some (sym (get-entries es q)) ∙ here) in
         false≢true (sym low ∙ ap is_gt (total.antisymm k q ∙ ap ordering_reverse before))

@@ -33,14 +33,14 @@ later_differs a t h false e = refl
 
 module _ {C : Type 0} where
   cases_insert : (pending : FinMap key_cmp C) (k : Key) (c : C) (P : Key → Type 0) (q : Key) (b : Bool) → eq_by_cmp key_cmp q k ≡ b
-    → P k → (contains_key pending q ≡ true → P q) → is_some (cond b (Some c) (get pending q)) ≡ true → P q
+      → P k → (contains_key pending q ≡ true → P q) → is_some (cond b (Some c) (get pending q)) ≡ true → P q
   cases_insert pending k c P q true e made old here = subst P (sym (tells q k e)) made
   cases_insert pending k c P q false e made old here = old here
 
   -- what holds of the pending keys and of those made holds of all together
   pub holds-with_events : (P : Key → Type 0) (es : List (Key × C)) (pending : FinMap key_cmp C)
-    → ((q : Key) → contains_key pending q ≡ true → P q) → AllByRecursion (λ e. P e.0) es
-    → (q : Key) → contains_key (with_events pending es) q ≡ true → P q
+      → ((q : Key) → contains_key pending q ≡ true → P q) → AllByRecursion (λ e. P e.0) es
+      → (q : Key) → contains_key (with_events pending es) q ≡ true → P q
   holds-with_events P [] pending old made q here = old q here
   holds-with_events P (e ∷ es) pending old made q here =
       holds-with_events P es (insert pending e.0 e.1)
@@ -48,7 +48,7 @@ module _ {C : Type 0} where
       made.1 q here
 
   cases_remove : (pending : FinMap key_cmp C) (k q : Key) (b : Bool) → eq_by_cmp key_cmp q k ≡ b
-    → is_some (cond b None (get pending q)) ≡ true → (contains_key pending q ≡ true) × ¬ (q ≡ k)
+      → is_some (cond b None (get pending q)) ≡ true → (contains_key pending q ≡ true) × ¬ (q ≡ k)
   cases_remove pending k q true e here = absurd (false≢true here)
   cases_remove pending k q false e here = (here, λ same. absurd (false≢true (sym e ∙ ap is_eq (ap (λ r. key_cmp r k) same ∙ tied_itself key_total k))))
 
@@ -65,7 +65,7 @@ module _ {C : Type 0} where
   get-at_moment t pending q = get-retain_keys pending (λ k. eqb k.at t) q (λ x tied. ap (λ (k : Key). eqb k.at t) (sym (key_exact q x tied)))
 
   other_moment : (a t : ℕ) (pending : FinMap key_cmp C) (k q : Key) (c : C) (b : Bool) → eq_by_cmp key_cmp q k ≡ b → k.at ≡ a → eqb a t ≡ false
-    → cond (eqb q.at t) (cond b (Some c) (get pending q)) None ≡ cond (eqb q.at t) (get pending q) None
+      → cond (eqb q.at t) (cond b (Some c) (get pending q)) None ≡ cond (eqb q.at t) (get pending q) None
   other_moment a t pending k q c true e at other =
       let none : eqb q.at t ≡ false = ap (λ (r : Key). eqb r.at t) (tells q k e) ∙ ap (λ n. eqb n t) at ∙ other in
       ap (λ b. cond b (Some c) None) none ∙ sym (ap (λ b. cond b (get pending q) None) none)
@@ -74,8 +74,8 @@ module _ {C : Type 0} where
   at_moment-insert : (t : ℕ) (pending : FinMap key_cmp C) (k : Key) (c : C) → eqb k.at t ≡ false → at_moment t (insert pending k c) ≡ at_moment t pending
   at_moment-insert t pending k c other =
       same_map key_total key_exact _ _ (λ q.
-        get-at_moment t (insert pending k c) q ∙ ap (λ o. cond (eqb q.at t) o None) (get-insert key_total pending k c q)
-        ∙ other_moment k.at t pending k q c (eq_by_cmp key_cmp q k) refl refl other ∙ sym (get-at_moment t pending q))
+      get-at_moment t (insert pending k c) q ∙ ap (λ o. cond (eqb q.at t) o None) (get-insert key_total pending k c q)
+      ∙ other_moment k.at t pending k q c (eq_by_cmp key_cmp q k) refl refl other ∙ sym (get-at_moment t pending q))
 
   moved : (a b : Bool) (o : Option C) → cond a (cond b None o) None ≡ cond b None (cond a o None)
   moved true b o = refl
@@ -85,9 +85,9 @@ module _ {C : Type 0} where
   at_moment-remove : (t : ℕ) (pending : FinMap key_cmp C) (k : Key) → at_moment t (remove pending k) ≡ remove (at_moment t pending) k
   at_moment-remove t pending k =
       same_map key_total key_exact _ _ (λ q.
-        get-at_moment t (remove pending k) q ∙ ap (λ o. cond (eqb q.at t) o None) (get-remove key_total pending k q)
-        ∙ moved (eqb q.at t) (eq_by_cmp key_cmp q k) (get pending q)
-        ∙ sym (get-remove key_total (at_moment t pending) k q ∙ ap (cond (eq_by_cmp key_cmp q k) None) (get-at_moment t pending q)))
+      get-at_moment t (remove pending k) q ∙ ap (λ o. cond (eqb q.at t) o None) (get-remove key_total pending k q)
+      ∙ moved (eqb q.at t) (eq_by_cmp key_cmp q k) (get pending q)
+      ∙ sym (get-remove key_total (at_moment t pending) k q ∙ ap (cond (eq_by_cmp key_cmp q k) None) (get-at_moment t pending q)))
 
   at_moment-with_events : (t : ℕ) (es : List (Key × C)) (pending : FinMap key_cmp C) → AllByRecursion (λ e. t < e.0.at) es → at_moment t (with_events pending es) ≡ at_moment t pending
   at_moment-with_events t [] pending later = refl
@@ -128,8 +128,8 @@ module _ {C : Type 0} where
   first-from_entries pending e es is = record {
     here = get-entries pending e.0 ∙ ap (find key_cmp e.0) is ∙ ap (λ o. cond (is_eq o) (Some e.1) (find key_cmp e.0 es)) (tied_itself key_total e.0);
     least = λ q here before.
-      let none : get pending q ≡ None = get-entries pending q ∙ ap (find key_cmp q) is ∙ not_before_first q e es before (subst (λ l. T (is_sorted key_cmp l)) is (entries_sorted pending)) in
-      false≢true (sym (ap is_some none) ∙ here)
+        let none : get pending q ≡ None = get-entries pending q ∙ ap (find key_cmp q) is ∙ not_before_first q e es before (subst (λ l. T (is_sorted key_cmp l)) is (entries_sorted pending)) in
+        false≢true (sym (ap is_some none) ∙ here);
   }
 
   none-from_entries : (pending : FinMap key_cmp C) → entries pending ≡ [] → (q : Key) → ¬ (contains_key pending q ≡ true)
@@ -147,7 +147,7 @@ all_later t P holds (e ∷ es) later = (holds e.0 later.0, all_later t P holds e
 
 module _ {S C R : Type 0} (step : Machine S C R) (later : MakesLater step) (end : ℕ) where
   holds_settled : (P : Key → Type 0) (w : World S C) (k : Key) (c : C) → ((q : Key) → IsPending w q → ¬ (q ≡ k) → P q) → ((q : Key) → k.at < q.at → P q)
-    → (o : Option S) (q : Key) → IsPending (settled w k (option_map (step k c) o)) q → P q
+      → (o : Option S) (q : Key) → IsPending (settled w k (option_map (step k c) o)) q → P q
   holds_settled P w k c old new None q here = let kept = contains-remove w.pending k q here in old q kept.0 kept.1
   holds_settled P w k c old new (Some s) q here =
       holds-with_events P (step k c s).events (remove w.pending k)
@@ -156,7 +156,7 @@ module _ {S C R : Type 0} (step : Machine S C R) (later : MakesLater step) (end 
 
   -- what holds of the other pending keys and of later ones holds of all that pend after the step
   pub holds-settled : (P : Key → Type 0) (w : World S C) (k : Key) (c : C) → ((q : Key) → IsPending w q → ¬ (q ≡ k) → P q) → ((q : Key) → k.at < q.at → P q)
-    → (q : Key) → IsPending (settled w k (outcome step w k c)) q → P q
+      → (q : Key) → IsPending (settled w k (outcome step w k c)) q → P q
   holds-settled P w k c old new = holds_settled P w k c old new (get w.members k.to)
 
   moment_settled : (w : World S C) (k : Key) (c : C) (o : Option S) → at_moment k.at (settled w k (option_map (step k c) o)).pending ≡ remove (at_moment k.at w.pending) k
@@ -165,13 +165,13 @@ module _ {S C R : Type 0} (step : Machine S C R) (later : MakesLater step) (end 
 
   -- a step takes one event from its moment, and makes none there
   fewer : (w : World S C) (k : Key) (c : C) → get w.pending k ≡ Some c
-    → len (at_moment k.at (settled w k (outcome step w k c)).pending) + 1 ≡ len (at_moment k.at w.pending)
+      → len (at_moment k.at (settled w k (outcome step w k c)).pending) + 1 ≡ len (at_moment k.at w.pending)
   fewer w k c here =
       let there : contains_key (at_moment k.at w.pending) k ≡ true =
-        ap is_some (get-at_moment k.at w.pending k ∙ ap (λ b. cond b (get w.pending k) None) (eq-eqb k.at k.at refl) ∙ here) in
+      ap is_some (get-at_moment k.at w.pending k ∙ ap (λ b. cond b (get w.pending k) None) (eq-eqb k.at k.at refl) ∙ here) in
       let some : 0 < len (at_moment k.at w.pending) = len-present (at_moment k.at w.pending) k _ refl there in
       let one : len (at_moment k.at (settled w k (outcome step w k c)).pending) ≡ len (at_moment k.at w.pending) - 1 =
-        ap len (moment_settled w k c (get w.members k.to)) ∙ len-remove key_total (at_moment k.at w.pending) k ∙ ap (λ b. cond b (len (at_moment k.at w.pending) - 1) (len (at_moment k.at w.pending))) there in
+      ap len (moment_settled w k c (get w.members k.to)) ∙ len-remove key_total (at_moment k.at w.pending) k ∙ ap (λ b. cond b (len (at_moment k.at w.pending) - 1) (len (at_moment k.at w.pending))) there in
       omega arith
 
   abbrev Whole : World S C → Type 0
@@ -197,10 +197,10 @@ module _ {S C R : Type 0} (step : Machine S C R) (later : MakesLater step) (end 
     by_moment k c is true false same past = now k c is (eqb-true k.at t same) (ltb-false end k.at past)
     by_moment k c is false b same past =
         rest (λ q here.
-          let least = moments-from_not_before q k (is.least q here) in
-          let begun = from k (ap is_some is.here) in
-          let other : ¬ (k.at ≡ t) = λ e. false≢true (sym same ∙ eq-eqb k.at t e) in
-          omega arith)
+        let least = moments-from_not_before q k (is.least q here) in
+        let begun = from k (ap is_some is.here) in
+        let other : ¬ (k.at ≡ t) = λ e. false≢true (sym same ∙ eq-eqb k.at t e) in
+        omega arith)
 
     by_entries : (es : List (Key × C)) → entries w.pending ≡ es → Whole w
     by_entries [] is = over_whole w (λ q here. absurd (none-from_entries w.pending is q here))
@@ -216,17 +216,17 @@ module _ {S C R : Type 0} (step : Machine S C R) (later : MakesLater step) (end 
       omega arith
 
   within_moment : (d t : ℕ) → ((u : ℕ) (w : World S C) → end < u + d → From u w → Whole w) → end < t + suc d
-    → (n : ℕ) (w : World S C) → From t w → len (at_moment t w.pending) ≤ n → Whole w
+      → (n : ℕ) (w : World S C) → From t w → len (at_moment t w.pending) ≤ n → Whole w
   within_moment d t rest reach zero w from few =
       choose w t from (rest (t + 1) w (omega arith)) (λ k c is same in_time. absurd (none_at_once t w k c few is.here same))
   within_moment d t rest reach (suc n) w from few =
       choose w t from (rest (t + 1) w (omega arith)) (λ k c is same in_time.
-        let v : World S C = settled w k (outcome step w k c) in
-        let from_v : From t v = holds-settled (λ q. t ≤ q.at) w k c (λ q here _. from q here) (λ q h. omega arith) in
-        let h = fewer w k c is.here in
-        let e : len (at_moment k.at w.pending) ≡ len (at_moment t w.pending) = ap (λ m. len (at_moment m w.pending)) same in
-        let f : len (at_moment k.at v.pending) ≡ len (at_moment t v.pending) = ap (λ m. len (at_moment m v.pending)) same in
-        then_whole w v k (rows_of (outcome step w k c)) in_time (step_of_first w k c is) (within_moment d t rest reach n v from_v (omega arith)))
+      let v : World S C = settled w k (outcome step w k c) in
+      let from_v : From t v = holds-settled (λ q. t ≤ q.at) w k c (λ q here _. from q here) (λ q h. omega arith) in
+      let h = fewer w k c is.here in
+      let e : len (at_moment k.at w.pending) ≡ len (at_moment t w.pending) = ap (λ m. len (at_moment m w.pending)) same in
+      let f : len (at_moment k.at v.pending) ≡ len (at_moment t v.pending) = ap (λ m. len (at_moment m v.pending)) same in
+      then_whole w v k (rows_of (outcome step w k c)) in_time (step_of_first w k c is) (within_moment d t rest reach n v from_v (omega arith)))
 
   within : (d t : ℕ) (w : World S C) → end < t + d → From t w → Whole w
   within zero t w reach from = over_whole w (λ q here. let h = from q here in omega arith)
@@ -266,7 +266,7 @@ module _ {S C R : Type 0} (step : Machine S C R) (later : MakesLater step) (end 
 
   -- the run is one
   pub one_run : (ks ls : List Key) (w u v : World S C) (rows found : List R) → Run step end w ks rows u → IsOver end u → Run step end w ls found v → IsOver end v
-    → (ks ≡ ls) × (rows ≡ found)
+      → (ks ≡ ls) × (rows ≡ found)
   one_run [] [] w u v rows found a _ b _ = (refl, a.1 ∙ sym b.1)
   one_run [] (l ∷ ls) w u v rows found a over b _ = absurd (over_or_step w b.0 u l b.1 a.0 over b.3 b.4)
   one_run (k ∷ ks) [] w u v rows found a _ b over = absurd (over_or_step w a.0 v k a.1 b.0 over a.3 a.4)
@@ -287,7 +287,7 @@ module _ {S C R : Type 0} (step : Machine S C R) (later : MakesLater step) (end 
 
   -- a run goes on by one step
   pub run_more : (ks : List Key) (w v u : World S C) (rows made : List R) (k : Key) → Run step end w ks rows v → k.at ≤ end → NextStep step v k u made
-    → Run step end w (ks ++ k ∷ []) (rows ++ made) u
+      → Run step end w (ks ++ k ∷ []) (rows ++ made) u
   run_more [] w v u rows made k run in_time next =
       (u, made, [], in_time, subst (λ m. NextStep step m k u made) run.0 next, (refl, refl), ap (λ l. l ++ made) run.1 ∙ sym (append-nil made))
   run_more (l ∷ ls) w v u rows made k run in_time next =

@@ -10,5 +10,4 @@ pub fn key_order()
     ensures compares { ⟦<Key as Ord>⟧.cmp ≡ key_cmp }
     ensures total { IsTotalOrder key_cmp }
     ensures exact { IsAntisymmetric key_cmp }
-{
-}
+{}

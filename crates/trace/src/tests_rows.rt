@@ -119,7 +119,10 @@ fn many_rows_are_their_lines_in_order(rt: HostRuntime) -> Result<(), Fail> {
     let mut rows = Vec::new(rt.alloc());
     let mut lines = String::new(rt.alloc());
     for number in 0..200 {
-        rows.push(Row { number, ..start_of(1) })?;
+        rows.push(Row {
+            number,
+            ..start_of(1)
+        })?;
         lines.push_str(format!(in rt.alloc(); "0,n-1,n-1,{number},start,,0,0\n")?.as_str())?;
     }
     let mut sink = MemorySink::new(rt.alloc());
@@ -140,7 +143,10 @@ fn each_put_that_fails_leaves_a_beginning(rt: HostRuntime) -> Result<(), Fail> {
         let mut sink = MemorySink::new(rt.alloc())
             .with_short_puts()
             .failing_at_put(number);
-        assert_eq!(rt; write(&rt, &rows, &scenario, &mut sink), Err(WriteError::Stopped));
+        assert_eq!(rt;
+            write(&rt, &rows, &scenario, &mut sink),
+            Err(WriteError::Stopped)
+        );
         assert_eq!(rt; sink.failures(), 1);
         assert_eq!(rt; sink.puts(), number);
         let before = number as usize - 1;

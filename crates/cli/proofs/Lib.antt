@@ -1,0 +1,3 @@
+mod App
+mod Commands
+mod RunRows

@@ -1,0 +1,7 @@
+-- What standard output gets.
+use Rattle.std.specs.Prelude.{ℕ, List, [], ◌∷◌, ◌++◌, codes}
+use Rattle.std.specs.Fmt.{decimal}
+
+-- how many rows the trace has
+abbrev pub rows_line : ℕ → List ℕ
+rows_line rows = codes "rows " ++ decimal rows ++ 10 ∷ []

@@ -1,0 +1,19 @@
+//! The command line of swimsim: what the words ask for, the files that it takes, and how it ends.
+#![tactic(auto)]
+
+mod failure;
+mod files;
+mod program;
+mod simulation;
+pub mod system;
+pub mod testing;
+mod words;
+
+pub use failure::{Failure, refuse};
+pub use files::{FileFault, Files};
+pub use program::command;
+pub use simulation::{check, simulate};
+pub use words::{Asked, RunWords, parse};
+
+#[cfg(test)]
+mod tests;
