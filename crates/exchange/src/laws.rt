@@ -1,8 +1,7 @@
 //! What holds of every run, stated over the definitions alone.
 
-ghost use Rattle.std.specs.Prelude.{◌≡◌, List, map};
+ghost use Rattle.std.specs.Prelude.{◌≡◌, List, Some, map};
 ghost use Rattle.std.specs.FinMap.{remove, get};
-ghost use Rattle.std.specs.Prelude.{Some, ℕ};
 ghost use Rattle.base.specs.Order.{IsBefore};
 ghost use Rattle.base.specs.World.{World, Run, SequentialRun, events_of, outcome};
 ghost use Rattle.base.specs.Rising.{IsRising, IsPlaceBefore, AreNew};

@@ -1,4 +1,4 @@
-ghost use Rattle.std.specs.Prelude.{◌≡◌, ◌≤◌, ◌<◌, ◌^◌, OnOk, IfErr, IsErrOf, length};
+ghost use Rattle.std.specs.Prelude.{◌≡◌, ◌<◌, ◌^◌, OnOk, IfErr, IsErrOf, length};
 ghost use Rattle.exchange.specs.Step.{unchanged, with_row, with_event};
 ghost use Rattle.exchange.specs.Opening.{IsWorn};
 ghost use Rattle.exchange.specs.View.{effect_of};

@@ -1,11 +1,11 @@
 //! From a text to its scenario.
-ghost use Rattle.std.specs.Prelude.{◌≡◌, ◌≢◌, ◌≤◌, ◌++◌, ◌∷◌, ℕ, [], Some, None, Ok, Err, map, true, false, option_map, not, string_bytes, flat_map, nat_lt, sum_by, IfOk, IfErr, OnOk};
+ghost use Rattle.std.specs.Prelude.{◌≡◌, ◌≢◌, ◌≤◌, ◌++◌, ◌∷◌, [], Some, None, Ok, Err, map, true, false, option_map, not, string_bytes, flat_map, nat_lt, sum_by, IfOk, IfErr, OnOk};
 ghost use Rattle.std.specs.List.{list_all};
 ghost use Rattle.toml.specs.View.{view};
 ghost use Rattle.toml.specs.Errors.{IsMemory};
 ghost use Rattle.scenario.specs.Setup.{names_in};
 ghost use Rattle.scenario.specs.View.{group_of};
-ghost use Rattle.scenario.specs.Reading.{default_of, whole_or, number_at, text_at, group_in, setup_of_tree};
+ghost use Rattle.scenario.specs.Reading.{default_of, whole_or, number_at, group_in, setup_of_tree};
 ghost use Rattle.scenario.specs.Rules.{starts_with_letter, is_name_byte, is_group_name, breaks_name, breaks_names, least_broken_by, verdict, KeepsShape};
 
 use crate::refusal::{Refusal, place_of};
