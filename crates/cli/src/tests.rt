@@ -279,13 +279,11 @@ fn standard_output_that_fails_ends_with_no_line(rt: HostRuntime) -> Result<(), F
     Ok(())
 }
 
-/// Tried by hand with each allocation failing in turn: what is told as done was done.
+/// To be tried with allocations failing (`rt try --test --fail-alloc N`): what is told as done was
+/// done.
 #[test]
-fn want_of_memory_is_no_success(rt: HostRuntime) {
-    let Ok(files) = files_with(&rt, TWO) else {
-        return;
-    };
-    let left = run_over(&rt, files);
+fn want_of_memory_is_no_success(rt: HostRuntime) -> Result<(), Fail> {
+    let left = run_over(&rt, files_with(&rt, TWO)?);
     match left.status {
         0 => {
             assert_eq!(rt; left.out.bytes(), b"rows 6\n".as_slice());
@@ -297,6 +295,7 @@ fn want_of_memory_is_no_success(rt: HostRuntime) {
             assert_eq!(rt; left.out.bytes().len(), 0);
         }
     }
+    Ok(())
 }
 
 #[test]
