@@ -29,7 +29,18 @@ const TRACE: &str = "moment,member,from,number,what,about,value,lost
 2,n-1,n-0,2,ack,n-0,1,0
 ";
 
-/// The words that run that scenario.
+/// The trace of two members up to moment 0.
+const STARTS: &str = "moment,member,from,number,what,about,value,lost
+0,n-0,n-0,0,start,,0,0
+0,n-1,n-1,0,start,,0,0
+";
+
+/// The trace of one member, which never has anybody to ping.
+const LONE_START: &str = "moment,member,from,number,what,about,value,lost
+0,n-0,n-0,0,start,,0,0
+";
+
+/// The words that run the scenario of two members.
 const RUN: [&str; 4] = ["run", "two.toml", "--trace", "t.csv"];
 
 /// What a command left.
@@ -81,6 +92,23 @@ fn a_run_writes_its_trace(rt: HostRuntime) -> Result<(), Fail> {
     assert_eq!(rt; left.out.bytes(), b"rows 6\n".as_slice());
     assert_eq!(rt; left.status, 0);
     assert_eq!(rt; left.files.bytes("t.csv"), Some(TRACE.as_bytes()));
+    Ok(())
+}
+
+#[test]
+fn runs_without_messages_write_their_starts(rt: HostRuntime) -> Result<(), Fail> {
+    for (end, count, line, trace) in [
+        ("end = 0", "count = 2", "rows 2\n", STARTS),
+        ("end = 5000", "count = 1", "rows 1\n", LONE_START),
+    ] {
+        let slow = TWO.replace(rt.alloc(), "delay = 1", "delay = 10")?;
+        let ended = slow.replace(rt.alloc(), "end = 3", end)?;
+        let text = ended.replace(rt.alloc(), "count = 2", count)?;
+        let left = run_over(&rt, files_with(&rt, text.as_str())?);
+        assert_eq!(rt; left.out.bytes(), line.as_bytes());
+        assert_eq!(rt; left.status, 0);
+        assert_eq!(rt; left.files.bytes("t.csv"), Some(trace.as_bytes()));
+    }
     Ok(())
 }
 
