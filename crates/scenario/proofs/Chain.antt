@@ -1,12 +1,17 @@
 -- Each link of the chain of rules: a rule is the least broken where those before it are kept.
-use Rattle.std.proofs.Common.{◌≡◌, ℕ, List, Bool, true, false, Some, None, Result, Ok, Err, IfOk, IfErr, option_map, refl, ap, ◌∙◌}
+use Rattle.std.proofs.Common.{◌≡◌, ℕ, List, Bool, true, false, nat_le, Some, None, Result, Ok, Err, IfOk, IfErr, option_map, refl, ap, ◌∙◌}
+use Rattle.std.specs.List.{list_any}
+use Rattle.scenario.specs.declared.settings.Slow.{Slow}
+use Rattle.scenario.specs.declared.settings.Crash.{Crash}
+use Rattle.scenario.specs.declared.schema.Key.TheVariants as key
 use Rattle.std.specs.Str.{IsUtf8, is_utf8}
 use Rattle.std.proofs.lemmas.Str.{IsUtf8-from_is_utf8, is_utf8-from_IsUtf8}
 use Rattle.toml.specs.Data.{Data, table, Members}
 use Rattle.toml.specs.Parse.{parse_document}
-use Rattle.scenario.specs.Setup.{Setup}
-use Rattle.scenario.specs.Reading.{setup_of_tree}
-use Rattle.scenario.specs.Rules.{breaks, breaks_names, breaks_times, breaks_size, least_broken, least_broken_by, judged, judged_if_read, unless_broken, tree_of, verdict}
+use Rattle.scenario.specs.Setup.{Setup, Group}
+use Rattle.scenario.specs.Tree.{items_at}
+use Rattle.scenario.specs.Reading.{plain_groups, setup_of_tree}
+use Rattle.scenario.specs.Rules.{any_two, is_same_member, overlaps, has_lost_contact, names_no_member, names_no_group, is_bad_contact, is_over, is_early, breaks, breaks_names, breaks_references, breaks_pairs, breaks_times, breaks_size, least_broken, least_broken_by, judged, judged_if_read, unless_broken, tree_of, verdict, KeepsValues}
 use Rattle.scenario.specs.declared.shape.Check.TheVariants.{Missing, Unknown, WrongKind, OutOfRange}
 
 pub missing_least : (d : Data) → breaks Missing d ≡ true → least_broken d ≡ Some 2
@@ -26,25 +31,85 @@ unfolding least_broken
 range_least d a b e broken = rw (a, b, e, broken)
 
 pub values_least : (d : Data) → breaks Missing d ≡ false → breaks Unknown d ≡ false → breaks WrongKind d ≡ false → breaks OutOfRange d ≡ false
-    → least_broken d ≡ least_broken_by (setup_of_tree d)
+    → least_broken d ≡ least_broken_by d (setup_of_tree d)
 unfolding least_broken
 values_least d a b e f = rw (a, b, e, f)
 
-pub names_least : (s : Setup) → breaks_names s.groups ≡ true → least_broken_by s ≡ Some 6
-unfolding least_broken_by
-names_least s broken = rw broken
+module _ (d : Data) (s : Setup) where
+  pub names_least : breaks_names (plain_groups d) ≡ true → least_broken_by d s ≡ Some 6
+  unfolding least_broken_by
+  names_least broken = rw broken
 
-pub times_least : (s : Setup) → breaks_names s.groups ≡ false → breaks_times s ≡ true → least_broken_by s ≡ Some 9
-unfolding least_broken_by
-times_least s a broken = rw (a, broken)
+  pub references_least : breaks_names (plain_groups d) ≡ false → breaks_references d (plain_groups d) ≡ true → least_broken_by d s ≡ Some 7
+  unfolding least_broken_by
+  references_least a broken = rw (a, broken)
 
-pub size_least : (s : Setup) → breaks_names s.groups ≡ false → breaks_times s ≡ false → breaks_size s ≡ true → least_broken_by s ≡ Some 10
-unfolding least_broken_by
-size_least s a b broken = rw (a, b, broken)
+  pub pairs_least : breaks_names (plain_groups d) ≡ false → breaks_references d (plain_groups d) ≡ false → breaks_pairs s.crashes s.slows ≡ true → least_broken_by d s ≡ Some 8
+  unfolding least_broken_by
+  pairs_least a b broken = rw (a, b, broken)
 
-pub nothing_broken : (s : Setup) → breaks_names s.groups ≡ false → breaks_times s ≡ false → breaks_size s ≡ false → least_broken_by s ≡ None
+  pub times_least : breaks_names (plain_groups d) ≡ false → breaks_references d (plain_groups d) ≡ false → breaks_pairs s.crashes s.slows ≡ false → breaks_times s ≡ true
+      → least_broken_by d s ≡ Some 9
+  unfolding least_broken_by
+  times_least a b e broken = rw (a, b, e, broken)
+
+  pub size_least : breaks_names (plain_groups d) ≡ false → breaks_references d (plain_groups d) ≡ false → breaks_pairs s.crashes s.slows ≡ false → breaks_times s ≡ false → breaks_size s ≡ true
+      → least_broken_by d s ≡ Some 10
+  unfolding least_broken_by
+  size_least a b e f broken = rw (a, b, e, f, broken)
+
+pub nothing_broken : (d : Data) → KeepsValues d → least_broken_by d (setup_of_tree d) ≡ None
 unfolding least_broken_by
-nothing_broken s a b e = rw (a, b, e)
+nothing_broken d k = rw (k.names, k.references, k.pairs, k.times, k.size)
+
+-- the four kinds of references
+module _ (d : Data) (gs : List Group) where
+  pub lost_contact : list_any (has_lost_contact gs) (items_at key.Group d) ≡ true → breaks_references d gs ≡ true
+  unfolding breaks_references
+  lost_contact broken = rw broken
+
+  pub lost_slow : list_any (has_lost_contact gs) (items_at key.Group d) ≡ false → list_any (names_no_member gs) (items_at key.Slow d) ≡ true → breaks_references d gs ≡ true
+  unfolding breaks_references
+  lost_slow a broken = rw (a, broken)
+
+  pub lost_crash : list_any (has_lost_contact gs) (items_at key.Group d) ≡ false → list_any (names_no_member gs) (items_at key.Slow d) ≡ false
+      → list_any (names_no_member gs) (items_at key.Crash d) ≡ true → breaks_references d gs ≡ true
+  unfolding breaks_references
+  lost_crash a b broken = rw (a, b, broken)
+
+  pub lost_path : (r : Bool) → list_any (has_lost_contact gs) (items_at key.Group d) ≡ false → list_any (names_no_member gs) (items_at key.Slow d) ≡ false
+      → list_any (names_no_member gs) (items_at key.Crash d) ≡ false → list_any (names_no_group gs) (items_at key.Path d) ≡ r → breaks_references d gs ≡ r
+  unfolding breaks_references
+  lost_path r a b e f = rw (a, b, e, f)
+
+-- the two kinds of pairs
+module _ (crashes : List Crash) (slows : List Slow) where
+  pub crash_pairs : any_two is_same_member crashes ≡ true → breaks_pairs crashes slows ≡ true
+  unfolding breaks_pairs
+  crash_pairs broken = rw broken
+
+  pub slow_pairs : (r : Bool) → any_two is_same_member crashes ≡ false → any_two overlaps slows ≡ r → breaks_pairs crashes slows ≡ r
+  unfolding breaks_pairs
+  slow_pairs r a b = rw (a, b)
+
+-- the four kinds of moments
+module _ (s : Setup) where
+  pub late_timeout : nat_le s.swim.period s.swim.timeout ≡ true → breaks_times s ≡ true
+  unfolding breaks_times
+  late_timeout broken = rw broken
+
+  pub bad_contact : nat_le s.swim.period s.swim.timeout ≡ false → list_any (is_bad_contact s) s.groups ≡ true → breaks_times s ≡ true
+  unfolding breaks_times
+  bad_contact a broken = rw (a, broken)
+
+  pub slow_over : nat_le s.swim.period s.swim.timeout ≡ false → list_any (is_bad_contact s) s.groups ≡ false → list_any is_over s.slows ≡ true → breaks_times s ≡ true
+  unfolding breaks_times
+  slow_over a b broken = rw (a, b, broken)
+
+  pub early_crash : (r : Bool) → nat_le s.swim.period s.swim.timeout ≡ false → list_any (is_bad_contact s) s.groups ≡ false → list_any is_over s.slows ≡ false
+      → list_any (is_early s) s.crashes ≡ r → breaks_times s ≡ r
+  unfolding breaks_times
+  early_crash r a b e f = rw (a, b, e, f)
 
 -- the document of bytes that `toml` read
 pub has_tree : (bytes : List ℕ) (ms : Members) → IsUtf8 bytes → parse_document bytes ≡ Some ms → tree_of bytes ≡ Some (table ms)

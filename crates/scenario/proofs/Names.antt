@@ -7,7 +7,7 @@ use Rattle.std.proofs.lemmas.List.{length-map, map-append}
 use Rattle.std.proofs.lemmas.List.Concat.{length-flat_map}
 use Rattle.std.proofs.lemmas.List.FromFn.{length-map-range_with_len, map-range_with_len_more}
 use Rattle.std.proofs.lemmas.Option.{slice_get-map}
-use Rattle.scenario.specs.Setup.{Setup, Group, names_in, member_names, member_count, name_of}
+use Rattle.scenario.specs.Setup.{Setup, Group, names_in, names_below, member_names, member_count, name_of}
 
 pub length-member_names : (s : Setup) → length (member_names s) ≡ member_count s
 length-member_names s =
@@ -24,14 +24,14 @@ name_at keys s m key named found =
     ∙ ap (λ names. unwrap_or (slice_get names m) []) named
 
 -- one more member of a group
-pub names_in-more : (name : List ℕ) (n : ℕ) → names_in (record { name = name; count = n + 1 }) ≡ names_in (record { name = name; count = n }) ++ (name ++ codes "-" ++ decimal n) ∷ []
-names_in-more name n = map-range_with_len_more (λ i. name ++ codes "-" ++ decimal i) 0 n n (zero-add n)
+pub names_below-more : (name : List ℕ) (n : ℕ) → names_below name (n + 1) ≡ names_below name n ++ (name ++ codes "-" ++ decimal n) ∷ []
+names_below-more name n = map-range_with_len_more (λ i. name ++ codes "-" ++ decimal i) 0 n n (zero-add n)
 
 -- the names so far, after the next one
 pub names-more : (keys more : List (String Global)) (key : String Global) (front : List (List ℕ)) (name : List ℕ) (n : ℕ)
     → more ≡ keys ++ key ∷ [] → string_bytes key ≡ name ++ codes "-" ++ decimal n
-    → map string_bytes keys ≡ front ++ names_in (record { name = name; count = n }) → map string_bytes more ≡ front ++ names_in (record { name = name; count = n + 1 })
+    → map string_bytes keys ≡ front ++ names_below name n → map string_bytes more ≡ front ++ names_below name (n + 1)
 names-more keys more key front name n grown spelt named =
     ap (map string_bytes) grown ∙ map-append string_bytes keys (key ∷ []) ∙ ap (λ k. map string_bytes keys ++ k ∷ []) spelt
-    ∙ ap (λ names. names ++ (name ++ codes "-" ++ decimal n) ∷ []) named ∙ append_assoc front (names_in (record { name = name; count = n })) ((name ++ codes "-" ++ decimal n) ∷ [])
-    ∙ ap (λ names. front ++ names) (sym (names_in-more name n))
+    ∙ ap (λ names. names ++ (name ++ codes "-" ++ decimal n) ∷ []) named ∙ append_assoc front (names_below name n) ((name ++ codes "-" ++ decimal n) ∷ [])
+    ∙ ap (λ names. front ++ names) (sym (names_below-more name n))

@@ -1,24 +1,35 @@
 -- A document that breaks no rule gives a scenario whose numbers are in the format's ranges.
-use Rattle.std.proofs.Common.{◌≡◌, ℕ, zero, suc, ◌+◌, ◌<◌, ◌≤◌, ◌^◌, Bool, true, false, not, ◌&&◌, ◌||◌, nat_le, nat_lt, List, [], ◌∷◌, ◌++◌, map, length, get_or, Option, Some, None, is_some, is_none, pos, negsuc, ap, ◌∙◌, sym, subst, refl, arith}
-use Rattle.std.specs.Option.{option_map_or, option_and_then}
-use Rattle.std.specs.List.{list_any, flat_map, sum_by}
+use Rattle.std.proofs.Common.{◌≡◌, ℕ, zero, suc, ◌+◌, ◌<◌, ◌≤◌, ◌^◌, Bool, true, false, cond, not, ◌&&◌, ◌||◌, nat_le, nat_lt, nat_eq, List, [], ◌∷◌, map, Option, Some, None, IfSome, is_some, is_none, pos, negsuc, ap, ◌∙◌, sym, subst, refl, arith, eqb-true, eq-eqb, bytes_eq}
+use Rattle.std.specs.Option.{option_map_or, option_map, option_and_then}
+use Rattle.std.specs.List.{slice_get, filter, find, list_any, sum_by, AllByRecursion}
 use Rattle.std.proofs.lemmas.Bool.{false≢true, leb-true, leb-false, ltb-false}
+use Rattle.std.proofs.lemmas.Bool.Decides.{nat_tests}
+use Rattle.std.proofs.lemmas.List.Folds.{fold-map}
+use Rattle.std.proofs.lemmas.List.Quantifiers.{position-Some}
 use Rattle.std.proofs.lemmas.List.Sums.{get_or-le-sum_by}
-use Rattle.toml.specs.Data.{Data, string, integer, float, boolean, datetime, array, table, Items, no_items, item, as_table}
+use Rattle.toml.specs.Data.{Data, string, integer, float, boolean, datetime, array, table, Items, no_items, item, as_table, as_str}
 use Rattle.scenario.specs.Schema.{text_of, rows_of}
-use Rattle.scenario.specs.Setup.{Setup, Group, IsSound, member_count}
-use Rattle.scenario.specs.Tree.{Part, part, parts_at, parts_below, parts_of, value_at, items_of, list_of}
-use Rattle.scenario.specs.Reading.{default_of, whole_or, number_at, group_in, groups_in, setup_of_tree}
-use Rattle.scenario.specs.Rules.{is_refused, is_empty_list, is_absent, is_missing, is_other_kind, is_within, is_outside, has_fault, part_breaks, breaks, breaks_times, breaks_size}
+use Rattle.scenario.specs.Setup.{Setup, Group, IsSound, IsSoundLink, IsSoundContact, leads, group_at, last_link, member_count, start_of, is_slow}
+use Rattle.scenario.specs.Tree.{Part, items_of, items_at, part, parts_at, parts_below, parts_of, value_at, list_of}
+use Rattle.scenario.specs.Reading.{default_of, whole_or, number_at, text_if, plain_group, plain_groups, names_of_all, member_named, group_in, swim_in, suspicion_in, lifeguard_in, link_in, link_over, path_in, slow_in, crash_in, setup_of_tree}
+use Rattle.scenario.specs.Rules.{is_over_0, is_refused, is_absent, is_missing, is_other_kind, is_outside, has_fault, part_breaks, breaks, has_lost_contact, is_bad_contact, is_early, is_over, breaks_references, breaks_times, breaks_size, KeepsShape, KeepsValues}
+use Rattle.scenario.proofs.Trees.{any-flat_map}
+use Rattle.scenario.proofs.Find.{length-names_of_all}
+use Rattle.scenario.specs.declared.settings.Swim.{Swim}
+use Rattle.scenario.specs.declared.settings.Suspicion.{Suspicion}
+use Rattle.scenario.specs.declared.settings.Lifeguard.{Lifeguard}
+use Rattle.scenario.specs.declared.settings.Link.{Link}
+use Rattle.scenario.specs.declared.settings.Path.{Path}
+use Rattle.scenario.specs.declared.settings.Slow.{Slow}
+use Rattle.scenario.specs.declared.settings.Crash.{Crash}
 use Rattle.scenario.specs.declared.schema.Row.{Row}
 use Rattle.scenario.specs.declared.schema.Key.{Key}
 use Rattle.scenario.specs.declared.schema.Key.TheVariants as key
 use Rattle.scenario.specs.declared.schema.Section.{Section}
 use Rattle.scenario.specs.declared.schema.Section.TheVariants as section
-use Rattle.scenario.specs.declared.schema.Kind.{Kind}
 use Rattle.scenario.specs.declared.schema.Kind.TheVariants as kind
 use Rattle.scenario.specs.declared.schema.Absence.{Absence}
-use Rattle.scenario.specs.declared.schema.Absence.TheVariants.{Refused, Default}
+use Rattle.scenario.specs.declared.schema.Absence.TheVariants.{Refused, RefusedOver0, Default, Optional}
 use Rattle.scenario.specs.declared.shape.Check.{Check}
 use Rattle.scenario.specs.declared.shape.Check.TheVariants.{Missing, WrongKind, OutOfRange}
 
@@ -41,14 +52,6 @@ turned false e = absurd (false≢true (sym e))
 there : {A : Type 0} (o : Option A) → is_none o ≡ false → is_some o ≡ true
 there None e = absurd (false≢true (sym e))
 there (Some x) e = refl
-
--- none of the two lists has an item that passes
-none_of_both : {A : Type 0} (f : A → Bool) (xs ys : List A) → list_any f (xs ++ ys) ≡ false → (list_any f xs ≡ false) × (list_any f ys ≡ false)
-none_of_both f [] ys e = (refl, e)
-none_of_both f (x ∷ xs) ys e =
-    let first = neither (f x) (list_any f (xs ++ ys)) e in
-    let rest = none_of_both f xs ys first.1 in
-    (ap (λ b. b || list_any f xs) first.0 ∙ rest.0, rest.1)
 
 -- a table of a section keeps the rules 2, 4 and 5
 record Keeps (s : Section) (d : Data) : Type 0 where
@@ -74,25 +77,25 @@ within_of least most n e =
     (leb-true least n parts.0, leb-true n most parts.1)
 
 -- the number of a key, by what is there
-bounded : (a : Absence) (least most default : ℕ) (o : Option Data) → (is_refused a ≡ false → Within least most default)
-    → (is_refused a && is_absent (kind.Whole least most) o) ≡ false → option_map_or (is_other_kind (kind.Whole least most)) o false ≡ false → option_map_or (is_outside (kind.Whole least most)) o false ≡ false
+bounded : (r : Bool) (least most default : ℕ) (o : Option Data) → (r ≡ false → Within least most default)
+    → (r && is_absent (kind.Whole least most) o) ≡ false → option_map_or (is_other_kind (kind.Whole least most)) o false ≡ false → option_map_or (is_outside (kind.Whole least most)) o false ≡ false
     → Within least most (whole_or default o)
-bounded Refused least most default None dflt a b e = absurd (false≢true (sym a))
-bounded (Default n) least most default None dflt a b e = dflt refl
-bounded a least most default (Some (integer (pos n))) dflt m b e = within_of least most n e
-bounded a least most default (Some (integer (negsuc n))) dflt m b e = absurd (false≢true (sym e))
-bounded a least most default (Some (string t)) dflt m b e = absurd (false≢true (sym b))
-bounded a least most default (Some (float x)) dflt m b e = absurd (false≢true (sym b))
-bounded a least most default (Some (boolean t)) dflt m b e = absurd (false≢true (sym b))
-bounded a least most default (Some (datetime t)) dflt m b e = absurd (false≢true (sym b))
-bounded a least most default (Some (array ds)) dflt m b e = absurd (false≢true (sym b))
-bounded a least most default (Some (table ms)) dflt m b e = absurd (false≢true (sym b))
+bounded true least most default None dflt a b e = absurd (false≢true (sym a))
+bounded false least most default None dflt a b e = dflt refl
+bounded r least most default (Some (integer (pos n))) dflt m b e = within_of least most n e
+bounded r least most default (Some (integer (negsuc n))) dflt m b e = absurd (false≢true (sym e))
+bounded r least most default (Some (string t)) dflt m b e = absurd (false≢true (sym b))
+bounded r least most default (Some (float x)) dflt m b e = absurd (false≢true (sym b))
+bounded r least most default (Some (boolean t)) dflt m b e = absurd (false≢true (sym b))
+bounded r least most default (Some (datetime t)) dflt m b e = absurd (false≢true (sym b))
+bounded r least most default (Some (array ds)) dflt m b e = absurd (false≢true (sym b))
+bounded r least most default (Some (table ms)) dflt m b e = absurd (false≢true (sym b))
 
-number_within : (s : Section) (k : Key) (a : Absence) (least most : ℕ) (d : Data) → (is_refused a ≡ false → Within least most (default_of s k))
+number_within : (s : Section) (k : Key) (a : Absence) (least most : ℕ) (d : Data) → (is_refused d a ≡ false → Within least most (default_of s k))
     → is_missing d (whole k a least most) ≡ false → has_fault is_other_kind d (whole k a least most) ≡ false → has_fault is_outside d (whole k a least most) ≡ false
     → Within least most (number_at s k (Some d))
 unfolding number_at
-number_within s k a least most d dflt m b e = bounded a least most (default_of s k) (value_at k d) dflt m b e
+number_within s k a least most d dflt m b e = bounded (is_refused d a) least most (default_of s k) (value_at k d) dflt m b e
 
 -- ---- the tables of a document
 
@@ -113,22 +116,44 @@ list_there s (Some (boolean t)) a b = absurd (false≢true (sym b))
 list_there s (Some (datetime t)) a b = absurd (false≢true (sym b))
 list_there s (Some (table ms)) a b = absurd (false≢true (sym b))
 
-module _ (tree : Data) where
-  -- no part of the document breaks the rule
-  record AllKeep (check : Check) : Type 0 where
-    top : part_breaks check (part section.Top tree) ≡ false
-    swim : list_any (part_breaks check) (parts_at (kind.Table section.Swim) (value_at key.Swim tree)) ≡ false
-    link : list_any (part_breaks check) (parts_at (kind.Table section.Link) (value_at key.Link tree)) ≡ false
-    group : list_any (part_breaks check) (parts_at (kind.List section.Group) (value_at key.Group tree)) ≡ false
+-- the test of the row at an index
+abbrev test_at : {A : Type 0} → (A → Bool) → ℕ → List A → Bool
+test_at f n [] = false
+test_at f zero (x ∷ xs) = f x
+test_at f (suc n) (x ∷ xs) = test_at f n xs
 
-  all_keep : (check : Check) → breaks check tree ≡ false → AllKeep check
-  unfolding breaks parts_of rows_of
-  all_keep check e =
-      let top = neither (part_breaks check (part section.Top tree)) _ e in
-      let swim = none_of_both (part_breaks check) (parts_at (kind.Table section.Swim) (value_at key.Swim tree)) _ top.1 in
-      let link = none_of_both (part_breaks check) (parts_at (kind.Table section.Link) (value_at key.Link tree)) _ swim.1 in
-      let group = none_of_both (part_breaks check) (parts_at (kind.List section.Group) (value_at key.Group tree)) _ link.1 in
-      record { top = top.0; swim = swim.0; link = link.0; group = group.0 }
+each_false : {A : Type 0} (f : A → Bool) (n : ℕ) (xs : List A) → list_any f xs ≡ false → test_at f n xs ≡ false
+each_false f n [] e = refl
+each_false f zero (x ∷ xs) e = (neither (f x) (list_any f xs) e).0
+each_false f (suc n) (x ∷ xs) e = each_false f n xs (neither (f x) (list_any f xs) e).1
+
+-- the row at an index of a section
+abbrev IsRow : Section → ℕ → Row → Type 0
+IsRow s i row = (test : Row → Bool) → test_at test i (rows_of s) ≡ test row
+
+-- a document that breaks none of the rules 2, 4 and 5
+record AllKept (tree : Data) : Type 0 where
+  missing : breaks Missing tree ≡ false
+  kinds : breaks WrongKind tree ≡ false
+  ranges : breaks OutOfRange tree ≡ false
+
+top_kept : (tree : Data) → AllKept tree → Keeps section.Top tree
+unfolding breaks parts_of
+top_kept tree k = keeps section.Top tree (neither _ _ k.missing).0 (neither _ _ k.kinds).0 (neither _ _ k.ranges).0
+
+-- what a row of the whole text calls for breaks no rule that the document keeps
+below_kept : (tree : Data) (check : Check) (i : ℕ) (row : Row) → IsRow section.Top i row → breaks check tree ≡ false
+    → list_any (part_breaks check) (parts_at row.kind (value_at row.key tree)) ≡ false
+unfolding breaks parts_of
+below_kept tree check i row is e =
+    let test : Row → Bool = λ r. list_any (part_breaks check) (parts_below tree r) in
+    sym (is test) ∙ each_false test i (rows_of section.Top) (sym (any-flat_map (part_breaks check) (parts_below tree) (rows_of section.Top)) ∙ (neither (part_breaks check (part section.Top tree)) _ e).1)
+
+abbrev table_row : Key → Absence → Section → Row
+table_row k a s = record { key = k; absence = a; kind = kind.Table s }
+
+abbrev list_row : Key → Absence → Section → Row
+list_row k a s = record { key = k; absence = a; kind = kind.List s }
 
 -- the table at a key keeps the rules
 one_part : (s : Section) (o : Option Data) (d : Data) (f : Part → Bool) → o ≡ Some d → list_any f (parts_at (kind.Table s) o) ≡ false → f (part s d) ≡ false
@@ -137,121 +162,361 @@ one_part s o d f is e = (neither (f (part s d)) false (ap (λ p. list_any f (par
 first_part : (s : Section) (o : Option Data) (d : Data) (ds : Items) (f : Part → Bool) → o ≡ Some (array (item d ds)) → list_any f (parts_at (kind.List s) o) ≡ false → f (part s d) ≡ false
 first_part s o d ds f is e = (neither (f (part s d)) _ (ap (λ p. list_any f (parts_at (kind.List s) p)) (sym is) ∙ e)).0
 
--- ---- the numbers of each section
+table_kept : (tree : Data) (i : ℕ) (k : Key) (a : Absence) (s : Section) → IsRow section.Top i (table_row k a s) → AllKept tree
+    → (d : Data) → value_at k tree ≡ Some d → Keeps s d
+table_kept tree i k a s is kept d at =
+    keeps s d
+    (one_part s (value_at k tree) d (part_breaks Missing) at (below_kept tree Missing i (table_row k a s) is kept.missing))
+    (one_part s (value_at k tree) d (part_breaks WrongKind) at (below_kept tree WrongKind i (table_row k a s) is kept.kinds))
+    (one_part s (value_at k tree) d (part_breaks OutOfRange) at (below_kept tree OutOfRange i (table_row k a s) is kept.ranges))
 
-end_within : (d : Data) → Keeps section.Top d → number_at section.Top key.End (Some d) ≤ 2 ^ 40
-unfolding rows_of
-end_within d k =
-    let m = neither _ _ (neither _ _ (neither _ _ k.missing).1).1 in
-    let b = neither _ _ (neither _ _ (neither _ _ k.kinds).1).1 in
-    let r = neither _ _ (neither _ _ (neither _ _ k.ranges).1).1 in
-    (number_within section.Top key.End Refused 0 0x100_0000_0000 d (λ no. absurd (false≢true (sym no))) m.0 b.0 r.0).1
+first_kept : (tree : Data) (i : ℕ) (k : Key) (a : Absence) (s : Section) → IsRow section.Top i (list_row k a s) → AllKept tree
+    → (d : Data) (ds : Items) → value_at k tree ≡ Some (array (item d ds)) → Keeps s d
+first_kept tree i k a s is kept d ds at =
+    keeps s d
+    (first_part s (value_at k tree) d ds (part_breaks Missing) at (below_kept tree Missing i (list_row k a s) is kept.missing))
+    (first_part s (value_at k tree) d ds (part_breaks WrongKind) at (below_kept tree WrongKind i (list_row k a s) is kept.kinds))
+    (first_part s (value_at k tree) d ds (part_breaks OutOfRange) at (below_kept tree OutOfRange i (list_row k a s) is kept.ranges))
 
-record SwimWithin (d : Data) : Type 0 where
-  period : number_at section.Swim key.Period (Some d) ≤ 2 ^ 24
-  timeout : 0 < number_at section.Swim key.Timeout (Some d)
-  spread : (0 < number_at section.Swim key.Spread (Some d)) × (number_at section.Swim key.Spread (Some d) ≤ 2 ^ 24)
+-- the number of a row of a table that is there
+number_kept : (s : Section) (i : ℕ) (k : Key) (a : Absence) (least most : ℕ) → IsRow s i (whole k a least most) → (d : Data) → (is_refused d a ≡ false → Within least most (default_of s k)) → Keeps s d → Within least most (number_at s k (Some d))
+number_kept s i k a least most is d dflt kept =
+    number_within s k a least most d dflt
+    (sym (is (is_missing d)) ∙ each_false (is_missing d) i (rows_of s) kept.missing)
+    (sym (is (has_fault is_other_kind d)) ∙ each_false (has_fault is_other_kind d) i (rows_of s) kept.kinds)
+    (sym (is (has_fault is_outside d)) ∙ each_false (has_fault is_outside d) i (rows_of s) kept.ranges)
 
-spread_default : Within 1 0x100_0000 (default_of section.Swim key.Spread)
-unfolding rows_of text_of
-spread_default = (omega arith, omega arith)
+-- a required number of a table that is there
+required : (s : Section) (i : ℕ) (k : Key) (least most : ℕ) → IsRow s i (whole k Refused least most)
+    → (o : Option Data) (d : Data) → o ≡ Some d → Keeps s d → Within least most (number_at s k o)
+required s i k least most is o d at kept =
+    subst (λ p. Within least most (number_at s k p)) (sym at) (number_kept s i k Refused least most is d (λ no. absurd (false≢true (sym no))) kept)
 
-swim_within : (d : Data) → Keeps section.Swim d → SwimWithin d
-unfolding rows_of
-swim_within d k =
-    let m1 = neither _ _ k.missing in
-    let m2 = neither _ _ m1.1 in
-    let m3 = neither _ _ m2.1 in
-    let b1 = neither _ _ k.kinds in
-    let b2 = neither _ _ b1.1 in
-    let b3 = neither _ _ b2.1 in
-    let r1 = neither _ _ k.ranges in
-    let r2 = neither _ _ r1.1 in
-    let r3 = neither _ _ r2.1 in
-    let timeout = number_within section.Swim key.Timeout Refused 1 0x100_0000 d (λ no. absurd (false≢true (sym no))) m2.0 b2.0 r2.0 in
-    let spread = number_within section.Swim key.Spread (Default 1) 1 0x100_0000 d (λ _. spread_default) m3.0 b3.0 r3.0 in
-    record {
-      period = (number_within section.Swim key.Period Refused 2 0x100_0000 d (λ no. absurd (false≢true (sym no))) m1.0 b1.0 r1.0).1;
-      timeout = timeout.0;
-      spread = (spread.0, spread.1);
-    }
-
-delay_within : (d : Data) → Keeps section.Link d → Within 1 0x10_0000 (number_at section.Link key.Delay (Some d))
-unfolding rows_of
-delay_within d k =
-    number_within section.Link key.Delay Refused 1 0x10_0000 d (λ no. absurd (false≢true (sym no))) (neither _ _ k.missing).0 (neither _ _ k.kinds).0 (neither _ _ k.ranges).0
-
-count_within : (d : Data) → Keeps section.Group d → 0 < number_at section.Group key.Count (Some d)
-unfolding rows_of
-count_within d k =
-    let m = neither _ _ (neither _ _ k.missing).1 in
-    let b = neither _ _ (neither _ _ k.kinds).1 in
-    let r = neither _ _ (neither _ _ k.ranges).1 in
-    (number_within section.Group key.Count Refused 1 1024 d (λ no. absurd (false≢true (sym no))) m.0 b.0 r.0).0
-
--- ---- the scenario
-
-last_three : (a b c d e f : Bool) → (a || (b || (c || (d || (e || (f || false)))))) ≡ false → (d ≡ false) × (e ≡ false) × (f ≡ false)
-last_three a b c d e f h =
-    let at_d = neither d (e || (f || false)) (neither c (d || (e || (f || false))) (neither b (c || (d || (e || (f || false)))) (neither a (b || (c || (d || (e || (f || false))))) h).1).1).1 in
-    let at_e = neither e (f || false) at_d.1 in
-    (at_d.0, at_e.0, (neither f false at_e.1).0)
-
--- what the rows of the whole text tell of its tables
-top_rows : (test : Row → Bool) → list_any test (rows_of section.Top) ≡ false
-    → (test (record { key = key.Swim; absence = Refused; kind = kind.Table section.Swim }) ≡ false)
-    × (test (record { key = key.Link; absence = Refused; kind = kind.Table section.Link }) ≡ false)
-    × (test (record { key = key.Group; absence = Refused; kind = kind.List section.Group }) ≡ false)
-unfolding rows_of
-top_rows test h =
-    last_three (test (whole key.Version Refused 1 1)) (test (whole key.Seed Refused 0 0x7fff_ffff_ffff_ffff)) (test (whole key.End Refused 0 0x100_0000_0000)) _ _ _ h
+-- a number with a default, of a table that may be missing
+optional : (s : Section) (i : ℕ) (k : Key) (n least most : ℕ) → IsRow s i (whole k (Default n) least most) → Within least most (default_of s k)
+    → (o : Option Data) → ((d : Data) → o ≡ Some d → Keeps s d) → Within least most (number_at s k o)
+unfolding number_at
+optional s i k n least most is dflt None kept = dflt
+optional s i k n least most is dflt (Some d) kept = number_kept s i k (Default n) least most is d (λ _. dflt) (kept d refl)
 
 some_members : (g : Group) (gs : List Group) → 0 < g.count → 0 < sum_by (λ (h : Group). h.count) (g ∷ gs)
 some_members g gs h =
     let first = get_or-le-sum_by (λ (h : Group). h.count) (g ∷ gs) 0 g (omega arith) in
     omega arith
 
--- The scenario of a document that keeps the rules 2, 4, 5, 9 and 10.
-pub sound_of : (tree : Data) → breaks Missing tree ≡ false → breaks WrongKind tree ≡ false → breaks OutOfRange tree ≡ false
-    → breaks_times (setup_of_tree tree) ≡ false → breaks_size (setup_of_tree tree) ≡ false → IsSound (setup_of_tree tree)
-unfolding setup_of_tree rows_of
-sound_of tree missing kinds ranges times size =
-    let m = all_keep tree Missing missing in
-    let b = all_keep tree WrongKind kinds in
-    let r = all_keep tree OutOfRange ranges in
-    let top = keeps section.Top tree m.top b.top r.top in
-    let absent = top_rows (is_missing tree) top.missing in
-    let swim = table_there section.Swim (value_at key.Swim tree) absent.0 in
-    let link = table_there section.Link (value_at key.Link tree) absent.1 in
-    let group = list_there section.Group (value_at key.Group tree) absent.2 (top_rows (has_fault is_other_kind tree) top.kinds).2 in
-    let swim_keeps = keeps section.Swim swim.0 (one_part section.Swim _ swim.0 _ swim.1 m.swim) (one_part section.Swim _ swim.0 _ swim.1 b.swim) (one_part section.Swim _ swim.0 _ swim.1 r.swim) in
-    let link_keeps = keeps section.Link link.0 (one_part section.Link _ link.0 _ link.1 m.link) (one_part section.Link _ link.0 _ link.1 b.link) (one_part section.Link _ link.0 _ link.1 r.link) in
-    let group_keeps = keeps section.Group group.0 (first_part section.Group _ group.0 group.1 _ group.2 m.group) (first_part section.Group _ group.0 group.1 _ group.2 b.group) (first_part section.Group _ group.0 group.1 _ group.2 r.group) in
-    let numbers : SwimWithin swim.0 = swim_within swim.0 swim_keeps in
-    let delay = delay_within link.0 link_keeps in
-    let swim_is : (k : Key) → number_at section.Swim k (value_at key.Swim tree) ≡ number_at section.Swim k (Some swim.0) = λ k. ap (number_at section.Swim k) swim.1 in
-    let link_is = ap (number_at section.Link key.Delay) link.1 in
+record SwimSound (s : Swim) : Type 0 where
+  period : s.period ≤ 2 ^ 24
+  timeout : 0 < s.timeout
+  helpers : s.helpers ≤ 16
+  carry : Within 1 64 s.carry
+  lambda : Within 1 100 s.lambda
+  spread : Within 1 0x100_0000 s.spread
+
+record SuspicionSound (s : Suspicion) : Type 0 where
+  alpha : Within 1 100 s.alpha
+  beta : Within 1 100 s.beta
+
+record LifeguardSound (s : Lifeguard) : Type 0 where
+  ceiling : s.ceiling ≤ 16
+  confirmations : s.confirmations ≤ 9
+  nack_percent : Within 1 100 s.nack_percent
+
+-- the numbers of the scenario
+swim_sound : (o : Option Data) (d : Data) → o ≡ Some d → ((e : Data) → o ≡ Some e → Keeps section.Swim e) → SwimSound (swim_in o)
+unfolding rows_of text_of
+swim_sound o d at kept = record {
+  period = (required section.Swim 0 key.Period 2 0x100_0000 (λ _. refl) o d at (kept d at)).1;
+  timeout = (required section.Swim 1 key.Timeout 1 0x100_0000 (λ _. refl) o d at (kept d at)).0;
+  helpers = (optional section.Swim 2 key.Helpers 3 0 16 (λ _. refl) (omega arith, omega arith) o kept).1;
+  carry = optional section.Swim 3 key.Carry 6 1 64 (λ _. refl) (omega arith, omega arith) o kept;
+  lambda = optional section.Swim 4 key.Lambda 3 1 100 (λ _. refl) (omega arith, omega arith) o kept;
+  spread = optional section.Swim 5 key.Spread 1 1 0x100_0000 (λ _. refl) (omega arith, omega arith) o kept;
+}
+
+suspicion_sound : (o : Option Data) → ((d : Data) → o ≡ Some d → Keeps section.Suspicion d) → SuspicionSound (suspicion_in o)
+unfolding rows_of text_of
+suspicion_sound o kept = record {
+  alpha = optional section.Suspicion 0 key.Alpha 5 1 100 (λ _. refl) (omega arith, omega arith) o kept;
+  beta = optional section.Suspicion 1 key.Beta 6 1 100 (λ _. refl) (omega arith, omega arith) o kept;
+}
+
+lifeguard_sound : (o : Option Data) → ((d : Data) → o ≡ Some d → Keeps section.Lifeguard d) → LifeguardSound (lifeguard_in o)
+unfolding rows_of text_of
+lifeguard_sound o kept = record {
+  ceiling = (optional section.Lifeguard 3 key.Ceiling 8 0 16 (λ _. refl) (omega arith, omega arith) o kept).1;
+  confirmations = (optional section.Lifeguard 4 key.Confirmations 3 0 9 (λ _. refl) (omega arith, omega arith) o kept).1;
+  nack_percent = optional section.Lifeguard 5 key.NackPercent 80 1 100 (λ _. refl) (omega arith, omega arith) o kept;
+}
+
+link_sound : (o : Option Data) (d : Data) → o ≡ Some d → ((e : Data) → o ≡ Some e → Keeps section.Link e) → IsSoundLink (link_in o)
+unfolding rows_of text_of
+link_sound o d at kept = record {
+  delay = required section.Link 0 key.Delay 1 0x10_0000 (λ _. refl) o d at (kept d at);
+  jitter = (optional section.Link 1 key.Jitter 0 0 0x10_0000 (λ _. refl) (omega arith, omega arith) o kept).1;
+  loss = (optional section.Link 2 key.Loss 0 0 1_000_000 (λ _. refl) (omega arith, omega arith) o kept).1;
+}
+
+-- a number of a path that is there, else the link's
+path_number : (i : ℕ) (k : Key) (least most n : ℕ) → IsRow section.Path i (whole k Optional least most) → Within least most n → (d : Data) → Keeps section.Path d
+    → Within least most (whole_or n (value_at k d))
+path_number i k least most n is fine d kept =
+    bounded false least most n (value_at k d) (λ _. fine)
+    (sym (is (is_missing d)) ∙ each_false (is_missing d) i (rows_of section.Path) kept.missing)
+    (sym (is (has_fault is_other_kind d)) ∙ each_false (has_fault is_other_kind d) i (rows_of section.Path) kept.kinds)
+    (sym (is (has_fault is_outside d)) ∙ each_false (has_fault is_outside d) i (rows_of section.Path) kept.ranges)
+
+path_sound : (link : Link) (d : Data) → IsSoundLink link → Keeps section.Path d → IsSoundLink (link_over link d)
+unfolding rows_of
+path_sound link d sound kept = record {
+  delay = path_number 2 key.Delay 1 0x10_0000 link.delay (λ _. refl) sound.delay d kept;
+  jitter = (path_number 3 key.Jitter 0 0x10_0000 link.jitter (λ _. refl) (omega arith, sound.jitter) d kept).1;
+  loss = (path_number 4 key.Loss 0 1_000_000 link.loss (λ _. refl) (omega arith, sound.loss) d kept).1;
+}
+
+last_of : (b : Bool) (p : Path) (ps : List Path) (other : Link) → IsSoundLink (last_link p.link (map (λ q. q.link) ps)) → IsSoundLink (last_link other (map (λ q. q.link) ps))
+    → IsSoundLink (last_link other (map (λ q. q.link) (cond b (p ∷ ps) ps)))
+last_of true p ps other taken passed = taken
+last_of false p ps other taken passed = passed
+
+abbrev Fine : Section → List Data → Check → Type 0
+Fine s ds check = list_any (part_breaks check) (map (part s) ds) ≡ false
+
+-- the last link of the paths that pass a test
+last_sound : (groups : List Group) (link : Link) (test : Path → Bool) → IsSoundLink link → (ds : List Data) → Fine section.Path ds Missing → Fine section.Path ds WrongKind → Fine section.Path ds OutOfRange
+    → (other : Link) → IsSoundLink other → IsSoundLink (last_link other (map (λ p. p.link) (filter test (map (path_in groups link) ds))))
+last_sound groups link test sound [] a b e other fine = fine
+last_sound groups link test sound (d ∷ ds) a b e other fine =
+    let missing = neither (part_breaks Missing (part section.Path d)) _ a in
+    let kinds = neither (part_breaks WrongKind (part section.Path d)) _ b in
+    let ranges = neither (part_breaks OutOfRange (part section.Path d)) _ e in
+    let first = path_sound link d sound (keeps section.Path d missing.0 kinds.0 ranges.0) in
+    let rest = last_sound groups link test sound ds missing.1 kinds.1 ranges.1 in
+    last_of (test (path_in groups link d)) (path_in groups link d) (filter test (map (path_in groups link) ds)) other (rest (link_over link d) first) (rest other fine)
+
+paths_sound : (groups : List Group) (link : Link) (test : Path → Bool) (o : Option Data) → IsSoundLink link
+    → list_any (part_breaks Missing) (parts_at (kind.List section.Path) o) ≡ false → list_any (part_breaks WrongKind) (parts_at (kind.List section.Path) o) ≡ false
+    → list_any (part_breaks OutOfRange) (parts_at (kind.List section.Path) o) ≡ false
+    → IsSoundLink (last_link link (map (λ p. p.link) (filter test (map (path_in groups link) (option_map_or items_of o [])))))
+paths_sound groups link test None sound a b e = sound
+paths_sound groups link test (Some d) sound a b e = last_sound groups link test sound (items_of d) a b e link sound
+
+-- ---- the items of the other lists
+
+-- each item keeps the rules
+each_kept : (s : Section) (ds : List Data) → Fine s ds Missing → Fine s ds WrongKind → Fine s ds OutOfRange → AllByRecursion (Keeps s) ds
+each_kept s [] a b e = tt
+each_kept s (d ∷ ds) a b e =
+    let missing = neither (part_breaks Missing (part s d)) _ a in
+    let kinds = neither (part_breaks WrongKind (part s d)) _ b in
+    let ranges = neither (part_breaks OutOfRange (part s d)) _ e in
+    (keeps s d missing.0 kinds.0 ranges.0, each_kept s ds missing.1 kinds.1 ranges.1)
+
+items_kept : (s : Section) (o : Option Data) → list_any (part_breaks Missing) (parts_at (kind.List s) o) ≡ false → list_any (part_breaks WrongKind) (parts_at (kind.List s) o) ≡ false
+    → list_any (part_breaks OutOfRange) (parts_at (kind.List s) o) ≡ false → AllByRecursion (Keeps s) (option_map_or items_of o [])
+items_kept s None a b e = tt
+items_kept s (Some d) a b e = each_kept s (items_of d) a b e
+
+extra_kept : (d : Data) → Keeps section.Slow d → number_at section.Slow key.Extra (Some d) ≤ 2 ^ 24
+unfolding rows_of
+extra_kept d kept = (required section.Slow 3 key.Extra 1 0x100_0000 (λ _. refl) (Some d) d refl kept).1
+
+at_kept : (d : Data) → Keeps section.Crash d → number_at section.Crash key.At (Some d) ≤ 2 ^ 40
+unfolding rows_of
+at_kept d kept = (required section.Crash 1 key.At 0 0x100_0000_0000 (λ _. refl) (Some d) d refl kept).1
+
+start_kept : (d : Data) → Keeps section.Group d → number_at section.Group key.Start (Some d) ≤ 2 ^ 40
+unfolding rows_of text_of
+start_kept d kept = (number_kept section.Group 2 key.Start (Default 0) 0 0x100_0000_0000 (λ _. refl) d (λ _. (omega arith, omega arith)) kept).1
+
+extra_step : (b : Bool) (e : Slow) (rest : Option Slow) → e.extra ≤ 2 ^ 24 → option_map_or (λ (f : Slow). f.extra) rest 0 ≤ 2 ^ 24 → option_map_or (λ (f : Slow). f.extra) (cond b (Some e) rest) 0 ≤ 2 ^ 24
+extra_step true e rest here later = here
+extra_step false e rest here later = later
+
+extras_sound : (gs : List Group) (test : Slow → Bool) (ds : List Data) → AllByRecursion (Keeps section.Slow) ds → option_map_or (λ (e : Slow). e.extra) (find test (map (slow_in gs) ds)) 0 ≤ 2 ^ 24
+extras_sound gs test [] kept = omega arith
+extras_sound gs test (d ∷ ds) kept =
+    extra_step (test (slow_in gs d)) (slow_in gs d) (find test (map (slow_in gs) ds)) (extra_kept d kept.0) (extras_sound gs test ds kept.1)
+
+abbrev IsSoundCrash : Setup → ℕ → Option ℕ → Type 0
+IsSoundCrash s m o = IfSome o (λ t. (start_of s m < t) × (t ≤ 2 ^ 40))
+
+crash_step : (s : Setup) (m : ℕ) (b : Bool) (c : Crash) (rest : Option Crash) → nat_eq c.member m ≡ b → is_early s c ≡ false → c.at ≤ 2 ^ 40
+    → IsSoundCrash s m (option_map (λ (c : Crash). c.at) rest) → IsSoundCrash s m (option_map (λ (c : Crash). c.at) (cond b (Some c) rest))
+crash_step s m true c rest same late small later =
+    let after = leb-false c.at (start_of s c.member) late in
+    let its : start_of s c.member ≡ start_of s m = ap (start_of s) (eqb-true c.member m same) in
+    (omega (arith, after, its), small)
+crash_step s m false c rest same late small later = later
+
+crashes_sound : (s : Setup) (gs : List Group) (m : ℕ) (ds : List Data) → AllByRecursion (Keeps section.Crash) ds → list_any (is_early s) (map (crash_in gs) ds) ≡ false
+    → IsSoundCrash s m (option_map (λ (c : Crash). c.at) (find (λ (c : Crash). nat_eq c.member m) (map (crash_in gs) ds)))
+crashes_sound s gs m [] kept late = tt
+crashes_sound s gs m (d ∷ ds) kept late =
+    let c = crash_in gs d in
+    let parts = neither (is_early s c) (list_any (is_early s) (map (crash_in gs) ds)) late in
+    crash_step s m (nat_eq c.member m) c (find (λ (e : Crash). nat_eq e.member m) (map (crash_in gs) ds)) refl parts.0 (at_kept d kept.0) (crashes_sound s gs m ds kept.1 parts.1)
+
+-- ---- groups and their contacts
+
+record IsSoundGroup (s : Setup) (g : Group) : Type 0 where
+  small : g.start ≤ 2 ^ 40
+  none : g.start ≡ 0 → g.contact ≡ None
+  some : 0 < g.start → (c : ℕ) × (g.contact ≡ Some c) × (c < member_count s) × (start_of s c ≡ 0)
+
+no_contact : (s : Setup) (n : ℕ) (o : Option ℕ) → option_map_or (λ c. nat_eq n 0 || nat_lt 0 (start_of s c)) o false ≡ false → n ≡ 0 → o ≡ None
+no_contact s n None fine zero_is = refl
+no_contact s n (Some c) fine zero_is = absurd (false≢true (sym (neither (nat_eq n 0) (nat_lt 0 (start_of s c)) fine).0 ∙ eq-eqb n 0 zero_is))
+
+-- a start over 0 is a number over 0
+over_0 : (o : Option Data) → 0 < whole_or 0 o → is_over_0 o ≡ true
+over_0 None h = absurd (omega arith)
+over_0 (Some (integer (pos n))) h = grind (arith, nat_tests)
+over_0 (Some (integer (negsuc n))) h = absurd (omega arith)
+over_0 (Some (string t)) h = absurd (omega arith)
+over_0 (Some (float x)) h = absurd (omega arith)
+over_0 (Some (boolean t)) h = absurd (omega arith)
+over_0 (Some (datetime t)) h = absurd (omega arith)
+over_0 (Some (array ds)) h = absurd (omega arith)
+over_0 (Some (table ms)) h = absurd (omega arith)
+
+text_there : (o : Option Data) → is_absent kind.Text o ≡ false → option_map_or (is_other_kind kind.Text) o false ≡ false → (t : List ℕ) × (option_and_then as_str o ≡ Some t)
+text_there None a b = absurd (false≢true (sym a))
+text_there (Some (string t)) a b = (t, refl)
+text_there (Some (integer z)) a b = absurd (false≢true (sym b))
+text_there (Some (float x)) a b = absurd (false≢true (sym b))
+text_there (Some (boolean t)) a b = absurd (false≢true (sym b))
+text_there (Some (datetime t)) a b = absurd (false≢true (sym b))
+text_there (Some (array ds)) a b = absurd (false≢true (sym b))
+text_there (Some (table ms)) a b = absurd (false≢true (sym b))
+
+found_by : (s : Setup) (n : ℕ) (o : Option ℕ) → is_none o ≡ false → option_map_or (λ c. nat_eq n 0 || nat_lt 0 (start_of s c)) o false ≡ false → (k : ℕ) → ((c : ℕ) → o ≡ Some c → c < k)
+    → (c : ℕ) × (o ≡ Some c) × (c < k) × (start_of s c ≡ 0)
+found_by s n None known fine k below = absurd (false≢true (sym known))
+found_by s n (Some c) known fine k below =
+    let early = ltb-false 0 (start_of s c) (neither (nat_eq n 0) (nat_lt 0 (start_of s c)) fine).1 in
+    (c, refl, below c refl, omega (arith, early))
+
+member_below : (gs : List Group) (name : List ℕ) (c : ℕ) → member_named gs name ≡ Some c → c < sum_by (λ (g : Group). g.count) gs
+unfolding member_named
+member_below gs name c found = omega (arith, (position-Some (bytes_eq name) (names_of_all gs) c [] found).0, length-names_of_all gs)
+
+abbrev contact_row : Row
+contact_row = record { key = key.Contact; absence = RefusedOver0 key.Start; kind = kind.Text }
+
+contact_there : (d : Data) → Keeps section.Group d → 0 < number_at section.Group key.Start (Some d) → (t : List ℕ) × (text_if key.Contact d ≡ Some t)
+unfolding number_at text_if rows_of text_of
+contact_there d kept late =
+    let missing : is_missing d contact_row ≡ false = each_false (is_missing d) 3 (rows_of section.Group) kept.missing in
+    let kinds : has_fault is_other_kind d contact_row ≡ false = each_false (has_fault is_other_kind d) 3 (rows_of section.Group) kept.kinds in
+    text_there (value_at key.Contact d) (second_false (is_over_0 (value_at key.Start d)) (is_absent kind.Text (value_at key.Contact d)) (over_0 (value_at key.Start d) late) missing) kinds
+
+group_sound : (s : Setup) (gs : List Group) (d : Data) → member_count s ≡ sum_by (λ (g : Group). g.count) gs → Keeps section.Group d → has_lost_contact gs d ≡ false → is_bad_contact s (group_in gs d) ≡ false
+    → IsSoundGroup s (group_in gs d)
+group_sound s gs d counted kept known fine = record {
+  small = start_kept d kept;
+  none = no_contact s (group_in gs d).start (group_in gs d).contact fine;
+  some = λ late.
+      let named = contact_there d kept late in
+      let known_is : is_none (member_named gs named.0) ≡ false = ap (λ o. option_map_or (λ name. is_none (member_named gs name)) o false) (sym named.1) ∙ known in
+      let contact_is : (group_in gs d).contact ≡ member_named gs named.0 = ap (option_and_then (member_named gs)) named.1 in
+      let found = found_by s (group_in gs d).start (member_named gs named.0) known_is (ap (λ o. option_map_or (λ c. nat_eq (group_in gs d).start 0 || nat_lt 0 (start_of s c)) o false) (sym contact_is) ∙ fine)
+      (member_count s) (λ c at. omega (arith, member_below gs named.0 c at, counted)) in
+      (found.0, contact_is ∙ found.1, found.2, found.3);
+}
+
+groups_sound : (s : Setup) (gs : List Group) (ds : List Data) → member_count s ≡ sum_by (λ (g : Group). g.count) gs → AllByRecursion (Keeps section.Group) ds → list_any (has_lost_contact gs) ds ≡ false
+    → list_any (is_bad_contact s) (map (group_in gs) ds) ≡ false → (k : ℕ) → IfSome (slice_get (map (group_in gs) ds) k) (IsSoundGroup s)
+groups_sound s gs [] counted kept known fine k = tt
+groups_sound s gs (d ∷ ds) counted kept known fine zero =
+    group_sound s gs d counted kept.0 (neither (has_lost_contact gs d) (list_any (has_lost_contact gs) ds) known).0 (neither (is_bad_contact s (group_in gs d)) (list_any (is_bad_contact s) (map (group_in gs) ds)) fine).0
+groups_sound s gs (d ∷ ds) counted kept known fine (suc k) =
+    groups_sound s gs ds counted kept.1 (neither (has_lost_contact gs d) (list_any (has_lost_contact gs) ds) known).1
+    (neither (is_bad_contact s (group_in gs d)) (list_any (is_bad_contact s) (map (group_in gs) ds)) fine).1 k
+
+start_by : (s : Setup) (o : Option Group) → IfSome o (IsSoundGroup s) → option_map_or (λ (g : Group). g.start) o 0 ≤ 2 ^ 40
+start_by s None sound = omega arith
+start_by s (Some g) sound = sound.small
+
+none_by : (s : Setup) (o : Option Group) → IfSome o (IsSoundGroup s) → option_map_or (λ (g : Group). g.start) o 0 ≡ 0 → option_and_then (λ (g : Group). g.contact) o ≡ None
+none_by s None sound = λ _. refl
+none_by s (Some g) sound = sound.none
+
+some_by : (s : Setup) (o : Option Group) → IfSome o (IsSoundGroup s) → 0 < option_map_or (λ (g : Group). g.start) o 0
+    → (c : ℕ) × (option_and_then (λ (g : Group). g.contact) o ≡ Some c) × (c < member_count s) × (start_of s c ≡ 0)
+some_by s None sound = λ late. absurd (omega arith)
+some_by s (Some g) sound = sound.some
+
+end_sound : (d : Data) → Keeps section.Top d → number_at section.Top key.End (Some d) ≤ 2 ^ 40
+unfolding rows_of
+end_sound d kept = (required section.Top 2 key.End 0 0x100_0000_0000 (λ _. refl) (Some d) d refl kept).1
+
+count_sound : (d : Data) → Keeps section.Group d → 0 < number_at section.Group key.Count (Some d)
+unfolding rows_of
+count_sound d kept = (required section.Group 1 key.Count 1 1024 (λ _. refl) (Some d) d refl kept).0
+
+-- as many members as without the contacts
+pub counts_same : (tree : Data) → member_count (setup_of_tree tree) ≡ sum_by (λ (g : Group). g.count) (plain_groups tree)
+unfolding setup_of_tree plain_groups
+counts_same tree =
+    fold-map (λ (n : ℕ) (g : Group). n + g.count) (group_in (map plain_group (items_at key.Group tree))) 0 (items_at key.Group tree)
+    ∙ sym (fold-map (λ (n : ℕ) (g : Group). n + g.count) plain_group 0 (items_at key.Group tree))
+
+-- The scenario of a document that breaks no rule.
+pub sound_of : (tree : Data) → KeepsShape tree → KeepsValues tree → IsSound (setup_of_tree tree)
+unfolding setup_of_tree rows_of breaks_references breaks_times
+sound_of tree shape values =
+    let kept : AllKept tree = record { missing = shape.missing; kinds = shape.kinds; ranges = shape.ranges } in
+    let top = top_kept tree kept in
+    let gs = plain_groups tree in
+    let absent : (i : ℕ) → test_at (is_missing tree) i (rows_of section.Top) ≡ false = λ i. each_false (is_missing tree) i (rows_of section.Top) top.missing in
+    let swim_there = table_there section.Swim (value_at key.Swim tree) (absent 3) in
+    let link_there = table_there section.Link (value_at key.Link tree) (absent 6) in
+    let group = list_there section.Group (value_at key.Group tree) (absent 7) (each_false (has_fault is_other_kind tree) 7 (rows_of section.Top) top.kinds) in
+    let swim : SwimSound (swim_in (value_at key.Swim tree)) = swim_sound _ swim_there.0 swim_there.1 (table_kept tree 3 key.Swim Refused section.Swim (λ _. refl) kept) in
+    let suspicion : SuspicionSound (suspicion_in (value_at key.Suspicion tree)) = suspicion_sound _ (table_kept tree 4 key.Suspicion Optional section.Suspicion (λ _. refl) kept) in
+    let lifeguard : LifeguardSound (lifeguard_in (value_at key.Lifeguard tree)) = lifeguard_sound _ (table_kept tree 5 key.Lifeguard Optional section.Lifeguard (λ _. refl) kept) in
+    let link : IsSoundLink (link_in (value_at key.Link tree)) = link_sound _ link_there.0 link_there.1 (table_kept tree 6 key.Link Refused section.Link (λ _. refl) kept) in
+    let first : 0 < number_at section.Group key.Count (Some group.0) = count_sound group.0 (first_kept tree 7 key.Group Refused section.Group (λ _. refl) kept group.0 group.1 group.2) in
+    let below : (i : ℕ) (k : Key) (a : Absence) (s : Section) → IsRow section.Top i (list_row k a s) → AllByRecursion (Keeps s) (items_at k tree) =
+    λ i k a s is. items_kept s (value_at k tree) (below_kept tree Missing i (list_row k a s) is shape.missing) (below_kept tree WrongKind i (list_row k a s) is shape.kinds)
+    (below_kept tree OutOfRange i (list_row k a s) is shape.ranges) in
+    let path : (check : Check) → breaks check tree ≡ false → list_any (part_breaks check) (parts_at (kind.List section.Path) (value_at key.Path tree)) ≡ false =
+    λ check kept. below_kept tree check 8 (list_row key.Path Optional section.Path) (λ _. refl) kept in
     let s : Setup = setup_of_tree tree in
-    let below : s.swim.timeout < s.swim.period = leb-false s.swim.period s.swim.timeout times in
-    let few : member_count s ≤ 1024 = ltb-false 1024 (member_count s) size in
+    let times = neither (nat_le s.swim.period s.swim.timeout) (list_any (is_bad_contact s) s.groups || (list_any is_over s.slows || list_any (is_early s) s.crashes)) values.times in
+    let contacts = neither (list_any (is_bad_contact s) s.groups) (list_any is_over s.slows || list_any (is_early s) s.crashes) times.1 in
+    let early = neither (list_any is_over s.slows) (list_any (is_early s) s.crashes) contacts.1 in
+    let known : list_any (has_lost_contact gs) (items_at key.Group tree) ≡ false = (neither _ _ values.references).0 in
+    let groups = groups_sound s gs (items_at key.Group tree) (counts_same tree) (below 7 key.Group Refused section.Group (λ _. refl)) known contacts.0 in
+    let below_period : s.swim.timeout < s.swim.period = leb-false s.swim.period s.swim.timeout times.0 in
+    let few : member_count s ≤ 1024 = ltb-false 1024 (member_count s) values.size in
     record {
-      end = end_within tree top;
-      period = subst (λ n. n ≤ 2 ^ 24) (sym (swim_is key.Period)) numbers.period;
-      timeout = (subst (λ n. 0 < n) (sym (swim_is key.Timeout)) numbers.timeout, below);
-      helpers = omega arith;
-      carry = (omega arith, omega arith);
-      lambda = (omega arith, omega arith);
-      spread = (subst (λ n. 0 < n) (sym (swim_is key.Spread)) numbers.spread.0, subst (λ n. n ≤ 2 ^ 24) (sym (swim_is key.Spread)) numbers.spread.1);
-      alpha = (omega arith, omega arith);
-      beta = (omega arith, omega arith);
-      ceiling = omega arith;
-      confirmations = omega arith;
-      nack_percent = (omega arith, omega arith);
-      delay = (subst (λ n. 0 < n) (sym link_is) delay.0, subst (λ n. n ≤ 2 ^ 20) (sym link_is) delay.1);
-      jitter = omega arith;
-      loss = omega arith;
+      end = end_sound tree top;
+      period = swim.period;
+      timeout = (swim.timeout, below_period);
+      helpers = swim.helpers;
+      carry = swim.carry;
+      lambda = swim.lambda;
+      spread = swim.spread;
+      alpha = suspicion.alpha;
+      beta = suspicion.beta;
+      ceiling = lifeguard.ceiling;
+      confirmations = lifeguard.confirmations;
+      nack_percent = lifeguard.nack_percent;
+      delay = link.delay;
+      jitter = link.jitter;
+      loss = link.loss;
+      between = λ i j. paths_sound gs (link_in (value_at key.Link tree)) (leads (group_at s.groups i) (group_at s.groups j)) (value_at key.Path tree) link
+          (path Missing shape.missing) (path WrongKind shape.kinds) (path OutOfRange shape.ranges);
       members = (
-        subst (λ (o : Option Data). 0 < sum_by (λ (g : Group). g.count) (groups_in o)) (sym group.2) (some_members (group_in group.0) (map group_in (list_of group.1)) (count_within group.0 group_keeps)),
+        subst (λ (o : Option Data). 0 < sum_by (λ (g : Group). g.count) (map (group_in gs) (option_map_or items_of o []))) (sym group.2) (some_members (group_in gs group.0) (map (group_in gs) (list_of group.1)) first),
         few,
       );
+      starts = λ m. start_by s (slice_get s.groups (group_at s.groups m)) (groups (group_at s.groups m));
+      contacts = λ m _. record {
+        none = none_by s (slice_get s.groups (group_at s.groups m)) (groups (group_at s.groups m));
+        some = some_by s (slice_get s.groups (group_at s.groups m)) (groups (group_at s.groups m));
+      };
+      crashes = λ m. crashes_sound s gs m (items_at key.Crash tree) (below 10 key.Crash Optional section.Crash (λ _. refl)) early.1;
+      extras = λ m t. extras_sound gs (is_slow m t) (items_at key.Slow tree) (below 9 key.Slow Optional section.Slow (λ _. refl));
     }

@@ -1,22 +1,29 @@
 -- The scenario that a TOML document says, key by key, with the format's defaults.
-use Rattle.std.specs.Prelude.{ℕ, List, [], true, Option, Some, pos, map, unwrap_or, option_and_then}
+use Rattle.std.specs.Prelude.{ℕ, Bool, List, [], true, Option, Some, None, pos, map, flat_map, unwrap_or, option_and_then, bytes_eq}
 use Rattle.std.specs.Option.{option_map_or}
-use Rattle.toml.specs.Data.{Data, integer, as_str}
+use Rattle.std.specs.List.{position}
+use Rattle.toml.specs.Data.{Data, integer, boolean, as_str}
 use Rattle.scenario.specs.Schema.{text_of, rows_of}
-use Rattle.scenario.specs.Setup.{Setup, Group}
-use Rattle.scenario.specs.Tree.{value_at, row_named, items_of}
+use Rattle.scenario.specs.Setup.{Setup, Group, names_in}
+use Rattle.scenario.specs.Tree.{value_at, row_named, items_at}
 use Rattle.scenario.specs.declared.settings.Swim.{Swim}
+use Rattle.scenario.specs.declared.settings.Suspicion.{Suspicion}
+use Rattle.scenario.specs.declared.settings.Lifeguard.{Lifeguard}
+use Rattle.scenario.specs.declared.settings.Link.{Link}
+use Rattle.scenario.specs.declared.settings.Path.{Path}
+use Rattle.scenario.specs.declared.settings.Slow.{Slow}
+use Rattle.scenario.specs.declared.settings.Crash.{Crash}
 use Rattle.scenario.specs.declared.schema.Key.{Key}
 use Rattle.scenario.specs.declared.schema.Key.TheVariants as key
 use Rattle.scenario.specs.declared.schema.Section.{Section}
 use Rattle.scenario.specs.declared.schema.Section.TheVariants as section
 use Rattle.scenario.specs.declared.schema.Absence.{Absence}
-use Rattle.scenario.specs.declared.schema.Absence.TheVariants.{Refused, Default}
+use Rattle.scenario.specs.declared.schema.Absence.TheVariants.{Default}
 
 -- the default that a row gives
 abbrev pub default_in : Absence → ℕ
 default_in (Default n) = n
-default_in Refused = 0
+default_in _ = 0
 
 abbrev pub default_of : Section → Key → ℕ
 default_of s key = option_map_or (λ row. default_in row.absence) (row_named (rows_of s) (text_of key)) 0
@@ -30,36 +37,137 @@ whole_or default _ = default
 unfoldable pub number_at : Section → Key → Option Data → ℕ
 number_at s key d = whole_or (default_of s key) (option_and_then (value_at key) d)
 
+-- a switch that isn't there is on
+abbrev pub is_on : Option Data → Bool
+is_on (Some (boolean b)) = b
+is_on _ = true
+
+-- the switch of a key; where the table isn't there, it is on
+unfoldable pub switch_at : Key → Option Data → Bool
+switch_at key d = is_on (option_and_then (value_at key) d)
+
+-- the text of a key, if it is there
+unfoldable pub text_if : Key → Data → Option (List ℕ)
+text_if key d = option_and_then as_str (value_at key d)
+
 -- the text of a key
-unfoldable pub text_at : Key → Data → List ℕ
-text_at key d = unwrap_or (option_and_then as_str (value_at key d)) []
+abbrev pub text_at : Key → Data → List ℕ
+text_at key d = unwrap_or (text_if key d) []
+
+-- one item of the list of groups, its contact left out
+abbrev pub plain_group : Data → Group
+plain_group d = record {
+  name = text_at key.Name d;
+  count = number_at section.Group key.Count (Some d);
+  start = number_at section.Group key.Start (Some d);
+  contact = None;
+}
+
+-- the groups, their contacts left out
+unfoldable pub plain_groups : Data → List Group
+plain_groups tree = map plain_group (items_at key.Group tree)
+
+-- the names of all members, which are numbered in the order of groups, then of index
+abbrev pub names_of_all : List Group → List (List ℕ)
+names_of_all groups = flat_map names_in groups
+
+-- the number of the member of that name
+unfoldable pub member_named : List Group → List ℕ → Option ℕ
+member_named groups name = position (bytes_eq name) (names_of_all groups)
+
+-- the number of the group of that name
+abbrev pub group_named : List Group → List ℕ → Option ℕ
+group_named groups name = position (λ g. bytes_eq name g.name) groups
+
+-- the number of the group that a key names
+abbrev pub group_at_key : List Group → Key → Data → ℕ
+group_at_key groups key d = unwrap_or (group_named groups (text_at key d)) 0
 
 -- one item of the list of groups
-abbrev pub group_in : Data → Group
-group_in d = record { name = text_at key.Name d; count = number_at section.Group key.Count (Some d) }
+abbrev pub group_in : List Group → Data → Group
+group_in groups d = record {
+  name = text_at key.Name d;
+  count = number_at section.Group key.Count (Some d);
+  start = number_at section.Group key.Start (Some d);
+  contact = option_and_then (member_named groups) (text_if key.Contact d);
+}
 
-abbrev pub groups_in : Option Data → List Group
-groups_in d = map group_in (option_map_or items_of d [])
+-- a link whose numbers are those of a table, where they are there
+abbrev pub link_over : Link → Data → Link
+link_over link d = record { delay = whole_or link.delay (value_at key.Delay d); jitter = whole_or link.jitter (value_at key.Jitter d); loss = whole_or link.loss (value_at key.Loss d) }
+
+-- one item of the list of paths; what it leaves out is the link's of all pairs
+abbrev pub path_in : List Group → Link → Data → Path
+path_in groups link d = record {
+  from = group_at_key groups key.From d;
+  to = group_at_key groups key.To d;
+  link = link_over link d;
+}
+
+-- the number of the member that a key names
+abbrev pub member_at : List Group → Key → Data → ℕ
+member_at groups key d = unwrap_or (member_named groups (text_at key d)) 0
+
+-- one item of the list of times in which members are slow
+abbrev pub slow_in : List Group → Data → Slow
+slow_in groups d = record {
+  member = member_at groups key.Member d;
+  from = number_at section.Slow key.From (Some d);
+  until = number_at section.Slow key.Until (Some d);
+  extra = number_at section.Slow key.Extra (Some d);
+}
+
+-- one item of the list of crashes
+abbrev pub crash_in : List Group → Data → Crash
+crash_in groups d = record { member = member_at groups key.Member d; at = number_at section.Crash key.At (Some d) }
+
+abbrev pub slows_in : List Group → Data → List Slow
+slows_in groups tree = map (slow_in groups) (items_at key.Slow tree)
+
+abbrev pub crashes_in : List Group → Data → List Crash
+crashes_in groups tree = map (crash_in groups) (items_at key.Crash tree)
 
 -- how members probe and gossip
 abbrev pub swim_in : Option Data → Swim
 swim_in d = record {
   period = number_at section.Swim key.Period d;
   timeout = number_at section.Swim key.Timeout d;
-  helpers = 3;
-  carry = 6;
-  lambda = 3;
+  helpers = number_at section.Swim key.Helpers d;
+  carry = number_at section.Swim key.Carry d;
+  lambda = number_at section.Swim key.Lambda d;
   spread = number_at section.Swim key.Spread d;
 }
 
--- the scenario of a document; what the format has no key for is its default
+-- how long suspicions last
+abbrev pub suspicion_in : Option Data → Suspicion
+suspicion_in d = record { alpha = number_at section.Suspicion key.Alpha d; beta = number_at section.Suspicion key.Beta d }
+
+-- Lifeguard's switches and their settings
+abbrev pub lifeguard_in : Option Data → Lifeguard
+lifeguard_in d = record {
+  probe = switch_at key.Probe d;
+  suspicion = switch_at key.Suspicion d;
+  buddy = switch_at key.Buddy d;
+  ceiling = number_at section.Lifeguard key.Ceiling d;
+  confirmations = number_at section.Lifeguard key.Confirmations d;
+  nack_percent = number_at section.Lifeguard key.NackPercent d;
+}
+
+-- how messages travel
+abbrev pub link_in : Option Data → Link
+link_in d = record { delay = number_at section.Link key.Delay d; jitter = number_at section.Link key.Jitter d; loss = number_at section.Link key.Loss d }
+
+-- the scenario of a document
 unfoldable pub setup_of_tree : Data → Setup
 setup_of_tree tree = record {
   seed = number_at section.Top key.Seed (Some tree);
   end = number_at section.Top key.End (Some tree);
   swim = swim_in (value_at key.Swim tree);
-  suspicion = record { alpha = 5; beta = 6 };
-  lifeguard = record { probe = true; suspicion = true; buddy = true; ceiling = 8; confirmations = 3; nack_percent = 80 };
-  link = record { delay = number_at section.Link key.Delay (value_at key.Link tree); jitter = 0; loss = 0 };
-  groups = groups_in (value_at key.Group tree);
+  suspicion = suspicion_in (value_at key.Suspicion tree);
+  lifeguard = lifeguard_in (value_at key.Lifeguard tree);
+  link = link_in (value_at key.Link tree);
+  groups = map (group_in (plain_groups tree)) (items_at key.Group tree);
+  paths = map (path_in (plain_groups tree) (link_in (value_at key.Link tree))) (items_at key.Path tree);
+  slows = slows_in (plain_groups tree) tree;
+  crashes = crashes_in (plain_groups tree) tree;
 }

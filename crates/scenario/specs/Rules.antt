@@ -1,26 +1,36 @@
 -- The rules that refuse a text, each as a test, the least that is broken, and so what a text is answered.
-use Rattle.std.specs.Prelude.{◌≡◌, ℕ, ℤ, pos, negsuc, List, [], ◌∷◌, Bool, true, false, not, ◌&&◌, ◌||◌, if◌then◌else◌, Option, Some, None, is_some, is_none, Result, Ok, Err, nat_le, nat_lt, map, length, bytes_eq, option_map}
+use Rattle.std.specs.Prelude.{◌≡◌, ℕ, ℤ, pos, negsuc, List, [], ◌∷◌, Bool, true, false, not, ◌&&◌, ◌||◌, if◌then◌else◌, Option, Some, None, is_some, is_none, Result, Ok, Err, nat_le, nat_lt, nat_eq, map, length, bytes_eq, option_map}
 use Rattle.std.specs.List.{list_any, list_all}
 use Rattle.std.specs.Option.{option_map_or}
 use Rattle.std.specs.Char.{is_ascii_lowercase, is_ascii_digit}
 use Rattle.std.specs.Str.{is_utf8}
-use Rattle.toml.specs.Data.{Data, string, integer, float, boolean, datetime, array, table, no_items, item, as_integer, as_str, as_array, as_table}
+use Rattle.toml.specs.Data.{Data, integer, array, table, no_items, as_integer, as_bool, as_str, as_array, as_table}
 use Rattle.toml.specs.Parse.{parse_document}
 use Rattle.scenario.specs.Schema.{rows_of}
-use Rattle.scenario.specs.Setup.{Setup, Group, member_count}
-use Rattle.scenario.specs.Tree.{Part, parts_of, value_at, row_named, keys_of}
-use Rattle.scenario.specs.Reading.{setup_of_tree}
+use Rattle.scenario.specs.Setup.{Setup, Group, start_of, member_count}
+use Rattle.scenario.specs.Tree.{Part, parts_of, value_at, row_named, keys_of, items_at}
+use Rattle.scenario.specs.Reading.{text_if, text_at, plain_groups, member_named, group_named, setup_of_tree}
+use Rattle.scenario.specs.declared.schema.Key.TheVariants as key
+use Rattle.scenario.specs.declared.settings.Slow.{Slow}
+use Rattle.scenario.specs.declared.settings.Crash.{Crash}
 use Rattle.scenario.specs.declared.schema.Row.{Row}
 use Rattle.scenario.specs.declared.schema.Kind.{Kind}
 use Rattle.scenario.specs.declared.schema.Kind.TheVariants as kind
 use Rattle.scenario.specs.declared.schema.Absence.{Absence}
-use Rattle.scenario.specs.declared.schema.Absence.TheVariants.{Refused, Default}
+use Rattle.scenario.specs.declared.schema.Absence.TheVariants.{Refused, RefusedOver0}
 use Rattle.scenario.specs.declared.shape.Check.{Check}
 use Rattle.scenario.specs.declared.shape.Check.TheVariants.{Missing, Unknown, WrongKind, OutOfRange}
 
-abbrev pub is_refused : Absence → Bool
-is_refused Refused = true
-is_refused (Default n) = false
+-- a whole number over 0
+abbrev pub is_over_0 : Option Data → Bool
+is_over_0 (Some (integer (pos n))) = nat_lt 0 n
+is_over_0 _ = false
+
+-- the table may not lack the key
+abbrev pub is_refused : Data → Absence → Bool
+is_refused d Refused = true
+is_refused d (RefusedOver0 key) = is_over_0 (value_at key d)
+is_refused d _ = false
 
 abbrev pub is_empty_list : Data → Bool
 is_empty_list (array no_items) = true
@@ -34,11 +44,12 @@ is_absent _ (Some d) = false
 
 -- the key is required and absent
 abbrev pub is_missing : Data → Row → Bool
-is_missing d row = is_refused row.absence && is_absent row.kind (value_at row.key d)
+is_missing d row = is_refused d row.absence && is_absent row.kind (value_at row.key d)
 
 -- the value is of another kind; what has to be a table is judged as a part of its own
 abbrev pub is_other_kind : Kind → Data → Bool
 is_other_kind (kind.Whole least most) d = is_none (as_integer d)
+is_other_kind kind.Switch d = is_none (as_bool d)
 is_other_kind kind.Text d = is_none (as_str d)
 is_other_kind (kind.Table s) d = false
 is_other_kind (kind.List s) d = is_none (as_array d)
@@ -100,27 +111,79 @@ is_group_name name = (nat_le (length name) 16 && starts_with_letter name) && lis
 abbrev pub breaks_name : List Group → List ℕ → Bool
 breaks_name groups name = not (is_group_name name) || list_any (λ g. bytes_eq name g.name) groups
 
--- two of the names, at different places, are the same
-abbrev pub repeats : List (List ℕ) → Bool
-repeats [] = false
-repeats (name ∷ names) = list_any (bytes_eq name) names || repeats names
+-- the test holds of two items at different places, the earlier one first
+abbrev pub any_two : {A : Type 0} → (A → A → Bool) → List A → Bool
+any_two test [] = false
+any_two test (x ∷ xs) = list_any (test x) xs || any_two test xs
 
 -- rule 6: a group name of another form, or two groups of one name
 unfoldable pub breaks_names : List Group → Bool
-breaks_names groups = list_any (λ g. not (is_group_name g.name)) groups || repeats (map (λ g. g.name) groups)
+breaks_names groups = list_any (λ g. not (is_group_name g.name)) groups || any_two bytes_eq (map (λ g. g.name) groups)
 
--- rule 9: the timeout isn't below the period
-abbrev pub breaks_times : Setup → Bool
-breaks_times s = nat_le s.swim.period s.swim.timeout
+-- a contact that is there and is no member
+abbrev pub has_lost_contact : List Group → Data → Bool
+has_lost_contact groups d = option_map_or (λ name. is_none (member_named groups name)) (text_if key.Contact d) false
+
+-- a slow time or a crash of nobody
+abbrev pub names_no_member : List Group → Data → Bool
+names_no_member groups d = is_none (member_named groups (text_at key.Member d))
+
+-- a path from or to a group that isn't there
+abbrev pub names_no_group : List Group → Data → Bool
+names_no_group groups d = is_none (group_named groups (text_at key.From d)) || is_none (group_named groups (text_at key.To d))
+
+-- rule 7: a name of no member or of no group
+unfoldable pub breaks_references : Data → List Group → Bool
+breaks_references tree groups =
+    list_any (has_lost_contact groups) (items_at key.Group tree)
+    || (list_any (names_no_member groups) (items_at key.Slow tree) || (list_any (names_no_member groups) (items_at key.Crash tree) || list_any (names_no_group groups) (items_at key.Path tree)))
+
+-- two crashes of one member
+abbrev pub is_same_member : Crash → Crash → Bool
+is_same_member a b = nat_eq a.member b.member
+
+-- two times in which one member is slow overlap
+abbrev pub overlaps : Slow → Slow → Bool
+overlaps a b = nat_eq a.member b.member && (nat_lt a.from b.until && nat_lt b.from a.until)
+
+-- rule 8: two crashes of one member, or two slow times of one member that overlap
+unfoldable pub breaks_pairs : List Crash → List Slow → Bool
+breaks_pairs crashes slows = any_two is_same_member crashes || any_two overlaps slows
+
+-- a contact of a group that starts at moment 0, or one that itself starts later
+abbrev pub is_bad_contact : Setup → Group → Bool
+is_bad_contact s g = option_map_or (λ c. nat_eq g.start 0 || nat_lt 0 (start_of s c)) g.contact false
+
+-- a crash that isn't after its member's start
+abbrev pub is_early : Setup → Crash → Bool
+is_early s c = nat_le c.at (start_of s c.member)
+
+-- a slow time that is over when it begins
+abbrev pub is_over : Slow → Bool
+is_over e = nat_le e.until e.from
+
+-- rule 9: the timeout isn't below the period, or one of these three
+unfoldable pub breaks_times : Setup → Bool
+breaks_times s = nat_le s.swim.period s.swim.timeout || (list_any (is_bad_contact s) s.groups || (list_any is_over s.slows || list_any (is_early s) s.crashes))
 
 -- rule 10: more than 1,024 members
 abbrev pub breaks_size : Setup → Bool
 breaks_size s = nat_lt 1024 (member_count s)
 
+-- the document breaks none of the rules on its values, 6 to 10
+pub record KeepsValues (tree : Data) : Type 0 where
+  pub names : breaks_names (plain_groups tree) ≡ false
+  pub references : breaks_references tree (plain_groups tree) ≡ false
+  pub pairs : breaks_pairs (setup_of_tree tree).crashes (setup_of_tree tree).slows ≡ false
+  pub times : breaks_times (setup_of_tree tree) ≡ false
+  pub size : breaks_size (setup_of_tree tree) ≡ false
+
 -- the least broken of the rules on the values
-unfoldable pub least_broken_by : Setup → Option ℕ
-least_broken_by s =
-    if breaks_names s.groups then Some 6
+unfoldable pub least_broken_by : Data → Setup → Option ℕ
+least_broken_by tree s =
+    if breaks_names (plain_groups tree) then Some 6
+    else if breaks_references tree (plain_groups tree) then Some 7
+    else if breaks_pairs s.crashes s.slows then Some 8
     else if breaks_times s then Some 9
     else if breaks_size s then Some 10
     else None
@@ -132,7 +195,7 @@ least_broken tree =
     else if breaks Unknown tree then Some 3
     else if breaks WrongKind tree then Some 4
     else if breaks OutOfRange tree then Some 5
-    else least_broken_by (setup_of_tree tree)
+    else least_broken_by tree (setup_of_tree tree)
 
 -- a document is answered with its scenario, or with the least rule that it breaks
 abbrev pub unless_broken : Setup → Option ℕ → Result Setup ℕ

@@ -1,15 +1,23 @@
 -- A scenario as its text says it, and what is said of its members.
-use Rattle.std.specs.Prelude.{ℕ, ◌<◌, ◌≤◌, ◌^◌, List, [], ◌++◌, map, sum_by, flat_map, codes, decimal, unwrap_or, slice_get}
+use Rattle.std.specs.Prelude.{◌≡◌, ℕ, ◌<◌, ◌≤◌, ◌^◌, ◌+◌, ◌-◌, Bool, ◌&&◌, if◌then◌else◌, nat_lt, nat_le, nat_eq, List, [], ◌∷◌, ◌++◌, map, filter, find, sum_by, flat_map, codes, decimal, Option, Some, None, IfSome, option_map, option_and_then, unwrap_or, slice_get}
 use Rattle.std.specs.List.{range_with_len}
+use Rattle.std.specs.Option.{option_map_or}
 use Rattle.scenario.specs.declared.settings.Swim.{Swim}
 use Rattle.scenario.specs.declared.settings.Suspicion.{Suspicion}
 use Rattle.scenario.specs.declared.settings.Lifeguard.{Lifeguard}
 use Rattle.scenario.specs.declared.settings.Link.{Link}
+use Rattle.scenario.specs.declared.settings.Path.{Path}
+use Rattle.scenario.specs.declared.settings.Slow.{Slow}
+use Rattle.scenario.specs.declared.settings.Crash.{Crash}
 
 -- members of one name, told apart by an index
 pub record Group : Type 0 where
   pub name : List ℕ
   pub count : ℕ
+  -- when its members start
+  pub start : ℕ
+  -- whom they ask to let them join, where they start after moment 0
+  pub contact : Option ℕ
 
 pub record Setup : Type 0 where
   pub seed : ℕ
@@ -21,10 +29,19 @@ pub record Setup : Type 0 where
   pub link : Link
   -- in the order of the text
   pub groups : List Group
+  -- in the order of the text
+  pub paths : List Path
+  -- in the order of the text
+  pub slows : List Slow
+  -- in the order of the text
+  pub crashes : List Crash
 
 -- NAME-0 to NAME-(count - 1), the index in decimal without leading zeros
+abbrev pub names_below : List ℕ → ℕ → List (List ℕ)
+names_below name count = map (λ i. name ++ codes "-" ++ decimal i) (range_with_len 0 count)
+
 abbrev pub names_in : Group → List (List ℕ)
-names_in g = map (λ i. g.name ++ codes "-" ++ decimal i) (range_with_len 0 g.count)
+names_in g = names_below g.name g.count
 
 -- the names of all members, which are numbered in the order of groups, then of index
 abbrev pub member_names : Setup → List (List ℕ)
@@ -37,7 +54,62 @@ member_count s = sum_by (λ g. g.count) s.groups
 abbrev pub name_of : Setup → ℕ → List ℕ
 name_of s m = unwrap_or (slice_get (member_names s) m) []
 
--- What every scenario keeps: the format's ranges of its numbers, and the timeout below the period.
+-- the number of a member's group
+abbrev pub group_at : List Group → ℕ → ℕ
+group_at [] m = 0
+group_at (g ∷ gs) m = if nat_lt m g.count then 0 else 1 + group_at gs (m - g.count)
+
+-- the path is from the one group to the other
+abbrev pub leads : ℕ → ℕ → Path → Bool
+leads from to p = nat_eq p.from from && nat_eq p.to to
+
+-- the last link of a list, else another
+abbrev pub last_link : Link → List Link → Link
+last_link link [] = link
+last_link link (next ∷ links) = last_link next links
+
+-- the link from one member to another: that of the last path from the one's group to the other's,
+-- else the link of all pairs
+abbrev pub link_between : Setup → ℕ → ℕ → Link
+link_between s i j = last_link s.link (map (λ p. p.link) (filter (leads (group_at s.groups i) (group_at s.groups j)) s.paths))
+
+-- the group of a member
+abbrev pub member_group : Setup → ℕ → Option Group
+member_group s m = slice_get s.groups (group_at s.groups m)
+
+-- when a member starts
+abbrev pub start_of : Setup → ℕ → ℕ
+start_of s m = option_map_or (λ g. g.start) (member_group s m) 0
+
+-- whom a member that starts after moment 0 asks to let it join
+abbrev pub contact_of : Setup → ℕ → Option ℕ
+contact_of s m = option_and_then (λ g. g.contact) (member_group s m)
+
+-- when a member crashes, if it does
+abbrev pub crash_of : Setup → ℕ → Option ℕ
+crash_of s m = option_map (λ c. c.at) (find (λ c. nat_eq c.member m) s.crashes)
+
+-- the entry says that the member is slow at the moment
+abbrev pub is_slow : ℕ → ℕ → Slow → Bool
+is_slow m t e = nat_eq e.member m && (nat_le e.from t && nat_lt t e.until)
+
+-- by how many ticks a member is slow at a moment
+abbrev pub extra_of : Setup → ℕ → ℕ → ℕ
+extra_of s m t = option_map_or (λ e. e.extra) (find (is_slow m t) s.slows) 0
+
+-- a link's numbers are in the format's ranges
+pub record IsSoundLink (l : Link) : Type 0 where
+  pub delay : (0 < l.delay) × (l.delay ≤ 2 ^ 20)
+  pub jitter : l.jitter ≤ 2 ^ 20
+  pub loss : l.loss ≤ 1000000
+
+-- A member that starts at moment 0 has no contact; one that starts later has one that starts at 0.
+pub record IsSoundContact (s : Setup) (m : ℕ) : Type 0 where
+  pub none : start_of s m ≡ 0 → contact_of s m ≡ None
+  pub some : 0 < start_of s m → (c : ℕ) × (contact_of s m ≡ Some c) × (c < member_count s) × (start_of s c ≡ 0)
+
+-- What every scenario keeps: the format's ranges of its numbers, the timeout below the period, who asks
+-- whom to join, and crashes after the starts.
 pub record IsSound (s : Setup) : Type 0 where
   pub end : s.end ≤ 2 ^ 40
   pub period : s.swim.period ≤ 2 ^ 24
@@ -54,4 +126,9 @@ pub record IsSound (s : Setup) : Type 0 where
   pub delay : (0 < s.link.delay) × (s.link.delay ≤ 2 ^ 20)
   pub jitter : s.link.jitter ≤ 2 ^ 20
   pub loss : s.link.loss ≤ 1000000
+  pub between : (i j : ℕ) → IsSoundLink (link_between s i j)
   pub members : (0 < member_count s) × (member_count s ≤ 1024)
+  pub starts : (m : ℕ) → start_of s m ≤ 2 ^ 40
+  pub contacts : (m : ℕ) → m < member_count s → IsSoundContact s m
+  pub crashes : (m : ℕ) → IfSome (crash_of s m) (λ t. (start_of s m < t) × (t ≤ 2 ^ 40))
+  pub extras : (m t : ℕ) → extra_of s m t ≤ 2 ^ 24

@@ -1,5 +1,6 @@
 -- What the format calls for in a TOML document.
 use Rattle.std.specs.Prelude.{ℕ, List, [], ◌∷◌, Option, Some, map, find, flat_map, bytes_eq}
+use Rattle.std.specs.Option.{option_map_or}
 use Rattle.toml.specs.Data.{Data, array, table, Items, no_items, item, Members, no_members, member, get}
 use Rattle.scenario.specs.Schema.{text_of, rows_of}
 use Rattle.scenario.specs.declared.schema.Row.{Row}
@@ -34,6 +35,10 @@ list_of (item d ds) = d ∷ list_of ds
 abbrev pub items_of : Data → List Data
 items_of (array ds) = list_of ds
 items_of _ = []
+
+-- the items of the list of a key
+abbrev pub items_at : Key → Data → List Data
+items_at key d = option_map_or items_of (value_at key d) []
 
 -- a value that has to be a table of this section
 pub record Part : Type 0 where

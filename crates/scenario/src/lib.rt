@@ -1,16 +1,31 @@
 //! The scenario text: reads it, or refuses it by the least broken rule.
 #![tactic(auto)]
 
+mod division;
+#[cfg(test)]
+mod division_tests;
+mod lists;
+#[cfg(test)]
+mod member_tests;
+mod pairs;
+#[cfg(test)]
+mod path_tests;
 mod reader;
+mod references;
 mod refusal;
+mod roster;
 mod scenario;
 mod schema;
 mod settings;
 mod shape;
+mod tables;
 #[cfg(test)]
 mod tests;
+mod times;
+mod values;
 
+pub use division::{Division, DivisionFault, Workers};
 pub use reader::read;
 pub use refusal::Refusal;
 pub use scenario::Scenario;
-pub use settings::{Lifeguard, Link, Suspicion, Swim};
+pub use settings::{Crash, Lifeguard, Link, Path, Slow, Suspicion, Swim};

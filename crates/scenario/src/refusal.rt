@@ -7,12 +7,14 @@ pub struct Refusal {
     /// The least rule that the text breaks:
     /// 1 it is no TOML document, 2 a required table or key is missing, 3 a key is unknown,
     /// 4 a value is of another kind, 5 a whole number is outside its range, 6 a group name is of
-    /// another form or stands twice, 9 the timeout isn't below the period, 10 there are more than
+    /// another form or stands twice, 7 a name is no member's or no group's, 8 a member crashes twice,
+    /// or two of its slow times overlap, 9 the timeout isn't below the period, a contact may not be,
+    /// a crash isn't after the start, or a slow time is over when it begins, 10 there are more than
     /// 1,024 members; 11 memory was refused.
     pub rule: u8,
     /// Where the text breaks the rule, for people. For rule 1 the byte at which the fault begins,
-    /// counted from 0; else the number of the group that breaks it, counted from 1, or 0 where it
-    /// is no group's. Greater numbers than fit are the greatest that fits.
+    /// counted from 0; else the number of the item of a list that breaks it, counted from 1, or
+    /// 0 where it is no item's. Greater numbers than fit are the greatest that fits.
     pub place: u32,
 }
 
@@ -26,8 +28,8 @@ impl Refusal {
         Refusal { rule: 11, place: 0 }
     }
 
-    /// The rule is broken in the group at this index.
-    pub(crate) fn in_group(rule: u8, index: usize) -> Refusal
+    /// The rule is broken in the item at this index.
+    pub(crate) fn in_item(rule: u8, index: usize) -> Refusal
         ensures { result.rule ≡ rule }
     {
         Refusal {

@@ -1,9 +1,11 @@
-ghost use Rattle.std.specs.Prelude.{◌≡◌, ◌<◌, ◌≤◌};
-ghost use Rattle.scenario.specs.Setup.{member_count, name_of, IsSound};
+ghost use Rattle.std.specs.Prelude.{◌≡◌, ◌<◌, ◌≤◌, ◌^◌};
+ghost use Rattle.std.specs.Prelude.{map, filter, find, nat_eq, slice_get, option_map, option_and_then, option_copied, IfSome};
+ghost use Rattle.std.specs.Option.{option_map_or};
+ghost use Rattle.scenario.specs.View.{group_of};
+ghost use Rattle.scenario.specs.Setup.{member_count, name_of, group_at, leads, last_link, link_between, start_of, contact_of, crash_of, is_slow, extra_of, IsSound, IsSoundLink};
 
-use crate::settings::{Lifeguard, Link, Suspicion, Swim};
+use crate::settings::{Crash, Group, Lifeguard, Link, Path, Slow, Suspicion, Swim};
 use base::{MemberId, Moment};
-use indexmap::IndexMap;
 use std::marker::Model;
 
 /// A scenario that keeps the format's rules: what a run does follows from it alone.
@@ -15,7 +17,10 @@ pub struct Scenario {
     pub(crate) suspicion: Suspicion,
     pub(crate) lifeguard: Lifeguard,
     pub(crate) link: Link,
-    pub(crate) groups: IndexMap<String, u64>,
+    pub(crate) groups: Vec<Group>,
+    pub(crate) paths: Vec<Path>,
+    pub(crate) slows: Vec<Slow>,
+    pub(crate) crashes: Vec<Crash>,
     pub(crate) names: Vec<String>,
 }
 
@@ -96,11 +101,176 @@ impl Scenario {
         self.lifeguard
     }
 
-    /// The link of every pair of members.
+    /// The link from one member to another: that of the last path from the one's group to the
+    /// other's, else `link`.
+    pub fn link_between(&self, from: MemberId, to: MemberId) -> Link
+        requires sender { from < member_count self.now }
+        requires receiver { to < member_count self.now }
+        ensures value { result ≡ link_between self.now from to }
+        ensures sound { IsSoundLink result }
+    {
+        let from = group_at(self.groups.as_slice(), from.index());
+        let to = group_at(self.groups.as_slice(), to.index());
+        last_link(self.link, self.paths.as_slice(), from, to)
+    }
+
+    /// When the member starts, in ticks.
+    pub fn start(&self, member: MemberId) -> Moment
+        requires { member < member_count self.now }
+        ensures value { result ≡ start_of self.now member }
+        ensures small { result ≤ 2 ^ 40 }
+        ensures sound { IsSound self.now }
+    {
+        let groups = self.groups.as_slice();
+        start_at(groups, group_at(groups, member.index()))
+    }
+
+    /// Whom the member asks to let it join; none where it starts at moment 0.
+    pub fn contact(&self, member: MemberId) -> Option<MemberId>
+        requires { member < member_count self.now }
+        ensures value { result ≡ contact_of self.now member }
+        ensures member { IfSome result (λ c. c < member_count self.now) }
+        ensures sound { IsSound self.now }
+    {
+        let groups = self.groups.as_slice();
+        contact_at(groups, group_at(groups, member.index()))
+    }
+
+    /// When the member crashes, in ticks, if it does.
+    pub fn crash(&self, member: MemberId) -> Option<Moment>
+        requires { member < member_count self.now }
+        ensures value { result ≡ crash_of self.now member }
+        ensures small { IfSome result (λ t. t ≤ 2 ^ 40) }
+        ensures sound { IsSound self.now }
+    {
+        crash_of(self.crashes.as_slice(), member.index())
+    }
+
+    /// By how many ticks what the member sends or receives at the moment takes longer.
+    pub fn extra(&self, member: MemberId, at: Moment) -> u64
+        requires { member < member_count self.now }
+        ensures value { result ≡ extra_of self.now member at }
+        ensures small { result ≤ 2 ^ 24 }
+    {
+        extra_at(self.slows.as_slice(), member.index(), at.ticks())
+    }
+
+    /// The number of the member's group, in the order of the text.
+    pub fn group_number(&self, member: MemberId) -> usize
+        requires { member < member_count self.now }
+        ensures { result ≡ group_at self.now.groups member }
+    {
+        group_at(self.groups.as_slice(), member.index())
+    }
+
+    /// The links between the members of groups, in the order of the text: the last one of two groups
+    /// holds.
+    pub fn paths(&self) -> &[Path]
+        ensures { result.now ≡ self.now.paths }
+    {
+        self.paths.as_slice()
+    }
+
+    /// When members are slow, in the order of the text.
+    pub fn slows(&self) -> &[Slow]
+        ensures { result.now ≡ self.now.slows }
+    {
+        self.slows.as_slice()
+    }
+
+    /// The link of every pair of members whose groups no path names.
     pub fn link(&self) -> Link
         ensures value { result ≡ self.now.link }
         ensures sound { IsSound self.now }
     {
         self.link
     }
+}
+
+/// The number of a member's group.
+fn group_at(groups: &[Group], member: usize) -> usize
+    ensures { result ≡ group_at (map group_of groups.now) member }
+{
+    let mut before = member as u64;
+    for (number, group) in groups.iter().enumerate() {
+        if before < group.count {
+            return number;
+        }
+        before -= group.count;
+    }
+    groups.len()
+}
+
+/// When the members of the group of that number start; 0 where there is none.
+fn start_at(groups: &[Group], number: usize) -> Moment
+    ensures { result ≡ option_map_or (λ g. g.start) (slice_get (map group_of groups.now) number) 0 }
+{
+    match groups.get(number) {
+        Some(group) => group.start,
+        None => Moment(0),
+    }
+}
+
+/// Whom the members of the group of that number ask to let them join.
+fn contact_at(groups: &[Group], number: usize) -> Option<MemberId>
+    ensures { result ≡ option_and_then (λ g. g.contact) (slice_get (map group_of groups.now) number) }
+{
+    match groups.get(number) {
+        Some(group) => group.contact,
+        None => None,
+    }
+}
+
+/// When the member crashes, if it does.
+fn crash_of(crashes: &[Crash], member: usize) -> Option<Moment>
+    ensures { result ≡ option_map (λ c. c.at) (find (λ c. nat_eq c.member member) crashes.now) }
+{
+    crashes
+        .iter()
+        .find(|crash| crash.member.index() == member)
+        .map(|crash| crash.at)
+}
+
+/// By how many ticks the member is slow at the moment.
+fn extra_at(slows: &[Slow], member: usize, at: u64) -> u64
+    ensures { result ≡ option_map_or (λ e. e.extra) (find (is_slow member at) slows.now) 0 }
+{
+    match slow_at(slows, member, at) {
+        Some(slow) => slow.extra,
+        None => 0,
+    }
+}
+
+/// The first entry that says that the member is slow at the moment.
+fn slow_at(slows: &[Slow], member: usize, at: u64) -> Option<&Slow>
+    ensures { option_copied result ≡ find (is_slow member at) slows.now }
+{
+    slows.iter().find(|slow| is_slow(slow, member, at))
+}
+
+/// Whether the entry says that the member is slow at the moment.
+fn is_slow(slow: &Slow, member: usize, at: u64) -> bool
+    ensures { result ≡ is_slow member at slow.now }
+{
+    slow.member.index() == member && slow.from.ticks() <= at && at < slow.until.ticks()
+}
+
+/// The link of the last path from one group to another, else the link that is given.
+fn last_link(link: Link, paths: &[Path], from: usize, to: usize) -> Link
+    ensures { result ≡ last_link link (map (λ p. p.link) (filter (leads from to) paths.now)) }
+{
+    let mut last = link;
+    for path in paths {
+        if leads(path, from, to) {
+            last = path.link;
+        }
+    }
+    last
+}
+
+/// Whether the path is from the one group to the other.
+fn leads(path: &Path, from: usize, to: usize) -> bool
+    ensures { result ≡ leads from to path.now }
+{
+    path.from == from && path.to == to
 }

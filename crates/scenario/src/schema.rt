@@ -9,14 +9,39 @@ pub(crate) enum Key {
     Seed,
     End,
     Swim,
+    Suspicion,
+    Lifeguard,
     Link,
     Group,
+    Path,
+    Slow,
+    Crash,
     Period,
     Timeout,
+    Helpers,
+    Carry,
+    Lambda,
     Spread,
+    Alpha,
+    Beta,
+    Probe,
+    Buddy,
+    Ceiling,
+    Confirmations,
+    NackPercent,
     Delay,
+    Jitter,
+    Loss,
     Name,
     Count,
+    Start,
+    Contact,
+    From,
+    To,
+    Member,
+    Until,
+    Extra,
+    At,
 }
 
 impl Key {
@@ -30,14 +55,39 @@ impl Key {
             Key::Seed => "seed",
             Key::End => "end",
             Key::Swim => "swim",
+            Key::Suspicion => "suspicion",
+            Key::Lifeguard => "lifeguard",
             Key::Link => "link",
             Key::Group => "group",
+            Key::Path => "path",
+            Key::Slow => "slow",
+            Key::Crash => "crash",
             Key::Period => "period",
             Key::Timeout => "timeout",
+            Key::Helpers => "helpers",
+            Key::Carry => "carry",
+            Key::Lambda => "lambda",
             Key::Spread => "spread",
+            Key::Alpha => "alpha",
+            Key::Beta => "beta",
+            Key::Probe => "probe",
+            Key::Buddy => "buddy",
+            Key::Ceiling => "ceiling",
+            Key::Confirmations => "confirmations",
+            Key::NackPercent => "nack_percent",
             Key::Delay => "delay",
+            Key::Jitter => "jitter",
+            Key::Loss => "loss",
             Key::Name => "name",
             Key::Count => "count",
+            Key::Start => "start",
+            Key::Contact => "contact",
+            Key::From => "from",
+            Key::To => "to",
+            Key::Member => "member",
+            Key::Until => "until",
+            Key::Extra => "extra",
+            Key::At => "at",
         }
     }
 }
@@ -48,9 +98,17 @@ pub(crate) enum Section {
     /// The whole text.
     Top,
     Swim,
+    Suspicion,
+    Lifeguard,
     Link,
     /// One item of the list of groups.
     Group,
+    /// One item of the list of paths.
+    Path,
+    /// One item of the list of times in which a member is slow.
+    Slow,
+    /// One item of the list of crashes.
+    Crash,
 }
 
 impl Section {
@@ -62,8 +120,13 @@ impl Section {
         match self {
             Section::Top => &TOP,
             Section::Swim => &SWIM,
+            Section::Suspicion => &SUSPICION,
+            Section::Lifeguard => &LIFEGUARD,
             Section::Link => &LINK,
             Section::Group => &GROUP,
+            Section::Path => &PATH,
+            Section::Slow => &SLOW,
+            Section::Crash => &CRASH,
         }
     }
 }
@@ -73,6 +136,8 @@ impl Section {
 pub(crate) enum Kind {
     /// A whole number; both ends are in the range.
     Whole { least: u64, most: u64 },
+    /// A boolean.
+    Switch,
     /// A string.
     Text,
     /// A table of its own.
@@ -86,8 +151,13 @@ pub(crate) enum Kind {
 pub(crate) enum Absence {
     /// The text is refused.
     Refused,
+    /// The text is refused where the whole number of this key of the same table is over 0.
+    RefusedOver0(Key),
     /// The key has this value.
     Default(u64),
+    /// A switch is on, the keys of a table have their defaults, a list is empty, and a path has the
+    /// number of the link of all pairs.
+    Optional,
 }
 
 /// A key of a table.
@@ -99,7 +169,7 @@ pub(crate) struct Row {
 }
 
 /// The whole text.
-pub(crate) const TOP: [Row; 6] = [
+pub(crate) const TOP: [Row; 11] = [
     Row {
         key: Key::Version,
         absence: Absence::Refused,
@@ -127,6 +197,16 @@ pub(crate) const TOP: [Row; 6] = [
         kind: Kind::Table(Section::Swim),
     },
     Row {
+        key: Key::Suspicion,
+        absence: Absence::Optional,
+        kind: Kind::Table(Section::Suspicion),
+    },
+    Row {
+        key: Key::Lifeguard,
+        absence: Absence::Optional,
+        kind: Kind::Table(Section::Lifeguard),
+    },
+    Row {
         key: Key::Link,
         absence: Absence::Refused,
         kind: Kind::Table(Section::Link),
@@ -136,10 +216,25 @@ pub(crate) const TOP: [Row; 6] = [
         absence: Absence::Refused,
         kind: Kind::List(Section::Group),
     },
+    Row {
+        key: Key::Path,
+        absence: Absence::Optional,
+        kind: Kind::List(Section::Path),
+    },
+    Row {
+        key: Key::Slow,
+        absence: Absence::Optional,
+        kind: Kind::List(Section::Slow),
+    },
+    Row {
+        key: Key::Crash,
+        absence: Absence::Optional,
+        kind: Kind::List(Section::Crash),
+    },
 ];
 
 /// How members probe and gossip.
-pub(crate) const SWIM: [Row; 3] = [
+pub(crate) const SWIM: [Row; 6] = [
     Row {
         key: Key::Period,
         absence: Absence::Refused,
@@ -157,6 +252,24 @@ pub(crate) const SWIM: [Row; 3] = [
         },
     },
     Row {
+        key: Key::Helpers,
+        absence: Absence::Default(3),
+        kind: Kind::Whole { least: 0, most: 16 },
+    },
+    Row {
+        key: Key::Carry,
+        absence: Absence::Default(6),
+        kind: Kind::Whole { least: 1, most: 64 },
+    },
+    Row {
+        key: Key::Lambda,
+        absence: Absence::Default(3),
+        kind: Kind::Whole {
+            least: 1,
+            most: 100,
+        },
+    },
+    Row {
         key: Key::Spread,
         absence: Absence::Default(1),
         kind: Kind::Whole {
@@ -166,18 +279,93 @@ pub(crate) const SWIM: [Row; 3] = [
     },
 ];
 
-/// How messages travel.
-pub(crate) const LINK: [Row; 1] = [Row {
-    key: Key::Delay,
-    absence: Absence::Refused,
-    kind: Kind::Whole {
-        least: 1,
-        most: 0x10_0000,
+/// How long suspicions last.
+pub(crate) const SUSPICION: [Row; 2] = [
+    Row {
+        key: Key::Alpha,
+        absence: Absence::Default(5),
+        kind: Kind::Whole {
+            least: 1,
+            most: 100,
+        },
     },
-}];
+    Row {
+        key: Key::Beta,
+        absence: Absence::Default(6),
+        kind: Kind::Whole {
+            least: 1,
+            most: 100,
+        },
+    },
+];
+
+/// Lifeguard's switches and their settings.
+pub(crate) const LIFEGUARD: [Row; 6] = [
+    Row {
+        key: Key::Probe,
+        absence: Absence::Optional,
+        kind: Kind::Switch,
+    },
+    Row {
+        key: Key::Suspicion,
+        absence: Absence::Optional,
+        kind: Kind::Switch,
+    },
+    Row {
+        key: Key::Buddy,
+        absence: Absence::Optional,
+        kind: Kind::Switch,
+    },
+    Row {
+        key: Key::Ceiling,
+        absence: Absence::Default(8),
+        kind: Kind::Whole { least: 0, most: 16 },
+    },
+    Row {
+        key: Key::Confirmations,
+        absence: Absence::Default(3),
+        kind: Kind::Whole { least: 0, most: 9 },
+    },
+    Row {
+        key: Key::NackPercent,
+        absence: Absence::Default(80),
+        kind: Kind::Whole {
+            least: 1,
+            most: 100,
+        },
+    },
+];
+
+/// How messages travel.
+pub(crate) const LINK: [Row; 3] = [
+    Row {
+        key: Key::Delay,
+        absence: Absence::Refused,
+        kind: Kind::Whole {
+            least: 1,
+            most: 0x10_0000,
+        },
+    },
+    Row {
+        key: Key::Jitter,
+        absence: Absence::Default(0),
+        kind: Kind::Whole {
+            least: 0,
+            most: 0x10_0000,
+        },
+    },
+    Row {
+        key: Key::Loss,
+        absence: Absence::Default(0),
+        kind: Kind::Whole {
+            least: 0,
+            most: 1_000_000,
+        },
+    },
+];
 
 /// A group of members.
-pub(crate) const GROUP: [Row; 2] = [
+pub(crate) const GROUP: [Row; 4] = [
     Row {
         key: Key::Name,
         absence: Absence::Refused,
@@ -189,6 +377,107 @@ pub(crate) const GROUP: [Row; 2] = [
         kind: Kind::Whole {
             least: 1,
             most: 1024,
+        },
+    },
+    Row {
+        key: Key::Start,
+        absence: Absence::Default(0),
+        kind: Kind::Whole {
+            least: 0,
+            most: 0x100_0000_0000,
+        },
+    },
+    Row {
+        key: Key::Contact,
+        absence: Absence::RefusedOver0(Key::Start),
+        kind: Kind::Text,
+    },
+];
+
+/// The link from the members of one group to those of another.
+pub(crate) const PATH: [Row; 5] = [
+    Row {
+        key: Key::From,
+        absence: Absence::Refused,
+        kind: Kind::Text,
+    },
+    Row {
+        key: Key::To,
+        absence: Absence::Refused,
+        kind: Kind::Text,
+    },
+    Row {
+        key: Key::Delay,
+        absence: Absence::Optional,
+        kind: Kind::Whole {
+            least: 1,
+            most: 0x10_0000,
+        },
+    },
+    Row {
+        key: Key::Jitter,
+        absence: Absence::Optional,
+        kind: Kind::Whole {
+            least: 0,
+            most: 0x10_0000,
+        },
+    },
+    Row {
+        key: Key::Loss,
+        absence: Absence::Optional,
+        kind: Kind::Whole {
+            least: 0,
+            most: 1_000_000,
+        },
+    },
+];
+
+/// A time in which a member is slow.
+pub(crate) const SLOW: [Row; 4] = [
+    Row {
+        key: Key::Member,
+        absence: Absence::Refused,
+        kind: Kind::Text,
+    },
+    Row {
+        key: Key::From,
+        absence: Absence::Refused,
+        kind: Kind::Whole {
+            least: 0,
+            most: 0x100_0000_0000,
+        },
+    },
+    Row {
+        key: Key::Until,
+        absence: Absence::Refused,
+        kind: Kind::Whole {
+            least: 0,
+            most: 0x100_0000_0000,
+        },
+    },
+    Row {
+        key: Key::Extra,
+        absence: Absence::Refused,
+        kind: Kind::Whole {
+            least: 1,
+            most: 0x100_0000,
+        },
+    },
+];
+
+/// The crash of a member.
+pub(crate) const CRASH: [Row; 2] = [
+    Row {
+        key: Key::Member,
+        absence: Absence::Refused,
+        kind: Kind::Text,
+    },
+    Row {
+        key: Key::At,
+        absence: Absence::Refused,
+        kind: Kind::Whole {
+            least: 0,
+            most: 0x100_0000_0000,
         },
     },
 ];

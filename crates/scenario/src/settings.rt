@@ -1,3 +1,5 @@
+use base::{MemberId, Moment};
+
 /// How members probe and gossip. Times are in ticks.
 #[derive(Clone, Copy, Debug, PartialEq, Eq)]
 pub struct Swim {
@@ -50,4 +52,46 @@ pub struct Link {
     pub jitter: u64,
     /// How many of a million messages are lost.
     pub loss: u64,
+}
+
+/// The link from the members of one group to those of another, or of the same.
+#[derive(Clone, Copy, Debug, PartialEq, Eq)]
+pub struct Path {
+    /// The number of the sender's group, in the order of the text.
+    pub from: usize,
+    /// The number of the receiver's group.
+    pub to: usize,
+    /// How messages travel on it.
+    pub link: Link,
+}
+
+/// Members of one name, told apart by an index.
+#[derive(Debug, Drop)]
+pub(crate) struct Group {
+    pub(crate) name: String,
+    /// How many members it has.
+    pub(crate) count: u64,
+    /// When they start.
+    pub(crate) start: Moment,
+    /// Whom they ask to let them join, where they start after moment 0.
+    pub(crate) contact: Option<MemberId>,
+}
+
+/// A time in which what a member sends and receives takes longer.
+#[derive(Clone, Copy, Debug, PartialEq, Eq)]
+pub struct Slow {
+    pub member: MemberId,
+    /// The first moment at which the member is slow.
+    pub from: Moment,
+    /// The first moment at which it no longer is.
+    pub until: Moment,
+    /// What each of its messages takes longer, in ticks.
+    pub extra: u64,
+}
+
+/// The crash of a member.
+#[derive(Clone, Copy, Debug, PartialEq, Eq)]
+pub struct Crash {
+    pub member: MemberId,
+    pub at: Moment,
 }

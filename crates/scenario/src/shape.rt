@@ -5,7 +5,7 @@ ghost use Rattle.std.specs.List.{list_any};
 ghost use Rattle.toml.specs.View.{view};
 ghost use Rattle.scenario.specs.Tree.{part, parts_at, parts_below, row_named, keys_of, items_of};
 ghost use Rattle.scenario.specs.Reading.{setup_of_tree};
-ghost use Rattle.scenario.specs.Rules.{rule_of, is_missing, is_empty_list, is_absent, has_fault, is_other_kind, is_outside, is_within, part_breaks, breaks, least_broken, least_broken_by, KeepsShape};
+ghost use Rattle.scenario.specs.Rules.{rule_of, is_over_0, is_missing, is_empty_list, is_absent, has_fault, is_other_kind, is_outside, is_within, part_breaks, breaks, least_broken, least_broken_by, KeepsShape};
 
 use crate::refusal::{Refusal, number_of};
 use crate::schema::{Absence, Kind, Row, Section};
@@ -42,7 +42,7 @@ impl Check {
 /// Refuses a document that breaks a rule on its shape, by the least such rule.
 pub(crate) fn check_shape(tree: &Value) -> Result<(), Refusal>
     ensures kept { OnOk result (KeepsShape (view tree.now)) }
-    ensures ok { OnOk result (least_broken (view tree.now) ≡ least_broken_by (setup_of_tree (view tree.now))) }
+    ensures ok { OnOk result (least_broken (view tree.now) ≡ least_broken_by (view tree.now) (setup_of_tree (view tree.now))) }
     ensures err { IfErr result (λ r. least_broken (view tree.now) ≡ Some r.rule) }
     ensures numbered { IfErr result (λ r. (2 ≤ r.rule) × (r.rule ≤ 5)) }
 {
@@ -107,7 +107,7 @@ fn first_broken_in(check: Check, kind: Kind, value: &Value) -> Option<u32>
     match kind {
         Kind::Table(section) => is_broken(check, section, value).then_some(0),
         Kind::List(section) => first_broken_item(check, section, items(value)),
-        Kind::Whole { .. } | Kind::Text => None,
+        Kind::Whole { .. } | Kind::Switch | Kind::Text => None,
     }
 }
 
@@ -160,7 +160,20 @@ fn is_missing(row: &Row, table: &Value) -> bool
 {
     match row.absence {
         Absence::Refused => is_absent(row.kind, table.get(row.key.text())),
-        Absence::Default(_) => false,
+        Absence::RefusedOver0(key) => {
+            is_over_0(table.get(key.text())) && is_absent(row.kind, table.get(row.key.text()))
+        }
+        Absence::Default(_) | Absence::Optional => false,
+    }
+}
+
+/// Whether the value is a whole number over 0.
+fn is_over_0(value: Option<&Value>) -> bool
+    ensures { result ≡ is_over_0 (option_map (λ v. view v.now) value.entry) }
+{
+    match value {
+        Some(Value::Integer(number)) => *number > 0,
+        _ => false,
     }
 }
 
@@ -172,7 +185,7 @@ fn is_absent(kind: Kind, value: Option<&Value>) -> bool
         None => true,
         Some(value) => match kind {
             Kind::List(_) => is_empty_list(value),
-            Kind::Whole { .. } | Kind::Text | Kind::Table(_) => false,
+            Kind::Whole { .. } | Kind::Switch | Kind::Text | Kind::Table(_) => false,
         },
     }
 }
@@ -220,6 +233,7 @@ fn has_other_kind(row: &Row, table: &Value) -> bool
     match table.get(row.key.text()) {
         Some(value) => match row.kind {
             Kind::Whole { .. } => !value.is_integer(),
+            Kind::Switch => !value.is_bool(),
             Kind::Text => !value.is_str(),
             Kind::Table(_) => false,
             Kind::List(_) => !value.is_array(),

@@ -108,6 +108,116 @@ fn members_are_numbered_in_the_order_of_groups(rt: HostRuntime) {
 }
 
 #[test]
+fn every_setting_is_read(rt: HostRuntime) {
+    let text = "version = 1
+seed = 0
+end = 5
+[swim]
+period = 100
+timeout = 30
+helpers = 16
+carry = 64
+lambda = 100
+spread = 9
+[suspicion]
+alpha = 100
+beta = 99
+[lifeguard]
+probe = false
+suspicion = true
+buddy = false
+ceiling = 16
+confirmations = 9
+nack_percent = 100
+[link]
+delay = 11
+jitter = 1048576
+loss = 1000000
+[[group]]
+name = \"n\"
+count = 2
+";
+    let scenario = read(rt.alloc(), text.as_bytes())
+        .ok()
+        .expect(&rt, "accepted");
+    let swim = Swim {
+        period: 100,
+        timeout: 30,
+        helpers: 16,
+        carry: 64,
+        lambda: 100,
+        spread: 9,
+    };
+    assert_eq!(rt; scenario.swim(), swim);
+    let suspicion = Suspicion {
+        alpha: 100,
+        beta: 99,
+    };
+    assert_eq!(rt; scenario.suspicion(), suspicion);
+    let lifeguard = Lifeguard {
+        probe: false,
+        suspicion: true,
+        buddy: false,
+        ceiling: 16,
+        confirmations: 9,
+        nack_percent: 100,
+    };
+    assert_eq!(rt; scenario.lifeguard(), lifeguard);
+    let link = Link {
+        delay: 11,
+        jitter: 1048576,
+        loss: 1000000,
+    };
+    assert_eq!(rt; scenario.link(), link);
+}
+
+#[test]
+fn each_switch_is_on_by_default(rt: HostRuntime) {
+    for (switch, probe, suspicion, buddy) in [
+        ("probe", false, true, true),
+        ("suspicion", true, false, true),
+        ("buddy", true, true, false),
+    ] {
+        let text = format!(in rt.alloc(); "{TEXT}[lifeguard]\n{switch} = false\n").expect(
+            &rt, "memory",
+        );
+        let lifeguard = read(rt.alloc(), text.as_bytes())
+            .ok()
+            .expect(&rt, "accepted")
+            .lifeguard();
+        assert_eq!(rt; lifeguard.probe, probe);
+        assert_eq!(rt; lifeguard.suspicion, suspicion);
+        assert_eq!(rt; lifeguard.buddy, buddy);
+        assert_eq!(rt; lifeguard.ceiling, 8);
+        assert_eq!(rt; lifeguard.confirmations, 3);
+        assert_eq!(rt; lifeguard.nack_percent, 80);
+    }
+}
+
+#[test]
+fn a_part_of_a_table_is_filled_up_with_defaults(rt: HostRuntime) {
+    let text = format!(in rt.alloc(); "{TEXT}[suspicion]\nbeta = 2\n").expect(&rt, "memory");
+    let suspicion = read(rt.alloc(), text.as_bytes())
+        .ok()
+        .expect(&rt, "accepted")
+        .suspicion();
+    assert_eq!(rt; suspicion, Suspicion { alpha: 5, beta: 2 });
+}
+
+#[test]
+fn each_byte_may_not_be_255(rt: HostRuntime) {
+    let text = TEXT.as_bytes();
+    for place in 0..text.len() {
+        let mut bytes = Vec::new(rt.alloc());
+        for (i, byte) in text.iter().enumerate() {
+            let byte = if i == place { 255 } else { *byte };
+            bytes.push(byte).expect(&rt, "memory");
+        }
+        assert_eq!(rt; rule_of(rt.alloc(), bytes.as_slice()), 1, "byte {place}");
+    }
+}
+
+#[test]
 fn settings_are_read(rt: HostRuntime) {
     let text = "version = 1
 seed = 9223372036854775807
@@ -235,6 +345,9 @@ fn keys_that_the_format_does_not_name_break_rule_3(rt: HostRuntime) {
             ("end = 0", "end = 0\n\"\" = 0", 3),
             ("[swim]", "[other]\n[swim]", 3),
             ("spread = 1", "spread = 1\ndelay = 1", 3),
+            ("spread = 1", "spread = 1\nalpha = 1", 3),
+            ("[link]", "[suspicion]\nceiling = 1\n[link]", 3),
+            ("[link]", "[lifeguard]\nalpha = 1\n[link]", 3),
             ("delay = 10", "delay = 10\nperiod = 1", 3),
             ("count = 2", "count = 2\ndelay = 1", 3),
             (
@@ -259,6 +372,23 @@ fn each_key_of_another_kind_breaks_rule_4(rt: HostRuntime) {
             ("period = 1000", "period = [1000]", 4),
             ("timeout = 300", "timeout = []", 4),
             ("spread = 1", "spread = {}", 4),
+            ("spread = 1", "helpers = 3.0", 4),
+            ("spread = 1", "carry = \"6\"", 4),
+            ("spread = 1", "lambda = true", 4),
+            ("[swim]", "suspicion = 5\n[swim]", 4),
+            ("[swim]", "suspicion = [{ colour = 1 }]\n[swim]", 4),
+            ("[link]", "[[suspicion]]\nalpha = 1\n[link]", 4),
+            ("[link]", "[suspicion]\nalpha = [5]\n[link]", 4),
+            ("[link]", "[suspicion]\nbeta = 6.0\n[link]", 4),
+            ("[link]", "[[lifeguard]]\nprobe = true\n[link]", 4),
+            ("[link]", "[lifeguard]\nprobe = 1\n[link]", 4),
+            ("[link]", "[lifeguard]\nsuspicion = \"true\"\n[link]", 4),
+            ("[link]", "[lifeguard]\nbuddy = 0\n[link]", 4),
+            ("[link]", "[lifeguard]\nceiling = true\n[link]", 4),
+            ("[link]", "[lifeguard]\nconfirmations = \"3\"\n[link]", 4),
+            ("[link]", "[lifeguard]\nnack_percent = 80.0\n[link]", 4),
+            ("delay = 10", "delay = 10\njitter = false", 4),
+            ("delay = 10", "delay = 10\nloss = 0.5", 4),
             ("[link]\ndelay = 10\n", "[[link]]\ndelay = 10\n", 4),
             ("delay = 10", "delay = 1979-05-27", 4),
             ("[[group]]", "[group]", 4),
@@ -291,6 +421,35 @@ fn each_range_has_both_ends(rt: HostRuntime) {
             ),
             ("spread = 1", "spread = 0", 5),
             ("spread = 1", "spread = 16777217", 5),
+            ("spread = 1", "helpers = 0", 0),
+            ("spread = 1", "helpers = 16", 0),
+            ("spread = 1", "helpers = 17", 5),
+            ("spread = 1", "helpers = -1", 5),
+            ("spread = 1", "carry = 0", 5),
+            ("spread = 1", "carry = 1", 0),
+            ("spread = 1", "carry = 64", 0),
+            ("spread = 1", "carry = 65", 5),
+            ("spread = 1", "lambda = 0", 5),
+            ("spread = 1", "lambda = 1", 0),
+            ("spread = 1", "lambda = 101", 5),
+            ("[link]", "[suspicion]\nalpha = 0\n[link]", 5),
+            ("[link]", "[suspicion]\nalpha = 1\n[link]", 0),
+            ("[link]", "[suspicion]\nalpha = 101\n[link]", 5),
+            ("[link]", "[suspicion]\nbeta = 0\n[link]", 5),
+            ("[link]", "[suspicion]\nbeta = 1\n[link]", 0),
+            ("[link]", "[suspicion]\nbeta = 101\n[link]", 5),
+            ("[link]", "[suspicion]\n[link]", 0),
+            ("[link]", "[lifeguard]\n[link]", 0),
+            ("[link]", "[lifeguard]\nceiling = 0\n[link]", 0),
+            ("[link]", "[lifeguard]\nceiling = 17\n[link]", 5),
+            ("[link]", "[lifeguard]\nconfirmations = 0\n[link]", 0),
+            ("[link]", "[lifeguard]\nconfirmations = 10\n[link]", 5),
+            ("[link]", "[lifeguard]\nnack_percent = 0\n[link]", 5),
+            ("[link]", "[lifeguard]\nnack_percent = 1\n[link]", 0),
+            ("[link]", "[lifeguard]\nnack_percent = 101\n[link]", 5),
+            ("delay = 10", "delay = 10\njitter = -1", 5),
+            ("delay = 10", "delay = 10\njitter = 1048577", 5),
+            ("delay = 10", "delay = 10\nloss = 1000001", 5),
             ("delay = 10", "delay = 1", 0),
             ("delay = 10", "delay = 1048577", 5),
             ("count = 2", "count = 0", 5),

@@ -25,7 +25,7 @@ returns-in-Ok-check_shape-clause-accepted c =
     let tree = Table c.in-Ok.table in
     let read : tree_of c.args.bytes.now ≡ Some (view tree) =
     has_tree c.args.bytes.now (table_view c.in-Ok.table) c.in-Ok.ensures.ok.0 c.in-Ok.ensures.ok.1 ∙ ap Some (sym (view-Table c.in-Ok.table)) in
-    ok_so (λ s. (least_broken_by (setup_of_tree (view tree)) ≡ None) × (s ≡ setup_of_tree (view tree))) (λ s. verdict c.args.bytes.now ≡ Ok s) c.build.result c.build.ensures.ok
+    ok_so (λ s. (least_broken_by (view tree) (setup_of_tree (view tree)) ≡ None) × (s ≡ setup_of_tree (view tree))) (λ s. verdict c.args.bytes.now ≡ Ok s) c.build.result c.build.ensures.ok
     (λ s built. accepted c.args.bytes.now (view tree) read (c.in-Ok-check_shape.ensures.ok ∙ built.0) ∙ ap Ok (sym built.1))
 
 pub returns-in-Ok-check_shape-clause-refused : goal.returns-in-Ok-check_shape-clause-refused
@@ -33,5 +33,5 @@ returns-in-Ok-check_shape-clause-refused c =
     let tree = Table c.in-Ok.table in
     let read : tree_of c.args.bytes.now ≡ Some (view tree) =
     has_tree c.args.bytes.now (table_view c.in-Ok.table) c.in-Ok.ensures.ok.0 c.in-Ok.ensures.ok.1 ∙ ap Some (sym (view-Table c.in-Ok.table)) in
-    err_so (λ r. r.rule ≢ 11 → least_broken_by (setup_of_tree (view tree)) ≡ Some r.rule) (λ r. r.rule ≢ 11 → verdict c.args.bytes.now ≡ Err r.rule) c.build.result c.build.ensures.err
+    err_so (λ r. r.rule ≢ 11 → least_broken_by (view tree) (setup_of_tree (view tree)) ≡ Some r.rule) (λ r. r.rule ≢ 11 → verdict c.args.bytes.now ≡ Err r.rule) c.build.result c.build.ensures.err
     (λ r broken other. rule_broken c.args.bytes.now (view tree) r.rule read (c.in-Ok-check_shape.ensures.ok ∙ broken other))

@@ -1,0 +1,227 @@
+//! The lists of a document that breaks no rule: groups, paths, slow times and crashes.
+ghost use Rattle.std.specs.Prelude.{◌≡◌, ◌≤◌, ◌<◌, ◌++◌, map, sum_by, flat_map, string_bytes, option_and_then, IfOk, OnOk};
+ghost use Rattle.toml.specs.View.{view};
+ghost use Rattle.scenario.specs.Setup.{names_in, names_below};
+ghost use Rattle.scenario.specs.View.{group_of};
+ghost use Rattle.scenario.specs.Reading.{text_if, plain_group, group_in, member_named, group_named, group_at_key, member_at, link_over, path_in, slow_in, crash_in};
+
+use crate::roster::{Found, Roster};
+use crate::schema::{Key, Section};
+use crate::settings::{Crash, Group, Link, Path, Slow};
+use crate::values::{number, text, text_if, whole_or};
+use base::{MemberId, Memory, Moment};
+use std::alloc::Global;
+use toml::Value;
+
+/// How many members a group has.
+pub(crate) fn count_of(group: &Value) -> u64
+    ensures { result ≡ (plain_group (view group.now)).count }
+{
+    number(Section::Group, Key::Count, Some(group))
+}
+
+/// The groups in their order.
+pub(crate) fn read_groups(
+    alloc: Global,
+    roster: &Roster,
+    list: &[Value],
+) -> Result<Vec<Group>, Memory>
+    requires few { sum_by (λ g. g.count) roster.now ≤ 1024 }
+    ensures { IfOk result (λ groups. map group_of groups.items ≡ map (λ v. group_in roster.now (view v)) list.now) }
+{
+    let mut groups = Vec::new(alloc);
+    for item in list {
+        let Ok(group) = read_group(alloc, roster, item) else {
+            return Err(Memory);
+        };
+        match groups.push(group) {
+            Ok(()) => {}
+            Err(_) => return Err(Memory),
+        }
+    }
+    Ok(groups)
+}
+
+/// One group.
+fn read_group(alloc: Global, roster: &Roster, item: &Value) -> Result<Group, Memory>
+    requires few { sum_by (λ g. g.count) roster.now ≤ 1024 }
+    ensures { IfOk result (λ group. group_of group ≡ group_in roster.now (view item.now)) }
+{
+    let Ok(name) = String::from_str(alloc, text(Key::Name, item)) else {
+        return Err(Memory);
+    };
+    Ok(Group {
+        name,
+        count: count_of(item),
+        start: Moment(number(Section::Group, Key::Start, Some(item))),
+        contact: read_contact(roster, item),
+    })
+}
+
+/// Whom the members of a group ask to let them join.
+fn read_contact(roster: &Roster, group: &Value) -> Option<MemberId>
+    requires few { sum_by (λ g. g.count) roster.now ≤ 1024 }
+    ensures { result ≡ option_and_then (member_named roster.now) (text_if Key.Contact (view group.now)) }
+{
+    match text_if(Key::Contact, group) {
+        Some(name) => match roster.find(name) {
+            Some(found) => Some(MemberId(found.number as u16)),
+            None => None,
+        },
+        None => None,
+    }
+}
+
+/// The paths in their order; `link` has what they leave out.
+pub(crate) fn read_paths(
+    alloc: Global,
+    roster: &Roster,
+    link: Link,
+    list: &[Value],
+) -> Result<Vec<Path>, Memory>
+    ensures { IfOk result (λ paths. paths.items ≡ map (λ v. path_in roster.now link (view v)) list.now) }
+{
+    let mut paths = Vec::new(alloc);
+    for item in list {
+        match paths.push(read_path(roster, link, item)) {
+            Ok(()) => {}
+            Err(_) => return Err(Memory),
+        }
+    }
+    Ok(paths)
+}
+
+/// One path.
+fn read_path(roster: &Roster, link: Link, item: &Value) -> Path
+    ensures { result ≡ path_in roster.now link (view item.now) }
+{
+    Path {
+        from: group_at(roster, Key::From, item),
+        to: group_at(roster, Key::To, item),
+        link: link_over(link, item),
+    }
+}
+
+/// The number of the group that a key names.
+fn group_at(roster: &Roster, key: Key, item: &Value) -> usize
+    ensures { result ≡ group_at_key roster.now key (view item.now) }
+{
+    match roster.group(text(key, item)) {
+        Some(number) => number,
+        None => 0,
+    }
+}
+
+/// The link, with the numbers of the path that are there.
+fn link_over(link: Link, path: &Value) -> Link
+    ensures { result ≡ link_over link (view path.now) }
+{
+    Link {
+        delay: whole_or(link.delay, path.get(Key::Delay.text())),
+        jitter: whole_or(link.jitter, path.get(Key::Jitter.text())),
+        loss: whole_or(link.loss, path.get(Key::Loss.text())),
+    }
+}
+
+/// The times in which members are slow, in their order.
+pub(crate) fn read_slows(
+    alloc: Global,
+    roster: &Roster,
+    list: &[Value],
+) -> Result<Vec<Slow>, Memory>
+    requires few { sum_by (λ g. g.count) roster.now ≤ 1024 }
+    ensures { IfOk result (λ slows. slows.items ≡ map (λ v. slow_in roster.now (view v)) list.now) }
+{
+    let mut slows = Vec::new(alloc);
+    for item in list {
+        match slows.push(read_slow(roster, item)) {
+            Ok(()) => {}
+            Err(_) => return Err(Memory),
+        }
+    }
+    Ok(slows)
+}
+
+/// One time in which a member is slow.
+fn read_slow(roster: &Roster, item: &Value) -> Slow
+    requires few { sum_by (λ g. g.count) roster.now ≤ 1024 }
+    ensures { result ≡ slow_in roster.now (view item.now) }
+{
+    Slow {
+        member: member_at(roster, item),
+        from: Moment(number(Section::Slow, Key::From, Some(item))),
+        until: Moment(number(Section::Slow, Key::Until, Some(item))),
+        extra: number(Section::Slow, Key::Extra, Some(item)),
+    }
+}
+
+/// The crashes in their order.
+pub(crate) fn read_crashes(
+    alloc: Global,
+    roster: &Roster,
+    list: &[Value],
+) -> Result<Vec<Crash>, Memory>
+    requires few { sum_by (λ g. g.count) roster.now ≤ 1024 }
+    ensures { IfOk result (λ crashes. crashes.items ≡ map (λ v. crash_in roster.now (view v)) list.now) }
+{
+    let mut crashes = Vec::new(alloc);
+    for item in list {
+        match crashes.push(read_crash(roster, item)) {
+            Ok(()) => {}
+            Err(_) => return Err(Memory),
+        }
+    }
+    Ok(crashes)
+}
+
+/// One crash.
+fn read_crash(roster: &Roster, item: &Value) -> Crash
+    requires few { sum_by (λ g. g.count) roster.now ≤ 1024 }
+    ensures { result ≡ crash_in roster.now (view item.now) }
+{
+    Crash {
+        member: member_at(roster, item),
+        at: Moment(number(Section::Crash, Key::At, Some(item))),
+    }
+}
+
+/// The member of which an item speaks.
+fn member_at(roster: &Roster, item: &Value) -> MemberId
+    requires few { sum_by (λ g. g.count) roster.now ≤ 1024 }
+    ensures { result ≡ member_at roster.now Key.Member (view item.now) }
+{
+    match roster.find(text(Key::Member, item)) {
+        Some(found) => MemberId(found.number as u16),
+        None => MemberId(0),
+    }
+}
+
+/// The names of all members: those of the first group first.
+pub(crate) fn list_names(alloc: Global, list: &[Value]) -> Result<Vec<String>, Memory>
+    ensures { IfOk result (λ names. map string_bytes names.items ≡ flat_map (λ g. names_in (plain_group (view g))) list.now) }
+{
+    let mut names = Vec::new(alloc);
+    for group in list {
+        match add_names(alloc, &mut names, text(Key::Name, group), count_of(group)) {
+            Ok(()) => {}
+            Err(Memory) => return Err(Memory),
+        }
+    }
+    Ok(names)
+}
+
+/// Adds the names of a group's members.
+fn add_names(alloc: Global, names: &mut Vec<String>, group: &str, count: u64) -> Result<(), Memory>
+    ensures { OnOk result (map string_bytes names.new.items ≡ map string_bytes names.old.items ++ names_below group.now count) }
+{
+    for index in 0..count {
+        let Ok(name) = format!(in alloc; "{group}-{index}") else {
+            return Err(Memory);
+        };
+        match names.push(name) {
+            Ok(()) => {}
+            Err(_) => return Err(Memory),
+        }
+    }
+    Ok(())
+}
