@@ -1,0 +1,42 @@
+-- A message over the table of links is a message of the scenario.
+use Rattle.std.proofs.Common.{◌≡◌, ℕ, ◌+◌, ◌<◌, Bool, true, false, Option, Some, None, if◌then◌else◌, sym, ap, ◌∙◌}
+use Rattle.streams.specs.Draw.{Words, below_of, lost_of}
+use Rattle.scenario.specs.Setup.{Setup, member_count, extra_of}
+use Rattle.scenario.specs.declared.settings.Link.{Link}
+use Rattle.links.specs.declared.table.Links.{Links}
+use Rattle.links.specs.Table.{link_at, extra_at}
+use Rattle.links.specs.Arrival.{arrival_of, AreLinksOf}
+
+-- when it arrives, by the jitter
+abbrev comes : Setup → Link → ℕ → ℕ → ℕ → ℕ × Words → Option ℕ × Words
+comes s link from to now jitter =
+    let coming = now + link.delay + jitter.0 + extra_of s from now in
+    (Some (coming + extra_of s to coming), jitter.1)
+
+-- what becomes of it, by the loss
+abbrev after_loss : Setup → Link → ℕ → ℕ → ℕ → Bool × Words → Option ℕ × Words
+after_loss s link from to now lost = if lost.0 then (None, lost.1) else comes s link from to now (below_of lost.1 (link.jitter + 1))
+
+module _ (l : Links) (s : Setup) (are : AreLinksOf l s) (from to now : ℕ) (sender : from < member_count s) (receiver : to < member_count s) (link : Link) (is : link ≡ link_at l from to)
+    (words rest : Words) (b : Bool) (lost : (b, rest) ≡ lost_of words link.loss) where
+  over : after_loss s link from to now (b, rest) ≡ arrival_of s from to now words
+  unfolding arrival_of
+  over =
+      ap (after_loss s link from to now) lost
+      ∙ ap (λ (k : Link). after_loss s k from to now (lost_of words k.loss)) (is ∙ are.links from to sender receiver)
+
+  -- it is lost
+  pub arrival_lost : b ≡ true → (None, rest) ≡ arrival_of s from to now words
+  arrival_lost e = ap (λ v. after_loss s link from to now (v, rest)) (sym e) ∙ over
+
+  -- it arrives
+  pub arrival_comes : b ≡ false → (drawn jitter ticks extra last : ℕ) (after : Words) → (drawn, after) ≡ below_of rest (link.jitter + 1) → jitter ≡ drawn → ticks ≡ now
+      → extra ≡ extra_at l from now → last ≡ extra_at l to (ticks + link.delay + jitter + extra)
+      → (Some (ticks + link.delay + jitter + extra + last), after) ≡ arrival_of s from to now words
+  arrival_comes e drawn jitter ticks extra last after by same at slow slower =
+      ap (λ x. (Some (ticks + link.delay + jitter + extra + x), after)) (slower ∙ are.extras to (ticks + link.delay + jitter + extra))
+      ∙ ap (λ x. (Some (ticks + link.delay + jitter + x + extra_of s to (ticks + link.delay + jitter + x)), after)) (slow ∙ are.extras from now)
+      ∙ ap (λ t. (Some (t + link.delay + jitter + extra_of s from now + extra_of s to (t + link.delay + jitter + extra_of s from now)), after)) at
+      ∙ ap (λ j. comes s link from to now (j, after)) same
+      ∙ ap (comes s link from to now) by
+      ∙ ap (λ v. after_loss s link from to now (v, rest)) (sym e) ∙ over

@@ -1,0 +1,85 @@
+-- A table that is made of a scenario's groups, paths and slow entries serves that scenario.
+use Rattle.std.proofs.Common.{◌≡◌, ℕ, ◌+◌, ◌<◌, ◌≤◌, ◌^◌, ◌⊎◌, inl, inr, List, [], ◌∷◌, ◌++◌, map, length, Option, Some, None, refl, sym, ap, ◌∙◌, subst, zero-add, Vec, Global, arith}
+use Rattle.std.specs.Option.{unwrap_or, option_and_then}
+use Rattle.std.specs.List.{filter, range_with_len, slice_get}
+use Rattle.std.proofs.lemmas.Bool.{cases_lt}
+use Rattle.std.proofs.lemmas.List.FromFn.{length-map-range_with_len, get_or-map-range_with_len, map-range_with_len_more}
+use Rattle.std.proofs.lemmas.Option.{slice_get-get_or, slice_get_past}
+use Rattle.scenario.specs.Setup.{Setup, Group, group_at, member_count, leads, last_link, link_between, extra_of, IsSound, IsSoundLink}
+use Rattle.scenario.specs.declared.settings.Link.{Link}
+use Rattle.scenario.specs.declared.settings.Path.{Path}
+use Rattle.scenario.specs.declared.settings.Slow.{Slow}
+use Rattle.links.specs.Entries.{route, link_in, spans_in, slow_spans, extra_in}
+use Rattle.links.specs.declared.spans.Span.{Span}
+use Rattle.links.proofs.Maps.{extra_is}
+
+-- the numbers of the groups of the first members
+abbrev pub groups_below : List Group → ℕ → List ℕ
+groups_below gs n = map (group_at gs) (range_with_len 0 n)
+
+-- one member more
+pub groups_more : (gs : List Group) (old new : List ℕ) (m x : ℕ) → old ≡ groups_below gs m → x ≡ group_at gs m → new ≡ old ++ x ∷ [] → new ≡ groups_below gs (m + 1)
+groups_more gs old new m x before is more =
+    more ∙ ap (λ xs. xs ++ x ∷ []) before ∙ ap (λ y. groups_below gs m ++ y ∷ []) is ∙ sym (map-range_with_len_more (group_at gs) 0 m m (zero-add m))
+
+group_within : (gs : List Group) (n i : ℕ) → i < n → slice_get (groups_below gs n) i ≡ Some (group_at gs i)
+group_within gs n i within =
+    let here : i < length (groups_below gs n) = omega (arith, length-map-range_with_len (group_at gs) 0 n) in
+    slice_get-get_or (groups_below gs n) i 0 here ∙ ap Some (get_or-map-range_with_len (group_at gs) 0 n i i 0 within (zero-add i))
+
+group_past : (gs : List Group) (n i : ℕ) → n ≤ i → slice_get (groups_below gs n) i ≡ None
+group_past gs n i past = slice_get_past (groups_below gs n) i (omega (arith, length-map-range_with_len (group_at gs) 0 n))
+
+-- by the groups of two members, where they have one
+abbrev by_groups : List ((ℕ × ℕ) × Link) → Link → Option ℕ → Option ℕ → Link
+by_groups routes link from to = unwrap_or (option_and_then (λ f. option_and_then (λ t. route routes f t) to) from) link
+
+nobody : (routes : List ((ℕ × ℕ) × Link)) (link : Link) (from : Option ℕ) → by_groups routes link from None ≡ link
+nobody routes link None = refl
+nobody routes link (Some f) = refl
+
+-- what the maps have of all paths and all slow entries
+pub routes_of_all : (s : Setup) (ps : List Path) (routes : List ((ℕ × ℕ) × Link)) → ps ≡ s.paths
+    → ((l : Link) (from to : ℕ) → unwrap_or (route routes from to) l ≡ last_link l (map (λ p. p.link) (filter (leads from to) ps)))
+    → (l : Link) (from to : ℕ) → unwrap_or (route routes from to) l ≡ last_link l (map (λ p. p.link) (filter (leads from to) s.paths))
+routes_of_all s ps routes same last l from to = last l from to ∙ ap (λ (qs : List Path). last_link l (map (λ (p : Path). p.link) (filter (leads from to) qs))) same
+
+pub spans_of_all : (s : Setup) (es : List Slow) (spans : List (ℕ × Vec Span Global)) → es ≡ s.slows → ((m : ℕ) → spans_in spans m ≡ slow_spans m es)
+    → (m : ℕ) → spans_in spans m ≡ slow_spans m s.slows
+spans_of_all s es spans same kept m = kept m ∙ ap (slow_spans m) same
+
+module _ (s : Setup) (groups : List ℕ) (link : Link) (routes : List ((ℕ × ℕ) × Link)) (grouped : groups ≡ groups_below s.groups (member_count s)) (all : link ≡ s.link)
+    (last : (l : Link) (from to : ℕ) → unwrap_or (route routes from to) l ≡ last_link l (map (λ p. p.link) (filter (leads from to) s.paths))) where
+  pub links_are : (i j : ℕ) → i < member_count s → j < member_count s → link_in groups link routes i j ≡ link_between s i j
+  links_are i j sender receiver =
+      ap (λ gs. link_in gs link routes i j) grouped
+      ∙ ap (λ o. by_groups routes link o (slice_get (groups_below s.groups (member_count s)) j)) (group_within s.groups (member_count s) i sender)
+      ∙ ap (λ o. by_groups routes link (Some (group_at s.groups i)) o) (group_within s.groups (member_count s) j receiver)
+      ∙ ap (λ l. unwrap_or (route routes (group_at s.groups i) (group_at s.groups j)) l) all
+      ∙ last s.link (group_at s.groups i) (group_at s.groups j)
+
+  others_sound : IsSound s → IsSoundLink link
+  others_sound sound = subst IsSoundLink (sym all) (record { delay = sound.delay; jitter = sound.jitter; loss = sound.loss })
+
+  no_receiver : (i j : ℕ) → member_count s ≤ j → link_in groups link routes i j ≡ link
+  no_receiver i j past =
+      ap (λ o. by_groups routes link (slice_get groups i) o) (ap (λ gs. slice_get gs j) grouped ∙ group_past s.groups (member_count s) j past)
+      ∙ nobody routes link (slice_get groups i)
+
+  no_sender : (i j : ℕ) → member_count s ≤ i → link_in groups link routes i j ≡ link
+  no_sender i j past = ap (λ o. by_groups routes link o (slice_get groups j)) (ap (λ gs. slice_get gs i) grouped ∙ group_past s.groups (member_count s) i past)
+
+  sound_by : IsSound s → (i j : ℕ) → (i < member_count s) ⊎ (member_count s ≤ i) → (j < member_count s) ⊎ (member_count s ≤ j) → IsSoundLink (link_in groups link routes i j)
+  sound_by sound i j (inl a) (inl b) = subst IsSoundLink (sym (links_are i j a b)) (sound.between i j)
+  sound_by sound i j (inl a) (inr b) = subst IsSoundLink (sym (no_receiver i j b)) (others_sound sound)
+  sound_by sound i j (inr a) b = subst IsSoundLink (sym (no_sender i j a)) (others_sound sound)
+
+  pub links_sound : IsSound s → (i j : ℕ) → IsSoundLink (link_in groups link routes i j)
+  links_sound sound i j = sound_by sound i j (cases_lt i (member_count s)) (cases_lt j (member_count s))
+
+module _ (s : Setup) (spans : List (ℕ × Vec Span Global)) (kept : (m : ℕ) → spans_in spans m ≡ slow_spans m s.slows) where
+  pub extras_are : (m t : ℕ) → extra_in (spans_in spans m) t ≡ extra_of s m t
+  extras_are m t = ap (λ xs. extra_in xs t) (kept m) ∙ extra_is m t s.slows
+
+  pub extras_small : IsSound s → (m t : ℕ) → extra_in (spans_in spans m) t ≤ 2 ^ 24
+  extras_small sound m t = subst (λ n. n ≤ 2 ^ 24) (sym (extras_are m t)) (sound.extras m t)

@@ -1,0 +1,4 @@
+pub mod Arrival
+pub mod Entries
+pub mod Table
+pub mod Least

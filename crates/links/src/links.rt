@@ -1,0 +1,114 @@
+ghost use Rattle.std.specs.Prelude.{◌≡◌, ℕ, ◌+◌, ◌^◌, ◌<◌, ◌≤◌, ◌↔◌, length, map, None, IfOk, IfSome, unwrap_or};
+ghost use Rattle.std.specs.Option.{option_copied};
+ghost use Rattle.std.specs.List.{range_with_len};
+ghost use Rattle.streams.specs.Draw.{words_of};
+ghost use Rattle.scenario.specs.Setup.{Setup, member_count, group_at, link_between, IsSoundLink};
+ghost use Rattle.links.specs.Arrival.{arrival_of, AreLinksOf};
+ghost use Rattle.links.specs.Entries.{link_in};
+ghost use Rattle.links.specs.Table.{link_at, extra_at};
+ghost use Rattle.links.specs.Least.{IsReached, IsNoGreater};
+
+use crate::least::least_delay;
+use crate::routes::routes_of;
+use crate::spans::{extra_in, spans_of};
+use crate::table::Links;
+use base::{MemberId, Memory, Moment};
+use scenario::{Link, Scenario};
+use std::alloc::Global;
+use streams::Stream;
+
+impl Links {
+    /// The links of a scenario, or `Memory` where it was refused. No other call takes memory.
+    pub fn of(alloc: Global, scenario: &Scenario) -> Result<Self, Memory>
+        ensures { IfOk result (λ links. AreLinksOf links scenario.now) }
+    {
+        Ok(Links {
+            groups: groups_of(alloc, scenario)?,
+            link: scenario.link(),
+            routes: routes_of(alloc, scenario.paths())?,
+            spans: spans_of(alloc, scenario.slows())?,
+        })
+    }
+
+    /// When a message that one member sends to another now arrives, or None where it is lost: a loss
+    /// is drawn first, and then the jitter.
+    pub fn arrival(
+        &self,
+        from: MemberId,
+        to: MemberId,
+        now: Moment,
+        stream: &mut Stream,
+    ) -> Option<Moment>
+        requires { now ≤ 2 ^ 40 }
+        ensures drawn { (s : Setup) → AreLinksOf self.now s → from < member_count s → to < member_count s
+            → (result, words_of stream.new) ≡ arrival_of s from to now (words_of stream.old) }
+        ensures later { (s : Setup) → AreLinksOf self.now s → from < member_count s → to < member_count s
+            → IfSome result (λ at. now + (link_between s from to).delay ≤ at) }
+        ensures soon { IfSome result (λ at. at < 2 ^ 42) }
+    {
+        let link = self.link_between(from.index(), to.index());
+        if stream.lost(link.loss as u32) {
+            return None;
+        }
+        let jitter = stream.below(link.jitter as u32 + 1);
+        let coming = now.ticks() + link.delay + u64::from(jitter) + self.extra(from, now.ticks());
+        Some(Moment(coming + self.extra(to, coming)))
+    }
+
+    /// The least delay of a link from a member to another one, in ticks; None where there is but one
+    /// member. It goes over all pairs of members.
+    pub fn least_delay(&self) -> Option<u64>
+        ensures reached { (s : Setup) → AreLinksOf self.now s
+            → IfSome result (IsReached (λ i j. (link_between s i j).delay) (member_count s)) }
+        ensures least { (s : Setup) → AreLinksOf self.now s
+            → IfSome result (IsNoGreater (λ i j. (link_between s i j).delay) (member_count s)) }
+        ensures alone { (s : Setup) → AreLinksOf self.now s → (result ≡ None ↔ member_count s ≡ 1) }
+    {
+        least_delay(self)
+    }
+
+    /// The link from one member to another.
+    pub(crate) fn link_between(&self, from: usize, to: usize) -> Link
+        ensures value { result ≡ link_at self.now from to }
+        ensures sound { IsSoundLink result }
+    {
+        match self.route(from, to) {
+            Some(link) => *link,
+            None => self.link,
+        }
+    }
+
+    /// The link of the last path from one member's group to the other's.
+    fn route(&self, from: usize, to: usize) -> Option<&Link>
+        ensures { (link : _) → unwrap_or (option_copied result) link ≡ link_in self.now.groups.items link self.now.routes.entries from to }
+    {
+        let from = self.groups.get(from)?;
+        let to = self.groups.get(to)?;
+        self.routes.get(&(*from, *to))
+    }
+
+    /// By how many ticks a member is slow at a moment.
+    fn extra(&self, member: MemberId, at: u64) -> u64
+        ensures value { result ≡ extra_at self.now member at }
+        ensures few { result ≤ 2 ^ 24 }
+    {
+        match self.spans.get(&member) {
+            Some(spans) => extra_in(spans.as_slice(), at),
+            None => 0,
+        }
+    }
+}
+
+/// The number of each member's group.
+fn groups_of(alloc: Global, scenario: &Scenario) -> Result<Vec<usize>, Memory>
+    ensures { IfOk result (λ groups. groups.items ≡ map (group_at scenario.now.groups) (range_with_len 0 (member_count scenario.now))) }
+{
+    let mut groups = Vec::new(alloc);
+    for member in 0..scenario.members() {
+        match groups.push(scenario.group_number(MemberId(member as u16))) {
+            Ok(()) => {}
+            Err(_) => return Err(Memory),
+        }
+    }
+    Ok(groups)
+}

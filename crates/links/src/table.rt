@@ -1,0 +1,24 @@
+ghost use Rattle.std.specs.Prelude.{ℕ, ◌≤◌, ◌^◌};
+ghost use Rattle.scenario.specs.Setup.{IsSoundLink};
+ghost use Rattle.links.specs.Entries.{link_in, spans_in, extra_in};
+
+use crate::spans::Span;
+use base::MemberId;
+use scenario::Link;
+use std::collections::BTreeMap;
+
+/// How messages travel among the members of a scenario: by the link of their groups, and slower
+/// where the sender or the receiver is slow.
+#[derive(Drop)]
+pub struct Links {
+    /// The number of each member's group.
+    pub(crate) groups: Vec<usize>,
+    /// The link of members whose groups no path names.
+    pub(crate) link: Link,
+    /// The link from one group to another, by the last path that names them.
+    pub(crate) routes: BTreeMap<(usize, usize), Link>,
+    /// The times in which members are slow.
+    pub(crate) spans: BTreeMap<MemberId, Vec<Span>>,
+    ghost links_sound: { (i j : ℕ) → IsSoundLink (link_in groups.items link routes.entries i j) },
+    ghost extras_sound: { (m t : ℕ) → extra_in (spans_in spans.entries m) t ≤ 2 ^ 24 },
+}
