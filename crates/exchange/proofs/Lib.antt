@@ -1,4 +1,5 @@
 pub mod Worn
+pub mod Sending
 pub mod Targets
 pub mod Pending
 pub mod Openings

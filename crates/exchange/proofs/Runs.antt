@@ -6,7 +6,7 @@ use Rattle.std.specs.Ordering.{nat_cmp, eq_by_cmp}
 use Rattle.std.specs.Cmp.{nat_cmp_total, unsigned_tied}
 use Rattle.std.specs.FinMap.{empty, get, find, remove, get-empty, get-from_entries}
 use Rattle.std.specs.Io.KnownBytes.{Keeps}
-use Rattle.std.proofs.lemmas.Bool.{false≢true, eqb-false}
+use Rattle.std.proofs.lemmas.Bool.{false≢true, eqb-false, eqb-true}
 use Rattle.base.specs.declared.key.Key.{Key}
 use Rattle.base.specs.Order.{key_cmp}
 use Rattle.base.specs.World.{World, Run, events_of, outcome}
@@ -17,9 +17,9 @@ use Rattle.scenario.specs.Setup.{Setup, IsSound, member_count}
 use Rattle.trace.specs.declared.row.Row.{Row}
 use Rattle.trace.specs.Text.{trace_text}
 use Rattle.trace.proofs.Beginnings.{beginning-none}
-use Rattle.exchange.specs.declared.member.Member.{Member}
 use Rattle.exchange.specs.declared.member.Content.{Content}
 use Rattle.exchange.specs.declared.member.Content.TheVariants.{Start}
+use Rattle.exchange.specs.State.{State}
 use Rattle.exchange.specs.Step.{step}
 use Rattle.exchange.specs.Opening.{opening, waiting, numbers, start_key, IsRunOf}
 use Rattle.exchange.specs.Promise.{WritesBeginning}
@@ -42,33 +42,34 @@ writes_nothing s held sound kept =
 
 -- ---- the opening world
 
-next_find : (m a : ℕ) (rest : Option Member) (b : Bool) → eqb m a ≡ b → (¬ (m ≡ a) → rest ≡ Some waiting) → cond (eq_by_cmp nat_cmp m a) (Some waiting) rest ≡ Some waiting
-next_find m a rest true e later = ap (λ b. cond b (Some waiting) rest) (unsigned_tied m a ∙ e)
-next_find m a rest false e later = ap (λ b. cond b (Some waiting) rest) (unsigned_tied m a ∙ e) ∙ later (eqb-false m a e)
+module _ (s : Setup) where
+  next_find : (m a : ℕ) (rest : Option State) (b : Bool) → eqb m a ≡ b → (¬ (m ≡ a) → rest ≡ Some (waiting s m)) → cond (eq_by_cmp nat_cmp m a) (Some (waiting s a)) rest ≡ Some (waiting s m)
+  next_find m a rest true e later = ap (λ b. cond b (Some (waiting s a)) rest) (unsigned_tied m a ∙ e) ∙ ap (λ n. Some (waiting s n)) (sym (eqb-true m a e))
+  next_find m a rest false e later = ap (λ b. cond b (Some (waiting s a)) rest) (unsigned_tied m a ∙ e) ∙ later (eqb-false m a e)
 
-find_member : (m a n : ℕ) → a ≤ m → m < a + n → find nat_cmp m (map (λ i. (i, waiting)) (range_with_len a n)) ≡ Some waiting
-find_member m a zero from below = absurd (omega arith)
-find_member m a (suc n) from below =
-    next_find m a (find nat_cmp m (map (λ i. (i, waiting)) (range_with_len (a + 1) n))) (eqb m a) refl (λ other. find_member m (a + 1) n (omega arith) (omega arith))
+  find_member : (m a n : ℕ) → a ≤ m → m < a + n → find nat_cmp m (map (λ i. (i, waiting s i)) (range_with_len a n)) ≡ Some (waiting s m)
+  find_member m a zero from below = absurd (omega arith)
+  find_member m a (suc n) from below =
+      next_find m a (find nat_cmp m (map (λ i. (i, waiting s i)) (range_with_len (a + 1) n))) (eqb m a) refl (λ other. find_member m (a + 1) n (omega arith) (omega arith))
 
 -- the sender of a pending start has used its number
 abbrev Numbered : Setup → Key → Type 0
-Numbered s q = (m : Member) × (get (opening s).members q.from ≡ Some m) × (q.number < m.next_number)
+Numbered s q = (m : State) × (get (opening s).members q.from ≡ Some m) × (q.number < m.next_number)
 
 starts_numbered : (s : Setup) (a n : ℕ) → a + n ≤ member_count s → AllByRecursion {X = Key × Content} (λ e. Numbered s e.0) (map (λ m. (start_key m, Start)) (range_with_len a n))
 starts_numbered s a zero h = tt
 starts_numbered s a (suc n) h = (
-  (waiting, get-from_entries nat_cmp_total (map (λ i. (i, waiting)) (numbers s)) a ∙ find_member a 0 (member_count s) (omega arith) (omega arith), omega arith),
+  (waiting s a, get-from_entries nat_cmp_total (map (λ i. (i, waiting s i)) (numbers s)) a ∙ find_member s a 0 (member_count s) (omega arith) (omega arith), omega arith),
   starts_numbered s (a + 1) n (omega arith),
 )
 
-opening_numbered : (s : Setup) → IsNumbered (λ (m : Member). m.next_number) (opening s)
+opening_numbered : (s : Setup) → IsNumbered (λ (m : State). m.next_number) (opening s)
 opening_numbered s =
     holds-with_events (Numbered s) (map (λ m. (start_key m, Start)) (numbers s)) empty
     (λ q here. absurd (false≢true (ap is_some (sym (get-empty key_cmp q)) ∙ here))) (starts_numbered s 0 (member_count s) (omega arith))
 
-pub new_events : (s : Setup) (keys : List Key) (rows : List Row) (w : World Member Content) (k : Key) (c : Content) → IsSound s
+pub new_events : (s : Setup) (keys : List Key) (rows : List Row) (w : World State Content) (k : Key) (c : Content) → IsSound s
     → Run (step s) s.end (opening s) keys rows w → AreNew (remove w.pending k) (events_of (outcome (step s) w k c))
 new_events s keys rows w k c sound run =
     let numbers = step_uses_numbers s (delays-from_sound s sound) in
-    new_step (λ (m : Member). m.next_number) (step s) numbers w k c (numbered_run (λ (m : Member). m.next_number) (step s) numbers s.end keys (opening s) w rows (opening_numbered s) run)
+    new_step (λ (m : State). m.next_number) (step s) numbers w k c (numbered_run (λ (m : State). m.next_number) (step s) numbers s.end keys (opening s) w rows (opening_numbered s) run)

@@ -11,14 +11,14 @@ use Rattle.base.specs.World.{World, with_events, settled, rows_of, outcome, Next
 use Rattle.base.specs.Run.{IsFirst}
 use Rattle.scenario.specs.Setup.{Setup}
 use Rattle.trace.specs.declared.row.Row.{Row}
-use Rattle.exchange.specs.declared.member.Member.{Member}
 use Rattle.exchange.specs.declared.member.Content.{Content}
+use Rattle.exchange.specs.State.{State}
 use Rattle.exchange.specs.Step.{Effect, step}
 use Rattle.exchange.specs.Opening.{IsWorn}
 use Rattle.exchange.specs.Advance.{Advances, WearsNext}
 
-module _ (s : Setup) (m : FinMap nat_cmp Member) (p : FinMap key_cmp Content) (k : Key) (c : Content) (first : IsFirst p k c) (due : k.at ≤ s.end) where
-  abbrev before : World Member Content
+module _ (s : Setup) (m : FinMap nat_cmp State) (p : FinMap key_cmp Content) (k : Key) (c : Content) (first : IsFirst p k c) (due : k.at ≤ s.end) where
+  abbrev before : World State Content
   before = record { members = m; pending = p }
 
   -- the step, by what the receiver makes of the event
@@ -41,12 +41,12 @@ module _ (s : Setup) (m : FinMap nat_cmp Member) (p : FinMap key_cmp Content) (k
     rows = sym (append-nil rows);
   }
 
-  module _ (member : Member) (receiver : get m k.to ≡ Some member) where
+  module _ (member : State) (receiver : get m k.to ≡ Some member) where
     made_of : outcome (step s) before k c ≡ Some (step s k c member)
     made_of = ap (option_map (step s k c)) receiver
 
     -- an event is handled
-    pub event_handled : (o : Effect) (n : FinMap nat_cmp Member) (q : FinMap key_cmp Content) (rows after : List Row) → o ≡ step s k c member
+    pub event_handled : (o : Effect) (n : FinMap nat_cmp State) (q : FinMap key_cmp Content) (rows after : List Row) → o ≡ step s k c member
         → n ≡ insert m k.to o.state → q ≡ with_events (remove p k) o.events → after ≡ rows ++ o.rows → Advances s before (record { members = n; pending = q }) rows after
     event_handled o n q rows after is members pending written =
         let next : NextStep (step s) before k (settled before k (Some o)) o.rows = next_of (Some o) (made_of ∙ ap Some (sym is)) in

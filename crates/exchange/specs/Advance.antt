@@ -5,13 +5,13 @@ use Rattle.base.specs.declared.key.Key.{Key}
 use Rattle.base.specs.World.{World, NextStep}
 use Rattle.scenario.specs.Setup.{Setup}
 use Rattle.trace.specs.declared.row.Row.{Row}
-use Rattle.exchange.specs.declared.member.Member.{Member}
 use Rattle.exchange.specs.declared.member.Content.{Content}
+use Rattle.exchange.specs.State.{State}
 use Rattle.exchange.specs.Step.{step}
 use Rattle.exchange.specs.Opening.{IsWorn}
 
 -- the next step leads from w to v, and its rows follow those before
-pub record Advances (s : Setup) (w v : World Member Content) (before after : List Row) : Type 0 where
+pub record Advances (s : Setup) (w v : World State Content) (before after : List Row) : Type 0 where
   pub key : Key
   pub made : List Row
   pub in_time : key.at ≤ s.end
@@ -19,13 +19,13 @@ pub record Advances (s : Setup) (w v : World Member Content) (before after : Lis
   pub rows : after ≡ before ++ made
 
 -- the next step leaves a member with a counter past its limit
-pub record WearsNext (s : Setup) (w : World Member Content) : Type 0 where
+pub record WearsNext (s : Setup) (w : World State Content) : Type 0 where
   pub key : Key
-  pub world : World Member Content
+  pub world : World State Content
   pub made : List Row
   pub in_time : key.at ≤ s.end
   pub next : NextStep (step s) w key world made
   pub number : ℕ
-  pub member : Member
+  pub member : State
   pub there : get world.members number ≡ Some member
   pub worn : IsWorn member

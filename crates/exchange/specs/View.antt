@@ -1,5 +1,5 @@
 -- The world that a cluster stands for.
-use Rattle.std.specs.Prelude.{◌≡◌, ℕ, ◌<◌, ◌≤◌, true, List}
+use Rattle.std.specs.Prelude.{◌≡◌, ℕ, ◌<◌, ◌≤◌, true, List, map}
 use Rattle.std.specs.List.{enumerate_from}
 use Rattle.std.specs.Ordering.{nat_cmp}
 use Rattle.std.specs.BTreeMap.{BTreeMap}
@@ -12,11 +12,16 @@ use Rattle.exchange.specs.declared.cluster.Cluster.{Cluster}
 use Rattle.exchange.specs.declared.member.Member.{Member}
 use Rattle.exchange.specs.declared.member.Content.{Content}
 use Rattle.exchange.specs.declared.turn.Turn.{Turn}
+use Rattle.exchange.specs.State.{State, state_of}
 use Rattle.exchange.specs.Step.{Effect}
 
--- members by their places
-abbrev pub members_of : List Member → FinMap nat_cmp Member
-members_of ms = from_entries (enumerate_from 0 ms)
+-- states by their places
+abbrev pub by_place : List State → FinMap nat_cmp State
+by_place states = from_entries (enumerate_from 0 states)
+
+-- members' states by their places
+abbrev pub members_of : List Member → FinMap nat_cmp State
+members_of ms = by_place (map state_of ms)
 
 -- the pending events by their keys
 abbrev pub events_in : BTreeMap Key Content → FinMap key_cmp Content
@@ -36,9 +41,9 @@ NoneIsDue events end = (q : Key) → contains_key events q ≡ true → end < q.
 abbrev pub pending_of : Cluster → FinMap key_cmp Content
 pending_of cluster = events_in cluster.pending
 
-abbrev pub world_of : Cluster → World Member Content
+abbrev pub world_of : Cluster → World State Content
 world_of cluster = record { members = members_of cluster.members.items; pending = pending_of cluster }
 
--- what a turn has made so far
-abbrev pub effect_of : Turn → Effect
-effect_of turn = record { state = turn.member; events = turn.events.items; rows = turn.rows.items }
+-- what a turn of the member has made so far
+abbrev pub effect_of : Member → Turn → Effect
+effect_of member turn = record { state = state_of member; events = turn.events.items; rows = turn.rows.items }

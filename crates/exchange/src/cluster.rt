@@ -4,17 +4,21 @@ ghost use Rattle.std.specs.FinMap.{remove};
 ghost use Rattle.base.specs.World.{with_events, IsOver};
 ghost use Rattle.base.specs.Run.{IsFirst};
 ghost use Rattle.scenario.specs.Setup.{member_count, IsSound};
+ghost use Rattle.links.specs.Arrival.{AreLinksOf};
 ghost use Rattle.exchange.specs.Opening.{opening};
+ghost use Rattle.exchange.specs.Among.{AreAmong};
 ghost use Rattle.exchange.specs.Advance.{Advances, WearsNext};
-ghost use Rattle.exchange.specs.View.{world_of, events_in, SomeIsDue, NoneIsDue};
+ghost use Rattle.exchange.specs.View.{world_of, pending_of, events_in, SomeIsDue, NoneIsDue};
 
 use crate::member::{Content, Member};
+use crate::setting::Setting;
 use crate::step::handle;
 use crate::turn::StepError;
 use base::{Key, MemberId, Moment};
 use scenario::Scenario;
 use std::alloc::Global;
 use std::collections::BTreeMap;
+use streams::Stream;
 use trace::Row;
 
 /// A cluster in the middle of its run: its members by their numbers, and the events that pend.
@@ -45,6 +49,7 @@ pub(crate) fn open(alloc: Global, scenario: &Scenario) -> Result<Cluster, StepEr
             next_number: 1,
             sequence: 0,
             probe: None,
+            stream: Stream::of(scenario.seed(), member),
         };
         match members.push(waiting) {
             Ok(()) => {}
@@ -105,18 +110,20 @@ pub(crate) fn add_events(
 pub(crate) fn advance(
     alloc: Global,
     cluster: &mut Cluster,
-    scenario: &Scenario,
+    setting: &Setting,
     end: Moment,
     rows: &mut Vec<Row>,
 ) -> Result<bool, StepError>
-    requires end { end ≡ scenario.now.end }
-    requires sound { IsSound scenario.now }
-    requires size { vec_len cluster.old.members ≡ member_count scenario.now }
-    ensures went { IfOk result (λ went. OnTrue went (Advances scenario.now (world_of cluster.old) (world_of cluster.new) rows.old.items rows.new.items)) }
-    ensures over { IfOk result (λ went. OnFalse went (IsOver scenario.now.end (world_of cluster.old))) }
+    requires end { end ≡ setting.now.scenario.now.end }
+    requires sound { IsSound setting.now.scenario.now }
+    requires fits { AreLinksOf setting.now.links setting.now.scenario.now }
+    requires size { vec_len cluster.old.members ≡ member_count setting.now.scenario.now }
+    requires among { AreAmong (member_count setting.now.scenario.now) (pending_of cluster.old) }
+    ensures went { IfOk result (λ went. OnTrue went (Advances setting.now.scenario.now (world_of cluster.old) (world_of cluster.new) rows.old.items rows.new.items)) }
+    ensures over { IfOk result (λ went. OnFalse went (IsOver setting.now.scenario.now.end (world_of cluster.old))) }
     ensures same { IfOk result (λ went. OnFalse went (rows.new.items ≡ rows.old.items)) }
-    ensures size { OnOk result (vec_len cluster.new.members ≡ member_count scenario.now) }
-    ensures worn { IsErrOf result StepError.Worn → WearsNext scenario.now (world_of cluster.old) }
+    ensures size { OnOk result (vec_len cluster.new.members ≡ member_count setting.now.scenario.now) }
+    ensures worn { IsErrOf result StepError.Worn → WearsNext setting.now.scenario.now (world_of cluster.old) }
 {
     let (key, content) = match take_due(&mut cluster.pending, end) {
         Some(event) => event,
@@ -126,8 +133,8 @@ pub(crate) fn advance(
     if receiver >= cluster.members.len() {
         return Ok(true);
     }
-    let member = cluster.members[receiver];
-    let turn = match handle(alloc, &key, content, member, scenario) {
+    let member = &mut cluster.members[receiver];
+    let turn = match handle(alloc, &key, content, member, setting) {
         Ok(turn) => turn,
         Err(error) => return Err(error),
     };
@@ -139,6 +146,5 @@ pub(crate) fn advance(
         Ok(()) => {}
         Err(_) => return Err(StepError::Memory),
     }
-    cluster.members[receiver] = turn.member;
     Ok(true)
 }

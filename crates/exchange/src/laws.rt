@@ -8,8 +8,8 @@ ghost use Rattle.base.specs.Rising.{IsRising, IsPlaceBefore, AreNew};
 ghost use Rattle.base.specs.declared.key.Key.{Key};
 ghost use Rattle.scenario.specs.Setup.{Setup, IsSound};
 ghost use Rattle.trace.specs.declared.row.Row.{Row};
-ghost use Rattle.exchange.specs.declared.member.Member.{Member};
 ghost use Rattle.exchange.specs.declared.member.Content.{Content};
+ghost use Rattle.exchange.specs.State.{State};
 ghost use Rattle.exchange.specs.Step.{step};
 ghost use Rattle.exchange.specs.Opening.{opening, IsRunOf};
 ghost use Rattle.exchange.specs.Rows.{place_of};
@@ -37,7 +37,7 @@ pub fn rows_rise()
 /// No two pending events share a key: wherever a run has come, the events that a step makes have keys
 /// that differ from each other and from those that pend.
 pub fn events_are_new()
-    ensures { (s : Setup) (keys : List Key) (rows : List Row) (w : World Member Content) (k : Key) (c : Content) → IsSound s
+    ensures { (s : Setup) (keys : List Key) (rows : List Row) (w : World State Content) (k : Key) (c : Content) → IsSound s
         → Run (step s) s.end (opening s) keys rows w → get w.pending k ≡ Some c
         → AreNew (remove w.pending k) (events_of (outcome (step s) w k c)) }
 {}

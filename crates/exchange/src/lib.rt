@@ -2,9 +2,14 @@
 #![tactic(auto)]
 
 mod cluster;
+#[cfg(test)]
+mod draw_tests;
 mod laws;
 mod member;
 mod run;
+mod setting;
+#[cfg(test)]
+mod slow_tests;
 mod step;
 #[cfg(test)]
 mod tests;

@@ -1,4 +1,6 @@
 use base::MemberId;
+use streams::Stream;
+use trace::What;
 
 /// What an event asks of its receiver.
 #[derive(Clone, Copy, Debug)]
@@ -15,6 +17,15 @@ pub(crate) enum Content {
     Ack { initiator: MemberId, seq: u64 },
 }
 
+/// A message to be sent, and what its row tells.
+#[derive(Clone, Copy, Debug)]
+pub(crate) struct Message {
+    pub(crate) what: What,
+    pub(crate) to: MemberId,
+    pub(crate) seq: u64,
+    pub(crate) content: Content,
+}
+
 /// The probe of the present period.
 #[derive(Clone, Copy, Debug)]
 pub(crate) struct Probe {
@@ -24,7 +35,7 @@ pub(crate) struct Probe {
 }
 
 /// A member: waiting for its start, or running.
-#[derive(Clone, Copy, Debug)]
+#[derive(Debug, Drop)]
 pub(crate) struct Member {
     pub(crate) running: bool,
     /// The number of the next event that it makes. Its start has number 0.
@@ -32,4 +43,6 @@ pub(crate) struct Member {
     /// The sequence number of its last probe.
     pub(crate) sequence: u64,
     pub(crate) probe: Option<Probe>,
+    /// Its draws.
+    pub(crate) stream: Stream,
 }

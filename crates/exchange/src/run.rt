@@ -1,14 +1,16 @@
-ghost use Rattle.std.specs.Prelude.{◌≡◌, ◌≢◌, ◌+◌, ◌<◌, ◌^◌, ◌↔◌, IfOk, OnOk, IfErr, OnErr, IsErrOf, IsTrue, All};
+ghost use Rattle.std.specs.Prelude.{ℕ, ◌≡◌, ◌≢◌, ◌+◌, ◌<◌, ◌^◌, ◌↔◌, IfOk, OnOk, IfErr, OnErr, IsErrOf, IsTrue, All};
 ghost use Rattle.std.specs.Io.KnownBytes.{Appends};
-ghost use Rattle.scenario.specs.Setup.{IsSound};
+ghost use Rattle.scenario.specs.Setup.{IsSound, member_count};
 ghost use Rattle.trace.specs.Sinks.{AppendsBeginning, failures_of_write};
 ghost use Rattle.trace.specs.Text.{NamesMembers, trace_text};
 ghost use Rattle.exchange.specs.Opening.{IsRunOf, WearsOut};
-ghost use Rattle.exchange.specs.Promise.{RunsYet, WritesTrace, WritesBeginning};
+ghost use Rattle.exchange.specs.Promise.{Stays, RunsYet, WritesTrace, WritesBeginning};
 
 use crate::cluster::{advance, open};
+use crate::setting::Setting;
 use crate::turn::StepError;
-use base::Fault;
+use base::{Fault, MemberId, Memory, Moment};
+use links::Links;
 use scenario::Scenario;
 use std::alloc::Global;
 use trace::{Row, Sink, Stopped, WriteError, write_head, write_rows};
@@ -20,14 +22,34 @@ pub struct Summary {
     pub rows: u64,
 }
 
-/// Whether the scenario can be run so far: members begin their first period at once, and there is one
+/// Whether the scenario can be run so far: members start at moment 0 and never crash, and there is one
 /// member, or there are two and the end is at most the period.
 pub fn runs_yet(scenario: &Scenario) -> bool
     ensures { IsTrue result ↔ RunsYet scenario.now }
 {
-    let swim = scenario.swim();
     let members = scenario.members();
-    swim.spread == 1 && (members == 1 || members == 2 && scenario.end().ticks() <= swim.period)
+    let few = members == 1 || members == 2 && scenario.end().ticks() <= scenario.period();
+    few && all_stay(scenario)
+}
+
+/// Whether all members start at moment 0 and never crash.
+fn all_stay(scenario: &Scenario) -> bool
+    ensures { IsTrue result ↔ ((m : ℕ) → m < member_count scenario.now → Stays scenario.now m) }
+{
+    for number in 0..scenario.members() {
+        if !stays(scenario, MemberId(number as u16)) {
+            return false;
+        }
+    }
+    true
+}
+
+/// Whether the member starts at moment 0 and never crashes.
+fn stays(scenario: &Scenario, member: MemberId) -> bool
+    requires { member < member_count scenario.now }
+    ensures { IsTrue result ↔ Stays scenario.now member }
+{
+    scenario.start(member) == Moment(0) && scenario.crash(member).is_none()
 }
 
 /// Runs the scenario on one thread, with one set of pending events, and writes its trace. `report` is
@@ -98,20 +120,25 @@ fn write_trace<A: Sink>(
 }
 
 /// All rows of the scenario's run, in the order made.
-fn simulate(alloc: Global, scenario: &Scenario) -> Result<Vec<Row>, StepError>
+pub(crate) fn simulate(alloc: Global, scenario: &Scenario) -> Result<Vec<Row>, StepError>
     ensures run { IfOk result (λ rows. IsRunOf scenario.now rows.items) }
     ensures named { IfOk result (λ rows. All (NamesMembers scenario.now) rows.items) }
     ensures worn { IsErrOf result StepError.Worn → WearsOut scenario.now }
     ensures sound { IsSound scenario.now }
 {
     let end = scenario.end();
+    let links = match Links::of(alloc, scenario) {
+        Ok(links) => links,
+        Err(Memory) => return Err(StepError::Memory),
+    };
+    let setting = Setting { scenario, links };
     let mut cluster = match open(alloc, scenario) {
         Ok(cluster) => cluster,
         Err(error) => return Err(error),
     };
     let mut rows = Vec::new(alloc);
     loop {
-        match advance(alloc, &mut cluster, scenario, end, &mut rows) {
+        match advance(alloc, &mut cluster, &setting, end, &mut rows) {
             Ok(true) => {}
             Ok(false) => return Ok(rows),
             Err(error) => return Err(error),

@@ -26,6 +26,24 @@ const TWO_PERIODS: &[u8] =
 const SPREAD: &[u8] =
     b"version = 1\nseed = 7\nend = 3\n[swim]\nperiod = 1000\ntimeout = 300\nspread = 2\n[link]\ndelay = 1\n[[group]]\nname = \"n\"\ncount = 2\n";
 
+const JITTER: &[u8] =
+    b"version = 1\nseed = 7\nend = 3\n[swim]\nperiod = 1000\ntimeout = 300\nspread = 1\n[link]\ndelay = 1\njitter = 1\n[[group]]\nname = \"n\"\ncount = 2\n";
+
+const LOSS: &[u8] =
+    b"version = 1\nseed = 7\nend = 3\n[swim]\nperiod = 1000\ntimeout = 300\nspread = 1\n[link]\ndelay = 1\nloss = 1\n[[group]]\nname = \"n\"\ncount = 2\n";
+
+const ALL_LOST: &[u8] =
+    b"version = 1\nseed = 7\nend = 1\n[swim]\nperiod = 1000\ntimeout = 300\nspread = 1\n[link]\ndelay = 10\nloss = 1000000\n[[group]]\nname = \"n\"\ncount = 2\n";
+
+const TWO_WAYS: &[u8] =
+    b"version = 1\nseed = 7\nend = 8\n[swim]\nperiod = 1000\ntimeout = 300\nspread = 1\n[link]\ndelay = 10\n[[group]]\nname = \"a\"\ncount = 1\n[[group]]\nname = \"b\"\ncount = 1\n[[path]]\nfrom = \"a\"\nto = \"b\"\ndelay = 3\n[[path]]\nfrom = \"b\"\nto = \"a\"\ndelay = 7\n";
+
+const CRASH: &[u8] =
+    b"version = 1\nseed = 7\nend = 3\n[swim]\nperiod = 1000\ntimeout = 300\nspread = 1\n[link]\ndelay = 1\n[[group]]\nname = \"n\"\ncount = 2\n[[crash]]\nmember = \"n-1\"\nat = 9\n";
+
+const LATE_START: &[u8] =
+    b"version = 1\nseed = 7\nend = 3\n[swim]\nperiod = 1000\ntimeout = 300\nspread = 1\n[link]\ndelay = 1\n[[group]]\nname = \"n\"\ncount = 1\n[[group]]\nname = \"m\"\ncount = 1\nstart = 9\ncontact = \"n-0\"\n";
+
 const THREE_MEMBERS: &[u8] =
     b"version = 1\nseed = 7\nend = 3\n[swim]\nperiod = 1000\ntimeout = 300\nspread = 1\n[link]\ndelay = 1\n[[group]]\nname = \"n\"\ncount = 2\n[[group]]\nname = \"m\"\ncount = 1\n";
 
@@ -35,6 +53,12 @@ const START_ONLY_ROWS: &str = "0,n-0,n-0,0,start,,0,0\n0,n-1,n-1,0,start,,0,0\n"
 
 const TWO_MEMBERS_ROWS: &str =
     "0,n-0,n-0,0,start,,0,0\n0,n-1,n-1,0,start,,0,0\n1,n-0,n-0,1,ping,n-1,1,0\n1,n-1,n-1,1,ping,n-0,1,0\n2,n-0,n-1,2,ack,n-1,1,0\n2,n-1,n-0,2,ack,n-0,1,0\n";
+
+const ALL_LOST_ROWS: &str =
+    "0,n-0,n-0,0,start,,0,0\n0,n-1,n-1,0,start,,0,0\n1,n-0,n-0,1,ping,n-1,1,1\n1,n-1,n-1,1,ping,n-0,1,1\n";
+
+const TWO_WAYS_ROWS: &str =
+    "0,a-0,a-0,0,start,,0,0\n0,b-0,b-0,0,start,,0,0\n1,a-0,a-0,1,ping,b-0,1,0\n1,b-0,b-0,1,ping,a-0,1,0\n4,b-0,a-0,2,ack,a-0,1,0\n8,a-0,b-0,2,ack,b-0,1,0\n";
 
 fn scenario_of(rt: &impl Abort, alloc: Global, text: &[u8]) -> Scenario {
     match read(alloc, text) {
@@ -88,6 +112,8 @@ fn the_first_runs(rt: HostRuntime) {
         (START_ONLY, START_ONLY_ROWS, 2),
         (ONE_MEMBER, "0,n-0,n-0,0,start,,0,0\n", 1),
         (TWO_MEMBERS, TWO_MEMBERS_ROWS, 6),
+        (ALL_LOST, ALL_LOST_ROWS, 4),
+        (TWO_WAYS, TWO_WAYS_ROWS, 6),
     ];
     for (text, lines, rows) in runs {
         let (outcome, sink) = run_into(&rt, rt.alloc(), text, MemorySink::new(rt.alloc()));
@@ -161,8 +187,13 @@ fn what_runs_so_far(rt: HostRuntime) {
         (ONE_MEMBER, true),
         (WHOLE_PERIOD, true),
         (TWO_PERIODS, false),
-        (SPREAD, false),
+        (SPREAD, true),
+        (JITTER, true),
+        (LOSS, true),
+        (TWO_WAYS, true),
         (THREE_MEMBERS, false),
+        (CRASH, false),
+        (LATE_START, false),
     ];
     for (text, runs) in texts {
         let scenario = scenario_of(&rt, rt.alloc(), text);

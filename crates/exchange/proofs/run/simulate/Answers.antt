@@ -5,8 +5,11 @@ use Rattle.exchange.specs.declared.turn.StepError.TheVariants.{Worn}
 use Rattle.exchange.specs.Advance.{Advances}
 use Rattle.exchange.specs.View.{world_of}
 use Rattle.exchange.proofs.Naming.{rows_named}
-use Rattle.exchange.proofs.Left.{HasRun, one_more, run_over, run_wears, fewer_left}
+use Rattle.exchange.proofs.Left.{HasRun, run_among, one_more, run_over, run_wears, fewer_left}
 use Rattle.exchange.proofs.run.simulate.Goals as goal
+
+pub advance-requires-clause-among : goal.advance-requires-clause-among
+advance-requires-clause-among c = run_among c.args.scenario.now (world_of c.loop-rows.cluster) c.loop-rows.rows.items c.loop-rows.invariant.run
 
 pub loop-rows-smaller : goal.loop-rows-smaller
 loop-rows-smaller c =
