@@ -1,3 +1,6 @@
 mod App
 mod Commands
+mod KeptLemmas
+mod Numbers
+mod Parts
 mod RunRows

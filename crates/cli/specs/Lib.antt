@@ -1,4 +1,8 @@
 pub mod Failures
 pub mod Words
+pub mod Division
 pub mod Printed
-pub mod Writers
+pub mod Files
+pub mod Memory
+pub mod Outcomes
+pub mod System

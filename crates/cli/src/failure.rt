@@ -1,9 +1,10 @@
 //! Why a command ends without doing what it was asked for, and what the user then sees.
 ghost use Rattle.std.specs.Prelude.{◌≡◌, ◌≤◌, Some, OnOk};
 ghost use Rattle.std.specs.Io.KnownBytes.{Appends};
-ghost use Rattle.cli.specs.Failures.{status_of, message_of, line_of, fault_number};
+ghost use Rattle.cli.specs.Failures.{status_of, message_of, line_of, fault_number, division_number};
 
 use base::Fault;
+use scenario::DivisionFault;
 use std::io::Write;
 use std::{fmt, io};
 
@@ -18,6 +19,10 @@ pub enum Failure<'a> {
     Rule(u8),
     /// The scenario can't be run so far.
     Stage,
+    /// What was said of workers is no number of them.
+    Workers,
+    /// There is no such division of the members.
+    Division(DivisionFault),
     /// The run was refused.
     Run(Fault),
     /// Memory was refused outside a run.
@@ -35,6 +40,7 @@ impl Failure<'_> {
             Failure::File(_) | Failure::Output => 1,
             Failure::Usage => 2,
             Failure::Rule(_) | Failure::Stage => 3,
+            Failure::Workers | Failure::Division(_) => 4,
             Failure::Run(_) | Failure::Memory => 5,
         }
     }
@@ -52,6 +58,17 @@ fn fault_number(fault: Fault) -> u8
     }
 }
 
+/// The number by which users know a fault of a division.
+fn division_number(fault: DivisionFault) -> u8
+    ensures { result ≡ division_number fault }
+{
+    match fault {
+        DivisionFault::Length => 1,
+        DivisionFault::PartNumber => 2,
+        DivisionFault::Parts => 3,
+    }
+}
+
 impl fmt::Display for Failure<'_> {
     // `Output` has a message for programmers alone: no line tells it.
     ghost output = { λ failure. Some (message_of failure) };
@@ -62,6 +79,11 @@ impl fmt::Display for Failure<'_> {
             Failure::Usage => write!(f, "usage"),
             Failure::Rule(rule) => write!(f, "scenario rule {rule}"),
             Failure::Stage => write!(f, "scenario stage"),
+            Failure::Workers => write!(f, "workers"),
+            Failure::Division(fault) => {
+                let number = division_number(*fault);
+                write!(f, "division V{number}")
+            }
             Failure::Run(fault) => {
                 let number = fault_number(*fault);
                 write!(f, "run F{number}")

@@ -1,17 +1,19 @@
 //! The program as a function over files and writers.
-ghost use Rattle.std.specs.Prelude.{◌≡◌, ◌≢◌, ◌⊎◌, ◌≤◌, map, IfOk, IfErr, OnOk, IsErrOf};
+ghost use Rattle.std.specs.Prelude.{◌≡◌, ◌≢◌, ◌⊎◌, ◌≤◌, map, Ok, IfOk, IfErr, OnOk, IsErrOf};
 ghost use Rattle.std.specs.Io.KnownBytes.{Appends};
 ghost use Rattle.exchange.specs.Promise.{RunsYet};
 ghost use Rattle.cli.specs.Words.{IsCommand, IsNoCommand};
-ghost use Rattle.cli.specs.Printed.{rows_line};
+ghost use Rattle.cli.specs.Printed.{members_line, rows_line};
+ghost use Rattle.cli.specs.Outcomes.{Done, Fails, Ends, RunsAll, RunFails, RunsFile, FileFails, RunsScenario, ScenarioFails, TracesRun, TraceFails, HasVerdict, LoadFails};
 
+use crate::division::{division_asked, workers_asked};
 use crate::failure::{Failure, refuse};
 use crate::files::{FileFault, Files};
 use crate::simulation::{check, simulate};
 use crate::words::{Asked, RunWords, parse};
 use clap::Error;
-use exchange::Summary;
-use scenario::Scenario;
+use exchange::{Summary, runs_yet};
+use scenario::{Scenario, Workers};
 use std::alloc::Global;
 use std::convert::AsStr;
 use std::io::Write;
@@ -28,6 +30,16 @@ pub fn command<S: AsStr, F: Files, O: Write, E: Write>(
     err: &mut E,
 ) -> u8
     ensures range { result ≤ 5 }
+
+    // Status 0: what the words ask for was done. A run has left its trace in the file of that name,
+    // and told standard output the number of its rows; a check, the number of members.
+    ensures done { result ≡ 0 → Done (map S.text words.now) (F.known files.old) (F.known files.new)
+        (O.contents out.old) (O.contents out.new) }
+
+    // Any other status has its cause, which the files and the words bear out.
+    ensures failed { result ≢ 0
+        → Ends (map S.text words.now) (F.known files.old) (F.known files.new) (F.makes files.old)
+        out.old out.new result }
 
     // Status 2 is for words that are no command. They get it, unless memory is refused.
     ensures usage { result ≡ 2 → IsNoCommand (map S.text words.now) }
@@ -50,7 +62,11 @@ fn perform<'a, S: AsStr, F: Files, O: Write>(
     files: &mut F,
     out: &mut O,
 ) -> Result<(), Failure<'a>>
-    ensures done { OnOk result (IsCommand (map S.text words.entry.now)) }
+    ensures done { OnOk result (Done (map S.text words.entry.now) (F.known files.old) (F.known files.new)
+        (O.contents out.old) (O.contents out.new)) }
+    ensures failed { IfErr result
+        (Fails (map S.text words.entry.now) (F.known files.old) (F.known files.new) (F.makes files.old)) }
+    ensures command { OnOk result (IsCommand (map S.text words.entry.now)) }
     ensures other { ¬ (IsCommand (map S.text words.entry.now))
         → IfErr result (λ failure. (failure ≡ Failure.Usage) ⊎ (failure ≡ Failure.Memory)) }
     ensures usage { IsErrOf result Failure.Usage → IsNoCommand (map S.text words.entry.now) }
@@ -66,6 +82,10 @@ fn perform<'a, S: AsStr, F: Files, O: Write>(
             Ok(summary) => print_rows(summary.rows, out),
             Err(failure) => Err(failure),
         },
+        Asked::Check(file) => match load(alloc, file, files) {
+            Ok(scenario) => print_members(scenario.members(), out),
+            Err(failure) => Err(failure),
+        },
     }
 }
 
@@ -75,6 +95,17 @@ fn print_rows<'a, O: Write>(rows: u64, out: &mut O) -> Result<(), Failure<'a>>
     ensures failure { IfErr result (λ failure. failure ≡ Failure.Output) }
 {
     if writeln!(out, "rows {rows}").is_err() || out.flush().is_err() {
+        return Err(Failure::Output);
+    }
+    Ok(())
+}
+
+/// Prints how many members a scenario has.
+fn print_members<'a, O: Write>(members: usize, out: &mut O) -> Result<(), Failure<'a>>
+    ensures printed { OnOk result (Appends (O.contents out.old) (O.contents out.new) (members_line members)) }
+    ensures failure { IfErr result (λ failure. failure ≡ Failure.Output) }
+{
+    if writeln!(out, "members {members}").is_err() || out.flush().is_err() {
         return Err(Failure::Output);
     }
     Ok(())
@@ -96,32 +127,94 @@ fn run<'a, F: Files>(
     words: RunWords<'a>,
     files: &mut F,
 ) -> Result<Summary, Failure<'a>>
-    ensures { IfErr result (λ failure. (failure ≢ Failure.Usage) × (failure ≢ Failure.Output)) }
+    ensures done { IfOk result
+        (λ summary. RunsAll (F.known files.old) (F.known files.new) words.entry summary.rows) }
+    ensures failed { IfErr result
+        (RunFails (F.known files.old) (F.known files.new) (F.makes files.old) words.entry) }
 {
-    let scenario = match load(alloc, words.file, files) {
-        Ok(scenario) => scenario,
-        Err(failure) => return Err(failure),
-    };
-    let made = match files.make(words.trace) {
-        Ok(made) => made,
-        Err(fault) => return Err(file_failure(fault, words.trace)),
-    };
-    let (made, outcome) = simulate(alloc, &scenario, made);
-    files.close(words.trace, made);
-    match outcome {
-        Ok(summary) => Ok(summary),
-        Err(fault) => Err(Failure::Run(fault)),
+    match workers_asked(words.workers) {
+        Ok(workers) => run_file(alloc, words, workers, files),
+        Err(failure) => Err(failure),
     }
 }
 
-/// The scenario of a file, which can be run.
+/// Runs the scenario of one file with so many workers, and writes its trace to another.
+fn run_file<'a, F: Files>(
+    alloc: Global,
+    words: RunWords<'a>,
+    workers: Workers,
+    files: &mut F,
+) -> Result<Summary, Failure<'a>>
+    ensures done { IfOk result
+        (λ summary. RunsFile (F.known files.old) (F.known files.new) workers words.entry summary.rows) }
+    ensures failed { IfErr result
+        (FileFails (F.known files.old) (F.known files.new) (F.makes files.old) workers words.entry) }
+{
+    match load(alloc, words.file, files) {
+        Ok(scenario) => run_scenario(alloc, &scenario, words, workers, files),
+        Err(failure) => Err(failure),
+    }
+}
+
+/// Divides a scenario as the words say, runs it with so many workers, and writes its trace to a file.
+fn run_scenario<'a, F: Files>(
+    alloc: Global,
+    scenario: &Scenario,
+    words: RunWords<'a>,
+    workers: Workers,
+    files: &mut F,
+) -> Result<Summary, Failure<'a>>
+    ensures done { IfOk result (λ summary. RunsScenario scenario.now (F.known files.old) (F.known files.new)
+        workers words.entry summary.rows) }
+    ensures failed { IfErr result (ScenarioFails scenario.now (F.known files.old) (F.known files.new)
+        (F.makes files.old) workers words.entry) }
+{
+    // the runs of today are the same for each division
+    let _division = match division_asked(alloc, scenario, words.split, workers) {
+        Ok(division) => division,
+        Err(failure) => return Err(failure),
+    };
+    if !runs_yet(scenario) {
+        return Err(Failure::Stage);
+    }
+    trace_run(alloc, scenario, words.trace, files)
+}
+
+/// The scenario of a file.
 fn load<'a, F: Files>(alloc: Global, name: &'a str, files: &mut F) -> Result<Scenario, Failure<'a>>
-    ensures runs { IfOk result RunsYet }
-    ensures failures { IfErr result (λ failure. (failure ≢ Failure.Usage) × (failure ≢ Failure.Output)) }
+    ensures accepted { IfOk result (λ scenario. HasVerdict (F.known files.old name.entry.now) (Ok scenario)) }
+    ensures failed { IfErr result (LoadFails (F.known files.old name.entry.now) name.entry.now) }
+    ensures same { F.known files.new ≡ F.known files.old }
+    ensures makes { F.makes files.new ≡ F.makes files.old }
 {
     match files.read(alloc, name) {
         Ok(bytes) => check(alloc, bytes.as_slice()),
         Err(fault) => Err(file_failure(fault, name)),
+    }
+}
+
+/// Runs a scenario, and writes its trace to the file of a name.
+fn trace_run<'a, F: Files>(
+    alloc: Global,
+    scenario: &Scenario,
+    name: &'a str,
+    files: &mut F,
+) -> Result<Summary, Failure<'a>>
+    requires { RunsYet scenario.now }
+    ensures done { IfOk result (λ summary. TracesRun scenario.now (F.known files.old) (F.known files.new)
+        name.entry.now summary.rows) }
+    ensures failed { IfErr result (TraceFails scenario.now (F.known files.old) (F.known files.new)
+        (F.makes files.old) name.entry.now) }
+{
+    let made = match files.make(name) {
+        Ok(made) => made,
+        Err(fault) => return Err(file_failure(fault, name)),
+    };
+    let (made, outcome) = simulate(alloc, scenario, made);
+    files.close(name, made);
+    match outcome {
+        Ok(summary) => Ok(summary),
+        Err(fault) => Err(Failure::Run(fault)),
     }
 }
 

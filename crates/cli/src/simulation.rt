@@ -1,14 +1,13 @@
 //! From a scenario's bytes to its trace.
-ghost use Rattle.std.specs.Prelude.{◌≡◌, ◌≢◌, ℕ, Ok, Err, IfOk, IfErr, OnErr, IsErrOf};
+ghost use Rattle.std.specs.Prelude.{◌≡◌, ◌≢◌, Ok, IfOk, IfErr, OnErr, IsErrOf};
 ghost use Rattle.scenario.specs.Rules.{verdict};
-ghost use Rattle.scenario.specs.Setup.{Setup};
 ghost use Rattle.exchange.specs.Opening.{WearsOut};
-ghost use Rattle.cli.specs.Failures.{IsScenarioFailure};
+ghost use Rattle.cli.specs.Failures.{RefusesText};
 ghost use Rattle.exchange.specs.Promise.{RunsYet, WritesTrace, WritesBeginning};
 
 use crate::failure::Failure;
 use base::Fault;
-use exchange::{Summary, run_one, runs_yet};
+use exchange::{Summary, run_one};
 use scenario::Scenario;
 use std::alloc::Global;
 use std::io;
@@ -18,20 +17,15 @@ use trace::Put;
 /// The number of the rule that stands for want of memory.
 const MEMORY_RULE: u8 = 11;
 
-/// The scenario of a text, which can be run.
+/// The scenario of a text.
 ///
-/// Failures: `Rule`, the least rule that the text breaks; `Stage` where the scenario can't be run so
-/// far; `Memory`.
+/// Failures: `Rule`, the least rule that the text breaks; `Memory`.
 pub fn check(alloc: Global, bytes: &[u8]) -> Result<Scenario, Failure<'static>>
-    ensures runs { IfOk result RunsYet }
     ensures accepted { IfOk result (λ scenario. verdict bytes.now ≡ Ok scenario) }
-    ensures refused { IfErr result (λ failure. (rule : ℕ) → failure ≡ Failure.Rule rule → verdict bytes.now ≡ Err rule) }
-    ensures stage { IsErrOf result Failure.Stage → (setup : Setup) × (verdict bytes.now ≡ Ok setup) × ¬ (RunsYet setup) }
-    ensures failures { IfErr result (λ failure. IsScenarioFailure failure) }
+    ensures refused { IfErr result (RefusesText bytes.now) }
 {
     match scenario::read(alloc, bytes) {
-        Ok(scenario) if runs_yet(&scenario) => Ok(scenario),
-        Ok(_) => Err(Failure::Stage),
+        Ok(scenario) => Ok(scenario),
         Err(refusal) if refusal.rule == MEMORY_RULE => Err(Failure::Memory),
         Err(refusal) => Err(Failure::Rule(refusal.rule)),
     }

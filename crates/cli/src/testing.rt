@@ -1,6 +1,7 @@
 //! Files and writers over memory, which fail where a test wants them to.
-ghost use Rattle.std.specs.Prelude.{◌≡◌, ◌≤◌, [], Some, IfSome};
-ghost use Rattle.cli.specs.Writers.{written_by};
+ghost use Rattle.std.specs.Prelude.{◌≡◌, ◌≤◌, ℕ, List, [], Some, None, true, false, option_map, position, IfSome, OnOk, OnErr};
+ghost use Rattle.cli.specs.Files.{KeepsOthers};
+ghost use Rattle.cli.specs.Memory.{written_by, writer_fails, has_name, kept_bytes, can_make, made_fail, with_can_make, with_fails};
 
 use crate::files::{FileFault, Files};
 use std::alloc::{AllocError, Global};
@@ -31,7 +32,8 @@ pub struct MemoryWriter {
 impl MemoryWriter {
     /// A writer with no bytes yet.
     pub fn new(alloc: Global, fails: Fails) -> MemoryWriter
-        ensures { written_by result ≡ [] }
+        ensures empty { written_by result ≡ [] }
+        ensures fails { writer_fails result ≡ fails }
     {
         MemoryWriter {
             bytes: Vec::new(alloc),
@@ -101,8 +103,12 @@ pub struct MemoryFiles {
 }
 
 impl MemoryFiles {
-    /// No files yet.
-    pub fn new(alloc: Global) -> MemoryFiles {
+    /// No files yet. Files can be made, and do not fail.
+    pub fn new(alloc: Global) -> MemoryFiles
+        ensures empty { (name : List ℕ) → kept_bytes result name ≡ None }
+        ensures makes { can_make result ≡ true }
+        ensures fails { made_fail result ≡ Fails.Never }
+    {
         MemoryFiles {
             alloc,
             kept: Vec::new(alloc),
@@ -112,43 +118,66 @@ impl MemoryFiles {
     }
 
     /// The same files, where none can be made.
-    pub fn refusing_to_make(mut self) -> MemoryFiles {
+    pub fn refusing_to_make(mut self) -> MemoryFiles
+        ensures { result ≡ with_can_make self false }
+    {
         self.can_make = false;
         self
     }
 
     /// The same files, where those that are made fail in this way.
-    pub fn failing(mut self, fails: Fails) -> MemoryFiles {
+    pub fn failing(mut self, fails: Fails) -> MemoryFiles
+        ensures { result ≡ with_fails self fails }
+    {
         self.fails = fails;
         self
     }
 
     /// Keeps a file of this name and these bytes, in the place of one that has the name already.
-    pub fn keep(&mut self, name: &str, bytes: &[u8]) -> Result<(), AllocError> {
+    /// Nothing changes where memory is refused.
+    pub fn keep(&mut self, name: &str, bytes: &[u8]) -> Result<(), AllocError>
+        ensures kept { OnOk result (kept_bytes self.new name.now ≡ Some bytes.now) }
+        ensures others { KeepsOthers (kept_bytes self.old) (kept_bytes self.new) name.now }
+        ensures same { OnErr result (kept_bytes self.new ≡ kept_bytes self.old) }
+        ensures makes { can_make self.new ≡ can_make self.old }
+        ensures fails { made_fail self.new ≡ made_fail self.old }
+    {
         let bytes = Vec::from_slice(self.alloc, bytes)?;
         self.store(name, bytes)
     }
 
     /// The bytes of a file.
-    pub fn bytes(&self, name: &str) -> Option<&[u8]> {
-        for file in &self.kept {
-            if file.name.as_str() == name {
-                return Some(file.bytes.as_slice());
-            }
-        }
-        None
+    pub fn bytes(&self, name: &str) -> Option<&[u8]>
+        ensures { option_map (λ bytes. bytes.now) result ≡ kept_bytes self.now name.now }
+    {
+        let file = self.kept.iter().find(|file| file.name.as_str() == name)?;
+        Some(file.bytes.as_slice())
     }
 
-    /// Stores the bytes under the name. A name that is there takes no memory.
-    fn store(&mut self, name: &str, bytes: Vec<u8>) -> Result<(), AllocError> {
-        for file in self.kept.iter_mut() {
-            if file.name.as_str() == name {
-                file.bytes = bytes;
-                return Ok(());
+    /// Where the file of a name stands.
+    fn place(&self, name: &str) -> Option<usize>
+        ensures { result ≡ position (has_name name.now) self.now.kept.items }
+    {
+        self.kept.iter().position(|file| file.name.as_str() == name)
+    }
+
+    /// Stores the bytes under the name. A name that is there takes no memory, and nothing changes
+    /// where memory is refused.
+    fn store(&mut self, name: &str, bytes: Vec<u8>) -> Result<(), AllocError>
+        ensures stored { OnOk result (kept_bytes self.new name.now ≡ Some bytes.items) }
+        ensures others { KeepsOthers (kept_bytes self.old) (kept_bytes self.new) name.now }
+        ensures same { OnErr result (kept_bytes self.new ≡ kept_bytes self.old) }
+        ensures there { OnErr result (kept_bytes self.old name.now ≡ None) }
+        ensures makes { can_make self.new ≡ can_make self.old }
+        ensures fails { made_fail self.new ≡ made_fail self.old }
+    {
+        match self.place(name) {
+            Some(place) => self.kept[place].bytes = bytes,
+            None => {
+                let name = String::from_str(self.alloc, name)?;
+                self.kept.push(Kept { name, bytes })?;
             }
         }
-        let name = String::from_str(self.alloc, name)?;
-        self.kept.push(Kept { name, bytes })?;
         Ok(())
     }
 }
@@ -156,9 +185,17 @@ impl MemoryFiles {
 impl Files for MemoryFiles {
     type Made = MemoryWriter;
 
+    // all is known
+    ghost known = { λ files name. Some (kept_bytes files name) };
+
+    ghost makes = { can_make };
+
     fn read(&mut self, alloc: Global, name: &str) -> Result<Vec<u8>, FileFault> {
         match self.bytes(name) {
-            Some(bytes) => Vec::from_slice(alloc, bytes).map_err(|_| FileFault::Memory),
+            Some(bytes) => match Vec::from_slice(alloc, bytes) {
+                Ok(bytes) => Ok(bytes),
+                Err(_) => Err(FileFault::Memory),
+            },
             None => Err(FileFault::Refused),
         }
     }

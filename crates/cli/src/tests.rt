@@ -1,6 +1,7 @@
 use crate::testing::{Fails, MemoryFiles, MemoryWriter};
 use crate::{Failure, command, refuse};
 use base::Fault;
+use scenario::DivisionFault;
 use std::process::Abort;
 use std::test::Fail;
 
@@ -95,6 +96,302 @@ fn a_run_writes_its_trace(rt: HostRuntime) -> Result<(), Fail> {
     Ok(())
 }
 
+/// Files that hold a scenario of two members, one of three, which can't be run so far, and a text that
+/// breaks rule 2.
+fn three_files(rt: &HostRuntime) -> Result<MemoryFiles, Fail> {
+    let mut files = files_with(rt, TWO)?;
+    let three = TWO.replace(rt.alloc(), "count = 2", "count = 3")?;
+    files.keep("three.toml", three.as_bytes())?;
+    files.keep("bad.toml", b"version = 1")?;
+    Ok(files)
+}
+
+/// Words, and the status, standard output and standard error of their command, over `three_files`.
+const OUTCOMES: [(&str, u8, &str, &str); 45] = [
+    ("run two.toml --trace t.csv", 0, "rows 6\n", ""),
+    ("check two.toml", 0, "members 2\n", ""),
+    ("check three.toml", 0, "members 3\n", ""),
+    (
+        "run two.toml --trace t.csv --parts 1 --division 0,0",
+        2,
+        "",
+        "swimsim: usage\n",
+    ),
+    (
+        "run two.toml --trace t.csv --workers",
+        2,
+        "",
+        "swimsim: usage\n",
+    ),
+    (
+        "run two.toml --trace t.csv --workers 1 --workers 1",
+        2,
+        "",
+        "swimsim: usage\n",
+    ),
+    (
+        "run two.toml --trace t.csv --report r",
+        2,
+        "",
+        "swimsim: usage\n",
+    ),
+    ("check two.toml --parts 1", 2, "", "swimsim: usage\n"),
+    ("check", 2, "", "swimsim: usage\n"),
+    ("run two.toml --trace t.csv --workers 1", 0, "rows 6\n", ""),
+    ("run two.toml --trace t.csv --workers 64", 0, "rows 6\n", ""),
+    ("run two.toml --trace t.csv --workers=9", 0, "rows 6\n", ""),
+    (
+        "run two.toml --trace t.csv --workers 0",
+        4,
+        "",
+        "swimsim: workers\n",
+    ),
+    (
+        "run two.toml --trace t.csv --workers 65",
+        4,
+        "",
+        "swimsim: workers\n",
+    ),
+    (
+        "run two.toml --trace t.csv --workers 257",
+        4,
+        "",
+        "swimsim: workers\n",
+    ),
+    (
+        "run two.toml --trace t.csv --workers 01",
+        4,
+        "",
+        "swimsim: workers\n",
+    ),
+    (
+        "run two.toml --trace t.csv --workers +1",
+        4,
+        "",
+        "swimsim: workers\n",
+    ),
+    (
+        "run two.toml --trace t.csv --workers=-1",
+        4,
+        "",
+        "swimsim: workers\n",
+    ),
+    (
+        "run two.toml --trace t.csv --workers=",
+        4,
+        "",
+        "swimsim: workers\n",
+    ),
+    (
+        "run two.toml --trace t.csv --workers 1.",
+        4,
+        "",
+        "swimsim: workers\n",
+    ),
+    (
+        "run two.toml --trace t.csv --workers two",
+        4,
+        "",
+        "swimsim: workers\n",
+    ),
+    ("check absent", 1, "", "swimsim: file absent\n"),
+    ("check bad.toml", 3, "", "swimsim: scenario rule 2\n"),
+    ("run two.toml --trace t.csv --parts 1", 0, "rows 6\n", ""),
+    (
+        "run two.toml --trace t.csv --parts 64 --workers 2",
+        0,
+        "rows 6\n",
+        "",
+    ),
+    (
+        "run two.toml --trace t.csv --parts 0",
+        4,
+        "",
+        "swimsim: division V3\n",
+    ),
+    (
+        "run two.toml --trace t.csv --parts 65",
+        4,
+        "",
+        "swimsim: division V3\n",
+    ),
+    (
+        "run two.toml --trace t.csv --parts 1000",
+        4,
+        "",
+        "swimsim: division V3\n",
+    ),
+    (
+        "run two.toml --trace t.csv --parts 064",
+        4,
+        "",
+        "swimsim: division V3\n",
+    ),
+    (
+        "run two.toml --trace t.csv --parts +1",
+        4,
+        "",
+        "swimsim: division V3\n",
+    ),
+    (
+        "run two.toml --trace t.csv --parts=",
+        4,
+        "",
+        "swimsim: division V3\n",
+    ),
+    (
+        "run two.toml --trace t.csv --division 0,0",
+        0,
+        "rows 6\n",
+        "",
+    ),
+    (
+        "run two.toml --trace t.csv --division 63,0",
+        0,
+        "rows 6\n",
+        "",
+    ),
+    (
+        "run two.toml --trace t.csv --division 0",
+        4,
+        "",
+        "swimsim: division V1\n",
+    ),
+    (
+        "run two.toml --trace t.csv --division 0,0,0",
+        4,
+        "",
+        "swimsim: division V1\n",
+    ),
+    (
+        "run two.toml --trace t.csv --division=",
+        4,
+        "",
+        "swimsim: division V1\n",
+    ),
+    (
+        "run two.toml --trace t.csv --division 0,64",
+        4,
+        "",
+        "swimsim: division V2\n",
+    ),
+    (
+        "run two.toml --trace t.csv --division 0,00",
+        4,
+        "",
+        "swimsim: division V2\n",
+    ),
+    (
+        "run two.toml --trace t.csv --division 0,+1",
+        4,
+        "",
+        "swimsim: division V2\n",
+    ),
+    (
+        "run two.toml --trace t.csv --division 0,",
+        4,
+        "",
+        "swimsim: division V2\n",
+    ),
+    (
+        "run two.toml --trace t.csv --division ,0",
+        4,
+        "",
+        "swimsim: division V2\n",
+    ),
+    (
+        "run two.toml --trace t.csv --division 0;0",
+        4,
+        "",
+        "swimsim: division V1\n",
+    ),
+    (
+        "run two.toml --trace t.csv --division 0,256",
+        4,
+        "",
+        "swimsim: division V2\n",
+    ),
+    (
+        "run two.toml --trace t.csv --division 0,0,64",
+        4,
+        "",
+        "swimsim: division V1\n",
+    ),
+    (
+        "run two.toml --trace t.csv --division a",
+        4,
+        "",
+        "swimsim: division V1\n",
+    ),
+];
+
+#[test]
+fn each_outcome_has_its_status_and_line(rt: HostRuntime) -> Result<(), Fail> {
+    for (line, status, out, err) in OUTCOMES.iter() {
+        let words: Vec<&str> = line.split(' ').collect(rt.alloc())?;
+        let left = left_by(&rt, words.as_slice(), three_files(&rt)?, Fails::Never);
+        assert_eq!(rt; left.err.bytes(), err.as_bytes(), "{line}");
+        assert_eq!(rt; left.out.bytes(), out.as_bytes(), "{line}");
+        assert_eq!(rt; left.status, *status, "{line}");
+        let trace = (*out == "rows 6\n").then_some(TRACE.as_bytes());
+        assert_eq!(rt; left.files.bytes("t.csv"), trace, "{line}");
+    }
+    Ok(())
+}
+
+#[test]
+fn the_first_check_that_fails_is_told(rt: HostRuntime) -> Result<(), Fail> {
+    for (line, status, err) in [
+        (
+            "run absent --trace t.csv --parts 1 --division 0 --workers 0",
+            2,
+            "swimsim: usage\n",
+        ),
+        (
+            "run absent --trace t.csv --workers 0 --parts 0",
+            4,
+            "swimsim: workers\n",
+        ),
+        (
+            "run absent --trace t.csv --parts 0",
+            1,
+            "swimsim: file absent\n",
+        ),
+        (
+            "run bad.toml --trace t.csv --parts 0",
+            3,
+            "swimsim: scenario rule 2\n",
+        ),
+        (
+            "run three.toml --trace t.csv --parts 0",
+            4,
+            "swimsim: division V3\n",
+        ),
+        (
+            "run three.toml --trace t.csv --division 0,0",
+            4,
+            "swimsim: division V1\n",
+        ),
+        (
+            "run three.toml --trace t.csv --division 0,0,0",
+            3,
+            "swimsim: scenario stage\n",
+        ),
+        (
+            "run two.toml --trace t.csv --parts 0",
+            4,
+            "swimsim: division V3\n",
+        ),
+        ("run two.toml --trace t.csv", 1, "swimsim: file t.csv\n"),
+    ] {
+        let words: Vec<&str> = line.split(' ').collect(rt.alloc())?;
+        let locked = three_files(&rt)?.refusing_to_make();
+        let left = left_by(&rt, words.as_slice(), locked, Fails::Never);
+        expect_refusal(&rt, &left, status, err);
+    }
+    Ok(())
+}
+
 #[test]
 fn runs_without_messages_write_their_starts(rt: HostRuntime) -> Result<(), Fail> {
     for (end, count, line, trace) in [
@@ -144,8 +441,10 @@ fn other_words_are_no_command(rt: HostRuntime) -> Result<(), Fail> {
     let twice = ["run", "two.toml", "--trace", "t.csv", "--trace", "u.csv"];
     let two_files = ["run", "two.toml", "one.toml", "--trace", "t.csv"];
     let no_command = ["two.toml", "--trace", "t.csv"];
-    let unknown = ["run", "two.toml", "--trace", "t.csv", "--workers", "2"];
-    let check = ["check", "two.toml"];
+    let unknown = ["run", "two.toml", "--trace", "t.csv", "--report", "r"];
+    let check_alone = ["check"];
+    let check_two = ["check", "two.toml", "one.toml"];
+    let check_workers = ["check", "two.toml", "--workers", "2"];
     let version = ["--version"];
     for words in [
         none.as_slice(),
@@ -156,7 +455,9 @@ fn other_words_are_no_command(rt: HostRuntime) -> Result<(), Fail> {
         two_files.as_slice(),
         no_command.as_slice(),
         unknown.as_slice(),
-        check.as_slice(),
+        check_alone.as_slice(),
+        check_two.as_slice(),
+        check_workers.as_slice(),
         version.as_slice(),
     ] {
         let left = left_by(&rt, words, files_with(&rt, TWO)?, Fails::Never);
@@ -172,11 +473,16 @@ fn help_is_printed(rt: HostRuntime) -> Result<(), Fail> {
     let short = ["-h"];
     let named = ["help"];
     let of_run = ["run", "--help"];
+    let of_check = ["check", "--help"];
     for (words, usage) in [
         (long.as_slice(), "Usage: swimsim <COMMAND>"),
         (short.as_slice(), "Usage: swimsim <COMMAND>"),
         (named.as_slice(), "Usage: swimsim <COMMAND>"),
-        (of_run.as_slice(), "Usage: swimsim run --trace <T> <FILE>"),
+        (
+            of_run.as_slice(),
+            "Usage: swimsim run [OPTIONS] --trace <T> <FILE>",
+        ),
+        (of_check.as_slice(), "Usage: swimsim check <FILE>"),
     ] {
         let left = left_by(&rt, words, files_with(&rt, TWO)?, Fails::Never);
         assert_eq!(rt; left.status, 0);
@@ -205,8 +511,6 @@ fn scenarios_are_refused_by_their_rule(rt: HostRuntime) -> Result<(), Fail> {
             "timeout = 1000",
             "swimsim: scenario rule 9\n",
         ),
-        ("spread = 1", "spread = 2", "swimsim: scenario stage\n"),
-        ("end = 3", "end = 1001", "swimsim: scenario stage\n"),
         ("count = 2", "count = 3", "swimsim: scenario stage\n"),
     ] {
         let text = TWO.replace(rt.alloc(), old, new)?;
@@ -236,20 +540,6 @@ fn files_that_are_not_there_are_named(rt: HostRuntime) -> Result<(), Fail> {
     let locked = files_with(&rt, TWO)?.refusing_to_make();
     let left = run_over(&rt, locked);
     expect_refusal(&rt, &left, 1, "swimsim: file t.csv\n");
-    Ok(())
-}
-
-#[test]
-fn a_check_comes_before_those_after_it(rt: HostRuntime) -> Result<(), Fail> {
-    // the scenario before the trace's file
-    let locked = files_with(&rt, "version = 2")?.refusing_to_make();
-    let left = run_over(&rt, locked);
-    expect_refusal(&rt, &left, 3, "swimsim: scenario rule 2\n");
-
-    // the words before the files
-    let unknown = ["run", "absent.toml", "--trace"];
-    let left = left_by(&rt, unknown.as_slice(), files_with(&rt, TWO)?, Fails::Never);
-    expect_refusal(&rt, &left, 2, "swimsim: usage\n");
     Ok(())
 }
 
@@ -307,6 +597,17 @@ fn standard_output_that_fails_ends_with_no_line(rt: HostRuntime) -> Result<(), F
     Ok(())
 }
 
+#[test]
+fn a_check_that_is_not_told_fails(rt: HostRuntime) -> Result<(), Fail> {
+    let words = ["check", "two.toml"];
+    for fails in [Fails::AtWrite(1), Fails::After(3), Fails::AtFlush] {
+        let left = left_by(&rt, words.as_slice(), files_with(&rt, TWO)?, fails);
+        assert_eq!(rt; left.status, 1);
+        assert_eq!(rt; left.err.bytes().len(), 0);
+    }
+    Ok(())
+}
+
 /// To be tried with allocations failing (`rt try --test --fail-alloc N`): what is told as done was
 /// done.
 #[test]
@@ -333,6 +634,22 @@ fn each_failure_has_its_line_and_status(rt: HostRuntime) {
         (Failure::Usage, "swimsim: usage\n", 2),
         (Failure::Rule(10), "swimsim: scenario rule 10\n", 3),
         (Failure::Stage, "swimsim: scenario stage\n", 3),
+        (Failure::Workers, "swimsim: workers\n", 4),
+        (
+            Failure::Division(DivisionFault::Length),
+            "swimsim: division V1\n",
+            4,
+        ),
+        (
+            Failure::Division(DivisionFault::PartNumber),
+            "swimsim: division V2\n",
+            4,
+        ),
+        (
+            Failure::Division(DivisionFault::Parts),
+            "swimsim: division V3\n",
+            4,
+        ),
         (Failure::Run(Fault::Memory), "swimsim: run F1\n", 5),
         (Failure::Run(Fault::Worn), "swimsim: run F2\n", 5),
         (Failure::Run(Fault::Write), "swimsim: run F3\n", 5),

@@ -1,14 +1,27 @@
 //! What the words of a command line ask for.
-ghost use Rattle.std.specs.Prelude.{◌≡◌, ◌⊎◌, map, IfOk, IfErr, IfSome, IsNone, IsErrOf, List, ℕ, false};
-ghost use Rattle.clap.specs.Words.{FailsBy, app_of, fault_of, subcommand_of, subcommand_rows_of};
+ghost use Rattle.std.specs.Prelude.{◌≡◌, ◌⊎◌, map, option_map, IfOk, IfErr, IfSome, IsNone, IsErrOf, List, ℕ, false};
+ghost use Rattle.clap.specs.Words.{FailsBy, app_of, fault_of, first_of, found_of, rows_of, rule_of, subcommand_of, subcommand_rows_of};
 ghost use Rattle.clap.specs.declared.builder.command.Command.TheViews.{out-Command};
-ghost use Rattle.cli.specs.Words.{run_app, swimsim_app, Answers, IsNoCommand, IsRunIn};
+ghost use Rattle.cli.specs.declared.words.RunWords.{RunWords as Wish};
+ghost use Rattle.cli.specs.declared.words.Split.{Split as Wanted};
+ghost use Rattle.cli.specs.Words.{check_app, file_rule, option_rule, run_app, swimsim_app, Answers, IsCheckIn, IsNoCommand, IsRunIn, IsSplitIn};
 
 use crate::failure::Failure;
 use clap::error::ErrorKind;
 use clap::{Arg, ArgMatches, Command, Error};
 use std::alloc::{AllocError, Global};
 use std::convert::AsStr;
+
+/// How the members are to be divided into parts, in the words of the command line.
+#[derive(Clone, Copy, Debug, PartialEq, Eq)]
+pub enum Split<'a> {
+    /// Member m in the part m modulo the number of workers.
+    Workers,
+    /// Member m in the part m modulo this number.
+    Parts(&'a str),
+    /// Each member in the part that its item of this list names.
+    List(&'a str),
+}
 
 /// The words of the command `run`.
 #[derive(Clone, Copy, Debug, PartialEq, Eq)]
@@ -17,6 +30,10 @@ pub struct RunWords<'a> {
     pub file: &'a str,
     /// The name of the file that takes the trace.
     pub trace: &'a str,
+    /// How many workers run it; one where that isn't said.
+    pub workers: Option<&'a str>,
+    /// How the members are to be divided.
+    pub split: Split<'a>,
 }
 
 /// What the words ask for.
@@ -24,6 +41,8 @@ pub struct RunWords<'a> {
 pub enum Asked<'a> {
     /// To run a scenario, and write its trace.
     Run(RunWords<'a>),
+    /// To check the scenario in the file of this name.
+    Check(&'a str),
     /// To be shown the help that is this answer's text.
     Help(Error),
 }
@@ -39,7 +58,10 @@ pub fn parse<'a, S: AsStr>(alloc: Global, words: &'a [S]) -> Result<Asked<'a>, F
     match matches_of(alloc, words) {
         Ok(matches) => match run_asked(&matches) {
             Some(run) => Ok(Asked::Run(run)),
-            None => Err(Failure::Usage),
+            None => match check_asked(&matches) {
+                Some(file) => Ok(Asked::Check(file)),
+                None => Err(Failure::Usage),
+            },
         },
         Err(error) => match error.kind() {
             ErrorKind::OutOfMemory => Err(Failure::Memory),
@@ -67,7 +89,8 @@ fn program_command<'a>(alloc: Global) -> Result<Command<'a>, AllocError>
         .about("Simulates clusters of the SWIM membership protocol")
         .no_binary_name(true)
         .subcommand_required(true)
-        .subcommand(run_command(alloc)?)
+        .subcommand(run_command(alloc)?)?
+        .subcommand(check_command(alloc)?)
 }
 
 /// The command `run`, as `clap` knows it.
@@ -75,28 +98,117 @@ fn run_command<'a>(alloc: Global) -> Result<Command<'a>, AllocError>
     ensures app { IfOk result (λ command. app_of command ≡ run_app) }
     ensures local { IfOk result (λ command. (out-Command command).has_globals ≡ false) }
 {
-    let file = Arg::new(alloc, "FILE")
-        .help("The scenario, a TOML document")
-        .required(true);
-    let trace = Arg::new(alloc, "trace")
-        .long("trace")
-        .value_name("T")
-        .help("The file that takes the trace; one that is there is replaced")
-        .required(true);
+    let trace = option(
+        alloc,
+        "trace",
+        "T",
+        "The file that takes the trace; one that is there is replaced",
+    );
+    let workers = option(
+        alloc,
+        "workers",
+        "N",
+        "How many workers run the parts, 1 to 64 [default: 1]",
+    );
+    let parts = option(
+        alloc,
+        "parts",
+        "P",
+        "To how many parts the members are dealt in turn, 1 to 64 [default: the number of workers]",
+    );
+    let division = option(
+        alloc,
+        "division",
+        "LIST",
+        "The part of each member, 0 to 63, parted by commas; not together with --parts",
+    );
     Command::new(alloc, "run")
         .about("Runs a scenario, and writes its trace")
-        .arg(file)?
-        .arg(trace)
+        .arg(file_argument(alloc))?
+        .arg(trace.required(true))?
+        .arg(workers)?
+        .arg(parts)?
+        .arg(division)
+}
+
+/// The command `check`, as `clap` knows it.
+fn check_command<'a>(alloc: Global) -> Result<Command<'a>, AllocError>
+    ensures app { IfOk result (λ command. app_of command ≡ check_app) }
+    ensures local { IfOk result (λ command. (out-Command command).has_globals ≡ false) }
+{
+    Command::new(alloc, "check")
+        .about("Reads a scenario, and prints how many members it has")
+        .arg(file_argument(alloc))
+}
+
+/// The argument for the scenario's file.
+fn file_argument<'a>(alloc: Global) -> Arg<'a>
+    ensures rule { rule_of result ≡ file_rule }
+    ensures local { result.global ≡ false }
+{
+    Arg::new(alloc, "FILE")
+        .help("The scenario, a TOML document")
+        .required(true)
+}
+
+/// An option with one value, which may be left out.
+fn option<'a>(alloc: Global, name: &'a str, value: &'a str, help: &'a str) -> Arg<'a>
+    ensures rule { rule_of result ≡ option_rule name.entry.now }
+    ensures local { result.global ≡ false }
+{
+    Arg::new(alloc, name)
+        .long(name)
+        .value_name(value)
+        .help(help)
 }
 
 /// The run that is asked for by words that `clap` took.
 fn run_asked<'a>(matches: &ArgMatches<'a>) -> Option<RunWords<'a>>
-    ensures some { IfSome result (λ w. IsRunIn (subcommand_rows_of matches.now) w.file.now w.trace.now) }
-    ensures none { IsNone result → (file trace : List ℕ)
-        → ¬ (IsRunIn (subcommand_rows_of matches.now) file trace) }
+    ensures some { IfSome result (IsRunIn (subcommand_rows_of matches.now)) }
+    ensures none { IsNone result → (run : Wish) → ¬ (IsRunIn (subcommand_rows_of matches.now) run) }
 {
     let run = matches.subcommand_matches("run")?;
-    let file = run.get_str("FILE")?;
-    let trace = run.get_str("trace")?;
-    Some(RunWords { file, trace })
+    let file = value_of(run, "FILE")?;
+    let trace = value_of(run, "trace")?;
+    let workers = value_of(run, "workers");
+    let split = split_asked(run)?;
+    Some(RunWords {
+        file,
+        trace,
+        workers,
+        split,
+    })
+}
+
+/// How the members are to be divided by the words of a run. The two options for it exclude each other.
+fn split_asked<'a>(run: &ArgMatches<'a>) -> Option<Split<'a>>
+    ensures some { IfSome result (IsSplitIn (rows_of (found_of run.now))) }
+    ensures none { IsNone result → (split : Wanted) → ¬ (IsSplitIn (rows_of (found_of run.now)) split) }
+{
+    match value_of(run, "parts") {
+        None => match value_of(run, "division") {
+            None => Some(Split::Workers),
+            Some(list) => Some(Split::List(list)),
+        },
+        Some(parts) => match value_of(run, "division") {
+            None => Some(Split::Parts(parts)),
+            Some(_) => None,
+        },
+    }
+}
+
+/// The file whose check is asked for by words that `clap` took.
+fn check_asked<'a>(matches: &ArgMatches<'a>) -> Option<&'a str>
+    ensures some { IfSome result (λ file. IsCheckIn (subcommand_rows_of matches.now) file.now) }
+    ensures none { IsNone result → (file : List ℕ) → ¬ (IsCheckIn (subcommand_rows_of matches.now) file) }
+{
+    let check = matches.subcommand_matches("check")?;
+    value_of(check, "FILE")
+}
+
+/// The first value of an argument, if it has one.
+fn value_of<'a>(matches: &ArgMatches<'a>, id: &str) -> Option<&'a str>
+    ensures { option_map (λ word. word.now) result ≡ first_of id.now (rows_of (found_of matches.now)) }
+{
+    matches.get_str(id)
 }

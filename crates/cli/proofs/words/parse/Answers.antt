@@ -1,8 +1,11 @@
-use Rattle.std.proofs.Common.{rules, subst, inr}
+use Rattle.std.proofs.Common.{refl, subst, inr}
 use Rattle.clap.specs.Words.{Text}
-use Rattle.cli.specs.Words.{IsRunIn}
+use Rattle.cli.specs.Words.{IsRunIn, IsCheckIn}
+use Rattle.cli.specs.declared.words.RunWords.{RunWords}
 use Rattle.cli.proofs.words.parse.Goals as goal
 
 pub returns-in-Ok-clause-usage : goal.returns-in-Ok-clause-usage
 returns-in-Ok-clause-usage g c _ =
-    inr (subst (λ met. (file trace : Text) → ¬ (IsRunIn met file trace)) c.in-Ok.ensures.run (c.in-None.ensures.none (search rules)))
+    let no_run = subst (λ met. (run : RunWords) → ¬ (IsRunIn met run)) c.in-Ok.ensures.run (c.in-None.ensures.none refl) in
+    let no_check = subst (λ met. (file : Text) → ¬ (IsCheckIn met file)) c.in-Ok.ensures.run (c.in-None-check_asked.ensures.none refl) in
+    inr (no_run, no_check)

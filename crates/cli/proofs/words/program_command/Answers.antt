@@ -18,5 +18,6 @@ returns c =
     = ap app_of_fields c.about.ensures ∙ (ap app_of_fields c.in_ok-bin_name.ensures.0 ∙ c.new.ensures.app) in
     let bare_is : app_of c.subcommand_required.result ≡ bare_app
     = ap app_of_fields c.subcommand_required.ensures ∙ ap commanded (ap app_of_fields c.no_binary_name.ensures ∙ ap nameless named_is) in
-    IfOk-weaker c.subcommand.result _ _ (λ command h. h.shape c.in_ok-run_command.ensures.local
-    ∙ ap₂ with_subcommand bare_is (ap (λ (a : App). a.top) c.in_ok-run_command.ensures.app)) c.subcommand.ensures
+    let runs = c.in_ok-subcommand.ensures.shape c.in_ok-run_command.ensures.local ∙ ap₂ with_subcommand bare_is (ap (λ (a : App). a.top) c.in_ok-run_command.ensures.app) in
+    IfOk-weaker c.subcommand-2.result _ _ (λ command h. h.shape c.in_ok-check_command.ensures.local
+    ∙ ap₂ with_subcommand runs (ap (λ (a : App). a.top) c.in_ok-check_command.ensures.app)) c.subcommand-2.ensures
