@@ -1,0 +1,4 @@
+pub mod Rows
+pub mod Crashes
+pub mod FalsePositives
+pub mod Text

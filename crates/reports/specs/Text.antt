@@ -1,0 +1,83 @@
+-- The text of the report: its lines in order.
+use Rattle.std.specs.Prelude.{ℕ, Option, Some, None, List, [], ◌∷◌, ◌++◌, codes, decimal, length, flat_map, min, max}
+use Rattle.std.specs.List.{join_with_byte, reduce}
+use Rattle.scenario.specs.Setup.{Setup, member_count, name_of}
+use Rattle.trace.specs.Text.{word_of}
+use Rattle.trace.specs.declared.row.What.{What}
+use Rattle.trace.specs.declared.row.What.TheVariants as what
+use Rattle.trace.specs.declared.row.Row.{Row}
+use Rattle.reports.specs.declared.crash.Crash.{Crash}
+use Rattle.reports.specs.Rows.{count_of, lost_of, worst_health}
+use Rattle.reports.specs.Crashes.{crashes_of, latency_of, latencies_of}
+use Rattle.reports.specs.FalsePositives.{false_positives, healthy_false_positives}
+
+-- a line: its fields, parted by one space, and a line feed
+abbrev pub line : List (List ℕ) → List ℕ
+line fields = join_with_byte 32 fields ++ codes "\n"
+
+-- a figure, or a dash where there is none
+abbrev pub figure : Option ℕ → List ℕ
+figure (Some n) = decimal n
+figure None = codes "-"
+
+-- a word and a number
+unfoldable pub count_line : List ℕ → ℕ → List ℕ
+count_line word n = line (word ∷ decimal n ∷ [])
+
+-- a crash: whose and when, the first suspicion, the first and the last confirmation and how many there were, and the latency
+unfoldable pub crash_line : Setup → Crash → List ℕ
+crash_line s crash =
+    line (codes "crash" ∷ name_of s crash.member ∷ decimal crash.at
+    ∷ codes "suspect" ∷ figure crash.detection.suspect
+    ∷ codes "confirm" ∷ figure crash.detection.confirm
+    ∷ codes "last" ∷ figure crash.detection.last
+    ∷ codes "confirmers" ∷ decimal crash.detection.confirmers
+    ∷ codes "latency" ∷ figure (latency_of crash) ∷ [])
+
+-- the least and the greatest latency
+unfoldable pub latency_line : Option ℕ → Option ℕ → List ℕ
+latency_line least greatest = line (codes "latency" ∷ codes "least" ∷ figure least ∷ codes "greatest" ∷ figure greatest ∷ [])
+
+-- the false positives of a claim, and those of them at healthy members
+unfoldable pub false_line : List ℕ → ℕ → ℕ → List ℕ
+false_line word all healthy = line (codes "false" ∷ word ∷ decimal all ∷ codes "healthy" ∷ decimal healthy ∷ [])
+
+-- what was sent of a kind of message, and how much of that was lost
+unfoldable pub sent_line : List ℕ → ℕ → ℕ → List ℕ
+sent_line word all lost = line (codes "sent" ∷ word ∷ decimal all ∷ codes "lost" ∷ decimal lost ∷ [])
+
+-- the kinds of message
+abbrev pub message_kinds : List What
+message_kinds = what.Join ∷ what.Welcome ∷ what.Ping ∷ what.PingReq ∷ what.Ack ∷ what.Nack ∷ []
+
+-- how large the cluster is, how long it ran, and how much there is to tell
+abbrev pub size_lines : Setup → List Row → List ℕ
+size_lines s rows = count_line (codes "members") (member_count s) ++ count_line (codes "end") s.end ++ count_line (codes "rows") (length rows)
+
+-- the least and the greatest of the latencies that are there
+abbrev pub latencies_line : List Crash → List ℕ
+latencies_line crashes = latency_line (reduce min (latencies_of crashes)) (reduce max (latencies_of crashes))
+
+-- a line for each crash, and one on their latencies
+abbrev pub crash_lines : Setup → List Row → List ℕ
+crash_lines s rows = flat_map (crash_line s) (crashes_of rows) ++ latencies_line (crashes_of rows)
+
+-- false suspicions, and members that were falsely confirmed to have failed
+abbrev pub false_claim_line : Setup → List Row → What → List ℕ
+false_claim_line s rows claim = false_line (word_of claim) (false_positives claim rows) (healthy_false_positives s claim rows)
+
+-- how often members accused and refuted, how often probes failed, and how bad a member's health got
+abbrev pub protocol_lines : List Row → List ℕ
+protocol_lines rows =
+    count_line (codes "accuse") (count_of what.Accuse rows) ++ count_line (codes "refute") (count_of what.Refute rows)
+    ++ count_line (codes "fail") (count_of what.Fail rows) ++ count_line (codes "health") (worst_health rows)
+
+-- one kind of message
+abbrev pub message_line : List Row → What → List ℕ
+message_line rows kind = sent_line (word_of kind) (count_of kind rows) (lost_of kind rows)
+
+-- the report of a trace
+unfoldable pub report_text : Setup → List Row → List ℕ
+report_text s rows =
+    size_lines s rows ++ crash_lines s rows ++ false_claim_line s rows what.Suspect ++ false_claim_line s rows what.Confirm
+    ++ protocol_lines rows ++ flat_map (message_line rows) message_kinds

@@ -1,0 +1,16 @@
+//! The report of a run: counts, firsts, lasts, leasts and greatests over the rows of its trace, as a
+//! text.
+#![tactic(auto)]
+
+mod crash;
+mod false_positives;
+mod reporting;
+mod rows;
+mod tallies;
+mod text;
+
+pub use reporting::report;
+pub use tallies::{AddError, Tallies};
+
+#[cfg(test)]
+mod tests;

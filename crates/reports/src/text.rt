@@ -1,0 +1,190 @@
+//! The lines of the report.
+ghost use Rattle.std.specs.Prelude.{◌≡◌, ◌++◌, ◌<◌, OnOk, Some, All, flat_map, min, max};
+ghost use Rattle.std.specs.List.{reduce};
+ghost use Rattle.std.specs.String.{string_bytes};
+ghost use Rattle.scenario.specs.Setup.{member_count};
+ghost use Rattle.trace.specs.Text.{NamesMembers};
+ghost use Rattle.reports.specs.Crashes.{latencies_of};
+ghost use Rattle.reports.specs.Text.{figure, count_line, size_lines, crash_line, latency_line, latencies_line, false_line, false_claim_line, sent_line, message_line, protocol_lines};
+
+use crate::crash::Crash;
+use crate::false_positives::false_positives;
+use crate::rows::{count_of, lost_of, worst_health};
+use base::Moment;
+use scenario::Scenario;
+use std::alloc::{AllocError, Global};
+use std::fmt;
+use trace::{Row, What};
+
+/// A figure, or a dash where there is none.
+#[derive(Clone, Copy)]
+struct Figure(Option<u64>);
+
+impl fmt::Display for Figure {
+    ghost output = { λ shown. Some (figure shown.0) };
+
+    fn fmt<W: fmt::Write>(&self, f: &mut fmt::Formatter<W>) -> fmt::Result {
+        match self.0 {
+            Some(number) => write!(f, "{number}"),
+            None => f.write_str("-"),
+        }
+    }
+}
+
+/// The ticks of a moment that may be there.
+fn ticks(moment: Option<Moment>) -> Figure
+    ensures { result.0 ≡ moment }
+{
+    match moment {
+        Some(at) => Figure(Some(at.ticks())),
+        None => Figure(None),
+    }
+}
+
+/// Appends a line of a word and a number.
+#[tactic(auto, unfolding(crate::specs::Text::count_line))]
+fn push_count(text: &mut String, word: &str, number: u64) -> Result<(), AllocError>
+    ensures { OnOk result (string_bytes text.new ≡ string_bytes text.old ++ count_line word.now number) }
+{
+    writeln!(text, "{word} {number}")
+}
+
+/// Appends how large the cluster is, how long it ran, and how much there is to tell.
+pub(crate) fn push_sizes(
+    text: &mut String,
+    rows: &[Row],
+    scenario: &Scenario,
+) -> Result<(), AllocError>
+    ensures { OnOk result (string_bytes text.new ≡ string_bytes text.old ++ size_lines scenario.now rows.now) }
+{
+    push_count(text, "members", scenario.members() as u64)?;
+    push_count(text, "end", scenario.end().ticks())?;
+    push_count(text, "rows", rows.len() as u64)
+}
+
+/// Appends the line of a crash.
+#[tactic(auto, unfolding(crate::specs::Text::crash_line))]
+fn push_crash(text: &mut String, crash: &Crash, scenario: &Scenario) -> Result<(), AllocError>
+    requires { crash.now.member < member_count scenario.now }
+    ensures { OnOk result (string_bytes text.new ≡ string_bytes text.old ++ crash_line scenario.now crash.now) }
+{
+    let name = scenario.name(crash.member);
+    let at = crash.at.ticks();
+    let suspect = ticks(crash.detection.suspect);
+    let confirm = ticks(crash.detection.confirm);
+    let last = ticks(crash.detection.last);
+    let confirmers = crash.detection.confirmers;
+    let latency = Figure(crash.latency());
+    write!(
+        text,
+        "crash {name} {at} suspect {suspect} confirm {confirm} last {last} "
+    )?;
+    writeln!(text, "confirmers {confirmers} latency {latency}")
+}
+
+/// Appends a line for each crash.
+pub(crate) fn push_crashes(
+    text: &mut String,
+    crashes: &[Crash],
+    scenario: &Scenario,
+) -> Result<(), AllocError>
+    requires { All (λ crash. crash.member < member_count scenario.now) crashes.now }
+    ensures { OnOk result (string_bytes text.new
+        ≡ string_bytes text.old ++ flat_map (crash_line scenario.now) crashes.now) }
+{
+    for crash in crashes {
+        push_crash(text, crash, scenario)?;
+    }
+    Ok(())
+}
+
+/// Appends the line of the latencies of crashes.
+pub(crate) fn push_latencies(text: &mut String, crashes: &[Crash]) -> Result<(), AllocError>
+    ensures { OnOk result (string_bytes text.new
+        ≡ string_bytes text.old ++ latencies_line crashes.now) }
+{
+    push_latency(text, least_latency(crashes), greatest_latency(crashes))
+}
+
+/// Appends the line of a least and a greatest latency.
+fn push_latency(
+    text: &mut String,
+    least: Option<u64>,
+    greatest: Option<u64>,
+) -> Result<(), AllocError>
+    ensures { OnOk result (string_bytes text.new
+        ≡ string_bytes text.old ++ latency_line least greatest) }
+{
+    let least = Figure(least);
+    let greatest = Figure(greatest);
+    writeln!(text, "latency least {least} greatest {greatest}")
+}
+
+fn least_latency(crashes: &[Crash]) -> Option<u64>
+    ensures { result ≡ reduce min (latencies_of crashes.now) }
+{
+    crashes.iter().filter_map(|crash| crash.latency()).min()
+}
+
+fn greatest_latency(crashes: &[Crash]) -> Option<u64>
+    ensures { result ≡ reduce max (latencies_of crashes.now) }
+{
+    crashes.iter().filter_map(|crash| crash.latency()).max()
+}
+
+/// Appends the line of the false positives of one claim.
+#[tactic(auto, unfolding(crate::specs::Text::false_line))]
+pub(crate) fn push_false_positives(
+    alloc: Global,
+    text: &mut String,
+    claim: What,
+    rows: &[Row],
+    scenario: &Scenario,
+) -> Result<(), AllocError>
+    requires { All (NamesMembers scenario.now) rows.now }
+    ensures { OnOk result (string_bytes text.new
+        ≡ string_bytes text.old ++ false_claim_line scenario.now rows.now claim) }
+{
+    let found = false_positives(alloc, claim, rows, scenario)?;
+    let word = claim.word();
+    let all = found.all;
+    let healthy = found.healthy;
+    writeln!(text, "false {word} {all} healthy {healthy}")
+}
+
+/// Appends how often members accused and refuted, how often probes failed, and how bad the health of
+/// a member got.
+pub(crate) fn push_protocol(text: &mut String, rows: &[Row]) -> Result<(), AllocError>
+    ensures { OnOk result (string_bytes text.new ≡ string_bytes text.old ++ protocol_lines rows.now) }
+{
+    push_count(text, "accuse", count_of(What::Accuse, rows) as u64)?;
+    push_count(text, "refute", count_of(What::Refute, rows) as u64)?;
+    push_count(text, "fail", count_of(What::Fail, rows) as u64)?;
+    push_count(text, "health", worst_health(rows))
+}
+
+/// Appends how many messages of a kind were sent, and how many of them were lost.
+#[tactic(auto, unfolding(crate::specs::Text::sent_line))]
+fn push_message(text: &mut String, kind: What, rows: &[Row]) -> Result<(), AllocError>
+    ensures { OnOk result (string_bytes text.new ≡ string_bytes text.old ++ message_line rows.now kind) }
+{
+    let word = kind.word();
+    let sent = count_of(kind, rows);
+    let lost = lost_of(kind, rows);
+    writeln!(text, "sent {word} {sent} lost {lost}")
+}
+
+/// Appends a line for each of these kinds of message.
+pub(crate) fn push_messages(
+    text: &mut String,
+    kinds: &[What],
+    rows: &[Row],
+) -> Result<(), AllocError>
+    ensures { OnOk result (string_bytes text.new
+        ≡ string_bytes text.old ++ flat_map (message_line rows.now) kinds.now) }
+{
+    for kind in kinds {
+        push_message(text, *kind, rows)?;
+    }
+    Ok(())
+}
