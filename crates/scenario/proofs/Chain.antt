@@ -1,39 +1,30 @@
 -- Each link of the chain of rules: a rule is the least broken where those before it are kept.
 use Rattle.std.proofs.Common.{◌≡◌, ℕ, List, Bool, true, false, nat_le, Some, None, Result, Ok, Err, IfOk, IfErr, option_map, refl, ap, ◌∙◌}
 use Rattle.std.specs.List.{list_any}
-use Rattle.scenario.specs.declared.settings.Slow.{Slow}
-use Rattle.scenario.specs.declared.settings.Crash.{Crash}
-use Rattle.scenario.specs.declared.schema.Key.TheVariants as key
+use Rattle.std.specs.Option.{option_or}
 use Rattle.std.specs.Str.{IsUtf8, is_utf8}
 use Rattle.std.proofs.lemmas.Str.{IsUtf8-from_is_utf8, is_utf8-from_IsUtf8}
 use Rattle.toml.specs.Data.{Data, table, Members}
 use Rattle.toml.specs.Parse.{parse_document}
+use Rattle.schema.specs.declared.schema.Key.TheVariants as key
+use Rattle.schema.specs.Tree.{items_at}
+use Rattle.schema.specs.Shape.{least_broken_of_shape, KeepsShape}
+use Rattle.schema.proofs.Chain.{nothing_of_shape}
+use Rattle.scenario.specs.declared.settings.Slow.{Slow}
+use Rattle.scenario.specs.declared.settings.Crash.{Crash}
 use Rattle.scenario.specs.Setup.{Setup, Group}
-use Rattle.scenario.specs.Tree.{items_at}
 use Rattle.scenario.specs.Reading.{plain_groups, setup_of_tree}
-use Rattle.scenario.specs.Rules.{any_two, is_same_member, overlaps, has_lost_contact, names_no_member, names_no_group, is_bad_contact, is_over, is_early, breaks, breaks_names, breaks_references, breaks_pairs, breaks_times, breaks_size, least_broken, least_broken_by, judged, judged_if_read, unless_broken, tree_of, verdict, KeepsValues}
-use Rattle.scenario.specs.declared.shape.Check.TheVariants.{Missing, Unknown, WrongKind, OutOfRange}
+use Rattle.scenario.specs.Rules.{any_two, is_same_member, overlaps, has_lost_contact, names_no_member, names_no_group, is_bad_contact, is_over, is_early, breaks_names, breaks_references, breaks_pairs, breaks_times, breaks_size, least_broken, least_broken_by, judged, judged_if_read, unless_broken, tree_of, verdict, KeepsValues}
 
-pub missing_least : (d : Data) → breaks Missing d ≡ true → least_broken d ≡ Some 2
+-- where no rule on the tables is broken, the rules on the values decide
+pub values_least : (d : Data) → KeepsShape d → least_broken d ≡ least_broken_by d (setup_of_tree d)
 unfolding least_broken
-missing_least d broken = rw broken
+values_least d k = ap (λ o. option_or o (least_broken_by d (setup_of_tree d))) (nothing_of_shape d k)
 
-pub unknown_least : (d : Data) → breaks Missing d ≡ false → breaks Unknown d ≡ true → least_broken d ≡ Some 3
+-- a broken rule on the tables is the least
+pub shape_least : (d : Data) (rule : ℕ) → least_broken_of_shape d ≡ Some rule → least_broken d ≡ Some rule
 unfolding least_broken
-unknown_least d a broken = rw (a, broken)
-
-pub kind_least : (d : Data) → breaks Missing d ≡ false → breaks Unknown d ≡ false → breaks WrongKind d ≡ true → least_broken d ≡ Some 4
-unfolding least_broken
-kind_least d a b broken = rw (a, b, broken)
-
-pub range_least : (d : Data) → breaks Missing d ≡ false → breaks Unknown d ≡ false → breaks WrongKind d ≡ false → breaks OutOfRange d ≡ true → least_broken d ≡ Some 5
-unfolding least_broken
-range_least d a b e broken = rw (a, b, e, broken)
-
-pub values_least : (d : Data) → breaks Missing d ≡ false → breaks Unknown d ≡ false → breaks WrongKind d ≡ false → breaks OutOfRange d ≡ false
-    → least_broken d ≡ least_broken_by d (setup_of_tree d)
-unfolding least_broken
-values_least d a b e f = rw (a, b, e, f)
+shape_least d rule broken = ap (λ o. option_or o (least_broken_by d (setup_of_tree d))) broken
 
 module _ (d : Data) (s : Setup) where
   pub names_least : breaks_names (plain_groups d) ≡ true → least_broken_by d s ≡ Some 6

@@ -11,6 +11,7 @@ use Rattle.std.proofs.lemmas.Bool.Decides.{same_from_decides}
 use Rattle.std.proofs.lemmas.Slice.Eq.{bytes_eq-Decides}
 use Rattle.indexmap.specs.IndexMap.{IndexMap, get, insert_entry}
 use Rattle.indexmap.proofs.CallerLemmas.{insert_entry-new}
+use Rattle.schema.proofs.Trees.{any-map}
 use Rattle.scenario.specs.Setup.{Setup, Group}
 use Rattle.scenario.specs.declared.settings.Swim.{Swim}
 use Rattle.scenario.specs.declared.settings.Suspicion.{Suspicion}
@@ -22,7 +23,6 @@ use Rattle.scenario.specs.declared.settings.Crash.{Crash}
 use Rattle.scenario.specs.Roster.{named_group, IsNumbered}
 use Rattle.scenario.specs.declared.roster.Block.{Block}
 use Rattle.scenario.specs.Rules.{is_group_name, breaks_name, breaks_names, any_two}
-use Rattle.scenario.proofs.Trees.{any-map}
 
 bytes_eq-sym : (a b : List ℕ) → bytes_eq a b ≡ bytes_eq b a
 bytes_eq-sym a b =

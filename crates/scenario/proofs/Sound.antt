@@ -8,12 +8,24 @@ use Rattle.std.proofs.lemmas.List.Folds.{fold-map}
 use Rattle.std.proofs.lemmas.List.Quantifiers.{position-Some}
 use Rattle.std.proofs.lemmas.List.Sums.{get_or-le-sum_by}
 use Rattle.toml.specs.Data.{Data, string, integer, float, boolean, datetime, array, table, Items, no_items, item, as_table, as_str}
-use Rattle.scenario.specs.Schema.{text_of, rows_of}
+use Rattle.schema.specs.Schema.{text_of, rows_of}
+use Rattle.schema.specs.Tree.{Part, items_of, items_at, part, parts_at, parts_below, parts_of, value_at, list_of}
+use Rattle.schema.specs.Values.{default_of, whole_or, number_at, text_if}
+use Rattle.schema.specs.Shape.{is_over_0, is_refused, is_absent, is_missing, is_other_kind, is_outside, has_fault, part_breaks, breaks, KeepsShape}
+use Rattle.schema.proofs.Trees.{any-flat_map}
+use Rattle.schema.specs.declared.schema.Row.{Row}
+use Rattle.schema.specs.declared.schema.Key.{Key}
+use Rattle.schema.specs.declared.schema.Key.TheVariants as key
+use Rattle.schema.specs.declared.schema.Section.{Section}
+use Rattle.schema.specs.declared.schema.Section.TheVariants as section
+use Rattle.schema.specs.declared.schema.Kind.TheVariants as kind
+use Rattle.schema.specs.declared.schema.Absence.{Absence}
+use Rattle.schema.specs.declared.schema.Absence.TheVariants.{Refused, RefusedOver0, Default, Optional}
+use Rattle.schema.specs.declared.shape.Check.{Check}
+use Rattle.schema.specs.declared.shape.Check.TheVariants.{Missing, WrongKind, OutOfRange}
 use Rattle.scenario.specs.Setup.{Setup, Group, IsSound, IsSoundLink, IsSoundContact, leads, group_at, last_link, member_count, start_of, is_slow}
-use Rattle.scenario.specs.Tree.{Part, items_of, items_at, part, parts_at, parts_below, parts_of, value_at, list_of}
-use Rattle.scenario.specs.Reading.{default_of, whole_or, number_at, text_if, plain_group, plain_groups, names_of_all, member_named, group_in, swim_in, suspicion_in, lifeguard_in, link_in, link_over, path_in, slow_in, crash_in, setup_of_tree}
-use Rattle.scenario.specs.Rules.{is_over_0, is_refused, is_absent, is_missing, is_other_kind, is_outside, has_fault, part_breaks, breaks, has_lost_contact, is_bad_contact, is_early, is_over, breaks_references, breaks_times, breaks_size, KeepsShape, KeepsValues}
-use Rattle.scenario.proofs.Trees.{any-flat_map}
+use Rattle.scenario.specs.Reading.{plain_group, plain_groups, names_of_all, member_named, group_in, swim_in, suspicion_in, lifeguard_in, link_in, link_over, path_in, slow_in, crash_in, setup_of_tree}
+use Rattle.scenario.specs.Rules.{has_lost_contact, is_bad_contact, is_early, is_over, breaks_references, breaks_times, breaks_size, KeepsValues}
 use Rattle.scenario.proofs.Find.{length-names_of_all}
 use Rattle.scenario.specs.declared.settings.Swim.{Swim}
 use Rattle.scenario.specs.declared.settings.Suspicion.{Suspicion}
@@ -22,16 +34,6 @@ use Rattle.scenario.specs.declared.settings.Link.{Link}
 use Rattle.scenario.specs.declared.settings.Path.{Path}
 use Rattle.scenario.specs.declared.settings.Slow.{Slow}
 use Rattle.scenario.specs.declared.settings.Crash.{Crash}
-use Rattle.scenario.specs.declared.schema.Row.{Row}
-use Rattle.scenario.specs.declared.schema.Key.{Key}
-use Rattle.scenario.specs.declared.schema.Key.TheVariants as key
-use Rattle.scenario.specs.declared.schema.Section.{Section}
-use Rattle.scenario.specs.declared.schema.Section.TheVariants as section
-use Rattle.scenario.specs.declared.schema.Kind.TheVariants as kind
-use Rattle.scenario.specs.declared.schema.Absence.{Absence}
-use Rattle.scenario.specs.declared.schema.Absence.TheVariants.{Refused, RefusedOver0, Default, Optional}
-use Rattle.scenario.specs.declared.shape.Check.{Check}
-use Rattle.scenario.specs.declared.shape.Check.TheVariants.{Missing, WrongKind, OutOfRange}
 
 neither : (a b : Bool) → (a || b) ≡ false → (a ≡ false) × (b ≡ false)
 neither true b e = absurd (false≢true (sym e))

@@ -13,11 +13,11 @@ use Rattle.std.proofs.lemmas.List.Edits.{Swapped, swapped_from_swap, length-swap
 use Rattle.std.proofs.lemmas.List.Elements.{All-from_get_or}
 use Rattle.std.proofs.lemmas.List.Folds.{list_any-append, list_any_none, list_any_at}
 use Rattle.std.proofs.lemmas.List.Sorted.{IsPermutation-keeps, IsPermutation-sym, ranks_by, sorted_far, length_permutation}
+use Rattle.schema.proofs.Trees.{any-map}
 use Rattle.scenario.specs.Rules.{any_two, overlaps}
 use Rattle.scenario.specs.Spans.{slow_of, span_cmp}
 use Rattle.scenario.specs.declared.settings.Slow.{Slow}
 use Rattle.scenario.specs.declared.pairs.Span.{Span}
-use Rattle.scenario.proofs.Trees.{any-map}
 use Rattle.scenario.proofs.Find.{neither, both}
 
 not_eq : (m n : ℕ) → nat_eq m n ≡ false → m ≢ n

@@ -2,9 +2,7 @@ pub mod Setup
 pub mod View
 pub mod Roster
 pub mod Division
-pub mod Schema
 pub mod Spans
 pub mod Times
-pub mod Tree
 pub mod Reading
 pub mod Rules

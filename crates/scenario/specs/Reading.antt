@@ -1,11 +1,13 @@
 -- The scenario that a TOML document says, key by key, with the format's defaults.
-use Rattle.std.specs.Prelude.{ℕ, Bool, List, [], true, Option, Some, None, pos, map, flat_map, unwrap_or, option_and_then, bytes_eq}
-use Rattle.std.specs.Option.{option_map_or}
+use Rattle.std.specs.Prelude.{ℕ, List, Option, Some, None, map, flat_map, unwrap_or, option_and_then, bytes_eq}
 use Rattle.std.specs.List.{position}
-use Rattle.toml.specs.Data.{Data, integer, boolean, as_str}
-use Rattle.scenario.specs.Schema.{text_of, rows_of}
+use Rattle.toml.specs.Data.{Data}
+use Rattle.schema.specs.Tree.{value_at, items_at}
+use Rattle.schema.specs.Values.{whole_or, number_at, switch_at, text_if, text_at}
+use Rattle.schema.specs.declared.schema.Key.{Key}
+use Rattle.schema.specs.declared.schema.Key.TheVariants as key
+use Rattle.schema.specs.declared.schema.Section.TheVariants as section
 use Rattle.scenario.specs.Setup.{Setup, Group, names_in}
-use Rattle.scenario.specs.Tree.{value_at, row_named, items_at}
 use Rattle.scenario.specs.declared.settings.Swim.{Swim}
 use Rattle.scenario.specs.declared.settings.Suspicion.{Suspicion}
 use Rattle.scenario.specs.declared.settings.Lifeguard.{Lifeguard}
@@ -13,46 +15,6 @@ use Rattle.scenario.specs.declared.settings.Link.{Link}
 use Rattle.scenario.specs.declared.settings.Path.{Path}
 use Rattle.scenario.specs.declared.settings.Slow.{Slow}
 use Rattle.scenario.specs.declared.settings.Crash.{Crash}
-use Rattle.scenario.specs.declared.schema.Key.{Key}
-use Rattle.scenario.specs.declared.schema.Key.TheVariants as key
-use Rattle.scenario.specs.declared.schema.Section.{Section}
-use Rattle.scenario.specs.declared.schema.Section.TheVariants as section
-use Rattle.scenario.specs.declared.schema.Absence.{Absence}
-use Rattle.scenario.specs.declared.schema.Absence.TheVariants.{Default}
-
--- the default that a row gives
-abbrev pub default_in : Absence → ℕ
-default_in (Default n) = n
-default_in _ = 0
-
-abbrev pub default_of : Section → Key → ℕ
-default_of s key = option_map_or (λ row. default_in row.absence) (row_named (rows_of s) (text_of key)) 0
-
--- a whole number that is there, else the default
-abbrev pub whole_or : ℕ → Option Data → ℕ
-whole_or default (Some (integer (pos n))) = n
-whole_or default _ = default
-
--- the whole number of a key, else its default; where the table isn't there, the default
-unfoldable pub number_at : Section → Key → Option Data → ℕ
-number_at s key d = whole_or (default_of s key) (option_and_then (value_at key) d)
-
--- a switch that isn't there is on
-abbrev pub is_on : Option Data → Bool
-is_on (Some (boolean b)) = b
-is_on _ = true
-
--- the switch of a key; where the table isn't there, it is on
-unfoldable pub switch_at : Key → Option Data → Bool
-switch_at key d = is_on (option_and_then (value_at key) d)
-
--- the text of a key, if it is there
-unfoldable pub text_if : Key → Data → Option (List ℕ)
-text_if key d = option_and_then as_str (value_at key d)
-
--- the text of a key
-abbrev pub text_at : Key → Data → List ℕ
-text_at key d = unwrap_or (text_if key d) []
 
 -- one item of the list of groups, its contact left out
 abbrev pub plain_group : Data → Group

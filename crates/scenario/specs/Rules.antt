@@ -1,100 +1,19 @@
--- The rules that refuse a text, each as a test, the least that is broken, and so what a text is answered.
-use Rattle.std.specs.Prelude.{◌≡◌, ℕ, ℤ, pos, negsuc, List, [], ◌∷◌, Bool, true, false, not, ◌&&◌, ◌||◌, if◌then◌else◌, Option, Some, None, is_some, is_none, Result, Ok, Err, nat_le, nat_lt, nat_eq, map, length, bytes_eq, option_map}
+-- The rules on the values of a document, each as a test, the least rule that is broken, and so what a text is answered.
+use Rattle.std.specs.Prelude.{◌≡◌, ℕ, List, [], ◌∷◌, Bool, true, false, not, ◌&&◌, ◌||◌, if◌then◌else◌, Option, Some, None, is_none, Result, Ok, Err, nat_le, nat_lt, nat_eq, map, length, bytes_eq, option_map}
 use Rattle.std.specs.List.{list_any, list_all}
-use Rattle.std.specs.Option.{option_map_or}
+use Rattle.std.specs.Option.{option_map_or, option_or}
 use Rattle.std.specs.Char.{is_ascii_lowercase, is_ascii_digit}
 use Rattle.std.specs.Str.{is_utf8}
-use Rattle.toml.specs.Data.{Data, integer, array, table, no_items, as_integer, as_bool, as_str, as_array, as_table}
+use Rattle.toml.specs.Data.{Data, table}
 use Rattle.toml.specs.Parse.{parse_document}
-use Rattle.scenario.specs.Schema.{rows_of}
+use Rattle.schema.specs.Tree.{items_at}
+use Rattle.schema.specs.Values.{text_if, text_at}
+use Rattle.schema.specs.Shape.{least_broken_of_shape}
+use Rattle.schema.specs.declared.schema.Key.TheVariants as key
 use Rattle.scenario.specs.Setup.{Setup, Group, start_of, member_count}
-use Rattle.scenario.specs.Tree.{Part, parts_of, value_at, row_named, keys_of, items_at}
-use Rattle.scenario.specs.Reading.{text_if, text_at, plain_groups, member_named, group_named, setup_of_tree}
-use Rattle.scenario.specs.declared.schema.Key.TheVariants as key
+use Rattle.scenario.specs.Reading.{plain_groups, member_named, group_named, setup_of_tree}
 use Rattle.scenario.specs.declared.settings.Slow.{Slow}
 use Rattle.scenario.specs.declared.settings.Crash.{Crash}
-use Rattle.scenario.specs.declared.schema.Row.{Row}
-use Rattle.scenario.specs.declared.schema.Kind.{Kind}
-use Rattle.scenario.specs.declared.schema.Kind.TheVariants as kind
-use Rattle.scenario.specs.declared.schema.Absence.{Absence}
-use Rattle.scenario.specs.declared.schema.Absence.TheVariants.{Refused, RefusedOver0}
-use Rattle.scenario.specs.declared.shape.Check.{Check}
-use Rattle.scenario.specs.declared.shape.Check.TheVariants.{Missing, Unknown, WrongKind, OutOfRange}
-
--- a whole number over 0
-abbrev pub is_over_0 : Option Data → Bool
-is_over_0 (Some (integer (pos n))) = nat_lt 0 n
-is_over_0 _ = false
-
--- the table may not lack the key
-abbrev pub is_refused : Data → Absence → Bool
-is_refused d Refused = true
-is_refused d (RefusedOver0 key) = is_over_0 (value_at key d)
-is_refused d _ = false
-
-abbrev pub is_empty_list : Data → Bool
-is_empty_list (array no_items) = true
-is_empty_list _ = false
-
--- nothing is there; a list that is asked for is there only with an item
-abbrev pub is_absent : Kind → Option Data → Bool
-is_absent k None = true
-is_absent (kind.List s) (Some d) = is_empty_list d
-is_absent _ (Some d) = false
-
--- the key is required and absent
-abbrev pub is_missing : Data → Row → Bool
-is_missing d row = is_refused d row.absence && is_absent row.kind (value_at row.key d)
-
--- the value is of another kind; what has to be a table is judged as a part of its own
-abbrev pub is_other_kind : Kind → Data → Bool
-is_other_kind (kind.Whole least most) d = is_none (as_integer d)
-is_other_kind kind.Switch d = is_none (as_bool d)
-is_other_kind kind.Text d = is_none (as_str d)
-is_other_kind (kind.Table s) d = false
-is_other_kind (kind.List s) d = is_none (as_array d)
-
--- both ends are in the range
-abbrev pub is_within : ℕ → ℕ → ℤ → Bool
-is_within least most (pos n) = nat_le least n && nat_le n most
-is_within least most (negsuc n) = false
-
--- the value is a whole number outside its range
-abbrev pub is_outside : Kind → Data → Bool
-is_outside (kind.Whole least most) (integer z) = not (is_within least most z)
-is_outside _ d = false
-
--- the value of a row's key is there and has the fault
-abbrev pub has_fault : (Kind → Data → Bool) → Data → Row → Bool
-has_fault fault d row = option_map_or (fault row.kind) (value_at row.key d) false
-
-abbrev pub rule_of : Check → ℕ
-rule_of Missing = 2
-rule_of Unknown = 3
-rule_of WrongKind = 4
-rule_of OutOfRange = 5
-
--- what each of the rules 2 to 5 refuses in a part
-unfoldable pub part_breaks : Check → Part → Bool
--- rule 2: a table lacks a required key
-part_breaks Missing p = is_some (as_table p.value) && list_any (is_missing p.value) (rows_of p.section)
--- rule 3: a table has a key that the format doesn't name
-part_breaks Unknown p = list_any (λ key. is_none (row_named (rows_of p.section) key)) (keys_of p.value)
--- rule 4: the part is no table, or a value in it is of another kind
-part_breaks WrongKind p = is_none (as_table p.value) || list_any (has_fault is_other_kind p.value) (rows_of p.section)
--- rule 5: a whole number is outside its range
-part_breaks OutOfRange p = list_any (has_fault is_outside p.value) (rows_of p.section)
-
--- some part of the document breaks the rule
-unfoldable pub breaks : Check → Data → Bool
-breaks check tree = list_any (part_breaks check) (parts_of tree)
-
--- the document breaks none of the rules on its tables, 2 to 5
-pub record KeepsShape (tree : Data) : Type 0 where
-  pub missing : breaks Missing tree ≡ false
-  pub unknown : breaks Unknown tree ≡ false
-  pub kinds : breaks WrongKind tree ≡ false
-  pub ranges : breaks OutOfRange tree ≡ false
 
 abbrev pub starts_with_letter : List ℕ → Bool
 starts_with_letter [] = false
@@ -190,12 +109,7 @@ least_broken_by tree s =
 
 -- the least broken rule of a document
 unfoldable pub least_broken : Data → Option ℕ
-least_broken tree =
-    if breaks Missing tree then Some 2
-    else if breaks Unknown tree then Some 3
-    else if breaks WrongKind tree then Some 4
-    else if breaks OutOfRange tree then Some 5
-    else least_broken_by tree (setup_of_tree tree)
+least_broken tree = option_or (least_broken_of_shape tree) (least_broken_by tree (setup_of_tree tree))
 
 -- a document is answered with its scenario, or with the least rule that it breaks
 abbrev pub unless_broken : Setup → Option ℕ → Result Setup ℕ

@@ -1,13 +1,14 @@
 -- The tests of rule 9 on the items of a document, whose names are known.
 use Rattle.std.specs.Prelude.{Bool, false, ◌||◌, List, nat_eq, nat_lt, nat_le, option_and_then}
 use Rattle.std.specs.Option.{option_map_or}
-use Rattle.toml.specs.Data.{Data}
 use Rattle.std.specs.Prelude.{Some}
+use Rattle.toml.specs.Data.{Data}
+use Rattle.schema.specs.Values.{number_at, text_if, text_at}
+use Rattle.schema.specs.declared.schema.Key.TheVariants as key
+use Rattle.schema.specs.declared.schema.Section.TheVariants as section
 use Rattle.scenario.specs.Setup.{Group}
-use Rattle.scenario.specs.Reading.{number_at, text_if, text_at, member_named}
+use Rattle.scenario.specs.Reading.{member_named}
 use Rattle.scenario.specs.Roster.{start_in}
-use Rattle.scenario.specs.declared.schema.Key.TheVariants as key
-use Rattle.scenario.specs.declared.schema.Section.TheVariants as section
 
 -- a contact of a group that starts at moment 0, or one that itself starts later
 abbrev pub is_bad_contact_in : List Group → Data → Bool

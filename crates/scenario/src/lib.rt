@@ -15,14 +15,11 @@ mod references;
 mod refusal;
 mod roster;
 mod scenario;
-mod schema;
 mod settings;
-mod shape;
 mod tables;
 #[cfg(test)]
 mod tests;
 mod times;
-mod values;
 
 pub use division::{Division, DivisionFault, Workers};
 pub use reader::read;

@@ -1,15 +1,15 @@
 //! The lists of a document that breaks no rule: groups, paths, slow times and crashes.
 ghost use Rattle.std.specs.Prelude.{◌≡◌, ◌≤◌, ◌<◌, ◌++◌, map, sum_by, flat_map, string_bytes, option_and_then, IfOk, OnOk};
 ghost use Rattle.toml.specs.View.{view};
+ghost use Rattle.schema.specs.Values.{text_if};
 ghost use Rattle.scenario.specs.Setup.{names_in, names_below};
 ghost use Rattle.scenario.specs.View.{group_of};
-ghost use Rattle.scenario.specs.Reading.{text_if, plain_group, group_in, member_named, group_named, group_at_key, member_at, link_over, path_in, slow_in, crash_in};
+ghost use Rattle.scenario.specs.Reading.{plain_group, group_in, member_named, group_named, group_at_key, member_at, link_over, path_in, slow_in, crash_in};
 
 use crate::roster::{Found, Roster};
-use crate::schema::{Key, Section};
 use crate::settings::{Crash, Group, Link, Path, Slow};
-use crate::values::{number, text, text_if, whole_or};
 use base::{MemberId, Memory, Moment};
+use schema::{Key, Section, number, text, text_if, whole_or};
 use std::alloc::Global;
 use toml::Value;
 

@@ -8,10 +8,9 @@ ghost use Rattle.scenario.specs.Spans.{slow_of, plain_slow, span_cmp};
 
 use crate::refusal::Refusal;
 use crate::roster::Roster;
-use crate::schema::{Key, Section};
-use crate::values::{items_at, number, text};
 use base::Memory;
 use indexmap::IndexSet;
+use schema::{Key, Section, items_at, number, text};
 use std::alloc::Global;
 use toml::Value;
 

@@ -2,8 +2,9 @@
 ghost use Rattle.std.specs.Prelude.{◌≡◌, ◌≢◌, ◌≤◌, ℕ, Some, None, Ok, Err, true, false, nat_lt, sum_by, IfOk, IfErr, OnOk};
 ghost use Rattle.toml.specs.View.{view};
 ghost use Rattle.toml.specs.Errors.{IsMemory};
+ghost use Rattle.schema.specs.Shape.{KeepsShape};
 ghost use Rattle.scenario.specs.Reading.{plain_group, plain_groups, setup_of_tree};
-ghost use Rattle.scenario.specs.Rules.{least_broken_by, verdict, KeepsShape, KeepsValues};
+ghost use Rattle.scenario.specs.Rules.{least_broken_by, verdict, KeepsValues};
 
 use crate::lists::{count_of, list_names, read_crashes, read_groups, read_paths, read_slows};
 use crate::pairs::check_pairs;
@@ -11,13 +12,11 @@ use crate::references::check_references;
 use crate::refusal::{Refusal, place_of};
 use crate::roster::Roster;
 use crate::scenario::Scenario;
-use crate::schema::{Key, Section};
-use crate::shape::check_shape;
 use crate::tables::{read_lifeguard, read_link, read_suspicion, read_swim};
 use crate::times::check_times;
-use crate::values::{items_at, number};
 use base::limits::MOST_MEMBERS;
 use base::{Memory, Moment};
+use schema::{Key, Section, check_shape, items_at, number};
 use std::alloc::Global;
 use toml::Value;
 
@@ -34,7 +33,7 @@ pub fn read(alloc: Global, bytes: &[u8]) -> Result<Scenario, Refusal>
     };
     match check_shape(&tree) {
         Ok(()) => build(alloc, &tree),
-        Err(refusal) => Err(refusal),
+        Err(fault) => Err(Refusal::of_shape(fault)),
     }
 }
 

@@ -6,8 +6,7 @@ ghost use Rattle.scenario.specs.Rules.{has_lost_contact, names_no_member, names_
 
 use crate::refusal::Refusal;
 use crate::roster::Roster;
-use crate::schema::Key;
-use crate::values::{items_at, text, text_if};
+use schema::{Key, items_at, text, text_if};
 use toml::Value;
 
 /// Refuses a contact, a slow member, a crash or a path that names no member or no group.

@@ -1,3 +1,4 @@
+use schema::{Fault, Place};
 use thiserror::Error;
 
 /// Why a text was refused.
@@ -19,7 +20,8 @@ pub struct Refusal {
 }
 
 impl Refusal {
-    ghost use Rattle.std.specs.Prelude.{◌≡◌};
+    ghost use Rattle.std.specs.Prelude.{◌≡◌, ◌≤◌};
+    ghost use Rattle.schema.specs.Shape.{rule_of};
 
     /// Memory was refused.
     pub(crate) fn memory() -> Refusal
@@ -37,10 +39,22 @@ impl Refusal {
             place: number_of(index),
         }
     }
+
+    /// The document breaks a rule on its shape.
+    pub(crate) fn of_shape(fault: Fault) -> Refusal
+        ensures rule { result.rule ≡ rule_of fault.check }
+        ensures numbered { (2 ≤ result.rule) × (result.rule ≤ 5) }
+    {
+        let rule = fault.check.rule();
+        match fault.place {
+            Place::Item(index) => Refusal::in_item(rule, index),
+            Place::Table => Refusal { rule, place: 0 },
+        }
+    }
 }
 
 /// The number of the item at an index, counted from 1.
-pub(crate) fn number_of(index: usize) -> u32 {
+fn number_of(index: usize) -> u32 {
     u32::try_from(index.saturating_add(1)).unwrap_or(u32::MAX)
 }
 

@@ -7,11 +7,10 @@ ghost use Rattle.scenario.specs.Rules.{starts_with_letter, is_name_byte, is_grou
 ghost use Rattle.scenario.specs.Roster.{named_group, start_in};
 
 use crate::refusal::Refusal;
-use crate::schema::{Key, Section};
-use crate::values::{number, text};
 use base::{Memory, Moment};
 use indexmap::IndexMap;
 use itoa::Buffer;
+use schema::{Key, Section, number, text};
 use std::alloc::Global;
 use std::marker::Model;
 use toml::Value;

@@ -3,9 +3,8 @@ ghost use Rattle.std.specs.Prelude.{◌≡◌};
 ghost use Rattle.toml.specs.View.{view};
 ghost use Rattle.scenario.specs.Reading.{setup_of_tree};
 
-use crate::schema::{Key, Section};
 use crate::settings::{Lifeguard, Link, Suspicion, Swim};
-use crate::values::{number, switch};
+use schema::{Key, Section, number, switch};
 use toml::Value;
 
 /// How members probe and gossip.

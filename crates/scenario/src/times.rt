@@ -2,16 +2,16 @@
 ghost use Rattle.std.specs.Prelude.{◌≡◌, true, false, is_some, nat_le, nat_eq, nat_lt, ◌||◌, option_map, option_and_then, OnOk, IfErr, IfSome};
 ghost use Rattle.std.specs.List.{list_any};
 ghost use Rattle.toml.specs.View.{view};
-ghost use Rattle.scenario.specs.Reading.{text_if, member_named, plain_groups, setup_of_tree};
+ghost use Rattle.schema.specs.Values.{text_if};
+ghost use Rattle.scenario.specs.Reading.{member_named, plain_groups, setup_of_tree};
 ghost use Rattle.scenario.specs.Rules.{breaks_references, breaks_times};
 ghost use Rattle.scenario.specs.Roster.{start_in};
 ghost use Rattle.scenario.specs.Times.{is_bad_contact_in, is_early_in, is_over_in};
 
 use crate::refusal::Refusal;
 use crate::roster::{Found, Roster};
-use crate::schema::{Key, Section};
 use crate::tables::read_swim;
-use crate::values::{items_at, number, text, text_if};
+use schema::{Key, Section, items_at, number, text, text_if};
 use toml::Value;
 
 /// Refuses a timeout that isn't below the period, a contact of a group that starts at moment 0 or that

@@ -3,11 +3,12 @@ use Rattle.std.specs.List.{list_any}
 use Rattle.std.proofs.lemmas.List.{map_more}
 use Rattle.toml.specs.View.{view}
 use Rattle.toml.specs.declared.value.Value.{Value}
+use Rattle.schema.proofs.Trees.{any-map}
 use Rattle.scenario.specs.Setup.{Group}
 use Rattle.scenario.specs.Reading.{crash_in}
 use Rattle.scenario.specs.Rules.{any_two, is_same_member}
 use Rattle.scenario.specs.declared.settings.Crash.{Crash}
-use Rattle.scenario.proofs.Trees.{any-map, any_same}
+use Rattle.scenario.proofs.Trees.{any_same}
 use Rattle.scenario.proofs.Find.{nat_eq-sym}
 use Rattle.scenario.proofs.Groups.{broken_by, fits_by}
 use Rattle.scenario.proofs.Sweep.{pair_there, pair_missing}

@@ -2,11 +2,11 @@ use Rattle.std.proofs.Common.{◌≡◌, Some, true, false, map, nat_lt, List, s
 use Rattle.toml.specs.Data.{Data}
 use Rattle.toml.specs.View.{view}
 use Rattle.toml.specs.declared.value.Value.{Value}
+use Rattle.schema.specs.Tree.{items_at}
+use Rattle.schema.specs.declared.schema.Key.TheVariants as key
 use Rattle.scenario.specs.Setup.{Group, member_count}
-use Rattle.scenario.specs.Tree.{items_at}
 use Rattle.scenario.specs.Reading.{plain_group, plain_groups, slows_in, crashes_in, setup_of_tree}
 use Rattle.scenario.specs.Rules.{breaks_names, breaks_references, breaks_pairs, breaks_size}
-use Rattle.scenario.specs.declared.schema.Key.TheVariants as key
 use Rattle.scenario.proofs.Chain.{names_least, references_least, pairs_least, times_least, size_least}
 use Rattle.scenario.proofs.Groups.{total_of}
 use Rattle.scenario.proofs.Sound.{counts_same}

@@ -5,12 +5,12 @@ use Rattle.std.proofs.lemmas.List.Folds.{flat_map-map}
 use Rattle.toml.specs.Data.{Data}
 use Rattle.toml.specs.View.{view}
 use Rattle.toml.specs.declared.value.Value.{Value}
+use Rattle.schema.specs.Tree.{items_at}
+use Rattle.schema.specs.declared.schema.Key.TheVariants as key
 use Rattle.scenario.specs.Setup.{Group, names_in, member_count, IsSound}
-use Rattle.scenario.specs.Tree.{items_at}
 use Rattle.scenario.specs.Reading.{plain_groups, group_in, path_in, slow_in, crash_in, setup_of_tree}
 use Rattle.scenario.specs.Rules.{KeepsValues}
 use Rattle.scenario.specs.View.{group_of}
-use Rattle.scenario.specs.declared.schema.Key.TheVariants as key
 use Rattle.scenario.specs.declared.settings.Link.{Link}
 use Rattle.scenario.specs.declared.settings.Path.{Path}
 use Rattle.scenario.specs.declared.settings.Slow.{Slow}

@@ -1,9 +1,0 @@
-use Rattle.std.proofs.Common.{◌≡◌, false, take}
-use Rattle.std.specs.List.{list_any}
-use Rattle.toml.specs.View.{view}
-use Rattle.scenario.specs.Tree.{part}
-use Rattle.scenario.specs.Rules.{part_breaks}
-use Rattle.scenario.proofs.shape.first_broken_item.Given as goal
-
-abbrev pub invariant-loop-i : goal.invariant-loop-i
-invariant-loop-i l = list_any (λ v. part_breaks l.check (part l.section (view v))) (take l.i l.items) ≡ false

@@ -1,0 +1,17 @@
+use Rattle.std.proofs.Common.{map, Some, ap, sym, ◌∙◌}
+use Rattle.std.specs.List.{list_any}
+use Rattle.toml.specs.View.{view}
+use Rattle.schema.specs.Tree.{part, parts_at}
+use Rattle.schema.specs.Shape.{part_breaks}
+use Rattle.schema.proofs.Trees.{any-map}
+use Rattle.schema.proofs.shape.first_broken_in.Goals as goal
+
+pub returns-in-List : goal.returns-in-List
+returns-in-List c =
+    let section = c.in-List.section in
+    let items = c.items.result.now in
+    c.first_broken_item.ensures
+    ∙ sym (any-map (λ d. part_breaks c.args.check (part section d)) view items)
+    ∙ sym (any-map (part_breaks c.args.check) (part section) (map view items))
+    ∙ ap (λ ds. list_any (part_breaks c.args.check) (map (part section) ds)) c.items.ensures
+    ∙ ap (λ kind. list_any (part_breaks c.args.check) (parts_at kind (Some (view c.args.value.now)))) (sym c.in-List.is)

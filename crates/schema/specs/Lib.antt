@@ -1,0 +1,4 @@
+pub mod Schema
+pub mod Tree
+pub mod Shape
+pub mod Values

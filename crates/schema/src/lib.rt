@@ -1,0 +1,13 @@
+//! The keys of a scenario text, as data: which tables a document has, of what kind and range their
+//! values are, and what those values say. What they mean together is not known here.
+#![tactic(auto)]
+
+mod schema;
+mod shape;
+#[cfg(test)]
+mod tests;
+mod values;
+
+pub use schema::{Absence, Key, Kind, Row, Section};
+pub use shape::{Check, Fault, Place, check_shape};
+pub use values::{items_at, number, switch, text, text_if, whole_or};

@@ -1,0 +1,290 @@
+//! The rules on the shape of a document: which keys its tables have, and of what kind and range
+//! their values are.
+ghost use Rattle.std.specs.Prelude.{◌≡◌, ◌≤◌, Some, map, true, false, is_some, is_none, option_map, option_copied, OnOk, IfErr};
+ghost use Rattle.std.specs.List.{list_any};
+ghost use Rattle.toml.specs.View.{view};
+ghost use Rattle.schema.specs.Tree.{part, parts_at, parts_below, row_named, keys_of, items_of};
+ghost use Rattle.schema.specs.Shape.{rule_of, is_over_0, is_missing, is_empty_list, is_absent, has_fault, is_other_kind, is_outside, is_within, part_breaks, breaks, least_broken_of_shape, KeepsShape};
+
+use crate::schema::{Absence, Kind, Row, Section};
+use thiserror::Error;
+use toml::Value;
+
+/// What is asked of the tables of a document, in the order of the rules.
+#[derive(Clone, Copy, Debug, PartialEq, Eq, Error)]
+pub enum Check {
+    /// A required key is missing.
+    #[error("a required key is missing")]
+    Missing,
+    /// A key is unknown.
+    #[error("a key is unknown")]
+    Unknown,
+    /// A value is of another kind.
+    #[error("a value is of another kind")]
+    WrongKind,
+    /// A whole number is outside its range.
+    #[error("a whole number is outside its range")]
+    OutOfRange,
+}
+
+impl Check {
+    /// The number of the rule: 2 to 5, in the order of the checks.
+    pub fn rule(self) -> u8
+        ensures rule { result ≡ rule_of self }
+        ensures numbered { (2 ≤ result) × (result ≤ 5) }
+    {
+        match self {
+            Check::Missing => 2,
+            Check::Unknown => 3,
+            Check::WrongKind => 4,
+            Check::OutOfRange => 5,
+        }
+    }
+}
+
+/// Where a document breaks a rule, for people.
+#[derive(Clone, Copy, Debug, PartialEq, Eq)]
+pub enum Place {
+    /// In the whole text, or in a table that stands once.
+    Table,
+    /// In the item at this index of a list, counted from 0.
+    Item(usize),
+}
+
+/// The least rule on its shape that a document breaks.
+#[derive(Clone, Copy, Debug, PartialEq, Eq, Error)]
+#[error("{check}")]
+pub struct Fault {
+    /// Which rule is broken.
+    pub check: Check,
+    /// Where it is first broken.
+    pub place: Place,
+}
+
+/// Judges the whole text, the tables and the items of lists that its keys call for, by the rules on
+/// the shape: one check after the other, each on all of them. A document that breaks one is refused
+/// by the least such rule.
+pub fn check_shape(tree: &Value) -> Result<(), Fault>
+    ensures kept { OnOk result (KeepsShape (view tree.now)) }
+    ensures err { IfErr result (λ fault. least_broken_of_shape (view tree.now) ≡ Some (rule_of fault.check)) }
+{
+    if let Err(fault) = keep(Check::Missing, tree) {
+        return Err(fault);
+    }
+    if let Err(fault) = keep(Check::Unknown, tree) {
+        return Err(fault);
+    }
+    if let Err(fault) = keep(Check::WrongKind, tree) {
+        return Err(fault);
+    }
+    if let Err(fault) = keep(Check::OutOfRange, tree) {
+        return Err(fault);
+    }
+    Ok(())
+}
+
+/// Refuses a document that breaks the rule.
+fn keep(check: Check, tree: &Value) -> Result<(), Fault>
+    ensures ok { OnOk result (breaks check (view tree.now) ≡ false) }
+    ensures err { IfErr result (λ fault. (breaks check (view tree.now) ≡ true) × (fault.check ≡ check)) }
+{
+    match first_broken(check, tree) {
+        Some(place) => Err(Fault { check, place }),
+        None => Ok(()),
+    }
+}
+
+/// Where the document first breaks the rule.
+fn first_broken(check: Check, tree: &Value) -> Option<Place>
+    ensures { is_some result ≡ breaks check (view tree.now) }
+{
+    if is_broken(check, Section::Top, tree) {
+        return Some(Place::Table);
+    }
+    first_broken_below(check, Section::Top.rows(), tree)
+}
+
+/// Where what the rows call for first breaks the rule.
+fn first_broken_below(check: Check, rows: &[Row], tree: &Value) -> Option<Place>
+    ensures { is_some result ≡ list_any (λ row. list_any (part_breaks check) (parts_below (view tree.now) row)) rows.now }
+{
+    for row in rows {
+        if let Some(value) = tree.get(row.key.text())
+            && let Some(place) = first_broken_in(check, row.kind, value)
+        {
+            return Some(place);
+        }
+    }
+    None
+}
+
+/// Where the value of a key of this kind first breaks the rule, as a table or as a list of tables.
+fn first_broken_in(check: Check, kind: Kind, value: &Value) -> Option<Place>
+    ensures { is_some result ≡ list_any (part_breaks check) (parts_at kind (Some (view value.now))) }
+{
+    match kind {
+        Kind::Table(section) => is_broken(check, section, value).then_some(Place::Table),
+        Kind::List(section) => first_broken_item(check, section, items(value)),
+        Kind::Whole { .. } | Kind::Switch | Kind::Text => None,
+    }
+}
+
+/// The number of the first item that breaks the rule.
+fn first_broken_item(check: Check, section: Section, items: &[Value]) -> Option<Place>
+    ensures { is_some result ≡ list_any (λ v. part_breaks check (part section (view v))) items.now }
+{
+    for (i, item) in items.iter().enumerate() {
+        if is_broken(check, section, item) {
+            return Some(Place::Item(i));
+        }
+    }
+    None
+}
+
+/// The items of a list.
+pub(crate) fn items(value: &Value) -> &[Value]
+    ensures { map view result.now ≡ items_of (view value.now) }
+{
+    match value {
+        Value::Array(items) => items.as_slice(),
+        _ => &[],
+    }
+}
+
+/// Whether a value that has to be a table of the section breaks the rule.
+#[tactic(auto, unfolding(crate::specs::Shape::part_breaks))]
+fn is_broken(check: Check, section: Section, value: &Value) -> bool
+    ensures { result ≡ part_breaks check (part section (view value.now)) }
+{
+    let rows = section.rows();
+    match check {
+        Check::Missing => value.is_table() && is_any_missing(rows, value),
+        Check::Unknown => has_unknown_key(rows, value),
+        Check::WrongKind => !value.is_table() || has_any_other_kind(rows, value),
+        Check::OutOfRange => is_any_outside(rows, value),
+    }
+}
+
+/// Whether the key of one of the rows is required and absent.
+fn is_any_missing(rows: &[Row], table: &Value) -> bool
+    ensures { result ≡ list_any (is_missing (view table.now)) rows.now }
+{
+    rows.iter().any(|row| is_missing(row, table))
+}
+
+/// Whether the row's key is required and absent.
+fn is_missing(row: &Row, table: &Value) -> bool
+    ensures { result ≡ is_missing (view table.now) row.now }
+{
+    match row.absence {
+        Absence::Refused => is_absent(row.kind, table.get(row.key.text())),
+        Absence::RefusedOver0(key) => {
+            is_over_0(table.get(key.text())) && is_absent(row.kind, table.get(row.key.text()))
+        }
+        Absence::Default(_) | Absence::Optional => false,
+    }
+}
+
+/// Whether the value is a whole number over 0.
+fn is_over_0(value: Option<&Value>) -> bool
+    ensures { result ≡ is_over_0 (option_map (λ v. view v.now) value.entry) }
+{
+    match value {
+        Some(Value::Integer(number)) => *number > 0,
+        _ => false,
+    }
+}
+
+/// Whether nothing is there, or of a list no item.
+fn is_absent(kind: Kind, value: Option<&Value>) -> bool
+    ensures { result ≡ is_absent kind (option_map (λ v. view v.now) value.entry) }
+{
+    match value {
+        None => true,
+        Some(value) => match kind {
+            Kind::List(_) => is_empty_list(value),
+            Kind::Whole { .. } | Kind::Switch | Kind::Text | Kind::Table(_) => false,
+        },
+    }
+}
+
+/// Whether the value is a list with no item.
+fn is_empty_list(value: &Value) -> bool
+    ensures { result ≡ is_empty_list (view value.now) }
+{
+    match value {
+        Value::Array(items) => items.is_empty(),
+        _ => false,
+    }
+}
+
+/// Whether a table has a key that none of the rows names.
+fn has_unknown_key(rows: &[Row], value: &Value) -> bool
+    ensures { result ≡ list_any (λ key. is_none (row_named rows.now key)) (keys_of (view value.now)) }
+{
+    match value {
+        Value::Table(table) => table
+            .keys()
+            .any(|key| row_named(rows, key.as_str()).is_none()),
+        _ => false,
+    }
+}
+
+/// The row of the key that is spelt so.
+pub(crate) fn row_named<'a>(rows: &'a [Row], name: &str) -> Option<&'a Row>
+    ensures { option_copied result ≡ row_named rows.now name.now }
+{
+    rows.iter().find(|row| row.key.text() == name)
+}
+
+/// Whether the value of one of the rows' keys is of another kind.
+fn has_any_other_kind(rows: &[Row], table: &Value) -> bool
+    ensures { result ≡ list_any (has_fault is_other_kind (view table.now)) rows.now }
+{
+    rows.iter().any(|row| has_other_kind(row, table))
+}
+
+/// Whether the value of the row's key is of another kind.
+fn has_other_kind(row: &Row, table: &Value) -> bool
+    ensures { result ≡ has_fault is_other_kind (view table.now) row.now }
+{
+    match table.get(row.key.text()) {
+        Some(value) => match row.kind {
+            Kind::Whole { .. } => !value.is_integer(),
+            Kind::Switch => !value.is_bool(),
+            Kind::Text => !value.is_str(),
+            Kind::Table(_) => false,
+            Kind::List(_) => !value.is_array(),
+        },
+        None => false,
+    }
+}
+
+/// Whether the value of one of the rows' keys is a whole number outside its range.
+fn is_any_outside(rows: &[Row], table: &Value) -> bool
+    ensures { result ≡ list_any (has_fault is_outside (view table.now)) rows.now }
+{
+    rows.iter().any(|row| is_outside(row, table))
+}
+
+/// Whether the value of the row's key is a whole number outside its range.
+fn is_outside(row: &Row, table: &Value) -> bool
+    ensures { result ≡ has_fault is_outside (view table.now) row.now }
+{
+    match (row.kind, table.get(row.key.text())) {
+        (Kind::Whole { least, most }, Some(Value::Integer(number))) => {
+            !is_within(least, most, *number)
+        }
+        _ => false,
+    }
+}
+
+/// Whether a number is in a range, both ends included.
+fn is_within(least: u64, most: u64, number: i64) -> bool
+    ensures { result ≡ is_within least most number }
+{
+    match u64::try_from(number) {
+        Ok(number) => least <= number && number <= most,
+        Err(_) => false,
+    }
+}

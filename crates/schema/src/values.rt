@@ -1,0 +1,96 @@
+//! The values of a document's keys.
+ghost use Rattle.std.specs.Prelude.{◌≡◌, ℕ, [], map, option_map, unwrap_or};
+ghost use Rattle.toml.specs.View.{view};
+ghost use Rattle.schema.specs.Tree.{items_at};
+ghost use Rattle.schema.specs.Values.{default_of, whole_or, number_at, is_on, switch_at, text_if, text_at};
+
+use crate::schema::{Absence, Key, Section};
+use crate::shape::{items, row_named};
+use toml::Value;
+
+/// The items of the list of a key; none where no list is there.
+pub fn items_at(key: Key, tree: &Value) -> &[Value]
+    ensures { map view result.now ≡ items_at key (view tree.now) }
+{
+    match tree.get(key.text()) {
+        Some(value) => items(value),
+        None => &[],
+    }
+}
+
+/// The whole number of a key of a table. Where the table, the key or a whole number from 0 on isn't
+/// there, the default that the key has in the section, or 0 where it has none.
+#[tactic(auto, unfolding(crate::specs::Values::number_at))]
+pub fn number(section: Section, key: Key, table: Option<&Value>) -> u64
+    ensures { result ≡ number_at section key (option_map (λ v. view v.now) table.entry) }
+{
+    match table {
+        Some(table) => whole_or(default_of(section, key), table.get(key.text())),
+        None => default_of(section, key),
+    }
+}
+
+/// The switch of a key of a table; on where the table, the key or a boolean isn't there.
+#[tactic(auto, unfolding(crate::specs::Values::switch_at))]
+pub fn switch(key: Key, table: Option<&Value>) -> bool
+    ensures { result ≡ switch_at key (option_map (λ v. view v.now) table.entry) }
+{
+    match table {
+        Some(table) => is_on(table.get(key.text())),
+        None => true,
+    }
+}
+
+/// Whether the switch that may be there is on.
+fn is_on(value: Option<&Value>) -> bool
+    ensures { result ≡ is_on (option_map (λ v. view v.now) value.entry) }
+{
+    match value {
+        Some(Value::Boolean(switch)) => *switch,
+        _ => true,
+    }
+}
+
+/// The whole number from 0 on that is there, else the default.
+pub fn whole_or(default: u64, value: Option<&Value>) -> u64
+    ensures { result ≡ whole_or default (option_map (λ v. view v.now) value.entry) }
+{
+    match value {
+        Some(Value::Integer(number)) => u64::try_from(*number).unwrap_or(default),
+        _ => default,
+    }
+}
+
+/// The default of a key of a section.
+fn default_of(section: Section, key: Key) -> u64
+    ensures { result ≡ default_of section key }
+{
+    match row_named(section.rows(), key.text()) {
+        Some(row) => match row.absence {
+            Absence::Default(number) => number,
+            Absence::Refused | Absence::RefusedOver0(_) | Absence::Optional => 0,
+        },
+        None => 0,
+    }
+}
+
+/// The text of a key of a table, if a string is there.
+#[tactic(auto, unfolding(crate::specs::Values::text_if))]
+pub fn text_if(key: Key, table: &Value) -> Option<&str>
+    ensures { option_map (λ t. t.now) result ≡ text_if key (view table.now) }
+{
+    match table.get(key.text()) {
+        Some(Value::String(text)) => Some(text.as_str()),
+        _ => None,
+    }
+}
+
+/// The text of a key of a table; empty where no string is there.
+pub fn text(key: Key, table: &Value) -> &str
+    ensures { result.now ≡ text_at key (view table.now) }
+{
+    match text_if(key, table) {
+        Some(text) => text,
+        None => "",
+    }
+}
