@@ -1,0 +1,6 @@
+pub mod Worn
+pub mod Holds
+pub mod Lists
+pub mod Helpers
+pub mod Openings
+pub mod Fair

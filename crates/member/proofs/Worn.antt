@@ -1,0 +1,236 @@
+-- What a counter at its limit makes of the definitions, whose numbers have none.
+use Rattle.std.proofs.Common.{◌≡◌, ℕ, ◌+◌, ◌≤◌, ◌^◌, Bool, true, false, cond, nat_eq, List, [], ◌∷◌, Option, Some, None, Result, Ok, Err, IsErrAnd, inl, inr, sym, ap, ◌∙◌, subst, arith}
+use Rattle.std.specs.Result.{IsErrOf}
+use Rattle.std.specs.FinMap.{get}
+use Rattle.base.specs.declared.key.Key.{Key}
+use Rattle.scenario.specs.Setup.{Setup, contact_of}
+use Rattle.trace.specs.declared.row.What.{What}
+use Rattle.member.specs.declared.content.Content.{Content}
+use Rattle.member.specs.State.{State}
+use Rattle.member.specs.Turn.{Effect, on_state, with_row, with_number, with_event, with_timer}
+use Rattle.member.specs.Send.{sent, sent_off, ping_sent, ping_req_sent, ack_sent, join_sent, join_sent_to, welcome_sent}
+use Rattle.incarnation.specs.declared.Claim.{Claim}
+use Rattle.incarnation.specs.declared.Claim.TheVariants.{Alive, Suspect, Confirm}
+use Rattle.incarnation.specs.declared.Update.{Update}
+use Rattle.lifeguard.specs.Health.{LocalHealth}
+use Rattle.suspicion.specs.declared.suspicions.Accused.{Accused}
+use Rattle.membership.specs.Table.{is_confirm, does_override}
+use Rattle.member.specs.Apply.{with_put, passed_on, with_health, refuted, heard_dead, own_applied, with_told, with_place, placed_unless_known, with_claim, claim_kept, alive_heard, suspect_heard, confirm_heard, claim_heard, news_heard, accusation_counted, accusation_heard, is_repeated, other_applied, applied, all_applied}
+use Rattle.lifeguard.specs.declared.probe.Probe.{Probe}
+use Rattle.lifeguard.specs.Probe.{fresh_probe}
+use Rattle.member.specs.Step.{all_asked, suspected, probe_failed, probe_ended, probe_begun, target_probed, next_probed, with_relay, ack_taken, first_period_set}
+use Rattle.member.specs.Worn.{IsWorn}
+
+-- a refusal that is handed on is the one that was met
+pub handed_on : {T U E : Type 0} (r : Result T E) (e x : E) → IsErrAnd r (λ y. y ≡ e) → IsErrOf r x → IsErrOf {T = U} (Err e) x
+handed_on (Ok t) e x gives is = absurd gives
+handed_on (Err y) e x gives is = let same : y ≡ x = cc in ap Err (sym gives ∙ same)
+
+pub worn_number : (t : State) → 2 ^ 63 ≤ t.next_number → IsWorn (with_number t)
+unfolding with_number
+worn_number t h = inl (omega arith)
+
+pub worn_event : (k : Key) (at to : ℕ) (content : Content) (o : Effect) → 2 ^ 63 ≤ o.state.next_number → IsWorn (with_event k at to content o).state
+unfolding with_event
+worn_event k at to content o h = inl (omega arith)
+
+pub kept_row : (k : Key) (tells : What) (about : Option ℕ) (value : ℕ) (lost : Bool) (o : Effect) → IsWorn o.state → IsWorn (with_row k tells about value lost o).state
+unfolding with_row
+kept_row k tells about value lost o worn = worn
+
+pub kept_event : (k : Key) (at to : ℕ) (content : Content) (o : Effect) → IsWorn o.state → IsWorn (with_event k at to content o).state
+unfolding with_event
+kept_event k at to content o worn = elim worn [ inl h ↦ inl (omega arith) | inr h ↦ inr h ]
+
+pub kept_timer : (k : Key) (ticks : ℕ) (content : Content) (o : Effect) → IsWorn o.state → IsWorn (with_timer k ticks content o).state
+unfolding with_timer
+kept_timer k ticks content o worn = kept_event k _ _ content o worn
+
+kept_number : (t : State) → IsWorn t → IsWorn (with_number t)
+unfolding with_number
+kept_number t worn = elim worn [ inl h ↦ inl (omega arith) | inr h ↦ inr h ]
+
+kept_sent_off : (k : Key) (to : ℕ) (content : Content) (arrival : Option ℕ) (o : Effect) → IsWorn o.state → IsWorn (sent_off k to content arrival o).state
+kept_sent_off k to content None o worn = kept_number o.state worn
+kept_sent_off k to content (Some at) o worn = kept_event k at to content o worn
+
+pub kept_sent : (s : Setup) (k : Key) (tells : What) (to value : ℕ) (content : Content) (o : Effect) → IsWorn o.state → IsWorn (sent s k tells to value content o).state
+unfolding sent
+kept_sent s k tells to value content o worn = kept_sent_off k to content _ _ (kept_row k tells _ _ _ _ worn)
+
+pub kept_ping : (s : Setup) (k : Key) (to initiator seq : ℕ) (o : Effect) → IsWorn o.state → IsWorn (ping_sent s k to initiator seq o).state
+unfolding ping_sent
+kept_ping s k to initiator seq o worn = kept_sent s k _ _ _ _ _ worn
+
+pub kept_ping_req : (s : Setup) (k : Key) (target seq to : ℕ) (o : Effect) → IsWorn o.state → IsWorn (ping_req_sent s k target seq to o).state
+unfolding ping_req_sent
+kept_ping_req s k target seq to o worn = kept_sent s k _ _ _ _ _ worn
+
+pub kept_ack : (s : Setup) (k : Key) (to initiator seq : ℕ) (o : Effect) → IsWorn o.state → IsWorn (ack_sent s k to initiator seq o).state
+unfolding ack_sent
+kept_ack s k to initiator seq o worn = kept_sent s k _ _ _ _ _ worn
+
+kept_join_to : (s : Setup) (k : Key) (contact : Option ℕ) (o : Effect) → IsWorn o.state → IsWorn (join_sent_to s k contact o).state
+kept_join_to s k None o worn = worn
+kept_join_to s k (Some contact) o worn = kept_sent s k _ _ _ _ _ worn
+
+pub kept_join : (s : Setup) (k : Key) (o : Effect) → IsWorn o.state → IsWorn (join_sent s k o).state
+unfolding join_sent
+kept_join s k o worn = kept_join_to s k (contact_of s k.to) o worn
+
+pub kept_welcome : (s : Setup) (k : Key) (to : ℕ) (o : Effect) → IsWorn o.state → IsWorn (welcome_sent s k to o).state
+unfolding welcome_sent
+kept_welcome s k to o worn = kept_sent s k _ _ _ _ _ worn
+
+-- ---- updates
+
+pub kept_put : (u : Update) (t : State) → IsWorn t → IsWorn (with_put u t)
+unfolding with_put
+kept_put u t worn = worn
+
+pub kept_passed_on : (loud : Bool) (u : Update) (t : State) → IsWorn t → IsWorn (passed_on loud u t)
+unfolding passed_on
+kept_passed_on true u t worn = kept_put u t worn
+kept_passed_on false u t worn = worn
+
+kept_choice : (b : Bool) (o p : Effect) → IsWorn o.state → IsWorn p.state → IsWorn (cond b o p).state
+kept_choice true o p a b = a
+kept_choice false o p a b = b
+
+pub kept_health : (k : Key) (h : LocalHealth) (o : Effect) → IsWorn o.state → IsWorn (with_health k h o).state
+unfolding with_health
+kept_health k h o worn = kept_choice (nat_eq h.counter o.state.health.counter) _ _ worn (kept_row k _ _ _ _ _ worn)
+
+-- a refutation when the incarnation number stands at its limit
+pub worn_refuted : (k : Key) (o : Effect) → 2 ^ 63 ≤ o.state.incarnation → IsWorn (refuted k o).state
+unfolding refuted
+worn_refuted k o h = kept_put _ _ (kept_health k _ _ (kept_row k _ _ _ _ _ (inr (inr (omega arith)))))
+
+kept_refuted : (k : Key) (o : Effect) → IsWorn o.state → IsWorn (refuted k o).state
+unfolding refuted
+kept_refuted k o worn = kept_put _ _ (kept_health k _ _ (kept_row k _ _ _ _ _ (raised worn)))
+  where
+    raised : IsWorn o.state → IsWorn (record o.state { incarnation = o.state.incarnation + 1 })
+    raised worn = elim worn [ inl h ↦ inl h | inr h ↦ inr (elim h [ inl g ↦ inl g | inr g ↦ inr (omega arith) ]) ]
+
+kept_dead : (k : Key) (number : ℕ) (o : Effect) → IsWorn o.state → IsWorn (heard_dead k number o).state
+unfolding heard_dead
+kept_dead k number o worn = kept_row k _ _ _ _ _ worn
+
+kept_own : (k : Key) (claim : Claim) (number : ℕ) (o : Effect) → IsWorn o.state → IsWorn (own_applied k claim number o).state
+kept_own k Alive number o worn = worn
+kept_own k Suspect number o worn = kept_choice (nat_eq number o.state.incarnation) _ _ (kept_refuted k o worn) worn
+kept_own k Confirm number o worn = kept_choice o.state.heard_dead _ _ worn (kept_dead k number o worn)
+
+kept_told : (loud : Bool) (k : Key) (tells : What) (subject value : ℕ) (o : Effect) → IsWorn o.state → IsWorn (with_told loud k tells subject value o).state
+kept_told loud k tells subject value o worn = kept_choice loud _ _ (kept_row k _ _ _ _ _ worn) worn
+
+kept_placed : (held : Option (Claim × ℕ)) (u : Update) (t : State) → IsWorn t → IsWorn (placed_unless_known held u t)
+kept_placed (Some held) u t worn = worn
+kept_placed None u t worn = placed (is_confirm u.claim)
+  where
+    placed : (b : Bool) → IsWorn (cond b t (with_place u.subject t))
+    placed true = worn
+    placed false = worn
+
+pub kept_claim : (u : Update) (t : State) → IsWorn t → IsWorn (claim_kept u t)
+unfolding claim_kept
+kept_claim u t worn = kept_placed (get t.table u.subject) u (with_claim u t) worn
+
+pub kept_claim_heard : (s : Setup) (loud : Bool) (k : Key) (u : Update) (claim : Claim) (o : Effect) → IsWorn o.state → IsWorn (claim_heard s loud k u claim o).state
+unfolding alive_heard suspect_heard confirm_heard
+kept_claim_heard s loud k u Alive o worn = kept_told loud k _ _ _ _ worn
+kept_claim_heard s loud k u Suspect o worn = kept_event k _ _ _ _ (kept_told loud k _ _ _ _ worn)
+kept_claim_heard s loud k u Confirm o worn = kept_told loud k _ _ _ _ worn
+
+kept_news : (s : Setup) (loud : Bool) (k : Key) (u : Update) (o : Effect) → IsWorn o.state → IsWorn (news_heard s loud k u o).state
+unfolding news_heard
+kept_news s loud k u o worn = kept_passed_on loud u _ (kept_claim_heard s loud k u u.claim _ (kept_claim u o.state worn))
+
+kept_counted : (loud : Bool) (k : Key) (u : Update) (accused : Option Accused) (o : Effect) → IsWorn o.state → IsWorn (accusation_counted loud k u accused o).state
+kept_counted loud k u None o worn = worn
+kept_counted loud k u (Some accused) o worn = kept_passed_on loud u _ (kept_event k _ _ _ _ (kept_told loud k _ _ _ _ worn))
+
+kept_accusation : (loud : Bool) (k : Key) (u : Update) (o : Effect) → IsWorn o.state → IsWorn (accusation_heard loud k u o).state
+unfolding accusation_heard
+kept_accusation loud k u o worn = kept_counted loud k u _ _ worn
+
+kept_other : (s : Setup) (loud : Bool) (k : Key) (u : Update) (held : Option (Claim × ℕ)) (o : Effect) → IsWorn o.state → IsWorn (other_applied s loud k u held o).state
+kept_other s loud k u None o worn = kept_news s loud k u o worn
+kept_other s loud k u (Some held) o worn =
+    kept_choice (does_override (u.claim, u.inc) held) _ _ (kept_news s loud k u o worn)
+    (kept_choice (is_repeated u held) _ _ (kept_accusation loud k u o worn) worn)
+
+pub kept_applied : (s : Setup) (loud : Bool) (k : Key) (u : Update) (o : Effect) → IsWorn o.state → IsWorn (applied s loud k u o).state
+unfolding applied
+kept_applied s loud k u o worn =
+    kept_choice (nat_eq u.subject k.to) _ _ (kept_own k u.claim u.inc o worn) (kept_other s loud k u (get o.state.table u.subject) o worn)
+
+pub kept_all : (s : Setup) (loud : Bool) (k : Key) (us : List Update) (o : Effect) → IsWorn o.state → IsWorn (all_applied s loud k us o).state
+unfolding all_applied
+kept_all s loud k [] o worn = worn
+kept_all s loud k (u ∷ us) o worn = kept_all s loud k us (applied s loud k u o) (kept_applied s loud k u o worn)
+
+-- ---- probes
+
+pub kept_asked : (s : Setup) (k : Key) (target seq : ℕ) (helpers : List ℕ) (o : Effect) → IsWorn o.state → IsWorn (all_asked s k target seq helpers o).state
+unfolding all_asked
+kept_asked s k target seq [] o worn = worn
+kept_asked s k target seq (helper ∷ helpers) o worn = kept_asked s k target seq helpers _ (kept_ping_req s k target seq helper o worn)
+
+kept_suspected : (s : Setup) (k : Key) (target : ℕ) (held : Option (Claim × ℕ)) (o : Effect) → IsWorn o.state → IsWorn (suspected s k target held o).state
+kept_suspected s k target None o worn = worn
+kept_suspected s k target (Some held) o worn = kept_choice (is_confirm held.0) _ _ worn (kept_applied s true k _ o worn)
+
+kept_failed : (s : Setup) (k : Key) (probe : Probe) (o : Effect) → IsWorn o.state → IsWorn (probe_failed s k probe o).state
+unfolding probe_failed
+kept_failed s k probe o worn = kept_suspected s k probe.target _ _ (kept_health k _ _ (kept_row k _ _ _ _ _ worn))
+
+pub kept_probe_ended : (s : Setup) (k : Key) (probe : Option Probe) (o : Effect) → IsWorn o.state → IsWorn (probe_ended s k probe o).state
+unfolding probe_ended
+kept_probe_ended s k None o worn = worn
+kept_probe_ended s k (Some probe) o worn = kept_choice probe.acked _ _ (kept_health k _ _ worn) (kept_failed s k probe o worn)
+
+-- a probe when the sequence number stands at its limit
+pub worn_probe : (s : Setup) (k : Key) (target : ℕ) (o : Effect) → 2 ^ 63 ≤ o.state.sequence → IsWorn (probe_begun s k target o).state
+unfolding probe_begun
+worn_probe s k target o h = kept_timer k _ _ _ (kept_ping s k _ _ _ _ (inr (inl (omega arith))))
+
+kept_begun : (s : Setup) (k : Key) (target : ℕ) (o : Effect) → IsWorn o.state → IsWorn (probe_begun s k target o).state
+unfolding probe_begun
+kept_begun s k target o worn = kept_timer k _ _ _ (kept_ping s k _ _ _ _ (more worn))
+  where
+    more : IsWorn o.state → IsWorn (record o.state { sequence = o.state.sequence + 1; probe = Some (fresh_probe (o.state.sequence + 1) target) })
+    more worn = elim worn [ inl h ↦ inl h | inr h ↦ inr (elim h [ inl g ↦ inl (omega arith) | inr g ↦ inr g ]) ]
+
+kept_target : (s : Setup) (k : Key) (target : Option ℕ) (o : Effect) → IsWorn o.state → IsWorn (target_probed s k target o).state
+kept_target s k None o worn = worn
+kept_target s k (Some target) o worn = kept_begun s k target o worn
+
+pub kept_next : (s : Setup) (k : Key) (o : Effect) → IsWorn o.state → IsWorn (next_probed s k o).state
+unfolding next_probed
+kept_next s k o worn = kept_target s k _ _ worn
+
+kept_relay : (s : Setup) (k : Key) (seq : ℕ) (o : Effect) → IsWorn o.state → IsWorn (with_relay s k seq o).state
+kept_relay s k seq o worn = kept_timer k _ _ _ worn
+
+-- an answer that is owed, or not
+pub kept_owed : (s : Setup) (k : Key) (seq : ℕ) (o : Effect) → IsWorn o.state → IsWorn (cond s.lifeguard.probe (with_relay s k seq o) o).state
+kept_owed s k seq o worn = kept_choice s.lifeguard.probe _ _ (kept_relay s k seq o worn) worn
+
+pub kept_taken : (s : Setup) (k : Key) (initiator seq : ℕ) (o : Effect) → IsWorn o.state → IsWorn (ack_taken s k initiator seq o).state
+unfolding ack_taken
+kept_taken s k initiator seq o worn = kept_choice (nat_eq initiator k.to) _ _ worn (kept_ack s k initiator initiator seq _ worn)
+
+-- a counter that the ping of a new probe wears
+pub worn_pinged : (s : Setup) (k : Key) (target : ℕ) (o : Effect) (p : Probe) → p ≡ fresh_probe (o.state.sequence + 1) target
+    → IsWorn (ping_sent s k target k.to (o.state.sequence + 1) (on_state (λ t. record t { sequence = o.state.sequence + 1; probe = Some p }) o)).state
+    → IsWorn (probe_begun s k target o).state
+unfolding probe_begun
+worn_pinged s k target o p is worn =
+    kept_timer k _ _ _
+    (subst (λ (q : Probe). IsWorn (ping_sent s k target k.to (o.state.sequence + 1) (on_state (λ t. record t { sequence = o.state.sequence + 1; probe = Some q }) o)).state) is worn)
+
+pub kept_first_period : (s : Setup) (k : Key) (o : Effect) → IsWorn o.state → IsWorn (first_period_set s k o).state
+unfolding first_period_set
+kept_first_period s k o worn = kept_timer k _ _ _ worn

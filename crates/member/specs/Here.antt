@@ -1,0 +1,39 @@
+-- The conditions under which an event is handled.
+use Rattle.std.specs.Prelude.{◌≡◌, ◌≢◌, ℕ, ◌<◌, ◌≤◌, ◌^◌, true, false, All}
+use Rattle.std.specs.FinMap.{contains_key}
+use Rattle.base.specs.declared.key.Key.{Key}
+use Rattle.scenario.specs.Setup.{Setup, IsSound, member_count}
+use Rattle.links.specs.declared.table.Links.{Links}
+use Rattle.links.specs.Arrival.{AreLinksOf}
+use Rattle.probing.specs.ProbeOrder.{ProbeOrder, count_of, IsSound as IsSoundRota}
+use Rattle.member.specs.declared.content.Content.{Content}
+use Rattle.member.specs.declared.content.Content.TheVariants.{NackTimer, Welcome, Ping, PingReq, Ack}
+use Rattle.membership.specs.Table.{Known}
+use Rattle.member.specs.State.{State}
+
+-- the links are the scenario's, the event is one of a run of it, and its receiver and its sender are members
+pub record IsHere (s : Setup) (l : Links) (k : Key) : Type 0 where
+  pub sound : IsSound s
+  pub links : AreLinksOf l s
+  pub early : k.at ≤ 2 ^ 40
+  pub receiver : k.to < member_count s
+  pub sender : k.from < member_count s
+
+-- The table is of other members of the scenario, and the rota of members in the table.
+pub record HoldsOthers (s : Setup) (m : ℕ) (table : Known) (rota : ProbeOrder) : Type 0 where
+  pub others : (q : ℕ) → contains_key table q ≡ true → (q < member_count s) × (q ≢ m)
+  pub listed : (q : ℕ) → contains_key table q ≡ false → count_of rota.members q ≡ 0
+  pub sound : IsSoundRota rota
+
+-- what a member of a scenario keeps of its state
+abbrev pub HoldsMembers : Setup → ℕ → State → Type 0
+HoldsMembers s m t = HoldsOthers s m t.table t.rota
+
+-- the members that a content names are among the first n
+abbrev pub NamesMembers : ℕ → Content → Type 0
+NamesMembers n (Welcome entries) = All (λ u. u.subject < n) entries
+NamesMembers n (Ping initiator seq updates) = (initiator < n) × All (λ u. u.subject < n) updates
+NamesMembers n (PingReq seq target updates) = (target < n) × All (λ u. u.subject < n) updates
+NamesMembers n (Ack initiator seq updates) = (initiator < n) × All (λ u. u.subject < n) updates
+NamesMembers n (NackTimer initiator seq) = initiator < n
+NamesMembers n _ = Unit {0}

@@ -1,0 +1,12 @@
+pub mod State
+pub mod Turn
+pub mod Send
+pub mod Apply
+pub mod Step
+pub mod Opening
+pub mod View
+pub mod Worn
+pub mod Here
+pub mod Steps
+pub mod Places
+pub mod Fair

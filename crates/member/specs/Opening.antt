@@ -1,0 +1,66 @@
+-- The world in which a run begins.
+use Rattle.std.specs.Prelude.{ℕ, List, [], ◌∷◌, map, flat_map, false, Option, Some, None, if◌then◌else◌}
+use Rattle.std.specs.List.{range_with_len}
+use Rattle.std.specs.Option.{option_map_or}
+use Rattle.std.specs.FinMap.{from_entries, empty}
+use Rattle.std.specs.FinSet as set
+use Rattle.base.specs.declared.key.Key.{Key}
+use Rattle.base.specs.World.{World, with_events}
+use Rattle.scenario.specs.Setup.{Setup, member_count, start_of, crash_of}
+use Rattle.lifeguard.specs.Health.{LocalHealth, full_health}
+use Rattle.probing.specs.ProbeOrder.{round_over}
+use Rattle.streams.specs.Draw.{member_words}
+use Rattle.member.specs.declared.member.Phase.TheVariants.{Waiting}
+use Rattle.member.specs.declared.content.Content.{Content}
+use Rattle.member.specs.declared.content.Content.TheVariants.{Start, Crash}
+use Rattle.member.specs.State.{State}
+
+-- LHA-Probe off: the health stays full
+abbrev pub opening_health : Setup → LocalHealth
+opening_health s = full_health (if s.lifeguard.probe then s.lifeguard.ceiling else 0)
+
+-- the first number that a member uses for an event of its making: its start has number 0, and its crash, if it
+-- has one, number 1
+abbrev pub first_number : Setup → ℕ → ℕ
+first_number s m = option_map_or (λ at. 2) (crash_of s m) 1
+
+-- A member before its start knows nobody.
+unfoldable pub opening_state : Setup → ℕ → State
+opening_state s m = record {
+  phase = Waiting;
+  next_number = first_number s m;
+  sequence = 0;
+  incarnation = 0;
+  heard_dead = false;
+  health = opening_health s;
+  probe = None;
+  table = empty;
+  buffer = empty;
+  rota = round_over [];
+  suspicions = empty;
+  relays = set.empty;
+  words = member_words s.seed m;
+}
+
+-- an event of the script: its receiver is its sender
+abbrev pub script_key : ℕ → ℕ → ℕ → Key
+script_key m at number = record { at = at; to = m; from = m; number = number }
+
+abbrev pub crash_event : ℕ → Option ℕ → List (Key × Content)
+crash_event m None = []
+crash_event m (Some at) = (script_key m at 1, Crash) ∷ []
+
+-- what the script has for a member
+abbrev pub script_of : Setup → ℕ → List (Key × Content)
+script_of s m = (script_key m (start_of s m) 0, Start) ∷ crash_event m (crash_of s m)
+
+-- members are numbered from 0
+abbrev pub numbers : Setup → List ℕ
+numbers s = range_with_len 0 (member_count s)
+
+-- All members wait, and all events of the script pend, also those past the end.
+abbrev pub opening : Setup → World State Content
+opening s = record {
+  members = from_entries (map (λ m. (m, opening_state s m)) (numbers s));
+  pending = with_events empty (flat_map (script_of s) (numbers s));
+}

@@ -1,0 +1,89 @@
+-- How messages are sent, and what rides on them.
+use Rattle.std.specs.Prelude.{ℕ, ◌*◌, if◌then◌else◌, List, Option, Some, None}
+use Rattle.std.specs.Option.{option_map, is_none}
+use Rattle.std.specs.FinMap.{get, insert}
+use Rattle.base.specs.declared.key.Key.{Key}
+use Rattle.base.specs.Logarithm.{digit_count}
+use Rattle.scenario.specs.Setup.{Setup, contact_of}
+use Rattle.trace.specs.declared.row.What.{What}
+use Rattle.trace.specs.declared.row.What.TheVariants as what
+use Rattle.incarnation.specs.declared.Claim.{Claim}
+use Rattle.incarnation.specs.declared.Claim.TheVariants.{Alive, Suspect}
+use Rattle.incarnation.specs.declared.Update.{Update}
+use Rattle.piggyback.specs.Picked.{picked, left_by_pick}
+use Rattle.suspicion.specs.Suspicions.{first_accuser_of}
+use Rattle.links.specs.Arrival.{arrival_of}
+use Rattle.member.specs.declared.content.Content.{Content}
+use Rattle.member.specs.declared.content.Content.TheVariants.{Join, Welcome, Ping, PingReq, Ack, Nack}
+use Rattle.member.specs.State.{State}
+use Rattle.membership.specs.Table.{Known, is_suspect, live_count, updates_by}
+use Rattle.member.specs.Turn.{Effect, on_state, with_row, with_number, with_event}
+
+-- a message arrives, or is lost: it takes a number all the same
+abbrev pub sent_off : Key → ℕ → Content → Option ℕ → Effect → Effect
+sent_off k to content None o = on_state with_number o
+sent_off k to content (Some at) o = with_event k at to content o
+
+-- A message on its way: the link decides by the member's words whether and when it arrives.
+unfoldable pub sent : Setup → Key → What → ℕ → ℕ → Content → Effect → Effect
+sent s k tells to value content o =
+    let arrival = arrival_of s k.to to k.at o.state.words in
+    sent_off k to content arrival.0 (with_row k tells (Some to) value (is_none arrival.0) (on_state (λ t. record t { words = arrival.1 }) o))
+
+-- An update rides on lambda messages for each digit of n, the members that are not confirmed (SWIM, section 4.1).
+abbrev pub limit_of : Setup → State → ℕ
+limit_of s t = s.swim.lambda * digit_count (live_count t.table)
+
+-- the updates that a message takes along, the buddy first where there is one
+abbrev pub carried : Setup → Option Update → State → List Update
+carried s buddy t = picked t.buffer s.swim.carry (limit_of s t) buddy
+
+-- what taking them leaves
+abbrev pub with_picks : Setup → Option Update → State → State
+with_picks s buddy t = record t { buffer = left_by_pick t.buffer s.swim.carry (limit_of s t) buddy }
+
+-- the suspicion of a member, if the table holds it as suspected, as its first accuser told it
+abbrev pub suspicion_told : State → ℕ → Option (Claim × ℕ) → Option Update
+suspicion_told t to None = None
+suspicion_told t to (Some held) =
+    if is_suspect held.0
+    then option_map (λ first. record { subject = to; claim = Suspect; inc = held.1; accuser = first }) (first_accuser_of t.suspicions to)
+    else None
+
+-- Lifeguard's Buddy System: a ping to a member that is suspected tells it so.
+unfoldable pub buddy_of : Setup → ℕ → State → Option Update
+buddy_of s to t = if s.lifeguard.buddy then suspicion_told t to (get t.table to) else None
+
+-- A ping on behalf of its initiator (SWIM, section 3.1).
+unfoldable pub ping_sent : Setup → Key → ℕ → ℕ → ℕ → Effect → Effect
+ping_sent s k to initiator seq o =
+    let buddy = buddy_of s to o.state in
+    sent s k what.Ping to seq (Ping initiator seq (carried s buddy o.state)) (on_state (with_picks s buddy) o)
+
+-- The request to a helper to ping the target (SWIM, section 3.1).
+unfoldable pub ping_req_sent : Setup → Key → ℕ → ℕ → ℕ → Effect → Effect
+ping_req_sent s k target seq to o = sent s k what.PingReq to seq (PingReq seq target (carried s None o.state)) (on_state (with_picks s None) o)
+
+-- An ack on its way to the initiator of the probe (SWIM, section 3.1).
+unfoldable pub ack_sent : Setup → Key → ℕ → ℕ → ℕ → Effect → Effect
+ack_sent s k to initiator seq o = sent s k what.Ack to seq (Ack initiator seq (carried s None o.state)) (on_state (with_picks s None) o)
+
+-- A helper tells that the target has not answered in time (LHA-Probe). Nothing rides on it.
+unfoldable pub nack_sent : Setup → Key → ℕ → ℕ → Effect → Effect
+nack_sent s k to seq o = sent s k what.Nack to seq (Nack seq) o
+
+abbrev pub join_sent_to : Setup → Key → Option ℕ → Effect → Effect
+join_sent_to s k None o = o
+join_sent_to s k (Some contact) o = sent s k what.Join contact 0 Join o
+
+-- A member that starts late asks its contact to let it join. Each such member has a contact.
+unfoldable pub join_sent : Setup → Key → Effect → Effect
+join_sent s k o = join_sent_to s k (contact_of s k.to) o
+
+-- The whole table, and oneself alive at one's own number.
+unfoldable pub whole_table : ℕ → ℕ → Known → List Update
+whole_table me incarnation table = updates_by me (insert table me (Alive, incarnation))
+
+-- The contact answers by all that it knows.
+unfoldable pub welcome_sent : Setup → Key → ℕ → Effect → Effect
+welcome_sent s k to o = sent s k what.Welcome to 0 (Welcome (whole_table k.to o.state.incarnation o.state.table)) o

@@ -1,0 +1,36 @@
+-- What a member keeps.
+use Rattle.std.specs.Prelude.{ℕ, Bool, Option}
+use Rattle.lifeguard.specs.declared.probe.Probe.{Probe}
+use Rattle.lifeguard.specs.Health.{LocalHealth}
+use Rattle.lifeguard.specs.Relays.{RelaySet}
+use Rattle.piggyback.specs.Picked as piggyback
+use Rattle.probing.specs.ProbeOrder.{ProbeOrder}
+use Rattle.streams.specs.Draw.{Words}
+use Rattle.suspicion.specs.Suspicions as suspicion
+use Rattle.membership.specs.Table.{Known}
+use Rattle.member.specs.declared.member.Phase.{Phase}
+
+pub record State : Type 0 where
+  pub phase : Phase
+  -- the number of the next event that it makes
+  pub next_number : ℕ
+  -- the sequence number of its last probe
+  pub sequence : ℕ
+  -- its own incarnation number (SWIM, section 4.2)
+  pub incarnation : ℕ
+  -- whether it heard that it was confirmed to have failed
+  pub heard_dead : Bool
+  pub health : LocalHealth
+  -- the probe of the present period
+  pub probe : Option Probe
+  -- what it holds of others
+  pub table : Known
+  -- the updates that are still to be sent
+  pub buffer : piggyback.Held
+  -- whom to probe next
+  pub rota : ProbeOrder
+  pub suspicions : suspicion.Held
+  -- the probes that it made for others and has not answered yet
+  pub relays : RelaySet
+  -- the words that are left of its stream
+  pub words : Words

@@ -1,0 +1,44 @@
+-- What a member makes of an event, piece by piece.
+use Rattle.std.specs.Prelude.{ℕ, ◌+◌, Bool, [], ◌∷◌, ◌++◌, length, Option}
+use Rattle.base.specs.declared.key.Key.{Key}
+use Rattle.base.specs.World.{Outcome}
+use Rattle.trace.specs.declared.row.Row.{Row}
+use Rattle.trace.specs.declared.row.What.{What}
+use Rattle.member.specs.declared.content.Content.{Content}
+use Rattle.member.specs.State.{State}
+
+-- the state, and the events and the rows that the handling of an event has made so far
+abbrev pub Effect : Type 0
+Effect = Outcome State Content Row
+
+-- at first nothing
+abbrev pub unchanged : State → Effect
+unchanged t = record { state = t; events = []; rows = [] }
+
+-- a change of the state alone
+abbrev pub on_state : (State → State) → Effect → Effect
+on_state f o = record { state = f o.state; events = o.events; rows = o.rows }
+
+-- The next row of the event: it carries the event's key, and its place among the rows of the event.
+unfoldable pub with_row : Key → What → Option ℕ → ℕ → Bool → Effect → Effect
+with_row k tells about value lost o = record {
+  state = o.state;
+  events = o.events;
+  rows = o.rows ++ (record { at = k.at; member = k.to; from = k.from; number = k.number; index = length o.rows; what = tells; about = about; value = value; lost = lost }) ∷ [];
+}
+
+-- A member numbers what it sends and the timers that it sets, in one order.
+unfoldable pub with_number : State → State
+with_number t = record t { next_number = t.next_number + 1 }
+
+-- An event of the member's making takes the next number.
+unfoldable pub with_event : Key → ℕ → ℕ → Content → Effect → Effect
+with_event k at to content o = record {
+  state = record o.state { next_number = o.state.next_number + 1 };
+  events = o.events ++ ((record { at = at; to = to; from = k.to; number = o.state.next_number }), content) ∷ [];
+  rows = o.rows;
+}
+
+-- a timer of one's own, so many ticks from now
+unfoldable pub with_timer : Key → ℕ → Content → Effect → Effect
+with_timer k ticks content o = with_event k (k.at + ticks) k.to content o

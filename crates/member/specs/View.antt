@@ -1,0 +1,36 @@
+-- What a member in memory, and a turn of it, stand for.
+use Rattle.std.specs.Prelude.{map}
+use Rattle.base.specs.declared.key.Key.{Key}
+use Rattle.streams.specs.Draw.{words_of}
+use Rattle.member.specs.declared.content.Content.{Content}
+use Rattle.member.specs.declared.event.Event.{Event}
+use Rattle.member.specs.declared.member.Member.{Member}
+use Rattle.member.specs.declared.turn.Turn.{Turn}
+use Rattle.member.specs.State.{State}
+use Rattle.member.specs.Turn.{Effect}
+
+-- the state of a member in memory
+abbrev pub state_of : Member → State
+state_of m = record {
+  phase = m.phase;
+  next_number = m.next_number;
+  sequence = m.sequence;
+  incarnation = m.incarnation;
+  heard_dead = m.heard_dead;
+  health = m.health;
+  probe = m.probe;
+  table = m.table;
+  buffer = m.buffer;
+  rota = m.rota;
+  suspicions = m.suspicions;
+  relays = m.relays;
+  words = words_of m.stream;
+}
+
+-- an event as the pair of its key and its content
+abbrev pub pair_of : Event → Key × Content
+pair_of e = (e.key, e.content)
+
+-- what a member and its turn have made so far
+abbrev pub effect_of : Member → Turn → Effect
+effect_of m turn = record { state = state_of m; events = map pair_of turn.events.items; rows = turn.rows.items }

@@ -1,0 +1,56 @@
+use crate::updates::Updates;
+use base::MemberId;
+
+/// What an event asks of its receiver: an event of the script, a timer of one's own, or a message.
+#[derive(Debug, Drop)]
+pub enum Content {
+    /// The member starts.
+    Start,
+    /// The member crashes.
+    Crash,
+    /// The time for a welcome is up.
+    JoinTimer,
+    /// A protocol period begins (SWIM, section 3.1).
+    PeriodTimer,
+    /// The time for a direct answer to a probe is up.
+    TimeoutTimer {
+        seq: u64,
+    },
+    /// The time for an answer to a probe that was made for its initiator is up (LHA-Probe).
+    NackTimer {
+        initiator: MemberId,
+        seq: u64,
+    },
+    /// The time of a suspicion is over (SWIM, section 4.2).
+    SuspicionTimer {
+        subject: MemberId,
+    },
+    /// The sender asks to join.
+    Join,
+    /// The sender lets the receiver join, and tells all that it knows.
+    Welcome {
+        entries: Updates,
+    },
+    /// A probe, on behalf of its initiator.
+    Ping {
+        initiator: MemberId,
+        seq: u64,
+        updates: Updates,
+    },
+    /// The sender asks to probe the target on its behalf (SWIM, section 3.1).
+    PingReq {
+        seq: u64,
+        target: MemberId,
+        updates: Updates,
+    },
+    /// The answer to a probe, on its way to the initiator.
+    Ack {
+        initiator: MemberId,
+        seq: u64,
+        updates: Updates,
+    },
+    /// A helper's target has not answered it in time (LHA-Probe).
+    Nack {
+        seq: u64,
+    },
+}

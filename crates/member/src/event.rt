@@ -1,0 +1,17 @@
+use crate::content::Content;
+use base::Key;
+use trace::Row;
+
+/// An event: its key, and what it asks of its receiver.
+#[derive(Debug, Drop)]
+pub struct Event {
+    pub key: Key,
+    pub content: Content,
+}
+
+/// What steps have made: events, and rows of the trace, each in the order made.
+#[derive(Debug, Drop)]
+pub struct Effects {
+    pub events: Vec<Event>,
+    pub rows: Vec<Row>,
+}

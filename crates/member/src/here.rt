@@ -1,0 +1,15 @@
+use base::Key;
+use links::Links;
+use scenario::Scenario;
+use std::alloc::Global;
+
+/// What stays the same while an event is handled.
+#[derive(Drop)]
+pub(crate) struct Here<'a> {
+    /// Where memory comes from.
+    pub(crate) alloc: Global,
+    /// The key of the event.
+    pub(crate) key: Key,
+    pub(crate) scenario: &'a Scenario,
+    pub(crate) links: &'a Links,
+}

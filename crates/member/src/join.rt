@@ -1,0 +1,200 @@
+ghost use Rattle.std.specs.Prelude.{◌≡◌, ◌<◌, ◌∷◌, ◌++◌, [], if◌then◌else◌, All, length, OnOk, IfOk, IfErr, IsErrOf};
+ghost use Rattle.scenario.specs.Setup.{member_count};
+ghost use Rattle.member.specs.Here.{IsHere, HoldsMembers};
+ghost use Rattle.membership.specs.Table.{all_alive};
+ghost use Rattle.member.specs.Step.{first_period_set, is_first_other, first_others, began, join_asked, joining_begun, started, crashed, join_handled, about_others, joined};
+ghost use Rattle.member.specs.View.{effect_of, state_of};
+ghost use Rattle.member.specs.Worn.{IsWorn};
+
+use crate::content::Content;
+use crate::here::Here;
+use crate::member::{Member, Phase};
+use crate::opening::empty_rota;
+use crate::turn::{StepError, Turn};
+use base::{MemberId, Moment};
+use incarnation::{Claim, Update};
+use membership::Table;
+use probing::Rota;
+use scenario::Scenario;
+use std::alloc::{AllocError, Global};
+use trace::What;
+
+impl Member {
+    /// The first period begins at a moment that chance decides.
+    #[tactic(auto, unfolding(crate::specs::Step::first_period_set))]
+    fn set_first_period(&mut self, turn: &mut Turn, here: &Here) -> Result<(), StepError>
+        requires here { IsHere here.now.scenario.now here.now.links.now here.now.key }
+        requires known { HoldsMembers here.now.scenario.now here.now.key.to (state_of self.old) }
+        ensures ok { OnOk result (effect_of self.new turn.new ≡ first_period_set here.now.scenario.now here.now.key (effect_of self.old turn.old)) }
+        ensures worn { IsErrOf result StepError.Worn → IsWorn (first_period_set here.now.scenario.now here.now.key (effect_of self.old turn.old)).state }
+        ensures kept { OnOk result (HoldsMembers here.now.scenario.now here.now.key.to (state_of self.new)) }
+    {
+        let spread = here.scenario.swim().spread as u32;
+        let wait = self.stream.below(spread);
+        self.set_timer(turn, here, 1 + u64::from(wait), Content::PeriodTimer)
+    }
+
+    /// A member that starts at moment 0 knows all others that do, and probes them.
+    #[tactic(auto, unfolding(crate::specs::Step::began))]
+    fn begin(&mut self, turn: &mut Turn, here: &Here) -> Result<(), StepError>
+        requires here { IsHere here.now.scenario.now here.now.links.now here.now.key }
+        requires known { HoldsMembers here.now.scenario.now here.now.key.to (state_of self.old) }
+        ensures ok { OnOk result (effect_of self.new turn.new ≡ began here.now.scenario.now here.now.key (effect_of self.old turn.old)) }
+        ensures worn { IsErrOf result StepError.Worn → IsWorn (began here.now.scenario.now here.now.key (effect_of self.old turn.old)).state }
+        ensures kept { OnOk result (HoldsMembers here.now.scenario.now here.now.key.to (state_of self.new)) }
+    {
+        let others = first_others(here.alloc, here.scenario, here.key.to)?;
+        let table = Table::of_alive(here.alloc, &others)?;
+        let rota = Rota::of(others)?;
+        self.phase = Phase::Running;
+        self.incarnation = 0;
+        self.table = table;
+        self.rota = rota;
+        self.set_first_period(turn, here)
+    }
+
+    /// Asks the contact to let the member join, and again after a period.
+    #[tactic(auto, unfolding(crate::specs::Step::join_asked))]
+    pub(crate) fn ask_join(&mut self, turn: &mut Turn, here: &Here) -> Result<(), StepError>
+        requires here { IsHere here.now.scenario.now here.now.links.now here.now.key }
+        requires known { HoldsMembers here.now.scenario.now here.now.key.to (state_of self.old) }
+        ensures ok { OnOk result (effect_of self.new turn.new ≡ join_asked here.now.scenario.now here.now.key (effect_of self.old turn.old)) }
+        ensures worn { IsErrOf result StepError.Worn → IsWorn (join_asked here.now.scenario.now here.now.key (effect_of self.old turn.old)).state }
+        ensures kept { OnOk result (HoldsMembers here.now.scenario.now here.now.key.to (state_of self.new)) }
+    {
+        self.send_join(turn, here)?;
+        self.set_timer(turn, here, here.scenario.period(), Content::JoinTimer)
+    }
+
+    /// A member that starts later knows nobody, and joins.
+    #[tactic(auto, unfolding(crate::specs::Step::joining_begun))]
+    fn begin_joining(&mut self, turn: &mut Turn, here: &Here) -> Result<(), StepError>
+        requires here { IsHere here.now.scenario.now here.now.links.now here.now.key }
+        requires known { HoldsMembers here.now.scenario.now here.now.key.to (state_of self.old) }
+        ensures ok { OnOk result (effect_of self.new turn.new ≡ joining_begun here.now.scenario.now here.now.key (effect_of self.old turn.old)) }
+        ensures worn { IsErrOf result StepError.Worn → IsWorn (joining_begun here.now.scenario.now here.now.key (effect_of self.old turn.old)).state }
+        ensures kept { OnOk result (HoldsMembers here.now.scenario.now here.now.key.to (state_of self.new)) }
+    {
+        let rota = empty_rota(here.alloc)?;
+        self.phase = Phase::Joining;
+        self.table = Table::new(here.alloc);
+        self.rota = rota;
+        self.ask_join(turn, here)
+    }
+
+    /// The member starts.
+    #[tactic(auto, unfolding(crate::specs::Step::started))]
+    pub(crate) fn start(&mut self, turn: &mut Turn, here: &Here) -> Result<(), StepError>
+        requires here { IsHere here.now.scenario.now here.now.links.now here.now.key }
+        requires known { HoldsMembers here.now.scenario.now here.now.key.to (state_of self.old) }
+        ensures ok { OnOk result (effect_of self.new turn.new ≡ started here.now.scenario.now here.now.key (effect_of self.old turn.old)) }
+        ensures worn { IsErrOf result StepError.Worn → IsWorn (started here.now.scenario.now here.now.key (effect_of self.old turn.old)).state }
+        ensures kept { OnOk result (HoldsMembers here.now.scenario.now here.now.key.to (state_of self.new)) }
+    {
+        self.write_row(turn, here, What::Start, None, 0, false)?;
+        if here.scenario.start(here.key.to) == Moment(0) {
+            self.begin(turn, here)
+        } else {
+            self.begin_joining(turn, here)
+        }
+    }
+
+    /// The member crashes, for good.
+    #[tactic(auto, unfolding(crate::specs::Step::crashed))]
+    pub(crate) fn crash(&mut self, turn: &mut Turn, here: &Here) -> Result<(), StepError>
+        requires here { IsHere here.now.scenario.now here.now.links.now here.now.key }
+        requires known { HoldsMembers here.now.scenario.now here.now.key.to (state_of self.old) }
+        ensures ok { OnOk result (effect_of self.new turn.new ≡ crashed here.now.key (effect_of self.old turn.old)) }
+        ensures worn { IsErrOf result StepError.Worn → IsWorn (crashed here.now.key (effect_of self.old turn.old)).state }
+        ensures kept { OnOk result (HoldsMembers here.now.scenario.now here.now.key.to (state_of self.new)) }
+    {
+        self.phase = Phase::Down;
+        self.write_row(turn, here, What::Crash, None, 0, false)
+    }
+
+    /// A member that asks to join is alive, and is told all that one knows.
+    #[tactic(auto, unfolding(crate::specs::Step::join_handled))]
+    pub(crate) fn hear_join(&mut self, turn: &mut Turn, here: &Here) -> Result<(), StepError>
+        requires here { IsHere here.now.scenario.now here.now.links.now here.now.key }
+        requires known { HoldsMembers here.now.scenario.now here.now.key.to (state_of self.old) }
+        ensures ok { OnOk result (effect_of self.new turn.new ≡ join_handled here.now.scenario.now here.now.key (effect_of self.old turn.old)) }
+        ensures worn { IsErrOf result StepError.Worn → IsWorn (join_handled here.now.scenario.now here.now.key (effect_of self.old turn.old)).state }
+        ensures kept { OnOk result (HoldsMembers here.now.scenario.now here.now.key.to (state_of self.new)) }
+    {
+        let claim = Update {
+            subject: here.key.from,
+            claim: Claim::Alive,
+            inc: 0,
+            accuser: here.key.to,
+        };
+        self.apply(turn, here, true, &claim)?;
+        self.send_welcome(turn, here, here.key.from)
+    }
+
+    /// A member that is welcomed runs, and takes over what it is told, quietly.
+    #[tactic(auto, unfolding(crate::specs::Step::joined))]
+    pub(crate) fn join(
+        &mut self,
+        turn: &mut Turn,
+        here: &Here,
+        entries: &[Update],
+    ) -> Result<(), StepError>
+        requires here { IsHere here.now.scenario.now here.now.links.now here.now.key }
+        requires known { HoldsMembers here.now.scenario.now here.now.key.to (state_of self.old) }
+        requires entries { All (λ u. u.subject < member_count here.now.scenario.now) entries.now }
+        ensures ok { OnOk result (effect_of self.new turn.new ≡ joined here.now.scenario.now here.now.key entries.now (effect_of self.old turn.old)) }
+        ensures worn { IsErrOf result StepError.Worn → IsWorn (joined here.now.scenario.now here.now.key entries.now (effect_of self.old turn.old)).state }
+        ensures kept { OnOk result (HoldsMembers here.now.scenario.now here.now.key.to (state_of self.new)) }
+    {
+        self.phase = Phase::Running;
+        let others = count_others(entries, here.key.to);
+        self.write_row(turn, here, What::Joined, Some(here.key.from), others, false)?;
+        self.apply_all(turn, here, false, entries)?;
+        self.set_first_period(turn, here)
+    }
+}
+
+// How many entries are about others than oneself.
+fn count_others(entries: &[Update], oneself: MemberId) -> u64
+    ensures { result ≡ length (about_others oneself entries.now) }
+{
+    let others = entries.iter().filter(|entry| entry.subject != oneself);
+    others.count() as u64
+}
+
+/// The other members that start at moment 0, in the order of their numbers.
+fn first_others(
+    alloc: Global,
+    scenario: &Scenario,
+    oneself: MemberId,
+) -> Result<Vec<MemberId>, StepError>
+    ensures others { IfOk result (λ others. others.items ≡ first_others scenario.now oneself) }
+    ensures err { IfErr result (λ e. e ≡ StepError.Memory) }
+{
+    let mut others = Vec::new(alloc);
+    for number in 0..scenario.members() {
+        let other = MemberId(number as u16);
+        let keep = is_first_other(scenario, oneself, other);
+        push_if(&mut others, keep, other)?;
+    }
+    Ok(others)
+}
+
+/// Whether a member is another one that starts at moment 0.
+fn is_first_other(scenario: &Scenario, oneself: MemberId, other: MemberId) -> bool
+    requires { other < member_count scenario.now }
+    ensures { result ≡ is_first_other scenario.now oneself other }
+{
+    scenario.start(other) == Moment(0) && other != oneself
+}
+
+/// Puts a member at the end, if it is to be kept.
+fn push_if(members: &mut Vec<MemberId>, keep: bool, member: MemberId) -> Result<(), AllocError>
+    ensures { OnOk result (members.new.items ≡ members.old.items ++ (if keep then member ∷ [] else [])) }
+{
+    if !keep {
+        return Ok(());
+    }
+    members.push(member)?;
+    Ok(())
+}

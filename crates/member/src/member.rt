@@ -1,0 +1,46 @@
+use lifeguard::{Health, Probe, Relays};
+use membership::Table;
+use piggyback::Buffer;
+use probing::Rota;
+use streams::Stream;
+use suspicion::Suspicions;
+
+/// What a member is about.
+#[derive(Clone, Copy, Debug, PartialEq, Eq)]
+pub enum Phase {
+    /// It has not started.
+    Waiting,
+    /// It has asked to join, and heard no welcome.
+    Joining,
+    /// It takes part.
+    Running,
+    /// It has crashed.
+    Down,
+}
+
+/// A member of the cluster: all that it keeps from one event to the next.
+#[derive(Drop)]
+pub struct Member {
+    pub(crate) phase: Phase,
+    /// The number of the next event that it makes.
+    pub(crate) next_number: u64,
+    /// The sequence number of its last probe.
+    pub(crate) sequence: u64,
+    /// Its own incarnation number (SWIM, section 4.2).
+    pub(crate) incarnation: u64,
+    /// Whether it heard that it was confirmed to have failed.
+    pub(crate) heard_dead: bool,
+    pub(crate) health: Health,
+    /// The probe of the present period.
+    pub(crate) probe: Option<Probe>,
+    /// What it holds of the others.
+    pub(crate) table: Table,
+    /// The updates that are still to be sent.
+    pub(crate) buffer: Buffer,
+    /// Whom to probe next.
+    pub(crate) rota: Rota,
+    pub(crate) suspicions: Suspicions,
+    /// The probes that it made for others and has not answered yet.
+    pub(crate) relays: Relays,
+    pub(crate) stream: Stream,
+}

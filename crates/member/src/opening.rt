@@ -1,0 +1,75 @@
+ghost use Rattle.std.specs.Prelude.{◌≡◌, ◌<◌, ◌≤◌, [], IfOk};
+ghost use Rattle.scenario.specs.Setup.{member_count};
+ghost use Rattle.probing.specs.ProbeOrder.{round_over, IsSound};
+ghost use Rattle.member.specs.Here.{HoldsMembers};
+ghost use Rattle.member.specs.Opening.{opening_state, opening_health, first_number};
+ghost use Rattle.member.specs.View.{state_of};
+
+use crate::member::{Member, Phase};
+use base::{MemberId, Memory};
+use lifeguard::{Health, Relays};
+use membership::Table;
+use piggyback::Buffer;
+use probing::Rota;
+use scenario::Scenario;
+use std::alloc::Global;
+use streams::Stream;
+use suspicion::Suspicions;
+
+/// A member's health before its start: without LHA-Probe it stays full.
+fn opening_health(scenario: &Scenario) -> Health
+    ensures { result ≡ opening_health scenario.now }
+{
+    let lifeguard = scenario.lifeguard();
+    if lifeguard.probe {
+        Health::new(lifeguard.ceiling as u32)
+    } else {
+        Health::new(0)
+    }
+}
+
+/// The first number that a member uses: its start has number 0, its crash, if it has one, number 1.
+fn first_number(scenario: &Scenario, member: MemberId) -> u64
+    requires { member < member_count scenario.now }
+    ensures { result ≡ first_number scenario.now member }
+{
+    match scenario.crash(member) {
+        Some(_) => 2,
+        None => 1,
+    }
+}
+
+/// The rota of a member that knows nobody.
+pub(crate) fn empty_rota(alloc: Global) -> Result<Rota, Memory>
+    ensures members { IfOk result (λ rota. rota.members ≡ []) }
+    ensures value { IfOk result (λ rota. rota ≡ round_over []) }
+    ensures sound { IfOk result IsSound }
+{
+    Rota::of(Vec::new(alloc))
+}
+
+impl Member {
+    /// A member of the scenario before its start, or `Memory` where it was refused.
+    #[tactic(auto, unfolding(crate::specs::Opening::opening_state))]
+    pub fn of(alloc: Global, scenario: &Scenario, member: MemberId) -> Result<Self, Memory>
+        requires { member < member_count scenario.now }
+        ensures state { IfOk result (λ it. state_of it ≡ opening_state scenario.now member) }
+        ensures known { IfOk result (λ it. HoldsMembers scenario.now member (state_of it)) }
+    {
+        Ok(Member {
+            phase: Phase::Waiting,
+            next_number: first_number(scenario, member),
+            sequence: 0,
+            incarnation: 0,
+            heard_dead: false,
+            health: opening_health(scenario),
+            probe: None,
+            table: Table::new(alloc),
+            buffer: Buffer::new(alloc)?,
+            rota: empty_rota(alloc)?,
+            suspicions: Suspicions::new(alloc)?,
+            relays: Relays::new(alloc)?,
+            stream: Stream::of(scenario.seed(), member),
+        })
+    }
+}

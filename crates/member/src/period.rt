@@ -1,0 +1,153 @@
+ghost use Rattle.std.specs.Prelude.{◌≡◌, ◌<◌, OnOk, IfSome, IfErr, IsErrOf};
+ghost use Rattle.scenario.specs.Setup.{member_count};
+ghost use Rattle.member.specs.Here.{IsHere, HoldsMembers};
+ghost use Rattle.std.specs.FinMap.{get};
+ghost use Rattle.probing.specs.ProbeOrder.{next_of};
+ghost use Rattle.member.specs.Step.{probe_ended, probe_failed, suspected, probe_begun, next_probed, period_begun};
+ghost use Rattle.member.specs.View.{effect_of, state_of};
+ghost use Rattle.member.specs.Worn.{IsWorn};
+
+use crate::content::Content;
+use crate::here::Here;
+use crate::member::Member;
+use crate::turn::{StepError, Turn};
+use base::MemberId;
+use base::limits::COUNTER_LIMIT;
+use incarnation::{Claim, Update};
+use lifeguard::Probe;
+use membership::is_confirm;
+use trace::What;
+
+impl Member {
+    /// What the end of a period says of its probe, if there was one.
+    #[tactic(auto, unfolding(crate::specs::Step::probe_ended))]
+    fn end_probe(&mut self, turn: &mut Turn, here: &Here) -> Result<(), StepError>
+        requires here { IsHere here.now.scenario.now here.now.links.now here.now.key }
+        requires known { HoldsMembers here.now.scenario.now here.now.key.to (state_of self.old) }
+        ensures ok { OnOk result (effect_of self.new turn.new ≡ probe_ended here.now.scenario.now here.now.key (state_of self.old).probe (effect_of self.old turn.old)) }
+        ensures worn { IsErrOf result StepError.Worn → IsWorn (probe_ended here.now.scenario.now here.now.key (state_of self.old).probe (effect_of self.old turn.old)).state }
+        ensures kept { OnOk result (HoldsMembers here.now.scenario.now here.now.key.to (state_of self.new)) }
+    {
+        let Some(probe) = self.probe else {
+            return Ok(());
+        };
+        if !probe.acked {
+            return self.fail_probe(turn, here, &probe);
+        }
+        let mut health = self.health;
+        health.probe_ended(&probe);
+        self.set_health(turn, here, health)
+    }
+
+    /// A probe without an ack has failed: the member may be slow, and the target may be down.
+    #[tactic(auto, unfolding(crate::specs::Step::probe_failed))]
+    fn fail_probe(&mut self, turn: &mut Turn, here: &Here, probe: &Probe) -> Result<(), StepError>
+        requires here { IsHere here.now.scenario.now here.now.links.now here.now.key }
+        requires known { HoldsMembers here.now.scenario.now here.now.key.to (state_of self.old) }
+        ensures ok { OnOk result (effect_of self.new turn.new ≡ probe_failed here.now.scenario.now here.now.key probe.now (effect_of self.old turn.old)) }
+        ensures worn { IsErrOf result StepError.Worn → IsWorn (probe_failed here.now.scenario.now here.now.key probe.now (effect_of self.old turn.old)).state }
+        ensures kept { OnOk result (HoldsMembers here.now.scenario.now here.now.key.to (state_of self.new)) }
+    {
+        self.write_row(turn, here, What::Fail, Some(probe.target), probe.seq, false)?;
+        let mut health = self.health;
+        health.probe_ended(probe);
+        self.set_health(turn, here, health)?;
+        self.suspect(turn, here, probe.target)
+    }
+
+    /// Suspects the target of a failed probe, unless it is unknown or confirmed (SWIM, section 4.2).
+    fn suspect(&mut self, turn: &mut Turn, here: &Here, target: MemberId) -> Result<(), StepError>
+        requires here { IsHere here.now.scenario.now here.now.links.now here.now.key }
+        requires known { HoldsMembers here.now.scenario.now here.now.key.to (state_of self.old) }
+        ensures ok { OnOk result (effect_of self.new turn.new ≡ suspected here.now.scenario.now here.now.key target (get (state_of self.old).table target) (effect_of self.old turn.old)) }
+        ensures worn { IsErrOf result StepError.Worn → IsWorn (suspected here.now.scenario.now here.now.key target (get (state_of self.old).table target) (effect_of self.old turn.old)).state }
+        ensures kept { OnOk result (HoldsMembers here.now.scenario.now here.now.key.to (state_of self.new)) }
+    {
+        let Some(held) = self.table.get(target) else {
+            return Ok(());
+        };
+        if is_confirm(held.0) {
+            return Ok(());
+        }
+        let claim = Update {
+            subject: target,
+            claim: Claim::Suspect,
+            inc: held.1,
+            accuser: here.key.to,
+        };
+        self.apply(turn, here, true, &claim)
+    }
+
+    /// The next member to probe, in the turn of the rota.
+    fn next_target(&mut self, here: &Here) -> Option<MemberId>
+        requires known { HoldsMembers here.now.scenario.now here.now.key.to (state_of self.old) }
+        ensures target { result ≡ (next_of (state_of self.old).words (state_of self.old).rota).0 }
+        ensures state { let next = next_of (state_of self.old).words (state_of self.old).rota in
+            state_of self.new ≡ record (state_of self.old) { rota = next.1; words = next.2 } }
+        ensures member { IfSome result (λ target. target < member_count here.now.scenario.now) }
+        ensures kept { HoldsMembers here.now.scenario.now here.now.key.to (state_of self.new) }
+    {
+        self.rota.next(&mut self.stream)
+    }
+
+    /// Probes a target: a ping, which has until the timeout to be answered. LHA-Probe scales the timeout.
+    /// Worn where the sequence number stands at its limit.
+    #[tactic(auto, unfolding(crate::specs::Step::probe_begun))]
+    fn begin_probe(
+        &mut self,
+        turn: &mut Turn,
+        here: &Here,
+        target: MemberId,
+    ) -> Result<(), StepError>
+        requires here { IsHere here.now.scenario.now here.now.links.now here.now.key }
+        requires known { HoldsMembers here.now.scenario.now here.now.key.to (state_of self.old) }
+        requires member { target < member_count here.now.scenario.now }
+        ensures ok { OnOk result (effect_of self.new turn.new ≡ probe_begun here.now.scenario.now here.now.key target (effect_of self.old turn.old)) }
+        ensures worn { IsErrOf result StepError.Worn → IsWorn (probe_begun here.now.scenario.now here.now.key target (effect_of self.old turn.old)).state }
+        ensures kept { OnOk result (HoldsMembers here.now.scenario.now here.now.key.to (state_of self.new)) }
+    {
+        if self.sequence >= COUNTER_LIMIT {
+            return Err(StepError::Worn);
+        }
+        let seq = self.sequence + 1;
+        self.sequence = seq;
+        self.probe = Some(Probe::new(seq, target));
+        self.send_ping(turn, here, target, here.key.to, seq)?;
+        let ticks = self.health.scaled(here.scenario.swim().timeout);
+        self.set_timer(turn, here, ticks, Content::TimeoutTimer { seq })
+    }
+
+    /// Probes the next member, where there is one.
+    #[tactic(auto, unfolding(crate::specs::Step::next_probed))]
+    fn probe_next(&mut self, turn: &mut Turn, here: &Here) -> Result<(), StepError>
+        requires here { IsHere here.now.scenario.now here.now.links.now here.now.key }
+        requires known { HoldsMembers here.now.scenario.now here.now.key.to (state_of self.old) }
+        ensures ok { OnOk result (effect_of self.new turn.new ≡ next_probed here.now.scenario.now here.now.key (effect_of self.old turn.old)) }
+        ensures worn { IsErrOf result StepError.Worn → IsWorn (next_probed here.now.scenario.now here.now.key (effect_of self.old turn.old)).state }
+        ensures kept { OnOk result (HoldsMembers here.now.scenario.now here.now.key.to (state_of self.new)) }
+    {
+        match self.next_target(here) {
+            Some(target) => self.begin_probe(turn, here, target),
+            None => {
+                self.probe = None;
+                Ok(())
+            }
+        }
+    }
+
+    /// A protocol period: the last probe ends, the next begins, and a timer is set for the next period,
+    /// which LHA-Probe scales.
+    #[tactic(auto, unfolding(crate::specs::Step::period_begun))]
+    pub(crate) fn begin_period(&mut self, turn: &mut Turn, here: &Here) -> Result<(), StepError>
+        requires here { IsHere here.now.scenario.now here.now.links.now here.now.key }
+        requires known { HoldsMembers here.now.scenario.now here.now.key.to (state_of self.old) }
+        ensures ok { OnOk result (effect_of self.new turn.new ≡ period_begun here.now.scenario.now here.now.key (effect_of self.old turn.old)) }
+        ensures worn { IsErrOf result StepError.Worn → IsWorn (period_begun here.now.scenario.now here.now.key (effect_of self.old turn.old)).state }
+        ensures kept { OnOk result (HoldsMembers here.now.scenario.now here.now.key.to (state_of self.new)) }
+    {
+        self.end_probe(turn, here)?;
+        self.probe_next(turn, here)?;
+        let ticks = self.health.scaled(here.scenario.period());
+        self.set_timer(turn, here, ticks, Content::PeriodTimer)
+    }
+}

@@ -1,0 +1,279 @@
+ghost use Rattle.std.specs.Prelude.{◌≡◌, ◌<◌, ◌≤◌, OnOk, IfOk, IfErr, IsErrOf};
+ghost use Rattle.scenario.specs.Setup.{member_count};
+ghost use Rattle.links.specs.Arrival.{arrival_of};
+ghost use Rattle.member.specs.Here.{IsHere, HoldsMembers};
+ghost use Rattle.membership.specs.Table.{live_count};
+ghost use Rattle.member.specs.Send.{whole_table, sent, sent_off, carried, with_picks, buddy_of, ping_sent, ping_req_sent, ack_sent, nack_sent, join_sent, welcome_sent};
+ghost use Rattle.member.specs.View.{effect_of, state_of};
+ghost use Rattle.member.specs.Worn.{IsWorn};
+
+use crate::content::Content;
+use crate::here::Here;
+use crate::member::Member;
+use crate::turn::{StepError, Turn};
+use crate::updates::Updates;
+use base::{MemberId, Moment, digits};
+use incarnation::{Claim, Update};
+use membership::is_suspect;
+use trace::What;
+
+impl Member {
+    /// When a message to a member arrives, if it does.
+    fn arrival(&mut self, here: &Here, to: MemberId) -> Option<Moment>
+        requires to { to < member_count here.now.scenario.now }
+        requires here { IsHere here.now.scenario.now here.now.links.now here.now.key }
+        requires known { HoldsMembers here.now.scenario.now here.now.key.to (state_of self.old) }
+        ensures at { let drawn = arrival_of here.now.scenario.now here.now.key.to to here.now.key.at (state_of self.old).words in result ≡ drawn.0 }
+        ensures rest { let drawn = arrival_of here.now.scenario.now here.now.key.to to here.now.key.at (state_of self.old).words in
+            state_of self.new ≡ record (state_of self.old) { words = drawn.1 } }
+        ensures kept { HoldsMembers here.now.scenario.now here.now.key.to (state_of self.new) }
+    {
+        here.links
+            .arrival(here.key.to, to, here.key.at, &mut self.stream)
+    }
+
+    /// A message arrives, or is lost.
+    fn send_off(
+        &mut self,
+        turn: &mut Turn,
+        here: &Here,
+        to: MemberId,
+        content: Content,
+        arrival: Option<Moment>,
+    ) -> Result<(), StepError>
+        requires here { IsHere here.now.scenario.now here.now.links.now here.now.key }
+        requires known { HoldsMembers here.now.scenario.now here.now.key.to (state_of self.old) }
+        ensures ok { OnOk result (effect_of self.new turn.new ≡ sent_off here.now.key to content arrival (effect_of self.old turn.old)) }
+        ensures worn { IsErrOf result StepError.Worn → IsWorn (sent_off here.now.key to content arrival (effect_of self.old turn.old)).state }
+        ensures kept { OnOk result (HoldsMembers here.now.scenario.now here.now.key.to (state_of self.new)) }
+    {
+        match arrival {
+            Some(at) => self.make_event(turn, here, at, to, content),
+            None => self.use_number(here),
+        }
+    }
+
+    /// Sends a message: its row, and its arrival unless it is lost.
+    #[tactic(auto, unfolding(crate::specs::Send::sent))]
+    fn send(
+        &mut self,
+        turn: &mut Turn,
+        here: &Here,
+        what: What,
+        to: MemberId,
+        value: u64,
+        content: Content,
+    ) -> Result<(), StepError>
+        requires to { to < member_count here.now.scenario.now }
+        requires here { IsHere here.now.scenario.now here.now.links.now here.now.key }
+        requires known { HoldsMembers here.now.scenario.now here.now.key.to (state_of self.old) }
+        ensures ok { OnOk result (effect_of self.new turn.new ≡ sent here.now.scenario.now here.now.key what to value content (effect_of self.old turn.old)) }
+        ensures worn { IsErrOf result StepError.Worn → IsWorn (sent here.now.scenario.now here.now.key what to value content (effect_of self.old turn.old)).state }
+        ensures kept { OnOk result (HoldsMembers here.now.scenario.now here.now.key.to (state_of self.new)) }
+    {
+        let arrival = self.arrival(here, to);
+        self.write_row(turn, here, what, Some(to), value, arrival.is_none())?;
+        self.send_off(turn, here, to, content, arrival)
+    }
+
+    /// How many members are not confirmed, oneself included.
+    pub(crate) fn live_members(&self, here: &Here) -> u32
+        requires here { IsHere here.now.scenario.now here.now.links.now here.now.key }
+        requires known { HoldsMembers here.now.scenario.now here.now.key.to (state_of self.now) }
+        ensures value { result ≡ live_count self.now.table }
+        ensures some { 1 ≤ result }
+        ensures few { result ≤ 1024 }
+    {
+        self.table.live_count() as u32
+    }
+
+    /// The updates that a message takes along, the buddy first where there is one.
+    fn pick(&mut self, here: &Here, buddy: Option<Update>) -> Result<Updates, StepError>
+        requires here { IsHere here.now.scenario.now here.now.links.now here.now.key }
+        requires known { HoldsMembers here.now.scenario.now here.now.key.to (state_of self.old) }
+        ensures updates { IfOk result (λ updates. updates ≡ carried here.now.scenario.now buddy (state_of self.old)) }
+        ensures state { OnOk result (state_of self.new ≡ with_picks here.now.scenario.now buddy (state_of self.old)) }
+        ensures err { IfErr result (λ e. e ≡ StepError.Memory) }
+        ensures kept { OnOk result (HoldsMembers here.now.scenario.now here.now.key.to (state_of self.new)) }
+    {
+        let swim = here.scenario.swim();
+        let limit = swim.lambda * u64::from(digits(self.live_members(here)));
+        let updates = self.buffer.pick(swim.carry as usize, limit, buddy)?;
+        Ok(Updates::of(updates))
+    }
+
+    /// The suspicion of which a ping tells its receiver (Lifeguard's Buddy System).
+    #[tactic(auto, unfolding(crate::specs::Send::buddy_of))]
+    fn buddy(&self, here: &Here, to: MemberId) -> Option<Update>
+        ensures { result ≡ buddy_of here.now.scenario.now to (state_of self.now) }
+    {
+        if !here.scenario.lifeguard().buddy {
+            return None;
+        }
+        let held = self.table.get(to)?;
+        if !is_suspect(held.0) {
+            return None;
+        }
+        let accuser = self.suspicions.first_accuser(to)?;
+        Some(Update {
+            subject: to,
+            claim: Claim::Suspect,
+            inc: held.1,
+            accuser,
+        })
+    }
+
+    /// Sends a ping on behalf of its initiator (SWIM, section 3.1).
+    #[tactic(auto, unfolding(crate::specs::Send::ping_sent))]
+    pub(crate) fn send_ping(
+        &mut self,
+        turn: &mut Turn,
+        here: &Here,
+        to: MemberId,
+        initiator: MemberId,
+        seq: u64,
+    ) -> Result<(), StepError>
+        requires to { to < member_count here.now.scenario.now }
+        requires here { IsHere here.now.scenario.now here.now.links.now here.now.key }
+        requires known { HoldsMembers here.now.scenario.now here.now.key.to (state_of self.old) }
+        ensures ok { OnOk result (effect_of self.new turn.new ≡ ping_sent here.now.scenario.now here.now.key to initiator seq (effect_of self.old turn.old)) }
+        ensures worn { IsErrOf result StepError.Worn → IsWorn (ping_sent here.now.scenario.now here.now.key to initiator seq (effect_of self.old turn.old)).state }
+        ensures kept { OnOk result (HoldsMembers here.now.scenario.now here.now.key.to (state_of self.new)) }
+    {
+        let buddy = self.buddy(here, to);
+        let updates = self.pick(here, buddy)?;
+        let ping = Content::Ping {
+            initiator,
+            seq,
+            updates,
+        };
+        self.send(turn, here, What::Ping, to, seq, ping)
+    }
+
+    /// Asks a helper to ping the target (SWIM, section 3.1).
+    #[tactic(auto, unfolding(crate::specs::Send::ping_req_sent))]
+    pub(crate) fn send_ping_req(
+        &mut self,
+        turn: &mut Turn,
+        here: &Here,
+        target: MemberId,
+        seq: u64,
+        to: MemberId,
+    ) -> Result<(), StepError>
+        requires to { to < member_count here.now.scenario.now }
+        requires here { IsHere here.now.scenario.now here.now.links.now here.now.key }
+        requires known { HoldsMembers here.now.scenario.now here.now.key.to (state_of self.old) }
+        ensures ok { OnOk result (effect_of self.new turn.new ≡ ping_req_sent here.now.scenario.now here.now.key target seq to (effect_of self.old turn.old)) }
+        ensures worn { IsErrOf result StepError.Worn → IsWorn (ping_req_sent here.now.scenario.now here.now.key target seq to (effect_of self.old turn.old)).state }
+        ensures kept { OnOk result (HoldsMembers here.now.scenario.now here.now.key.to (state_of self.new)) }
+    {
+        let updates = self.pick(here, None)?;
+        let request = Content::PingReq {
+            seq,
+            target,
+            updates,
+        };
+        self.send(turn, here, What::PingReq, to, seq, request)
+    }
+
+    /// Sends an ack on its way to the initiator of the probe (SWIM, section 3.1).
+    #[tactic(auto, unfolding(crate::specs::Send::ack_sent))]
+    pub(crate) fn send_ack(
+        &mut self,
+        turn: &mut Turn,
+        here: &Here,
+        to: MemberId,
+        initiator: MemberId,
+        seq: u64,
+    ) -> Result<(), StepError>
+        requires to { to < member_count here.now.scenario.now }
+        requires here { IsHere here.now.scenario.now here.now.links.now here.now.key }
+        requires known { HoldsMembers here.now.scenario.now here.now.key.to (state_of self.old) }
+        ensures ok { OnOk result (effect_of self.new turn.new ≡ ack_sent here.now.scenario.now here.now.key to initiator seq (effect_of self.old turn.old)) }
+        ensures worn { IsErrOf result StepError.Worn → IsWorn (ack_sent here.now.scenario.now here.now.key to initiator seq (effect_of self.old turn.old)).state }
+        ensures kept { OnOk result (HoldsMembers here.now.scenario.now here.now.key.to (state_of self.new)) }
+    {
+        let updates = self.pick(here, None)?;
+        let ack = Content::Ack {
+            initiator,
+            seq,
+            updates,
+        };
+        self.send(turn, here, What::Ack, to, seq, ack)
+    }
+
+    /// Tells an initiator that the target has not answered in time (LHA-Probe).
+    #[tactic(auto, unfolding(crate::specs::Send::nack_sent))]
+    pub(crate) fn send_nack(
+        &mut self,
+        turn: &mut Turn,
+        here: &Here,
+        to: MemberId,
+        seq: u64,
+    ) -> Result<(), StepError>
+        requires to { to < member_count here.now.scenario.now }
+        requires here { IsHere here.now.scenario.now here.now.links.now here.now.key }
+        requires known { HoldsMembers here.now.scenario.now here.now.key.to (state_of self.old) }
+        ensures ok { OnOk result (effect_of self.new turn.new ≡ nack_sent here.now.scenario.now here.now.key to seq (effect_of self.old turn.old)) }
+        ensures worn { IsErrOf result StepError.Worn → IsWorn (nack_sent here.now.scenario.now here.now.key to seq (effect_of self.old turn.old)).state }
+        ensures kept { OnOk result (HoldsMembers here.now.scenario.now here.now.key.to (state_of self.new)) }
+    {
+        self.send(turn, here, What::Nack, to, seq, Content::Nack { seq })
+    }
+
+    /// Asks the contact, where there is one, to let the member join.
+    #[tactic(auto, unfolding(crate::specs::Send::join_sent))]
+    pub(crate) fn send_join(&mut self, turn: &mut Turn, here: &Here) -> Result<(), StepError>
+        requires here { IsHere here.now.scenario.now here.now.links.now here.now.key }
+        requires known { HoldsMembers here.now.scenario.now here.now.key.to (state_of self.old) }
+        ensures ok { OnOk result (effect_of self.new turn.new ≡ join_sent here.now.scenario.now here.now.key (effect_of self.old turn.old)) }
+        ensures worn { IsErrOf result StepError.Worn → IsWorn (join_sent here.now.scenario.now here.now.key (effect_of self.old turn.old)).state }
+        ensures kept { OnOk result (HoldsMembers here.now.scenario.now here.now.key.to (state_of self.new)) }
+    {
+        match here.scenario.contact(here.key.to) {
+            None => Ok(()),
+            Some(contact) => self.send(turn, here, What::Join, contact, 0, Content::Join),
+        }
+    }
+
+    /// The whole table and oneself. Oneself stands in the table meanwhile.
+    #[tactic(auto, unfolding(crate::specs::Send::whole_table))]
+    fn whole_table(&mut self, here: &Here) -> Result<Updates, StepError>
+        requires known { HoldsMembers here.now.scenario.now here.now.key.to (state_of self.old) }
+        ensures entries { IfOk result (λ entries. entries ≡ whole_table here.now.key.to (state_of self.old).incarnation (state_of self.old).table) }
+        ensures state { OnOk result (state_of self.new ≡ state_of self.old) }
+        ensures err { IfErr result (λ e. e ≡ StepError.Memory) }
+    {
+        let oneself = (Claim::Alive, self.incarnation);
+        self.table.set(here.key.to, oneself)?;
+        let entries = self.table.updates_by(here.alloc, here.key.to)?;
+        self.table.remove(here.key.to);
+        Ok(Updates::of(entries))
+    }
+
+    /// Tells a member that joins all that one knows.
+    #[tactic(auto, unfolding(crate::specs::Send::welcome_sent))]
+    pub(crate) fn send_welcome(
+        &mut self,
+        turn: &mut Turn,
+        here: &Here,
+        to: MemberId,
+    ) -> Result<(), StepError>
+        requires to { to < member_count here.now.scenario.now }
+        requires here { IsHere here.now.scenario.now here.now.links.now here.now.key }
+        requires known { HoldsMembers here.now.scenario.now here.now.key.to (state_of self.old) }
+        ensures ok { OnOk result (effect_of self.new turn.new ≡ welcome_sent here.now.scenario.now here.now.key to (effect_of self.old turn.old)) }
+        ensures worn { IsErrOf result StepError.Worn → IsWorn (welcome_sent here.now.scenario.now here.now.key to (effect_of self.old turn.old)).state }
+        ensures kept { OnOk result (HoldsMembers here.now.scenario.now here.now.key.to (state_of self.new)) }
+    {
+        let entries = self.whole_table(here)?;
+        self.send(
+            turn,
+            here,
+            What::Welcome,
+            to,
+            0,
+            Content::Welcome { entries },
+        )
+    }
+}

@@ -1,0 +1,188 @@
+ghost use Rattle.std.specs.Prelude.{◌≡◌, ◌++◌, map, OnOk, IfErr, IsErrOf};
+ghost use Rattle.scenario.specs.Setup.{member_count};
+ghost use Rattle.member.specs.Here.{IsHere, HoldsMembers};
+ghost use Rattle.member.specs.Here.{NamesMembers};
+ghost use Rattle.member.specs.Step.{step, handled, probing_handled};
+ghost use Rattle.member.specs.Steps.{Steps};
+ghost use Rattle.member.specs.View.{effect_of, state_of, pair_of};
+ghost use Rattle.member.specs.Worn.{IsWorn};
+
+use crate::content::Content;
+use crate::event::{Effects, Event};
+use crate::here::Here;
+use crate::member::{Member, Phase};
+use crate::turn::{StepError, Turn};
+use links::Links;
+use scenario::Scenario;
+use std::alloc::Global;
+
+impl Member {
+    /// A member that waits heeds its start alone.
+    #[tactic(auto, unfolding(crate::specs::Step::handled))]
+    fn handle_waiting(
+        &mut self,
+        turn: &mut Turn,
+        here: &Here,
+        content: &Content,
+    ) -> Result<(), StepError>
+        requires here { IsHere here.now.scenario.now here.now.links.now here.now.key }
+        requires known { HoldsMembers here.now.scenario.now here.now.key.to (state_of self.old) }
+        ensures ok { OnOk result (effect_of self.new turn.new ≡ handled here.now.scenario.now here.now.key content.now Phase.Waiting (effect_of self.old turn.old)) }
+        ensures worn { IsErrOf result StepError.Worn → IsWorn (handled here.now.scenario.now here.now.key content.now Phase.Waiting (effect_of self.old turn.old)).state }
+        ensures kept { OnOk result (HoldsMembers here.now.scenario.now here.now.key.to (state_of self.new)) }
+    {
+        match content {
+            Content::Start => self.start(turn, here),
+            _ => Ok(()),
+        }
+    }
+
+    /// A member that joins heeds a crash, its join timer and a welcome.
+    #[tactic(auto, unfolding(crate::specs::Step::handled))]
+    fn handle_joining(
+        &mut self,
+        turn: &mut Turn,
+        here: &Here,
+        content: &Content,
+    ) -> Result<(), StepError>
+        requires here { IsHere here.now.scenario.now here.now.links.now here.now.key }
+        requires known { HoldsMembers here.now.scenario.now here.now.key.to (state_of self.old) }
+        requires names { NamesMembers (member_count here.now.scenario.now) content.now }
+        ensures ok { OnOk result (effect_of self.new turn.new ≡ handled here.now.scenario.now here.now.key content.now Phase.Joining (effect_of self.old turn.old)) }
+        ensures worn { IsErrOf result StepError.Worn → IsWorn (handled here.now.scenario.now here.now.key content.now Phase.Joining (effect_of self.old turn.old)).state }
+        ensures kept { OnOk result (HoldsMembers here.now.scenario.now here.now.key.to (state_of self.new)) }
+    {
+        match content {
+            Content::Crash => self.crash(turn, here),
+            Content::JoinTimer => self.ask_join(turn, here),
+            Content::Welcome { entries } => self.join(turn, here, entries.as_slice()),
+            _ => Ok(()),
+        }
+    }
+
+    /// A member that runs heeds all but its start, its join timer and a second welcome.
+    #[tactic(auto, unfolding(crate::specs::Step::handled))]
+    fn handle_running(
+        &mut self,
+        turn: &mut Turn,
+        here: &Here,
+        content: &Content,
+    ) -> Result<(), StepError>
+        requires here { IsHere here.now.scenario.now here.now.links.now here.now.key }
+        requires known { HoldsMembers here.now.scenario.now here.now.key.to (state_of self.old) }
+        requires names { NamesMembers (member_count here.now.scenario.now) content.now }
+        ensures ok { OnOk result (effect_of self.new turn.new ≡ handled here.now.scenario.now here.now.key content.now Phase.Running (effect_of self.old turn.old)) }
+        ensures worn { IsErrOf result StepError.Worn → IsWorn (handled here.now.scenario.now here.now.key content.now Phase.Running (effect_of self.old turn.old)).state }
+        ensures kept { OnOk result (HoldsMembers here.now.scenario.now here.now.key.to (state_of self.new)) }
+    {
+        match content {
+            Content::Crash => self.crash(turn, here),
+            Content::PeriodTimer => self.begin_period(turn, here),
+            Content::TimeoutTimer { seq } => self.time_out(turn, here, *seq),
+            Content::NackTimer { initiator, seq } => self.end_relay(turn, here, *initiator, *seq),
+            Content::SuspicionTimer { subject } => self.end_suspicion(turn, here, *subject),
+            Content::Join => self.hear_join(turn, here),
+            Content::Nack { seq } => {
+                self.hear_nack(turn, here, *seq);
+                Ok(())
+            }
+            _ => self.handle_probing(turn, here, content),
+        }
+    }
+
+    /// The messages of a probe, on which updates ride.
+    fn handle_probing(
+        &mut self,
+        turn: &mut Turn,
+        here: &Here,
+        content: &Content,
+    ) -> Result<(), StepError>
+        requires here { IsHere here.now.scenario.now here.now.links.now here.now.key }
+        requires known { HoldsMembers here.now.scenario.now here.now.key.to (state_of self.old) }
+        requires names { NamesMembers (member_count here.now.scenario.now) content.now }
+        ensures ok { OnOk result (effect_of self.new turn.new ≡ probing_handled here.now.scenario.now here.now.key content.now (effect_of self.old turn.old)) }
+        ensures worn { IsErrOf result StepError.Worn → IsWorn (probing_handled here.now.scenario.now here.now.key content.now (effect_of self.old turn.old)).state }
+        ensures kept { OnOk result (HoldsMembers here.now.scenario.now here.now.key.to (state_of self.new)) }
+    {
+        match content {
+            Content::Ping {
+                initiator,
+                seq,
+                updates,
+            } => self.hear_ping(turn, here, *initiator, *seq, updates.as_slice()),
+            Content::PingReq {
+                seq,
+                target,
+                updates,
+            } => self.hear_ping_req(turn, here, *seq, *target, updates.as_slice()),
+            Content::Ack {
+                initiator,
+                seq,
+                updates,
+            } => self.hear_ack(turn, here, *initiator, *seq, updates.as_slice()),
+            _ => Ok(()),
+        }
+    }
+
+    /// By the phase of the member.
+    #[tactic(auto, unfolding(crate::specs::Step::handled))]
+    fn handle(&mut self, turn: &mut Turn, here: &Here, content: &Content) -> Result<(), StepError>
+        requires here { IsHere here.now.scenario.now here.now.links.now here.now.key }
+        requires known { HoldsMembers here.now.scenario.now here.now.key.to (state_of self.old) }
+        requires names { NamesMembers (member_count here.now.scenario.now) content.now }
+        ensures ok { OnOk result (effect_of self.new turn.new ≡ handled here.now.scenario.now here.now.key content.now (state_of self.old).phase (effect_of self.old turn.old)) }
+        ensures worn { IsErrOf result StepError.Worn → IsWorn (handled here.now.scenario.now here.now.key content.now (state_of self.old).phase (effect_of self.old turn.old)).state }
+        ensures kept { OnOk result (HoldsMembers here.now.scenario.now here.now.key.to (state_of self.new)) }
+    {
+        match self.phase {
+            Phase::Waiting => self.handle_waiting(turn, here, content),
+            Phase::Joining => self.handle_joining(turn, here, content),
+            Phase::Running => self.handle_running(turn, here, content),
+            Phase::Down => Ok(()),
+        }
+    }
+
+    /// Handles an event of the member's own: its state is that of the step after it, and the events and
+    /// the rows that the step makes are appended to `out`.
+    ///
+    /// Refusals: `Memory`; `Worn` where a counter stands at 2^63 and would have to rise. Then the member
+    /// and `out` are spent, and the run ends.
+    #[tactic(auto, unfolding(crate::specs::Step::step))]
+    pub fn step(
+        &mut self,
+        alloc: Global,
+        event: Event,
+        scenario: &Scenario,
+        links: &Links,
+        out: &mut Effects,
+    ) -> Result<(), StepError>
+        requires here { IsHere scenario.now links.now event.key }
+        requires known { HoldsMembers scenario.now event.key.to (state_of self.old) }
+        requires names { NamesMembers (member_count scenario.now) event.content }
+        ensures ok { OnOk result (Steps scenario.now event self.old self.new out.old out.new) }
+        ensures worn { IsErrOf result StepError.Worn → IsWorn (step scenario.now event.key event.content (state_of self.old)).state }
+        ensures kept { OnOk result (HoldsMembers scenario.now event.key.to (state_of self.new)) }
+    {
+        let Event { key, content } = event;
+        let here = Here {
+            alloc,
+            key,
+            scenario,
+            links,
+        };
+        let mut turn = Turn::new(alloc);
+        self.handle(&mut turn, &here, &content)?;
+        append(turn, out)
+    }
+}
+
+/// Appends what a turn has made.
+fn append(mut turn: Turn, out: &mut Effects) -> Result<(), StepError>
+    ensures events { OnOk result (out.new.events.items ≡ out.old.events.items ++ turn.events.items) }
+    ensures rows { OnOk result (out.new.rows.items ≡ out.old.rows.items ++ turn.rows.items) }
+    ensures err { IfErr result (λ e. e ≡ StepError.Memory) }
+{
+    out.events.append(&mut turn.events)?;
+    out.rows.append(&mut turn.rows)?;
+    Ok(())
+}

@@ -1,0 +1,325 @@
+//! What a member makes of an update: each claim on each other, and claims about itself.
+
+use crate::tests_fixture::Asks::{PeriodTimer, Ping, Start};
+use crate::tests_fixture::{
+    Case, GROWING, GROWING_UNAWARE, Input, ROWS, SILENT, Setting, assert_cases, outcome_of,
+};
+use incarnation::Claim;
+use incarnation::Claim::{Alive, Confirm, Suspect};
+use std::process::Abort;
+use std::test::Fail;
+
+/// Member 0 starts.
+const START: Input = (0, 0, 0, Start);
+
+/// A claim about member 1 that is held at number 3, the one that comes, its number, and the row where it
+/// is news.
+type Claims = (Claim, Claim, u64, Option<&'static str>);
+
+/// Each claim on each other, at 2, 3 and 4. Of two members none more may accuse.
+const CLAIMS: &[Claims] = &[
+    (Alive, Alive, 2, None),
+    (Alive, Alive, 3, None),
+    (Alive, Alive, 4, Some("alive 1 4")),
+    (Alive, Suspect, 2, None),
+    (Alive, Suspect, 3, Some("suspect 1 3")),
+    (Alive, Suspect, 4, Some("suspect 1 4")),
+    (Alive, Confirm, 2, Some("confirm 1 2")),
+    (Alive, Confirm, 3, Some("confirm 1 3")),
+    (Alive, Confirm, 4, Some("confirm 1 4")),
+    (Suspect, Alive, 2, None),
+    (Suspect, Alive, 3, None),
+    (Suspect, Alive, 4, Some("alive 1 4")),
+    (Suspect, Suspect, 2, None),
+    (Suspect, Suspect, 3, None),
+    (Suspect, Suspect, 4, Some("suspect 1 4")),
+    (Suspect, Confirm, 2, Some("confirm 1 2")),
+    (Suspect, Confirm, 3, Some("confirm 1 3")),
+    (Suspect, Confirm, 4, Some("confirm 1 4")),
+    (Confirm, Alive, 2, None),
+    (Confirm, Alive, 3, None),
+    (Confirm, Alive, 4, None),
+    (Confirm, Suspect, 2, None),
+    (Confirm, Suspect, 3, None),
+    (Confirm, Suspect, 4, None),
+    (Confirm, Confirm, 2, None),
+    (Confirm, Confirm, 3, None),
+    (Confirm, Confirm, 4, None),
+];
+
+/// Asserts what the second of two claims about member 1 makes. What is news takes the place of what was
+/// passed on.
+fn assert_claims(rt: &(impl Abort + AllocGlobal), claims: Claims) -> Result<(), Fail> {
+    let (held, claim, inc, row) = claims;
+    let steps = &[
+        START,
+        (5, 2, 3, Ping(2, 9, &[(1, held, 3, 3)])),
+        (6, 2, 4, Ping(2, 10, &[(1, claim, inc, 4)])),
+    ];
+    let outcome = outcome_of(rt, GROWING, 0, steps, None)?;
+    let (rows, end) = match row {
+        Some(row) => (format!(in rt.alloc(); "{row}\nack 2 10\n")?, " by 4\n"),
+        None => (format!(in rt.alloc(); "ack 2 10\n")?, " by 3\n"),
+    };
+    assert_eq!(rt;
+        outcome.rows.as_str(),
+        rows.as_str(),
+        "{claim:?} {inc} on {held:?}"
+    );
+    assert!(rt;
+        outcome.events.ends_with(end),
+        "{claim:?} {inc} on {held:?}"
+    );
+    Ok(())
+}
+
+#[test]
+fn each_claim_on_each_other(rt: HostRuntime) -> Result<(), Fail> {
+    for claims in CLAIMS {
+        assert_claims(&rt, *claims)?;
+    }
+    Ok(())
+}
+
+/// The first period of member 0 begins late.
+const PERIOD: Input = (6, 0, 1, PeriodTimer);
+
+const UNKNOWN: &[Case] = &[
+    // Member 1 is confirmed, so that the rota is empty.
+    Case {
+        name: "an unknown member that is alive is probed",
+        steps: &[
+            START,
+            (5, 2, 3, Ping(2, 9, &[(1, Confirm, 0, 2), (2, Alive, 0, 3)])),
+            PERIOD,
+        ],
+        rows: &["ping 2 1"],
+        ..ROWS
+    },
+    Case {
+        name: "an unknown member that is suspected is probed",
+        steps: &[
+            START,
+            (
+                5,
+                2,
+                3,
+                Ping(2, 9, &[(1, Confirm, 0, 2), (2, Suspect, 0, 3)]),
+            ),
+            PERIOD,
+        ],
+        rows: &["ping 2 1"],
+        ..ROWS
+    },
+    Case {
+        name: "an unknown member that is confirmed isn't",
+        steps: &[
+            START,
+            (
+                5,
+                2,
+                3,
+                Ping(2, 9, &[(1, Confirm, 0, 2), (2, Confirm, 0, 3)]),
+            ),
+            PERIOD,
+        ],
+        ..ROWS
+    },
+    Case {
+        name: "a known member is not listed again: once it is confirmed, nobody is left",
+        steps: &[
+            START,
+            (
+                5,
+                2,
+                3,
+                Ping(
+                    2,
+                    9,
+                    &[(1, Alive, 1, 1), (1, Suspect, 1, 2), (1, Confirm, 1, 2)],
+                ),
+            ),
+            PERIOD,
+        ],
+        ..ROWS
+    },
+    Case {
+        // Of three members one more may accuse, so the suspicion ends after 30000 at most.
+        name: "an unknown suspect counts among the members",
+        steps: &[START, (5, 1, 3, Ping(1, 9, &[(2, Suspect, 0, 1)]))],
+        rows: &["suspect 2 0", "ack 1 9"],
+        events: Some(&[
+            "2 at 30005 to 0 suspicion 2",
+            "3 at 15 to 1 ack 1 9, 2 suspect 0 by 1",
+        ]),
+        ..SILENT
+    },
+    Case {
+        name: "a confirmed one doesn't count",
+        steps: &[
+            START,
+            (
+                5,
+                1,
+                3,
+                Ping(1, 9, &[(2, Confirm, 0, 1), (1, Suspect, 0, 3)]),
+            ),
+        ],
+        rows: &["confirm 2 0", "suspect 1 0", "ack 1 9"],
+        events: Some(&[
+            "2 at 5005 to 0 suspicion 1",
+            "3 at 15 to 1 ack 1 9, 1 suspect 0 by 3, 2 confirm 0 by 1",
+        ]),
+        ..SILENT
+    },
+];
+
+#[test]
+fn unknown_members(rt: HostRuntime) -> Result<(), Fail> {
+    assert_cases(&rt, UNKNOWN)
+}
+
+/// Member 0 is suspected at its own number.
+const SUSPECTED: Input = (5, 1, 3, Ping(1, 9, &[(0, Suspect, 0, 1)]));
+
+/// It is suspected at its next number.
+const SUSPECTED_AGAIN: Input = (6, 1, 4, Ping(1, 10, &[(0, Suspect, 1, 1)]));
+
+/// It is confirmed.
+const CONFIRMED: Input = (5, 1, 3, Ping(1, 9, &[(0, Confirm, 0, 1)]));
+
+/// A case in which a claim at any other number than its own says nothing to a member that has refuted.
+const UNMOVED: Case = Case {
+    rows: &["ack 1 10"],
+    events: Some(&["3 at 16 to 1 ack 1 10, 0 alive 1 by 0"]),
+    ..SILENT
+};
+
+const ONESELF: &[Case] = &[
+    Case {
+        name: "a member refutes at its own number",
+        steps: &[START, SUSPECTED],
+        rows: &["refute 0 1", "health - 1", "ack 1 9"],
+        events: Some(&["2 at 15 to 1 ack 1 9, 0 alive 1 by 0"]),
+        ..SILENT
+    },
+    Case {
+        name: "and again at the new one",
+        steps: &[START, SUSPECTED, SUSPECTED_AGAIN],
+        rows: &["refute 0 2", "health - 2", "ack 1 10"],
+        events: Some(&["3 at 16 to 1 ack 1 10, 0 alive 2 by 0"]),
+        ..SILENT
+    },
+    Case {
+        name: "Suspect at a lower number",
+        steps: &[
+            START,
+            SUSPECTED,
+            (6, 1, 4, Ping(1, 10, &[(0, Suspect, 0, 1)])),
+        ],
+        ..UNMOVED
+    },
+    Case {
+        name: "Suspect at a higher number",
+        steps: &[
+            START,
+            SUSPECTED,
+            (6, 1, 4, Ping(1, 10, &[(0, Suspect, 2, 1)])),
+        ],
+        ..UNMOVED
+    },
+    Case {
+        name: "Alive at one's own number",
+        steps: &[
+            START,
+            SUSPECTED,
+            (6, 1, 4, Ping(1, 10, &[(0, Alive, 1, 1)])),
+        ],
+        ..UNMOVED
+    },
+    Case {
+        name: "Alive at a higher number",
+        steps: &[
+            START,
+            SUSPECTED,
+            (6, 1, 4, Ping(1, 10, &[(0, Alive, 9, 1)])),
+        ],
+        ..UNMOVED
+    },
+    Case {
+        name: "a refutation with a ceiling of 0",
+        setting: Setting {
+            rest: "[lifeguard]\nceiling = 0",
+            ..GROWING
+        },
+        steps: &[START, SUSPECTED],
+        rows: &["refute 0 1", "ack 1 9"],
+        ..ROWS
+    },
+    Case {
+        name: "a refutation with the probe switch off",
+        setting: GROWING_UNAWARE,
+        steps: &[START, SUSPECTED],
+        rows: &["refute 0 1", "ack 1 9"],
+        ..ROWS
+    },
+    Case {
+        name: "a refutation at the ceiling",
+        setting: Setting {
+            rest: "[lifeguard]\nceiling = 1",
+            ..GROWING
+        },
+        steps: &[START, SUSPECTED, SUSPECTED_AGAIN],
+        rows: &["refute 0 2", "ack 1 10"],
+        ..ROWS
+    },
+    Case {
+        name: "a confirmed member tells it once, at any number, and still refutes",
+        steps: &[
+            START,
+            (
+                5,
+                1,
+                3,
+                Ping(
+                    1,
+                    9,
+                    &[
+                        (0, Confirm, 5, 1),
+                        (0, Confirm, 6, 1),
+                        (0, Suspect, 5, 1),
+                        (0, Suspect, 0, 1),
+                    ],
+                ),
+            ),
+        ],
+        rows: &["dead 0 5", "refute 0 1", "health - 1", "ack 1 9"],
+        events: Some(&["2 at 15 to 1 ack 1 9, 0 alive 1 by 0"]),
+        ..SILENT
+    },
+    Case {
+        name: "it passes nothing on",
+        steps: &[START, CONFIRMED],
+        rows: &["dead 0 0", "ack 1 9"],
+        events: Some(&["2 at 15 to 1 ack 1 9"]),
+        ..SILENT
+    },
+    Case {
+        name: "the second time there is no row",
+        steps: &[START, CONFIRMED, CONFIRMED],
+        rows: &["ack 1 9"],
+        events: Some(&["3 at 15 to 1 ack 1 9"]),
+        ..SILENT
+    },
+    Case {
+        name: "it goes on",
+        steps: &[START, CONFIRMED, PERIOD],
+        rows: &["ping 1 1"],
+        ..ROWS
+    },
+];
+
+#[test]
+fn claims_about_oneself(rt: HostRuntime) -> Result<(), Fail> {
+    assert_cases(&rt, ONESELF)
+}

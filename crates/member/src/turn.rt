@@ -1,0 +1,170 @@
+ghost use Rattle.std.specs.Prelude.{◌≡◌, ◌≤◌, ◌^◌, [], OnOk, IfErr, IsErrOf};
+ghost use Rattle.member.specs.Here.{IsHere, HoldsMembers};
+ghost use Rattle.member.specs.Turn.{with_row, with_event, with_number, with_timer};
+ghost use Rattle.member.specs.View.{effect_of, state_of};
+ghost use Rattle.member.specs.Worn.{IsWorn};
+ghost use Rattle.member.specs.declared.turn.StepError.TheVariants as step_error;
+
+use crate::content::Content;
+use crate::event::Event;
+use crate::here::Here;
+use crate::member::Member;
+use base::limits::COUNTER_LIMIT;
+use base::{Key, MemberId, Memory, Moment};
+use std::alloc::{AllocError, AllocFailed, Global};
+use trace::{Row, What};
+
+/// Why a step was refused.
+#[derive(Clone, Copy, Debug, PartialEq, Eq)]
+pub enum StepError {
+    /// Memory was refused.
+    Memory,
+    /// A counter stands at its limit, 2^63, and would have to rise.
+    Worn,
+}
+
+impl From<Memory> for StepError {
+    ghost from_gives = { λ _ e. e ≡ step_error.Memory };
+
+    fn from(_memory: Memory) -> Self {
+        StepError::Memory
+    }
+}
+
+impl From<AllocError> for StepError {
+    ghost from_gives = { λ _ e. e ≡ step_error.Memory };
+
+    fn from(_error: AllocError) -> Self {
+        StepError::Memory
+    }
+}
+
+impl<T: Drop> From<AllocFailed<T>> for StepError {
+    ghost from_gives = { λ _ e. e ≡ step_error.Memory };
+
+    fn from(_error: AllocFailed<T>) -> Self {
+        StepError::Memory
+    }
+}
+
+/// What the handling of one event has made so far.
+#[derive(Drop)]
+pub(crate) struct Turn {
+    pub(crate) events: Vec<Event>,
+    pub(crate) rows: Vec<Row>,
+}
+
+impl Turn {
+    /// A turn that has made nothing.
+    pub(crate) fn new(alloc: Global) -> Self
+        ensures events { result.events.items ≡ [] }
+        ensures rows { result.rows.items ≡ [] }
+    {
+        Turn {
+            events: Vec::new(alloc),
+            rows: Vec::new(alloc),
+        }
+    }
+}
+
+impl Member {
+    /// Writes the next row of the event.
+    #[tactic(auto, unfolding(crate::specs::Turn::with_row))]
+    pub(crate) fn write_row(
+        &self,
+        turn: &mut Turn,
+        here: &Here,
+        what: What,
+        about: Option<MemberId>,
+        value: u64,
+        lost: bool,
+    ) -> Result<(), StepError>
+        ensures ok { OnOk result (effect_of self.now turn.new ≡ with_row here.now.key what about value lost (effect_of self.now turn.old)) }
+        ensures err { IfErr result (λ e. e ≡ StepError.Memory) }
+    {
+        // So many rows of one event have no place in memory.
+        let Ok(index) = u32::try_from(turn.rows.len()) else {
+            return Err(StepError::Memory);
+        };
+        let row = Row {
+            at: here.key.at,
+            member: here.key.to,
+            from: here.key.from,
+            number: here.key.number,
+            index,
+            what,
+            about,
+            value,
+            lost,
+        };
+        turn.rows.push(row)?;
+        Ok(())
+    }
+
+    /// Uses the next number for a message that is lost. Worn where the number stands at its limit.
+    #[tactic(auto, using(crate::proofs::Worn::worn_number), unfolding(crate::specs::Turn::with_number))]
+    pub(crate) fn use_number(&mut self, here: &Here) -> Result<(), StepError>
+        requires here { IsHere here.now.scenario.now here.now.links.now here.now.key }
+        requires known { HoldsMembers here.now.scenario.now here.now.key.to (state_of self.old) }
+        ensures ok { OnOk result (state_of self.new ≡ with_number (state_of self.old)) }
+        ensures worn { IsErrOf result StepError.Worn → IsWorn (with_number (state_of self.old)) }
+        ensures kept { OnOk result (HoldsMembers here.now.scenario.now here.now.key.to (state_of self.new)) }
+    {
+        if self.next_number >= COUNTER_LIMIT {
+            return Err(StepError::Worn);
+        }
+        self.next_number += 1;
+        Ok(())
+    }
+
+    /// Makes an event. Worn where the member's number stands at its limit.
+    #[tactic(auto, using(crate::proofs::Worn::worn_event), unfolding(crate::specs::Turn::with_event))]
+    pub(crate) fn make_event(
+        &mut self,
+        turn: &mut Turn,
+        here: &Here,
+        at: Moment,
+        to: MemberId,
+        content: Content,
+    ) -> Result<(), StepError>
+        requires here { IsHere here.now.scenario.now here.now.links.now here.now.key }
+        requires known { HoldsMembers here.now.scenario.now here.now.key.to (state_of self.old) }
+        ensures ok { OnOk result (effect_of self.new turn.new ≡ with_event here.now.key at to content (effect_of self.old turn.old)) }
+        ensures worn { IsErrOf result StepError.Worn → IsWorn (with_event here.now.key at to content (effect_of self.old turn.old)).state }
+        ensures kept { OnOk result (HoldsMembers here.now.scenario.now here.now.key.to (state_of self.new)) }
+    {
+        let number = self.next_number;
+        if number >= COUNTER_LIMIT {
+            return Err(StepError::Worn);
+        }
+        let key = Key {
+            at,
+            to,
+            from: here.key.to,
+            number,
+        };
+        turn.events.push(Event { key, content })?;
+        self.next_number = number + 1;
+        Ok(())
+    }
+
+    /// Sets a timer of the member's own, so many ticks from now.
+    #[tactic(auto, unfolding(crate::specs::Turn::with_timer))]
+    pub(crate) fn set_timer(
+        &mut self,
+        turn: &mut Turn,
+        here: &Here,
+        ticks: u64,
+        content: Content,
+    ) -> Result<(), StepError>
+        requires few { ticks ≤ 2 ^ 41 }
+        requires here { IsHere here.now.scenario.now here.now.links.now here.now.key }
+        requires known { HoldsMembers here.now.scenario.now here.now.key.to (state_of self.old) }
+        ensures ok { OnOk result (effect_of self.new turn.new ≡ with_timer here.now.key ticks content (effect_of self.old turn.old)) }
+        ensures worn { IsErrOf result StepError.Worn → IsWorn (with_timer here.now.key ticks content (effect_of self.old turn.old)).state }
+        ensures kept { OnOk result (HoldsMembers here.now.scenario.now here.now.key.to (state_of self.new)) }
+    {
+        let at = Moment(here.key.at.ticks() + ticks);
+        self.make_event(turn, here, at, here.key.to, content)
+    }
+}

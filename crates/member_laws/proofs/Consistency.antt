@@ -1,0 +1,383 @@
+-- What every state keeps.
+use Rattle.member.specs.declared.content.Content.TheVariants.{Start, Crash, JoinTimer, PeriodTimer, TimeoutTimer, NackTimer, SuspicionTimer, Join, Welcome, Ping, PingReq, Ack, Nack}
+use Rattle.std.proofs.lemmas.List.Elements.{All-from_recursion, recursion_from_All}
+use Rattle.std.specs.List.{AllByRecursion}
+use Rattle.member.specs.Here.{NamesMembers}
+use Rattle.std.proofs.Common.{◌≡◌, ℕ, ◌+◌, ◌<◌, ◌≤◌, Bool, true, false, cond, ◌&&◌, length, Option, Some, None, refl, sym, ap, subst, ◌∙◌, arith, All, List, [], ◌∷◌}
+use Rattle.std.specs.Option.{is_some, option_map_or}
+use Rattle.std.specs.Ordering.{nat_cmp}
+use Rattle.std.specs.FinMap.{get, insert, remove, empty, get-empty}
+use Rattle.std.specs.FinSet as set
+use Rattle.std.specs.FinSet.{contains-empty, contains-remove}
+use Rattle.std.proofs.lemmas.Bool.{false≢true}
+use Rattle.base.specs.declared.key.Key.{Key}
+use Rattle.scenario.specs.Setup.{Setup, IsSound, member_count}
+use Rattle.streams.specs.Draw.{Words, AreWords, IsRestOf}
+use Rattle.streams.proofs.PlaceLemmas.{below_rest}
+use Rattle.streams.proofs.RangeLemmas.{rest_fits, words_of_fit}
+use Rattle.incarnation.specs.declared.Claim.{Claim}
+use Rattle.incarnation.specs.declared.Claim.TheVariants.{Alive, Suspect, Confirm}
+use Rattle.incarnation.specs.declared.Update.{Update}
+use Rattle.lifeguard.specs.declared.probe.Probe.{Probe}
+use Rattle.lifeguard.specs.Health.{LocalHealth, lowered, raised}
+use Rattle.lifeguard.specs.Probe.{failures_of, after_probe}
+use Rattle.lifeguard.specs.Relays.{relay_cmp}
+use Rattle.lifeguard.proofs.RelaySets.{relays_total}
+use Rattle.probing.specs.ProbeOrder.{ProbeOrder, insert_of, next_of, remove_of, IsSound as IsSoundOrder}
+use Rattle.probing.proofs.RoundLemmas.{is_probe}
+use Rattle.suspicion.specs.Settings.{terms_of}
+use Rattle.suspicion.specs.Suspicions.{Suspicion}
+use Rattle.member.specs.declared.content.Content.{Content}
+use Rattle.member.specs.declared.member.Phase.TheVariants.{Waiting}
+use Rattle.member.specs.State.{State}
+use Rattle.membership.specs.Table.{is_suspect, is_confirm, does_override, all_alive}
+use Rattle.member.specs.Send.{limit_of}
+use Rattle.member.specs.Apply.{with_claim, with_place, placed_unless_known, claim_kept}
+use Rattle.member.specs.Opening.{opening_state, opening_health}
+use Rattle.member.specs.Step.{step, first_others}
+use Rattle.member_laws.specs.Words.{holds, is_live, IsConsistent, IsAmongMembers, SendsOfMembers, ProbesAMember}
+use Rattle.member_laws.proofs.Moves.{is_news, IsNews, NewsMoves, Moves, at_once, at_late}
+use Rattle.member_laws.proofs.Walk.{on_any_step, NamesOnly}
+use Rattle.member_laws.proofs.Carried.{all_put, all_left}
+use Rattle.member_laws.proofs.Tables.{HoldsOthers, others_put, SuspectsAlike, suspected, cleared, accusation, ProbesAlike, next_probes, placed, stays_probed, taken_out, first_known, first_suspected, first_probed, none_known, none_suspects, none_probed, known_held}
+
+-- ---- health
+
+pub record IsHealthy (ceiling : ℕ) (h : LocalHealth) : Type 0 where
+  pub within : h.counter ≤ h.ceiling
+  pub same : h.ceiling ≡ ceiling
+
+pub healthy_raised : (c : ℕ) (h : LocalHealth) (n : ℕ) → IsHealthy c h → IsHealthy c (raised h n)
+healthy_raised c h n is = record { within = omega arith; same = is.same }
+
+healthy_either : (c : ℕ) (b : Bool) (h g : LocalHealth) → IsHealthy c h → IsHealthy c g → IsHealthy c (cond b h g)
+healthy_either c true h g is as' = is
+healthy_either c false h g is as' = as'
+
+pub healthy_weighed : (c : ℕ) (h : LocalHealth) (p : Probe) → IsHealthy c h → IsHealthy c (after_probe h p)
+healthy_weighed c h p is =
+    healthy_either c p.acked (lowered h) (raised h (failures_of p)) (record { within = let low = is.within in omega arith; same = is.same }) (healthy_raised c h (failures_of p) is)
+
+-- ---- relays
+
+pub relay_gone : (a b : Bool) → b ≡ false → (a && b) ≡ false
+relay_gone true b h = h
+relay_gone false b h = refl
+
+-- ---- a member that has started
+
+pub record Keeps (s : Setup) (m : ℕ) (t : State) : Type 0 where
+  pub up : ¬ (t.phase ≡ Waiting)
+  pub others : HoldsOthers (member_count s) m t.table
+  pub suspects : SuspectsAlike t.table t.suspicions (terms_of s)
+  pub probes : ProbesAlike t.table t.rota
+  pub health : IsHealthy (opening_health s).ceiling t.health
+  pub relays : s.lifeguard.probe ≡ false → (relay : ℕ × ℕ) → set.contains t.relays relay ≡ false
+  pub words : AreWords t.words
+  pub buffer : SendsOfMembers s t
+  pub target : ProbesAMember s t
+
+inserted : (words : Words) (member : ℕ) (order : ProbeOrder) → IsRestOf words (insert_of words member order).1
+unfolding insert_of
+inserted words member order = below_rest words (length order.members + 1)
+
+next_rest : (words : Words) (order : ProbeOrder) → AreWords words → IsSoundOrder order → IsRestOf words (next_of words order).2
+next_rest words order fit sound = (is_probe words order fit sound).rest
+
+-- news of one who is confirmed there are none
+live_news : (new : Claim × ℕ) (held : Claim × ℕ) → does_override new held ≡ true → is_live held.0 ≡ true
+live_news new (Alive, i) h = refl
+live_news new (Suspect, i) h = refl
+live_news new (Confirm, i) h = absurd (false≢true h)
+
+live_known : (s : Setup) (m : ℕ) (t : State) (q : ℕ) (b : Bool) → holds is_live t.table q ≡ b → Keeps s m t → 1 ≤ cond b 1 0 → q < member_count s
+live_known s m t q true e h one = (h.others.others q (known_held is_live (get t.table q) e)).0
+live_known s m t q false e h one = absurd (omega arith)
+
+-- the next probe goes to a member
+probed_member : (s : Setup) (m : ℕ) (t : State) (q : ℕ) → Keeps s m t → (next_of t.words t.rota).0 ≡ Some q → q < member_count s
+probed_member s m t q h is =
+    live_known s m t q (holds is_live t.table q) refl h (subst (λ n. 1 ≤ n) (h.probes.probes q) ((is_probe t.words t.rota h.words h.probes.sound).some q is))
+
+module _ (s : Setup) (sound : IsSound s) (k : Key) where
+  abbrev pub Named : ℕ → Type 0
+  Named q = q < member_count s
+
+  -- the rota and the words after a claim that does not confirm is kept
+  claimed : (t : State) (u : Update) (held : Option (Claim × ℕ)) → get t.table u.subject ≡ held → Named u.subject → is_news (u.claim, u.inc) held ≡ true → is_live u.claim ≡ true
+      → AreWords t.words → ProbesAlike t.table t.rota
+      → (P : State → Type 0) → (AreWords t.words → ProbesAlike (insert t.table u.subject (u.claim, u.inc)) t.rota → P (with_claim u t))
+      → (AreWords (insert_of t.words u.subject t.rota).1 → ProbesAlike (insert t.table u.subject (u.claim, u.inc)) (insert_of t.words u.subject t.rota).0 → P (with_place u.subject (with_claim u t)))
+      → P (claim_kept u t)
+  unfolding claim_kept
+  claimed t u None none named news live fit probes P plain place =
+      rw (none, not_confirm u.claim live) (place (rest_fits t.words (insert_of t.words u.subject t.rota).1 fit (inserted t.words u.subject t.rota)) (placed t.table t.rota t.words u.subject (u.claim, u.inc) fit (let few = sound.members.1 in omega arith) none live probes))
+    where
+      not_confirm : (c : Claim) → is_live c ≡ true → is_confirm c ≡ false
+      not_confirm Alive h = refl
+      not_confirm Suspect h = refl
+      not_confirm Confirm h = absurd (false≢true h)
+  claimed t u (Some held) here named news live fit probes P plain place =
+      rw here (plain fit (stays_probed t.table t.rota u.subject (u.claim, u.inc) (ap (λ o. option_map_or (λ (held : Claim × ℕ). is_live held.0) o false) here ∙ live_news (u.claim, u.inc) held news) live probes))
+
+  claimed_confirm : (t : State) (u : Update) (P : State → Type 0) → u.claim ≡ Confirm → P (with_claim u t) → P (claim_kept u t)
+  unfolding claim_kept
+  claimed_confirm t u P e plain = either (get t.table u.subject)
+    where
+      of_claim : (b : Bool) → b ≡ true → P (cond b (with_claim u t) (with_place u.subject (with_claim u t)))
+      of_claim true is = plain
+      of_claim false is = absurd (false≢true is)
+
+      either : (held : Option (Claim × ℕ)) → P (placed_unless_known held u (with_claim u t))
+      either None = of_claim (is_confirm u.claim) (ap is_confirm e)
+      either (Some held) = plain
+
+  put_others : (t : State) (u : Update) → Named u.subject → IsNews k.to t u → Keeps s k.to t → HoldsOthers (member_count s) k.to (insert t.table u.subject (u.claim, u.inc))
+  put_others t u named says h = others_put (member_count s) k.to t.table u.subject (u.claim, u.inc) named says.other h.others
+
+  -- with the rest of the words and of the rota
+  put_alive : (t : State) (u : Update) → Named u.subject → IsNews k.to t u → u.claim ≡ Alive → Keeps s k.to t
+      → Keeps s k.to (record (claim_kept u t) { suspicions = remove (claim_kept u t).suspicions u.subject })
+  put_alive t u named says e h =
+      let suspects = cleared t.table t.suspicions (terms_of s) u.subject (u.claim, u.inc) (ap is_suspect e) h.suspects in
+      claimed t u (get t.table u.subject) refl named says.news (ap is_live e) h.words h.probes
+      (λ v. Keeps s k.to (record v { suspicions = remove v.suspicions u.subject }))
+      (λ fit probes. record { up = h.up; others = put_others t u named says h; suspects = suspects; probes = probes; health = h.health; relays = h.relays; words = fit; buffer = h.buffer; target = h.target })
+      (λ fit probes. record { up = h.up; others = put_others t u named says h; suspects = suspects; probes = probes; health = h.health; relays = h.relays; words = fit; buffer = h.buffer; target = h.target })
+
+  put_suspect : (t : State) (u : Update) (x : Suspicion) → Named u.subject → IsNews k.to t u → u.claim ≡ Suspect → x.terms ≡ terms_of s → Keeps s k.to t
+      → Keeps s k.to (record (claim_kept u t) { suspicions = insert (claim_kept u t).suspicions u.subject x })
+  put_suspect t u x named says e terms h =
+      let suspects = suspected t.table t.suspicions (terms_of s) u.subject (u.claim, u.inc) x (ap is_suspect e) terms h.suspects in
+      claimed t u (get t.table u.subject) refl named says.news (ap is_live e) h.words h.probes
+      (λ v. Keeps s k.to (record v { suspicions = insert v.suspicions u.subject x }))
+      (λ fit probes. record { up = h.up; others = put_others t u named says h; suspects = suspects; probes = probes; health = h.health; relays = h.relays; words = fit; buffer = h.buffer; target = h.target })
+      (λ fit probes. record { up = h.up; others = put_others t u named says h; suspects = suspects; probes = probes; health = h.health; relays = h.relays; words = fit; buffer = h.buffer; target = h.target })
+
+  put_confirm : (t : State) (u : Update) → Named u.subject → IsNews k.to t u → u.claim ≡ Confirm → Keeps s k.to t
+      → Keeps s k.to (record (claim_kept u t) { suspicions = remove (claim_kept u t).suspicions u.subject; rota = remove_of u.subject (claim_kept u t).rota })
+  put_confirm t u named says e h =
+      claimed_confirm t u (λ v. Keeps s k.to (record v { suspicions = remove v.suspicions u.subject; rota = remove_of u.subject v.rota })) e
+      (record {
+        up = h.up;
+        others = put_others t u named says h;
+        suspects = cleared t.table t.suspicions (terms_of s) u.subject (u.claim, u.inc) (ap is_suspect e) h.suspects;
+        probes = taken_out t.table t.rota u.subject (u.claim, u.inc) (ap is_live e) h.probes;
+        health = h.health;
+        relays = h.relays;
+        words = h.words;
+        buffer = h.buffer;
+        target = h.target;
+      })
+
+  pub news : NewsMoves s k Named (Keeps s k.to)
+  news = record {
+    counted = λ t h. record { up = h.up; others = h.others; suspects = h.suspects; probes = h.probes; health = h.health; relays = h.relays; words = h.words; buffer = h.buffer; target = h.target };
+    put = λ t u named h. record { up = h.up; others = h.others; suspects = h.suspects; probes = h.probes; health = h.health; relays = h.relays; words = h.words; buffer = all_put (λ q. q < member_count s) t.buffer u named h.buffer; target = h.target };
+    alive = put_alive;
+    suspect = put_suspect;
+    confirm = put_confirm;
+    accused = λ t u h. record {
+      up = h.up;
+      others = h.others;
+      suspects = accusation t.table t.suspicions (terms_of s) u.subject h.suspects u.accuser t.next_number;
+      probes = h.probes;
+      health = h.health;
+      relays = h.relays;
+      words = h.words;
+      buffer = h.buffer;
+      target = h.target;
+    };
+  }
+
+  with_health : (t : State) (h : LocalHealth) → IsHealthy (opening_health s).ceiling h → Keeps s k.to t → Keeps s k.to (record t { health = h })
+  with_health t g is h = record { up = h.up; others = h.others; suspects = h.suspects; probes = h.probes; health = is; relays = h.relays; words = h.words; buffer = h.buffer; target = h.target }
+
+  pub moves : k.to < member_count s → Moves s k Named (Keeps s k.to)
+  moves here = record {
+    own = here;
+    aimed = λ t probe h is. h.target probe is;
+    targets = λ t target h is. probed_member s k.to t target h is;
+    known = λ t q held h at. (h.others.others q (ap is_some at)).0;
+    drawn = λ t rest is h. record { up = h.up; others = h.others; suspects = h.suspects; probes = h.probes; health = h.health; relays = h.relays; words = rest_fits t.words rest h.words is; buffer = h.buffer; target = h.target };
+    picked = λ t buddy h. record { up = h.up; others = h.others; suspects = h.suspects; probes = h.probes; health = h.health; relays = h.relays; words = h.words; buffer = all_left (λ q. q < member_count s) t.buffer s.swim.carry (limit_of s t) buddy h.buffer; target = h.target };
+    probing = λ t seq probe aim h. record { up = h.up; others = h.others; suspects = h.suspects; probes = h.probes; health = h.health; relays = h.relays; words = h.words; buffer = h.buffer; target = aim };
+    turned = λ t h. record {
+      up = h.up;
+      others = h.others;
+      suspects = h.suspects;
+      probes = next_probes t.table t.rota t.words h.words h.probes;
+      health = h.health;
+      relays = h.relays;
+      words = rest_fits t.words (next_of t.words t.rota).2 h.words (next_rest t.words t.rota h.words h.probes.sound);
+      buffer = h.buffer;
+      target = h.target;
+    };
+    relay_added = λ t relay on h. record {
+      up = h.up;
+      others = h.others;
+      suspects = h.suspects;
+      probes = h.probes;
+      health = h.health;
+      relays = λ off. absurd (false≢true (sym off ∙ on));
+      words = h.words;
+      buffer = h.buffer;
+      target = h.target;
+    };
+    relay_removed = λ t relay h. record {
+      up = h.up;
+      others = h.others;
+      suspects = h.suspects;
+      probes = h.probes;
+      health = h.health;
+      relays = λ off other. contains-remove relays_total t.relays relay other ∙ relay_gone _ _ (h.relays off other);
+      words = h.words;
+      buffer = h.buffer;
+      target = h.target;
+    };
+    heard_dead = λ t h. record { up = h.up; others = h.others; suspects = h.suspects; probes = h.probes; health = h.health; relays = h.relays; words = h.words; buffer = h.buffer; target = h.target };
+    refuted = λ t h. record { up = h.up; others = h.others; suspects = h.suspects; probes = h.probes; health = h.health; relays = h.relays; words = h.words; buffer = h.buffer; target = h.target };
+    weakened = λ t h. with_health t _ (healthy_raised (opening_health s).ceiling t.health 1 h.health) h;
+    weighed = λ t probe h. with_health t _ (healthy_weighed (opening_health s).ceiling t.health probe h.health) h;
+    welcomed = λ t h. record {
+      up = λ is. absurd (let e = is in cc);
+      others = h.others;
+      suspects = h.suspects;
+      probes = h.probes;
+      health = h.health;
+      relays = h.relays;
+      words = h.words;
+      buffer = h.buffer;
+      target = h.target;
+    };
+    downed = λ t h. record {
+      up = λ is. absurd (let e = is in cc);
+      others = h.others;
+      suspects = h.suspects;
+      probes = h.probes;
+      health = h.health;
+      relays = h.relays;
+      words = h.words;
+      buffer = h.buffer;
+      target = h.target;
+    };
+    began = λ t waits h. absurd (h.up waits);
+    late = λ t waits h. absurd (h.up waits);
+  }
+
+-- ---- the opening state, and what a start makes of it
+
+pub opening_consistent : (s : Setup) (m : ℕ) → IsConsistent s m (opening_state s m)
+unfolding opening_state
+opening_consistent s m = record {
+  waits = λ is. refl;
+  others = (none_known (member_count s) m).others;
+  suspects = (none_suspects (terms_of s)).alike;
+  probes = none_probed.probes;
+  order = none_probed.sound;
+  terms = (none_suspects (terms_of s)).settled;
+  health = omega arith;
+  ceiling = refl;
+  relays = λ off relay. contains-empty relay_cmp relay;
+  words = words_of_fit _;
+  buffer = λ q it here. absurd (false≢true (sym (ap is_some (get-empty nat_cmp q)) ∙ ap is_some here));
+  target = λ probe is. absurd (false≢true (ap is_some is));
+}
+
+none_opened : (s : Setup) (m : ℕ) → (opening_state s m).suspicions ≡ empty
+unfolding opening_state
+none_opened s m = refl
+
+module _ (s : Setup) (sound : IsSound s) (k : Key) (t : State) (h : IsConsistent s k.to t) where
+  started_at_once : t.phase ≡ Waiting → Keeps s k.to (at_once s k t)
+  started_at_once waits = record {
+    up = λ is. absurd (let e = is in cc);
+    others = first_known s k.to;
+    suspects = subst (λ v. SuspectsAlike (all_alive (first_others s k.to)) v (terms_of s)) (sym (ap (λ (t : State). t.suspicions) (h.waits waits) ∙ none_opened s k.to)) (first_suspected s k.to (terms_of s));
+    probes = first_probed s k.to sound.members.1;
+    health = record { within = h.health; same = h.ceiling };
+    relays = h.relays;
+    words = h.words;
+    buffer = h.buffer;
+    target = h.target;
+  }
+
+  started_late : t.phase ≡ Waiting → Keeps s k.to (at_late t)
+  started_late waits = record {
+    up = λ is. absurd (let e = is in cc);
+    others = none_known (member_count s) k.to;
+    suspects = subst (λ v. SuspectsAlike empty v (terms_of s)) (sym (ap (λ (t : State). t.suspicions) (h.waits waits) ∙ none_opened s k.to)) (none_suspects (terms_of s));
+    probes = none_probed;
+    health = record { within = h.health; same = h.ceiling };
+    relays = h.relays;
+    words = h.words;
+    buffer = h.buffer;
+    target = h.target;
+  }
+
+  pub keeps : ¬ (t.phase ≡ Waiting) → Keeps s k.to t
+  keeps up = record {
+    up = up;
+    others = record { others = h.others };
+    suspects = record { alike = h.suspects; settled = h.terms };
+    probes = record { probes = h.probes; sound = h.order };
+    health = record { within = h.health; same = h.ceiling };
+    relays = h.relays;
+    words = h.words;
+    buffer = h.buffer;
+    target = h.target;
+  }
+
+consistent : (s : Setup) (m : ℕ) (t : State) → Keeps s m t → IsConsistent s m t
+consistent s m t h = record {
+  waits = λ is. absurd (h.up is);
+  others = h.others.others;
+  suspects = h.suspects.alike;
+  probes = h.probes.probes;
+  order = h.probes.sound;
+  terms = h.suspects.settled;
+  health = h.health.within;
+  ceiling = h.health.same;
+  relays = h.relays;
+  words = h.words;
+  buffer = h.buffer;
+  target = h.target;
+}
+
+all_named : (n : ℕ) (us : List Update) → All (λ (u : Update). u.subject < n) us → AllByRecursion (λ (u : Update). u.subject < n) us
+all_named n us h = recursion_from_All (λ (u : Update). u.subject < n) us h
+
+pub names_only : (n : ℕ) (c : Content) → NamesMembers n c → NamesOnly (λ q. q < n) c
+names_only n Start h = tt
+names_only n Crash h = tt
+names_only n JoinTimer h = tt
+names_only n PeriodTimer h = tt
+names_only n (TimeoutTimer seq) h = tt
+names_only n (NackTimer initiator seq) h = h
+names_only n (SuspicionTimer subject) h = tt
+names_only n Join h = tt
+names_only n (Welcome entries) h = all_named n entries h
+names_only n (Ping initiator seq updates) h = (h.0, all_named n updates h.1)
+names_only n (PingReq seq target updates) h = (h.0, all_named n updates h.1)
+names_only n (Ack initiator seq updates) h = (h.0, all_named n updates h.1)
+names_only n (Nack seq) h = tt
+
+pub names_members : (n : ℕ) (c : Content) → NamesOnly (λ q. q < n) c → NamesMembers n c
+names_members n Start h = tt
+names_members n Crash h = tt
+names_members n JoinTimer h = tt
+names_members n PeriodTimer h = tt
+names_members n (TimeoutTimer seq) h = tt
+names_members n (NackTimer initiator seq) h = h
+names_members n (SuspicionTimer subject) h = tt
+names_members n Join h = tt
+names_members n (Welcome entries) h = All-from_recursion (λ (u : Update). u.subject < n) entries h
+names_members n (Ping initiator seq updates) h = (h.0, All-from_recursion (λ (u : Update). u.subject < n) updates h.1)
+names_members n (PingReq seq target updates) h = (h.0, All-from_recursion (λ (u : Update). u.subject < n) updates h.1)
+names_members n (Ack initiator seq updates) h = (h.0, All-from_recursion (λ (u : Update). u.subject < n) updates h.1)
+names_members n (Nack seq) h = tt
+
+pub step_consistent : (s : Setup) (k : Key) (c : Content) (t : State) → IsSound s → IsAmongMembers s k c → IsConsistent s k.to t → IsConsistent s k.to (step s k c t).state
+step_consistent s k c t sound among h =
+    on_any_step s k (λ q. q < member_count s) (Keeps s k.to) (news s sound k) (moves s sound k among.receiver)
+    (IsConsistent s k.to) c t (consistent s k.to) h (keeps s sound k t h) (started_at_once s sound k t h) (started_late s sound k t h) among.sender (names_only (member_count s) c among.names)

@@ -1,0 +1,13 @@
+pub mod Moves
+pub mod Walk
+pub mod Silence
+pub mod Numbers
+pub mod Confirms
+pub mod Tables
+pub mod Consistency
+pub mod Healths
+pub mod Made
+pub mod Switches
+pub mod Runs
+pub mod Carried
+pub mod Reached

@@ -1,0 +1,431 @@
+-- The events and rows of which each step makes its own: what each of them keeps of an effect, every step keeps.
+use Rattle.std.specs.List.{AllByRecursion}
+use Rattle.streams.proofs.PlaceLemmas.{shuffle_rest}
+use Rattle.std.proofs.Common.{◌≡◌, ℕ, ◌+◌, ◌*◌, ◌<◌, ◌≤◌, Bool, true, false, cond, not, nat_eq, nat_lt, ◌&&◌, List, [], ◌∷◌, Option, Some, None, option_map, unwrap_or, refl, ap, arith}
+use Rattle.std.specs.Option.{is_none, is_some, IfSome}
+use Rattle.std.specs.FinMap.{get}
+use Rattle.std.specs.FinSet as set
+use Rattle.std.proofs.lemmas.Bool.{false≢true}
+use Rattle.base.specs.declared.key.Key.{Key}
+use Rattle.scenario.specs.Setup.{Setup, IsSound, start_of, contact_of, link_between, extra_of}
+use Rattle.trace.specs.declared.row.What.{What}
+use Rattle.trace.specs.declared.row.What.TheVariants as what
+use Rattle.streams.specs.Draw.{Words, below_of, lost_of, IsRestOf}
+use Rattle.links.specs.Arrival.{arrival_of}
+use Rattle.incarnation.specs.declared.Claim.{Claim}
+use Rattle.incarnation.specs.declared.Claim.TheVariants.{Alive, Suspect, Confirm}
+use Rattle.incarnation.specs.declared.Update.{Update}
+use Rattle.lifeguard.specs.declared.probe.Probe.{Probe}
+use Rattle.lifeguard.specs.Health.{LocalHealth, raised}
+use Rattle.lifeguard.specs.Probe.{after_probe, fresh_probe}
+use Rattle.lifeguard.specs.NackDelay.{nack_delay_of}
+use Rattle.probing.specs.ProbeOrder.{next_of, helpers_of}
+use Rattle.suspicion.specs.Settings.{terms_of}
+use Rattle.suspicion.specs.Ranges.{AreSound}
+use Rattle.suspicion.specs.Suspicions.{Suspicion, accused_of, answer_of, is_due}
+use Rattle.suspicion.specs.Times.{timeout}
+use Rattle.suspicion.proofs.Timeouts.{min-le-timeout}
+use Rattle.member.specs.declared.member.Phase.{Phase}
+use Rattle.member.specs.declared.member.Phase.TheVariants.{Waiting, Joining, Running, Down}
+use Rattle.member.specs.declared.content.Content.{Content}
+use Rattle.member.specs.declared.content.Content.TheVariants.{Start, Crash, JoinTimer, PeriodTimer, TimeoutTimer, NackTimer, SuspicionTimer, Join, Welcome, Ping, PingReq, Ack, Nack}
+use Rattle.member.specs.State.{State}
+use Rattle.membership.specs.Table.{is_confirm, does_override, live_count, alive_but}
+use Rattle.member.specs.Send.{whole_table, carried, sent_off, sent, with_picks, buddy_of, ping_sent, ping_req_sent, ack_sent, nack_sent, join_sent_to, join_sent, welcome_sent}
+use Rattle.member.specs.Turn.{Effect, unchanged, on_state, with_row, with_number, with_event, with_timer}
+use Rattle.member.specs.Apply.{with_put, with_health, with_told, passed_on, own_claim, refuted, heard_dead, own_applied, claim_kept, alive_heard, suspect_heard, confirm_heard, claim_heard, news_heard, accusation_counted, accusation_heard, is_repeated, other_applied, applied, all_applied}
+use Rattle.member.specs.Step.{first_period_set, began, join_asked, joining_begun, started, crashed, join_handled, joined, suspected, probe_failed, probe_ended, probe_begun, target_probed, next_probed, period_begun, all_asked, with_expected, help_asked, timed_out, nack_heard, answered, ping_heard, with_relay, ping_req_heard, ack_taken, ack_heard, nack_due, confirmed, suspicion_over, handled, step}
+use Rattle.member_laws.proofs.Moves.{NewsMoves, Moves, kept_either}
+use Rattle.member_laws.proofs.Walk.{AllNamed, on_row, on_health, on_applied, on_all, on_ended, on_ping_req, NamesOnly, one_target}
+
+-- ---- the parts
+
+-- a row of neither of Lifeguard's mechanisms
+abbrev pub IsPlain : What → Type 0
+IsPlain what.Accuse = ⊥
+IsPlain what.Nack = ⊥
+IsPlain what.Health = ⊥
+IsPlain _ = Unit {0}
+
+-- which rows may be written, in states of which a fact holds
+pub record MayTell (R : State → Type 0) (Tells : What → Type 0) : Type 0 where
+  pub plain : (tells : What) → IsPlain tells → Tells tells
+  pub nacks : (t : State) (relay : ℕ × ℕ) → R t → set.contains t.relays relay ≡ true → Tells what.Nack
+  pub accuses : (t : State) (u : Update) (x : Suspicion) → R t → accused_of t.suspicions u.subject u.accuser t.next_number ≡ Some x → Tells what.Accuse
+  pub healths : (t : State) (h : LocalHealth) → R t → R (record t { health = h }) → nat_eq h.counter t.health.counter ≡ false → Tells what.Health
+
+-- the updates that messages take along are about those who are named, in such states
+pub record Carries (s : Setup) (k : Key) (Named : ℕ → Type 0) (R : State → Type 0) : Type 0 where
+  pub plain : (t : State) → R t → AllNamed Named (carried s None t)
+  pub ping : (t : State) (to : ℕ) → R t → AllNamed Named (carried s (buddy_of s to t) t)
+  pub contact : (c : ℕ) → contact_of s k.to ≡ Some c → Named c
+  pub helpers : (t : State) (target : ℕ) → R t → AllByRecursion Named (helpers_of t.words s.swim.helpers (alive_but target t.table)).0
+  pub whole : (t : State) → R t → AllNamed Named (whole_table k.to t.incarnation t.table)
+
+-- what each part keeps
+pub record Makes (k : Key) (Named : ℕ → Type 0) (Tells : What → Type 0) (P : Effect → Type 0) : Type 0 where
+  pub row : (tells : What) (about : Option ℕ) (value : ℕ) (lost : Bool) (o : Effect) → Tells tells → IfSome about Named → P o → P (with_row k tells about value lost o)
+  pub event : (at to : ℕ) (content : Content) (o : Effect) → Named to → NamesOnly Named content → P o → P (with_event k at to content o)
+  pub lost : (o : Effect) → P o → P (on_state with_number o)
+  pub state : (t : State) (o : Effect) → t.next_number ≡ o.state.next_number → P o → P (record o { state = t })
+
+helpers_rest : (words : Words) (count : ℕ) (candidates : List ℕ) → IsRestOf words (helpers_of words count candidates).1
+unfolding helpers_of
+helpers_rest words count candidates = shuffle_rest words candidates
+
+runs : ¬ (Running ≡ Waiting)
+runs is = absurd (let e = is in cc)
+
+joins : ¬ (Joining ≡ Waiting)
+joins is = absurd (let e = is in cc)
+
+passed_number : (loud : Bool) (u : Update) (t : State) → (passed_on loud u t).next_number ≡ t.next_number
+unfolding passed_on with_put
+passed_number true u t = refl
+passed_number false u t = refl
+
+put_number : (u : Update) (t : State) → (with_put u t).next_number ≡ t.next_number
+unfolding with_put
+put_number u t = refl
+
+kept_number : (u : Update) (t : State) → (claim_kept u t).next_number ≡ t.next_number
+kept_number u t = kept_either (λ v. v.next_number ≡ t.next_number) u t refl refl
+
+module _ (s : Setup) (k : Key) (Named : ℕ → Type 0) (R : State → Type 0) (news : NewsMoves s k Named R) (moves : Moves s k Named R)
+    (Tells : What → Type 0) (may : MayTell R Tells) (carries : Carries s k Named R) (P : Effect → Type 0) (makes : Makes k Named Tells P) where
+  by_either : (b : Bool) (o p : Effect) → (b ≡ true → P o) → (b ≡ false → P p) → P (cond b o p)
+  by_either true o p a b = a refl
+  by_either false o p a b = b refl
+
+  by_timer : (ticks : ℕ) (content : Content) (o : Effect) → NamesOnly Named content → P o → P (with_timer k ticks content o)
+  unfolding with_timer
+  by_timer ticks content o named h = makes.event (k.at + ticks) k.to content o moves.own named h
+
+  -- ---- messages
+
+  by_sent_off : (to : ℕ) (content : Content) (arrival : Option ℕ) (o : Effect) → Named to → NamesOnly Named content → P o → P (sent_off k to content arrival o)
+  by_sent_off to content None o there named h = makes.lost o h
+  by_sent_off to content (Some at) o there named h = makes.event at to content o there named h
+
+  by_sent : (tells : What) (to value : ℕ) (content : Content) (o : Effect) → Tells tells → Named to → NamesOnly Named content → P o → P (sent s k tells to value content o)
+  unfolding sent
+  by_sent tells to value content o told there named h =
+      let arrival = arrival_of s k.to to k.at o.state.words in
+      by_sent_off to content arrival.0 _ there named
+      (makes.row tells (Some to) value (is_none arrival.0) (on_state (λ t. record t { words = arrival.1 }) o) told there (makes.state _ o refl h))
+
+  by_ping : (to initiator seq : ℕ) (o : Effect) → Named to → Named initiator → R o.state → P o → P (ping_sent s k to initiator seq o)
+  unfolding ping_sent
+  by_ping to initiator seq o there named r h =
+      by_sent _ to seq _ (on_state (with_picks s (buddy_of s to o.state)) o) (may.plain _ tt) there (named, carries.ping o.state to r) (makes.state _ o refl h)
+
+  by_ping_req : (target seq to : ℕ) (o : Effect) → Named target → Named to → R o.state → P o → P (ping_req_sent s k target seq to o)
+  unfolding ping_req_sent
+  by_ping_req target seq to o named there r h =
+      by_sent _ to seq _ (on_state (with_picks s None) o) (may.plain _ tt) there (named, carries.plain o.state r) (makes.state _ o refl h)
+
+  by_ack : (to initiator seq : ℕ) (o : Effect) → Named to → Named initiator → R o.state → P o → P (ack_sent s k to initiator seq o)
+  unfolding ack_sent
+  by_ack to initiator seq o there named r h =
+      by_sent _ to seq _ (on_state (with_picks s None) o) (may.plain _ tt) there (named, carries.plain o.state r) (makes.state _ o refl h)
+
+  by_nack : (to seq : ℕ) (o : Effect) → Named to → Tells what.Nack → P o → P (nack_sent s k to seq o)
+  unfolding nack_sent
+  by_nack to seq o there told h = by_sent _ to seq (Nack seq) o told there tt h
+
+  by_join_to : (contact : Option ℕ) (o : Effect) → ((c : ℕ) → contact ≡ Some c → Named c) → P o → P (join_sent_to s k contact o)
+  by_join_to None o named h = h
+  by_join_to (Some contact) o named h = by_sent _ contact 0 Join o (may.plain _ tt) (named contact refl) tt h
+
+  by_join : (o : Effect) → P o → P (join_sent s k o)
+  unfolding join_sent
+  by_join o h = by_join_to (contact_of s k.to) o carries.contact h
+
+  by_welcome : (to : ℕ) (o : Effect) → Named to → R o.state → P o → P (welcome_sent s k to o)
+  unfolding welcome_sent
+  by_welcome to o there r h = by_sent _ to 0 _ o (may.plain _ tt) there (carries.whole o.state r) h
+
+  -- ---- updates
+
+  by_health : (h : LocalHealth) (o : Effect) → R o.state → R (record o.state { health = h }) → P o → P (with_health k h o)
+  unfolding with_health
+  by_health h o r r' p =
+      let after = makes.state _ o refl p in
+      by_either (nat_eq h.counter o.state.health.counter) (on_state (λ t. record t { health = h }) o) _ (λ _. after)
+      (λ differs. makes.row _ None h.counter false (on_state (λ t. record t { health = h }) o) (may.healths o.state h r r' differs) tt after)
+
+  by_told : (loud : Bool) (tells : What) (subject value : ℕ) (o : Effect) → Tells tells → Named subject → P o → P (with_told loud k tells subject value o)
+  by_told true tells subject value o told named h = makes.row tells (Some subject) value false o told named h
+  by_told false tells subject value o told named h = h
+
+  by_passed : (loud : Bool) (u : Update) (o : Effect) → P o → P (on_state (passed_on loud u) o)
+  by_passed loud u o h = makes.state _ o (passed_number loud u o.state) h
+
+  by_refuted : (o : Effect) → R o.state → P o → P (refuted k o)
+  unfolding refuted
+  by_refuted o r h =
+      let number = o.state.incarnation + 1 in
+      let more = on_state (λ t. record t { incarnation = number }) o in
+      let told = with_row k what.Refute (Some k.to) number false more in
+      let there : R told.state = on_row s k Named R news what.Refute (Some k.to) number false more (moves.refuted o.state r) in
+      makes.state _ _ (put_number (own_claim k.to number) _)
+      (by_health (raised told.state.health 1) told there (moves.weakened told.state there)
+      (makes.row what.Refute (Some k.to) number false more (may.plain what.Refute tt) moves.own (makes.state _ o refl h)))
+
+  by_own : (claim : Claim) (number : ℕ) (o : Effect) → R o.state → P o → P (own_applied k claim number o)
+  unfolding heard_dead
+  by_own Alive number o r h = h
+  by_own Suspect number o r h = by_either (nat_eq number o.state.incarnation) (refuted k o) o (λ _. by_refuted o r h) (λ _. h)
+  by_own Confirm number o r h =
+      by_either o.state.heard_dead o (heard_dead k number o) (λ _. h)
+      (λ _. makes.row _ (Some k.to) number false _ (may.plain _ tt) moves.own (makes.state _ o refl h))
+
+  by_claim : (loud : Bool) (u : Update) (claim : Claim) (o : Effect) → Named u.subject → P o → P (claim_heard s loud k u claim o)
+  unfolding alive_heard suspect_heard confirm_heard
+  by_claim loud u Alive o named h = by_told loud _ u.subject u.inc _ (may.plain _ tt) named (makes.state _ o refl h)
+  by_claim loud u Suspect o named h = makes.event _ k.to (SuspicionTimer u.subject) _ moves.own tt (by_told loud _ u.subject u.inc _ (may.plain _ tt) named (makes.state _ o refl h))
+  by_claim loud u Confirm o named h = by_told loud _ u.subject u.inc _ (may.plain _ tt) named (makes.state _ o refl h)
+
+  by_news : (loud : Bool) (u : Update) (o : Effect) → Named u.subject → P o → P (news_heard s loud k u o)
+  unfolding news_heard
+  by_news loud u o named h = by_passed loud u _ (by_claim loud u u.claim (on_state (claim_kept u) o) named (makes.state _ o (kept_number u o.state) h))
+
+  by_counted : (loud : Bool) (u : Update) (accused : Option Suspicion) (o : Effect) → ((x : Suspicion) → accused ≡ Some x → Tells what.Accuse) → Named u.subject → P o
+      → P (accusation_counted loud k u (option_map (answer_of k.at) accused) o)
+  by_counted loud u None o told named h = h
+  by_counted loud u (Some x) o told named h = by_passed loud u _ (makes.event _ k.to (SuspicionTimer u.subject) _ moves.own tt (by_told loud _ u.subject _ o (told x refl) named h))
+
+  by_accusation : (loud : Bool) (u : Update) (o : Effect) → Named u.subject → R o.state → P o → P (accusation_heard loud k u o)
+  unfolding accusation_heard
+  by_accusation loud u o named r h =
+      by_counted loud u (accused_of o.state.suspicions u.subject u.accuser o.state.next_number) _
+      (λ x is. may.accuses o.state u x r is) named (makes.state _ o refl h)
+
+  by_other : (loud : Bool) (u : Update) (held : Option (Claim × ℕ)) (o : Effect) → Named u.subject → R o.state → P o → P (other_applied s loud k u held o)
+  by_other loud u None o named r h = by_news loud u o named h
+  by_other loud u (Some held) o named r h =
+      by_either (does_override (u.claim, u.inc) held) (news_heard s loud k u o) (cond (is_repeated u held) (accusation_heard loud k u o) o) (λ _. by_news loud u o named h)
+      (λ _. by_either (is_repeated u held) (accusation_heard loud k u o) o (λ _. by_accusation loud u o named r h) (λ _. h))
+
+  by_applied : (loud : Bool) (u : Update) (o : Effect) → Named u.subject → R o.state → P o → P (applied s loud k u o)
+  unfolding applied
+  by_applied loud u o named r h =
+      by_either (nat_eq u.subject k.to) (own_applied k u.claim u.inc o) (other_applied s loud k u (get o.state.table u.subject) o)
+      (λ _. by_own u.claim u.inc o r h) (λ _. by_other loud u (get o.state.table u.subject) o named r h)
+
+  by_all : (loud : Bool) (us : List Update) (o : Effect) → AllNamed Named us → R o.state → P o → P (all_applied s loud k us o)
+  unfolding all_applied
+  by_all loud [] o named r h = h
+  by_all loud (u ∷ us) o named r h = by_all loud us (applied s loud k u o) named.1 (on_applied s k Named R news moves loud u o named.0 r) (by_applied loud u o named.0 r h)
+
+  -- ---- start, crash and join
+
+  by_first_period : (o : Effect) → P o → P (first_period_set s k o)
+  unfolding first_period_set
+  by_first_period o h = by_timer _ PeriodTimer _ tt (makes.state _ o refl h)
+
+  by_began : (o : Effect) → P o → P (began s k o)
+  unfolding began
+  by_began o h = by_first_period _ (makes.state _ o refl h)
+
+  by_join_asked : (o : Effect) → P o → P (join_asked s k o)
+  unfolding join_asked
+  by_join_asked o h = by_timer s.swim.period JoinTimer _ tt (by_join o h)
+
+  by_late : (o : Effect) → P o → P (joining_begun s k o)
+  unfolding joining_begun
+  by_late o h = by_join_asked _ (makes.state _ o refl h)
+
+  by_started : (o : Effect) → P o → P (started s k o)
+  unfolding started
+  by_started o h =
+      let told = makes.row _ None 0 false o (may.plain _ tt) tt h in
+      by_either (nat_eq (start_of s k.to) 0) (began s k (with_row k _ None 0 false o)) (joining_begun s k (with_row k _ None 0 false o))
+      (λ _. by_began (with_row k _ None 0 false o) told) (λ _. by_late (with_row k _ None 0 false o) told)
+
+  by_crashed : (o : Effect) → P o → P (crashed k o)
+  unfolding crashed
+  by_crashed o h = makes.row _ None 0 false _ (may.plain _ tt) tt (makes.state _ o refl h)
+
+  by_join_handled : (o : Effect) → Named k.from → R o.state → P o → P (join_handled s k o)
+  unfolding join_handled
+  by_join_handled o sender r h = by_welcome k.from _ sender (on_applied s k Named R news moves true _ o sender r) (by_applied true _ o sender r h)
+
+  by_joined : (entries : List Update) (o : Effect) → Named k.from → AllNamed Named entries → R o.state → P o → P (joined s k entries o)
+  unfolding joined
+  by_joined entries o sender named r h =
+      by_first_period _ (by_all false entries _ named (on_row s k Named R news _ (Some k.from) _ false _ (moves.welcomed o.state r))
+      (makes.row _ (Some k.from) _ false _ (may.plain _ tt) sender (makes.state _ o refl h)))
+
+  -- ---- probes
+
+  by_suspected : (target : ℕ) (held : Option (Claim × ℕ)) (o : Effect) → get o.state.table target ≡ held → R o.state → P o → P (suspected s k target held o)
+  by_suspected target None o none r h = h
+  by_suspected target (Some held) o here r h =
+      by_either (is_confirm held.0) o (applied s true k (record { subject = target; claim = Suspect; inc = held.1; accuser = k.to }) o)
+      (λ _. h) (λ _. by_applied true _ o (moves.known o.state target held r here) r h)
+
+  by_failed : (probe : Probe) (o : Effect) → Named probe.target → R o.state → P o → P (probe_failed s k probe o)
+  unfolding probe_failed
+  by_failed probe o named r h =
+      let told = with_row k what.Fail (Some probe.target) probe.seq false o in
+      let there : R told.state = on_row s k Named R news what.Fail (Some probe.target) probe.seq false o r in
+      let weighed = moves.weighed told.state probe there in
+      by_suspected probe.target _ _ refl (on_health s k Named R news moves (after_probe told.state.health probe) told weighed)
+      (by_health (after_probe told.state.health probe) told there weighed (makes.row what.Fail (Some probe.target) probe.seq false o (may.plain what.Fail tt) named h))
+
+  by_ended : (probe : Option Probe) (o : Effect) → o.state.probe ≡ probe → R o.state → P o → P (probe_ended s k probe o)
+  unfolding probe_ended
+  by_ended None o none r h = h
+  by_ended (Some probe) o here r h =
+      by_either probe.acked (with_health k (after_probe o.state.health probe) o) (probe_failed s k probe o)
+      (λ _. by_health (after_probe o.state.health probe) o r (moves.weighed o.state probe r) h) (λ _. by_failed probe o (moves.aimed o.state probe r here) r h)
+
+  by_begun : (target : ℕ) (o : Effect) → Named target → R o.state → P o → P (probe_begun s k target o)
+  unfolding probe_begun
+  by_begun target o named r h =
+      by_timer _ (TimeoutTimer (o.state.sequence + 1)) _ tt
+      (by_ping target k.to _ _ named moves.own (moves.probing o.state _ _ (one_target Named (fresh_probe (o.state.sequence + 1) target) named) r) (makes.state _ o refl h))
+
+  by_target : (target : Option ℕ) (o : Effect) → ((q : ℕ) → target ≡ Some q → Named q) → R o.state → P o → P (target_probed s k target o)
+  by_target None o named r h = makes.state _ o refl h
+  by_target (Some target) o named r h = by_begun target o (named target refl) r h
+
+  by_next : (o : Effect) → R o.state → P o → P (next_probed s k o)
+  unfolding next_probed
+  by_next o r h = by_target (next_of o.state.words o.state.rota).0 _ (λ q is. moves.targets o.state q r is) (moves.turned o.state r) (makes.state _ o refl h)
+
+  by_period : (o : Effect) → R o.state → P o → P (period_begun s k o)
+  unfolding period_begun
+  by_period o r h = by_timer _ PeriodTimer _ tt (by_next _ (on_ended s k Named R news moves o.state.probe o r) (by_ended o.state.probe o refl r h))
+
+  by_all_asked : (target seq : ℕ) (helpers : List ℕ) (o : Effect) → Named target → AllByRecursion Named helpers → R o.state → P o → P (all_asked s k target seq helpers o)
+  unfolding all_asked
+  by_all_asked target seq [] o named there r h = h
+  by_all_asked target seq (helper ∷ helpers) o named there r h =
+      by_all_asked target seq helpers (ping_req_sent s k target seq helper o) named there.1 (on_ping_req s k Named R news moves target seq helper o r)
+      (by_ping_req target seq helper o named there.0 r h)
+
+  by_expected : (probe : Probe) (count : ℕ) (o : Effect) → P o → P (with_expected s probe count o)
+  by_expected probe count o h = by_either s.lifeguard.probe _ o (λ _. makes.state _ o refl h) (λ _. h)
+
+  by_help : (probe : Probe) (o : Effect) → Named probe.target → R o.state → P o → P (help_asked s k probe o)
+  unfolding help_asked
+  by_help probe o named r h =
+      by_expected probe _ _ (by_all_asked probe.target probe.seq _ _ named (carries.helpers o.state probe.target r)
+      (moves.drawn o.state _ (helpers_rest o.state.words s.swim.helpers (alive_but probe.target o.state.table)) r) (makes.state _ o refl h))
+
+  by_timed_out : (seq : ℕ) (probe : Option Probe) (o : Effect) → o.state.probe ≡ probe → R o.state → P o → P (timed_out s k seq probe o)
+  unfolding timed_out
+  by_timed_out seq None o here r h = h
+  by_timed_out seq (Some probe) o here r h =
+      by_either (nat_eq probe.seq seq && not probe.acked && nat_lt 0 s.swim.helpers) (help_asked s k probe o) o (λ _. by_help probe o (moves.aimed o.state probe r here) r h) (λ _. h)
+
+  by_nack_heard : (seq : ℕ) (o : Effect) → P o → P (nack_heard seq o)
+  unfolding nack_heard
+  by_nack_heard seq o h = makes.state _ o refl h
+
+  by_ping_heard : (initiator seq : ℕ) (updates : List Update) (o : Effect) → Named k.from → Named initiator → AllNamed Named updates → R o.state → P o → P (ping_heard s k initiator seq updates o)
+  unfolding ping_heard
+  by_ping_heard initiator seq updates o sender begun named r h =
+      by_ack k.from initiator seq _ sender begun (on_all s k Named R news moves true updates o named r) (by_all true updates o named r h)
+
+  by_relay : (seq : ℕ) (o : Effect) → Named k.from → P o → P (with_relay s k seq o)
+  by_relay seq o sender h = by_timer _ (NackTimer k.from seq) _ sender (makes.state _ o refl h)
+
+  by_ping_req_heard : (seq target : ℕ) (updates : List Update) (o : Effect) → Named k.from → Named target → AllNamed Named updates → R o.state → P o → P (ping_req_heard s k seq target updates o)
+  unfolding ping_req_heard
+  by_ping_req_heard seq target updates o sender there named r h =
+      let pinged = by_ping target k.from seq _ there sender (on_all s k Named R news moves true updates o named r) (by_all true updates o named r h) in
+      by_either s.lifeguard.probe (with_relay s k seq (ping_sent s k target k.from seq (all_applied s true k updates o))) _ (λ _. by_relay seq _ sender pinged) (λ _. pinged)
+
+  by_taken : (initiator seq : ℕ) (o : Effect) → Named initiator → R o.state → P o → P (ack_taken s k initiator seq o)
+  unfolding ack_taken
+  by_taken initiator seq o begun r h =
+      by_either (nat_eq initiator k.to) (on_state (λ t. record t { probe = answered seq t.probe }) o) _
+      (λ _. makes.state _ o refl h) (λ _. by_ack initiator initiator seq _ begun begun (moves.relay_removed o.state (initiator, seq) r) (makes.state _ o refl h))
+
+  by_ack_heard : (initiator seq : ℕ) (updates : List Update) (o : Effect) → Named initiator → AllNamed Named updates → R o.state → P o → P (ack_heard s k initiator seq updates o)
+  unfolding ack_heard
+  by_ack_heard initiator seq updates o begun named r h =
+      by_taken initiator seq _ begun (on_all s k Named R news moves true updates o named r) (by_all true updates o named r h)
+
+  by_nack_due : (initiator seq : ℕ) (o : Effect) → Named initiator → R o.state → P o → P (nack_due s k initiator seq o)
+  unfolding nack_due
+  by_nack_due initiator seq o begun r h =
+      by_either (set.contains o.state.relays (initiator, seq)) _ o
+      (λ here. by_nack initiator seq _ begun (may.nacks o.state (initiator, seq) r here) (makes.state _ o refl h)) (λ _. h)
+
+  -- ---- suspicions
+
+  by_confirmed : (subject : ℕ) (held : Option (Claim × ℕ)) (o : Effect) → get o.state.table subject ≡ held → R o.state → P o → P (confirmed s k subject held o)
+  by_confirmed subject None o none r h = h
+  by_confirmed subject (Some held) o here r h = by_applied true _ o (moves.known o.state subject held r here) r h
+
+  by_over : (subject : ℕ) (o : Effect) → R o.state → P o → P (suspicion_over s k subject o)
+  unfolding suspicion_over
+  by_over subject o r h =
+      by_either (is_due o.state.suspicions subject k.number) (confirmed s k subject (get o.state.table subject) o) o
+      (λ _. by_confirmed subject (get o.state.table subject) o refl r h) (λ _. h)
+
+  -- ---- the step
+
+  by_handled : (content : Content) (phase : Phase) (o : Effect) → Named k.from → NamesOnly Named content → (¬ (phase ≡ Waiting) → R o.state) → P o → P (handled s k content phase o)
+  unfolding handled
+  by_handled Start Waiting o sender named r h = by_started o h
+  by_handled Start Joining o sender named r h = h
+  by_handled Start Running o sender named r h = h
+  by_handled Start Down o sender named r h = h
+  by_handled Crash Waiting o sender named r h = h
+  by_handled Crash Joining o sender named r h = by_crashed o h
+  by_handled Crash Running o sender named r h = by_crashed o h
+  by_handled Crash Down o sender named r h = h
+  by_handled JoinTimer Waiting o sender named r h = h
+  by_handled JoinTimer Joining o sender named r h = by_join_asked o h
+  by_handled JoinTimer Running o sender named r h = h
+  by_handled JoinTimer Down o sender named r h = h
+  by_handled PeriodTimer Waiting o sender named r h = h
+  by_handled PeriodTimer Joining o sender named r h = h
+  by_handled PeriodTimer Running o sender named r h = by_period o (r runs) h
+  by_handled PeriodTimer Down o sender named r h = h
+  by_handled (TimeoutTimer seq) Waiting o sender named r h = h
+  by_handled (TimeoutTimer seq) Joining o sender named r h = h
+  by_handled (TimeoutTimer seq) Running o sender named r h = by_timed_out seq o.state.probe o refl (r runs) h
+  by_handled (TimeoutTimer seq) Down o sender named r h = h
+  by_handled (NackTimer initiator seq) Waiting o sender named r h = h
+  by_handled (NackTimer initiator seq) Joining o sender named r h = h
+  by_handled (NackTimer initiator seq) Running o sender named r h = by_nack_due initiator seq o named (r runs) h
+  by_handled (NackTimer initiator seq) Down o sender named r h = h
+  by_handled (SuspicionTimer subject) Waiting o sender named r h = h
+  by_handled (SuspicionTimer subject) Joining o sender named r h = h
+  by_handled (SuspicionTimer subject) Running o sender named r h = by_over subject o (r runs) h
+  by_handled (SuspicionTimer subject) Down o sender named r h = h
+  by_handled Join Waiting o sender named r h = h
+  by_handled Join Joining o sender named r h = h
+  by_handled Join Running o sender named r h = by_join_handled o sender (r runs) h
+  by_handled Join Down o sender named r h = h
+  by_handled (Welcome entries) Waiting o sender named r h = h
+  by_handled (Welcome entries) Joining o sender named r h = by_joined entries o sender named (r joins) h
+  by_handled (Welcome entries) Running o sender named r h = h
+  by_handled (Welcome entries) Down o sender named r h = h
+  by_handled (Ping initiator seq updates) Waiting o sender named r h = h
+  by_handled (Ping initiator seq updates) Joining o sender named r h = h
+  by_handled (Ping initiator seq updates) Running o sender named r h = by_ping_heard initiator seq updates o sender named.0 named.1 (r runs) h
+  by_handled (Ping initiator seq updates) Down o sender named r h = h
+  by_handled (PingReq seq target updates) Waiting o sender named r h = h
+  by_handled (PingReq seq target updates) Joining o sender named r h = h
+  by_handled (PingReq seq target updates) Running o sender named r h = by_ping_req_heard seq target updates o sender named.0 named.1 (r runs) h
+  by_handled (PingReq seq target updates) Down o sender named r h = h
+  by_handled (Ack initiator seq updates) Waiting o sender named r h = h
+  by_handled (Ack initiator seq updates) Joining o sender named r h = h
+  by_handled (Ack initiator seq updates) Running o sender named r h = by_ack_heard initiator seq updates o named.0 named.1 (r runs) h
+  by_handled (Ack initiator seq updates) Down o sender named r h = h
+  by_handled (Nack seq) Waiting o sender named r h = h
+  by_handled (Nack seq) Joining o sender named r h = h
+  by_handled (Nack seq) Running o sender named r h = by_nack_heard seq o h
+  by_handled (Nack seq) Down o sender named r h = h
+
+  -- A member that waits needs no fact of its state.
+  pub by_step : (content : Content) (t : State) → Named k.from → NamesOnly Named content → (¬ (t.phase ≡ Waiting) → R t) → P (unchanged t) → P (step s k content t)
+  unfolding step
+  by_step content t sender named r h = by_handled content t.phase (unchanged t) sender named r h

@@ -1,0 +1,50 @@
+-- What a member that is down, or that waits, makes of an event: nothing.
+use Rattle.std.proofs.Common.{◌≡◌, refl, ap, ◌∙◌}
+use Rattle.base.specs.declared.key.Key.{Key}
+use Rattle.scenario.specs.Setup.{Setup}
+use Rattle.member.specs.declared.member.Phase.TheVariants.{Waiting, Down}
+use Rattle.member.specs.declared.content.Content.{Content}
+use Rattle.member.specs.declared.content.Content.TheVariants.{Start, Crash, JoinTimer, PeriodTimer, TimeoutTimer, NackTimer, SuspicionTimer, Join, Welcome, Ping, PingReq, Ack, Nack}
+use Rattle.member.specs.State.{State}
+use Rattle.member.specs.Turn.{Effect, unchanged}
+use Rattle.member.specs.Step.{handled, step}
+
+down : (s : Setup) (k : Key) (c : Content) (o : Effect) → handled s k c Down o ≡ o
+unfolding handled
+down s k Start o = refl
+down s k Crash o = refl
+down s k JoinTimer o = refl
+down s k PeriodTimer o = refl
+down s k (TimeoutTimer seq) o = refl
+down s k (NackTimer initiator seq) o = refl
+down s k (SuspicionTimer subject) o = refl
+down s k Join o = refl
+down s k (Welcome entries) o = refl
+down s k (Ping initiator seq updates) o = refl
+down s k (PingReq seq target updates) o = refl
+down s k (Ack initiator seq updates) o = refl
+down s k (Nack seq) o = refl
+
+waiting : (s : Setup) (k : Key) (c : Content) (o : Effect) → ¬ (c ≡ Start) → handled s k c Waiting o ≡ o
+unfolding handled
+waiting s k Start o other = absurd (other refl)
+waiting s k Crash o other = refl
+waiting s k JoinTimer o other = refl
+waiting s k PeriodTimer o other = refl
+waiting s k (TimeoutTimer seq) o other = refl
+waiting s k (NackTimer initiator seq) o other = refl
+waiting s k (SuspicionTimer subject) o other = refl
+waiting s k Join o other = refl
+waiting s k (Welcome entries) o other = refl
+waiting s k (Ping initiator seq updates) o other = refl
+waiting s k (PingReq seq target updates) o other = refl
+waiting s k (Ack initiator seq updates) o other = refl
+waiting s k (Nack seq) o other = refl
+
+pub down_step : (s : Setup) (k : Key) (c : Content) (t : State) → t.phase ≡ Down → step s k c t ≡ unchanged t
+unfolding step
+down_step s k c t is = ap (λ phase. handled s k c phase (unchanged t)) is ∙ down s k c (unchanged t)
+
+pub waiting_step : (s : Setup) (k : Key) (c : Content) (t : State) → t.phase ≡ Waiting → ¬ (c ≡ Start) → step s k c t ≡ unchanged t
+unfolding step
+waiting_step s k c t is other = ap (λ phase. handled s k c phase (unchanged t)) is ∙ waiting s k c (unchanged t) other

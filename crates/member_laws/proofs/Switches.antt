@@ -1,0 +1,214 @@
+-- What the switches of Lifeguard's mechanisms leave out.
+use Rattle.std.proofs.Common.{◌≡◌, ℕ, Bool, true, false, cond, ◌&&◌, nat_eq, Option, Some, None, All, refl, sym, ap, ◌∙◌, arith, List, [], ◌∷◌}
+use Rattle.std.specs.List.{AllByRecursion}
+use Rattle.std.specs.Option.{is_some, option_map_or, option_and_then, IfSome}
+use Rattle.std.specs.FinMap.{get, insert, remove}
+use Rattle.std.specs.FinSet as set
+use Rattle.std.specs.FinSet.{contains-remove}
+use Rattle.std.proofs.lemmas.Bool.{false≢true, eq-eqb}
+use Rattle.std.proofs.lemmas.List.Elements.{All-from_recursion}
+use Rattle.base.specs.declared.key.Key.{Key}
+use Rattle.base.proofs.Rising.{all_append}
+use Rattle.scenario.specs.Setup.{Setup, IsSound}
+use Rattle.trace.specs.declared.row.Row.{Row}
+use Rattle.trace.specs.declared.row.What.{What}
+use Rattle.trace.specs.declared.row.What.TheVariants as what
+use Rattle.incarnation.specs.declared.Update.{Update}
+use Rattle.lifeguard.specs.Health.{LocalHealth}
+use Rattle.lifeguard.proofs.RelaySets.{relays_total}
+use Rattle.probing.specs.ProbeOrder.{remove_of}
+use Rattle.suspicion.specs.declared.terms.Terms.{Terms}
+use Rattle.suspicion.specs.Settings.{terms_of}
+use Rattle.suspicion.specs.Suspicions.{Suspicion, Held, counts, confirmed_by, confirmed}
+use Rattle.member.specs.declared.content.Content.{Content}
+use Rattle.member.specs.State.{State}
+use Rattle.member.specs.Turn.{Effect, with_row, with_event}
+use Rattle.member.specs.Send.{suspicion_told, buddy_of}
+use Rattle.member.specs.Apply.{claim_kept}
+use Rattle.member.specs.Opening.{opening_health}
+use Rattle.member.specs.Step.{step}
+use Rattle.member_laws.specs.Words.{HasTerms, OwesNoneWithout, IsConsistent}
+use Rattle.member_laws.specs.Rows.{IsOn}
+use Rattle.member_laws.proofs.Moves.{NewsMoves, Moves, kept_either, Anyone}
+use Rattle.member_laws.proofs.Walk.{all_anyone, anyone_named}
+use Rattle.member_laws.proofs.Made.{IsPlain, MayTell, Makes, by_step, Carries}
+use Rattle.member_laws.proofs.Tables.{get_put, get_left, put_terms, left_terms, confirmed_terms}
+use Rattle.member_laws.proofs.Consistency.{IsHealthy, healthy_raised, healthy_weighed, relay_gone}
+
+-- ---- what the switches stand on
+
+record IsSet (s : Setup) (t : State) : Type 0 where
+  terms : HasTerms s t
+  relays : OwesNoneWithout s t
+  health : IsHealthy (opening_health s).ceiling t.health
+
+abbrev Settled : Held → Terms → Type 0
+Settled suspicions terms = (q : ℕ) (x : Suspicion) → get suspicions q ≡ Some x → x.terms ≡ terms
+
+after_confirmed : (suspicions : Held) (terms : Terms) (k : ℕ) (x : Suspicion) (accuser g : ℕ) (o : Option Suspicion) → Settled suspicions terms → get suspicions k ≡ Some x → confirmed x accuser g ≡ o
+    → Settled (option_map_or (insert suspicions k) o suspicions) terms
+after_confirmed suspicions terms k x accuser g None h here is = h
+after_confirmed suspicions terms k x accuser g (Some y) h here is = λ q z at.
+    put_terms suspicions terms q _ y z (confirmed_terms x y accuser g is ∙ h k x here) (h q z) (sym (get_put suspicions k q y) ∙ at)
+
+after_held : (suspicions : Held) (terms : Terms) (k accuser g : ℕ) (o : Option Suspicion) → Settled suspicions terms → get suspicions k ≡ o
+    → Settled (option_map_or (insert suspicions k) (option_and_then (λ x. confirmed x accuser g) o) suspicions) terms
+after_held suspicions terms k accuser g None h here = h
+after_held suspicions terms k accuser g (Some x) h here = after_confirmed suspicions terms k x accuser g (confirmed x accuser g) h here refl
+
+module _ (s : Setup) (k : Key) where
+  news : NewsMoves s k Anyone (IsSet s)
+  news = record {
+    counted = λ t h. record { terms = h.terms; relays = h.relays; health = h.health };
+    put = λ t u named h. record { terms = h.terms; relays = h.relays; health = h.health };
+    alive = λ t u named says e h. ended t u h;
+    suspect = λ t u x named says e terms h. begun t u x terms h;
+    confirm = λ t u named says e h. out t u h;
+    accused = λ t u h. record {
+      terms = after_held t.suspicions (terms_of s) u.subject u.accuser t.next_number (get t.suspicions u.subject) h.terms refl;
+      relays = h.relays;
+      health = h.health;
+    };
+  }
+    where
+      left : (t : State) (u : Update) → IsSet s t → Settled (remove t.suspicions u.subject) (terms_of s)
+      left t u h q y here = left_terms t.suspicions (terms_of s) q _ y (h.terms q y) (sym (get_left t.suspicions u.subject q) ∙ here)
+
+      ended : (t : State) (u : Update) → IsSet s t → IsSet s (record (claim_kept u t) { suspicions = remove (claim_kept u t).suspicions u.subject })
+      ended t u h =
+          kept_either (λ v. IsSet s (record v { suspicions = remove v.suspicions u.subject })) u t
+          (record { terms = left t u h; relays = h.relays; health = h.health }) (record { terms = left t u h; relays = h.relays; health = h.health })
+
+      out : (t : State) (u : Update) → IsSet s t
+          → IsSet s (record (claim_kept u t) { suspicions = remove (claim_kept u t).suspicions u.subject; rota = remove_of u.subject (claim_kept u t).rota })
+      out t u h =
+          kept_either (λ v. IsSet s (record v { suspicions = remove v.suspicions u.subject; rota = remove_of u.subject v.rota })) u t
+          (record { terms = left t u h; relays = h.relays; health = h.health }) (record { terms = left t u h; relays = h.relays; health = h.health })
+
+      more : (t : State) (u : Update) (x : Suspicion) → x.terms ≡ terms_of s → IsSet s t → Settled (insert t.suspicions u.subject x) (terms_of s)
+      more t u x own h q y here = put_terms t.suspicions (terms_of s) q _ x y own (h.terms q y) (sym (get_put t.suspicions u.subject q x) ∙ here)
+
+      begun : (t : State) (u : Update) (x : Suspicion) → x.terms ≡ terms_of s → IsSet s t
+          → IsSet s (record (claim_kept u t) { suspicions = insert (claim_kept u t).suspicions u.subject x })
+      begun t u x own h =
+          kept_either (λ v. IsSet s (record v { suspicions = insert v.suspicions u.subject x })) u t
+          (record { terms = more t u x own h; relays = h.relays; health = h.health }) (record { terms = more t u x own h; relays = h.relays; health = h.health })
+
+  moves : Moves s k Anyone (IsSet s)
+  moves = record {
+    own = tt;
+    aimed = λ t probe h is. tt;
+    targets = λ t target h is. tt;
+    known = λ t q held h here. tt;
+    drawn = λ t rest is h. record { terms = h.terms; relays = h.relays; health = h.health };
+    picked = λ t buddy h. record { terms = h.terms; relays = h.relays; health = h.health };
+    probing = λ t seq probe aim h. record { terms = h.terms; relays = h.relays; health = h.health };
+    turned = λ t h. record { terms = h.terms; relays = h.relays; health = h.health };
+    relay_added = λ t relay on h. record { terms = h.terms; relays = λ off. absurd (false≢true (sym off ∙ on)); health = h.health };
+    relay_removed = λ t relay h. record {
+      terms = h.terms;
+      relays = λ off other. contains-remove relays_total t.relays relay other ∙ relay_gone _ _ (h.relays off other);
+      health = h.health;
+    };
+    heard_dead = λ t h. record { terms = h.terms; relays = h.relays; health = h.health };
+    refuted = λ t h. record { terms = h.terms; relays = h.relays; health = h.health };
+    weakened = λ t h. record { terms = h.terms; relays = h.relays; health = healthy_raised (opening_health s).ceiling t.health 1 h.health };
+    weighed = λ t probe h. record { terms = h.terms; relays = h.relays; health = healthy_weighed (opening_health s).ceiling t.health probe h.health };
+    welcomed = λ t h. record { terms = h.terms; relays = h.relays; health = h.health };
+    downed = λ t h. record { terms = h.terms; relays = h.relays; health = h.health };
+    began = λ t waits h. record { terms = h.terms; relays = h.relays; health = h.health };
+    late = λ t waits h. record { terms = h.terms; relays = h.relays; health = h.health };
+  }
+
+-- ---- rows
+
+on_plain : (s : Setup) (tells : What) → IsPlain tells → IsOn s tells
+on_plain s what.Accuse h = absurd h
+on_plain s what.Nack h = absurd h
+on_plain s what.Health h = absurd h
+on_plain s _ h = tt
+
+on_nack : (s : Setup) (t : State) (relay : ℕ × ℕ) (b : Bool) → s.lifeguard.probe ≡ b → IsSet s t → set.contains t.relays relay ≡ true → b ≡ true
+on_nack s t relay true e h here = refl
+on_nack s t relay false e h here = absurd (false≢true (sym (h.relays e relay) ∙ here))
+
+counts_shortens : (a b c : Bool) → (a && b && c) ≡ true → a ≡ true
+counts_shortens true b c h = refl
+counts_shortens false b c h = h
+
+confirmed_counts : (y x : Suspicion) (accuser g : ℕ) (b : Bool) → cond b (Some (confirmed_by y accuser g)) None ≡ Some x → b ≡ true
+confirmed_counts y x accuser g true is = refl
+confirmed_counts y x accuser g false is = absurd (false≢true (ap is_some is))
+
+on_accuse : (s : Setup) (t : State) (k accuser g : ℕ) (x : Suspicion) (o : Option Suspicion) → IsSet s t → get t.suspicions k ≡ o
+    → option_and_then (λ y. confirmed y accuser g) o ≡ Some x → s.lifeguard.suspicion ≡ true
+on_accuse s t k accuser g x None h here is = absurd (false≢true (ap is_some is))
+on_accuse s t k accuser g x (Some y) h here is =
+    ap (λ (terms : Terms). terms.shortens) (sym (h.terms k y here))
+    ∙ counts_shortens y.terms.shortens _ _ (confirmed_counts y x accuser g (counts y accuser) is)
+
+none_differs : (c g h : LocalHealth) → c.ceiling ≡ 0 → IsHealthy c.ceiling g → IsHealthy c.ceiling h → nat_eq h.counter g.counter ≡ true
+none_differs c g h none is as' = eq-eqb h.counter g.counter (omega (arith, is.within, is.same, as'.within, as'.same))
+
+on_health : (s : Setup) (t : State) (h : LocalHealth) (b : Bool) → s.lifeguard.probe ≡ b → IsHealthy (opening_health s).ceiling t.health → IsHealthy (opening_health s).ceiling h
+    → nat_eq h.counter t.health.counter ≡ false → b ≡ true
+on_health s t h true e is as' differs = refl
+on_health s t h false e is as' differs =
+    absurd (false≢true (sym differs ∙ none_differs (opening_health s) t.health h (ap (λ b. cond b s.lifeguard.ceiling 0) e) is as'))
+
+may : (s : Setup) → MayTell (IsSet s) (IsOn s)
+may s = record {
+  plain = on_plain s;
+  nacks = λ t relay h here. on_nack s t relay s.lifeguard.probe refl h here;
+  accuses = λ t u x h is. on_accuse s t u.subject u.accuser t.next_number x (get t.suspicions u.subject) h refl is;
+  healths = λ t h is as' differs. on_health s t h s.lifeguard.probe refl is.health as'.health differs;
+}
+
+each_anyone : (xs : List ℕ) → AllByRecursion Anyone xs
+each_anyone [] = tt
+each_anyone (x ∷ xs) = (tt, each_anyone xs)
+
+carries : (s : Setup) (k : Key) → Carries s k Anyone (IsSet s)
+carries s k = record {
+  plain = λ t h. all_anyone _;
+  ping = λ t to h. all_anyone _;
+  contact = λ c is. tt;
+  helpers = λ t target h. each_anyone _;
+  whole = λ t h. all_anyone _;
+}
+
+abbrev AllOn : Setup → Effect → Type 0
+AllOn s o = AllByRecursion (λ row. IsOn s row.what) o.rows
+
+one_row : (s : Setup) (k : Key) (tells : What) (about : Option ℕ) (value : ℕ) (lost : Bool) (o : Effect) → IsOn s tells → IfSome about Anyone → AllOn s o → AllOn s (with_row k tells about value lost o)
+unfolding with_row
+one_row s k tells about value lost o on named h = all_append (λ row. IsOn s row.what) o.rows _ h (on, tt)
+
+same_rows : (s : Setup) (k : Key) (at to : ℕ) (content : Content) (o : Effect) → AllOn s o → AllOn s (with_event k at to content o)
+unfolding with_event
+same_rows s k at to content o h = h
+
+makes : (s : Setup) (k : Key) → Makes k Anyone (IsOn s) (AllOn s)
+makes s k = record {
+  row = one_row s k;
+  event = λ at to content o there named h. same_rows s k at to content o h;
+  lost = λ o h. h;
+  state = λ t o same h. h;
+}
+
+pub each_row_is_on : (s : Setup) (k : Key) (c : Content) (t : State) → IsConsistent s k.to t → AllByRecursion (λ (row : Row). IsOn s row.what) (step s k c t).rows
+each_row_is_on s k c t h =
+    by_step s k Anyone (IsSet s) (news s k) (moves s k) (IsOn s) (may s) (carries s k) (AllOn s) (makes s k) c t tt (anyone_named c)
+    (λ _. record { terms = h.terms; relays = h.relays; health = record { within = h.health; same = h.ceiling } }) tt
+
+pub rows_are_on : (s : Setup) (k : Key) (c : Content) (t : State) → IsConsistent s k.to t → All (λ (row : Row). IsOn s row.what) (step s k c t).rows
+rows_are_on s k c t h = All-from_recursion (λ (row : Row). IsOn s row.what) (step s k c t).rows (each_row_is_on s k c t h)
+
+pub full_without : (s : Setup) (m : ℕ) (t : State) → s.lifeguard.probe ≡ false → IsConsistent s m t → t.health.counter ≡ 0
+full_without s m t off h =
+    let none : (opening_health s).ceiling ≡ 0 = ap (λ b. cond b s.lifeguard.ceiling 0) off in
+    omega (arith, h.health, h.ceiling)
+
+pub no_buddy : (s : Setup) (to : ℕ) (t : State) → s.lifeguard.buddy ≡ false → buddy_of s to t ≡ None
+unfolding buddy_of
+no_buddy s to t off = ap (λ b. cond b (suspicion_told t to (get t.table to)) None) off

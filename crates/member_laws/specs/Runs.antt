@@ -1,0 +1,22 @@
+-- Which worlds a run of a scenario reaches, and which come after which.
+use Rattle.std.specs.Prelude.{List}
+use Rattle.base.specs.declared.key.Key.{Key}
+use Rattle.base.specs.World.{World, Run}
+use Rattle.scenario.specs.Setup.{Setup}
+use Rattle.trace.specs.declared.row.Row.{Row}
+use Rattle.member.specs.declared.content.Content.{Content}
+use Rattle.member.specs.State.{State}
+use Rattle.member.specs.Opening.{opening}
+use Rattle.member.specs.Step.{step}
+
+-- the members and the events that pend
+abbrev pub Cluster : Type 0
+Cluster = World State Content
+
+-- next steps lead from the one world to the other, none later than the end
+abbrev pub LeadsTo : Setup → Cluster → Cluster → Type 0
+LeadsTo s w v = (keys : List Key) × (rows : List Row) × Run (step s) s.end w keys rows v
+
+-- the scenario's run comes to this world
+abbrev pub IsReached : Setup → Cluster → Type 0
+IsReached s w = LeadsTo s (opening s) w

@@ -1,0 +1,133 @@
+//! What holds of every step, stated over the definitions alone.
+
+ghost use Rattle.std.specs.Prelude.{◌≡◌, ◌≢◌, ◌≤◌, ◌+◌, ℕ, Bool, false, Some, None, List, All};
+ghost use Rattle.std.specs.FinMap.{get};
+ghost use Rattle.std.specs.FinSet as set;
+ghost use Rattle.base.specs.declared.key.Key.{Key};
+ghost use Rattle.base.specs.World.{Run};
+ghost use Rattle.scenario.specs.Setup.{Setup, IsSound};
+ghost use Rattle.trace.specs.declared.row.Row.{Row};
+ghost use Rattle.trace.specs.Text.{NamesMembers};
+ghost use Rattle.incarnation.specs.declared.Claim.{Claim};
+ghost use Rattle.incarnation.specs.declared.Claim.TheVariants.{Confirm};
+ghost use Rattle.incarnation.specs.declared.Update.{Update};
+ghost use Rattle.member.specs.declared.content.Content.{Content};
+ghost use Rattle.member.specs.declared.content.Content.TheVariants.{Start};
+ghost use Rattle.member.specs.declared.member.Phase.TheVariants.{Waiting, Down};
+ghost use Rattle.member.specs.State.{State};
+ghost use Rattle.member.specs.Opening.{opening_state, opening};
+ghost use Rattle.member.specs.Turn.{Effect, unchanged};
+ghost use Rattle.member.specs.Send.{buddy_of};
+ghost use Rattle.member.specs.Apply.{applied};
+ghost use Rattle.member.specs.Step.{step};
+ghost use Rattle.member_laws.specs.Words.{AccusesOneself, WaitsAsOpened, IsWithinCeiling, IsConsistent, IsAmongMembers};
+ghost use Rattle.member_laws.specs.Rows.{IsOn};
+ghost use Rattle.member_laws.specs.Runs.{Cluster, LeadsTo, IsReached};
+
+/// A member's incarnation number rises by one where it hears itself suspected at its present
+/// number, and stays at whatever else it hears. No step lowers it.
+pub fn an_incarnation_rises_to_refute_alone()
+    ensures refuted { (s : Setup) (loud : Bool) (k : Key) (u : Update) (o : Effect)
+        → AccusesOneself k.to o.state u
+        → (applied s loud k u o).state.incarnation ≡ o.state.incarnation + 1 }
+    ensures stays { (s : Setup) (loud : Bool) (k : Key) (u : Update) (o : Effect)
+        → ¬ AccusesOneself k.to o.state u
+        → (applied s loud k u o).state.incarnation ≡ o.state.incarnation }
+    ensures never_falls { (s : Setup) (k : Key) (c : Content) (t : State) → WaitsAsOpened s k.to t
+        → t.incarnation ≤ (step s k c t).state.incarnation }
+{}
+
+/// What is confirmed stays confirmed: a step leaves such an entry as it is.
+pub fn a_confirmed_member_stays_so()
+    ensures { (s : Setup) (k : Key) (c : Content) (t : State) (subject number : ℕ) → WaitsAsOpened s k.to t
+        → get t.table subject ≡ Some (Confirm, number)
+        → get (step s k c t).state.table subject ≡ Some (Confirm, number) }
+{}
+
+/// A member that is down does nothing, and one that waits does nothing before its start: nothing of
+/// its state changes, no word is drawn, no event is made and no row is written.
+pub fn a_silent_member_keeps_silent()
+    ensures down { (s : Setup) (k : Key) (c : Content) (t : State) → t.phase ≡ Down
+        → step s k c t ≡ unchanged t }
+    ensures waiting { (s : Setup) (k : Key) (c : Content) (t : State) → t.phase ≡ Waiting → c ≢ Start
+        → step s k c t ≡ unchanged t }
+{}
+
+/// Lifeguard's local health stays within its ceiling, which never changes (LHA-Probe).
+pub fn health_stays_within_its_ceiling()
+    ensures opening { (s : Setup) (m : ℕ) → IsWithinCeiling (opening_state s m).health }
+    ensures counter { (s : Setup) (k : Key) (c : Content) (t : State) → IsWithinCeiling t.health
+        → IsWithinCeiling (step s k c t).state.health }
+    ensures ceiling { (s : Setup) (k : Key) (c : Content) (t : State)
+        → (step s k c t).state.health.ceiling ≡ t.health.ceiling }
+{}
+
+/// A member that waits for its start is as the run found it.
+pub fn a_waiting_member_is_as_opened()
+    ensures opening { (s : Setup) (m : ℕ) → WaitsAsOpened s m (opening_state s m) }
+    ensures step { (s : Setup) (k : Key) (c : Content) (t : State) → WaitsAsOpened s k.to t
+        → WaitsAsOpened s k.to (step s k c t).state }
+{}
+
+/// A member's state is consistent at the opening, and each event among members leaves it so: the
+/// suspicions that stand, the members that are probed and the entries of its table agree. And the
+/// events that it makes of it are among members too: all whom they name are members of the scenario.
+pub fn states_stay_consistent()
+    ensures opening { (s : Setup) (m : ℕ) → IsConsistent s m (opening_state s m) }
+    ensures step { (s : Setup) (k : Key) (c : Content) (t : State) → IsSound s → IsAmongMembers s k c
+        → IsConsistent s k.to t → IsConsistent s k.to (step s k c t).state }
+    ensures events { (s : Setup) (k : Key) (c : Content) (t : State) → IsSound s → IsAmongMembers s k c
+        → IsConsistent s k.to t
+        → All (λ (e : Key × Content). IsAmongMembers s e.0 e.1) (step s k c t).events }
+{}
+
+/// What Lifeguard's mechanisms do is not done where they are switched off. Without LHA-Suspicion no
+/// further accuser counts, without LHA-Probe no nack is sent and health stays full, so no time is
+/// scaled and no answer is owed to another's probe; without the Buddy System no ping has a buddy.
+pub fn what_is_off_is_not_done()
+    ensures rows { (s : Setup) (k : Key) (c : Content) (t : State) → IsConsistent s k.to t
+        → All (λ (row : Row). IsOn s row.what) (step s k c t).rows }
+    ensures health { (s : Setup) (m : ℕ) (t : State) → s.lifeguard.probe ≡ false → IsConsistent s m t
+        → t.health.counter ≡ 0 }
+    ensures relays { (s : Setup) (m : ℕ) (t : State) → s.lifeguard.probe ≡ false → IsConsistent s m t
+        → (relay : ℕ × ℕ) → set.contains t.relays relay ≡ false }
+    ensures buddy { (s : Setup) (to : ℕ) (t : State) → s.lifeguard.buddy ≡ false
+        → buddy_of s to t ≡ None }
+{}
+
+/// Through a run a member's incarnation number never falls.
+pub fn a_run_lowers_no_incarnation()
+    ensures { (s : Setup) (w v : Cluster) (m : ℕ) (before after : State) → IsReached s w → LeadsTo s w v
+        → get w.members m ≡ Some before → get v.members m ≡ Some after
+        → before.incarnation ≤ after.incarnation }
+{}
+
+/// Through a run a member that holds another as confirmed never holds anything else of it.
+pub fn a_run_revives_nobody()
+    ensures { (s : Setup) (w v : Cluster) (m : ℕ) (before after : State) (subject number : ℕ)
+        → IsReached s w → LeadsTo s w v
+        → get w.members m ≡ Some before → get v.members m ≡ Some after
+        → get before.table subject ≡ Some (Confirm, number)
+        → get after.table subject ≡ Some (Confirm, number) }
+{}
+
+/// Wherever a run has come, each member's state is consistent, and each event that pends is among
+/// members.
+pub fn a_run_keeps_states_consistent()
+    ensures states { (s : Setup) (w : Cluster) (m : ℕ) (t : State) → IsSound s → IsReached s w
+        → get w.members m ≡ Some t → IsConsistent s m t }
+    ensures events { (s : Setup) (w : Cluster) (k : Key) (c : Content) → IsSound s → IsReached s w
+        → get w.pending k ≡ Some c → IsAmongMembers s k c }
+{}
+
+/// Every row of a run names members of the scenario alone.
+pub fn a_run_names_members()
+    ensures { (s : Setup) (keys : List Key) (rows : List Row) (w : Cluster) → IsSound s
+        → Run (step s) s.end (opening s) keys rows w → All (NamesMembers s) rows }
+{}
+
+/// No row of a run tells of a mechanism of Lifeguard that is switched off.
+pub fn a_run_tells_only_of_what_is_on()
+    ensures { (s : Setup) (keys : List Key) (rows : List Row) (w : Cluster) → IsSound s
+        → Run (step s) s.end (opening s) keys rows w → All (λ (row : Row). IsOn s row.what) rows }
+{}

@@ -1,0 +1,3 @@
+pub mod Alive
+pub mod Few
+mod Entries

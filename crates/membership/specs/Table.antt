@@ -1,0 +1,55 @@
+-- What a member holds of others (SWIM, section 4.2), and what is read from it.
+use Rattle.std.specs.Prelude.{ℕ, ◌+◌, ◌&&◌, ◌||◌, Bool, true, false, not, nat_lt, nat_eq, List, map, filter, count_by}
+use Rattle.std.specs.Ordering.{nat_cmp}
+use Rattle.std.specs.FinMap.{FinMap, entries, from_entries}
+use Rattle.incarnation.specs.declared.Claim.{Claim}
+use Rattle.incarnation.specs.declared.Claim.TheVariants.{Alive, Suspect, Confirm}
+use Rattle.incarnation.specs.declared.Update.{Update}
+
+-- what a member holds of others: for each that it knows, a claim with its incarnation number
+abbrev pub Known : Type 0
+Known = FinMap nat_cmp (Claim × ℕ)
+
+-- what these entries say
+abbrev pub known_of : List (ℕ × (Claim × ℕ)) → Known
+known_of es = from_entries es
+
+abbrev pub is_alive : Claim → Bool
+is_alive Alive = true
+is_alive Suspect = false
+is_alive Confirm = false
+
+abbrev pub is_suspect : Claim → Bool
+is_suspect Alive = false
+is_suspect Suspect = true
+is_suspect Confirm = false
+
+abbrev pub is_confirm : Claim → Bool
+is_confirm Alive = false
+is_confirm Suspect = false
+is_confirm Confirm = true
+
+-- whether the first claim overrides the second: the relation `Overrides` as a test
+abbrev pub does_override : Claim × ℕ → Claim × ℕ → Bool
+does_override new old =
+    not (is_confirm old.0) && (is_confirm new.0 || nat_lt old.1 new.1 || (is_suspect new.0 && is_alive old.0 && nat_eq new.1 old.1))
+
+-- n, the members that are not confirmed, oneself included
+unfoldable pub live_count : Known → ℕ
+live_count table = 1 + count_by (λ e. not (is_confirm e.1.0)) (entries table)
+
+-- the members that are held to be alive, but one, in the order of their numbers
+unfoldable pub alive_but : ℕ → Known → List ℕ
+alive_but member table = map (λ e. e.0) (filter (λ e. is_alive e.1.0 && not (nat_eq e.0 member)) (entries table))
+
+-- an entry as an update of which a member is the accuser
+abbrev pub update_by : ℕ → ℕ × (Claim × ℕ) → Update
+update_by accuser e = record { subject = e.0; claim = e.1.0; inc = e.1.1; accuser = accuser }
+
+-- all entries so, in the order of the members' numbers
+unfoldable pub updates_by : ℕ → Known → List Update
+updates_by accuser table = map (update_by accuser) (entries table)
+
+-- these members, each held to be alive at number 0
+unfoldable pub all_alive : List ℕ → Known
+all_alive members = from_entries (map (λ m. (m, (Alive, 0))) members)

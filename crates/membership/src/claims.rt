@@ -1,0 +1,41 @@
+ghost use Rattle.std.specs.Prelude.{◌≡◌};
+ghost use Rattle.membership.specs.Table.{is_alive, is_suspect, is_confirm, does_override};
+
+use incarnation::{Claim, overrides};
+
+/// Whether a member is held to be up.
+pub(crate) fn is_alive(claim: Claim) -> bool
+    ensures { result ≡ is_alive claim }
+{
+    match claim {
+        Claim::Alive => true,
+        Claim::Suspect | Claim::Confirm => false,
+    }
+}
+
+/// Whether a member is suspected.
+pub fn is_suspect(claim: Claim) -> bool
+    ensures { result ≡ is_suspect claim }
+{
+    match claim {
+        Claim::Suspect => true,
+        Claim::Alive | Claim::Confirm => false,
+    }
+}
+
+/// Whether a member is held to be down.
+pub fn is_confirm(claim: Claim) -> bool
+    ensures { result ≡ is_confirm claim }
+{
+    match claim {
+        Claim::Confirm => true,
+        Claim::Alive | Claim::Suspect => false,
+    }
+}
+
+/// Whether the first claim takes the place of the second (SWIM, section 4.2).
+pub fn does_override(new: (Claim, u64), old: (Claim, u64)) -> bool
+    ensures { result ≡ does_override new old }
+{
+    overrides(new, old)
+}

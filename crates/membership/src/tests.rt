@@ -1,0 +1,68 @@
+use super::*;
+use base::{MemberId, Memory};
+use incarnation::{Claim, Update};
+use std::test::Fail;
+
+// A table in which 1 and 4 are up, 2 is suspected at number 3, and 7 is confirmed at number 5.
+fn table_of_four(rt: &impl AllocGlobal) -> Result<Table, Memory> {
+    let mut table = Table::of_alive(rt.alloc(), &[MemberId(4), MemberId(1)])?;
+    table.set(MemberId(7), (Claim::Alive, 5))?;
+    table.set(MemberId(2), (Claim::Suspect, 3))?;
+    table.set(MemberId(7), (Claim::Confirm, 5))?;
+    Ok(table)
+}
+
+#[test]
+fn what_is_held_is_the_last_claim(rt: HostRuntime) -> Result<(), Fail> {
+    let mut table = table_of_four(&rt)?;
+    assert_eq!(rt; table.get(MemberId(1)), Some((Claim::Alive, 0)));
+    assert_eq!(rt; table.get(MemberId(7)), Some((Claim::Confirm, 5)));
+    assert_eq!(rt; table.get(MemberId(3)), None);
+    table.remove(MemberId(7));
+    assert_eq!(rt; table.get(MemberId(7)), None);
+    Ok(())
+}
+
+#[test]
+fn the_confirmed_are_not_counted_and_suspects_do_not_help(rt: HostRuntime) -> Result<(), Fail> {
+    let table = table_of_four(&rt)?;
+    assert_eq!(rt; table.live_count(), 4);
+    let helpers = table.alive_but(rt.alloc(), MemberId(4))?;
+    assert_eq!(rt; helpers.as_slice(), [MemberId(1)].as_slice());
+    assert_eq!(rt; Table::new(rt.alloc()).live_count(), 1);
+    Ok(())
+}
+
+#[test]
+fn updates_come_in_the_order_of_their_subjects(rt: HostRuntime) -> Result<(), Fail> {
+    let updates = table_of_four(&rt)?.updates_by(rt.alloc(), MemberId(9))?;
+    let held = [
+        (1, Claim::Alive, 0),
+        (2, Claim::Suspect, 3),
+        (4, Claim::Alive, 0),
+        (7, Claim::Confirm, 5),
+    ];
+    assert_eq!(rt; updates.len(), held.len());
+    for (update, (subject, claim, inc)) in updates.iter().zip(held) {
+        let wanted = Update {
+            subject: MemberId(subject),
+            claim,
+            inc,
+            accuser: MemberId(9),
+        };
+        assert_eq!(rt; *update, wanted);
+    }
+    Ok(())
+}
+
+#[test]
+fn claims_are_told_apart(rt: HostRuntime) {
+    assert!(rt;
+        is_suspect(Claim::Suspect) && !is_suspect(Claim::Alive) && !is_suspect(Claim::Confirm)
+    );
+    assert!(rt;
+        is_confirm(Claim::Confirm) && !is_confirm(Claim::Alive) && !is_confirm(Claim::Suspect)
+    );
+    assert!(rt; does_override((Claim::Suspect, 3), (Claim::Alive, 3)));
+    assert!(rt; !does_override((Claim::Alive, 3), (Claim::Suspect, 3)));
+}
