@@ -1,11 +1,7 @@
-pub mod Worn
-pub mod Sending
-pub mod Targets
-pub mod Pending
-pub mod Openings
-pub mod Members
-pub mod Steps
-pub mod Fairness
-pub mod Naming
-pub mod Left
-pub mod Runs
+mod Runs
+mod Pending
+mod Members
+mod Openings
+mod Steps
+mod Left
+mod Due

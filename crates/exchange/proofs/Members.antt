@@ -6,8 +6,9 @@ use Rattle.std.specs.Ordering.{nat_cmp, eq_by_cmp}
 use Rattle.std.specs.Cmp.{nat_cmp_total, unsigned_tied}
 use Rattle.std.specs.FinMap.{nat_cmp-IsAntisymmetric, get, insert, find, get-from_entries, get-insert, same_map}
 use Rattle.std.proofs.lemmas.Bool.{eqb-true, eq-eqb, false≢true}
-use Rattle.exchange.specs.declared.member.Member.{Member}
-use Rattle.exchange.specs.State.{State, state_of}
+use Rattle.member.specs.declared.member.Member.{Member}
+use Rattle.member.specs.State.{State}
+use Rattle.member.specs.View.{state_of}
 use Rattle.exchange.specs.View.{by_place, members_of}
 
 differs : (a b : ℕ) → a < b → (t : Bool) → eqb b a ≡ t → t ≡ false

@@ -1,42 +1,60 @@
--- The list of waiting members and the tree of their starts as the opening world.
-use Rattle.std.proofs.Common.{◌≡◌, ℕ, zero, suc, ◌+◌, List, [], ◌∷◌, ◌++◌, map, false, None, ap, ◌∙◌, sym, refl, arith}
+-- The list of members before their starts and the tree of the script's events as the opening world.
+use Rattle.std.proofs.Common.{◌≡◌, ℕ, zero, suc, ◌+◌, List, [], ◌∷◌, ◌++◌, map, flat_map, append_assoc, append-nil, ap, ◌∙◌, sym, refl, arith}
 use Rattle.std.proofs.lemmas.List.{map-append}
 use Rattle.std.proofs.lemmas.List.FromFn.{map-range_with_len_more}
 use Rattle.std.specs.List.{range_with_len, enumerate_from}
-use Rattle.std.specs.FinMap.{from_entries, empty}
+use Rattle.std.specs.FinMap.{FinMap, from_entries, empty}
+use Rattle.base.specs.declared.key.Key.{Key}
+use Rattle.base.specs.Order.{key_cmp}
 use Rattle.base.specs.World.{with_events}
-use Rattle.streams.specs.Draw.{words_of, member_words}
 use Rattle.scenario.specs.Setup.{Setup, member_count}
+use Rattle.member.specs.declared.content.Content.{Content}
+use Rattle.member.specs.declared.member.Member.{Member}
+use Rattle.member.specs.Opening.{opening, opening_state, script_of}
+use Rattle.member.specs.View.{state_of}
 use Rattle.exchange.specs.declared.cluster.Cluster.{Cluster}
-use Rattle.exchange.specs.declared.member.Member.{Member}
-use Rattle.exchange.specs.declared.member.Content.TheVariants.{Start}
-use Rattle.exchange.specs.Opening.{opening, waiting, start_key}
-use Rattle.exchange.specs.State.{state_of}
 use Rattle.exchange.specs.View.{world_of, by_place, events_in}
 
 numbered_by_place : {A : Type 0} (f : ℕ → A) (a n : ℕ) → enumerate_from a (map f (range_with_len a n)) ≡ map (λ m. (m, f m)) (range_with_len a n)
 numbered_by_place f a zero = refl
 numbered_by_place f a (suc n) = ap (λ l. (a, f a) ∷ l) (numbered_by_place f (a + 1) n)
 
-pub opened : (s : Setup) (cluster : Cluster) (n : ℕ) → n ≡ member_count s → map state_of cluster.members.items ≡ map (waiting s) (range_with_len 0 n)
-    → events_in cluster.pending ≡ with_events empty (map (λ m. (start_key m, Start)) (range_with_len 0 n)) → world_of cluster ≡ opening s
+pub opened : (s : Setup) (cluster : Cluster) (n : ℕ) → n ≡ member_count s → map state_of cluster.members.items ≡ map (opening_state s) (range_with_len 0 n)
+    → events_in cluster.pending ≡ with_events empty (flat_map (script_of s) (range_with_len 0 n)) → world_of cluster ≡ opening s
 opened s cluster n all members pending =
     (λ i. record {
-      members = (ap by_place members ∙ ap from_entries (numbered_by_place (waiting s) 0 n)) i;
+      members = (ap by_place members ∙ ap from_entries (numbered_by_place (opening_state s) 0 n)) i;
       pending = pending i;
     })
     ∙ ap (λ k. record {
-      members = from_entries (map (λ m. (m, waiting s m)) (range_with_len 0 k));
-      pending = with_events empty (map (λ m. (start_key m, Start)) (range_with_len 0 k));
+      members = from_entries (map (λ m. (m, opening_state s m)) (range_with_len 0 k));
+      pending = with_events empty (flat_map (script_of s) (range_with_len 0 k));
     }) all
 
--- one more member that waits
-pub one_more_waits : (s : Setup) (before after : List Member) (new : Member) (i : ℕ) → after ≡ before ++ new ∷ [] → map state_of before ≡ map (waiting s) (range_with_len 0 i)
-    → state_of new ≡ waiting s i → map state_of after ≡ map (waiting s) (range_with_len 0 (i + 1))
+-- one more member before its start
+pub one_more_waits : (s : Setup) (before after : List Member) (new : Member) (i : ℕ) → after ≡ before ++ new ∷ [] → map state_of before ≡ map (opening_state s) (range_with_len 0 i)
+    → state_of new ≡ opening_state s i → map state_of after ≡ map (opening_state s) (range_with_len 0 (i + 1))
 one_more_waits s before after new i pushed so_far waits =
-    ap (map state_of) pushed ∙ map-append state_of before (new ∷ []) ∙ ap (λ l. l ++ state_of new ∷ []) so_far ∙ ap (λ m. map (waiting s) (range_with_len 0 i) ++ m ∷ []) waits
-    ∙ sym (map-range_with_len_more (waiting s) 0 i i (omega arith))
+    ap (map state_of) pushed ∙ map-append state_of before (new ∷ []) ∙ ap (λ l. l ++ state_of new ∷ []) so_far ∙ ap (λ m. map (opening_state s) (range_with_len 0 i) ++ m ∷ []) waits
+    ∙ sym (map-range_with_len_more (opening_state s) 0 i i (omega arith))
 
--- a member with the first place of its stream waits
-pub waits_with : (s : Setup) (i : ℕ) (new : Member) → new.running ≡ false → new.next_number ≡ 1 → new.sequence ≡ 0 → new.probe ≡ None → words_of new.stream ≡ member_words s.seed i → state_of new ≡ waiting s i
-waits_with s i new running next_number sequence probe words = λ x. record { running = running x; next_number = next_number x; sequence = sequence x; probe = probe x; words = words x }
+-- ---- events
+
+-- first these events, then those
+pub with_events_append : (es fs : List (Key × Content)) (pending : FinMap key_cmp Content) → with_events pending (es ++ fs) ≡ with_events (with_events pending es) fs
+with_events_append [] fs pending = refl
+with_events_append (e ∷ es) fs pending = with_events_append es fs _
+
+flat_append : (f : ℕ → List (Key × Content)) (a n : ℕ) → flat_map f (range_with_len a (n + 1)) ≡ flat_map f (range_with_len a n) ++ f (a + n)
+flat_append f a zero = append-nil (f a) ∙ ap f (let e : a ≡ a + 0 = omega arith in e)
+flat_append f a (suc n) =
+    ap (λ k. flat_map f (range_with_len a k)) (let e : suc n + 1 ≡ suc (n + 1) = omega arith in e) ∙ ap (λ l. f a ++ l) (flat_append f (a + 1) n) ∙ sym (append_assoc (f a) (flat_map f (range_with_len (a + 1) n)) (f (a + 1 + n)))
+    ∙ ap (λ k. (f a ++ flat_map f (range_with_len (a + 1) n)) ++ f k) (let e : a + 1 + n ≡ a + suc n = omega arith in e)
+
+-- the script of one more member
+pub one_more_script : (s : Setup) (i : ℕ) (before after : FinMap key_cmp Content) → before ≡ with_events empty (flat_map (script_of s) (range_with_len 0 i))
+    → after ≡ with_events before (script_of s i) → after ≡ with_events empty (flat_map (script_of s) (range_with_len 0 (i + 1)))
+one_more_script s i before after so_far more =
+    more ∙ ap (λ p. with_events p (script_of s i)) so_far
+    ∙ sym (with_events_append (flat_map (script_of s) (range_with_len 0 i)) (script_of s i) empty)
+    ∙ ap (with_events empty) (ap (λ k. flat_map (script_of s) (range_with_len 0 i) ++ script_of s k) (let e : i ≡ 0 + i = omega arith in e) ∙ sym (flat_append (script_of s) 0 i))

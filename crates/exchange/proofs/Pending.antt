@@ -14,7 +14,7 @@ use Rattle.base.specs.Order.{key_cmp, key_total, key_exact, moments-from_not_bef
 use Rattle.base.specs.World.{with_events}
 use Rattle.base.specs.Run.{IsFirst}
 use Rattle.base.proofs.Trees.{found, get-entries, map-insert, map-remove, none_before}
-use Rattle.exchange.specs.declared.member.Content.{Content}
+use Rattle.member.specs.declared.content.Content.{Content}
 use Rattle.exchange.specs.View.{events_in, SomeIsDue, NoneIsDue}
 
 module _ (m : BTreeMap Key Content) where

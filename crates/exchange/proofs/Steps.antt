@@ -1,5 +1,5 @@
 -- What becomes of a world when its least pending event is taken and handled.
-use Rattle.std.proofs.Common.{◌≡◌, ◌≤◌, List, [], ◌++◌, cond, Option, Some, None, append-nil, ap, ◌∙◌, sym, subst}
+use Rattle.std.proofs.Common.{◌≡◌, ◌≤◌, List, [], ◌++◌, map, cond, Option, Some, ap, ◌∙◌, sym, subst}
 use Rattle.std.specs.Option.{option_map}
 use Rattle.std.specs.Ordering.{nat_cmp}
 use Rattle.std.specs.Cmp.{nat_cmp_total, tied_itself}
@@ -11,11 +11,24 @@ use Rattle.base.specs.World.{World, with_events, settled, rows_of, outcome, Next
 use Rattle.base.specs.Run.{IsFirst}
 use Rattle.scenario.specs.Setup.{Setup}
 use Rattle.trace.specs.declared.row.Row.{Row}
-use Rattle.exchange.specs.declared.member.Content.{Content}
-use Rattle.exchange.specs.State.{State}
-use Rattle.exchange.specs.Step.{Effect, step}
-use Rattle.exchange.specs.Opening.{IsWorn}
+use Rattle.member.specs.declared.content.Content.{Content}
+use Rattle.member.specs.declared.event.Event.{Event}
+use Rattle.member.specs.State.{State}
+use Rattle.member.specs.Turn.{Effect}
+use Rattle.member.specs.Step.{step}
+use Rattle.member.specs.View.{pair_of}
+use Rattle.member.specs.Worn.{IsWorn}
 use Rattle.exchange.specs.Advance.{Advances, WearsNext}
+
+-- The events that pend once one was taken and those that its receiver made of it were added, where that had made none before.
+pub pending_after : (pending taken after : FinMap key_cmp Content) (k : Key) (old new : List Event) (made : List (Key × Content)) → after ≡ with_events taken (map pair_of new) → taken ≡ remove pending k
+    → map pair_of new ≡ map pair_of old ++ made → old ≡ [] → after ≡ with_events (remove pending k) made
+pending_after pending taken after k old new made added is_taken more none =
+    added ∙ ap (λ p. with_events p (map pair_of new)) is_taken ∙ ap (with_events (remove pending k)) (more ∙ ap (λ es. map pair_of es ++ made) none)
+
+-- its rows are all that were written, where none were before
+pub all_rows : (old new made : List Row) → new ≡ old ++ made → old ≡ [] → new ≡ made
+all_rows old new made added none = added ∙ ap (λ rows. rows ++ made) none
 
 module _ (s : Setup) (m : FinMap nat_cmp State) (p : FinMap key_cmp Content) (k : Key) (c : Content) (first : IsFirst p k c) (due : k.at ≤ s.end) where
   abbrev before : World State Content
@@ -31,25 +44,16 @@ module _ (s : Setup) (m : FinMap nat_cmp State) (p : FinMap key_cmp Content) (k 
     made = ap rows_of (sym is);
   }
 
-  -- an event for nobody is dropped
-  pub event_dropped : (q : FinMap key_cmp Content) (rows : List Row) → get m k.to ≡ None → q ≡ remove p k → Advances s before (record { members = m; pending = q }) rows rows
-  event_dropped q rows nobody taken = record {
-    key = k;
-    made = [];
-    in_time = due;
-    next = subst (λ l. NextStep (step s) before k (record { members = m; pending = l }) []) (sym taken) (next_of None (ap (option_map (step s k c)) nobody));
-    rows = sym (append-nil rows);
-  }
-
   module _ (member : State) (receiver : get m k.to ≡ Some member) where
     made_of : outcome (step s) before k c ≡ Some (step s k c member)
     made_of = ap (option_map (step s k c)) receiver
 
     -- an event is handled
-    pub event_handled : (o : Effect) (n : FinMap nat_cmp State) (q : FinMap key_cmp Content) (rows after : List Row) → o ≡ step s k c member
-        → n ≡ insert m k.to o.state → q ≡ with_events (remove p k) o.events → after ≡ rows ++ o.rows → Advances s before (record { members = n; pending = q }) rows after
-    event_handled o n q rows after is members pending written =
-        let next : NextStep (step s) before k (settled before k (Some o)) o.rows = next_of (Some o) (made_of ∙ ap Some (sym is)) in
+    pub event_handled : (n : FinMap nat_cmp State) (q : FinMap key_cmp Content) (rows after : List Row) → n ≡ insert m k.to (step s k c member).state
+        → q ≡ with_events (remove p k) (step s k c member).events → after ≡ rows ++ (step s k c member).rows → Advances s before (record { members = n; pending = q }) rows after
+    event_handled n q rows after members pending written =
+        let o = step s k c member in
+        let next : NextStep (step s) before k (settled before k (Some o)) o.rows = next_of (Some o) made_of in
         let world : settled before k (Some o) ≡ record { members = n; pending = q } = λ i. record { members = sym members i; pending = sym pending i } in
         record { key = k; made = o.rows; in_time = due; next = subst (λ v. NextStep (step s) before k v o.rows) world next; rows = written }
 

@@ -5,10 +5,10 @@ use Rattle.base.specs.declared.key.Key.{Key}
 use Rattle.base.specs.World.{World, NextStep}
 use Rattle.scenario.specs.Setup.{Setup}
 use Rattle.trace.specs.declared.row.Row.{Row}
-use Rattle.exchange.specs.declared.member.Content.{Content}
-use Rattle.exchange.specs.State.{State}
-use Rattle.exchange.specs.Step.{step}
-use Rattle.exchange.specs.Opening.{IsWorn}
+use Rattle.member.specs.declared.content.Content.{Content}
+use Rattle.member.specs.State.{State}
+use Rattle.member.specs.Step.{step}
+use Rattle.member.specs.Worn.{IsWorn}
 
 -- the next step leads from w to v, and its rows follow those before
 pub record Advances (s : Setup) (w v : World State Content) (before after : List Row) : Type 0 where

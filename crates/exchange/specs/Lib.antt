@@ -1,8 +1,6 @@
-pub mod State
-pub mod Step
-pub mod Opening
-pub mod View
+pub mod Runs
 pub mod Among
+pub mod Later
+pub mod View
 pub mod Advance
-pub mod Rows
 pub mod Promise

@@ -1,32 +1,24 @@
 -- What a run writes.
-use Rattle.std.specs.Prelude.{◌≡◌, ℕ, ◌<◌, ◌≤◌, ◌⊎◌, List, Option, None, length}
-use Rattle.std.specs.Io.KnownBytes.{Appends}
-use Rattle.scenario.specs.Setup.{Setup, member_count, start_of, crash_of}
+use Rattle.std.specs.Prelude.{◌≡◌, ℕ, ◌⊎◌, List, Option, length}
+use Rattle.std.specs.Io.KnownBytes.{Appends, Keeps}
+use Rattle.scenario.specs.Setup.{Setup}
 use Rattle.trace.specs.declared.row.Row.{Row}
 use Rattle.trace.specs.Text.{trace_text}
 use Rattle.trace.specs.Sinks.{AppendsBeginning}
-use Rattle.exchange.specs.Opening.{IsRunOf}
+use Rattle.reports.specs.Text.{report_text}
+use Rattle.exchange.specs.Runs.{IsRunOf}
 
--- a member starts at moment 0 and never crashes
-pub record Stays (s : Setup) (m : ℕ) : Type 0 where
-  pub starts : start_of s m ≡ 0
-  pub never_crashes : crash_of s m ≡ None
-
--- The scenarios that run so far: members start at moment 0 and never crash, and there is one member, or
--- there are two and at most one period begins. In no such run a probe fails or an update rides.
-pub record RunsYet (s : Setup) : Type 0 where
-  pub stay : (m : ℕ) → m < member_count s → Stays s m
-  pub few : (member_count s ≡ 1) ⊎ ((member_count s ≡ 2) × (s.end ≤ s.swim.period))
-
--- the trace of the scenario's run was appended, which has so many rows
-pub record WritesTrace (s : Setup) (old new : Option (List ℕ)) (count : ℕ) : Type 0 where
+-- the trace and the report of the scenario's run were appended, each to the bytes of its sink; the run has so many rows
+pub record WritesRun (s : Setup) (trace_old trace_new report_old report_new : Option (List ℕ)) (count : ℕ) : Type 0 where
   pub rows : List Row
   pub run : IsRunOf s rows
   pub counted : count ≡ length rows
-  pub text : Appends old new (trace_text s rows)
+  pub trace : Appends trace_old trace_new (trace_text s rows)
+  pub report : Appends report_old report_new (report_text s rows)
 
--- a beginning of the trace of the scenario's run was appended
-pub record WritesBeginning (s : Setup) (old new : Option (List ℕ)) : Type 0 where
+-- the report comes after the trace: a beginning of the trace was appended and nothing of the report, or the whole trace and a beginning of the report
+pub record WritesBeginning (s : Setup) (trace_old trace_new report_old report_new : Option (List ℕ)) : Type 0 where
   pub rows : List Row
   pub run : IsRunOf s rows
-  pub text : AppendsBeginning old new (trace_text s rows)
+  pub written : (AppendsBeginning trace_old trace_new (trace_text s rows) × Keeps report_old report_new)
+      ⊎ (Appends trace_old trace_new (trace_text s rows) × AppendsBeginning report_old report_new (report_text s rows))

@@ -8,12 +8,11 @@ use Rattle.base.specs.declared.key.Key.{Key}
 use Rattle.base.specs.Order.{key_cmp}
 use Rattle.base.specs.World.{World}
 use Rattle.base.specs.Run.{IsFirst}
+use Rattle.member.specs.declared.content.Content.{Content}
+use Rattle.member.specs.declared.member.Member.{Member}
+use Rattle.member.specs.State.{State}
+use Rattle.member.specs.View.{state_of}
 use Rattle.exchange.specs.declared.cluster.Cluster.{Cluster}
-use Rattle.exchange.specs.declared.member.Member.{Member}
-use Rattle.exchange.specs.declared.member.Content.{Content}
-use Rattle.exchange.specs.declared.turn.Turn.{Turn}
-use Rattle.exchange.specs.State.{State, state_of}
-use Rattle.exchange.specs.Step.{Effect}
 
 -- states by their places
 abbrev pub by_place : List State → FinMap nat_cmp State
@@ -38,12 +37,5 @@ pub record SomeIsDue (events : FinMap key_cmp Content) (end : ℕ) : Type 0 wher
 abbrev pub NoneIsDue : FinMap key_cmp Content → ℕ → Type 0
 NoneIsDue events end = (q : Key) → contains_key events q ≡ true → end < q.at
 
-abbrev pub pending_of : Cluster → FinMap key_cmp Content
-pending_of cluster = events_in cluster.pending
-
 abbrev pub world_of : Cluster → World State Content
-world_of cluster = record { members = members_of cluster.members.items; pending = pending_of cluster }
-
--- what a turn of the member has made so far
-abbrev pub effect_of : Member → Turn → Effect
-effect_of member turn = record { state = state_of member; events = turn.events.items; rows = turn.rows.items }
+world_of cluster = record { members = members_of cluster.members.items; pending = events_in cluster.pending }

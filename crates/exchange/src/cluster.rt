@@ -1,24 +1,22 @@
-ghost use Rattle.std.specs.Prelude.{◌≡◌, ◌≤◌, ◌<◌, IfOk, OnOk, IfSome, IsNone, IfErr, MatchBool, vec_len, IsErrOf};
+ghost use Rattle.std.specs.Prelude.{◌≡◌, ◌≤◌, ◌<◌, IfOk, OnOk, IfSome, IsNone, MatchBool, vec_len, IsErrOf, map};
 ghost use Rattle.std.specs.Bool.{OnTrue, OnFalse};
-ghost use Rattle.std.specs.FinMap.{remove};
+ghost use Rattle.std.specs.FinMap.{insert, remove};
 ghost use Rattle.base.specs.World.{with_events, IsOver};
 ghost use Rattle.base.specs.Run.{IsFirst};
 ghost use Rattle.scenario.specs.Setup.{member_count, IsSound};
 ghost use Rattle.links.specs.Arrival.{AreLinksOf};
-ghost use Rattle.exchange.specs.Opening.{opening};
-ghost use Rattle.exchange.specs.Among.{AreAmong};
+ghost use Rattle.member.specs.Opening.{opening, script_of};
+ghost use Rattle.member.specs.View.{pair_of};
+ghost use Rattle.exchange.specs.Among.{IsOfMembers};
 ghost use Rattle.exchange.specs.Advance.{Advances, WearsNext};
-ghost use Rattle.exchange.specs.View.{world_of, pending_of, events_in, SomeIsDue, NoneIsDue};
+ghost use Rattle.exchange.specs.View.{world_of, events_in, SomeIsDue, NoneIsDue};
 
-use crate::member::{Content, Member};
 use crate::setting::Setting;
-use crate::step::handle;
-use crate::turn::StepError;
-use base::{Key, MemberId, Moment};
+use base::{Key, MemberId, Memory, Moment};
+use member::{Content, Effects, Event, Member, StepError};
 use scenario::Scenario;
 use std::alloc::Global;
 use std::collections::BTreeMap;
-use streams::Stream;
 use trace::Row;
 
 /// A cluster in the middle of its run: its members by their numbers, and the events that pend.
@@ -28,39 +26,75 @@ pub(crate) struct Cluster {
     pub(crate) pending: BTreeMap<Key, Content>,
 }
 
-/// The cluster in which a run begins: all members wait, and their starts pend.
-pub(crate) fn open(alloc: Global, scenario: &Scenario) -> Result<Cluster, StepError>
+/// The cluster in which a run begins: all members wait, and all events of the script pend, also those
+/// past the end.
+pub(crate) fn open(alloc: Global, scenario: &Scenario) -> Result<Cluster, Memory>
     ensures ok { IfOk result (λ cluster. world_of cluster ≡ opening scenario.now) }
     ensures size { IfOk result (λ cluster. vec_len cluster.members ≡ member_count scenario.now) }
-    ensures err { IfErr result (λ e. e ≡ StepError.Memory) }
 {
     let mut members = Vec::new(alloc);
     let mut pending = BTreeMap::new(alloc);
     for number in 0..scenario.members() {
         let member = MemberId(number as u16);
-        let start = Key {
-            at: Moment(0),
-            to: member,
-            from: member,
-            number: 0,
-        };
-        let waiting = Member {
-            running: false,
-            next_number: 1,
-            sequence: 0,
-            probe: None,
-            stream: Stream::of(scenario.seed(), member),
-        };
+        let waiting = Member::of(alloc, scenario, member)?;
         match members.push(waiting) {
             Ok(()) => {}
-            Err(_) => return Err(StepError::Memory),
+            Err(_) => return Err(Memory),
         }
-        match pending.insert(start, Content::Start) {
-            Ok(_) => {}
-            Err(_) => return Err(StepError::Memory),
-        }
+        add_script(&mut pending, scenario, member)?;
     }
     Ok(Cluster { members, pending })
+}
+
+/// Lets pend what the script has for the member: its start, and its crash if it has one.
+fn add_script(
+    pending: &mut BTreeMap<Key, Content>,
+    scenario: &Scenario,
+    member: MemberId,
+) -> Result<(), Memory>
+    requires { member < member_count scenario.now }
+    ensures { OnOk result (events_in pending.new ≡ with_events (events_in pending.old) (script_of scenario.now member)) }
+{
+    let start = Key {
+        at: scenario.start(member),
+        to: member,
+        from: member,
+        number: 0,
+    };
+    add_event(pending, start, Content::Start)?;
+    match scenario.crash(member) {
+        Some(at) => {
+            let crash = Key {
+                at,
+                to: member,
+                from: member,
+                number: 1,
+            };
+            add_event(pending, crash, Content::Crash)
+        }
+        None => Ok(()),
+    }
+}
+
+/// Lets one more event pend.
+fn add_event(pending: &mut BTreeMap<Key, Content>, key: Key, content: Content) -> Result<(), Memory>
+    ensures { OnOk result (events_in pending.new ≡ insert (events_in pending.old) key content) }
+{
+    match pending.insert(key, content) {
+        Ok(_) => Ok(()),
+        Err(_) => Err(Memory),
+    }
+}
+
+/// Lets these events pend too.
+fn add_events(pending: &mut BTreeMap<Key, Content>, events: Vec<Event>) -> Result<(), Memory>
+    ensures { OnOk result (events_in pending.new ≡ with_events (events_in pending.old) (map pair_of events.items)) }
+{
+    for event in events {
+        let Event { key, content } = event;
+        add_event(pending, key, content)?;
+    }
+    Ok(())
 }
 
 /// Whether the least pending event is due up to the end.
@@ -74,7 +108,7 @@ fn is_due(pending: &BTreeMap<Key, Content>, end: Moment) -> bool
 }
 
 /// Takes the least pending event, where it is due up to the end.
-pub(crate) fn take_due(pending: &mut BTreeMap<Key, Content>, end: Moment) -> Option<(Key, Content)>
+fn take_due(pending: &mut BTreeMap<Key, Content>, end: Moment) -> Option<(Key, Content)>
     ensures none { IsNone result → NoneIsDue (events_in pending.old) end }
     ensures first { IfSome result (λ e. IsFirst (events_in pending.old) e.0 e.1) }
     ensures due { IfSome result (λ e. e.0.at ≤ end) }
@@ -89,23 +123,6 @@ pub(crate) fn take_due(pending: &mut BTreeMap<Key, Content>, end: Moment) -> Opt
     }
 }
 
-/// Lets these events pend too.
-pub(crate) fn add_events(
-    pending: &mut BTreeMap<Key, Content>,
-    events: &[(Key, Content)],
-) -> Result<(), StepError>
-    ensures ok { OnOk result (events_in pending.new ≡ with_events (events_in pending.old) events.now) }
-    ensures err { IfErr result (λ e. e ≡ StepError.Memory) }
-{
-    for (key, content) in events {
-        match pending.insert(*key, *content) {
-            Ok(_) => {}
-            Err(_) => return Err(StepError::Memory),
-        }
-    }
-    Ok(())
-}
-
 /// The next step of the run: the least pending event is handled, if it is due up to the end.
 pub(crate) fn advance(
     alloc: Global,
@@ -118,7 +135,7 @@ pub(crate) fn advance(
     requires sound { IsSound setting.now.scenario.now }
     requires fits { AreLinksOf setting.now.links setting.now.scenario.now }
     requires size { vec_len cluster.old.members ≡ member_count setting.now.scenario.now }
-    requires among { AreAmong (member_count setting.now.scenario.now) (pending_of cluster.old) }
+    requires named { IsOfMembers setting.now.scenario.now (world_of cluster.old) }
     ensures went { IfOk result (λ went. OnTrue went (Advances setting.now.scenario.now (world_of cluster.old) (world_of cluster.new) rows.old.items rows.new.items)) }
     ensures over { IfOk result (λ went. OnFalse went (IsOver setting.now.scenario.now.end (world_of cluster.old))) }
     ensures same { IfOk result (λ went. OnFalse went (rows.new.items ≡ rows.old.items)) }
@@ -129,20 +146,26 @@ pub(crate) fn advance(
         Some(event) => event,
         None => return Ok(false),
     };
-    let receiver = key.to.index();
-    if receiver >= cluster.members.len() {
-        return Ok(true);
-    }
-    let member = &mut cluster.members[receiver];
-    let turn = match handle(alloc, &key, content, member, setting) {
-        Ok(turn) => turn,
-        Err(error) => return Err(error),
+    let mut made = Effects {
+        events: Vec::new(alloc),
+        rows: Vec::new(alloc),
     };
-    match add_events(&mut cluster.pending, &turn.events) {
+    let receiver = key.to.index();
+    let member = &mut cluster.members[receiver];
+    let event = Event { key, content };
+    match member.step(alloc, event, setting.scenario, &setting.links, &mut made) {
         Ok(()) => {}
         Err(error) => return Err(error),
     }
-    match rows.extend_from_slice(&turn.rows) {
+    let Effects {
+        events,
+        rows: written,
+    } = made;
+    match add_events(&mut cluster.pending, events) {
+        Ok(()) => {}
+        Err(Memory) => return Err(StepError::Memory),
+    }
+    match rows.extend_from_slice(&written) {
         Ok(()) => {}
         Err(_) => return Err(StepError::Memory),
     }

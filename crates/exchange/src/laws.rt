@@ -8,11 +8,12 @@ ghost use Rattle.base.specs.Rising.{IsRising, IsPlaceBefore, AreNew};
 ghost use Rattle.base.specs.declared.key.Key.{Key};
 ghost use Rattle.scenario.specs.Setup.{Setup, IsSound};
 ghost use Rattle.trace.specs.declared.row.Row.{Row};
-ghost use Rattle.exchange.specs.declared.member.Content.{Content};
-ghost use Rattle.exchange.specs.State.{State};
-ghost use Rattle.exchange.specs.Step.{step};
-ghost use Rattle.exchange.specs.Opening.{opening, IsRunOf};
-ghost use Rattle.exchange.specs.Rows.{place_of};
+ghost use Rattle.member.specs.declared.content.Content.{Content};
+ghost use Rattle.member.specs.State.{State};
+ghost use Rattle.member.specs.Step.{step};
+ghost use Rattle.member.specs.Opening.{opening};
+ghost use Rattle.member.specs.Places.{place_of};
+ghost use Rattle.exchange.specs.Runs.{IsRunOf};
 
 /// Every scenario has a run, so a run is finite.
 pub fn a_run_exists()

@@ -2,18 +2,19 @@
 #![tactic(auto)]
 
 mod cluster;
-#[cfg(test)]
-mod draw_tests;
 mod laws;
-mod member;
+#[cfg(test)]
+mod report_tests;
 mod run;
 mod setting;
 #[cfg(test)]
-mod slow_tests;
-mod step;
-#[cfg(test)]
 mod tests;
-mod turn;
+#[cfg(test)]
+mod tests_meeting;
+#[cfg(test)]
+mod tests_seeds;
+#[cfg(test)]
+mod tests_worked;
 
 pub use laws::{a_run_exists, events_are_new, keys_rise, rows_rise, the_run_is_one};
-pub use run::{Summary, run_one, runs_yet};
+pub use run::{Summary, run_one};

@@ -1,19 +1,24 @@
-ghost use Rattle.std.specs.Prelude.{ℕ, ◌≡◌, ◌≢◌, ◌+◌, ◌<◌, ◌^◌, ◌↔◌, IfOk, OnOk, IfErr, OnErr, IsErrOf, IsTrue, All};
-ghost use Rattle.std.specs.Io.KnownBytes.{Appends};
+ghost use Rattle.std.specs.Prelude.{◌≡◌, ◌≢◌, ◌+◌, ◌<◌, ◌^◌, ◌⊎◌, IfOk, OnOk, IfErr, OnErr, IsErrOf, All, vec_len};
+ghost use Rattle.std.specs.Io.KnownBytes.{Appends, Keeps};
 ghost use Rattle.scenario.specs.Setup.{IsSound, member_count};
+ghost use Rattle.links.specs.Arrival.{AreLinksOf};
+ghost use Rattle.member.specs.Opening.{opening};
 ghost use Rattle.trace.specs.Sinks.{AppendsBeginning, failures_of_write};
 ghost use Rattle.trace.specs.Text.{NamesMembers, trace_text};
-ghost use Rattle.exchange.specs.Opening.{IsRunOf, WearsOut};
-ghost use Rattle.exchange.specs.Promise.{Stays, RunsYet, WritesTrace, WritesBeginning};
+ghost use Rattle.reports.specs.Text.{report_text};
+ghost use Rattle.exchange.specs.Runs.{IsRunOf, WearsOut};
+ghost use Rattle.exchange.specs.Promise.{WritesRun, WritesBeginning};
+ghost use Rattle.exchange.specs.View.{world_of};
 
-use crate::cluster::{advance, open};
+use crate::cluster::{Cluster, advance, open};
 use crate::setting::Setting;
-use crate::turn::StepError;
-use base::{Fault, MemberId, Memory, Moment};
+use base::{Fault, Memory, Moment};
 use links::Links;
+use member::StepError;
+use reports::report_on;
 use scenario::Scenario;
 use std::alloc::Global;
-use trace::{Row, Sink, Stopped, WriteError, write_head, write_rows};
+use trace::{Row, Sink, Stopped, WriteError, put_all, write_head, write_rows};
 
 /// What a run did.
 #[derive(Clone, Copy, Debug, PartialEq, Eq)]
@@ -22,73 +27,64 @@ pub struct Summary {
     pub rows: u64,
 }
 
-/// Whether the scenario can be run so far: members start at moment 0 and never crash, and there is one
-/// member, or there are two and the end is at most the period.
-pub fn runs_yet(scenario: &Scenario) -> bool
-    ensures { IsTrue result ↔ RunsYet scenario.now }
-{
-    let members = scenario.members();
-    let few = members == 1 || members == 2 && scenario.end().ticks() <= scenario.period();
-    few && all_stay(scenario)
-}
-
-/// Whether all members start at moment 0 and never crash.
-fn all_stay(scenario: &Scenario) -> bool
-    ensures { IsTrue result ↔ ((m : ℕ) → m < member_count scenario.now → Stays scenario.now m) }
-{
-    for number in 0..scenario.members() {
-        if !stays(scenario, MemberId(number as u16)) {
-            return false;
-        }
-    }
-    true
-}
-
-/// Whether the member starts at moment 0 and never crashes.
-fn stays(scenario: &Scenario, member: MemberId) -> bool
-    requires { member < member_count scenario.now }
-    ensures { IsTrue result ↔ Stays scenario.now member }
-{
-    scenario.start(member) == Moment(0) && scenario.crash(member).is_none()
-}
-
-/// Runs the scenario on one thread, with one set of pending events, and writes its trace. `report` is
-/// left as it was. After a fault the sink has got a beginning of the trace.
+/// Runs the scenario on one thread, with one set of pending events, and writes its trace. Once the whole
+/// trace is written and its sink flushed, it writes the report, and flushes that sink too. After a fault the
+/// sinks have got a beginning of that.
 ///
-/// Faults: `Memory`; `Worn` where a counter of the run would pass 2^63; `Write` where the sink failed.
+/// Faults: `Memory`; `Worn` where a counter of the run would pass 2^63; `Write` where a sink failed.
 pub fn run_one<A: Sink, B: Sink>(
     alloc: Global,
     scenario: &Scenario,
     trace: &mut A,
     report: &mut B,
 ) -> Result<Summary, Fault>
-    requires yet { RunsYet scenario.now }
     requires few { A.failed trace.old < 2 ^ 63 }
+    requires few_of_report { B.failed report.old < 2 ^ 63 }
 
-    // The sink gets exactly the trace of the scenario's run.
-    ensures trace { IfOk result (λ summary. WritesTrace scenario.now (A.held trace.old) (A.held trace.new) summary.rows) }
-    ensures beginning { OnErr result (WritesBeginning scenario.now (A.held trace.old) (A.held trace.new)) }
+    // The sinks get exactly the trace of the scenario's run, and the report on it.
+    ensures written { IfOk result (λ summary. WritesRun scenario.now (A.held trace.old) (A.held trace.new)
+        (B.held report.old) (B.held report.new) summary.rows) }
+    ensures beginning { OnErr result (WritesBeginning scenario.now (A.held trace.old) (A.held trace.new)
+        (B.held report.old) (B.held report.new)) }
+
+    // Where the trace's sink fails, at its flush too, the report's is left as it was.
+    ensures first { A.failed trace.old < A.failed trace.new → report.new ≡ report.old }
 
     // No fault comes without its cause.
     ensures worn { IsErrOf result Fault.Worn → WearsOut scenario.now }
-    ensures write { IsErrOf result Fault.Write → A.failed trace.old < A.failed trace.new }
+    ensures write { IsErrOf result Fault.Write
+        → (A.failed trace.old < A.failed trace.new) ⊎ (B.failed report.old < B.failed report.new) }
     ensures whole { OnOk result (A.failed trace.new ≡ A.failed trace.old) }
+    ensures whole_report { OnOk result (B.failed report.new ≡ B.failed report.old) }
     ensures others { IfErr result (λ fault. fault ≢ Fault.Write → A.failed trace.new ≡ A.failed trace.old) }
+    ensures others_report { IfErr result (λ fault. fault ≢ Fault.Write → B.failed report.new ≡ B.failed report.old) }
     ensures relay { IfErr result (λ fault. fault ≢ Fault.Relay) }
-    ensures report { report.new ≡ report.old }
 {
-    let _ = report;
     let rows = match simulate(alloc, scenario) {
         Ok(rows) => rows,
         Err(StepError::Memory) => return Err(Fault::Memory),
         Err(StepError::Worn) => return Err(Fault::Worn),
     };
     match write_trace(alloc, &rows, scenario, trace) {
+        Ok(()) => {}
+        Err(error) => return Err(fault_of(error)),
+    }
+    match write_report(alloc, &rows, scenario, report) {
         Ok(()) => Ok(Summary {
             rows: rows.len() as u64,
         }),
-        Err(WriteError::Memory) => Err(Fault::Memory),
-        Err(WriteError::Stopped) => Err(Fault::Write),
+        Err(error) => Err(fault_of(error)),
+    }
+}
+
+/// The fault of a run whose text was not written whole.
+fn fault_of(error: WriteError) -> Fault
+    ensures memory { error ≡ WriteError.Memory → result ≡ Fault.Memory }
+    ensures stopped { error ≡ WriteError.Stopped → result ≡ Fault.Write }
+{
+    match error {
+        WriteError::Memory => Fault::Memory,
+        WriteError::Stopped => Fault::Write,
     }
 }
 
@@ -97,22 +93,55 @@ fn write_trace<A: Sink>(
     alloc: Global,
     rows: &[Row],
     scenario: &Scenario,
-    sink: &mut A,
+    trace: &mut A,
 ) -> Result<(), WriteError>
     requires named { All (NamesMembers scenario.now) rows.now }
-    requires few { A.failed sink.old < 2 ^ 63 }
-    ensures whole { OnOk result (Appends (A.held sink.old) (A.held sink.new) (trace_text scenario.now rows.now)) }
-    ensures part { OnErr result (AppendsBeginning (A.held sink.old) (A.held sink.new) (trace_text scenario.now rows.now)) }
-    ensures failures { A.failed sink.new ≡ A.failed sink.old + failures_of_write result }
+    requires few { A.failed trace.old < 2 ^ 63 }
+    ensures whole { OnOk result (Appends (A.held trace.old) (A.held trace.new) (trace_text scenario.now rows.now)) }
+    ensures part { OnErr result (AppendsBeginning (A.held trace.old) (A.held trace.new) (trace_text scenario.now rows.now)) }
+    ensures failures { A.failed trace.new ≡ A.failed trace.old + failures_of_write result }
 {
-    match write_head(sink) {
+    match write_head(trace) {
         Ok(()) => {}
         Err(error) => return Err(error),
     }
-    match write_rows(alloc, rows, scenario, sink) {
+    match write_rows(alloc, rows, scenario, trace) {
         Ok(()) => {}
         Err(error) => return Err(error),
     }
+    flush(trace)
+}
+
+/// Writes the whole report, and flushes the sink.
+fn write_report<B: Sink>(
+    alloc: Global,
+    rows: &[Row],
+    scenario: &Scenario,
+    report: &mut B,
+) -> Result<(), WriteError>
+    requires named { All (NamesMembers scenario.now) rows.now }
+    requires few { B.failed report.old < 2 ^ 63 }
+    ensures whole { OnOk result (Appends (B.held report.old) (B.held report.new) (report_text scenario.now rows.now)) }
+    ensures part { OnErr result (AppendsBeginning (B.held report.old) (B.held report.new) (report_text scenario.now rows.now)) }
+    ensures failures { B.failed report.new ≡ B.failed report.old + failures_of_write result }
+{
+    let text = match report_on(alloc, rows, scenario) {
+        Ok(text) => text,
+        Err(Memory) => return Err(WriteError::Memory),
+    };
+    match put_all(text.as_slice(), report) {
+        Ok(()) => {}
+        Err(Stopped) => return Err(WriteError::Stopped),
+    }
+    flush(report)
+}
+
+/// Has a sink hand on what it took.
+fn flush<S: Sink>(sink: &mut S) -> Result<(), WriteError>
+    requires few { S.failed sink.old < 2 ^ 63 }
+    ensures same { Keeps (S.held sink.old) (S.held sink.new) }
+    ensures failures { S.failed sink.new ≡ S.failed sink.old + failures_of_write result }
+{
     match sink.flush() {
         Ok(()) => Ok(()),
         Err(Stopped) => Err(WriteError::Stopped),
@@ -132,13 +161,32 @@ pub(crate) fn simulate(alloc: Global, scenario: &Scenario) -> Result<Vec<Row>, S
         Err(Memory) => return Err(StepError::Memory),
     };
     let setting = Setting { scenario, links };
-    let mut cluster = match open(alloc, scenario) {
+    let cluster = match open(alloc, scenario) {
         Ok(cluster) => cluster,
-        Err(error) => return Err(error),
+        Err(Memory) => return Err(StepError::Memory),
     };
+    run_from(alloc, cluster, &setting, end)
+}
+
+/// All rows of the run that begins in this cluster.
+fn run_from(
+    alloc: Global,
+    mut cluster: Cluster,
+    setting: &Setting,
+    end: Moment,
+) -> Result<Vec<Row>, StepError>
+    requires end { end ≡ setting.now.scenario.now.end }
+    requires sound { IsSound setting.now.scenario.now }
+    requires fits { AreLinksOf setting.now.links setting.now.scenario.now }
+    requires size { vec_len cluster.members ≡ member_count setting.now.scenario.now }
+    requires opened { world_of cluster ≡ opening setting.now.scenario.now }
+    ensures run { IfOk result (λ rows. IsRunOf setting.now.scenario.now rows.items) }
+    ensures named { IfOk result (λ rows. All (NamesMembers setting.now.scenario.now) rows.items) }
+    ensures worn { IsErrOf result StepError.Worn → WearsOut setting.now.scenario.now }
+{
     let mut rows = Vec::new(alloc);
     loop {
-        match advance(alloc, &mut cluster, &setting, end, &mut rows) {
+        match advance(alloc, &mut cluster, setting, end, &mut rows) {
             Ok(true) => {}
             Ok(false) => return Ok(rows),
             Err(error) => return Err(error),

@@ -9,7 +9,7 @@ mod rows;
 mod tallies;
 mod text;
 
-pub use reporting::report;
+pub use reporting::{report, report_on};
 pub use tallies::{AddError, Tallies};
 
 #[cfg(test)]

@@ -30,7 +30,16 @@ pub fn report(alloc: Global, tallies: &Tallies, scenario: &Scenario) -> Result<V
     requires { All (NamesMembers scenario.now) tallies.now }
     ensures { IfOk result (λ text. text.items ≡ report_text scenario.now tallies.now) }
 {
-    match text_of(alloc, tallies.rows.as_slice(), scenario) {
+    report_on(alloc, tallies.rows.as_slice(), scenario)
+}
+
+/// The text of the report on a run that has these rows. They must name members of the scenario's
+/// cluster alone.
+pub fn report_on(alloc: Global, rows: &[Row], scenario: &Scenario) -> Result<Vec<u8>, Memory>
+    requires { All (NamesMembers scenario.now) rows.now }
+    ensures { IfOk result (λ text. text.items ≡ report_text scenario.now rows.now) }
+{
+    match text_of(alloc, rows, scenario) {
         Ok(text) => Ok(text.into_bytes()),
         Err(_) => Err(Memory),
     }

@@ -1,7 +1,8 @@
-use Rattle.std.proofs.Common.{◌≡◌, take}
+use Rattle.std.proofs.Common.{◌≡◌, map}
 use Rattle.base.specs.World.{with_events}
+use Rattle.member.specs.View.{pair_of}
 use Rattle.exchange.specs.View.{events_in}
 use Rattle.exchange.proofs.cluster.add_events.Given as goal
 
-abbrev pub invariant-loop-key : goal.invariant-loop-key
-invariant-loop-key l = events_in l.pending ≡ with_events (events_in l.fn.pending) (take l.key-index l.events)
+abbrev pub invariant-loop-event : goal.invariant-loop-event
+invariant-loop-event l = events_in l.pending ≡ with_events (events_in l.fn.pending) (map pair_of l.yielded)
