@@ -4,3 +4,4 @@ mod KeptLemmas
 mod Numbers
 mod Parts
 mod RunRows
+mod Stored

@@ -92,7 +92,6 @@ faultless answer deal is (failure.Division cause) h = cc
 faultless answer deal is (failure.File name) h = h
 faultless answer deal is failure.Usage h = h
 faultless answer deal is (failure.Rule rule) h = h
-faultless answer deal is failure.Stage h = h
 faultless answer deal is failure.Workers h = h
 faultless answer deal is (failure.Run cause) h = h
 faultless answer deal is failure.Memory h = h

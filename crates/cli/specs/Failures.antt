@@ -11,7 +11,7 @@ use Rattle.base.specs.declared.fault.Fault.TheVariants as fault
 use Rattle.cli.specs.Division.{AreParts, AsksForWorkers, DivisionFails, ListFails}
 use Rattle.cli.specs.declared.words.Split.{Split}
 use Rattle.cli.specs.declared.failure.Failure.{Failure}
-use Rattle.cli.specs.declared.failure.Failure.TheVariants.{File, Usage, Rule, Stage, Workers, Division, Run, Memory, Output}
+use Rattle.cli.specs.declared.failure.Failure.TheVariants.{File, Usage, Rule, Workers, Division, Run, Memory, Output}
 
 -- the exit status
 abbrev pub status_of : Failure → ℕ
@@ -19,7 +19,6 @@ status_of (File name) = 1
 status_of Output = 1
 status_of Usage = 2
 status_of (Rule number) = 3
-status_of Stage = 3
 status_of Workers = 4
 status_of (Division cause) = 4
 status_of (Run cause) = 5
@@ -43,7 +42,6 @@ abbrev pub message_of : Failure → List ℕ
 message_of (File name) = codes "file " ++ name.now
 message_of Usage = codes "usage"
 message_of (Rule number) = codes "scenario rule " ++ decimal number
-message_of Stage = codes "scenario stage"
 message_of Workers = codes "workers"
 message_of (Division cause) = codes "division V" ++ decimal (division_number cause)
 message_of (Run cause) = codes "run F" ++ decimal (fault_number cause)

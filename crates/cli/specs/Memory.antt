@@ -1,5 +1,7 @@
 -- What writers and files over memory hold.
-use Rattle.std.specs.Prelude.{ℕ, List, Bool, Option, bytes_eq, find, option_map, string_bytes}
+use Rattle.std.specs.Prelude.{ℕ, List, Bool, false, not, Option, bytes_eq, find, option_map, string_bytes}
+use Rattle.std.specs.Option.{option_map_or}
+use Rattle.std.specs.Borrow.{Bor}
 use Rattle.cli.specs.declared.testing.Fails.{Fails}
 use Rattle.cli.specs.declared.testing.Kept.{Kept}
 use Rattle.cli.specs.declared.testing.MemoryFiles.{MemoryFiles}
@@ -24,17 +26,17 @@ bytes_under kept name = option_map (λ (file : Kept). file.bytes.items) (find (h
 abbrev pub kept_bytes : MemoryFiles → List ℕ → Option (List ℕ)
 kept_bytes files = bytes_under files.kept.items
 
--- whether files can be made
-abbrev pub can_make : MemoryFiles → Bool
-can_make files = files.can_make
+-- whether a file of the name can be made
+abbrev pub can_make : MemoryFiles → List ℕ → Bool
+can_make files name = not (option_map_or (λ locked. bytes_eq locked.now name) files.locked false)
 
 -- where files that are made fail
 abbrev pub made_fail : MemoryFiles → Fails
 made_fail files = files.fails
 
 -- the same files with one setting changed
-abbrev pub with_can_make : MemoryFiles → Bool → MemoryFiles
-with_can_make files can = record files { can_make = can }
+abbrev pub with_locked : MemoryFiles → Option (Bor (List ℕ)) → MemoryFiles
+with_locked files locked = record files { locked = locked }
 
 abbrev pub with_fails : MemoryFiles → Fails → MemoryFiles
 with_fails files fails = record files { fails = fails }

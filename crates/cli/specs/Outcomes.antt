@@ -1,5 +1,5 @@
 -- What a command has done once it ends: on standard output, and in the files as far as they tell.
-use Rattle.std.specs.Prelude.{◌≡◌, ◌≢◌, ◌⊎◌, ◌++◌, ℕ, List, Bool, false, Option, Result, Ok, Err, length, option_map}
+use Rattle.std.specs.Prelude.{◌≡◌, ◌≢◌, ◌⊎◌, ◌++◌, ℕ, List, Bool, false, [], Option, Some, None, Result, Ok, Err, IfSome, length, option_map}
 use Rattle.std.specs.Io.KnownBytes.{Appends}
 use Rattle.base.specs.declared.fault.Fault.{Fault}
 use Rattle.base.specs.declared.fault.Fault.TheVariants as fault
@@ -8,8 +8,8 @@ use Rattle.scenario.specs.Setup.{Setup, member_count}
 use Rattle.scenario.specs.Division.{Deal}
 use Rattle.trace.specs.Text.{trace_text}
 use Rattle.trace.specs.declared.row.Row.{Row}
-use Rattle.exchange.specs.Opening.{IsRunOf, WearsOut}
-use Rattle.exchange.specs.Promise.{RunsYet}
+use Rattle.reports.specs.Text.{report_text}
+use Rattle.exchange.specs.Runs.{IsRunOf, WearsOut}
 use Rattle.clap.specs.Words.{Text}
 use Rattle.cli.specs.Files.{Known, Holds, HoldsNow, IsAbsent, KeepsOthers}
 use Rattle.cli.specs.Words.{AsksForRun, AsksForCheck, AsksForHelp, IsNoCommand}
@@ -19,7 +19,7 @@ use Rattle.cli.specs.Failures.{status_of, RefusesDivision, RefusesWorkers}
 use Rattle.cli.specs.declared.words.RunWords.{RunWords}
 use Rattle.cli.specs.declared.words.Split.{Split}
 use Rattle.cli.specs.declared.failure.Failure.{Failure}
-use Rattle.cli.specs.declared.failure.Failure.TheVariants.{File, Usage, Rule, Stage, Run, Memory, Output}
+use Rattle.cli.specs.declared.failure.Failure.TheVariants.{File, Usage, Rule, Run, Memory, Output}
 
 -- what each name stands for, as far as it is known
 abbrev pub Shelf : Type 0
@@ -33,21 +33,35 @@ HasVerdict known answer = (bytes : List ℕ) × Holds known bytes × (verdict by
 abbrev pub workers_word : RunWords → Option Text
 workers_word run = option_map (λ word. word.now) run.workers
 
+-- the word that names the report's file, if there is one
+abbrev pub report_word : RunWords → Option Text
+report_word run = option_map (λ word. word.now) run.report
+
 -- ---- what was done
 
--- the file now holds the trace of the scenario's run, which has so many rows, and no other file has changed
-pub record TracesRun (s : Setup) (before after : Shelf) (trace : Text) (count : ℕ) : Type 0 where
+-- the file of the report, where one is asked for, holds this text now
+abbrev pub HoldsReport : Shelf → Shelf → Option Text → List ℕ → Type 0
+HoldsReport before after report text = IfSome report (λ name. HoldsNow (before name) (after name) text)
+
+-- no file has changed but those of the trace and the report
+abbrev pub KeepsRest : Shelf → Shelf → Text → Option Text → Type 0
+KeepsRest before after trace report = (other : Text) → other ≢ trace → report ≢ Some other → after other ≡ before other
+
+-- the files hold the trace of the scenario's run, which has so many rows, and the report on it where one is asked for; no
+-- other file has changed
+pub record StoresRun (s : Setup) (before after : Shelf) (trace : Text) (report : Option Text) (count : ℕ) : Type 0 where
   pub rows : List Row
   pub run : IsRunOf s rows
   pub counted : count ≡ length rows
-  pub written : HoldsNow (before trace) (after trace) (trace_text s rows)
-  pub others : KeepsOthers before after trace
+  pub traced : HoldsNow (before trace) (after trace) (trace_text s rows)
+  pub reported : HoldsReport before after report (report_text s rows)
+  pub others : KeepsRest before after trace report
 
 -- the scenario was divided as the words say, and its run done
 pub record RunsScenario (s : Setup) (before after : Shelf) (workers : ℕ) (run : RunWords) (count : ℕ) : Type 0 where
   pub deal : Deal
   pub divided : Divides (member_count s) workers run.split deal
-  pub traced : TracesRun s before after run.trace.now count
+  pub stored : StoresRun s before after run.trace.now (report_word run) count
 
 -- the same of the scenario that the file holds
 pub record RunsFile (before after : Shelf) (workers : ℕ) (run : RunWords) (count : ℕ) : Type 0 where
@@ -92,49 +106,62 @@ DoneUnprinted words before after = ((count : ℕ) × DoesRun words before after 
 
 -- ---- what was not done
 
--- the file now holds a beginning of the trace of the scenario's run, which the fault ended, and no other file has changed
-pub record BreaksOff (s : Setup) (before after : Shelf) (trace : Text) (cause : Fault) : Type 0 where
-  pub rows : List Row
-  pub run : IsRunOf s rows
+-- the file holds a beginning of the text now
+pub record HoldsBeginning (old new : Known) (text : List ℕ) : Type 0 where
   pub front : List ℕ
   pub rest : List ℕ
-  pub whole : front ++ rest ≡ trace_text s rows
-  pub written : HoldsNow (before trace) (after trace) front
-  pub others : KeepsOthers before after trace
+  pub whole : front ++ rest ≡ text
+  pub written : HoldsNow old new front
+
+-- the file of the report, where one is asked for, holds a beginning of this text now
+abbrev pub BeginsReport : Shelf → Shelf → Option Text → List ℕ → Type 0
+BeginsReport before after report text = IfSome report (λ name. HoldsBeginning (before name) (after name) text)
+
+-- the scenario's run was ended by the fault: in its trace, when the report is still empty, or in the report, when the trace is
+-- whole; no other file has changed
+pub record BreaksOff (s : Setup) (before after : Shelf) (trace : Text) (report : Option Text) (cause : Fault) : Type 0 where
+  pub rows : List Row
+  pub run : IsRunOf s rows
+  pub written : (HoldsBeginning (before trace) (after trace) (trace_text s rows) × HoldsReport before after report [])
+      ⊎ (HoldsNow (before trace) (after trace) (trace_text s rows) × BeginsReport before after report (report_text s rows))
+  pub others : KeepsRest before after trace report
   pub worn : cause ≡ fault.Worn → WearsOut s
   pub relay : cause ≢ fault.Relay
 
--- no whole trace was written of a scenario that runs: its file can't be made, memory was refused, or the run broke off
-abbrev pub TraceFails : Setup → Shelf → Shelf → Bool → Text → Failure → Type 0
-TraceFails s before after makes trace (File name) = (name.now ≡ trace) × (makes ≡ false) × (after ≡ before)
-TraceFails s before after makes trace Memory = after ≡ before
-TraceFails s before after makes trace (Run cause) = BreaksOff s before after trace cause
-TraceFails s before after makes trace _ = ⊥
+-- the file is empty now, and no other has changed
+pub record Empties (before after : Shelf) (name : Text) : Type 0 where
+  pub empty : HoldsNow (before name) (after name) []
+  pub others : KeepsOthers before after name
+
+-- The file of this name can't be made. It is the trace's; or the report's, and has the trace's name; or the report's, and that of the
+-- trace is empty, since it was made before.
+abbrev pub CannotMake : Shelf → Shelf → (Text → Bool) → Text → Option Text → Text → Type 0
+CannotMake before after makes trace report name = ((name ≡ trace) × (makes name ≡ false) × (after ≡ before))
+    ⊎ (((name ≡ trace) × (report ≡ Some name) × (after ≡ before))
+    ⊎ ((report ≡ Some name) × (makes name ≡ false) × Empties before after trace))
+
+-- no whole run of the scenario was stored: a file can't be made, memory was refused, or the run broke off
+abbrev pub StoreFails : Setup → Shelf → Shelf → (Text → Bool) → Text → Option Text → Failure → Type 0
+StoreFails s before after makes trace report (File name) = CannotMake before after makes trace report name.now
+StoreFails s before after makes trace report Memory = (after ≡ before) ⊎ ((report ≢ None) × Empties before after trace)
+StoreFails s before after makes trace report (Run cause) = BreaksOff s before after trace report cause
+StoreFails s before after makes trace report _ = ⊥
 
 -- the scenario can't be divided as the words say
 pub record RefusesSplit (s : Setup) (before after : Shelf) (split : Split) (failure : Failure) : Type 0 where
   pub cause : RefusesDivision (member_count s) split failure
   pub same : after ≡ before
 
--- the scenario can be divided, but can't be run so far
-pub record RefusesStage (s : Setup) (before after : Shelf) (workers : ℕ) (split : Split) (failure : Failure) : Type 0 where
-  pub deal : Deal
-  pub divided : Divides (member_count s) workers split deal
-  pub stage : failure ≡ Stage
-  pub later : ¬ (RunsYet s)
-  pub same : after ≡ before
-
--- the scenario can be divided and runs, but its trace isn't whole
-pub record RefusesTrace (s : Setup) (before after : Shelf) (makes : Bool) (workers : ℕ) (run : RunWords) (failure : Failure) : Type 0 where
+-- the scenario can be divided, but its run isn't stored whole
+pub record RefusesStore (s : Setup) (before after : Shelf) (makes : Text → Bool) (workers : ℕ) (run : RunWords) (failure : Failure) : Type 0 where
   pub deal : Deal
   pub divided : Divides (member_count s) workers run.split deal
-  pub runs : RunsYet s
-  pub cause : TraceFails s before after makes run.trace.now failure
+  pub cause : StoreFails s before after makes run.trace.now (report_word run) failure
 
 -- why a scenario was not run to its end
-abbrev pub ScenarioFails : Setup → Shelf → Shelf → Bool → ℕ → RunWords → Failure → Type 0
+abbrev pub ScenarioFails : Setup → Shelf → Shelf → (Text → Bool) → ℕ → RunWords → Failure → Type 0
 ScenarioFails s before after makes workers run failure = RefusesSplit s before after run.split failure
-    ⊎ (RefusesStage s before after workers run.split failure ⊎ RefusesTrace s before after makes workers run failure)
+    ⊎ RefusesStore s before after makes workers run failure
 
 -- no scenario was read from the file of this name: it can't be read, its text breaks a rule, or memory was refused
 abbrev pub LoadFails : Known → Text → Failure → Type 0
@@ -148,13 +175,13 @@ pub record RefusesFile (before after : Shelf) (file : Text) (failure : Failure) 
   pub same : after ≡ before
 
 -- the file holds a scenario, which was not run to its end
-pub record RefusesScenario (before after : Shelf) (makes : Bool) (workers : ℕ) (run : RunWords) (failure : Failure) : Type 0 where
+pub record RefusesScenario (before after : Shelf) (makes : Text → Bool) (workers : ℕ) (run : RunWords) (failure : Failure) : Type 0 where
   pub scenario : Setup
   pub accepted : HasVerdict (before run.file.now) (Ok scenario)
   pub cause : ScenarioFails scenario before after makes workers run failure
 
 -- why a file's scenario was not run to its end
-abbrev pub FileFails : Shelf → Shelf → Bool → ℕ → RunWords → Failure → Type 0
+abbrev pub FileFails : Shelf → Shelf → (Text → Bool) → ℕ → RunWords → Failure → Type 0
 FileFails before after makes workers run failure = RefusesFile before after run.file.now failure
     ⊎ RefusesScenario before after makes workers run failure
 
@@ -164,32 +191,36 @@ pub record RefusesCount (before after : Shelf) (run : RunWords) (failure : Failu
   pub same : after ≡ before
 
 -- the words name one, but the run was not done
-pub record RefusesRun (before after : Shelf) (makes : Bool) (run : RunWords) (failure : Failure) : Type 0 where
+pub record RefusesRun (before after : Shelf) (makes : Text → Bool) (run : RunWords) (failure : Failure) : Type 0 where
   pub workers : ℕ
   pub asked : AsksForWorkers (workers_word run) workers
   pub cause : FileFails before after makes workers run failure
 
 -- why the run that the words of `run` ask for was not done: of several causes the first of workers, file, scenario,
--- division, stage and trace
-abbrev pub RunFails : Shelf → Shelf → Bool → RunWords → Failure → Type 0
+-- division and files
+abbrev pub RunFails : Shelf → Shelf → (Text → Bool) → RunWords → Failure → Type 0
 RunFails before after makes run failure = RefusesCount before after run failure ⊎ RefusesRun before after makes run failure
 
 -- why a run or a check that the words ask for was not done
-abbrev pub DoesNot : List Text → Shelf → Shelf → Bool → Failure → Type 0
+abbrev pub DoesNot : List Text → Shelf → Shelf → (Text → Bool) → Failure → Type 0
 DoesNot words before after makes failure =
     ((run : RunWords) × AsksForRun words run × RunFails before after makes run failure)
     ⊎ ((file : Text) × AsksForCheck words file × RefusesFile before after file failure)
 
+-- the words ask for a run, and the file of its trace was made, but not that of its report
+abbrev pub EmptiesTrace : List Text → Shelf → Shelf → Type 0
+EmptiesTrace words before after = (run : RunWords) × AsksForRun words run × (report_word run ≢ None) × Empties before after run.trace.now
+
 -- why what the words ask for wasn't done
-abbrev pub Fails : List Text → Shelf → Shelf → Bool → Failure → Type 0
+abbrev pub Fails : List Text → Shelf → Shelf → (Text → Bool) → Failure → Type 0
 Fails words before after makes Usage = IsNoCommand words × (after ≡ before)
 Fails words before after makes Output = DoneUnprinted words before after
-Fails words before after makes Memory = after ≡ before
+Fails words before after makes Memory = (after ≡ before) ⊎ EmptiesTrace words before after
 Fails words before after makes failure = DoesNot words before after makes failure
 
 -- How a command ended that answered this status, which isn't 0: by a failure of that status. Standard output is as it was,
 -- unless it failed itself.
-pub record Ends {O : Type 0} (words : List Text) (before after : Shelf) (makes : Bool) (old new : O) (status : ℕ) : Type 0 where
+pub record Ends {O : Type 0} (words : List Text) (before after : Shelf) (makes : Text → Bool) (old new : O) (status : ℕ) : Type 0 where
   pub failure : Failure
   pub told : status ≡ status_of failure
   pub cause : Fails words before after makes failure

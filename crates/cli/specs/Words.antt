@@ -21,11 +21,12 @@ option_rule name = record (new_rule name) { long = Some name; value_names = 1 }
 abbrev pub trace_rule : Rule
 trace_rule = record (option_rule (codes "trace")) { required = true }
 
--- the command `run`: a file and the option --trace, both required, and three options more
+-- the command `run`: a file and the option --trace, both required, and four options more
 abbrev pub run_app : App
 run_app =
     let traced = with_rule (with_rule (new_app (codes "run")) file_rule) trace_rule in
-    let worked = with_rule traced (option_rule (codes "workers")) in
+    let reported = with_rule traced (option_rule (codes "report")) in
+    let worked = with_rule reported (option_rule (codes "workers")) in
     with_rule (with_rule worked (option_rule (codes "parts"))) (option_rule (codes "division"))
 
 -- the command `check`: a file
@@ -52,6 +53,7 @@ pub record IsRunIn (met : Option (Text × List Row)) (run : RunWords) : Type 0 w
   pub met_run : met ≡ Some (codes "run", rows)
   pub file : first_of (codes "FILE") rows ≡ Some run.file.now
   pub trace : first_of (codes "trace") rows ≡ Some run.trace.now
+  pub report : first_of (codes "report") rows ≡ option_map (λ word. word.now) run.report
   pub workers : first_of (codes "workers") rows ≡ option_map (λ word. word.now) run.workers
   pub divided : IsSplitIn rows run.split
 

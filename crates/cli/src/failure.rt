@@ -17,8 +17,6 @@ pub enum Failure<'a> {
     Usage,
     /// The scenario breaks this rule.
     Rule(u8),
-    /// The scenario can't be run so far.
-    Stage,
     /// What was said of workers is no number of them.
     Workers,
     /// There is no such division of the members.
@@ -39,7 +37,7 @@ impl Failure<'_> {
         match self {
             Failure::File(_) | Failure::Output => 1,
             Failure::Usage => 2,
-            Failure::Rule(_) | Failure::Stage => 3,
+            Failure::Rule(_) => 3,
             Failure::Workers | Failure::Division(_) => 4,
             Failure::Run(_) | Failure::Memory => 5,
         }
@@ -78,7 +76,6 @@ impl fmt::Display for Failure<'_> {
             Failure::File(name) => write!(f, "file {name}"),
             Failure::Usage => write!(f, "usage"),
             Failure::Rule(rule) => write!(f, "scenario rule {rule}"),
-            Failure::Stage => write!(f, "scenario stage"),
             Failure::Workers => write!(f, "workers"),
             Failure::Division(fault) => {
                 let number = division_number(*fault);

@@ -22,8 +22,8 @@ pub trait Files {
     // what is known of each name
     ghost known: { Self → List ℕ → Known };
 
-    // whether files can be made, where that is known; else it is false
-    ghost makes: { Self → Bool };
+    // whether a file of the name can be made, where that is known; else it is false
+    ghost makes: { Self → List ℕ → Bool };
 
     /// All bytes of a file. `Refused` where it can't be read; `Memory`.
     fn read(&mut self, alloc: Global, name: &str) -> Result<Vec<u8>, FileFault>
@@ -38,7 +38,8 @@ pub trait Files {
         ensures empty { OnOk result (HoldsNow (known self.old name.now) (known self.new name.now) []) }
         ensures made { IfOk result (λ made. IfSome (known self.old name.now) (λ _. Self.Made.contents made ≡ Some [])) }
         ensures others { KeepsOthers (known self.old) (known self.new) name.now }
-        ensures refused { IsErrOf result FileFault.Refused → makes self.old ≡ false }
+        ensures refused { IsErrOf result FileFault.Refused → makes self.old name.now ≡ false }
+        ensures makes { makes self.new ≡ makes self.old }
         ensures same { OnErr result (known self.new ≡ known self.old) };
 
     /// Closes a file that was made under the name: it holds what was written.

@@ -18,4 +18,6 @@ pub use simulation::{check, simulate};
 pub use words::{Asked, RunWords, Split, parse};
 
 #[cfg(test)]
+mod report_tests;
+#[cfg(test)]
 mod tests;

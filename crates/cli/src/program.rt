@@ -1,10 +1,9 @@
 //! The program as a function over files and writers.
-ghost use Rattle.std.specs.Prelude.{◌≡◌, ◌≢◌, ◌⊎◌, ◌≤◌, map, Ok, IfOk, IfErr, OnOk, IsErrOf};
+ghost use Rattle.std.specs.Prelude.{◌≡◌, ◌≢◌, ◌⊎◌, ◌≤◌, map, Ok, Some, None, IfOk, IfErr, OnOk, IsErrOf};
 ghost use Rattle.std.specs.Io.KnownBytes.{Appends};
-ghost use Rattle.exchange.specs.Promise.{RunsYet};
 ghost use Rattle.cli.specs.Words.{IsCommand, IsNoCommand};
 ghost use Rattle.cli.specs.Printed.{members_line, rows_line};
-ghost use Rattle.cli.specs.Outcomes.{Done, Fails, Ends, RunsAll, RunFails, RunsFile, FileFails, RunsScenario, ScenarioFails, TracesRun, TraceFails, HasVerdict, LoadFails};
+ghost use Rattle.cli.specs.Outcomes.{Done, Fails, Ends, RunsAll, RunFails, RunsFile, FileFails, RunsScenario, ScenarioFails, StoresRun, StoreFails, report_word, HasVerdict, LoadFails};
 
 use crate::division::{division_asked, workers_asked};
 use crate::failure::{Failure, refuse};
@@ -12,10 +11,11 @@ use crate::files::{FileFault, Files};
 use crate::simulation::{check, simulate};
 use crate::words::{Asked, RunWords, parse};
 use clap::Error;
-use exchange::{Summary, runs_yet};
+use exchange::Summary;
 use scenario::{Scenario, Workers};
 use std::alloc::Global;
 use std::convert::AsStr;
+use std::io;
 use std::io::Write;
 
 /// Does what the words ask for, and answers the exit status.
@@ -31,8 +31,9 @@ pub fn command<S: AsStr, F: Files, O: Write, E: Write>(
 ) -> u8
     ensures range { result ≤ 5 }
 
-    // Status 0: what the words ask for was done. A run has left its trace in the file of that name,
-    // and told standard output the number of its rows; a check, the number of members.
+    // Status 0: what the words ask for was done. A run has left its trace in the file of that name, and its
+    // report where one is asked for, and told standard output the number of its rows; a check, the number
+    // of members.
     ensures done { result ≡ 0 → Done (map S.text words.now) (F.known files.old) (F.known files.new)
         (O.contents out.old) (O.contents out.new) }
 
@@ -121,7 +122,7 @@ fn print_help<'a, O: Write>(help: &Error, out: &mut O) -> Result<(), Failure<'a>
     Ok(())
 }
 
-/// Runs the scenario of one file, and writes its trace to another.
+/// Runs the scenario of one file, and writes its trace and its report to others.
 fn run<'a, F: Files>(
     alloc: Global,
     words: RunWords<'a>,
@@ -138,7 +139,7 @@ fn run<'a, F: Files>(
     }
 }
 
-/// Runs the scenario of one file with so many workers, and writes its trace to another.
+/// Runs the scenario of one file with so many workers, and writes its trace and its report to others.
 fn run_file<'a, F: Files>(
     alloc: Global,
     words: RunWords<'a>,
@@ -156,7 +157,8 @@ fn run_file<'a, F: Files>(
     }
 }
 
-/// Divides a scenario as the words say, runs it with so many workers, and writes its trace to a file.
+/// Divides a scenario as the words say, runs it with so many workers, and writes its trace and its report
+/// to files.
 fn run_scenario<'a, F: Files>(
     alloc: Global,
     scenario: &Scenario,
@@ -174,10 +176,7 @@ fn run_scenario<'a, F: Files>(
         Ok(division) => division,
         Err(failure) => return Err(failure),
     };
-    if !runs_yet(scenario) {
-        return Err(Failure::Stage);
-    }
-    trace_run(alloc, scenario, words.trace, files)
+    store_run(alloc, scenario, words, files)
 }
 
 /// The scenario of a file.
@@ -193,28 +192,79 @@ fn load<'a, F: Files>(alloc: Global, name: &'a str, files: &mut F) -> Result<Sce
     }
 }
 
-/// Runs a scenario, and writes its trace to the file of a name.
-fn trace_run<'a, F: Files>(
+/// Runs a scenario, and writes its trace to a file, and its report to another where one is asked for.
+fn store_run<'a, F: Files>(
+    alloc: Global,
+    scenario: &Scenario,
+    words: RunWords<'a>,
+    files: &mut F,
+) -> Result<Summary, Failure<'a>>
+    ensures done { IfOk result (λ summary. StoresRun scenario.now (F.known files.old) (F.known files.new)
+        words.entry.trace.now (report_word words.entry) summary.rows) }
+    ensures failed { IfErr result (StoreFails scenario.now (F.known files.old) (F.known files.new)
+        (F.makes files.old) words.entry.trace.now (report_word words.entry)) }
+{
+    match words.report {
+        Some(report) => store_both(alloc, scenario, words.trace, report, files),
+        None => store_trace(alloc, scenario, words.trace, files),
+    }
+}
+
+/// Runs a scenario, and writes its trace to the file of a name. Its report goes nowhere.
+fn store_trace<'a, F: Files>(
     alloc: Global,
     scenario: &Scenario,
     name: &'a str,
     files: &mut F,
 ) -> Result<Summary, Failure<'a>>
-    requires { RunsYet scenario.now }
-    ensures done { IfOk result (λ summary. TracesRun scenario.now (F.known files.old) (F.known files.new)
-        name.entry.now summary.rows) }
-    ensures failed { IfErr result (TraceFails scenario.now (F.known files.old) (F.known files.new)
-        (F.makes files.old) name.entry.now) }
+    ensures done { IfOk result (λ summary. StoresRun scenario.now (F.known files.old) (F.known files.new)
+        name.entry.now None summary.rows) }
+    ensures failed { IfErr result (StoreFails scenario.now (F.known files.old) (F.known files.new)
+        (F.makes files.old) name.entry.now None) }
 {
     let made = match files.make(name) {
         Ok(made) => made,
         Err(fault) => return Err(file_failure(fault, name)),
     };
-    let (made, outcome) = simulate(alloc, scenario, made);
+    let (made, _nowhere, outcome) = simulate(alloc, scenario, made, io::sink());
     files.close(name, made);
     match outcome {
         Ok(summary) => Ok(summary),
         Err(fault) => Err(Failure::Run(fault)),
+    }
+}
+
+/// Runs a scenario, and writes its trace and its report to the files of two names, which are made in that
+/// order. One name for both is refused before either is made, since one file can't hold both.
+fn store_both<'a, F: Files>(
+    alloc: Global,
+    scenario: &Scenario,
+    trace: &'a str,
+    report: &'a str,
+    files: &mut F,
+) -> Result<Summary, Failure<'a>>
+    ensures done { IfOk result (λ summary. StoresRun scenario.now (F.known files.old) (F.known files.new)
+        trace.entry.now (Some report.entry.now) summary.rows) }
+    ensures failed { IfErr result (StoreFails scenario.now (F.known files.old) (F.known files.new)
+        (F.makes files.old) trace.entry.now (Some report.entry.now)) }
+{
+    if report == trace {
+        return Err(Failure::File(report));
+    }
+    let made_trace = match files.make(trace) {
+        Ok(made) => made,
+        Err(fault) => return Err(file_failure(fault, trace)),
+    };
+    let made_report = match files.make(report) {
+        Ok(made) => made,
+        Err(fault) => return Err(file_failure(fault, report)),
+    };
+    let (made_trace, made_report, outcome) = simulate(alloc, scenario, made_trace, made_report);
+    files.close(trace, made_trace);
+    files.close(report, made_report);
+    match outcome {
+        Ok(summary) => Ok(summary),
+        Err(cause) => Err(Failure::Run(cause)),
     }
 }
 

@@ -1,16 +1,15 @@
-//! From a scenario's bytes to its trace.
+//! From a scenario's bytes to its trace and its report.
 ghost use Rattle.std.specs.Prelude.{◌≡◌, ◌≢◌, Ok, IfOk, IfErr, OnErr, IsErrOf};
 ghost use Rattle.scenario.specs.Rules.{verdict};
-ghost use Rattle.exchange.specs.Opening.{WearsOut};
+ghost use Rattle.exchange.specs.Runs.{WearsOut};
 ghost use Rattle.cli.specs.Failures.{RefusesText};
-ghost use Rattle.exchange.specs.Promise.{RunsYet, WritesTrace, WritesBeginning};
+ghost use Rattle.exchange.specs.Promise.{WritesRun, WritesBeginning};
 
 use crate::failure::Failure;
 use base::Fault;
 use exchange::{Summary, run_one};
 use scenario::Scenario;
 use std::alloc::Global;
-use std::io;
 use std::io::Write;
 use trace::Put;
 
@@ -31,23 +30,23 @@ pub fn check(alloc: Global, bytes: &[u8]) -> Result<Scenario, Failure<'static>>
     }
 }
 
-/// Runs a scenario, writes its trace to the writer and gives the writer back. After a fault the
-/// writer has got a beginning of the trace.
-pub fn simulate<W: Write>(
+/// Runs a scenario, writes its trace to one writer and then its report to the other, and gives both back.
+/// After a fault they have got a beginning of that.
+pub fn simulate<T: Write, R: Write>(
     alloc: Global,
     scenario: &Scenario,
-    writer: W,
-) -> (W, Result<Summary, Fault>)
-    requires { RunsYet scenario.now }
-    ensures trace { IfOk result.1
-        (λ summary. WritesTrace scenario.now (W.contents writer) (W.contents result.0) summary.rows) }
-    ensures beginning { OnErr result.1
-        (WritesBeginning scenario.now (W.contents writer) (W.contents result.0)) }
-    ensures worn { IsErrOf result.1 Fault.Worn → WearsOut scenario.now }
-    ensures relay { IfErr result.1 (λ fault. fault ≢ Fault.Relay) }
+    trace: T,
+    report: R,
+) -> (T, R, Result<Summary, Fault>)
+    ensures written { IfOk result.2 (λ summary. WritesRun scenario.now (T.contents trace) (T.contents result.0)
+        (R.contents report) (R.contents result.1) summary.rows) }
+    ensures beginning { OnErr result.2 (WritesBeginning scenario.now (T.contents trace) (T.contents result.0)
+        (R.contents report) (R.contents result.1)) }
+    ensures worn { IsErrOf result.2 Fault.Worn → WearsOut scenario.now }
+    ensures relay { IfErr result.2 (λ fault. fault ≢ Fault.Relay) }
 {
-    let mut sink = Put::new(writer);
-    let mut nowhere = Put::new(io::sink());
-    let outcome = run_one(alloc, scenario, &mut sink, &mut nowhere);
-    (sink.into_inner(), outcome)
+    let mut trace = Put::new(trace);
+    let mut report = Put::new(report);
+    let outcome = run_one(alloc, scenario, &mut trace, &mut report);
+    (trace.into_inner(), report.into_inner(), outcome)
 }

@@ -31,7 +31,7 @@ impl<R: std::rt::Files> Files for SystemFiles<'_, R> {
     // no contract can say what a system's files hold
     ghost known = { λ files name. None };
 
-    ghost makes = { λ files. false };
+    ghost makes = { λ files name. false };
 
     fn read(&mut self, alloc: Global, name: &str) -> Result<Vec<u8>, FileFault> {
         let mut bytes = Vec::new(alloc);

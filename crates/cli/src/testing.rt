@@ -1,7 +1,7 @@
 //! Files and writers over memory, which fail where a test wants them to.
 ghost use Rattle.std.specs.Prelude.{◌≡◌, ◌≤◌, ℕ, List, [], Some, None, true, false, option_map, position, IfSome, OnOk, OnErr};
 ghost use Rattle.cli.specs.Files.{KeepsOthers};
-ghost use Rattle.cli.specs.Memory.{written_by, writer_fails, has_name, kept_bytes, can_make, made_fail, with_can_make, with_fails};
+ghost use Rattle.cli.specs.Memory.{written_by, writer_fails, has_name, kept_bytes, can_make, made_fail, with_locked, with_fails};
 
 use crate::files::{FileFault, Files};
 use std::alloc::{AllocError, Global};
@@ -98,7 +98,7 @@ struct Kept {
 pub struct MemoryFiles {
     alloc: Global,
     kept: Vec<Kept>,
-    can_make: bool,
+    locked: Option<&'static str>,
     fails: Fails,
 }
 
@@ -106,23 +106,33 @@ impl MemoryFiles {
     /// No files yet. Files can be made, and do not fail.
     pub fn new(alloc: Global) -> MemoryFiles
         ensures empty { (name : List ℕ) → kept_bytes result name ≡ None }
-        ensures makes { can_make result ≡ true }
+        ensures makes { (name : List ℕ) → can_make result name ≡ true }
         ensures fails { made_fail result ≡ Fails.Never }
     {
         MemoryFiles {
             alloc,
             kept: Vec::new(alloc),
-            can_make: true,
+            locked: None,
             fails: Fails::Never,
         }
     }
 
-    /// The same files, where none can be made.
-    pub fn refusing_to_make(mut self) -> MemoryFiles
-        ensures { result ≡ with_can_make self false }
+    /// The same files, where none of this name can be made.
+    pub fn refusing_to_make(mut self, name: &'static str) -> MemoryFiles
+        ensures { result ≡ with_locked self (Some name.entry) }
     {
-        self.can_make = false;
+        self.locked = Some(name);
         self
+    }
+
+    /// Whether a file of this name can be made.
+    fn can_make(&self, name: &str) -> bool
+        ensures { result ≡ can_make self.now name.now }
+    {
+        match self.locked {
+            Some(locked) => locked != name,
+            None => true,
+        }
     }
 
     /// The same files, where those that are made fail in this way.
@@ -201,7 +211,7 @@ impl Files for MemoryFiles {
     }
 
     fn make(&mut self, name: &str) -> Result<MemoryWriter, FileFault> {
-        if !self.can_make {
+        if !self.can_make(name) {
             return Err(FileFault::Refused);
         }
         match self.keep(name, b"") {

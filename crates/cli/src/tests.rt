@@ -6,7 +6,7 @@ use std::process::Abort;
 use std::test::Fail;
 
 /// Two members that ping each other once.
-const TWO: &str = "version = 1
+pub(crate) const TWO: &str = "version = 1
 seed = 7
 end = 3
 [swim]
@@ -21,13 +21,32 @@ count = 2
 ";
 
 /// The trace of that scenario.
-const TRACE: &str = "moment,member,from,number,what,about,value,lost
+pub(crate) const TRACE: &str = "moment,member,from,number,what,about,value,lost
 0,n-0,n-0,0,start,,0,0
 0,n-1,n-1,0,start,,0,0
 1,n-0,n-0,1,ping,n-1,1,0
 1,n-1,n-1,1,ping,n-0,1,0
 2,n-0,n-1,2,ack,n-1,1,0
 2,n-1,n-0,2,ack,n-0,1,0
+";
+
+/// The report on that run.
+pub(crate) const REPORT: &str = "members 2
+end 3
+rows 6
+latency least - greatest -
+false suspect 0 healthy 0
+false confirm 0 healthy 0
+accuse 0
+refute 0
+fail 0
+health 0
+sent join 0 lost 0
+sent welcome 0 lost 0
+sent ping 2 lost 0
+sent ping-req 0 lost 0
+sent ack 2 lost 0
+sent nack 0 lost 0
 ";
 
 /// The trace of two members up to moment 0.
@@ -46,22 +65,22 @@ const RUN: [&str; 4] = ["run", "two.toml", "--trace", "t.csv"];
 
 /// What a command left.
 #[derive(Drop)]
-struct Left {
-    status: u8,
-    out: MemoryWriter,
-    err: MemoryWriter,
-    files: MemoryFiles,
+pub(crate) struct Left {
+    pub(crate) status: u8,
+    pub(crate) out: MemoryWriter,
+    pub(crate) err: MemoryWriter,
+    pub(crate) files: MemoryFiles,
 }
 
 /// Files in memory that hold a scenario's text as `two.toml`.
-fn files_with(rt: &HostRuntime, text: &str) -> Result<MemoryFiles, Fail> {
+pub(crate) fn files_with(rt: &HostRuntime, text: &str) -> Result<MemoryFiles, Fail> {
     let mut files = MemoryFiles::new(rt.alloc());
     files.keep("two.toml", text.as_bytes())?;
     Ok(files)
 }
 
 /// Gives a command the words and the files, and a standard output that fails in this way.
-fn left_by(rt: &HostRuntime, words: &[&str], files: MemoryFiles, fails: Fails) -> Left {
+pub(crate) fn left_by(rt: &HostRuntime, words: &[&str], files: MemoryFiles, fails: Fails) -> Left {
     let mut files = files;
     let mut out = MemoryWriter::new(rt.alloc(), fails);
     let mut err = MemoryWriter::new(rt.alloc(), Fails::Never);
@@ -80,7 +99,7 @@ fn run_over(rt: &HostRuntime, files: MemoryFiles) -> Left {
 }
 
 /// Whether the command ended with this status, after this line on standard error alone.
-fn expect_refusal(rt: &impl Abort, left: &Left, status: u8, line: &str) {
+pub(crate) fn expect_refusal(rt: &impl Abort, left: &Left, status: u8, line: &str) {
     assert_eq!(rt; left.err.bytes(), line.as_bytes());
     assert_eq!(rt; left.status, status);
     assert_eq!(rt; left.out.bytes().len(), 0);
@@ -93,6 +112,7 @@ fn a_run_writes_its_trace(rt: HostRuntime) -> Result<(), Fail> {
     assert_eq!(rt; left.out.bytes(), b"rows 6\n".as_slice());
     assert_eq!(rt; left.status, 0);
     assert_eq!(rt; left.files.bytes("t.csv"), Some(TRACE.as_bytes()));
+    assert_eq!(rt; left.files.bytes("r.txt"), None);
     Ok(())
 }
 
@@ -107,7 +127,7 @@ fn three_files(rt: &HostRuntime) -> Result<MemoryFiles, Fail> {
 }
 
 /// Words, and the status, standard output and standard error of their command, over `three_files`.
-const OUTCOMES: [(&str, u8, &str, &str); 45] = [
+const OUTCOMES: [(&str, u8, &str, &str); 50] = [
     ("run two.toml --trace t.csv", 0, "rows 6\n", ""),
     ("check two.toml", 0, "members 2\n", ""),
     ("check three.toml", 0, "members 3\n", ""),
@@ -130,10 +150,25 @@ const OUTCOMES: [(&str, u8, &str, &str); 45] = [
         "swimsim: usage\n",
     ),
     (
-        "run two.toml --trace t.csv --report r",
+        "run two.toml --trace t.csv --report",
         2,
         "",
         "swimsim: usage\n",
+    ),
+    (
+        "run two.toml --trace t.csv --report r --report r",
+        2,
+        "",
+        "swimsim: usage\n",
+    ),
+    ("run two.toml --report r", 2, "", "swimsim: usage\n"),
+    ("check two.toml --report r", 2, "", "swimsim: usage\n"),
+    ("run two.toml --trace t.csv --report r", 0, "rows 6\n", ""),
+    (
+        "run --report=r --workers 2 --trace=t.csv two.toml",
+        0,
+        "rows 6\n",
+        "",
     ),
     ("check two.toml --parts 1", 2, "", "swimsim: usage\n"),
     ("check", 2, "", "swimsim: usage\n"),
@@ -335,6 +370,8 @@ fn each_outcome_has_its_status_and_line(rt: HostRuntime) -> Result<(), Fail> {
         assert_eq!(rt; left.status, *status, "{line}");
         let trace = (*out == "rows 6\n").then_some(TRACE.as_bytes());
         assert_eq!(rt; left.files.bytes("t.csv"), trace, "{line}");
+        let report = (*status == 0 && line.contains("--report")).then_some(REPORT.as_bytes());
+        assert_eq!(rt; left.files.bytes("r"), report, "{line}");
     }
     Ok(())
 }
@@ -373,19 +410,24 @@ fn the_first_check_that_fails_is_told(rt: HostRuntime) -> Result<(), Fail> {
             "swimsim: division V1\n",
         ),
         (
-            "run three.toml --trace t.csv --division 0,0,0",
-            3,
-            "swimsim: scenario stage\n",
-        ),
-        (
             "run two.toml --trace t.csv --parts 0",
             4,
             "swimsim: division V3\n",
         ),
+        (
+            "run three.toml --trace t.csv --report t.csv",
+            1,
+            "swimsim: file t.csv\n",
+        ),
+        (
+            "run two.toml --trace t.csv --report r",
+            1,
+            "swimsim: file t.csv\n",
+        ),
         ("run two.toml --trace t.csv", 1, "swimsim: file t.csv\n"),
     ] {
         let words: Vec<&str> = line.split(' ').collect(rt.alloc())?;
-        let locked = three_files(&rt)?.refusing_to_make();
+        let locked = three_files(&rt)?.refusing_to_make("t.csv");
         let left = left_by(&rt, words.as_slice(), locked, Fails::Never);
         expect_refusal(&rt, &left, status, err);
     }
@@ -441,7 +483,7 @@ fn other_words_are_no_command(rt: HostRuntime) -> Result<(), Fail> {
     let twice = ["run", "two.toml", "--trace", "t.csv", "--trace", "u.csv"];
     let two_files = ["run", "two.toml", "one.toml", "--trace", "t.csv"];
     let no_command = ["two.toml", "--trace", "t.csv"];
-    let unknown = ["run", "two.toml", "--trace", "t.csv", "--report", "r"];
+    let unknown = ["run", "two.toml", "--trace", "t.csv", "--rows", "r"];
     let check_alone = ["check"];
     let check_two = ["check", "two.toml", "one.toml"];
     let check_workers = ["check", "two.toml", "--workers", "2"];
@@ -511,7 +553,6 @@ fn scenarios_are_refused_by_their_rule(rt: HostRuntime) -> Result<(), Fail> {
             "timeout = 1000",
             "swimsim: scenario rule 9\n",
         ),
-        ("count = 2", "count = 3", "swimsim: scenario stage\n"),
     ] {
         let text = TWO.replace(rt.alloc(), old, new)?;
         let left = run_over(&rt, files_with(&rt, text.as_str())?);
@@ -537,7 +578,7 @@ fn files_that_are_not_there_are_named(rt: HostRuntime) -> Result<(), Fail> {
     expect_refusal(&rt, &left, 1, "swimsim: file my own.toml\n");
     assert_eq!(rt; left.files.bytes("t.csv"), None);
 
-    let locked = files_with(&rt, TWO)?.refusing_to_make();
+    let locked = files_with(&rt, TWO)?.refusing_to_make("t.csv");
     let left = run_over(&rt, locked);
     expect_refusal(&rt, &left, 1, "swimsim: file t.csv\n");
     Ok(())
@@ -633,7 +674,6 @@ fn each_failure_has_its_line_and_status(rt: HostRuntime) {
         (Failure::File("a b"), "swimsim: file a b\n", 1),
         (Failure::Usage, "swimsim: usage\n", 2),
         (Failure::Rule(10), "swimsim: scenario rule 10\n", 3),
-        (Failure::Stage, "swimsim: scenario stage\n", 3),
         (Failure::Workers, "swimsim: workers\n", 4),
         (
             Failure::Division(DivisionFault::Length),

@@ -30,6 +30,8 @@ pub struct RunWords<'a> {
     pub file: &'a str,
     /// The name of the file that takes the trace.
     pub trace: &'a str,
+    /// The name of the file that takes the report, where one is asked for.
+    pub report: Option<&'a str>,
     /// How many workers run it; one where that isn't said.
     pub workers: Option<&'a str>,
     /// How the members are to be divided.
@@ -39,7 +41,7 @@ pub struct RunWords<'a> {
 /// What the words ask for.
 #[derive(Debug, Drop)]
 pub enum Asked<'a> {
-    /// To run a scenario, and write its trace.
+    /// To run a scenario, and write its trace and its report.
     Run(RunWords<'a>),
     /// To check the scenario in the file of this name.
     Check(&'a str),
@@ -104,6 +106,12 @@ fn run_command<'a>(alloc: Global) -> Result<Command<'a>, AllocError>
         "T",
         "The file that takes the trace; one that is there is replaced",
     );
+    let report = option(
+        alloc,
+        "report",
+        "R",
+        "The file that takes the report; one that is there is replaced",
+    );
     let workers = option(
         alloc,
         "workers",
@@ -126,6 +134,7 @@ fn run_command<'a>(alloc: Global) -> Result<Command<'a>, AllocError>
         .about("Runs a scenario, and writes its trace")
         .arg(file_argument(alloc))?
         .arg(trace.required(true))?
+        .arg(report)?
         .arg(workers)?
         .arg(parts)?
         .arg(division)
@@ -170,11 +179,13 @@ fn run_asked<'a>(matches: &ArgMatches<'a>) -> Option<RunWords<'a>>
     let run = matches.subcommand_matches("run")?;
     let file = value_of(run, "FILE")?;
     let trace = value_of(run, "trace")?;
+    let report = value_of(run, "report");
     let workers = value_of(run, "workers");
     let split = split_asked(run)?;
     Some(RunWords {
         file,
         trace,
+        report,
         workers,
         split,
     })

@@ -14,6 +14,7 @@ returns-clause-some c =
       met_run = met_rows m (codes "run") (rows_of found) (search rules) (search rules);
       file = search rules;
       trace = search rules;
+      report = search rules;
       workers = search rules;
       divided = search rules;
     }
