@@ -1,5 +1,5 @@
 -- The number of a member's group, found group by group, and the last path of two groups, path by path.
-use Rattle.std.proofs.Common.{◌≡◌, ℕ, ◌+◌, ◌-◌, ◌<◌, List, [], ◌∷◌, ◌++◌, cond, length, take, refl, Bool, true, false, map, drop, get_or, Some, nat_lt, if◌then◌else◌, ap, ◌∙◌}
+use Rattle.std.proofs.Common.{◌≡◌, ℕ, ◌+◌, ◌-◌, ◌<◌, List, [], ◌∷◌, ◌++◌, cond, length, take, refl, Bool, true, false, map, drop, get_or, nat_lt, if◌then◌else◌, ap, ◌∙◌}
 use Rattle.std.specs.List.{filter}
 use Rattle.std.proofs.lemmas.List.{drop_more, take_more, map-append}
 use Rattle.std.proofs.lemmas.List.Elements.{filter-append}

@@ -1,23 +1,23 @@
 -- The member or the group that a name names, found by the parts of the name.
-use Rattle.std.proofs.Common.{◌≡◌, ◌≢◌, ◌≤◌, ◌<◌, ◌^◌, ℕ, suc, zero, not, ◌+◌, ◌-◌, List, [], ◌∷◌, ◌++◌, Bool, true, false, ◌||◌, ◌&&◌, cond, map, length, length-append, get_or, take, drop, refl, ap, sym, subst, ◌∙◌, String, Global, string_bytes, bytes_eq, codes, append_assoc, arith, nat_eq, nat_lt, eqb-true, eq-eqb}
-use Rattle.std.specs.List.{list_any, list_all, flat_map, slice_get, position, position_or_len, range_with_len, sum_by, before_first, after_first}
+use Rattle.std.proofs.Common.{◌≡◌, ◌≢◌, ◌≤◌, ◌<◌, ◌^◌, ℕ, suc, zero, not, ◌+◌, ◌-◌, List, [], ◌∷◌, ◌++◌, Bool, true, false, ◌||◌, ◌&&◌, cond, map, length, length-append, get_or, refl, ap, sym, subst, ◌∙◌, String, Global, string_bytes, bytes_eq, codes, append_assoc, arith, nat_eq, nat_lt}
+use Rattle.std.specs.List.{list_any, list_all, slice_get, position, position_or_len, range_with_len, sum_by}
 use Rattle.std.specs.Map.{keys_of, lookup}
 use Rattle.std.specs.Fmt.{decimal}
-use Rattle.std.specs.Option.{option_map, option_map_or}
+use Rattle.std.specs.Option.{option_map_or}
 use Rattle.std.specs.Prelude.{Option, Some, None}
 use Rattle.std.proofs.lemmas.Bool.{false≢true}
 use Rattle.std.proofs.lemmas.Bool.Decides.{nat_tests}
 use Rattle.std.proofs.lemmas.Fmt.{decimal_injective}
 use Rattle.std.proofs.lemmas.Slice.Eq.{bytes_eq-Decides}
-use Rattle.std.proofs.lemmas.List.Sums.{position_or_len_is, sum_by-cons, split_at_first}
+use Rattle.std.proofs.lemmas.List.Sums.{position_or_len_is}
 use Rattle.std.proofs.lemmas.Option.{same_Some}
 use Rattle.std.proofs.lemmas.List.FromFn.{length-map-range_with_len, get_or-map-range_with_len}
 use Rattle.std.proofs.lemmas.List.Concat.{length-flat_map}
 use Rattle.std.proofs.lemmas.List.Elements.{All-from_get_or}
 use Rattle.std.proofs.lemmas.List.Folds.{list_any-append, list_any_none, fold-map}
 use Rattle.scenario.specs.Setup.{Group, names_in, names_below, group_at}
-use Rattle.scenario.specs.Reading.{names_of_all, member_named, group_named}
-use Rattle.scenario.specs.Rules.{is_name_byte, is_group_name, any_two, breaks_names}
+use Rattle.scenario.specs.Reading.{names_of_all, member_named}
+use Rattle.scenario.specs.Rules.{is_name_byte, is_group_name, any_two}
 use Rattle.scenario.specs.Roster.{named_group, IsNumbered, start_in}
 use Rattle.scenario.specs.declared.roster.Block.{Block}
 

@@ -1,21 +1,19 @@
 -- The tests of rule 9 on the items of a document, beside those on its scenario.
-use Rattle.std.proofs.Common.{◌≡◌, ◌<◌, ◌≤◌, ◌+◌, ◌-◌, ℕ, List, [], ◌∷◌, ◌||◌, Bool, true, false, map, nat_lt, nat_le, nat_eq, Option, Some, None, is_none, refl, ap, sym, ◌∙◌, arith}
+use Rattle.std.proofs.Common.{◌≡◌, ◌<◌, ◌+◌, ◌-◌, ℕ, List, [], ◌∷◌, ◌||◌, Bool, true, false, map, nat_lt, nat_le, nat_eq, Option, Some, None, is_none, refl, ap, sym, ◌∙◌, arith}
 use Rattle.std.specs.List.{list_any}
 use Rattle.std.specs.Option.{option_map_or, unwrap_or}
 use Rattle.std.proofs.lemmas.Bool.{false≢true}
 use Rattle.std.proofs.lemmas.Bool.Decides.{nat_tests}
 use Rattle.toml.specs.Data.{Data}
 use Rattle.schema.specs.Tree.{items_at}
-use Rattle.schema.specs.Values.{text_at, text_if, number_at}
+use Rattle.schema.specs.Values.{text_at}
 use Rattle.schema.specs.declared.schema.Key.TheVariants as key
-use Rattle.schema.specs.declared.schema.Section.TheVariants as section
 use Rattle.schema.proofs.Trees.{any-map}
 use Rattle.scenario.specs.Setup.{Setup, Group, start_of}
 use Rattle.scenario.specs.Reading.{plain_group, plain_groups, group_in, slow_in, crash_in, member_named, setup_of_tree}
-use Rattle.scenario.specs.Rules.{names_no_member, breaks_references, has_lost_contact, names_no_group, is_bad_contact, is_over, is_early}
+use Rattle.scenario.specs.Rules.{names_no_member, breaks_references, is_bad_contact, is_over, is_early}
 use Rattle.scenario.specs.Roster.{start_in}
 use Rattle.scenario.specs.Times.{is_bad_contact_in, is_over_in, is_early_in}
-use Rattle.scenario.specs.declared.settings.Crash.{Crash}
 use Rattle.scenario.proofs.Trees.{any_same}
 use Rattle.scenario.proofs.Find.{start_here, start_passed, neither}
 

@@ -23,9 +23,9 @@ use Rattle.schema.specs.declared.schema.Absence.{Absence}
 use Rattle.schema.specs.declared.schema.Absence.TheVariants.{Refused, RefusedOver0, Default, Optional}
 use Rattle.schema.specs.declared.shape.Check.{Check}
 use Rattle.schema.specs.declared.shape.Check.TheVariants.{Missing, WrongKind, OutOfRange}
-use Rattle.scenario.specs.Setup.{Setup, Group, IsSound, IsSoundLink, IsSoundContact, leads, group_at, last_link, member_count, start_of, is_slow}
+use Rattle.scenario.specs.Setup.{Setup, Group, IsSound, IsSoundLink, leads, group_at, last_link, member_count, start_of, is_slow}
 use Rattle.scenario.specs.Reading.{plain_group, plain_groups, names_of_all, member_named, group_in, swim_in, suspicion_in, lifeguard_in, link_in, link_over, path_in, slow_in, crash_in, setup_of_tree}
-use Rattle.scenario.specs.Rules.{has_lost_contact, is_bad_contact, is_early, is_over, breaks_references, breaks_times, breaks_size, KeepsValues}
+use Rattle.scenario.specs.Rules.{has_lost_contact, is_bad_contact, is_early, is_over, breaks_references, breaks_times, KeepsValues}
 use Rattle.scenario.proofs.Find.{length-names_of_all}
 use Rattle.scenario.specs.declared.settings.Swim.{Swim}
 use Rattle.scenario.specs.declared.settings.Suspicion.{Suspicion}

@@ -1,5 +1,5 @@
 -- Two items of a list that a test holds of: one more item, another order, and the sweep over sorted spans.
-use Rattle.std.proofs.Common.{◌≡◌, ◌≢◌, ◌≤◌, ◌<◌, ◌+◌, ℕ, zero, suc, List, [], ◌∷◌, ◌++◌, ◌||◌, ◌&&◌, not, Bool, true, false, map, length, take, drop, get_or, nat_eq, nat_lt, ◌⊎◌, inl, inr, refl, ap, sym, subst, ◌∙◌, arith, append_assoc, cond, eqb-true, eq-eqb}
+use Rattle.std.proofs.Common.{◌≡◌, ◌≢◌, ◌≤◌, ◌<◌, ◌+◌, ℕ, zero, suc, List, [], ◌∷◌, ◌++◌, ◌||◌, ◌&&◌, Bool, true, false, map, length, take, drop, get_or, nat_eq, nat_lt, refl, ap, sym, ◌∙◌, arith, append_assoc, cond, eqb-true, eq-eqb}
 use Rattle.std.specs.List.{list_any, swap}
 use Rattle.std.specs.List.Sorted.{IsPermutation, IsSorted}
 use Rattle.std.specs.Ordering.{is_lt, ordering_then, nat_cmp, MatchOrdering}
@@ -12,11 +12,10 @@ use Rattle.std.proofs.lemmas.List.{map_more, append-nil, take-append-drop, map-a
 use Rattle.std.proofs.lemmas.List.Edits.{Swapped, swapped_from_swap, length-swap}
 use Rattle.std.proofs.lemmas.List.Elements.{All-from_get_or}
 use Rattle.std.proofs.lemmas.List.Folds.{list_any-append, list_any_none, list_any_at}
-use Rattle.std.proofs.lemmas.List.Sorted.{IsPermutation-keeps, IsPermutation-sym, ranks_by, sorted_far, length_permutation}
+use Rattle.std.proofs.lemmas.List.Sorted.{IsPermutation-keeps, IsPermutation-sym, ranks_by, sorted_far}
 use Rattle.schema.proofs.Trees.{any-map}
 use Rattle.scenario.specs.Rules.{any_two, overlaps}
 use Rattle.scenario.specs.Spans.{slow_of, span_cmp}
-use Rattle.scenario.specs.declared.settings.Slow.{Slow}
 use Rattle.scenario.specs.declared.pairs.Span.{Span}
 use Rattle.scenario.proofs.Find.{neither, both}
 

@@ -1,4 +1,4 @@
-use Rattle.std.proofs.Common.{◌≡◌, ◌+◌, ◌++◌, ◌∷◌, [], ℕ, List, Bool, not, true, false, nat_eq, map, take, refl, ap, sym, ◌∙◌, if◌then◌else◌}
+use Rattle.std.proofs.Common.{◌≡◌, ◌++◌, ◌∷◌, [], ℕ, List, Bool, true, false, nat_eq, map, take, refl, ap, sym, ◌∙◌, if◌then◌else◌}
 use Rattle.std.specs.List.{list_any}
 use Rattle.std.proofs.lemmas.List.{map_more}
 use Rattle.toml.specs.View.{view}
@@ -6,7 +6,7 @@ use Rattle.toml.specs.declared.value.Value.{Value}
 use Rattle.schema.proofs.Trees.{any-map}
 use Rattle.scenario.specs.Setup.{Group}
 use Rattle.scenario.specs.Reading.{crash_in}
-use Rattle.scenario.specs.Rules.{any_two, is_same_member}
+use Rattle.scenario.specs.Rules.{is_same_member}
 use Rattle.scenario.specs.declared.settings.Crash.{Crash}
 use Rattle.scenario.proofs.Trees.{any_same}
 use Rattle.scenario.proofs.Find.{nat_eq-sym}

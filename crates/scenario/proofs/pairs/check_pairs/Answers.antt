@@ -1,6 +1,5 @@
-use Rattle.std.proofs.Common.{◌≡◌, ◌≢◌, true, false, List, map, ap, sym, ◌∙◌}
+use Rattle.std.proofs.Common.{◌≡◌, ◌≢◌, true, false, map, ap, sym, ◌∙◌}
 use Rattle.toml.specs.View.{view}
-use Rattle.toml.specs.declared.value.Value.{Value}
 use Rattle.scenario.specs.Reading.{slow_in, slows_in, crash_in, crashes_in}
 use Rattle.scenario.specs.Rules.{any_two, is_same_member, overlaps, breaks_pairs}
 use Rattle.scenario.specs.declared.refusal.Refusal.{Refusal}

@@ -1,4 +1,3 @@
-use Rattle.std.proofs.Common.{refl}
 use Rattle.toml.specs.View.{view}
 use Rattle.scenario.proofs.Chain.{nothing_broken}
 use Rattle.scenario.proofs.reader.build.Goals as goal

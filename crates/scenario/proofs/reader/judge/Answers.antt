@@ -1,10 +1,10 @@
-use Rattle.std.proofs.Common.{◌≡◌, Some, true, false, map, nat_lt, List, sum_by, refl, ap, sym, ◌∙◌}
+use Rattle.std.proofs.Common.{◌≡◌, Some, true, map, nat_lt, List, ap, sym, ◌∙◌}
 use Rattle.toml.specs.Data.{Data}
 use Rattle.toml.specs.View.{view}
 use Rattle.toml.specs.declared.value.Value.{Value}
 use Rattle.schema.specs.Tree.{items_at}
 use Rattle.schema.specs.declared.schema.Key.TheVariants as key
-use Rattle.scenario.specs.Setup.{Group, member_count}
+use Rattle.scenario.specs.Setup.{Group}
 use Rattle.scenario.specs.Reading.{plain_group, plain_groups, slows_in, crashes_in, setup_of_tree}
 use Rattle.scenario.specs.Rules.{breaks_names, breaks_references, breaks_pairs, breaks_size}
 use Rattle.scenario.proofs.Chain.{names_least, references_least, pairs_least, times_least, size_least}

@@ -1,4 +1,4 @@
-use Rattle.std.proofs.Common.{◌≡◌, ◌≤◌, List, map, refl, subst, ap, sym, ◌∙◌, arith}
+use Rattle.std.proofs.Common.{◌≡◌, ◌≤◌, List, map, subst, ap, sym, ◌∙◌, arith}
 use Rattle.std.specs.List.{flat_map, sum_by}
 use Rattle.std.proofs.lemmas.Bool.{ltb-false}
 use Rattle.std.proofs.lemmas.List.Folds.{flat_map-map}
@@ -12,9 +12,6 @@ use Rattle.scenario.specs.Reading.{plain_groups, group_in, path_in, slow_in, cra
 use Rattle.scenario.specs.Rules.{KeepsValues}
 use Rattle.scenario.specs.View.{group_of}
 use Rattle.scenario.specs.declared.settings.Link.{Link}
-use Rattle.scenario.specs.declared.settings.Path.{Path}
-use Rattle.scenario.specs.declared.settings.Slow.{Slow}
-use Rattle.scenario.specs.declared.settings.Crash.{Crash}
 use Rattle.scenario.proofs.Groups.{same_setup}
 use Rattle.scenario.proofs.Sound.{counts_same, sound_of}
 use Rattle.scenario.proofs.Trees.{map_items}

@@ -1,4 +1,4 @@
-use Rattle.std.proofs.Common.{◌≡◌, ◌≤◌, ◌<◌, ◌^◌, ◌+◌, ◌++◌, ◌∷◌, ℕ, List, [], Some, None, Option, map, length, get_or, true, false, subst, ap, sym, refl, ◌∙◌, arith, bytes_eq, String, Global, string_bytes}
+use Rattle.std.proofs.Common.{◌≡◌, ◌<◌, ◌+◌, ◌++◌, ◌∷◌, ℕ, List, Some, None, map, length, get_or, false, ap, sym, refl, ◌∙◌, arith, bytes_eq}
 use Rattle.std.specs.List.{list_any, position_or_len, sum_by}
 use Rattle.std.specs.Map.{lookup}
 use Rattle.std.specs.Fmt.{decimal}
@@ -6,10 +6,10 @@ use Rattle.std.specs.Option.{option_copied}
 use Rattle.std.proofs.lemmas.Option.{MatchOption-at_some, MatchOption-at_none}
 use Rattle.std.proofs.lemmas.Str.Pattern.{split_parts}
 use Rattle.scenario.specs.Setup.{Group}
-use Rattle.scenario.specs.Reading.{member_named, names_of_all}
+use Rattle.scenario.specs.Reading.{member_named}
 use Rattle.scenario.specs.Rules.{breaks_names, any_two}
 use Rattle.scenario.specs.Roster.{start_in}
-use Rattle.scenario.proofs.Find.{Entry, block, bad, dash, groups_of, names_of, neither, IsPlace, place_found, small_count, none_named, absent_names, none_found, none_dashless, no_member, a_member, dash_free, different, unequal, length-names_of_all}
+use Rattle.scenario.proofs.Find.{bad, groups_of, names_of, neither, place_found, small_count, none_named, absent_names, none_found, none_dashless, no_member, a_member, dash_free, different, unequal, length-names_of_all}
 use Rattle.scenario.proofs.roster.Roster.find.Goals as goal
 
 named_parts : (gs : List Group) → breaks_names gs ≡ false → (list_any bad gs ≡ false) × (any_two bytes_eq (map (λ (g : Group). g.name) gs) ≡ false)
