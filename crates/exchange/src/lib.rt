@@ -3,14 +3,14 @@
 
 mod cluster;
 mod laws;
-#[cfg(test)]
-mod report_tests;
 mod run;
 mod setting;
 #[cfg(test)]
 mod tests;
 #[cfg(test)]
 mod tests_meeting;
+#[cfg(test)]
+mod tests_reports;
 #[cfg(test)]
 mod tests_seeds;
 #[cfg(test)]
