@@ -1,11 +1,16 @@
 //! Runs that write a report too, and what is left where that fails.
 
 use crate::testing::Fails;
-use crate::tests::{REPORT, TRACE, TWO, expect_refusal, files_with, left_by};
+use crate::tests::{Left, REPORT, TRACE, TWO, expect_refusal, files_with, left_by};
 use std::test::Fail;
 
 /// The words of a run that writes a report too.
 const RUN: [&str; 6] = ["run", "two.toml", "--trace", "t.csv", "--report", "r.txt"];
+
+/// Whether the command left a file of this name that holds this text.
+fn holds(left: &Left, name: &str, text: &str) -> bool {
+    left.files.bytes(name) == Some(text.as_bytes())
+}
 
 #[test]
 fn a_run_writes_its_report(rt: HostRuntime) -> Result<(), Fail> {
@@ -15,8 +20,8 @@ fn a_run_writes_its_report(rt: HostRuntime) -> Result<(), Fail> {
     assert_eq!(rt; left.err.bytes(), b"".as_slice());
     assert_eq!(rt; left.out.bytes(), b"rows 6\n".as_slice());
     assert_eq!(rt; left.status, 0);
-    assert_eq!(rt; left.files.bytes("t.csv"), Some(TRACE.as_bytes()));
-    assert_eq!(rt; left.files.bytes("r.txt"), Some(REPORT.as_bytes()));
+    assert!(rt; holds(&left, "t.csv", TRACE));
+    assert!(rt; holds(&left, "r.txt", REPORT));
     Ok(())
 }
 

@@ -116,8 +116,7 @@ fn a_run_writes_its_trace(rt: HostRuntime) -> Result<(), Fail> {
     Ok(())
 }
 
-/// Files that hold a scenario of two members, one of three, which can't be run so far, and a text that
-/// breaks rule 2.
+/// Files that hold a scenario of two members, one of three, and a text that breaks rule 2.
 fn three_files(rt: &HostRuntime) -> Result<MemoryFiles, Fail> {
     let mut files = files_with(rt, TWO)?;
     let three = TWO.replace(rt.alloc(), "count = 2", "count = 3")?;
