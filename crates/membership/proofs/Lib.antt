@@ -1,3 +1,4 @@
 pub mod Alive
 pub mod Few
 mod Entries
+mod Counts

@@ -1,8 +1,9 @@
-ghost use Rattle.std.specs.Prelude.{◌≡◌, ◌+◌, ◌^◌, ◌≤◌, ◌<◌, ◌&&◌, not, nat_eq, map, filter, count_by, OnOk, OnErr, IfOk};
+ghost use Rattle.std.specs.Prelude.{◌≡◌, ◌+◌, ◌^◌, ◌<◌, ◌&&◌, not, nat_eq, map, filter, OnOk, OnErr, IfOk};
+ghost use Rattle.std.specs.Option.{option_map_or};
 ghost use Rattle.std.specs.Ordering.{nat_cmp};
 ghost use Rattle.std.specs.BTreeMap.{IsOrdered};
 ghost use Rattle.std.specs.FinMap.{empty, get, insert, remove};
-ghost use Rattle.membership.specs.Table.{known_of, all_alive, is_alive, is_confirm, live_count, alive_but, update_by, updates_by};
+ghost use Rattle.membership.specs.Table.{known_of, all_alive, is_alive, live_weight, live_among, live_count, alive_but, update_by, updates_by};
 
 use crate::claims::{is_alive, is_confirm};
 use base::{MemberId, Memory};
@@ -16,6 +17,8 @@ use std::marker::Model;
 #[derive(Drop)]
 pub struct Table {
     known: BTreeMap<MemberId, (Claim, u64)>,
+    /// How many members are not confirmed, oneself included. Each message asks for it.
+    live: usize,
 }
 
 impl Model for Table {
@@ -23,12 +26,15 @@ impl Model for Table {
     ghost use Rattle.std.specs.FinMap.{code};
     ghost use Rattle.incarnation.specs.contracts.Claim as claim;
     ghost use Rattle.membership.specs.Table.{Known, known_of};
+    ghost use Rattle.membership.specs.Counted.{IsCounted};
 
     ghost Value = { Known };
 
     ghost coded = { code coded_ℕ (coded× claim.the_row.coded coded_ℕ) };
 
     ghost view = { λ table. known_of table.known.entries };
+
+    ghost invariant = { λ table. IsCounted table.known table.live };
 }
 
 impl Table {
@@ -38,6 +44,7 @@ impl Table {
     {
         Table {
             known: BTreeMap::new(alloc),
+            live: 1,
         }
     }
 
@@ -66,23 +73,25 @@ impl Table {
         ensures ok { OnOk result (self.new ≡ insert self.old member held) }
         ensures err { OnErr result (self.new ≡ self.old) }
     {
-        put(&mut self.known, member, held)
+        let old = put(&mut self.known, member, held)?;
+        self.live = self.live + live_weight(Some(held)) - live_weight(old);
+        Ok(())
     }
 
     /// Holds nothing of a member from now on.
     pub fn remove(&mut self, member: MemberId)
         ensures { self.new ≡ remove self.old member }
     {
-        let _held = self.known.remove(&member);
+        let old = self.known.remove(&member);
+        self.live -= live_weight(old);
     }
 
     /// How many members are not confirmed, oneself included: the members of the cluster as far as this one
     /// knows.
-    #[tactic(auto, unfolding(crate::specs::Table::live_count))]
     pub fn live_count(&self) -> usize
         ensures { result ≡ live_count self.now }
     {
-        1 + count_live(&self.known)
+        self.live
     }
 
     /// The members that are held to be up, but one, in the order of their numbers: those who may help
@@ -108,28 +117,34 @@ impl Table {
     }
 }
 
-// Puts what is held of a member in the place of what was.
+// Puts what is held of a member in the place of what was, and returns that.
 fn put(
     known: &mut BTreeMap<MemberId, (Claim, u64)>,
     member: MemberId,
     held: (Claim, u64),
-) -> Result<(), Memory>
+) -> Result<Option<(Claim, u64)>, Memory>
     ensures ok { OnOk result (known_of known.new.entries ≡ insert (known_of known.old.entries) member held) }
-    ensures err { OnErr result (known_of known.new.entries ≡ known_of known.old.entries) }
+    ensures counted { IfOk result (λ old. live_among known.new.entries + option_map_or live_weight old 0 ≡ live_among known.old.entries + live_weight held) }
+    ensures ordered { OnOk result (IsOrdered nat_cmp known.new) }
+    ensures few { OnOk result (live_among known.new.entries < 2 ^ 63) }
+    ensures err { OnErr result (known.new.entries ≡ known.old.entries) }
 {
-    match known.insert(member, held) {
-        Ok(_) => Ok(()),
-        Err(_) => Err(Memory),
-    }
+    let Ok(old) = known.insert(member, held) else {
+        return Err(Memory);
+    };
+    // (the clause on the length bounds the count)
+    let _length = known.len();
+    Ok(old)
 }
 
-// How many are not confirmed.
-fn count_live(known: &BTreeMap<MemberId, (Claim, u64)>) -> usize
-    ensures count { result ≡ count_by (λ e. not (is_confirm e.1.0)) known.now.entries }
-    ensures ordered { IsOrdered nat_cmp known.now }
-    ensures fits { result < 2 ^ 63 }
+// What a member of whom this is held adds to the count of those who are not confirmed.
+fn live_weight(held: Option<(Claim, u64)>) -> usize
+    ensures { result ≡ option_map_or live_weight held 0 }
 {
-    known.iter().filter(|(_, held)| !is_confirm(held.0)).count()
+    match held {
+        Some((claim, _)) => usize::from(!is_confirm(claim)),
+        None => 0,
+    }
 }
 
 // Those that are held to be up, but one.
