@@ -1,17 +1,17 @@
 -- Whom the updates are about that messages take along.
-use Rattle.std.proofs.Common.{◌≡◌, ℕ, ◌+◌, ◌<◌, ◌==◌, Bool, true, false, cond, eqb, T, ◌&&◌, List, [], ◌∷◌, ◌++◌, map, filter, find, take, filter_map, zero, suc, Option, Some, None, refl, sym, ap, subst, ◌∙◌}
+use Rattle.std.proofs.Common.{◌≡◌, ℕ, ◌==◌, Bool, true, false, cond, eqb, List, [], ◌∷◌, map, filter, find, take, filter_map, zero, suc, Option, Some, None, refl, sym, ap, subst, ◌∙◌}
 use Rattle.std.specs.Option.{is_some, unwrap_or, option_and_then, option_to_list}
-use Rattle.std.specs.List.{AllByRecursion, range_with_len, cons_option}
+use Rattle.std.specs.List.{AllByRecursion, cons_option}
 use Rattle.std.specs.Ordering.{nat_cmp, eq_by_cmp, is_eq}
 use Rattle.std.specs.Cmp.{nat_cmp_total, tied_itself, unsigned_tied}
-use Rattle.std.specs.FinMap.{FinMap, entries, values, get, insert, contains_key, entries_sorted, get-entries}
+use Rattle.std.specs.FinMap.{entries, values, get, insert, contains_key, entries_sorted, get-entries}
 use Rattle.std.specs.FinMap.Entries as by
 use Rattle.std.proofs.lemmas.Bool.{false≢true, eqb-true, and_parts}
 use Rattle.base.proofs.Rising.{all_append}
 use Rattle.incarnation.specs.declared.Claim.{Claim}
 use Rattle.incarnation.specs.declared.Claim.TheVariants.{Alive}
 use Rattle.incarnation.specs.declared.Update.{Update}
-use Rattle.piggyback.specs.Picked.{Counted, Held, counted_with, count_before, in_order, is_candidate, picked, left_after, left_by_pick}
+use Rattle.piggyback.specs.Picked.{Counted, Held, counted_with, count_before, in_order, is_candidate, picked, left_by_pick}
 use Rattle.piggyback.proofs.Counts.{find_below_all, kept, get-left_after}
 use Rattle.piggyback.proofs.Holding.{true_from_T}
 use Rattle.membership.specs.Table.{Known, update_by, updates_by}

@@ -50,7 +50,7 @@ module _ (s : Setup) (k : Key) (q i : ℕ) where
     counted = λ t h. h;
     put = λ t u named h. h;
     alive = λ t u named says e h. kept t u says h;
-    suspect = λ t u x named says e terms h. kept t u says h;
+    suspect = λ t u x named says e begins h. kept t u says h;
     confirm = λ t u named says e h. kept t u says h;
     accused = λ t u h. h;
   }

@@ -3,7 +3,7 @@ use Rattle.member.specs.declared.content.Content.TheVariants.{Start, Crash, Join
 use Rattle.std.proofs.lemmas.List.Elements.{All-from_recursion, recursion_from_All}
 use Rattle.std.specs.List.{AllByRecursion}
 use Rattle.member.specs.Here.{NamesMembers}
-use Rattle.std.proofs.Common.{◌≡◌, ℕ, ◌+◌, ◌<◌, ◌≤◌, Bool, true, false, cond, ◌&&◌, length, Option, Some, None, refl, sym, ap, subst, ◌∙◌, arith, All, List, [], ◌∷◌}
+use Rattle.std.proofs.Common.{◌≡◌, ℕ, ◌+◌, ◌<◌, ◌≤◌, Bool, true, false, cond, ◌&&◌, length, Option, Some, None, refl, sym, ap, subst, ◌∙◌, arith, All, List}
 use Rattle.std.specs.Option.{is_some, option_map_or}
 use Rattle.std.specs.Ordering.{nat_cmp}
 use Rattle.std.specs.FinMap.{get, insert, remove, empty, get-empty}
@@ -36,7 +36,7 @@ use Rattle.member.specs.Apply.{with_claim, with_place, placed_unless_known, clai
 use Rattle.member.specs.Opening.{opening_state, opening_health}
 use Rattle.member.specs.Step.{step, first_others}
 use Rattle.member_laws.specs.Words.{holds, is_live, IsConsistent, IsAmongMembers, SendsOfMembers, ProbesAMember}
-use Rattle.member_laws.proofs.Moves.{is_news, IsNews, NewsMoves, Moves, at_once, at_late}
+use Rattle.member_laws.proofs.Moves.{is_news, IsNews, Begins, NewsMoves, Moves, at_once, at_late}
 use Rattle.member_laws.proofs.Walk.{on_any_step, NamesOnly}
 use Rattle.member_laws.proofs.Carried.{all_put, all_left}
 use Rattle.member_laws.proofs.Tables.{HoldsOthers, others_put, SuspectsAlike, suspected, cleared, accusation, ProbesAlike, next_probes, placed, stays_probed, taken_out, first_known, first_suspected, first_probed, none_known, none_suspects, none_probed, known_held}
@@ -145,10 +145,10 @@ module _ (s : Setup) (sound : IsSound s) (k : Key) where
       (λ fit probes. record { up = h.up; others = put_others t u named says h; suspects = suspects; probes = probes; health = h.health; relays = h.relays; words = fit; buffer = h.buffer; target = h.target })
       (λ fit probes. record { up = h.up; others = put_others t u named says h; suspects = suspects; probes = probes; health = h.health; relays = h.relays; words = fit; buffer = h.buffer; target = h.target })
 
-  put_suspect : (t : State) (u : Update) (x : Suspicion) → Named u.subject → IsNews k.to t u → u.claim ≡ Suspect → x.terms ≡ terms_of s → Keeps s k.to t
+  put_suspect : (t : State) (u : Update) (x : Suspicion) → Named u.subject → IsNews k.to t u → u.claim ≡ Suspect → Begins s k (claim_kept u t) x → Keeps s k.to t
       → Keeps s k.to (record (claim_kept u t) { suspicions = insert (claim_kept u t).suspicions u.subject x })
-  put_suspect t u x named says e terms h =
-      let suspects = suspected t.table t.suspicions (terms_of s) u.subject (u.claim, u.inc) x (ap is_suspect e) terms h.suspects in
+  put_suspect t u x named says e begins h =
+      let suspects = suspected t.table t.suspicions (terms_of s) u.subject (u.claim, u.inc) x (ap is_suspect e) begins.terms h.suspects in
       claimed t u (get t.table u.subject) refl named says.news (ap is_live e) h.words h.probes
       (λ v. Keeps s k.to (record v { suspicions = insert v.suspicions u.subject x }))
       (λ fit probes. record { up = h.up; others = put_others t u named says h; suspects = suspects; probes = probes; health = h.health; relays = h.relays; words = fit; buffer = h.buffer; target = h.target })
@@ -289,7 +289,7 @@ unfolding opening_state
 none_opened s m = refl
 
 module _ (s : Setup) (sound : IsSound s) (k : Key) (t : State) (h : IsConsistent s k.to t) where
-  started_at_once : t.phase ≡ Waiting → Keeps s k.to (at_once s k t)
+  pub started_at_once : t.phase ≡ Waiting → Keeps s k.to (at_once s k t)
   started_at_once waits = record {
     up = λ is. absurd (let e = is in cc);
     others = first_known s k.to;
@@ -302,7 +302,7 @@ module _ (s : Setup) (sound : IsSound s) (k : Key) (t : State) (h : IsConsistent
     target = h.target;
   }
 
-  started_late : t.phase ≡ Waiting → Keeps s k.to (at_late t)
+  pub started_late : t.phase ≡ Waiting → Keeps s k.to (at_late t)
   started_late waits = record {
     up = λ is. absurd (let e = is in cc);
     others = none_known (member_count s) k.to;

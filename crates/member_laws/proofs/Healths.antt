@@ -22,7 +22,7 @@ module _ (s : Setup) (k : Key) (P : LocalHealth → Type 0) (weakens : (h : Loca
     counted = λ t h. h;
     put = λ t u named h. h;
     alive = λ t u named says e h. kept_either (λ t. P t.health) u t h h;
-    suspect = λ t u x named says e terms h. kept_either (λ t. P t.health) u t h h;
+    suspect = λ t u x named says e begins h. kept_either (λ t. P t.health) u t h h;
     confirm = λ t u named says e h. kept_either (λ t. P t.health) u t h h;
     accused = λ t u h. h;
   }
@@ -81,7 +81,7 @@ up_news s k = record {
   counted = λ t h. h;
   put = λ t u named h. h;
   alive = λ t u named says e h. kept_either Up u t h h;
-  suspect = λ t u x named says e terms h. kept_either Up u t h h;
+  suspect = λ t u x named says e begins h. kept_either Up u t h h;
   confirm = λ t u named says e h. kept_either Up u t h h;
   accused = λ t u h. h;
 }

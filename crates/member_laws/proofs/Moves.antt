@@ -16,7 +16,7 @@ use Rattle.suspicion.specs.Settings.{terms_of}
 use Rattle.suspicion.specs.Suspicions.{Suspicion, after_accusation}
 use Rattle.member.specs.declared.member.Phase.TheVariants.{Waiting, Joining, Running, Down}
 use Rattle.member.specs.State.{State}
-use Rattle.membership.specs.Table.{is_confirm, does_override, all_alive}
+use Rattle.membership.specs.Table.{is_confirm, does_override, live_count, all_alive}
 use Rattle.member.specs.Send.{with_picks}
 use Rattle.member.specs.Apply.{with_claim, with_place, placed_unless_known, claim_kept}
 use Rattle.member.specs.Step.{first_others}
@@ -31,13 +31,19 @@ pub record IsNews (me : ℕ) (t : State) (u : Update) : Type 0 where
   pub other : ¬ (u.subject ≡ me)
   pub news : is_news (u.claim, u.inc) (get t.table u.subject) ≡ true
 
+-- a suspicion that starts at the event, in the state that the claim leaves
+pub record Begins (s : Setup) (k : Key) (t : State) (x : Suspicion) : Type 0 where
+  pub terms : x.terms ≡ terms_of s
+  pub since : x.since ≡ k.at
+  pub members : x.members ≡ live_count t.table
+
 -- A fact that each change keeps which claims about others make, where all whom they are about are named.
 pub record NewsMoves (s : Setup) (k : Key) (Named : ℕ → Type 0) (R : State → Type 0) : Type 0 where
   pub counted : (t : State) → R t → R (record t { next_number = t.next_number + 1 })
   pub put : (t : State) (u : Update) → Named u.subject → R t → R (record t { buffer = insert t.buffer u.subject (u, 0) })
   pub alive : (t : State) (u : Update) → Named u.subject → IsNews k.to t u → u.claim ≡ Alive → R t
       → R (record (claim_kept u t) { suspicions = remove (claim_kept u t).suspicions u.subject })
-  pub suspect : (t : State) (u : Update) (x : Suspicion) → Named u.subject → IsNews k.to t u → u.claim ≡ Suspect → x.terms ≡ terms_of s → R t
+  pub suspect : (t : State) (u : Update) (x : Suspicion) → Named u.subject → IsNews k.to t u → u.claim ≡ Suspect → Begins s k (claim_kept u t) x → R t
       → R (record (claim_kept u t) { suspicions = insert (claim_kept u t).suspicions u.subject x })
   pub confirm : (t : State) (u : Update) → Named u.subject → IsNews k.to t u → u.claim ≡ Confirm → R t
       → R (record (claim_kept u t) { suspicions = remove (claim_kept u t).suspicions u.subject; rota = remove_of u.subject (claim_kept u t).rota })

@@ -27,7 +27,7 @@ same_news s k n = record {
   counted = λ t h. h;
   put = λ t u named h. h;
   alive = λ t u named news e h. kept_either (λ t. t.incarnation ≡ n) u t h h;
-  suspect = λ t u x named news e terms h. kept_either (λ t. t.incarnation ≡ n) u t h h;
+  suspect = λ t u x named news e begins h. kept_either (λ t. t.incarnation ≡ n) u t h h;
   confirm = λ t u named news e h. kept_either (λ t. t.incarnation ≡ n) u t h h;
   accused = λ t u h. h;
 }
@@ -90,7 +90,7 @@ news s k n = record {
   counted = λ t h. h;
   put = λ t u named h. h;
   alive = λ t u named news e h. kept_either (NoLess n) u t h h;
-  suspect = λ t u x named news e terms h. kept_either (NoLess n) u t h h;
+  suspect = λ t u x named news e begins h. kept_either (NoLess n) u t h h;
   confirm = λ t u named news e h. kept_either (NoLess n) u t h h;
   accused = λ t u h. h;
 }

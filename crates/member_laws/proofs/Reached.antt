@@ -2,18 +2,18 @@
 use Rattle.membership.proofs.Few.{entries_below, few_entries}
 use Rattle.member.proofs.Helpers.{helpers_below}
 use Rattle.member_laws.proofs.Walk.{NamesOnly}
-use Rattle.std.proofs.Common.{◌≡◌, ℕ, zero, suc, ◌+◌, ◌<◌, ◌≤◌, Bool, true, false, cond, eqb, List, [], ◌∷◌, ◌++◌, map, flat_map, Option, Some, None, All, option_map, refl, sym, ap, subst, ◌∙◌, arith, ◌-◌, ◌^◌, length, filter, not, nat_eq, ◌&&◌}
+use Rattle.std.proofs.Common.{◌≡◌, ℕ, zero, suc, ◌+◌, ◌<◌, ◌≤◌, Bool, true, false, cond, eqb, List, [], ◌∷◌, map, flat_map, Option, Some, None, All, option_map, refl, sym, ap, subst, ◌∙◌, arith, ◌-◌, ◌^◌, length, filter, not, nat_eq, ◌&&◌}
 use Rattle.std.specs.Option.{is_some, unwrap_or, IfSome}
 use Rattle.std.specs.List.{AllByRecursion, range_with_len}
 use Rattle.std.specs.Ordering.{nat_cmp}
-use Rattle.std.specs.FinMap.{FinMap, get, empty, from_entries, get-empty, entries}
+use Rattle.std.specs.FinMap.{get, empty, from_entries, get-empty, entries}
 use Rattle.std.proofs.lemmas.Bool.{false≢true, eqb-true}
 use Rattle.std.proofs.lemmas.List.{length-map}
 use Rattle.std.proofs.lemmas.List.Sums.{length-filter, count_by-le-length}
 use Rattle.std.proofs.lemmas.List.Elements.{All-from_recursion, recursion_from_All}
 use Rattle.base.specs.declared.key.Key.{Key}
 use Rattle.base.specs.Order.{key_cmp}
-use Rattle.base.specs.World.{Run, with_events}
+use Rattle.base.specs.World.{Run}
 use Rattle.base.proofs.Rising.{all_append}
 use Rattle.base.proofs.Kept.{HoldsOfAll, all_with_events}
 use Rattle.scenario.specs.Setup.{Setup, IsSound, member_count, crash_of, start_of, contact_of}
@@ -25,27 +25,25 @@ use Rattle.incarnation.specs.declared.Claim.TheVariants.{Suspect}
 use Rattle.incarnation.specs.declared.Update.{Update}
 use Rattle.suspicion.specs.Suspicions.{first_accuser_of}
 use Rattle.member.specs.declared.content.Content.{Content}
-use Rattle.member.specs.declared.content.Content.TheVariants.{Start, Crash}
-use Rattle.member.specs.declared.member.Phase.TheVariants.{Waiting}
 use Rattle.member.specs.State.{State}
 use Rattle.membership.specs.Table.{is_suspect, alive_but, is_alive}
-use Rattle.member.specs.Turn.{Effect, unchanged, with_row, with_event}
+use Rattle.member.specs.Turn.{Effect, with_row, with_event}
 use Rattle.member.specs.Send.{limit_of, suspicion_told, buddy_of}
-use Rattle.member.specs.Opening.{opening_state, opening, numbers, script_key, crash_event, script_of}
+use Rattle.member.specs.Opening.{opening_state, opening, numbers, crash_event, script_of}
 use Rattle.member.specs.Step.{step}
 use Rattle.member_laws.specs.Words.{IsConsistent, IsAmongMembers}
 use Rattle.member_laws.specs.Rows.{IsOn}
-use Rattle.member_laws.specs.Runs.{Cluster, LeadsTo, IsReached}
+use Rattle.member_laws.specs.Runs.{Cluster, IsReached}
 use Rattle.member_laws.proofs.Tables.{get_put}
-use Rattle.member_laws.proofs.Made.{MayTell, Carries, Makes, by_step}
+use Rattle.member_laws.proofs.Made.{MayTell, Carries, Makes, AnyTime, any_time, by_step}
 use Rattle.member_laws.proofs.Carried.{all_picked, all_whole, all_map, all_filter}
-use Rattle.member_laws.proofs.Consistency.{Keeps, news, moves, keeps, opening_consistent, step_consistent, names_only, names_members}
+use Rattle.member_laws.proofs.Consistency.{Keeps, news, moves, started_at_once, started_late, keeps, opening_consistent, step_consistent, names_only, names_members}
 use Rattle.member_laws.proofs.Switches.{each_row_is_on}
 use Rattle.member_laws.proofs.Runs.{IsKept, run_kept, run_rows, opened}
 
 -- ---- the events of a step
 
-abbrev Below : Setup → ℕ → Type 0
+abbrev pub Below : Setup → ℕ → Type 0
 Below s q = q < member_count s
 
 -- what a ping to a suspect tells
@@ -68,13 +66,13 @@ told_subject s t to (Some held) u here known is = suspect_either (is_suspect hel
     suspect_either true is = first_either (first_accuser_of t.suspicions to) is
     suspect_either false is = absurd (false≢true (ap is_some is))
 
-abbrev AnyRow : What → Type 0
+abbrev pub AnyRow : What → Type 0
 AnyRow tells = Unit {0}
 
-module _ (s : Setup) (sound : IsSound s) (k : Key) (here : k.to < member_count s) where
-  may : MayTell (Keeps s k.to) AnyRow
-  may = record { plain = λ tells h. tt; nacks = λ t relay r here. tt; accuses = λ t u x r here. tt; healths = λ t h r r' differs. tt }
+pub any_row : (R : State → Type 0) → MayTell R AnyRow
+any_row R = record { plain = λ tells h. tt; nacks = λ t relay r here. tt; accuses = λ t u x r here. tt; healths = λ t h r r' differs. tt }
 
+module _ (s : Setup) (sound : IsSound s) (k : Key) (here : k.to < member_count s) where
   buddy_subject : (t : State) (to : ℕ) (b : Bool) (u : Update) → Keeps s k.to t → cond b (suspicion_told t to (get t.table to)) None ≡ Some u → u.subject < member_count s
   buddy_subject t to true u r is = told_subject s t to (get t.table to) u refl (λ h at. (r.others.others to (ap is_some at)).0) is
   buddy_subject t to false u r is = absurd (false≢true (ap is_some is))
@@ -112,7 +110,7 @@ module _ (s : Setup) (sound : IsSound s) (k : Key) (here : k.to < member_count s
         most,
       )
 
-  carries : Carries s k (Below s) (Keeps s k.to)
+  pub carries : Carries s k (Below s) (Keeps s k.to)
   carries = record {
     plain = λ t r. all_picked (Below s) t.buffer s.swim.carry (limit_of s t) None r.buffer (λ u is. absurd (false≢true (ap is_some is)));
     ping = λ t to r. all_picked (Below s) t.buffer s.swim.carry (limit_of s t) (buddy_of s to t) r.buffer (ping_subjects t to r);
@@ -129,17 +127,18 @@ module _ (s : Setup) (sound : IsSound s) (k : Key) (here : k.to < member_count s
   unfolding with_row
   ours_row tells about value lost o told named h = h
 
-  ours_event : (at to : ℕ) (content : Content) (o : Effect) → Below s to → NamesOnly (Below s) content → AllOurs o → AllOurs (with_event k at to content o)
+  ours_event : (at to : ℕ) (content : Content) (o : Effect) → AnyTime at → Below s to → NamesOnly (Below s) content → AllOurs o → AllOurs (with_event k at to content o)
   unfolding with_event
-  ours_event at to content o there named h =
+  ours_event at to content o timed there named h =
       all_append (λ e. IsAmongMembers s e.0 e.1) o.events _ h (record { receiver = there; sender = here; names = names_members (member_count s) content named }, tt)
 
-  makes : Makes k (Below s) AnyRow AllOurs
+  makes : Makes k (Below s) AnyRow AnyTime AllOurs
   makes = record { row = ours_row; event = ours_event; lost = λ o h. h; state = λ t o same h. h }
 
   step_ours : (c : Content) (t : State) → IsAmongMembers s k c → IsConsistent s k.to t → AllByRecursion (λ e. IsAmongMembers s e.0 e.1) (step s k c t).events
   step_ours c t ours h =
-      by_step s k (Below s) (Keeps s k.to) (news s sound k) (moves s sound k here) AnyRow may carries AllOurs makes c t ours.sender (names_only (member_count s) c ours.names) (keeps s sound k t h) tt
+      by_step s k (Below s) (Keeps s k.to) (news s sound k) (moves s sound k here) AnyRow (any_row (Keeps s k.to)) carries AnyTime (any_time s k (Keeps s k.to)) AllOurs makes c t ours.sender (names_only (member_count s) c ours.names)
+      (keeps s sound k t h) (started_at_once s sound k t h) (started_late s sound k t h) tt
 
   -- and its rows
 
@@ -155,12 +154,13 @@ module _ (s : Setup) (sound : IsSound s) (k : Key) (here : k.to < member_count s
     unfolding with_event
     naming_event at to content o h = h
 
-    names : Makes k (Below s) AnyRow AllNaming
-    names = record { row = naming_row; event = λ at to content o there named h. naming_event at to content o h; lost = λ o h. h; state = λ t o same h. h }
+    names : Makes k (Below s) AnyRow AnyTime AllNaming
+    names = record { row = naming_row; event = λ at to content o timed there named h. naming_event at to content o h; lost = λ o h. h; state = λ t o same h. h }
 
     step_names : (c : Content) (t : State) → IsAmongMembers s k c → IsConsistent s k.to t → AllNaming (step s k c t)
     step_names c t ours h =
-        by_step s k (Below s) (Keeps s k.to) (news s sound k) (moves s sound k here) AnyRow may carries AllNaming names c t maker (names_only (member_count s) c ours.names) (keeps s sound k t h) tt
+        by_step s k (Below s) (Keeps s k.to) (news s sound k) (moves s sound k here) AnyRow (any_row (Keeps s k.to)) carries AnyTime (any_time s k (Keeps s k.to)) AllNaming names c t maker (names_only (member_count s) c ours.names)
+        (keeps s sound k t h) (started_at_once s sound k t h) (started_late s sound k t h) tt
 
 pub step_among : (s : Setup) (k : Key) (c : Content) (t : State) → IsSound s → IsAmongMembers s k c → IsConsistent s k.to t
     → All (λ (e : Key × Content). IsAmongMembers s e.0 e.1) (step s k c t).events
@@ -192,31 +192,31 @@ script_ours s [] low = tt
 script_ours s (x ∷ xs) low =
     all_append (λ e. IsAmongMembers s e.0 e.1) (script_of s x) (flat_map (script_of s) xs) (record { receiver = low.0; sender = low.0; names = tt }, crash_ours s x (crash_of s x) low.0) (script_ours s xs low.1)
 
-none_pending : (s : Setup) → HoldsOfAll (IsAmongMembers s) empty
-none_pending s k c here = absurd (false≢true (ap is_some (sym (get-empty key_cmp k) ∙ here)))
+pub none_pending : (E : Key → Content → Type 0) → HoldsOfAll E empty
+none_pending E k c here = absurd (false≢true (ap is_some (sym (get-empty key_cmp k) ∙ here)))
 
 -- ---- runs
 
-abbrev IsMember : Setup → ℕ → State → Type 0
+abbrev pub IsMember : Setup → ℕ → State → Type 0
 IsMember s m t = (m < member_count s) × IsConsistent s m t
 
 module _ (s : Setup) (sound : IsSound s) where
-  kept_step : (k : Key) (c : Content) (t : State) → IsAmongMembers s k c → IsMember s k.to t
+  pub kept_step : (k : Key) (c : Content) (t : State) → k.at ≤ s.end → IsAmongMembers s k c → IsMember s k.to t
       → IsMember s k.to (step s k c t).state × AllByRecursion (λ e. IsAmongMembers s e.0 e.1) (step s k c t).events
-  kept_step k c t ours h =
+  kept_step k c t in_time ours h =
       ((h.0, step_consistent s k c t sound ours h.1), step_ours s sound k h.0 c t ours h.1)
 
-  kept_opening : IsKept (step s) (IsMember s) (IsAmongMembers s) kept_step (opening s)
+  pub kept_opening : IsKept (step s) (IsMember s) (IsAmongMembers s) s.end kept_step (opening s)
   kept_opening = record {
     members = λ m t here. (
       opened_low s (numbers s) m t (range_low s 0 (member_count s) (omega arith)) here,
       subst (IsConsistent s m) (sym (opened s (numbers s) m t here)) (opening_consistent s m),
     );
-    events = all_with_events (IsAmongMembers s) (flat_map (script_of s) (numbers s)) empty (none_pending s) (script_ours s (numbers s) (range_low s 0 (member_count s) (omega arith)));
+    events = all_with_events (IsAmongMembers s) (flat_map (script_of s) (numbers s)) empty (none_pending (IsAmongMembers s)) (script_ours s (numbers s) (range_low s 0 (member_count s) (omega arith)));
   }
 
-  kept_reached : (w : Cluster) → IsReached s w → IsKept (step s) (IsMember s) (IsAmongMembers s) kept_step w
-  kept_reached w reached = run_kept (step s) (IsMember s) (IsAmongMembers s) kept_step s.end reached.0 (opening s) w reached.1 reached.2 kept_opening
+  kept_reached : (w : Cluster) → IsReached s w → IsKept (step s) (IsMember s) (IsAmongMembers s) s.end kept_step w
+  kept_reached w reached = run_kept (step s) (IsMember s) (IsAmongMembers s) s.end kept_step reached.0 (opening s) w reached.1 reached.2 kept_opening
 
   pub consistent_reached : (w : Cluster) (m : ℕ) (t : State) → IsReached s w → get w.members m ≡ Some t → IsConsistent s m t
   consistent_reached w m t reached here = ((kept_reached w reached).members m t here).1
@@ -227,9 +227,9 @@ module _ (s : Setup) (sound : IsSound s) where
   pub rows_on : (keys : List Key) (rows : List Row) (w : Cluster) → Run (step s) s.end (opening s) keys rows w → All (λ (row : Row). IsOn s row.what) rows
   rows_on keys rows w run =
       All-from_recursion (λ (row : Row). IsOn s row.what) rows
-      (run_rows (step s) (IsMember s) (IsAmongMembers s) kept_step (λ (row : Row). IsOn s row.what) (λ k c t ours h. each_row_is_on s k c t h.1) s.end keys (opening s) w rows run kept_opening)
+      (run_rows (step s) (IsMember s) (IsAmongMembers s) s.end kept_step (λ (row : Row). IsOn s row.what) (λ k c t ours h. each_row_is_on s k c t h.1) keys (opening s) w rows run kept_opening)
 
   pub rows_named : (keys : List Key) (rows : List Row) (w : Cluster) → Run (step s) s.end (opening s) keys rows w → All (NamesMembers s) rows
   rows_named keys rows w run =
       All-from_recursion (NamesMembers s) rows
-      (run_rows (step s) (IsMember s) (IsAmongMembers s) kept_step (NamesMembers s) (λ k c t ours h. step_names s sound k ours.receiver ours.sender c t ours h.1) s.end keys (opening s) w rows run kept_opening)
+      (run_rows (step s) (IsMember s) (IsAmongMembers s) s.end kept_step (NamesMembers s) (λ k c t ours h. step_names s sound k ours.receiver ours.sender c t ours h.1) keys (opening s) w rows run kept_opening)

@@ -1,17 +1,16 @@
 -- What each step keeps of a member's state and of the events that pend, a run keeps.
-use Rattle.std.proofs.Common.{◌≡◌, ℕ, zero, suc, ◌+◌, ◌≤◌, Bool, true, false, cond, eqb, List, [], ◌∷◌, map, Option, Some, None, refl, sym, ap, subst, ◌∙◌, arith}
+use Rattle.std.proofs.Common.{◌≡◌, ℕ, ◌≤◌, Bool, true, false, cond, eqb, List, [], ◌∷◌, map, Option, Some, None, refl, sym, ap, subst, ◌∙◌, arith}
 use Rattle.std.specs.Option.{is_some, option_map, unwrap_or}
-use Rattle.std.specs.List.{AllByRecursion, range_with_len}
+use Rattle.std.specs.List.{AllByRecursion}
 use Rattle.std.specs.Ordering.{nat_cmp, eq_by_cmp}
-use Rattle.std.specs.Cmp.{nat_cmp_total, unsigned_tied}
-use Rattle.std.specs.FinMap.{FinMap, get, insert, remove, from_entries, get-insert, get-remove, get-empty}
+use Rattle.std.specs.FinMap.{FinMap, get, remove, from_entries, get-remove, get-empty}
 use Rattle.std.proofs.lemmas.Bool.{false≢true, eqb-true}
 use Rattle.base.specs.declared.key.Key.{Key}
 use Rattle.base.specs.Order.{key_cmp, key_total}
-use Rattle.base.specs.World.{Machine, World, settled, rows_of, NextStep, Run}
+use Rattle.base.specs.World.{Machine, World, settled, rows_of, Run}
 use Rattle.base.proofs.Rising.{all_append}
 use Rattle.base.proofs.Kept.{HoldsOfAll, all_with_events}
-use Rattle.scenario.specs.Setup.{Setup, member_count}
+use Rattle.scenario.specs.Setup.{Setup}
 use Rattle.incarnation.specs.declared.Claim.TheVariants.{Confirm}
 use Rattle.member.specs.declared.content.Content.{Content}
 use Rattle.member.specs.State.{State}
@@ -36,8 +35,8 @@ left_either E pending q d false all here = all q d here
 all_left : {C : Type 0} (E : Key → C → Type 0) (pending : FinMap key_cmp C) (k : Key) → HoldsOfAll E pending → HoldsOfAll E (remove pending k)
 all_left E pending k all q d here = left_either E pending q d (eq_by_cmp key_cmp q k) all (sym (get-remove key_total pending k q) ∙ here)
 
-module _ {S C R : Type 0} (step : Machine S C R) (P : ℕ → S → Type 0) (E : Key → C → Type 0)
-    (keeps : (k : Key) (c : C) (t : S) → E k c → P k.to t → P k.to (step k c t).state × AllByRecursion (λ e. E e.0 e.1) (step k c t).events) where
+module _ {S C R : Type 0} (step : Machine S C R) (P : ℕ → S → Type 0) (E : Key → C → Type 0) (end : ℕ)
+    (keeps : (k : Key) (c : C) (t : S) → k.at ≤ end → E k c → P k.to t → P k.to (step k c t).state × AllByRecursion (λ e. E e.0 e.1) (step k c t).events) where
   -- the one fact holds of each member, the other of each event that pends
   pub record IsKept (w : World S C) : Type 0 where
     pub members : (m : ℕ) (t : S) → get w.members m ≡ Some t → P m t
@@ -48,21 +47,21 @@ module _ {S C R : Type 0} (step : Machine S C R) (P : ℕ → S → Type 0) (E :
   one_of members m n new t true e own old here = subst (λ r. P r t) (sym (eqb-true n m e)) (subst (P m) (some_same new t here) own)
   one_of members m n new t false e own old here = old t here
 
-  after : (w : World S C) (k : Key) (c : C) (held : Option S) → get w.members k.to ≡ held → E k c → IsKept w → IsKept (settled w k (option_map (step k c) held))
-  after w k c None none here kept = record { members = kept.members; events = all_left E w.pending k kept.events }
-  after w k c (Some t) is here kept =
-      let made = keeps k c t here (kept.members k.to t is) in
+  after : (w : World S C) (k : Key) (c : C) (held : Option S) → get w.members k.to ≡ held → k.at ≤ end → E k c → IsKept w → IsKept (settled w k (option_map (step k c) held))
+  after w k c None none in_time here kept = record { members = kept.members; events = all_left E w.pending k kept.events }
+  after w k c (Some t) is in_time here kept =
+      let made = keeps k c t in_time here (kept.members k.to t is) in
       record {
         members = λ n u at. one_of w.members k.to n (step k c t).state u (eqb n k.to) refl made.0 (kept.members n) (sym (get_put w.members k.to n (step k c t).state) ∙ at);
         events = all_with_events E (step k c t).events (remove w.pending k) (all_left E w.pending k kept.events) made.1;
       }
 
-  pub run_kept : (end : ℕ) (ks : List Key) (w v : World S C) (rows : List R) → Run step end w ks rows v → IsKept w → IsKept v
-  run_kept end [] w v rows run kept = subst IsKept (sym run.0) kept
-  run_kept end (k ∷ ks) w v rows run kept =
+  pub run_kept : (ks : List Key) (w v : World S C) (rows : List R) → Run step end w ks rows v → IsKept w → IsKept v
+  run_kept [] w v rows run kept = subst IsKept (sym run.0) kept
+  run_kept (k ∷ ks) w v rows run kept =
       let next = run.4 in
-      run_kept end ks run.0 v run.2 run.5
-      (subst IsKept (sym next.world) (after w k next.content (get w.members k.to) refl (kept.events k next.content next.here) kept))
+      run_kept ks run.0 v run.2 run.5
+      (subst IsKept (sym next.world) (after w k next.content (get w.members k.to) refl run.3 (kept.events k next.content next.here) kept))
 
   -- and what the rows of each step are, those of the run are
   module _ (Q : R → Type 0) (tells : (k : Key) (c : C) (t : S) → E k c → P k.to t → AllByRecursion Q (step k c t).rows) where
@@ -70,13 +69,13 @@ module _ {S C R : Type 0} (step : Machine S C R) (P : ℕ → S → Type 0) (E :
     rows_after w k c None is here kept = tt
     rows_after w k c (Some t) is here kept = tells k c t here (kept.members k.to t is)
 
-    pub run_rows : (end : ℕ) (ks : List Key) (w v : World S C) (rows : List R) → Run step end w ks rows v → IsKept w → AllByRecursion Q rows
-    run_rows end [] w v rows run kept = subst (AllByRecursion Q) (sym run.1) tt
-    run_rows end (k ∷ ks) w v rows run kept =
+    pub run_rows : (ks : List Key) (w v : World S C) (rows : List R) → Run step end w ks rows v → IsKept w → AllByRecursion Q rows
+    run_rows [] w v rows run kept = subst (AllByRecursion Q) (sym run.1) tt
+    run_rows (k ∷ ks) w v rows run kept =
         let next = run.4 in
         let here = kept.events k next.content next.here in
         let made = subst (AllByRecursion Q) (sym next.made) (rows_after w k next.content (get w.members k.to) refl here kept) in
-        let more = run_rows end ks run.0 v run.2 run.5 (subst IsKept (sym next.world) (after w k next.content (get w.members k.to) refl here kept)) in
+        let more = run_rows ks run.0 v run.2 run.5 (subst IsKept (sym next.world) (after w k next.content (get w.members k.to) refl run.3 here kept)) in
         subst (AllByRecursion Q) (sym run.6) (all_append Q run.1 run.2 made more)
 
 -- ---- the opening world
@@ -103,7 +102,7 @@ all_any (e ∷ es) = (tt, all_any es)
 
 waiting_opened : (s : Setup) (w : Cluster) → IsReached s w → (m : ℕ) (t : State) → get w.members m ≡ Some t → WaitsAsOpened s m t
 waiting_opened s w reached =
-    (run_kept (step s) (WaitsAsOpened s) AnyEvent (λ k c t _ h. (waits_step s k c t h, all_any _)) s.end reached.0 (opening s) w reached.1 reached.2
+    (run_kept (step s) (WaitsAsOpened s) AnyEvent s.end (λ k c t _ _ h. (waits_step s k c t h, all_any _)) reached.0 (opening s) w reached.1 reached.2
     (record { members = λ m t here _. opened s (numbers s) m t here; events = λ k c here. tt })).members
 
 -- no less than in the earlier world
@@ -117,9 +116,9 @@ AsConfirmed s w m u =
 module _ (s : Setup) (w v : Cluster) (reached : IsReached s w) (leads : LeadsTo s w v) (m : ℕ) (t u : State) (before : get w.members m ≡ Some t) (behind : get v.members m ≡ Some u) where
   pub rises : t.incarnation ≤ u.incarnation
   rises =
-      ((run_kept (step s) (NoLessThan s w) AnyEvent
-      (λ k c x _ h. ((waits_step s k c x h.0, λ y here. let least = h.1 y here in let more = never_falls s k c x h.0 in omega arith), all_any _))
-      s.end leads.0 w v leads.1 leads.2
+      ((run_kept (step s) (NoLessThan s w) AnyEvent s.end
+      (λ k c x _ _ h. ((waits_step s k c x h.0, λ y here. let least = h.1 y here in let more = never_falls s k c x h.0 in omega arith), all_any _))
+      leads.0 w v leads.1 leads.2
       (record {
         members = λ n x here. (waiting_opened s w reached n x here, λ y at. let same : x ≡ y = some_same x y (sym here ∙ at) in omega (arith, ap (λ (z : State). z.incarnation) same));
         events = λ k c here. tt;
@@ -127,9 +126,9 @@ module _ (s : Setup) (w v : Cluster) (reached : IsReached s w) (leads : LeadsTo 
 
   pub confirmed_stays : (q i : ℕ) → get t.table q ≡ Some (Confirm, i) → get u.table q ≡ Some (Confirm, i)
   confirmed_stays q i =
-      ((run_kept (step s) (AsConfirmed s w) AnyEvent
-      (λ k c x _ h. ((waits_step s k c x h.0, λ y q i here at. stays_confirmed s k c x q i h.0 (h.1 y q i here at)), all_any _))
-      s.end leads.0 w v leads.1 leads.2
+      ((run_kept (step s) (AsConfirmed s w) AnyEvent s.end
+      (λ k c x _ _ h. ((waits_step s k c x h.0, λ y q i here at. stays_confirmed s k c x q i h.0 (h.1 y q i here at)), all_any _))
+      leads.0 w v leads.1 leads.2
       (record {
         members = λ n x here. (waiting_opened s w reached n x here, λ y q i there at. ap (λ (z : State). get z.table q) (some_same x y (sym here ∙ there)) ∙ at);
         events = λ k c here. tt;

@@ -1,7 +1,7 @@
 -- What the switches of Lifeguard's mechanisms leave out.
 use Rattle.std.proofs.Common.{◌≡◌, ℕ, Bool, true, false, cond, ◌&&◌, nat_eq, Option, Some, None, All, refl, sym, ap, ◌∙◌, arith, List, [], ◌∷◌}
 use Rattle.std.specs.List.{AllByRecursion}
-use Rattle.std.specs.Option.{is_some, option_map_or, option_and_then, IfSome}
+use Rattle.std.specs.Option.{is_some, option_and_then, IfSome}
 use Rattle.std.specs.FinMap.{get, insert, remove}
 use Rattle.std.specs.FinSet as set
 use Rattle.std.specs.FinSet.{contains-remove}
@@ -9,7 +9,7 @@ use Rattle.std.proofs.lemmas.Bool.{false≢true, eq-eqb}
 use Rattle.std.proofs.lemmas.List.Elements.{All-from_recursion}
 use Rattle.base.specs.declared.key.Key.{Key}
 use Rattle.base.proofs.Rising.{all_append}
-use Rattle.scenario.specs.Setup.{Setup, IsSound}
+use Rattle.scenario.specs.Setup.{Setup}
 use Rattle.trace.specs.declared.row.Row.{Row}
 use Rattle.trace.specs.declared.row.What.{What}
 use Rattle.trace.specs.declared.row.What.TheVariants as what
@@ -31,8 +31,8 @@ use Rattle.member_laws.specs.Words.{HasTerms, OwesNoneWithout, IsConsistent}
 use Rattle.member_laws.specs.Rows.{IsOn}
 use Rattle.member_laws.proofs.Moves.{NewsMoves, Moves, kept_either, Anyone}
 use Rattle.member_laws.proofs.Walk.{all_anyone, anyone_named}
-use Rattle.member_laws.proofs.Made.{IsPlain, MayTell, Makes, by_step, Carries}
-use Rattle.member_laws.proofs.Tables.{get_put, get_left, put_terms, left_terms, confirmed_terms}
+use Rattle.member_laws.proofs.Made.{IsPlain, MayTell, Makes, AnyTime, any_time, by_step, Carries}
+use Rattle.member_laws.proofs.Tables.{OfAll, of_put, of_left, of_accused}
 use Rattle.member_laws.proofs.Consistency.{IsHealthy, healthy_raised, healthy_weighed, relay_gone}
 
 -- ---- what the switches stand on
@@ -43,18 +43,7 @@ record IsSet (s : Setup) (t : State) : Type 0 where
   health : IsHealthy (opening_health s).ceiling t.health
 
 abbrev Settled : Held → Terms → Type 0
-Settled suspicions terms = (q : ℕ) (x : Suspicion) → get suspicions q ≡ Some x → x.terms ≡ terms
-
-after_confirmed : (suspicions : Held) (terms : Terms) (k : ℕ) (x : Suspicion) (accuser g : ℕ) (o : Option Suspicion) → Settled suspicions terms → get suspicions k ≡ Some x → confirmed x accuser g ≡ o
-    → Settled (option_map_or (insert suspicions k) o suspicions) terms
-after_confirmed suspicions terms k x accuser g None h here is = h
-after_confirmed suspicions terms k x accuser g (Some y) h here is = λ q z at.
-    put_terms suspicions terms q _ y z (confirmed_terms x y accuser g is ∙ h k x here) (h q z) (sym (get_put suspicions k q y) ∙ at)
-
-after_held : (suspicions : Held) (terms : Terms) (k accuser g : ℕ) (o : Option Suspicion) → Settled suspicions terms → get suspicions k ≡ o
-    → Settled (option_map_or (insert suspicions k) (option_and_then (λ x. confirmed x accuser g) o) suspicions) terms
-after_held suspicions terms k accuser g None h here = h
-after_held suspicions terms k accuser g (Some x) h here = after_confirmed suspicions terms k x accuser g (confirmed x accuser g) h here refl
+Settled suspicions terms = OfAll (λ x. x.terms ≡ terms) suspicions
 
 module _ (s : Setup) (k : Key) where
   news : NewsMoves s k Anyone (IsSet s)
@@ -62,17 +51,17 @@ module _ (s : Setup) (k : Key) where
     counted = λ t h. record { terms = h.terms; relays = h.relays; health = h.health };
     put = λ t u named h. record { terms = h.terms; relays = h.relays; health = h.health };
     alive = λ t u named says e h. ended t u h;
-    suspect = λ t u x named says e terms h. begun t u x terms h;
+    suspect = λ t u x named says e begins h. begun t u x begins.terms h;
     confirm = λ t u named says e h. out t u h;
     accused = λ t u h. record {
-      terms = after_held t.suspicions (terms_of s) u.subject u.accuser t.next_number (get t.suspicions u.subject) h.terms refl;
+      terms = of_accused (λ x. x.terms ≡ terms_of s) (λ x accuser g own. own) t.suspicions u.subject u.accuser t.next_number h.terms;
       relays = h.relays;
       health = h.health;
     };
   }
     where
       left : (t : State) (u : Update) → IsSet s t → Settled (remove t.suspicions u.subject) (terms_of s)
-      left t u h q y here = left_terms t.suspicions (terms_of s) q _ y (h.terms q y) (sym (get_left t.suspicions u.subject q) ∙ here)
+      left t u h = of_left (λ x. x.terms ≡ terms_of s) t.suspicions u.subject h.terms
 
       ended : (t : State) (u : Update) → IsSet s t → IsSet s (record (claim_kept u t) { suspicions = remove (claim_kept u t).suspicions u.subject })
       ended t u h =
@@ -86,7 +75,7 @@ module _ (s : Setup) (k : Key) where
           (record { terms = left t u h; relays = h.relays; health = h.health }) (record { terms = left t u h; relays = h.relays; health = h.health })
 
       more : (t : State) (u : Update) (x : Suspicion) → x.terms ≡ terms_of s → IsSet s t → Settled (insert t.suspicions u.subject x) (terms_of s)
-      more t u x own h q y here = put_terms t.suspicions (terms_of s) q _ x y own (h.terms q y) (sym (get_put t.suspicions u.subject q x) ∙ here)
+      more t u x own h = of_put (λ x. x.terms ≡ terms_of s) t.suspicions u.subject x own h.terms
 
       begun : (t : State) (u : Update) (x : Suspicion) → x.terms ≡ terms_of s → IsSet s t
           → IsSet s (record (claim_kept u t) { suspicions = insert (claim_kept u t).suspicions u.subject x })
@@ -188,18 +177,19 @@ same_rows : (s : Setup) (k : Key) (at to : ℕ) (content : Content) (o : Effect)
 unfolding with_event
 same_rows s k at to content o h = h
 
-makes : (s : Setup) (k : Key) → Makes k Anyone (IsOn s) (AllOn s)
+makes : (s : Setup) (k : Key) → Makes k Anyone (IsOn s) AnyTime (AllOn s)
 makes s k = record {
   row = one_row s k;
-  event = λ at to content o there named h. same_rows s k at to content o h;
+  event = λ at to content o timed there named h. same_rows s k at to content o h;
   lost = λ o h. h;
   state = λ t o same h. h;
 }
 
 pub each_row_is_on : (s : Setup) (k : Key) (c : Content) (t : State) → IsConsistent s k.to t → AllByRecursion (λ (row : Row). IsOn s row.what) (step s k c t).rows
 each_row_is_on s k c t h =
-    by_step s k Anyone (IsSet s) (news s k) (moves s k) (IsOn s) (may s) (carries s k) (AllOn s) (makes s k) c t tt (anyone_named c)
-    (λ _. record { terms = h.terms; relays = h.relays; health = record { within = h.health; same = h.ceiling } }) tt
+    let is : IsSet s t = record { terms = h.terms; relays = h.relays; health = record { within = h.health; same = h.ceiling } } in
+    by_step s k Anyone (IsSet s) (news s k) (moves s k) (IsOn s) (may s) (carries s k) AnyTime (any_time s k (IsSet s)) (AllOn s) (makes s k) c t tt (anyone_named c)
+    (λ _. is) (λ waits. (moves s k).began t waits is) (λ waits. (moves s k).late t waits is) tt
 
 pub rows_are_on : (s : Setup) (k : Key) (c : Content) (t : State) → IsConsistent s k.to t → All (λ (row : Row). IsOn s row.what) (step s k c t).rows
 rows_are_on s k c t h = All-from_recursion (λ (row : Row). IsOn s row.what) (step s k c t).rows (each_row_is_on s k c t h)

@@ -20,10 +20,13 @@ use Rattle.probing.proofs.SoundLemmas.{one_if, one_if-same, one_if-other, count_
 use Rattle.probing.proofs.RoundLemmas.{is_probe, next_sound}
 use Rattle.probing.proofs.OthersLemmas.{removed_absent, others_counted, remove_sound}
 use Rattle.suspicion.specs.declared.terms.Terms.{Terms}
-use Rattle.suspicion.specs.Suspicions.{Suspicion, Held, counts, confirmed_by, confirmed, after_accusation}
+use Rattle.suspicion.specs.Suspicions.{Suspicion, Held, counts, confirmed_by, confirmed, accused_of, after_accusation}
 use Rattle.membership.specs.Table.{Known, is_suspect, all_alive}
 use Rattle.member.specs.Step.{first_others}
 use Rattle.member_laws.specs.Words.{holds, is_live}
+
+some_same : {A : Type 0} (a b : A) → Some a ≡ Some b → a ≡ b
+some_same a b e = ap (λ o. unwrap_or o a) e
 
 -- ---- look-ups
 
@@ -78,19 +81,41 @@ others_put n m table k v low apart h = record {
 
 -- ---- suspicions
 
+-- a fact of each suspicion that stands
+module _ (P : Suspicion → Type 0) where
+  abbrev pub OfAll : Held → Type 0
+  OfAll held = (q : ℕ) (x : Suspicion) → get held q ≡ Some x → P x
+
+  put_either : (b : Bool) (v x : Suspicion) (old : Option Suspicion) → P v → (old ≡ Some x → P x) → cond b (Some v) old ≡ Some x → P x
+  put_either true v x old own later is = subst P (some_same v x is) own
+  put_either false v x old own later is = later is
+
+  left_either : (b : Bool) (x : Suspicion) (old : Option Suspicion) → (old ≡ Some x → P x) → cond b None old ≡ Some x → P x
+  left_either true x old later is = absurd (false≢true (ap is_some is))
+  left_either false x old later is = later is
+
+  pub of_put : (held : Held) (k : ℕ) (v : Suspicion) → P v → OfAll held → OfAll (insert held k v)
+  of_put held k v own h q x here = put_either _ v x (get held q) own (h q x) (sym (get_put held k q v) ∙ here)
+
+  pub of_left : (held : Held) (k : ℕ) → OfAll held → OfAll (remove held k)
+  of_left held k h q x here = left_either _ x (get held q) (h q x) (sym (get_left held k q) ∙ here)
+
+  -- that one more accuser leaves so
+  module _ (stays : (x : Suspicion) (accuser g : ℕ) → P x → P (confirmed_by x accuser g)) where
+    pub of_confirmed : (o : Option Suspicion) (accuser g : ℕ) → ((x : Suspicion) → o ≡ Some x → P x) → (y : Suspicion) → option_and_then (λ x. confirmed x accuser g) o ≡ Some y → P y
+    of_confirmed None accuser g h y is = absurd (false≢true (ap is_some is))
+    of_confirmed (Some x) accuser g h y is = put_either (counts x accuser) (confirmed_by x accuser g) y None (stays x accuser g (h x refl)) (λ none. absurd (false≢true (ap is_some none))) is
+
+    pub of_accused : (held : Held) (k accuser g : ℕ) → OfAll held → OfAll (after_accusation held k accuser g)
+    of_accused held k accuser g h = either (accused_of held k accuser g) (of_confirmed (get held k) accuser g (h k))
+      where
+        either : (o : Option Suspicion) → ((y : Suspicion) → o ≡ Some y → P y) → OfAll (option_map_or (insert held k) o held)
+        either None own = h
+        either (Some y) own = of_put held k y (own y refl) h
+
 pub record SuspectsAlike (table : Known) (suspicions : Held) (terms : Terms) : Type 0 where
   pub alike : (q : ℕ) → contains_key suspicions q ≡ holds is_suspect table q
   pub settled : (q : ℕ) (x : Suspicion) → get suspicions q ≡ Some x → x.terms ≡ terms
-
-pub put_terms : (suspicions : Held) (terms : Terms) (q : ℕ) (b : Bool) (v x : Suspicion) → v.terms ≡ terms → (get suspicions q ≡ Some x → x.terms ≡ terms)
-    → cond b (Some v) (get suspicions q) ≡ Some x → x.terms ≡ terms
-put_terms suspicions terms q true v x own old here = ap (λ (y : Suspicion). y.terms) (sym (ap (λ o. unwrap_or o v) here)) ∙ own
-put_terms suspicions terms q false v x own old here = old here
-
-pub left_terms : (suspicions : Held) (terms : Terms) (q : ℕ) (b : Bool) (x : Suspicion) → (get suspicions q ≡ Some x → x.terms ≡ terms)
-    → cond b None (get suspicions q) ≡ Some x → x.terms ≡ terms
-left_terms suspicions terms q true x old here = absurd (false≢true (ap is_some here))
-left_terms suspicions terms q false x old here = old here
 
 -- a suspicion that starts
 pub suspected : (table : Known) (suspicions : Held) (terms : Terms) (k : ℕ) (v : Claim × ℕ) (x : Suspicion) → is_suspect v.0 ≡ true → x.terms ≡ terms
@@ -99,7 +124,7 @@ suspected table suspicions terms k v x is own h = record {
   alike = λ q.
       has_put suspicions k q x ∙ ap (cond (eqb q k) true) (h.alike q) ∙ ap (λ b. cond (eqb q k) b (holds is_suspect table q)) (sym is)
       ∙ sym (holds_put is_suspect table k q v);
-  settled = λ q y here. put_terms suspicions terms q (eqb q k) x y own (h.settled q y) (sym (get_put suspicions k q x) ∙ here);
+  settled = of_put (λ x. x.terms ≡ terms) suspicions k x own h.settled;
 }
 
 -- one that ends
@@ -109,44 +134,36 @@ cleared table suspicions terms k v is h = record {
   alike = λ q.
       has_left suspicions k q ∙ ap (cond (eqb q k) false) (h.alike q) ∙ ap (λ b. cond (eqb q k) b (holds is_suspect table q)) (sym is)
       ∙ sym (holds_put is_suspect table k q v);
-  settled = λ q y here. left_terms suspicions terms q (eqb q k) y (h.settled q y) (sym (get_left suspicions k q) ∙ here);
+  settled = of_left (λ x. x.terms ≡ terms) suspicions k h.settled;
 }
 
 -- one that is shortened
-pub confirmed_terms : (x y : Suspicion) (accuser g : ℕ) → confirmed x accuser g ≡ Some y → y.terms ≡ x.terms
-confirmed_terms x y accuser g = either (counts x accuser)
-  where
-    either : (b : Bool) → cond b (Some (confirmed_by x accuser g)) None ≡ Some y → y.terms ≡ x.terms
-    either true is = ap (λ (z : Suspicion). z.terms) (sym (ap (λ o. unwrap_or o y) is))
-    either false is = absurd (false≢true (ap is_some is))
-
 same_keys : (b c : Bool) → c ≡ true → cond b true c ≡ c
 same_keys true c is = sym is
 same_keys false c is = refl
 
 module _ (table : Known) (suspicions : Held) (terms : Terms) (k : ℕ) (h : SuspectsAlike table suspicions terms) where
-  put_again : (x y : Suspicion) (accuser g : ℕ) → get suspicions k ≡ Some x → confirmed x accuser g ≡ Some y → SuspectsAlike table (insert suspicions k y) terms
-  put_again x y accuser g here is = record {
-    alike = λ q. has_put suspicions k q y ∙ there q (eqb q k) refl ∙ h.alike q;
-    settled = λ q z at. put_terms suspicions terms q (eqb q k) y z (confirmed_terms x y accuser g is ∙ h.settled k x here) (h.settled q z) (sym (get_put suspicions k q y) ∙ at);
-  }
+  put_again : (y : Suspicion) → contains_key suspicions k ≡ true → (q : ℕ) → contains_key (insert suspicions k y) q ≡ holds is_suspect table q
+  put_again y here q = has_put suspicions k q y ∙ there (eqb q k) refl ∙ h.alike q
     where
-      there : (q : ℕ) (b : Bool) → eqb q k ≡ b → cond b true (contains_key suspicions q) ≡ contains_key suspicions q
-      there q true e = sym (ap is_some (ap (get suspicions) (eqb-true q k e) ∙ here))
-      there q false e = refl
+      there : (b : Bool) → eqb q k ≡ b → cond b true (contains_key suspicions q) ≡ contains_key suspicions q
+      there true e = sym (ap (contains_key suspicions) (eqb-true q k e) ∙ here)
+      there false e = refl
 
-  after_confirmed : (x : Suspicion) (accuser g : ℕ) (o : Option Suspicion) → get suspicions k ≡ Some x → confirmed x accuser g ≡ o
-      → SuspectsAlike table (option_map_or (insert suspicions k) o suspicions) terms
-  after_confirmed x accuser g None here is = h
-  after_confirmed x accuser g (Some y) here is = put_again x y accuser g here is
-
-  after_held : (o : Option Suspicion) (accuser g : ℕ) → get suspicions k ≡ o
-      → SuspectsAlike table (option_map_or (insert suspicions k) (option_and_then (λ x. confirmed x accuser g) o) suspicions) terms
-  after_held None accuser g here = h
-  after_held (Some x) accuser g here = after_confirmed x accuser g (confirmed x accuser g) here refl
+  after_held : (x : Option Suspicion) (accuser g : ℕ) → is_some x ≡ contains_key suspicions k → (q : ℕ)
+      → contains_key (option_map_or (insert suspicions k) (option_and_then (λ x. confirmed x accuser g) x) suspicions) q ≡ holds is_suspect table q
+  after_held None accuser g here = h.alike
+  after_held (Some x) accuser g here = either (confirmed x accuser g)
+    where
+      either : (o : Option Suspicion) → (q : ℕ) → contains_key (option_map_or (insert suspicions k) o suspicions) q ≡ holds is_suspect table q
+      either None = h.alike
+      either (Some y) = put_again y (sym here)
 
   pub accusation : (accuser g : ℕ) → SuspectsAlike table (after_accusation suspicions k accuser g) terms
-  accusation accuser g = after_held (get suspicions k) accuser g refl
+  accusation accuser g = record {
+    alike = after_held (get suspicions k) accuser g refl;
+    settled = of_accused (λ x. x.terms ≡ terms) (λ x accuser g own. own) suspicions k accuser g h.settled;
+  }
 
 -- ---- the rota
 

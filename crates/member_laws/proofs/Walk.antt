@@ -137,7 +137,7 @@ module _ (s : Setup) (k : Key) (Named : ℕ → Type 0) (R : State → Type 0) (
   unfolding alive_heard suspect_heard confirm_heard
   on_claim loud u Alive o named says e h = on_told loud _ u.subject u.inc _ (news.alive o.state u named says e h)
   on_claim loud u Suspect o named says e h =
-      on_event _ k.to _ _ (on_told loud _ u.subject u.inc _ (news.suspect o.state u _ named says e refl h))
+      on_event _ k.to _ _ (on_told loud _ u.subject u.inc _ (news.suspect o.state u _ named says e (record { terms = refl; since = refl; members = refl }) h))
   on_claim loud u Confirm o named says e h = on_told loud _ u.subject u.inc _ (news.confirm o.state u named says e h)
 
   pub on_news : (loud : Bool) (u : Update) (o : Effect) → Named u.subject → IsNews k.to o.state u → R o.state → R (news_heard s loud k u o).state
