@@ -11,3 +11,4 @@ pub mod Switches
 pub mod Runs
 pub mod Carried
 pub mod Reached
+pub mod Moments

@@ -71,6 +71,10 @@ SendsOfMembers s t = (q : ℕ) (it : Counted) → get t.buffer q ≡ Some it →
 abbrev pub ProbesAMember : Setup → State → Type 0
 ProbesAMember s t = (probe : Probe) → t.probe ≡ Some probe → probe.target < member_count s
 
+-- each suspicion that stands began at a moment no later than the end, among at least one and at most all members
+abbrev pub IsTimely : Setup → State → Type 0
+IsTimely s t = (q : ℕ) (x : Suspicion) → get t.suspicions q ≡ Some x → (x.since ≤ s.end) × (1 ≤ x.members) × (x.members ≤ member_count s)
+
 -- What holds of a member's state wherever a run has come.
 pub record IsConsistent (s : Setup) (m : ℕ) (t : State) : Type 0 where
   pub waits : WaitsAsOpened s m t

@@ -1,6 +1,6 @@
 //! What holds of every step, stated over the definitions alone.
 
-ghost use Rattle.std.specs.Prelude.{◌≡◌, ◌≢◌, ◌≤◌, ◌+◌, ℕ, Bool, false, Some, None, List, All};
+ghost use Rattle.std.specs.Prelude.{◌≡◌, ◌≢◌, ◌<◌, ◌≤◌, ◌+◌, ◌^◌, ℕ, Bool, false, Some, None, List, All};
 ghost use Rattle.std.specs.FinMap.{get};
 ghost use Rattle.std.specs.FinSet as set;
 ghost use Rattle.base.specs.declared.key.Key.{Key};
@@ -20,7 +20,7 @@ ghost use Rattle.member.specs.Turn.{Effect, unchanged};
 ghost use Rattle.member.specs.Send.{buddy_of};
 ghost use Rattle.member.specs.Apply.{applied};
 ghost use Rattle.member.specs.Step.{step};
-ghost use Rattle.member_laws.specs.Words.{AccusesOneself, WaitsAsOpened, IsWithinCeiling, IsConsistent, IsAmongMembers};
+ghost use Rattle.member_laws.specs.Words.{AccusesOneself, WaitsAsOpened, IsWithinCeiling, IsTimely, IsConsistent, IsAmongMembers};
 ghost use Rattle.member_laws.specs.Rows.{IsOn};
 ghost use Rattle.member_laws.specs.Runs.{Cluster, LeadsTo, IsReached};
 
@@ -130,4 +130,17 @@ pub fn a_run_names_members()
 pub fn a_run_tells_only_of_what_is_on()
     ensures { (s : Setup) (keys : List Key) (rows : List Row) (w : Cluster) → IsSound s
         → Run (step s) s.end (opening s) keys rows w → All (λ (row : Row). IsOn s row.what) rows }
+{}
+
+/// No moment of a run reaches 2^42, so no sum of moments wraps: neither that of an event that a step
+/// up to the end makes of a timely state, nor that of one that pends, wherever a run has come. And
+/// the states that a run reaches are timely.
+pub fn a_run_keeps_moments_in_range()
+    ensures step { (s : Setup) (k : Key) (c : Content) (t : State) → IsSound s → IsAmongMembers s k c
+        → k.at ≤ s.end → IsConsistent s k.to t → IsTimely s t
+        → All (λ (e : Key × Content). e.0.at < 2 ^ 42) (step s k c t).events }
+    ensures run { (s : Setup) (w : Cluster) (k : Key) (c : Content) → IsSound s → IsReached s w
+        → get w.pending k ≡ Some c → k.at < 2 ^ 42 }
+    ensures states { (s : Setup) (w : Cluster) (m : ℕ) (t : State) → IsSound s → IsReached s w
+        → get w.members m ≡ Some t → IsTimely s t }
 {}

@@ -1,0 +1,273 @@
+-- No moment of a run reaches 2^42.
+use Rattle.std.proofs.Common.{◌≡◌, ℕ, ◌+◌, ◌*◌, ◌/◌, ◌<◌, ◌≤◌, ◌^◌, Bool, true, false, cond, List, [], ◌∷◌, flat_map, Option, Some, None, All, sym, ap, subst, ◌∙◌, arith}
+use Rattle.std.specs.Option.{is_some, unwrap_or, IfSome}
+use Rattle.std.specs.List.{AllByRecursion}
+use Rattle.std.specs.Ordering.{nat_cmp}
+use Rattle.std.specs.FinMap.{get, insert, remove, empty, get-empty}
+use Rattle.std.proofs.lemmas.Bool.{false≢true}
+use Rattle.std.proofs.lemmas.List.Elements.{All-from_recursion}
+use Rattle.std.proofs.lemmas.Nat.{mul-le}
+use Rattle.base.specs.declared.key.Key.{Key}
+use Rattle.base.proofs.Rising.{all_append}
+use Rattle.base.proofs.Kept.{all_with_events}
+use Rattle.scenario.specs.Setup.{Setup, IsSound, member_count, start_of, crash_of, link_between, extra_of}
+use Rattle.streams.specs.Draw.{Words, AreWords, below_of, lost_of}
+use Rattle.streams.proofs.PlaceLemmas.{lost_rest}
+use Rattle.streams.proofs.RangeLemmas.{rest_fits, below_fits}
+use Rattle.links.specs.Arrival.{arrival_of}
+use Rattle.incarnation.specs.declared.Update.{Update}
+use Rattle.lifeguard.specs.Health.{scaled}
+use Rattle.lifeguard.specs.NackDelay.{nack_delay_of}
+use Rattle.suspicion.specs.declared.terms.Terms.{Terms}
+use Rattle.suspicion.specs.Ranges.{AreSound}
+use Rattle.suspicion.specs.Settings.{terms_of}
+use Rattle.suspicion.specs.Suspicions.{Suspicion, count_of, accused_of, due_of}
+use Rattle.suspicion.specs.Times.{min_timeout, timeout}
+use Rattle.suspicion.proofs.Tables.{log_of-le}
+use Rattle.suspicion.proofs.Timeouts.{min_timeout-lt, max_timeout-le, timeout-le-max}
+use Rattle.base.specs.Logarithm.{log_of}
+use Rattle.member.specs.declared.content.Content.{Content}
+use Rattle.member.specs.State.{State}
+use Rattle.membership.specs.Table.{live_count}
+use Rattle.membership.proofs.Few.{live_count-le, live_count-positive}
+use Rattle.member.specs.Turn.{Effect, with_row, with_event}
+use Rattle.member.specs.Apply.{claim_kept}
+use Rattle.member.specs.Opening.{opening_state, opening, numbers, crash_event, script_of}
+use Rattle.member.specs.Step.{step}
+use Rattle.member_laws.specs.Words.{IsTimely, IsConsistent, IsAmongMembers}
+use Rattle.member_laws.specs.Runs.{Cluster, IsReached}
+use Rattle.member_laws.proofs.Moves.{NewsMoves, Moves, kept_either}
+use Rattle.member_laws.proofs.Walk.{on_any_step}
+use Rattle.member_laws.proofs.Tables.{OfAll, of_put, of_left, of_confirmed, of_accused}
+use Rattle.member_laws.proofs.Made.{Carries, Times, Makes, by_step}
+use Rattle.member_laws.proofs.Consistency.{Keeps, news, moves, started_at_once, started_late, keeps, names_only}
+use Rattle.member_laws.proofs.Reached.{Below, AnyRow, any_row, carries, none_pending, IsMember, kept_step, kept_opening}
+use Rattle.member_laws.proofs.Runs.{IsKept, run_kept, opened}
+
+-- what every moment of a run keeps below
+abbrev Soon : ℕ → Type 0
+Soon at = at < 2 ^ 42
+
+some_same : {A : Type 0} (a b : A) → Some a ≡ Some b → a ≡ b
+some_same a b e = ap (λ o. unwrap_or o a) e
+
+-- ---- times
+
+-- no suspicion lasts longer
+timeout-le : (terms : Terms) (n c : ℕ) → AreSound terms → n ≤ 1024 → timeout terms n c ≤ 2 ^ 40
+timeout-le terms n c sound few =
+    let shortest = min_timeout-lt terms.alpha (log_of n) terms.period sound.alpha (log_of-le n few) sound.period in
+    let longest = max_timeout-le terms.beta (min_timeout terms n) sound.beta.1 shortest in
+    omega (arith, longest, timeout-le-max terms n c sound)
+
+ceiling-le : (b : Bool) (ceiling : ℕ) → ceiling ≤ 16 → cond b ceiling 0 ≤ 16
+ceiling-le true ceiling h = h
+ceiling-le false ceiling h = omega arith
+
+arrives_soon : (lost : Bool) (rest last : Words) (coming at : ℕ) → Soon coming → (cond {A = Option ℕ × Words} lost (None, rest) (Some coming, last)).0 ≡ Some at → Soon at
+arrives_soon true rest last coming at h is = absurd (false≢true (ap is_some is))
+arrives_soon false rest last coming at h is = subst Soon (some_same coming at is) h
+
+-- ---- a step, up to the end
+
+-- a suspicion that began up to the end, among some members
+abbrev Began : Setup → Suspicion → Type 0
+Began s x = (x.since ≤ s.end) × (1 ≤ x.members) × (x.members ≤ member_count s)
+
+-- what holds of a member once it has started, its suspicions too
+abbrev InTime : Setup → ℕ → State → Type 0
+InTime s m t = Keeps s m t × IsTimely s t
+
+module _ (s : Setup) (sound : IsSound s) (k : Key) (here : k.to < member_count s) (in_time : k.at ≤ s.end) where
+  arrival_soon : (words : Words) (to at : ℕ) → AreWords words → (arrival_of s k.to to k.at words).0 ≡ Some at → Soon at
+  unfolding arrival_of
+  arrival_soon words to at fit =
+      let link = link_between s k.to to in
+      let lost = lost_of words link.loss in
+      let bounds = sound.between k.to to in
+      let jitter = below_of lost.1 (link.jitter + 1) in
+      let drawn = below_fits lost.1 (link.jitter + 1) (rest_fits words lost.1 fit (lost_rest words link.loss)) (omega arith) (omega (arith, bounds.jitter)) in
+      let coming = k.at + link.delay + jitter.0 + extra_of s k.to k.at in
+      arrives_soon lost.0 lost.1 jitter.1 (coming + extra_of s to coming) at
+      (omega (arith, in_time, sound.end, bounds.delay.1, bounds.jitter, drawn, sound.extras k.to k.at, sound.extras to coming))
+
+  scaled_soon : (t : State) (base : ℕ) → base ≤ 2 ^ 24 → Keeps s k.to t → Soon (k.at + scaled t.health base)
+  scaled_soon t base short r =
+      let counter : t.health.counter + 1 ≤ 17 = omega (arith, r.health.within, r.health.same, ceiling-le s.lifeguard.probe s.lifeguard.ceiling sound.ceiling) in
+      omega (arith, in_time, sound.end, mul-le base (t.health.counter + 1) (2 ^ 24) 17 short counter)
+
+  nack_soon : Soon (k.at + nack_delay_of s.lifeguard.nack_percent s.swim.timeout)
+  nack_soon =
+      let share = mul-le s.lifeguard.nack_percent s.swim.timeout 100 (2 ^ 24) sound.nack_percent.1 (omega (arith, sound.timeout.1, sound.period)) in
+      let part : s.lifeguard.nack_percent * s.swim.timeout / 100 ≤ 2 ^ 24 = omega (arith, share) in
+      omega (arith, in_time, sound.end, part)
+
+  terms_sound : AreSound (terms_of s)
+  terms_sound = record { period = sound.period; alpha = sound.alpha.1; beta = sound.beta; confirmations = sound.confirmations }
+
+  few : (t : State) → Keeps s k.to t → live_count t.table ≤ member_count s
+  few t r = live_count-le (member_count s) k.to t.table here r.others.others
+
+  accused_soon : (t : State) (u : Update) (x : Suspicion) → InTime s k.to t → accused_of t.suspicions u.subject u.accuser t.next_number ≡ Some x → Soon (due_of x k.at)
+  accused_soon t u x r is =
+      let began : Began s x = of_confirmed (Began s) (λ x accuser g h. h) (get t.suspicions u.subject) u.accuser t.next_number (r.1 u.subject) x is in
+      let settled : x.terms ≡ terms_of s =
+      of_confirmed (λ x. x.terms ≡ terms_of s) (λ x accuser g h. h) (get t.suspicions u.subject) u.accuser t.next_number (r.0.suspects.settled u.subject) x is in
+      let lasts = timeout-le x.terms x.members (count_of x) (subst AreSound (sym settled) terms_sound) (omega (arith, began.2, sound.members.1)) in
+      omega (arith, in_time, sound.end, began.0, lasts)
+
+  times : Times s k Soon (InTime s k.to)
+  times = record {
+    arrival = λ t to at r is. arrival_soon t.words to at r.0.words is;
+    join_timer = omega (arith, in_time, sound.end, sound.period);
+    first_period = λ t r.
+        let drawn = below_fits t.words s.swim.spread r.0.words sound.spread.0 (omega (arith, sound.spread.1)) in omega (arith, in_time, sound.end, sound.spread.1, drawn);
+    period_timer = λ t r. scaled_soon t s.swim.period sound.period r.0;
+    timeout_timer = λ t r. scaled_soon t s.swim.timeout (omega (arith, sound.timeout.1, sound.period)) r.0;
+    nack_timer = nack_soon;
+    suspicion_timer = λ t r. omega (arith, in_time, sound.end, timeout-le (terms_of s) (live_count t.table) 0 terms_sound (omega (arith, few t r.0, sound.members.1)));
+    accusation_timer = accused_soon;
+  }
+
+  -- each change keeps the suspicions in time
+
+  timely_news : NewsMoves s k (Below s) (InTime s k.to)
+  timely_news = record {
+    counted = λ t r. (kept.counted t r.0, r.1);
+    put = λ t u named r. (kept.put t u named r.0, r.1);
+    alive = λ t u named says e r. (kept.alive t u named says e r.0, ended t u r.1);
+    suspect = λ t u x named says e begins r.
+        let there = kept.suspect t u x named says e begins r.0 in
+        let live = live_count-le (member_count s) k.to (claim_kept u t).table here there.others.others in
+        (there, begun t u x (omega (arith, begins.since, in_time), omega (arith, begins.members, live_count-positive (claim_kept u t).table), omega (arith, begins.members, live)) r.1);
+    confirm = λ t u named says e r. (kept.confirm t u named says e r.0, ended t u r.1);
+    accused = λ t u r. (kept.accused t u r.0, of_accused (Began s) (λ x accuser g h. h) t.suspicions u.subject u.accuser t.next_number r.1);
+  }
+    where
+      kept : NewsMoves s k (Below s) (Keeps s k.to)
+      kept = news s sound k
+
+      ended : (t : State) (u : Update) → IsTimely s t → OfAll (Began s) (remove (claim_kept u t).suspicions u.subject)
+      ended t u h = kept_either (λ v. OfAll (Began s) (remove v.suspicions u.subject)) u t (of_left (Began s) t.suspicions u.subject h) (of_left (Began s) t.suspicions u.subject h)
+
+      begun : (t : State) (u : Update) (x : Suspicion) → Began s x → IsTimely s t → OfAll (Began s) (insert (claim_kept u t).suspicions u.subject x)
+      begun t u x own h =
+          kept_either (λ v. OfAll (Began s) (insert v.suspicions u.subject x)) u t (of_put (Began s) t.suspicions u.subject x own h) (of_put (Began s) t.suspicions u.subject x own h)
+
+  timely_moves : Moves s k (Below s) (InTime s k.to)
+  timely_moves = record {
+    own = here;
+    known = λ t q held r at. kept.known t q held r.0 at;
+    drawn = λ t rest is r. (kept.drawn t rest is r.0, r.1);
+    picked = λ t buddy r. (kept.picked t buddy r.0, r.1);
+    aimed = λ t probe r is. kept.aimed t probe r.0 is;
+    targets = λ t target r is. kept.targets t target r.0 is;
+    probing = λ t seq probe aim r. (kept.probing t seq probe aim r.0, r.1);
+    turned = λ t r. (kept.turned t r.0, r.1);
+    relay_added = λ t relay on r. (kept.relay_added t relay on r.0, r.1);
+    relay_removed = λ t relay r. (kept.relay_removed t relay r.0, r.1);
+    heard_dead = λ t r. (kept.heard_dead t r.0, r.1);
+    refuted = λ t r. (kept.refuted t r.0, r.1);
+    weakened = λ t r. (kept.weakened t r.0, r.1);
+    weighed = λ t probe r. (kept.weighed t probe r.0, r.1);
+    welcomed = λ t r. (kept.welcomed t r.0, r.1);
+    downed = λ t r. (kept.downed t r.0, r.1);
+    began = λ t waits r. (kept.began t waits r.0, r.1);
+    late = λ t waits r. (kept.late t waits r.0, r.1);
+  }
+    where
+      kept : Moves s k (Below s) (Keeps s k.to)
+      kept = moves s sound k here
+
+  timely_carries : Carries s k (Below s) (InTime s k.to)
+  timely_carries = record {
+    plain = λ t r. kept.plain t r.0;
+    ping = λ t to r. kept.ping t to r.0;
+    contact = kept.contact;
+    helpers = λ t target r. kept.helpers t target r.0;
+    whole = λ t r. kept.whole t r.0;
+  }
+    where
+      kept : Carries s k (Below s) (Keeps s k.to)
+      kept = carries s sound k here
+
+  abbrev AllSoon : Effect → Type 0
+  AllSoon o = AllByRecursion (λ e. Soon e.0.at) o.events
+
+  makes : Makes k (Below s) AnyRow Soon AllSoon
+  unfolding with_row with_event
+  makes = record {
+    row = λ tells about value lost o told named h. h;
+    event = λ at to content o soon there named h. all_append (λ e. Soon e.0.at) o.events _ h (soon, tt);
+    lost = λ o h. h;
+    state = λ t o same h. h;
+  }
+
+  module _ (c : Content) (t : State) (ours : IsAmongMembers s k c) (h : IsConsistent s k.to t) (timely : IsTimely s t) where
+    pub step_soon : AllSoon (step s k c t)
+    step_soon =
+        by_step s k (Below s) (InTime s k.to) timely_news timely_moves AnyRow (any_row (InTime s k.to)) timely_carries Soon times AllSoon makes c t ours.sender (names_only (member_count s) c ours.names)
+        (λ up. (keeps s sound k t h up, timely)) (λ waits. (started_at_once s sound k t h waits, timely)) (λ waits. (started_late s sound k t h waits, timely)) tt
+
+    pub step_timely : IsTimely s (step s k c t).state
+    step_timely =
+        on_any_step s k (Below s) (InTime s k.to) timely_news timely_moves (IsTimely s) c t (λ v r. r.1) timely
+        (λ up. (keeps s sound k t h up, timely)) (λ waits. (started_at_once s sound k t h waits, timely)) (λ waits. (started_late s sound k t h waits, timely))
+        ours.sender (names_only (member_count s) c ours.names)
+
+pub all_soon : (s : Setup) (k : Key) (c : Content) (t : State) → IsSound s → IsAmongMembers s k c → k.at ≤ s.end → IsConsistent s k.to t → IsTimely s t
+    → All (λ (e : Key × Content). Soon e.0.at) (step s k c t).events
+all_soon s k c t sound ours in_time h timely =
+    All-from_recursion (λ (e : Key × Content). Soon e.0.at) (step s k c t).events (step_soon s sound k ours.receiver in_time c t ours h timely)
+
+-- ---- runs
+
+both : {A : Type 0} (P Q : A → Type 0) (xs : List A) → AllByRecursion P xs → AllByRecursion Q xs → AllByRecursion (λ x. P x × Q x) xs
+both P Q [] h g = tt
+both P Q (x ∷ xs) h g = ((h.0, g.0), both P Q xs h.1 g.1)
+
+opening_timely : (s : Setup) (m : ℕ) → IsTimely s (opening_state s m)
+unfolding opening_state
+opening_timely s m q x at = absurd (false≢true (sym (ap is_some (get-empty nat_cmp q)) ∙ ap is_some at))
+
+crash_soon : (s : Setup) (m : ℕ) (at : Option ℕ) → IfSome at (λ t. (start_of s m < t) × (t ≤ 2 ^ 40)) → AllByRecursion (λ e. Soon e.0.at) (crash_event m at)
+crash_soon s m None h = tt
+crash_soon s m (Some at) h = (omega (arith, h.1), tt)
+
+script_soon : (s : Setup) → IsSound s → (xs : List ℕ) → AllByRecursion (λ e. Soon e.0.at) (flat_map (script_of s) xs)
+script_soon s sound [] = tt
+script_soon s sound (x ∷ xs) =
+    all_append (λ e. Soon e.0.at) (script_of s x) (flat_map (script_of s) xs) (omega (arith, sound.starts x), crash_soon s x (crash_of s x) (sound.crashes x)) (script_soon s sound xs)
+
+abbrev IsInTime : Setup → ℕ → State → Type 0
+IsInTime s m t = IsMember s m t × IsTimely s t
+
+abbrev ComesSoon : Setup → Key → Content → Type 0
+ComesSoon s k c = IsAmongMembers s k c × Soon k.at
+
+module _ (s : Setup) (sound : IsSound s) where
+  soon_step : (k : Key) (c : Content) (t : State) → k.at ≤ s.end → ComesSoon s k c → IsInTime s k.to t
+      → IsInTime s k.to (step s k c t).state × AllByRecursion (λ e. ComesSoon s e.0 e.1) (step s k c t).events
+  soon_step k c t in_time ours h =
+      let made = kept_step s sound k c t in_time ours.0 h.0 in (
+        (made.0, step_timely s sound k ours.0.receiver in_time c t ours.0 h.0.1 h.1),
+        both (λ e. IsAmongMembers s e.0 e.1) (λ e. Soon e.0.at) (step s k c t).events made.1 (step_soon s sound k ours.0.receiver in_time c t ours.0 h.0.1 h.1),
+      )
+
+  soon_opening : IsKept (step s) (IsInTime s) (ComesSoon s) s.end soon_step (opening s)
+  soon_opening =
+      let first = kept_opening s sound in
+      let soon = all_with_events (λ k c. Soon k.at) (flat_map (script_of s) (numbers s)) empty (none_pending (λ k c. Soon k.at)) (script_soon s sound (numbers s)) in
+      record {
+        members = λ m t at. (first.members m t at, subst (IsTimely s) (sym (opened s (numbers s) m t at)) (opening_timely s m));
+        events = λ k c at. (first.events k c at, soon k c at);
+      }
+
+  soon_reached : (w : Cluster) → IsReached s w → IsKept (step s) (IsInTime s) (ComesSoon s) s.end soon_step w
+  soon_reached w reached = run_kept (step s) (IsInTime s) (ComesSoon s) s.end soon_step reached.0 (opening s) w reached.1 reached.2 soon_opening
+
+  pub pending_soon : (w : Cluster) (k : Key) (c : Content) → IsReached s w → get w.pending k ≡ Some c → Soon k.at
+  pending_soon w k c reached at = ((soon_reached w reached).events k c at).1
+
+  pub timely_reached : (w : Cluster) (m : ℕ) (t : State) → IsReached s w → get w.members m ≡ Some t → IsTimely s t
+  timely_reached w m t reached at = ((soon_reached w reached).members m t at).1
