@@ -6,6 +6,7 @@ use Rattle.base.specs.declared.key.Key.{Key}
 use Rattle.scenario.specs.Setup.{Setup, contact_of}
 use Rattle.trace.specs.declared.row.What.{What}
 use Rattle.member.specs.declared.content.Content.{Content}
+use Rattle.member.specs.declared.member.Member.{Member}
 use Rattle.member.specs.State.{State}
 use Rattle.member.specs.Turn.{Effect, on_state, with_row, with_number, with_event, with_timer}
 use Rattle.member.specs.Send.{sent, sent_off, ping_sent, ping_req_sent, ack_sent, join_sent, join_sent_to, welcome_sent}
@@ -19,7 +20,16 @@ use Rattle.member.specs.Apply.{with_put, passed_on, with_health, refuted, heard_
 use Rattle.lifeguard.specs.declared.probe.Probe.{Probe}
 use Rattle.lifeguard.specs.Probe.{fresh_probe}
 use Rattle.member.specs.Step.{all_asked, suspected, probe_failed, probe_ended, probe_begun, target_probed, next_probed, with_relay, ack_taken, first_period_set}
+use Rattle.member.specs.View.{state_of}
 use Rattle.member.specs.Worn.{IsWorn}
+
+-- no member in memory has a counter past its limit
+pub not_worn : (m : Member) → ¬ (IsWorn (state_of m))
+not_worn m worn =
+    let number = m.number_within in
+    let sequence = m.sequence_within in
+    let incarnation = m.incarnation_within in
+    elim worn [ inl h ↦ omega arith | inr more ↦ elim more [ inl h ↦ omega arith | inr h ↦ omega arith ] ]
 
 -- a refusal that is handed on is the one that was met
 pub handed_on : {T U E : Type 0} (r : Result T E) (e x : E) → IsErrAnd r (λ y. y ≡ e) → IsErrOf r x → IsErrOf {T = U} (Err e) x

@@ -1,3 +1,5 @@
+ghost use Rattle.std.specs.Prelude.{◌≤◌, ◌^◌};
+
 use lifeguard::{Health, Probe, Relays};
 use membership::Table;
 use piggyback::Buffer;
@@ -43,4 +45,8 @@ pub struct Member {
     /// The probes that it made for others and has not answered yet.
     pub(crate) relays: Relays,
     pub(crate) stream: Stream,
+    // No counter passes its limit.
+    ghost number_within: { next_number ≤ 2 ^ 63 },
+    ghost sequence_within: { sequence ≤ 2 ^ 63 },
+    ghost incarnation_within: { incarnation ≤ 2 ^ 63 },
 }

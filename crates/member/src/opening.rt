@@ -4,6 +4,7 @@ ghost use Rattle.probing.specs.ProbeOrder.{round_over, IsSound};
 ghost use Rattle.member.specs.Here.{HoldsMembers};
 ghost use Rattle.member.specs.Opening.{opening_state, opening_health, first_number};
 ghost use Rattle.member.specs.View.{state_of};
+ghost use Rattle.member.specs.Worn.{IsWorn};
 
 use crate::member::{Member, Phase};
 use base::{MemberId, Memory};
@@ -55,6 +56,7 @@ impl Member {
         requires { member < member_count scenario.now }
         ensures state { IfOk result (λ it. state_of it ≡ opening_state scenario.now member) }
         ensures known { IfOk result (λ it. HoldsMembers scenario.now member (state_of it)) }
+        ensures within { IfOk result (λ it. ¬ (IsWorn (state_of it))) }
     {
         Ok(Member {
             phase: Phase::Waiting,

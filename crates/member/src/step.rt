@@ -161,6 +161,7 @@ impl Member {
         requires names { NamesMembers (member_count scenario.now) event.content }
         ensures ok { OnOk result (Steps scenario.now event self.old self.new out.old out.new) }
         ensures worn { IsErrOf result StepError.Worn → IsWorn (step scenario.now event.key event.content (state_of self.old)).state }
+        ensures within { OnOk result (¬ (IsWorn (state_of self.new))) }
         ensures kept { OnOk result (HoldsMembers scenario.now event.key.to (state_of self.new)) }
     {
         let Event { key, content } = event;

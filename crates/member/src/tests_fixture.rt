@@ -12,6 +12,7 @@ use crate::member::Member;
 use crate::tests_text::{events_text, rows_text, text_of};
 use crate::turn::StepError;
 use crate::updates::Updates;
+use base::limits::COUNTER_LIMIT;
 use base::{Key, MemberId, Moment};
 use incarnation::{Claim, Update};
 use links::Links;
@@ -342,6 +343,9 @@ pub(crate) fn outcome_of(
     let mut member = Member::of(alloc, &scenario, oneself)?;
     handle_all(rt, &mut member, earlier, oneself, &scenario, &links)?;
     if let Some(counters) = counters {
+        assert!(rt; counters.next_number <= COUNTER_LIMIT);
+        assert!(rt; counters.sequence <= COUNTER_LIMIT);
+        assert!(rt; counters.incarnation <= COUNTER_LIMIT);
         member.next_number = counters.next_number;
         member.sequence = counters.sequence;
         member.incarnation = counters.incarnation;
