@@ -4,4 +4,5 @@ mod Members
 mod Openings
 mod Steps
 mod Left
+mod Lasting
 mod Due

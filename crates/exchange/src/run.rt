@@ -50,6 +50,9 @@ pub fn run_one<A: Sink, B: Sink>(
     // Where the trace's sink fails, at its flush too, the report's is left as it was.
     ensures first { A.failed trace.old < A.failed trace.new → report.new ≡ report.old }
 
+    // No counter of a run that succeeds passes 2^63.
+    ensures lasts { OnOk result (¬ (WearsOut scenario.now)) }
+
     // No fault comes without its cause.
     ensures worn { IsErrOf result Fault.Worn → WearsOut scenario.now }
     ensures write { IsErrOf result Fault.Write
@@ -153,6 +156,7 @@ pub(crate) fn simulate(alloc: Global, scenario: &Scenario) -> Result<Vec<Row>, S
     ensures run { IfOk result (λ rows. IsRunOf scenario.now rows.items) }
     ensures named { IfOk result (λ rows. All (NamesMembers scenario.now) rows.items) }
     ensures worn { IsErrOf result StepError.Worn → WearsOut scenario.now }
+    ensures lasts { OnOk result (¬ (WearsOut scenario.now)) }
     ensures sound { IsSound scenario.now }
 {
     let end = scenario.end();
@@ -183,6 +187,7 @@ fn run_from(
     ensures run { IfOk result (λ rows. IsRunOf setting.now.scenario.now rows.items) }
     ensures named { IfOk result (λ rows. All (NamesMembers setting.now.scenario.now) rows.items) }
     ensures worn { IsErrOf result StepError.Worn → WearsOut setting.now.scenario.now }
+    ensures lasts { OnOk result (¬ (WearsOut setting.now.scenario.now)) }
 {
     let mut rows = Vec::new(alloc);
     loop {

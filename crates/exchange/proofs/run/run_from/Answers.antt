@@ -7,6 +7,7 @@ use Rattle.exchange.specs.View.{world_of}
 use Rattle.member_laws.proofs.Reached.{rows_named}
 use Rattle.member.proofs.Fair.{steps_later}
 use Rattle.exchange.proofs.Left.{HasRun, run_named, one_more, run_over, run_wears, fewer_left}
+use Rattle.exchange.proofs.Lasting.{members_unworn, lasts_next, lasts_over}
 use Rattle.exchange.proofs.run.run_from.Goals as goal
 
 pub advance-requires-clause-named : goal.advance-requires-clause-named
@@ -29,6 +30,9 @@ loop-rows-preserved c =
     record {
       size = c.in-Ok-true.ensures.size;
       run = one_more s (steps_later s c.requires.sound) (world_of c.loop-rows.cluster) (world_of c.advance.new.cluster) before after c.loop-rows.invariant.run went;
+      lasts =
+          lasts_next s (steps_later s c.requires.sound) (world_of c.loop-rows.cluster) (world_of c.advance.new.cluster) before after went
+          c.loop-rows.invariant.lasts (members_unworn c.loop-rows.cluster.members.items);
     }
 
 pub returns-in-Ok-false-clause-run : goal.returns-in-Ok-false-clause-run
@@ -38,6 +42,13 @@ returns-in-Ok-false-clause-run c =
     let over = subst (λ (b : Bool). OnFalse b (IsOver s.end w)) c.in-Ok-false.field-0-test c.in-Ok-false.ensures.over in
     let same = subst (λ (b : Bool). OnFalse b (c.advance.new.rows.items ≡ c.loop-rows.rows.items)) c.in-Ok-false.field-0-test c.in-Ok-false.ensures.same in
     run_over s w c.advance.new.rows.items (subst (HasRun s w) (sym same) c.loop-rows.invariant.run) over
+
+pub returns-in-Ok-false-clause-lasts : goal.returns-in-Ok-false-clause-lasts
+returns-in-Ok-false-clause-lasts c =
+    let s = c.args.setting.now.scenario.now in
+    let w = world_of c.loop-rows.cluster in
+    let over = subst (λ (b : Bool). OnFalse b (IsOver s.end w)) c.in-Ok-false.field-0-test c.in-Ok-false.ensures.over in
+    lasts_over s w c.loop-rows.invariant.lasts (members_unworn c.loop-rows.cluster.members.items) over
 
 pub returns-in-Err-clause-worn : goal.returns-in-Err-clause-worn
 returns-in-Err-clause-worn c = λ h.
