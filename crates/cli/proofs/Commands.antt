@@ -1,8 +1,12 @@
 -- What an answer to the words says of them, and of what was not done.
-use Rattle.std.proofs.Common.{◌≡◌, ◌≢◌, ◌⊎◌, List, ℕ, Bool, None, subst, inl, inr}
+use Rattle.std.proofs.Common.{◌≡◌, ◌≢◌, ◌⊎◌, List, ℕ, Bool, Option, Result, None, subst, inl, inr}
+use Rattle.std.proofs.lemmas.Result.{on_ok_weaker}
+use Rattle.std.specs.Result.{OnOk}
+use Rattle.std.specs.Io.KnownBytes.{Appends}
 use Rattle.clap.specs.Words.{Text}
 use Rattle.scenario.specs.Setup.{Setup}
-use Rattle.cli.specs.Outcomes.{Shelf, ScenarioFails, FileFails, RunFails, RefusesFile, Empties, EmptiesTrace, report_word, Fails}
+use Rattle.cli.specs.Outcomes.{Shelf, ScenarioFails, FileFails, RunFails, RefusesFile, Empties, EmptiesTrace, RunsAll, Done, report_word, Fails}
+use Rattle.cli.specs.Printed.{rows_line}
 use Rattle.cli.specs.Words.{Answers, AsksForRun, AsksForCheck, IsCommand}
 use Rattle.cli.specs.declared.words.Asked.{Asked}
 use Rattle.cli.specs.declared.words.Asked.TheVariants as asked
@@ -91,3 +95,11 @@ pub asked_run_fails : (words : List Text) (before after : Shelf) (makes : Text �
 asked_run_fails words before after makes answer run failure is h fails =
     let asks : Answers words (asked.Run run) = subst (Answers words) is h in
     run_fails words before after makes run failure asks.1 fails
+
+-- a run that the words ask for was done, and the number of its rows printed
+pub asked_run_done : {E : Type 0} (words : List Text) (before after : Shelf) (old new : Option (List ℕ)) (answer : Asked) (run : RunWords) (count : ℕ)
+    (printed : Result (Unit {0}) E) → answer ≡ asked.Run run → Answers words answer → RunsAll before after run count
+    → OnOk printed (Appends old new (rows_line count)) → OnOk printed (Done words before after old new)
+asked_run_done words before after old new answer run count printed is h ran told =
+    let asks : Answers words (asked.Run run) = subst (Answers words) is h in
+    on_ok_weaker printed (λ appended. inl (count, (run, asks.1, ran), appended)) told

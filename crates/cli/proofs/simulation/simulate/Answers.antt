@@ -1,0 +1,12 @@
+-- the writers get what the run gives its sinks
+use Rattle.std.proofs.Common.{rules}
+use Rattle.cli.proofs.simulation.simulate.Goals as goal
+
+pub returns-clause-written : goal.returns-clause-written
+returns-clause-written g c = search rules fits 100
+
+pub returns-clause-beginning : goal.returns-clause-beginning
+returns-clause-beginning g c = search rules fits 100
+
+pub returns-clause-relay : goal.returns-clause-relay
+returns-clause-relay g c = c.run_one-outcome.ensures.relay
