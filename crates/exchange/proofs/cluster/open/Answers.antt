@@ -1,9 +1,12 @@
-use Rattle.std.proofs.Common.{map, length, ap, ◌∙◌, sym, refl, arith}
+use Rattle.std.proofs.Common.{map, length, ap, ◌∙◌, sym, refl, rules, arith}
 use Rattle.std.proofs.lemmas.List.FromFn.{length-map-range_with_len}
 use Rattle.member.specs.Opening.{opening_state}
 use Rattle.exchange.proofs.Members.{same_length}
 use Rattle.exchange.proofs.Openings.{opened, one_more_waits, one_more_script}
 use Rattle.exchange.proofs.cluster.open.Goals as goal
+
+pub loop-number-init : goal.loop-number-init
+loop-number-init c = search rules
 
 pub loop-number-preserved : goal.loop-number-preserved
 loop-number-preserved c =
