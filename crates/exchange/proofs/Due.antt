@@ -1,5 +1,5 @@
 -- The event that is due, and its receiver.
-use Rattle.std.proofs.Common.{◌≡◌, ℕ, ◌<◌, ◌≤◌, ◌^◌, false, List, Option, Some, None, cond, refl, ap, ◌∙◌, sym, arith}
+use Rattle.std.proofs.Common.{◌≡◌, ℕ, ◌<◌, ◌≤◌, false, List, Option, Some, None, cond, refl, ap, ◌∙◌, sym, arith}
 use Rattle.std.specs.List.{slice_get}
 use Rattle.std.specs.Option.{option_map, option_map_or, is_some}
 use Rattle.std.specs.FinMap.{get}

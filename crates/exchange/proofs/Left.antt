@@ -1,5 +1,5 @@
 -- How much of a run is left, and how the run so far goes on: what the loop that makes it keeps.
-use Rattle.std.proofs.Common.{◌≡◌, ℕ, ◌<◌, ◌≤◌, List, [], ◌∷◌, ◌++◌, length, ap, sym, subst, refl, arith}
+use Rattle.std.proofs.Common.{ℕ, ◌<◌, List, [], ◌∷◌, ◌++◌, length, ap, sym, subst, refl, arith}
 use Rattle.base.specs.declared.key.Key.{Key}
 use Rattle.base.specs.World.{World, Run, IsOver}
 use Rattle.base.specs.Run.{MakesLater, handled, trace-step, run_more}

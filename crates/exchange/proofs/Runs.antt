@@ -17,7 +17,6 @@ use Rattle.trace.specs.declared.row.Row.{Row}
 use Rattle.trace.specs.Text.{trace_text}
 use Rattle.trace.proofs.Beginnings.{beginning-none, Keeps-same}
 use Rattle.member.specs.declared.content.Content.{Content}
-use Rattle.member.specs.declared.content.Content.TheVariants.{Start}
 use Rattle.member.specs.State.{State}
 use Rattle.member.specs.Step.{step}
 use Rattle.member.specs.Opening.{opening, opening_state, first_number, numbers, script_key, crash_event, script_of}

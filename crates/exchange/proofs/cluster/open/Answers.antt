@@ -1,4 +1,4 @@
-use Rattle.std.proofs.Common.{map, length, ap, ◌∙◌, sym, refl, rules, arith}
+use Rattle.std.proofs.Common.{length, ap, ◌∙◌, rules, arith}
 use Rattle.std.proofs.lemmas.List.FromFn.{length-map-range_with_len}
 use Rattle.member.specs.Opening.{opening_state}
 use Rattle.exchange.proofs.Members.{same_length}
