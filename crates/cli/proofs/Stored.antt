@@ -61,6 +61,19 @@ module _ (start first second third end : Shelf) (trace report : Text) (apart : r
       let far : other ≢ report = λ e. differs_too (ap Some (sym e)) in
       report_closed other far ∙ (trace_closed other differs ∙ (report_made other far ∙ trace_made other differs))
 
+  -- what they hold of two texts that were written whole
+  pub both_hold : (told report_told : List ℕ) (old new report_old report_new : Option (List ℕ))
+      → HoldsNow (start trace) (first trace) [] → IfSome (start trace) (λ _. old ≡ Some [])
+      → HoldsNow (first report) (second report) [] → IfSome (first report) (λ _. report_old ≡ Some [])
+      → ClosesAs (second trace) (third trace) new → ClosesAs (third report) (end report) report_new
+      → Appends old new told → Appends report_old report_new report_told
+      → HoldsNow (start trace) (end trace) told × HoldsReport start end (Some report) report_told
+  both_hold told report_told old new report_old report_new empty fresh report_empty report_fresh closed report_ends whole report_whole = (
+    holds_text (start trace) (first trace) (end trace) old new told empty fresh whole (first_closes new closed),
+    holds_text (start report) (second report) (end report) report_old report_new report_told (second_empty report_empty)
+        (second_fresh report_old report_fresh) report_whole (second_closes report_new report_ends),
+  )
+
   -- what they hold of two texts that were not written whole
   pub both_begin : (told report_told : List ℕ) (old new report_old report_new : Option (List ℕ))
       → HoldsNow (start trace) (first trace) [] → IfSome (start trace) (λ _. old ≡ Some [])
