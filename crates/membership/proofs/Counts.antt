@@ -1,5 +1,5 @@
 -- How many of a tree's entries are not confirmed.
-use Rattle.std.proofs.Common.{◌≡◌, ℕ, ◌+◌, ◌<◌, ◌≤◌, ◌^◌, Option, Some, None, length, List, [], ◌∷◌, not, map, refl, sym, ap, ◌∙◌, arith}
+use Rattle.std.proofs.Common.{◌≡◌, ℕ, ◌+◌, ◌<◌, ◌≤◌, ◌^◌, Option, Some, None, length, List, [], ◌∷◌, not, refl, sym, ap, ◌∙◌, arith}
 use Rattle.std.specs.Prelude.{count_by}
 use Rattle.std.specs.Option.{option_map_or, option_map, unwrap_or}
 use Rattle.std.specs.Map.{keys_of, values_of, lookup, remove_entry}
