@@ -1,18 +1,16 @@
 -- What each step keeps of the events that pend, and gives its rows, a whole run keeps and gives.
-use Rattle.std.proofs.Common.{◌≡◌, ℕ, Bool, true, false, cond, List, [], ◌∷◌, ◌++◌, Option, Some, None, ap, ◌∙◌, sym, subst, refl}
-use Rattle.std.specs.Option.{unwrap_or, is_some, option_map}
+use Rattle.std.proofs.Common.{◌≡◌, ℕ, Bool, true, false, cond, List, [], ◌∷◌, Option, Some, None, ap, ◌∙◌, sym, subst, refl}
+use Rattle.std.proofs.lemmas.Option.{same_Some}
+use Rattle.std.specs.Option.{is_some, option_map}
 use Rattle.std.specs.List.{AllByRecursion}
 use Rattle.std.specs.Ordering.{eq_by_cmp}
 use Rattle.std.specs.FinMap.{FinMap, get, insert, remove, get-insert, get-remove}
 use Rattle.std.proofs.lemmas.Bool.{false≢true}
 use Rattle.base.specs.declared.key.Key.{Key}
 use Rattle.base.specs.Order.{key_cmp, key_total}
-use Rattle.base.specs.World.{Machine, World, with_events, settled, rows_of, outcome, NextStep, Run}
+use Rattle.base.specs.World.{Machine, World, with_events, settled, rows_of, NextStep, Run}
 use Rattle.base.specs.Run.{tells}
 use Rattle.base.proofs.Rising.{all_append}
-
-some_same : {A : Type 0} (a b : A) → Some a ≡ Some b → a ≡ b
-some_same a b e = ap (λ o. unwrap_or o a) e
 
 module _ {C : Type 0} (P : Key → C → Type 0) where
   -- the fact holds of each event
@@ -21,7 +19,7 @@ module _ {C : Type 0} (P : Key → C → Type 0) where
 
   of_inserted : (pending : FinMap key_cmp C) (k : Key) (c : C) (q : Key) (d : C) (b : Bool) → eq_by_cmp key_cmp q k ≡ b → P k c → HoldsOfAll pending
       → cond b (Some c) (get pending q) ≡ Some d → P q d
-  of_inserted pending k c q d true e made old here = subst (λ r. P r d) (sym (tells q k e)) (subst (P k) (some_same c d here) made)
+  of_inserted pending k c q d true e made old here = subst (λ r. P r d) (sym (tells q k e)) (subst (P k) (same_Some c d here) made)
   of_inserted pending k c q d false e made old here = old q d here
 
   pub all_with_events : (es : List (Key × C)) (pending : FinMap key_cmp C) → HoldsOfAll pending → AllByRecursion (λ e. P e.0 e.1) es → HoldsOfAll (with_events pending es)

@@ -1,17 +1,18 @@
 -- The keys that a run handles rise, its rows are in the order of their places, and no event made takes another's place.
 use Rattle.std.proofs.Common.{◌≡◌, ◌≢◌, ℕ, zero, suc, ◌+◌, ◌<◌, ◌≤◌, Bool, true, false, cond, List, [], ◌∷◌, ◌++◌, map, length, Option, Some, None, ap, ◌∙◌, sym, subst, refl, inl, inr, arith}
-use Rattle.std.specs.Option.{unwrap_or, is_some, option_map}
+use Rattle.std.proofs.lemmas.Option.{same_Some}
+use Rattle.std.specs.Option.{is_some, option_map}
 use Rattle.std.specs.List.{AllByRecursion, range_with_len}
 use Rattle.std.specs.Ordering.{nat_cmp, eq_by_cmp, ordering_reverse}
 use Rattle.std.specs.Cmp.{nat_cmp_total, unsigned_tied}
-use Rattle.std.specs.FinMap.{FinMap, get, contains_key, insert, remove, get-insert}
+use Rattle.std.specs.FinMap.{get, contains_key, remove, get-insert}
 use Rattle.std.proofs.lemmas.List.{map-append}
-use Rattle.std.proofs.lemmas.Bool.{false≢true, eqb-true, eq-eqb}
+use Rattle.std.proofs.lemmas.Bool.{eqb-true, eq-eqb}
 use Rattle.std.specs.declared.cmp.Ordering.{Ordering}
 use Rattle.std.specs.declared.cmp.Ordering.TheVariants.{Less, Equal, Greater}
 use Rattle.base.specs.declared.key.Key.{Key}
-use Rattle.base.specs.Order.{key_cmp, IsBefore, key_total, key_exact, before-from_moments, same_key}
-use Rattle.base.specs.World.{Machine, World, IsPending, with_events, settled, rows_of, events_of, outcome, NextStep, Run}
+use Rattle.base.specs.Order.{key_cmp, IsBefore, key_total, key_exact, before-from_moments}
+use Rattle.base.specs.World.{Machine, World, IsPending, settled, rows_of, events_of, outcome, NextStep, Run}
 use Rattle.base.specs.Run.{MakesLater, holds-settled, holds-with_events, contains-remove}
 use Rattle.base.specs.Rising.{IsRising, IsPlaceBefore, CountsRows, UsesNumbers, IsNumbered, AreNew}
 
@@ -114,9 +115,6 @@ module _ {S C R : Type 0} (step : Machine S C R) (later : MakesLater step) (end 
 tied_numbers : (a b : ℕ) → eq_by_cmp nat_cmp a b ≡ true → a ≡ b
 tied_numbers a b e = eqb-true a b (sym (unsigned_tied a b) ∙ e)
 
-same_state : {S : Type 0} (a b : S) → Some a ≡ Some b → a ≡ b
-same_state a b e = ap (λ o. unwrap_or o a) e
-
 module _ {S C R : Type 0} (next : S → ℕ) (step : Machine S C R) (numbers : UsesNumbers next step) where
   -- what a pending key's sender says of its number
   abbrev Numbered : World S C → Key → Type 0
@@ -128,7 +126,7 @@ module _ {S C R : Type 0} (next : S → ℕ) (step : Machine S C R) (numbers : U
 
     kept : (q : Key) (b : Bool) → eq_by_cmp nat_cmp q.from k.to ≡ b → Numbered w q → (t : S) × (cond b (Some (step k c s).state) (get w.members q.from) ≡ Some t) × (q.number < next t)
     kept q true e is =
-        let same : is.0 ≡ s = same_state is.0 s (sym is.1 ∙ ap (get w.members) (tied_numbers q.from k.to e) ∙ receiver) in
+        let same : is.0 ≡ s = same_Some is.0 s (sym is.1 ∙ ap (get w.members) (tied_numbers q.from k.to e) ∙ receiver) in
         let h : q.number < next s = subst (λ t. q.number < next t) same is.2 in
         let grows = numbers.grows k c s in
         ((step k c s).state, refl, omega arith)
@@ -154,7 +152,7 @@ module _ {S C R : Type 0} (next : S → ℕ) (step : Machine S C R) (numbers : U
     unused : (q : Key) → IsNumbered next w → q.from ≡ k.to → next s ≤ q.number → (b : Bool) → contains_key (remove w.pending k) q ≡ b → b ≡ false
     unused q all from h true here =
         let is = all q (contains-remove w.pending k q here).0 in
-        let same : is.0 ≡ s = same_state is.0 s (sym is.1 ∙ ap (get w.members) from ∙ receiver) in
+        let same : is.0 ≡ s = same_Some is.0 s (sym is.1 ∙ ap (get w.members) from ∙ receiver) in
         let low : q.number < next s = subst (λ t. q.number < next t) same is.2 in
         absurd (omega arith)
     unused q all from h false here = refl

@@ -1,14 +1,14 @@
 -- A `BTreeMap` as a finite map, where only equal keys tie.
-use Rattle.std.proofs.Common.{◌≡◌, Bool, true, false, cond, List, [], ◌∷◌, Option, Some, None, ap, ◌∙◌, sym, subst, refl}
+use Rattle.std.proofs.Common.{◌≡◌, true, false, cond, List, [], ◌∷◌, Option, Some, None, ap, ◌∙◌, sym, refl}
 use Rattle.std.specs.Option.{is_some, IsSome}
-use Rattle.std.specs.Ordering.{eq_by_cmp, is_eq, is_gt, ordering_reverse}
+use Rattle.std.specs.Ordering.{eq_by_cmp, is_gt, ordering_reverse}
 use Rattle.std.specs.Cmp.{IsTotalOrder, eq_by_cmp_equiv}
-use Rattle.std.specs.FinMap.{FinMap, IsAntisymmetric, from_entries, get, contains_key, insert, remove, find, get-from_entries, get-insert, get-remove, same_map}
+use Rattle.std.specs.FinMap.{IsAntisymmetric, from_entries, get, contains_key, insert, remove, find, get-from_entries, get-insert, get-remove, same_map}
 use Rattle.std.specs.Map.{lookup}
 use Rattle.std.specs.BTreeMap.{is_at}
 use Rattle.std.proofs.lemmas.Bool.{false≢true}
 use Rattle.std.specs.declared.cmp.Ordering.{Ordering}
-use Rattle.std.specs.declared.cmp.Ordering.TheVariants.{Less, Greater}
+use Rattle.std.specs.declared.cmp.Ordering.TheVariants.{Less}
 
 -- what a scan of the entries finds
 abbrev pub found : {K X : Type 0} → (K → K → Ordering) → List (K × X) → K → Option X

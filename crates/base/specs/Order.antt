@@ -1,6 +1,6 @@
 -- The order in which events are handled.
-use Rattle.std.proofs.Common.{◌≡◌, ℕ, ◌<◌, ◌≤◌, ap, ◌∙◌, sym, subst, refl, arith}
-use Rattle.std.specs.Ordering.{nat_cmp, ordering_then, on, then_cmp, MatchOrdering, ordering_reverse}
+use Rattle.std.proofs.Common.{◌≡◌, ℕ, ◌<◌, ◌≤◌, ap, ◌∙◌, sym, refl, arith}
+use Rattle.std.specs.Ordering.{nat_cmp, ordering_then, MatchOrdering, ordering_reverse}
 use Rattle.std.specs.Cmp.{IsTotalOrder, nat_cmp_total, on_total, then_total, ranks, nat_cmp_is}
 use Rattle.std.specs.FinMap.{IsAntisymmetric}
 use Rattle.std.proofs.lemmas.Map.Lookups.{exact_pairs, exact_unsigned}

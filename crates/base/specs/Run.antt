@@ -2,15 +2,15 @@
 use Rattle.std.proofs.Common.{◌≡◌, ℕ, zero, suc, ◌+◌, ◌-◌, ◌<◌, ◌≤◌, Bool, true, false, ◌&&◌, cond, eqb, ltb, List, [], ◌∷◌, ◌++◌, Option, Some, None, length, append_assoc, append-nil, ap, ◌∙◌, sym, subst, refl, arith, T}
 use Rattle.std.specs.Option.{unwrap_or, is_some, option_map}
 use Rattle.std.specs.List.{AllByRecursion}
-use Rattle.std.specs.Ordering.{nat_cmp, eq_by_cmp, is_eq, is_lt}
-use Rattle.std.specs.Cmp.{tied_itself, tied_back}
-use Rattle.std.specs.FinMap.{FinMap, get, contains_key, insert, remove, retain_keys, entries, len, empty_of_len, get-entries, get-insert, get-remove, get-retain_keys, len-remove, len-entries, same_map, entries_sorted, find, is_sorted}
-use Rattle.std.proofs.lemmas.Bool.{false≢true, eqb-true, ltb-true, ltb-false, lt-ltb, eq-eqb}
+use Rattle.std.specs.Ordering.{eq_by_cmp, is_eq, is_lt}
+use Rattle.std.specs.Cmp.{tied_itself}
+use Rattle.std.specs.FinMap.{FinMap, get, contains_key, insert, remove, retain_keys, entries, len, get-entries, get-insert, get-remove, get-retain_keys, len-remove, len-entries, same_map, entries_sorted, find, is_sorted}
+use Rattle.std.proofs.lemmas.Bool.{false≢true, eqb-true, ltb-true, ltb-false, eq-eqb}
 use Rattle.std.specs.declared.cmp.Ordering.{Ordering}
 use Rattle.std.specs.declared.cmp.Ordering.TheVariants.{Less, Equal, Greater}
 use Rattle.base.specs.declared.key.Key.{Key}
-use Rattle.base.specs.Order.{key_cmp, IsBefore, key_total, key_exact, before-from_moments, moments-from_before, moments-from_not_before, same_key}
-use Rattle.base.specs.World.{Outcome, Machine, World, IsPending, with_events, settled, rows_of, outcome, NextStep, Run, IsOver, SequentialRun}
+use Rattle.base.specs.Order.{key_cmp, IsBefore, key_total, key_exact, moments-from_not_before, same_key}
+use Rattle.base.specs.World.{Machine, World, IsPending, with_events, settled, rows_of, outcome, NextStep, Run, IsOver, SequentialRun}
 
 -- what the run asks of a machine: each event that it makes comes later than the one handled
 abbrev pub MakesLater : {S C R : Type 0} → Machine S C R → Type 0

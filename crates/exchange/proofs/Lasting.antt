@@ -1,6 +1,7 @@
 -- A run in which no counter passes its limit.
 use Rattle.std.proofs.Common.{◌≡◌, ℕ, ◌<◌, ◌⊎◌, List, [], ◌∷◌, Option, Some, None, inl, inr, ap, ◌∙◌, sym, subst, arith}
-use Rattle.std.specs.Option.{option_map, unwrap_or, is_some}
+use Rattle.std.specs.Option.{option_map, is_some}
+use Rattle.std.proofs.lemmas.Option.{same_Some}
 use Rattle.std.specs.List.{slice_get}
 use Rattle.std.specs.FinMap.{get}
 use Rattle.std.proofs.lemmas.Bool.{false≢true}
@@ -17,6 +18,7 @@ use Rattle.member.specs.Opening.{opening}
 use Rattle.member.specs.View.{state_of}
 use Rattle.member.specs.Worn.{IsWorn}
 use Rattle.member.proofs.Worn.{not_worn}
+use Rattle.member_laws.specs.Runs.{LeadsTo}
 use Rattle.exchange.specs.Runs.{WearsOut}
 use Rattle.exchange.specs.Advance.{Advances}
 use Rattle.exchange.specs.View.{members_of}
@@ -28,19 +30,16 @@ IsUnworn w = (m : ℕ) (t : State) → get w.members m ≡ Some t → ¬ (IsWorn
 
 read_unworn : (t : State) (read : Option Member) → option_map state_of read ≡ Some t → ¬ (IsWorn t)
 read_unworn t None is = absurd (false≢true (ap is_some is))
-read_unworn t (Some x) is = subst (λ u. ¬ (IsWorn u)) (ap (λ o. unwrap_or o t) is) (not_worn x)
+read_unworn t (Some x) is = subst (λ u. ¬ (IsWorn u)) (same_Some (state_of x) t is) (not_worn x)
 
 -- so it is of members in memory
 pub members_unworn : (ms : List Member) (m : ℕ) (t : State) → get (members_of ms) m ≡ Some t → ¬ (IsWorn t)
 members_unworn ms m t here = read_unworn t (slice_get ms m) (sym (get-members_of ms m) ∙ here)
 
 module _ (s : Setup) where
-  abbrev pub Reaches : World State Content → World State Content → Type 0
-  Reaches w v = (keys : List Key) × (rows : List Row) × Run (step s) s.end w keys rows v
-
   -- each world of the run is unworn, or is this one or comes after it
   abbrev pub LastsTo : World State Content → Type 0
-  LastsTo w = (keys : List Key) (rows : List Row) (v : World State Content) → Run (step s) s.end (opening s) keys rows v → IsUnworn v ⊎ Reaches w v
+  LastsTo w = (keys : List Key) (rows : List Row) (v : World State Content) → Run (step s) s.end (opening s) keys rows v → IsUnworn v ⊎ LeadsTo s w v
 
   -- where no event is left, no world comes after
   none_after : (w v : World State Content) (keys : List Key) (rows : List Row) → IsOver s.end w → Run (step s) s.end w keys rows v → v ≡ w
@@ -56,7 +55,7 @@ module _ (s : Setup) where
       ]
 
 module _ (s : Setup) (later : MakesLater (step s)) (w v : World State Content) (before after : List Row) (is : Advances s w v before after) where
-  after_step : IsUnworn w → (keys : List Key) (rows : List Row) (u : World State Content) → Run (step s) s.end w keys rows u → IsUnworn u ⊎ Reaches s v u
+  after_step : IsUnworn w → (keys : List Key) (rows : List Row) (u : World State Content) → Run (step s) s.end w keys rows u → IsUnworn u ⊎ LeadsTo s v u
   after_step unworn [] rows u run = inl (subst IsUnworn (sym run.0) unworn)
   after_step unworn (k ∷ keys) rows u run =
       let same = one_step (step s) later s.end w run.0 v k is.key run.1 is.made run.4 is.next in

@@ -1,6 +1,7 @@
 -- Whom the updates are about that messages take along.
 use Rattle.std.proofs.Common.{◌≡◌, ℕ, ◌==◌, Bool, true, false, cond, eqb, List, [], ◌∷◌, map, filter, find, take, filter_map, zero, suc, Option, Some, None, refl, sym, ap, subst, ◌∙◌}
-use Rattle.std.specs.Option.{is_some, unwrap_or, option_and_then, option_to_list}
+use Rattle.std.proofs.lemmas.Option.{same_Some}
+use Rattle.std.specs.Option.{is_some, option_and_then, option_to_list}
 use Rattle.std.specs.List.{AllByRecursion, cons_option}
 use Rattle.std.specs.Ordering.{nat_cmp, eq_by_cmp, is_eq}
 use Rattle.std.specs.Cmp.{nat_cmp_total, tied_itself, unsigned_tied}
@@ -17,9 +18,6 @@ use Rattle.piggyback.proofs.Holding.{true_from_T}
 use Rattle.membership.specs.Table.{Known, update_by, updates_by}
 use Rattle.member.specs.Send.{whole_table}
 use Rattle.member_laws.proofs.Tables.{get_put, has_put}
-
-some_same : {A : Type 0} (a b : A) → Some a ≡ Some b → a ≡ b
-some_same a b e = ap (λ o. unwrap_or o a) e
 
 -- ---- lists
 
@@ -38,7 +36,7 @@ module _ {X : Type 0} (P : X → Type 0) where
       either false rest = rest
 
   found_either : (b : Bool) (x y : X) (rest : Option X) → P x → (rest ≡ Some y → P y) → cond b (Some x) rest ≡ Some y → P y
-  found_either true x y rest own later is = subst P (some_same x y is) own
+  found_either true x y rest own later is = subst P (same_Some x y is) own
   found_either false x y rest own later is = later is
 
   found : (p : X → Bool) (xs : List X) (y : X) → AllByRecursion P xs → find p xs ≡ Some y → P y

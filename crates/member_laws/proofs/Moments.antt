@@ -1,6 +1,7 @@
 -- No moment of a run reaches 2^42.
 use Rattle.std.proofs.Common.{◌≡◌, ℕ, ◌+◌, ◌*◌, ◌/◌, ◌<◌, ◌≤◌, ◌^◌, Bool, true, false, cond, List, [], ◌∷◌, flat_map, Option, Some, None, All, sym, ap, subst, ◌∙◌, arith}
-use Rattle.std.specs.Option.{is_some, unwrap_or, IfSome}
+use Rattle.std.proofs.lemmas.Option.{same_Some}
+use Rattle.std.specs.Option.{is_some, IfSome}
 use Rattle.std.specs.List.{AllByRecursion}
 use Rattle.std.specs.Ordering.{nat_cmp}
 use Rattle.std.specs.FinMap.{get, insert, remove, empty, get-empty}
@@ -48,9 +49,6 @@ use Rattle.member_laws.proofs.Runs.{IsKept, run_kept, opened}
 abbrev Soon : ℕ → Type 0
 Soon at = at < 2 ^ 42
 
-some_same : {A : Type 0} (a b : A) → Some a ≡ Some b → a ≡ b
-some_same a b e = ap (λ o. unwrap_or o a) e
-
 -- ---- times
 
 -- no suspicion lasts longer
@@ -66,7 +64,7 @@ ceiling-le false ceiling h = omega arith
 
 arrives_soon : (lost : Bool) (rest last : Words) (coming at : ℕ) → Soon coming → (cond {A = Option ℕ × Words} lost (None, rest) (Some coming, last)).0 ≡ Some at → Soon at
 arrives_soon true rest last coming at h is = absurd (false≢true (ap is_some is))
-arrives_soon false rest last coming at h is = subst Soon (some_same coming at is) h
+arrives_soon false rest last coming at h is = subst Soon (same_Some coming at is) h
 
 -- ---- a step, up to the end
 

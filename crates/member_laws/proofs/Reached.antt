@@ -3,7 +3,8 @@ use Rattle.membership.proofs.Few.{entries_below, few_entries}
 use Rattle.member.proofs.Helpers.{helpers_below}
 use Rattle.member_laws.proofs.Walk.{NamesOnly}
 use Rattle.std.proofs.Common.{◌≡◌, ℕ, zero, suc, ◌+◌, ◌<◌, ◌≤◌, Bool, true, false, cond, eqb, List, [], ◌∷◌, map, flat_map, Option, Some, None, All, option_map, refl, sym, ap, subst, ◌∙◌, arith, ◌-◌, ◌^◌, length, filter, not, nat_eq, ◌&&◌}
-use Rattle.std.specs.Option.{is_some, unwrap_or, IfSome}
+use Rattle.std.proofs.lemmas.Option.{same_Some}
+use Rattle.std.specs.Option.{is_some, IfSome}
 use Rattle.std.specs.List.{AllByRecursion, range_with_len}
 use Rattle.std.specs.Ordering.{nat_cmp}
 use Rattle.std.specs.FinMap.{get, empty, from_entries, get-empty, entries}
@@ -50,9 +51,6 @@ Below s q = q < member_count s
 abbrev told_by : ℕ → ℕ → ℕ → Update
 told_by to inc first = record { subject = to; claim = Suspect; inc = inc; accuser = first }
 
-some_same : {A : Type 0} (a b : A) → Some a ≡ Some b → a ≡ b
-some_same a b e = ap (λ o. unwrap_or o a) e
-
 told_subject : (s : Setup) (t : State) (to : ℕ) (held : Option (Claim × ℕ)) (u : Update) → get t.table to ≡ held → ((h : Claim × ℕ) → get t.table to ≡ Some h → to < member_count s)
     → suspicion_told t to held ≡ Some u → u.subject < member_count s
 told_subject s t to None u here known is = absurd (false≢true (ap is_some is))
@@ -60,7 +58,7 @@ told_subject s t to (Some held) u here known is = suspect_either (is_suspect hel
   where
     first_either : (first : Option ℕ) → option_map (λ (f : ℕ). told_by to held.1 f) first ≡ Some u → u.subject < member_count s
     first_either None is = absurd (false≢true (ap is_some is))
-    first_either (Some f) is = subst (λ (v : Update). v.subject < member_count s) (some_same (told_by to held.1 f) u is) (known held here)
+    first_either (Some f) is = subst (λ (v : Update). v.subject < member_count s) (same_Some (told_by to held.1 f) u is) (known held here)
 
     suspect_either : (b : Bool) → cond b (option_map (λ (f : ℕ). told_by to held.1 f) (first_accuser_of t.suspicions to)) None ≡ Some u → u.subject < member_count s
     suspect_either true is = first_either (first_accuser_of t.suspicions to) is
@@ -85,7 +83,7 @@ module _ (s : Setup) (sound : IsSound s) (k : Key) (here : k.to < member_count s
   contact_low zero e c is = absurd (false≢true (ap is_some (sym ((sound.contacts k.to here).none e) ∙ is)))
   contact_low (suc start) e c is =
       let contact = (sound.contacts k.to here).some (omega arith) in
-      subst (Below s) (some_same contact.0 c (sym contact.1 ∙ is)) contact.2
+      subst (Below s) (same_Some contact.0 c (sym contact.1 ∙ is)) contact.2
 
   entries_low : (t : State) → Keeps s k.to t → AllByRecursion (λ (e : ℕ × (Claim × ℕ)). e.0 < member_count s) (entries t.table)
   entries_low t r = entries_below (member_count s) t.table (λ q at. (r.others.others q at).0)

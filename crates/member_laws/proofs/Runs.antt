@@ -1,6 +1,7 @@
 -- What each step keeps of a member's state and of the events that pend, a run keeps.
 use Rattle.std.proofs.Common.{◌≡◌, ℕ, ◌≤◌, Bool, true, false, cond, eqb, List, [], ◌∷◌, map, Option, Some, None, refl, sym, ap, subst, ◌∙◌, arith}
-use Rattle.std.specs.Option.{is_some, option_map, unwrap_or}
+use Rattle.std.proofs.lemmas.Option.{same_Some}
+use Rattle.std.specs.Option.{is_some, option_map}
 use Rattle.std.specs.List.{AllByRecursion}
 use Rattle.std.specs.Ordering.{nat_cmp, eq_by_cmp}
 use Rattle.std.specs.FinMap.{FinMap, get, remove, from_entries, get-remove, get-empty}
@@ -23,9 +24,6 @@ use Rattle.member_laws.proofs.Numbers.{never_falls}
 use Rattle.member_laws.proofs.Confirms.{stays_confirmed}
 use Rattle.member_laws.proofs.Healths.{waits_step}
 
-some_same : {A : Type 0} (a b : A) → Some a ≡ Some b → a ≡ b
-some_same a b e = ap (λ o. unwrap_or o a) e
-
 -- ---- any machine
 
 left_either : {C : Type 0} (E : Key → C → Type 0) (pending : FinMap key_cmp C) (q : Key) (d : C) (b : Bool) → HoldsOfAll E pending → cond b None (get pending q) ≡ Some d → E q d
@@ -44,7 +42,7 @@ module _ {S C R : Type 0} (step : Machine S C R) (P : ℕ → S → Type 0) (E :
 
   one_of : (members : FinMap nat_cmp S) (m n : ℕ) (new t : S) (b : Bool) → eqb n m ≡ b → P m new → ((t : S) → get members n ≡ Some t → P n t)
       → cond b (Some new) (get members n) ≡ Some t → P n t
-  one_of members m n new t true e own old here = subst (λ r. P r t) (sym (eqb-true n m e)) (subst (P m) (some_same new t here) own)
+  one_of members m n new t true e own old here = subst (λ r. P r t) (sym (eqb-true n m e)) (subst (P m) (same_Some new t here) own)
   one_of members m n new t false e own old here = old t here
 
   after : (w : World S C) (k : Key) (c : C) (held : Option S) → get w.members k.to ≡ held → k.at ≤ end → E k c → IsKept w → IsKept (settled w k (option_map (step k c) held))
@@ -82,7 +80,7 @@ module _ {S C R : Type 0} (step : Machine S C R) (P : ℕ → S → Type 0) (E :
 
 opened_cases : (s : Setup) (a m : ℕ) (t : State) (b : Bool) (rest : Option State) → eqb m a ≡ b → (rest ≡ Some t → t ≡ opening_state s m)
     → cond b (Some (opening_state s a)) rest ≡ Some t → t ≡ opening_state s m
-opened_cases s a m t true rest e later is = sym (some_same (opening_state s a) t is) ∙ ap (opening_state s) (sym (eqb-true m a e))
+opened_cases s a m t true rest e later is = sym (same_Some (opening_state s a) t is) ∙ ap (opening_state s) (sym (eqb-true m a e))
 opened_cases s a m t false rest e later is = later is
 
 pub opened : (s : Setup) (xs : List ℕ) (m : ℕ) (t : State) → get (from_entries {R = nat_cmp} (map (λ n. (n, opening_state s n)) xs)) m ≡ Some t → t ≡ opening_state s m
@@ -120,7 +118,7 @@ module _ (s : Setup) (w v : Cluster) (reached : IsReached s w) (leads : LeadsTo 
       (λ k c x _ _ h. ((waits_step s k c x h.0, λ y here. let least = h.1 y here in let more = never_falls s k c x h.0 in omega arith), all_any _))
       leads.0 w v leads.1 leads.2
       (record {
-        members = λ n x here. (waiting_opened s w reached n x here, λ y at. let same : x ≡ y = some_same x y (sym here ∙ at) in omega (arith, ap (λ (z : State). z.incarnation) same));
+        members = λ n x here. (waiting_opened s w reached n x here, λ y at. let same : x ≡ y = same_Some x y (sym here ∙ at) in omega (arith, ap (λ (z : State). z.incarnation) same));
         events = λ k c here. tt;
       })).members m u behind).1 t before
 
@@ -130,6 +128,6 @@ module _ (s : Setup) (w v : Cluster) (reached : IsReached s w) (leads : LeadsTo 
       (λ k c x _ _ h. ((waits_step s k c x h.0, λ y q i here at. stays_confirmed s k c x q i h.0 (h.1 y q i here at)), all_any _))
       leads.0 w v leads.1 leads.2
       (record {
-        members = λ n x here. (waiting_opened s w reached n x here, λ y q i there at. ap (λ (z : State). get z.table q) (some_same x y (sym here ∙ there)) ∙ at);
+        members = λ n x here. (waiting_opened s w reached n x here, λ y q i there at. ap (λ (z : State). get z.table q) (same_Some x y (sym here ∙ there)) ∙ at);
         events = λ k c here. tt;
       })).members m u behind).1 t q i before

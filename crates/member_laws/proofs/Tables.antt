@@ -1,6 +1,7 @@
 -- The table beside the suspicions and the rota.
 use Rattle.std.proofs.Common.{◌≡◌, ◌≢◌, ℕ, zero, suc, ◌+◌, ◌<◌, ◌≤◌, ◌^◌, ◌==◌, Bool, true, false, cond, not, ◌&&◌, eqb, nat_eq, List, [], ◌∷◌, map, filter, length, Option, Some, None, refl, sym, ap, subst, ◌∙◌, arith}
-use Rattle.std.specs.Option.{is_some, option_map_or, option_and_then, unwrap_or}
+use Rattle.std.proofs.lemmas.Option.{same_Some}
+use Rattle.std.specs.Option.{is_some, option_map_or, option_and_then}
 use Rattle.std.specs.List.{AllByRecursion, range_with_len}
 use Rattle.std.specs.Ordering.{nat_cmp}
 use Rattle.std.specs.Cmp.{nat_cmp_total, unsigned_tied}
@@ -24,9 +25,6 @@ use Rattle.suspicion.specs.Suspicions.{Suspicion, Held, counts, confirmed_by, co
 use Rattle.membership.specs.Table.{Known, is_suspect, all_alive}
 use Rattle.member.specs.Step.{first_others}
 use Rattle.member_laws.specs.Words.{holds, is_live}
-
-some_same : {A : Type 0} (a b : A) → Some a ≡ Some b → a ≡ b
-some_same a b e = ap (λ o. unwrap_or o a) e
 
 -- ---- look-ups
 
@@ -87,7 +85,7 @@ module _ (P : Suspicion → Type 0) where
   OfAll held = (q : ℕ) (x : Suspicion) → get held q ≡ Some x → P x
 
   put_either : (b : Bool) (v x : Suspicion) (old : Option Suspicion) → P v → (old ≡ Some x → P x) → cond b (Some v) old ≡ Some x → P x
-  put_either true v x old own later is = subst P (some_same v x is) own
+  put_either true v x old own later is = subst P (same_Some v x is) own
   put_either false v x old own later is = later is
 
   left_either : (b : Bool) (x : Suspicion) (old : Option Suspicion) → (old ≡ Some x → P x) → cond b None old ≡ Some x → P x

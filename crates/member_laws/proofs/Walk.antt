@@ -1,6 +1,7 @@
 -- Every step is made of the changes.
-use Rattle.std.specs.Option.{is_some, unwrap_or}
+use Rattle.std.specs.Option.{is_some}
 use Rattle.std.proofs.Common.{◌≡◌, ℕ, ◌+◌, Bool, true, false, cond, not, nat_eq, nat_lt, ◌&&◌, List, [], ◌∷◌, Option, Some, None, option_map, refl, ap, ◌∙◌, sym, subst}
+use Rattle.std.proofs.lemmas.Option.{same_Some}
 use Rattle.std.specs.List.{AllByRecursion}
 use Rattle.std.specs.FinMap.{get}
 use Rattle.std.specs.FinSet as set
@@ -62,9 +63,6 @@ NamesOnly Named (PingReq seq target updates) = Named target × AllNamed Named up
 NamesOnly Named (Ack initiator seq updates) = Named initiator × AllNamed Named updates
 NamesOnly Named _ = Unit {0}
 
-some_same : {A : Type 0} (a b : A) → Some a ≡ Some b → a ≡ b
-some_same a b e = ap (λ o. unwrap_or o a) e
-
 same_target : (P : ℕ → Type 0) (a b : Probe) → a.target ≡ b.target → P a.target → P b.target
 same_target P a b same h = subst P same h
 
@@ -75,15 +73,15 @@ target_either false x y same = refl
 nacked_target : (P : ℕ → Type 0) (seq : ℕ) (o : Option Probe) → ((p : Probe) → o ≡ Some p → P p.target) → (p : Probe) → nacked seq o ≡ Some p → P p.target
 nacked_target P seq None h p is = absurd (false≢true (ap is_some is))
 nacked_target P seq (Some x) h p is =
-    subst (λ (q : Probe). P q.target) (some_same _ p is) (subst P (sym (target_either (nat_eq x.seq seq) (with_nack x) x refl)) (h x refl))
+    subst (λ (q : Probe). P q.target) (same_Some _ p is) (subst P (sym (target_either (nat_eq x.seq seq) (with_nack x) x refl)) (h x refl))
 
 answered_target : (P : ℕ → Type 0) (seq : ℕ) (o : Option Probe) → ((p : Probe) → o ≡ Some p → P p.target) → (p : Probe) → answered seq o ≡ Some p → P p.target
 answered_target P seq None h p is = absurd (false≢true (ap is_some is))
 answered_target P seq (Some x) h p is =
-    subst (λ (q : Probe). P q.target) (some_same _ p is) (subst P (sym (target_either (nat_eq x.seq seq) (record x { acked = true }) x refl)) (h x refl))
+    subst (λ (q : Probe). P q.target) (same_Some _ p is) (subst P (sym (target_either (nat_eq x.seq seq) (record x { acked = true }) x refl)) (h x refl))
 
 pub one_target : (P : ℕ → Type 0) (x : Probe) → P x.target → (p : Probe) → Some x ≡ Some p → P p.target
-one_target P x h p is = subst (λ (q : Probe). P q.target) (some_same x p is) h
+one_target P x h p is = subst (λ (q : Probe). P q.target) (same_Some x p is) h
 
 no_target : (P : ℕ → Type 0) (p : Probe) → None ≡ Some p → P p.target
 no_target P p is = absurd (false≢true (ap is_some is))
