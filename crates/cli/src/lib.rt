@@ -21,3 +21,5 @@ pub use words::{Asked, RunWords, Split, parse};
 mod report_tests;
 #[cfg(test)]
 mod tests;
+#[cfg(test)]
+mod worked_tests;

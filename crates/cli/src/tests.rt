@@ -1,64 +1,10 @@
 use crate::testing::{Fails, MemoryFiles, MemoryWriter};
 use crate::{Failure, command, refuse};
 use base::Fault;
+use exchange::testing::TWO_MEMBERS;
 use scenario::DivisionFault;
 use std::process::Abort;
 use std::test::Fail;
-
-/// Two members that ping each other once.
-pub(crate) const TWO: &str = "version = 1
-seed = 7
-end = 3
-[swim]
-period = 1000
-timeout = 300
-spread = 1
-[link]
-delay = 1
-[[group]]
-name = \"n\"
-count = 2
-";
-
-/// The trace of that scenario.
-pub(crate) const TRACE: &str = "moment,member,from,number,what,about,value,lost
-0,n-0,n-0,0,start,,0,0
-0,n-1,n-1,0,start,,0,0
-1,n-0,n-0,1,ping,n-1,1,0
-1,n-1,n-1,1,ping,n-0,1,0
-2,n-0,n-1,2,ack,n-1,1,0
-2,n-1,n-0,2,ack,n-0,1,0
-";
-
-/// The report on that run.
-pub(crate) const REPORT: &str = "members 2
-end 3
-rows 6
-latency least - greatest -
-false suspect 0 healthy 0
-false confirm 0 healthy 0
-accuse 0
-refute 0
-fail 0
-health 0
-sent join 0 lost 0
-sent welcome 0 lost 0
-sent ping 2 lost 0
-sent ping-req 0 lost 0
-sent ack 2 lost 0
-sent nack 0 lost 0
-";
-
-/// The trace of two members up to moment 0.
-const STARTS: &str = "moment,member,from,number,what,about,value,lost
-0,n-0,n-0,0,start,,0,0
-0,n-1,n-1,0,start,,0,0
-";
-
-/// The trace of one member, which never has anybody to ping.
-const LONE_START: &str = "moment,member,from,number,what,about,value,lost
-0,n-0,n-0,0,start,,0,0
-";
 
 /// The words that run the scenario of two members.
 const RUN: [&str; 4] = ["run", "two.toml", "--trace", "t.csv"];
@@ -107,19 +53,24 @@ pub(crate) fn expect_refusal(rt: &impl Abort, left: &Left, status: u8, line: &st
 
 #[test]
 fn a_run_writes_its_trace(rt: HostRuntime) -> Result<(), Fail> {
-    let left = run_over(&rt, files_with(&rt, TWO)?);
+    let left = run_over(&rt, files_with(&rt, TWO_MEMBERS.scenario)?);
     assert_eq!(rt; left.err.bytes(), b"".as_slice());
     assert_eq!(rt; left.out.bytes(), b"rows 6\n".as_slice());
     assert_eq!(rt; left.status, 0);
-    assert_eq!(rt; left.files.bytes("t.csv"), Some(TRACE.as_bytes()));
+    assert_eq!(rt;
+        left.files.bytes("t.csv"),
+        Some(TWO_MEMBERS.trace.as_bytes())
+    );
     assert_eq!(rt; left.files.bytes("r.txt"), None);
     Ok(())
 }
 
 /// Files that hold a scenario of two members, one of three, and a text that breaks rule 2.
 fn three_files(rt: &HostRuntime) -> Result<MemoryFiles, Fail> {
-    let mut files = files_with(rt, TWO)?;
-    let three = TWO.replace(rt.alloc(), "count = 2", "count = 3")?;
+    let mut files = files_with(rt, TWO_MEMBERS.scenario)?;
+    let three = TWO_MEMBERS
+        .scenario
+        .replace(rt.alloc(), "count = 2", "count = 3")?;
     files.keep("three.toml", three.as_bytes())?;
     files.keep("bad.toml", b"version = 1")?;
     Ok(files)
@@ -367,9 +318,11 @@ fn each_outcome_has_its_status_and_line(rt: HostRuntime) -> Result<(), Fail> {
         assert_eq!(rt; left.err.bytes(), err.as_bytes(), "{line}");
         assert_eq!(rt; left.out.bytes(), out.as_bytes(), "{line}");
         assert_eq!(rt; left.status, *status, "{line}");
-        let trace = (*out == "rows 6\n").then_some(TRACE.as_bytes());
+        let trace = (*out == "rows 6\n").then_some(TWO_MEMBERS.trace.as_bytes());
         assert_eq!(rt; left.files.bytes("t.csv"), trace, "{line}");
-        let report = (*status == 0 && line.contains("--report")).then_some(REPORT.as_bytes());
+        let report = (*status == 0 && line.contains("--report")).then_some(
+            TWO_MEMBERS.report.as_bytes(),
+        );
         assert_eq!(rt; left.files.bytes("r"), report, "{line}");
     }
     Ok(())
@@ -434,42 +387,36 @@ fn the_first_check_that_fails_is_told(rt: HostRuntime) -> Result<(), Fail> {
 }
 
 #[test]
-fn runs_without_messages_write_their_starts(rt: HostRuntime) -> Result<(), Fail> {
-    for (end, count, line, trace) in [
-        ("end = 0", "count = 2", "rows 2\n", STARTS),
-        ("end = 5000", "count = 1", "rows 1\n", LONE_START),
-    ] {
-        let slow = TWO.replace(rt.alloc(), "delay = 1", "delay = 10")?;
-        let ended = slow.replace(rt.alloc(), "end = 3", end)?;
-        let text = ended.replace(rt.alloc(), "count = 2", count)?;
-        let left = run_over(&rt, files_with(&rt, text.as_str())?);
-        assert_eq!(rt; left.out.bytes(), line.as_bytes());
-        assert_eq!(rt; left.status, 0);
-        assert_eq!(rt; left.files.bytes("t.csv"), Some(trace.as_bytes()));
-    }
-    Ok(())
-}
-
-#[test]
 fn words_come_in_other_orders_too(rt: HostRuntime) -> Result<(), Fail> {
     let joined = ["run", "--trace=t.csv", "two.toml"];
     let ahead = ["run", "--trace", "t.csv", "two.toml"];
     let parted = ["run", "--trace", "t.csv", "--", "two.toml"];
     for words in [joined.as_slice(), ahead.as_slice(), parted.as_slice()] {
-        let left = left_by(&rt, words, files_with(&rt, TWO)?, Fails::Never);
+        let left = left_by(
+            &rt,
+            words,
+            files_with(&rt, TWO_MEMBERS.scenario)?,
+            Fails::Never,
+        );
         assert_eq!(rt; left.status, 0);
-        assert_eq!(rt; left.files.bytes("t.csv"), Some(TRACE.as_bytes()));
+        assert_eq!(rt;
+            left.files.bytes("t.csv"),
+            Some(TWO_MEMBERS.trace.as_bytes())
+        );
     }
     Ok(())
 }
 
 #[test]
 fn a_file_that_is_there_is_replaced(rt: HostRuntime) -> Result<(), Fail> {
-    let mut files = files_with(&rt, TWO)?;
+    let mut files = files_with(&rt, TWO_MEMBERS.scenario)?;
     files.keep("t.csv", b"what was there is longer than nothing")?;
     let left = run_over(&rt, files);
     assert_eq!(rt; left.status, 0);
-    assert_eq!(rt; left.files.bytes("t.csv"), Some(TRACE.as_bytes()));
+    assert_eq!(rt;
+        left.files.bytes("t.csv"),
+        Some(TWO_MEMBERS.trace.as_bytes())
+    );
     Ok(())
 }
 
@@ -501,7 +448,12 @@ fn other_words_are_no_command(rt: HostRuntime) -> Result<(), Fail> {
         check_workers.as_slice(),
         version.as_slice(),
     ] {
-        let left = left_by(&rt, words, files_with(&rt, TWO)?, Fails::Never);
+        let left = left_by(
+            &rt,
+            words,
+            files_with(&rt, TWO_MEMBERS.scenario)?,
+            Fails::Never,
+        );
         expect_refusal(&rt, &left, 2, "swimsim: usage\n");
         assert_eq!(rt; left.files.bytes("t.csv"), None);
     }
@@ -525,7 +477,12 @@ fn help_is_printed(rt: HostRuntime) -> Result<(), Fail> {
         ),
         (of_check.as_slice(), "Usage: swimsim check <FILE>"),
     ] {
-        let left = left_by(&rt, words, files_with(&rt, TWO)?, Fails::Never);
+        let left = left_by(
+            &rt,
+            words,
+            files_with(&rt, TWO_MEMBERS.scenario)?,
+            Fails::Never,
+        );
         assert_eq!(rt; left.status, 0);
         assert_eq!(rt; left.err.bytes().len(), 0);
         let text = str::from_utf8(left.out.bytes()).ok().ok_or("no text")?;
@@ -553,7 +510,7 @@ fn scenarios_are_refused_by_their_rule(rt: HostRuntime) -> Result<(), Fail> {
             "swimsim: scenario rule 9\n",
         ),
     ] {
-        let text = TWO.replace(rt.alloc(), old, new)?;
+        let text = TWO_MEMBERS.scenario.replace(rt.alloc(), old, new)?;
         let left = run_over(&rt, files_with(&rt, text.as_str())?);
         expect_refusal(&rt, &left, 3, line);
         assert_eq!(rt; left.files.bytes("t.csv"), None);
@@ -564,7 +521,9 @@ fn scenarios_are_refused_by_their_rule(rt: HostRuntime) -> Result<(), Fail> {
 #[test]
 fn too_many_members_are_refused(rt: HostRuntime) -> Result<(), Fail> {
     let more = "count = 1024\n[[group]]\nname = \"m\"\ncount = 1\n";
-    let text = TWO.replace(rt.alloc(), "count = 2\n", more)?;
+    let text = TWO_MEMBERS
+        .scenario
+        .replace(rt.alloc(), "count = 2\n", more)?;
     let left = run_over(&rt, files_with(&rt, text.as_str())?);
     expect_refusal(&rt, &left, 3, "swimsim: scenario rule 10\n");
     Ok(())
@@ -573,11 +532,16 @@ fn too_many_members_are_refused(rt: HostRuntime) -> Result<(), Fail> {
 #[test]
 fn files_that_are_not_there_are_named(rt: HostRuntime) -> Result<(), Fail> {
     let absent = ["run", "my own.toml", "--trace", "t.csv"];
-    let left = left_by(&rt, absent.as_slice(), files_with(&rt, TWO)?, Fails::Never);
+    let left = left_by(
+        &rt,
+        absent.as_slice(),
+        files_with(&rt, TWO_MEMBERS.scenario)?,
+        Fails::Never,
+    );
     expect_refusal(&rt, &left, 1, "swimsim: file my own.toml\n");
     assert_eq!(rt; left.files.bytes("t.csv"), None);
 
-    let locked = files_with(&rt, TWO)?.refusing_to_make("t.csv");
+    let locked = files_with(&rt, TWO_MEMBERS.scenario)?.refusing_to_make("t.csv");
     let left = run_over(&rt, locked);
     expect_refusal(&rt, &left, 1, "swimsim: file t.csv\n");
     Ok(())
@@ -585,7 +549,7 @@ fn files_that_are_not_there_are_named(rt: HostRuntime) -> Result<(), Fail> {
 
 #[test]
 fn a_file_that_takes_40_bytes_holds_a_beginning(rt: HostRuntime) -> Result<(), Fail> {
-    let files = files_with(&rt, TWO)?.failing(Fails::After(40));
+    let files = files_with(&rt, TWO_MEMBERS.scenario)?.failing(Fails::After(40));
     let left = run_over(&rt, files);
     expect_refusal(&rt, &left, 5, "swimsim: run F3\n");
     assert_eq!(rt;
@@ -599,15 +563,17 @@ fn a_file_that_takes_40_bytes_holds_a_beginning(rt: HostRuntime) -> Result<(), F
 fn each_write_of_the_trace_may_fail(rt: HostRuntime) -> Result<(), Fail> {
     let mut failed = 0u64;
     for number in 1..=64 {
-        let files = files_with(&rt, TWO)?.failing(Fails::AtWrite(number));
+        let files = files_with(&rt, TWO_MEMBERS.scenario)?.failing(Fails::AtWrite(number));
         let left = run_over(&rt, files);
         let bytes = left.files.bytes("t.csv").ok_or("no trace")?;
         if left.status == 0 {
-            assert_eq!(rt; bytes, TRACE.as_bytes());
+            assert_eq!(rt; bytes, TWO_MEMBERS.trace.as_bytes());
             break;
         }
         expect_refusal(&rt, &left, 5, "swimsim: run F3\n");
-        assert!(rt; TRACE.as_bytes().starts_with(bytes) && bytes.len() < TRACE.len());
+        assert!(rt;
+            TWO_MEMBERS.trace.as_bytes().starts_with(bytes) && bytes.len() < TWO_MEMBERS.trace.len()
+        );
         failed = number;
     }
     // the header is a write, and there are rows
@@ -617,10 +583,13 @@ fn each_write_of_the_trace_may_fail(rt: HostRuntime) -> Result<(), Fail> {
 
 #[test]
 fn a_flush_of_the_trace_may_fail(rt: HostRuntime) -> Result<(), Fail> {
-    let files = files_with(&rt, TWO)?.failing(Fails::AtFlush);
+    let files = files_with(&rt, TWO_MEMBERS.scenario)?.failing(Fails::AtFlush);
     let left = run_over(&rt, files);
     expect_refusal(&rt, &left, 5, "swimsim: run F3\n");
-    assert_eq!(rt; left.files.bytes("t.csv"), Some(TRACE.as_bytes()));
+    assert_eq!(rt;
+        left.files.bytes("t.csv"),
+        Some(TWO_MEMBERS.trace.as_bytes())
+    );
     Ok(())
 }
 
@@ -629,7 +598,7 @@ fn standard_output_that_fails_ends_with_no_line(rt: HostRuntime) -> Result<(), F
     let help = ["--help"];
     for words in [RUN.as_slice(), help.as_slice()] {
         for fails in [Fails::AtWrite(1), Fails::After(3), Fails::AtFlush] {
-            let left = left_by(&rt, words, files_with(&rt, TWO)?, fails);
+            let left = left_by(&rt, words, files_with(&rt, TWO_MEMBERS.scenario)?, fails);
             assert_eq!(rt; left.status, 1);
             assert_eq!(rt; left.err.bytes().len(), 0);
         }
@@ -641,7 +610,12 @@ fn standard_output_that_fails_ends_with_no_line(rt: HostRuntime) -> Result<(), F
 fn a_check_that_is_not_told_fails(rt: HostRuntime) -> Result<(), Fail> {
     let words = ["check", "two.toml"];
     for fails in [Fails::AtWrite(1), Fails::After(3), Fails::AtFlush] {
-        let left = left_by(&rt, words.as_slice(), files_with(&rt, TWO)?, fails);
+        let left = left_by(
+            &rt,
+            words.as_slice(),
+            files_with(&rt, TWO_MEMBERS.scenario)?,
+            fails,
+        );
         assert_eq!(rt; left.status, 1);
         assert_eq!(rt; left.err.bytes().len(), 0);
     }
@@ -652,11 +626,14 @@ fn a_check_that_is_not_told_fails(rt: HostRuntime) -> Result<(), Fail> {
 /// done.
 #[test]
 fn want_of_memory_is_no_success(rt: HostRuntime) -> Result<(), Fail> {
-    let left = run_over(&rt, files_with(&rt, TWO)?);
+    let left = run_over(&rt, files_with(&rt, TWO_MEMBERS.scenario)?);
     match left.status {
         0 => {
             assert_eq!(rt; left.out.bytes(), b"rows 6\n".as_slice());
-            assert_eq!(rt; left.files.bytes("t.csv"), Some(TRACE.as_bytes()));
+            assert_eq!(rt;
+                left.files.bytes("t.csv"),
+                Some(TWO_MEMBERS.trace.as_bytes())
+            );
         }
         1 => assert!(rt; left.out.bytes().len() < 7, "the line is cut"),
         status => {

@@ -5,6 +5,7 @@ mod cluster;
 mod laws;
 mod run;
 mod setting;
+pub mod testing;
 #[cfg(test)]
 mod tests;
 #[cfg(test)]
@@ -13,8 +14,6 @@ mod tests_meeting;
 mod tests_reports;
 #[cfg(test)]
 mod tests_seeds;
-#[cfg(test)]
-mod tests_worked;
 
 pub use laws::{a_run_exists, events_are_new, keys_rise, rows_rise, the_run_is_one};
 pub use run::{Summary, run_one};

@@ -1,7 +1,7 @@
 //! Whole runs byte for byte, and every way in which a run is refused.
 
 use crate::run::{Summary, run_one};
-use crate::tests_worked::{JOIN, JOIN_TRACE, START_ONLY, WORKED};
+use crate::testing::{JOIN, START_ONLY, WORKED};
 use base::Fault;
 use scenario::{Scenario, read};
 use std::alloc::Global;
@@ -9,8 +9,8 @@ use std::process::Abort;
 use trace::Sink;
 use trace::testing::MemorySink;
 
-fn scenario_of(rt: &impl Abort, alloc: Global, text: &[u8]) -> Scenario {
-    match read(alloc, text) {
+fn scenario_of(rt: &impl Abort, alloc: Global, text: &str) -> Scenario {
+    match read(alloc, text.as_bytes()) {
         Ok(scenario) => scenario,
         Err(_) => panic!(rt; "the text is no scenario"),
     }
@@ -21,7 +21,7 @@ fn scenario_of(rt: &impl Abort, alloc: Global, text: &[u8]) -> Scenario {
 fn run_into(
     rt: &impl Abort,
     alloc: Global,
-    text: &[u8],
+    text: &str,
     sink: MemorySink,
 ) -> (Result<Summary, Fault>, MemorySink) {
     let scenario = scenario_of(rt, alloc, text);
@@ -38,10 +38,11 @@ fn run_into(
 
 #[test]
 fn each_worked_run_is_byte_for_byte(rt: HostRuntime) {
-    for (text, lines, rows) in WORKED {
-        let (outcome, sink) = run_into(&rt, rt.alloc(), text, MemorySink::new(rt.alloc()));
-        assert_eq!(rt; outcome, Ok(Summary { rows }));
-        assert_eq!(rt; sink.bytes(), lines);
+    for run in WORKED {
+        let sink = MemorySink::new(rt.alloc());
+        let (outcome, sink) = run_into(&rt, rt.alloc(), run.scenario, sink);
+        assert_eq!(rt; outcome, Ok(Summary { rows: run.rows }));
+        assert_eq!(rt; sink.bytes(), run.trace.as_bytes());
         assert_eq!(rt; sink.failures(), 0);
     }
 }
@@ -49,7 +50,7 @@ fn each_worked_run_is_byte_for_byte(rt: HostRuntime) {
 #[test]
 fn a_sink_of_40_bytes_has_the_beginning_of_the_header(rt: HostRuntime) {
     let sink = MemorySink::new(rt.alloc()).failing_after(40);
-    let (outcome, sink) = run_into(&rt, rt.alloc(), START_ONLY, sink);
+    let (outcome, sink) = run_into(&rt, rt.alloc(), START_ONLY.scenario, sink);
     assert_eq!(rt; outcome, Err(Fault::Write));
     assert_eq!(rt;
         sink.bytes(),
@@ -59,11 +60,11 @@ fn a_sink_of_40_bytes_has_the_beginning_of_the_header(rt: HostRuntime) {
 
 #[test]
 fn one_byte_a_put_gives_the_same_trace(rt: HostRuntime) {
-    for (text, lines, rows) in WORKED {
+    for run in WORKED {
         let sink = MemorySink::new(rt.alloc()).with_short_puts();
-        let (outcome, sink) = run_into(&rt, rt.alloc(), text, sink);
-        assert_eq!(rt; outcome, Ok(Summary { rows }));
-        assert_eq!(rt; sink.bytes(), lines);
+        let (outcome, sink) = run_into(&rt, rt.alloc(), run.scenario, sink);
+        assert_eq!(rt; outcome, Ok(Summary { rows: run.rows }));
+        assert_eq!(rt; sink.bytes(), run.trace.as_bytes());
     }
 }
 
@@ -73,10 +74,10 @@ fn each_put_that_fails_leaves_a_beginning(rt: HostRuntime) {
         let sink = MemorySink::new(rt.alloc())
             .with_short_puts()
             .failing_at_put(number);
-        let (outcome, sink) = run_into(&rt, rt.alloc(), JOIN, sink);
+        let (outcome, sink) = run_into(&rt, rt.alloc(), JOIN.scenario, sink);
         assert_eq!(rt; outcome, Err(Fault::Write));
         assert_eq!(rt; sink.puts(), number);
-        assert!(rt; JOIN_TRACE.starts_with(sink.bytes()));
+        assert!(rt; JOIN.trace.as_bytes().starts_with(sink.bytes()));
     }
 }
 
@@ -84,39 +85,39 @@ fn each_put_that_fails_leaves_a_beginning(rt: HostRuntime) {
 fn each_byte_that_has_no_room_leaves_the_bytes_before_it(rt: HostRuntime) {
     for bytes in 0..326 {
         let sink = MemorySink::new(rt.alloc()).failing_after(bytes);
-        let (outcome, sink) = run_into(&rt, rt.alloc(), JOIN, sink);
+        let (outcome, sink) = run_into(&rt, rt.alloc(), JOIN.scenario, sink);
         assert_eq!(rt; outcome, Err(Fault::Write));
         assert_eq!(rt; sink.bytes().len(), bytes);
-        assert!(rt; JOIN_TRACE.starts_with(sink.bytes()));
+        assert!(rt; JOIN.trace.as_bytes().starts_with(sink.bytes()));
     }
 }
 
 #[test]
 fn the_trace_is_flushed(rt: HostRuntime) {
     let sink = MemorySink::new(rt.alloc()).failing_at_flush();
-    let (outcome, sink) = run_into(&rt, rt.alloc(), JOIN, sink);
+    let (outcome, sink) = run_into(&rt, rt.alloc(), JOIN.scenario, sink);
     assert_eq!(rt; outcome, Err(Fault::Write));
-    assert_eq!(rt; sink.bytes(), JOIN_TRACE);
+    assert_eq!(rt; sink.bytes(), JOIN.trace.as_bytes());
 }
 
 /// Run with each allocation refused in turn: the text is refused by rule 11, or the run by want of
 /// memory or by the sink's, and the sink has a beginning of the trace.
 #[test]
 fn refused_memory_leaves_a_beginning(rt: HostRuntime) {
-    match read(rt.alloc(), JOIN) {
+    match read(rt.alloc(), JOIN.scenario.as_bytes()) {
         Err(refusal) => assert_eq!(rt; refusal.rule, 11),
         Ok(scenario) => {
             let mut trace = MemorySink::new(rt.alloc());
             let mut report = MemorySink::new(rt.alloc());
             let outcome = run_one(rt.alloc(), &scenario, &mut trace, &mut report);
-            assert!(rt; JOIN_TRACE.starts_with(trace.bytes()));
-            if trace.bytes() != JOIN_TRACE {
+            assert!(rt; JOIN.trace.as_bytes().starts_with(trace.bytes()));
+            if trace.bytes() != JOIN.trace.as_bytes() {
                 assert_eq!(rt; report.puts(), 0);
             }
             match outcome {
                 Ok(summary) => {
                     assert_eq!(rt; summary.rows, 11);
-                    assert_eq!(rt; trace.bytes(), JOIN_TRACE);
+                    assert_eq!(rt; trace.bytes(), JOIN.trace.as_bytes());
                 }
                 Err(fault) => assert!(rt; fault == Fault::Memory || fault == Fault::Write),
             }

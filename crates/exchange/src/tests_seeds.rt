@@ -1,7 +1,7 @@
 //! What holds of a run under every seed.
 
 use crate::run::{Summary, run_one, simulate};
-use crate::tests_worked::SLOW_MEMBER_TRACE;
+use crate::testing::{LOST_PATH, SLOW_MEMBER, THREE_HELPERS};
 use base::{MemberId, Moment};
 use scenario::{Scenario, read};
 use std::alloc::Global;
@@ -13,21 +13,9 @@ use trace::{Row, What};
 /// The other one of two members.
 const OTHER: [MemberId; 2] = [MemberId(1), MemberId(0)];
 
-/// The end and the group of a scenario of two members, for one period.
+/// A scenario of two members for one period, without its links.
 const ONE_PERIOD: &str =
-    "end = 1000\n[[group]]\nname = \"n\"\ncount = 2\n[swim]\nperiod = 1000\ntimeout = 300\n";
-
-/// Three members, and no message of the first one reaches the last one.
-const LOST_PATH: &str =
-    "end = 2000\n[swim]\nperiod = 1000\ntimeout = 300\nspread = 1\n[link]\ndelay = 10\n[[group]]\nname = \"a\"\ncount = 1\n[[group]]\nname = \"b\"\ncount = 1\n[[group]]\nname = \"m\"\ncount = 1\n[[path]]\nfrom = \"a\"\nto = \"m\"\nloss = 1000000\n";
-
-/// Three members whose pings time out before the acks come.
-const THREE_HELPERS: &str =
-    "end = 100\n[swim]\nperiod = 1000\ntimeout = 15\nspread = 1\n[link]\ndelay = 10\n[[group]]\nname = \"n\"\ncount = 3\n[lifeguard]\nprobe = false\n";
-
-/// A member that is slow for a while.
-const SLOW_MEMBER: &str =
-    "end = 2500\n[swim]\nperiod = 1000\ntimeout = 300\nspread = 1\n[link]\ndelay = 10\n[[group]]\nname = \"n\"\ncount = 2\n[[slow]]\nmember = \"n-1\"\nfrom = 500\nuntil = 2005\nextra = 1200\n";
+    "version = 1\nseed = 7\nend = 1000\n[[group]]\nname = \"n\"\ncount = 2\n[swim]\nperiod = 1000\ntimeout = 300\n";
 
 /// How many rows of a run by `LOST_PATH` tell of each, and how many of them of a lost message.
 const LOST_PATH_COUNTS: [(What, usize, usize); 9] = [
@@ -53,20 +41,22 @@ const THREE_HELPERS_COUNTS: [(u64, What, usize); 7] = [
     (46, What::Ack, 3),
 ];
 
-/// The scenario of that seed with these settings.
-fn seeded(rt: &impl Abort, alloc: Global, seed: u64, settings: &str, more: &str) -> Scenario {
-    let text = format!(in alloc; "version = 1\nseed = {seed}\n{settings}{more}").expect(
-        rt, "memory",
-    );
-    match read(alloc, text.as_bytes()) {
+/// The scenario with more lines behind its text, and with that seed.
+fn seeded(rt: &impl Abort, alloc: Global, seed: u64, text: &str, more: &str) -> Scenario {
+    let line = format!(in alloc; "seed = {seed}").expect(rt, "memory");
+    let whole = format!(in alloc; "{text}{more}").expect(rt, "memory");
+    let seeded = whole
+        .replace(alloc, "seed = 7", line.as_str())
+        .expect(rt, "memory");
+    match read(alloc, seeded.as_bytes()) {
         Ok(scenario) => scenario,
         Err(_) => panic!(rt; "the text is no scenario"),
     }
 }
 
 /// The rows of its run.
-fn rows_of(rt: &impl Abort, alloc: Global, seed: u64, settings: &str, more: &str) -> Vec<Row> {
-    let scenario = seeded(rt, alloc, seed, settings, more);
+fn rows_of(rt: &impl Abort, alloc: Global, seed: u64, text: &str, more: &str) -> Vec<Row> {
+    let scenario = seeded(rt, alloc, seed, text, more);
     match simulate(alloc, &scenario) {
         Ok(rows) => rows,
         Err(_) => panic!(rt; "the run was refused"),
@@ -168,8 +158,8 @@ fn lost_pings_are_told_and_have_no_ack(rt: HostRuntime) {
 #[test]
 fn a_helper_reaches_where_a_path_loses_all(rt: HostRuntime) {
     for seed in 0..64 {
-        let rows = rows_of(&rt, rt.alloc(), seed, LOST_PATH, "");
-        assert_eq!(rt; rows.len(), 22);
+        let rows = rows_of(&rt, rt.alloc(), seed, LOST_PATH.scenario, "");
+        assert_eq!(rt; rows.len() as u64, LOST_PATH.rows);
         for (what, count, lost) in LOST_PATH_COUNTS {
             assert_eq!(rt; count_of(&rows, what), count);
             assert_eq!(rt; lost_of(&rows, what), lost);
@@ -180,8 +170,8 @@ fn a_helper_reaches_where_a_path_loses_all(rt: HostRuntime) {
 #[test]
 fn all_others_help_where_acks_are_late(rt: HostRuntime) {
     for seed in 0..64 {
-        let rows = rows_of(&rt, rt.alloc(), seed, THREE_HELPERS, "");
-        assert_eq!(rt; rows.len(), 21);
+        let rows = rows_of(&rt, rt.alloc(), seed, THREE_HELPERS.scenario, "");
+        assert_eq!(rt; rows.len() as u64, THREE_HELPERS.rows);
         for (at, what, count) in THREE_HELPERS_COUNTS {
             assert_eq!(rt; count_at(&rows, Moment(at), what), count);
         }
@@ -192,11 +182,16 @@ fn all_others_help_where_acks_are_late(rt: HostRuntime) {
 #[test]
 fn a_run_without_draws_is_the_same_under_every_seed(rt: HostRuntime) {
     for seed in 0..64 {
-        let scenario = seeded(&rt, rt.alloc(), seed, SLOW_MEMBER, "");
+        let scenario = seeded(&rt, rt.alloc(), seed, SLOW_MEMBER.scenario, "");
         let mut trace = MemorySink::new(rt.alloc());
         let mut report = MemorySink::new(rt.alloc());
         let outcome = run_one(rt.alloc(), &scenario, &mut trace, &mut report);
-        assert_eq!(rt; outcome, Ok(Summary { rows: 25 }));
-        assert_eq!(rt; trace.bytes(), SLOW_MEMBER_TRACE);
+        assert_eq!(rt;
+            outcome,
+            Ok(Summary {
+                rows: SLOW_MEMBER.rows
+            })
+        );
+        assert_eq!(rt; trace.bytes(), SLOW_MEMBER.trace.as_bytes());
     }
 }
