@@ -4,11 +4,13 @@
 
 mod fault;
 mod key;
+mod keyed;
 pub mod limits;
 mod logarithm;
 mod order;
 
 pub use fault::{Fault, Memory, Worn};
 pub use key::{Key, MemberId, Moment};
+pub use keyed::Keyed;
 pub use logarithm::{digits, log_thousandths};
 pub use order::key_order;

@@ -1,0 +1,18 @@
+ghost use Rattle.std.specs.Prelude.{◌≡◌};
+ghost use Rattle.base.specs.declared.key.Key.{Key};
+
+use crate::key::Key;
+
+/// What has the key of an event.
+pub trait Keyed {
+    // what it is apart from its key, as contracts see it
+    ghost Content: { Type 0 };
+
+    ghost content: { Self → Content };
+
+    ghost key: { Self → Key };
+
+    /// The key of the event.
+    fn key(&self) -> Key
+        ensures { result ≡ key self.now };
+}
