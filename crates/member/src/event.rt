@@ -1,5 +1,7 @@
+ghost use Rattle.std.specs.Prelude.{◌≡◌};
+
 use crate::content::Content;
-use base::Key;
+use base::{Key, Keyed};
 use trace::Row;
 
 /// An event: its key, and what it asks of its receiver.
@@ -7,6 +9,20 @@ use trace::Row;
 pub struct Event {
     pub key: Key,
     pub content: Content,
+}
+
+impl Keyed for Event {
+    ghost use Rattle.member.specs.declared.content.Content.{Content};
+
+    ghost Content = { Content };
+
+    ghost content = { λ event. event.content };
+
+    ghost key = { λ event. event.key };
+
+    fn key(&self) -> Key {
+        self.key
+    }
 }
 
 /// What steps have made: events, and rows of the trace, each in the order made.
