@@ -5,11 +5,6 @@ use crate::key::Key;
 
 /// What has the key of an event.
 pub trait Keyed {
-    // what it is apart from its key, as contracts see it
-    ghost Content: { Type 0 };
-
-    ghost content: { Self → Content };
-
     ghost key: { Self → Key };
 
     /// The key of the event.

@@ -12,12 +12,6 @@ pub struct Event {
 }
 
 impl Keyed for Event {
-    ghost use Rattle.member.specs.declared.content.Content.{Content};
-
-    ghost Content = { Content };
-
-    ghost content = { λ event. event.content };
-
     ghost key = { λ event. event.key };
 
     fn key(&self) -> Key {
