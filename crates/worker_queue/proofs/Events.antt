@@ -1,5 +1,5 @@
 -- A tree of events as a set.
-use Rattle.std.proofs.Common.{◌≡◌, ℕ, ◌+◌, ◌≤◌, ◌<◌, Bool, true, false, cond, List, [], ◌∷◌, Option, Some, None, Ok, Err, Result, OnOk, OnErr, IfSome, IsTrue, nat_eq, length, ap, ◌∙◌, sym, subst, refl, arith}
+use Rattle.std.proofs.Common.{◌≡◌, ℕ, ◌+◌, ◌≤◌, ◌<◌, Bool, true, false, cond, List, [], ◌∷◌, Option, Some, None, Ok, Err, Result, OnOk, OnErr, IfSome, IsTrue, nat_eq, length, ap, ◌∙◌, sym, refl, arith}
 use Rattle.std.specs.Option.{is_some, IsSome, IfNone}
 use Rattle.std.specs.List.{AllByRecursion}
 use Rattle.std.specs.List.Sorted.{IsStrictlySortedBy}

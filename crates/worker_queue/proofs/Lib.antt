@@ -1,1 +1,2 @@
 mod Events
+mod Numbers

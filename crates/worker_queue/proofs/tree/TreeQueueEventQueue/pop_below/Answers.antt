@@ -1,4 +1,4 @@
-use Rattle.std.proofs.Common.{◌≡◌, ◌<◌, None, ap, ◌∙◌, sym, subst, arith}
+use Rattle.std.proofs.Common.{◌≡◌, ◌<◌, ap, ◌∙◌, sym, subst}
 use Rattle.std.specs.FinMap.{from_entries, remove}
 use Rattle.base.specs.declared.key.Key.{Key}
 use Rattle.base.specs.Order.{key_cmp, key_total, key_exact}
