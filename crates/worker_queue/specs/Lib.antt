@@ -1,2 +1,3 @@
 pub mod Queue
 pub mod Tree
+pub mod View

@@ -1,5 +1,5 @@
 ghost use Rattle.std.specs.Prelude.{◌≡◌};
-ghost use Rattle.std.specs.FinMap.{from_entries, empty};
+ghost use Rattle.std.specs.FinMap.{empty};
 ghost use Rattle.worker_queue.specs.Tree.{IsKeyed};
 
 use crate::queue::EventQueue;
@@ -15,9 +15,11 @@ pub struct TreeQueue<E: Keyed> {
 }
 
 impl<E: Keyed + Drop> TreeQueue<E> {
+    ghost use Rattle.worker_queue.specs.View.{set_of};
+
     /// A queue with no events. It takes no memory.
     pub fn new(alloc: Global) -> Self
-        ensures { ⟦<TreeQueue<E> as EventQueue<E>>⟧.set result ≡ empty }
+        ensures { set_of result ≡ empty }
     {
         TreeQueue {
             events: BTreeMap::new(alloc),
@@ -26,7 +28,9 @@ impl<E: Keyed + Drop> TreeQueue<E> {
 }
 
 impl<E: Keyed + Drop> EventQueue<E> for TreeQueue<E> {
-    ghost set = { λ queue. from_entries queue.events.entries };
+    ghost use Rattle.worker_queue.specs.View.{set_of};
+
+    ghost set = { set_of };
 
     fn push(&mut self, event: E) -> Result<(), E> {
         match self.events.insert(event.key(), event) {
