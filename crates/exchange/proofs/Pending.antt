@@ -1,66 +1,119 @@
--- A tree of events as the pending events of a world.
-use Rattle.std.proofs.Common.{◌≡◌, ℕ, ◌+◌, ◌<◌, Bool, true, false, cond, MatchBool, List, [], ◌∷◌, ◌++◌, length, get_or, take, Some, None, ap, ◌∙◌, sym, subst, refl, arith}
-use Rattle.std.specs.Option.{is_some, IsSome}
-use Rattle.std.specs.Ordering.{is_gt, is_le, nat_cmp, MatchOrdering}
-use Rattle.std.specs.Cmp.{ranks}
-use Rattle.std.specs.declared.cmp.Ordering.{Ordering}
-use Rattle.std.specs.declared.cmp.Ordering.TheVariants.{Less, Equal, Greater}
-use Rattle.std.specs.FinMap.{FinMap, insert, remove}
-use Rattle.std.specs.BTreeMap.{BTreeMap, is_at}
-use Rattle.std.proofs.lemmas.List.{take_more}
+-- A queue of events as the pending events of a world.
+use Rattle.std.proofs.Common.{◌≡◌, ◌≢◌, ℕ, ◌+◌, ◌<◌, ◌≤◌, Bool, true, false, cond, List, [], ◌∷◌, ◌++◌, Option, Some, None, IfSome, IfNone, map, ap, ◌∙◌, sym, refl, arith}
+use Rattle.std.specs.Option.{option_map, is_some}
+use Rattle.std.specs.List.{AllByRecursion}
+use Rattle.std.specs.Ordering.{eq_by_cmp}
+use Rattle.std.specs.FinMap.{FinMap, get, insert, remove, empty, entries, find, contains_key, get-entries, get-from_entries, get-insert, get-remove, get-empty, same_map}
 use Rattle.std.proofs.lemmas.Bool.{false≢true}
 use Rattle.base.specs.declared.key.Key.{Key}
-use Rattle.base.specs.Order.{key_cmp, key_total, key_exact, moments-from_not_before, same_key}
+use Rattle.base.specs.Order.{key_cmp, key_total, key_exact}
 use Rattle.base.specs.World.{with_events}
-use Rattle.base.specs.Run.{IsFirst}
-use Rattle.base.proofs.Trees.{found, get-entries, map-insert, map-remove, none_before}
+use Rattle.base.specs.Rising.{IsRising, AreNew}
+use Rattle.base.specs.Run.{IsFirst, holds-with_events}
+use Rattle.worker_queue.specs.Queue.{NoneIsBelow}
 use Rattle.member.specs.declared.content.Content.{Content}
-use Rattle.exchange.specs.View.{events_in, SomeIsDue, NoneIsDue}
+use Rattle.member.specs.declared.event.Event.{Event}
+use Rattle.exchange.specs.View.{contents_of, NoneIsDue}
 
-module _ (m : BTreeMap Key Content) where
-  pub first_of : (k : Key) (c : Content) → found key_cmp m.entries k ≡ Some c → ((q : Key) → IsSome (found key_cmp m.entries q) → is_gt (key_cmp k q) ≡ false) → IsFirst (events_in m) k c
-  first_of k c here least = record { here = get-entries key_total m.entries k ∙ here; least = none_before key_total m.entries k least }
+abbrev content_of : Event → Content
+content_of event = event.content
 
-  pub none_due : (k : Key) (c : Content) (end : ℕ) → IsFirst (events_in m) k c → end < k.at → NoneIsDue (events_in m) end
-  none_due k c end is past q here = let h = moments-from_not_before q k (is.least q here) in omega arith
+abbrev entry_of : Key × Event → Key × Content
+entry_of e = (e.0, e.1.content)
 
-  pub none_in_empty : (end : ℕ) → m.entries ≡ [] → NoneIsDue (events_in m) end
-  none_in_empty end empty q here = absurd (false≢true (sym (ap is_some (get-entries key_total m.entries q ∙ ap (λ es. found key_cmp es q) empty)) ∙ here))
+mapped : (b : Bool) (now before : Option Event) → option_map content_of (cond b now before) ≡ cond b (option_map content_of now) (option_map content_of before)
+mapped true now before = refl
+mapped false now before = refl
 
-  pub same_first : (k l : Key) (c d : Content) → IsFirst (events_in m) k c → IsFirst (events_in m) l d → k ≡ l
-  same_first k l c d a b = same_key k l (b.least k (ap is_some a.here)) (a.least l (ap is_some b.here))
+find-contents : (es : List (Key × Event)) (q : Key) → find key_cmp q (map entry_of es) ≡ option_map content_of (find key_cmp q es)
+find-contents [] q = refl
+find-contents (e ∷ es) q = ap (cond (eq_by_cmp key_cmp q e.0) (Some e.1.content)) (find-contents es q) ∙ sym (mapped (eq_by_cmp key_cmp q e.0) (Some e.1) (find key_cmp q es))
 
-  pub taken : (n : BTreeMap Key Content) (k : Key) → ((q : Key) → found key_cmp n.entries q ≡ cond (is_at (key_cmp k) q) None (found key_cmp m.entries q)) → events_in n ≡ remove (events_in m) k
-  taken n k h = map-remove key_total key_exact m.entries n.entries k h
+some_mapped : (o : Option Event) → is_some (option_map content_of o) ≡ is_some o
+some_mapped None = refl
+some_mapped (Some event) = refl
 
-  pub added : (n : BTreeMap Key Content) (k : Key) (c : Content) → ((q : Key) → found key_cmp n.entries q ≡ cond (is_at (key_cmp k) q) (Some c) (found key_cmp m.entries q)) → events_in n ≡ insert (events_in m) k c
-  added n k c h = map-insert key_total key_exact m.entries n.entries k c h
+module _ (events : FinMap key_cmp Event) where
+  get-contents_of : (q : Key) → get (contents_of events) q ≡ option_map content_of (get events q)
+  get-contents_of q = get-from_entries key_total (map entry_of (entries events)) q ∙ find-contents (entries events) q ∙ ap (option_map content_of) (sym (get-entries events q))
 
--- the events so far, and one more
-pub with_events_more : (es : List (Key × Content)) (e : Key × Content) (pending : FinMap key_cmp Content) → with_events pending (es ++ e ∷ []) ≡ insert (with_events pending es) e.0 e.1
-with_events_more [] e pending = refl
-with_events_more (f ∷ es) e pending = with_events_more es e (insert pending f.0 f.1)
+  contains-contents_of : (q : Key) → contains_key (contents_of events) q ≡ contains_key events q
+  contains-contents_of q = ap is_some (get-contents_of q) ∙ some_mapped (get events q)
 
-none_before_end : (es : List (Key × Content)) → ¬ (0 < length es) → es ≡ []
-none_before_end [] h = refl
-none_before_end (e ∷ es) h = absurd (h (omega arith))
+pub contents_of-empty : contents_of empty ≡ empty
+contents_of-empty = same_map key_total key_exact _ _ (λ q. get-contents_of empty q ∙ ap (option_map content_of) (get-empty key_cmp q) ∙ sym (get-empty key_cmp q))
 
--- a tree without events
-pub none_in_none : (m : BTreeMap Key Content) (end : ℕ) → (0 < length m.entries → false ≡ true) → NoneIsDue (events_in m) end
-none_in_none m end h = none_in_empty m end (none_before_end m.entries (λ some. false≢true (h some)))
+contents_of-insert : (events : FinMap key_cmp Event) (k : Key) (event : Event) → contents_of (insert events k event) ≡ insert (contents_of events) k event.content
+contents_of-insert events k event =
+    same_map key_total key_exact _ _ (λ q.
+    get-contents_of (insert events k event) q ∙ ap (option_map content_of) (get-insert key_total events k event q)
+    ∙ mapped (eq_by_cmp key_cmp q k) (Some event) (get events q) ∙ ap (cond (eq_by_cmp key_cmp q k) (Some event.content)) (sym (get-contents_of events q))
+    ∙ sym (get-insert key_total (contents_of events) k event.content q))
 
-by_moment : (m : BTreeMap Key Content) (k : Key) (c : Content) (end : ℕ) → IsFirst (events_in m) k c → (o : Ordering) → MatchOrdering o (k.at < end) (k.at ≡ end) (end < k.at)
-    → MatchBool (is_le o) (SomeIsDue (events_in m) end) (NoneIsDue (events_in m) end)
-by_moment m k c end is Less h = record { key = k; content = c; first = is; due = omega arith }
-by_moment m k c end is Equal h = record { key = k; content = c; first = is; due = omega arith }
-by_moment m k c end is Greater h = none_due m k c end is h
+contents_of-remove : (events : FinMap key_cmp Event) (k : Key) → contents_of (remove events k) ≡ remove (contents_of events) k
+contents_of-remove events k =
+    same_map key_total key_exact _ _ (λ q.
+    get-contents_of (remove events k) q ∙ ap (option_map content_of) (get-remove key_total events k q)
+    ∙ mapped (eq_by_cmp key_cmp q k) None (get events q) ∙ ap (cond (eq_by_cmp key_cmp q k) None) (sym (get-contents_of events q))
+    ∙ sym (get-remove key_total (contents_of events) k q))
 
--- whether the first event is due tells whether one is
-pub due_by_first : (m : BTreeMap Key Content) (k : Key) (c : Content) (end : ℕ) (r : Bool) → IsFirst (events_in m) k c → r ≡ is_le (nat_cmp k.at end)
-    → MatchBool r (SomeIsDue (events_in m) end) (NoneIsDue (events_in m) end)
-due_by_first m k c end r is e =
-    subst (λ b. MatchBool b (SomeIsDue (events_in m) end) (NoneIsDue (events_in m) end)) (sym e) (by_moment m k c end is (nat_cmp k.at end) (ranks k.at end))
+module _ (before after : FinMap key_cmp Event) where
+  -- what a push and a pop make of the contents
+  pub pushed : (event : Event) → after ≡ insert before event.key event → contents_of after ≡ insert (contents_of before) event.key event.content
+  pushed event is = ap contents_of is ∙ contents_of-insert before event.key event
 
--- the events up to the one at a place, with it
-pub take_item : {A : Type 0} (xs : List A) (i : ℕ) (x : A) → i < length xs → x ≡ get_or xs i x → take (i + 1) xs ≡ take i xs ++ x ∷ []
-take_item xs i x h is = take_more xs i x h ∙ ap (λ y. take i xs ++ y ∷ []) (sym is)
+  pub popped : (o : Option Event) → IfSome o (λ event. after ≡ remove before event.key) → IfSome o (λ event. contents_of after ≡ remove (contents_of before) event.key)
+  popped None is = tt
+  popped (Some event) is = ap contents_of is ∙ contents_of-remove before event.key
+
+module _ (events : FinMap key_cmp Event) where
+  pub still_absent : (k : Key) → contains_key (contents_of events) k ≡ false → contains_key events k ≡ false
+  still_absent k absent = sym (contains-contents_of events k) ∙ absent
+
+  pub popped_first : (o : Option Event) → IfSome o (λ event. IsFirst events event.key event) → IfSome o (λ event. IsFirst (contents_of events) event.key event.content)
+  popped_first None is = tt
+  popped_first (Some event) is = record {
+    here = get-contents_of events event.key ∙ ap (option_map content_of) is.here;
+    least = λ q there. is.least q (sym (contains-contents_of events q) ∙ there);
+  }
+
+  -- what lies below the moment after the end is due up to it
+  pub none_due : (o : Option Event) (bound end : ℕ) → bound ≡ end + 1 → IfNone o (NoneIsBelow events bound) → IfNone o (NoneIsDue (contents_of events) end)
+  none_due None bound end is none = λ q here. let late = none q (sym (contains-contents_of events q) ∙ here) in omega arith
+  none_due (Some event) bound end is none = tt
+
+pub popped_due : (o : Option Event) (bound end : ℕ) → bound ≡ end + 1 → IfSome o (λ event. event.key.at < bound) → IfSome o (λ event. event.key.at ≤ end)
+popped_due None bound end is below = tt
+popped_due (Some event) bound end is below = omega arith
+
+-- ---- keys that no event has
+
+module _ {C : Type 0} where
+  absent_at : (events : FinMap key_cmp C) (k : Key) → ((q : Key) → contains_key events q ≡ true → q ≢ k) → (b : Bool) → contains_key events k ≡ b → b ≡ false
+  absent_at events k others true here = absurd (others k here refl)
+  absent_at events k others false here = refl
+
+  -- the key of no event is absent
+  pub absent : (events : FinMap key_cmp C) (k : Key) → ((q : Key) → contains_key events q ≡ true → q ≢ k) → contains_key events k ≡ false
+  absent events k others = absent_at events k others (contains_key events k) refl
+
+  all_at : (P : Key × C → Type 0) (before : List (Key × C)) (e : Key × C) (after : List (Key × C)) → AllByRecursion P (before ++ e ∷ after) → P e
+  all_at P [] e after all = all.0
+  all_at P (f ∷ before) e after all = all_at P before e after all.1
+
+  all_apart : (before : List (Key × C)) (e : Key × C) (after : List (Key × C)) → IsRising (λ f g. f.0 ≢ g.0) (before ++ e ∷ after) → AllByRecursion (λ f. f.0 ≢ e.0) before
+  all_apart [] e after apart = tt
+  all_apart (f ∷ before) e after apart = (all_at (λ g. f.0 ≢ g.0) before e after apart.0, all_apart before e after apart.1)
+
+  -- of new events that are added one after the other, each is new when its turn comes
+  pub next_is_new : (pending : FinMap key_cmp C) (before : List (Key × C)) (e : Key × C) (after : List (Key × C)) → AreNew pending (before ++ e ∷ after)
+      → contains_key (with_events pending before) e.0 ≡ false
+  next_is_new pending before e after new =
+      absent (with_events pending before) e.0 (holds-with_events (λ q. q ≢ e.0) before pending
+      (λ q here same. false≢true (sym (all_at (λ f. contains_key pending f.0 ≡ false) before e after new.unlike_pending) ∙ ap (contains_key pending) (sym same) ∙ here))
+      (all_apart before e after new.unlike_each_other))
+
+  -- the events so far, and one more
+  pub with_events_more : (es : List (Key × C)) (e : Key × C) (pending : FinMap key_cmp C) → with_events pending (es ++ e ∷ []) ≡ insert (with_events pending es) e.0 e.1
+  with_events_more [] e pending = refl
+  with_events_more (f ∷ es) e pending = with_events_more es e (insert pending f.0 f.1)

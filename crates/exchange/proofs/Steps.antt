@@ -7,7 +7,8 @@ use Rattle.std.specs.FinMap.{FinMap, get, insert, remove, get-insert}
 use Rattle.std.specs.Ordering.{is_eq}
 use Rattle.base.specs.declared.key.Key.{Key}
 use Rattle.base.specs.Order.{key_cmp}
-use Rattle.base.specs.World.{World, with_events, settled, rows_of, outcome, NextStep}
+use Rattle.base.specs.World.{World, with_events, settled, rows_of, events_of, outcome, NextStep}
+use Rattle.base.specs.Rising.{AreNew}
 use Rattle.base.specs.Run.{IsFirst}
 use Rattle.scenario.specs.Setup.{Setup}
 use Rattle.trace.specs.declared.row.Row.{Row}
@@ -18,7 +19,7 @@ use Rattle.member.specs.Turn.{Effect}
 use Rattle.member.specs.Step.{step}
 use Rattle.member.specs.View.{pair_of}
 use Rattle.member.specs.Worn.{IsWorn}
-use Rattle.exchange.specs.Advance.{Advances, WearsNext}
+use Rattle.exchange.specs.Advance.{Advances, WearsNext, MakesNew}
 
 -- The events that pend once one was taken and those that its receiver made of it were added, where that had made none before.
 pub pending_after : (pending taken after : FinMap key_cmp Content) (k : Key) (old new : List Event) (made : List (Key × Content)) → after ≡ with_events taken (map pair_of new) → taken ≡ remove pending k
@@ -70,3 +71,11 @@ module _ (s : Setup) (m : FinMap nat_cmp State) (p : FinMap key_cmp Content) (k 
       there = get-insert nat_cmp_total m k.to (step s k c member).state k.to ∙ ap (λ o. cond (is_eq o) (Some (step s k c member).state) (get m k.to)) (tied_itself nat_cmp_total k.to);
       worn = worn;
     }
+
+    -- the events that it makes are new to those that are left
+    pub made_new : MakesNew s before → (taken : FinMap key_cmp Content) (old new : List Event) → taken ≡ remove p k → map pair_of new ≡ map pair_of old ++ (step s k c member).events → old ≡ []
+        → AreNew taken (map pair_of new)
+    made_new makes taken old new is_taken more none =
+        let all : map pair_of new ≡ (step s k c member).events = more ∙ ap (λ es. map pair_of es ++ (step s k c member).events) none in
+        let made : AreNew (remove p k) (step s k c member).events = subst (λ o. AreNew (remove p k) (events_of o)) made_of (makes k c) in
+        subst (λ es. AreNew taken es) (sym all) (subst (λ q. AreNew q (step s k c member).events) (sym is_taken) made)

@@ -1,8 +1,9 @@
 -- One step of a scenario's run, as the cluster makes it.
 use Rattle.std.specs.Prelude.{◌≡◌, ℕ, ◌≤◌, List, ◌++◌, Some}
-use Rattle.std.specs.FinMap.{get}
+use Rattle.std.specs.FinMap.{get, remove}
 use Rattle.base.specs.declared.key.Key.{Key}
-use Rattle.base.specs.World.{World, NextStep}
+use Rattle.base.specs.World.{World, NextStep, outcome, events_of}
+use Rattle.base.specs.Rising.{AreNew}
 use Rattle.scenario.specs.Setup.{Setup}
 use Rattle.trace.specs.declared.row.Row.{Row}
 use Rattle.member.specs.declared.content.Content.{Content}
@@ -29,3 +30,7 @@ pub record WearsNext (s : Setup) (w : World State Content) : Type 0 where
   pub member : State
   pub there : get world.members number ≡ Some member
   pub worn : IsWorn member
+
+-- whichever event is handled next, its receiver makes events with keys that none has so far
+abbrev pub MakesNew : Setup → World State Content → Type 0
+MakesNew s w = (k : Key) (c : Content) → AreNew (remove w.pending k) (events_of (outcome (step s) w k c))

@@ -1,14 +1,15 @@
 -- The world that a cluster stands for.
-use Rattle.std.specs.Prelude.{◌≡◌, ℕ, ◌<◌, ◌≤◌, true, List, map}
+use Rattle.std.specs.Prelude.{◌≡◌, ℕ, ◌<◌, true, List, map}
 use Rattle.std.specs.List.{enumerate_from}
 use Rattle.std.specs.Ordering.{nat_cmp}
-use Rattle.std.specs.BTreeMap.{BTreeMap}
-use Rattle.std.specs.FinMap.{FinMap, from_entries, contains_key}
+use Rattle.std.specs.FinMap.{FinMap, from_entries, entries, contains_key}
 use Rattle.base.specs.declared.key.Key.{Key}
 use Rattle.base.specs.Order.{key_cmp}
 use Rattle.base.specs.World.{World}
-use Rattle.base.specs.Run.{IsFirst}
+use Rattle.worker_queue.specs.declared.tree.TreeQueue.{TreeQueue}
+use Rattle.worker_queue.specs.View.{set_of}
 use Rattle.member.specs.declared.content.Content.{Content}
+use Rattle.member.specs.declared.event.Event.{Event}
 use Rattle.member.specs.declared.member.Member.{Member}
 use Rattle.member.specs.State.{State}
 use Rattle.member.specs.View.{state_of}
@@ -22,16 +23,13 @@ by_place states = from_entries (enumerate_from 0 states)
 abbrev pub members_of : List Member → FinMap nat_cmp State
 members_of ms = by_place (map state_of ms)
 
--- the pending events by their keys
-abbrev pub events_in : BTreeMap Key Content → FinMap key_cmp Content
-events_in m = from_entries m.entries
+-- what the events of a set ask of their receivers, by their keys
+abbrev pub contents_of : FinMap key_cmp Event → FinMap key_cmp Content
+contents_of events = from_entries (map (λ e. (e.0, e.1.content)) (entries events))
 
--- the least of these events is due up to the end
-pub record SomeIsDue (events : FinMap key_cmp Content) (end : ℕ) : Type 0 where
-  pub key : Key
-  pub content : Content
-  pub first : IsFirst events key content
-  pub due : key.at ≤ end
+-- the pending events by their keys
+abbrev pub events_in : {keyed : _} → TreeQueue Event keyed → FinMap key_cmp Content
+events_in queue = contents_of (set_of queue)
 
 -- none of these events is due up to the end
 abbrev pub NoneIsDue : FinMap key_cmp Content → ℕ → Type 0

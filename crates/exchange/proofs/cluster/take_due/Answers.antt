@@ -1,25 +1,16 @@
-use Rattle.std.proofs.Common.{◌≡◌, ◌≤◌, subst}
-use Rattle.base.specs.declared.key.Key.{Key}
-use Rattle.base.specs.Order.{key_cmp}
-use Rattle.exchange.proofs.Pending.{first_of, same_first, taken, none_in_none}
+use Rattle.std.proofs.Common.{◌+◌, arith}
+use Rattle.worker_queue.specs.View.{set_of}
+use Rattle.exchange.proofs.Pending.{none_due, popped, popped_due, popped_first}
 use Rattle.exchange.proofs.cluster.take_due.Goals as goal
 
-pub returns-in-Some-clause-first : goal.returns-in-Some-clause-first
-unfolding key_cmp
-returns-in-Some-clause-first c =
-    first_of c.args.pending.now c.in-Some.event.0 c.in-Some.event.1 c.in-Some.ensures.value c.in-Some.ensures.least
+pub returns-clause-none : goal.returns-clause-none
+returns-clause-none c = none_due (set_of c.args.pending.now) c.pop_below.result (c.ticks.result + 1) c.args.end (omega (arith, c.ticks.ensures)) c.pop_below.ensures.none
 
-pub returns-in-Some-clause-due : goal.returns-in-Some-clause-due
-unfolding key_cmp
-returns-in-Some-clause-due c =
-    let due = c.if-not-is_due.ensures in
-    let is = first_of c.args.pending.now c.in-Some.event.0 c.in-Some.event.1 c.in-Some.ensures.value c.in-Some.ensures.least in
-    let same : due.key ≡ c.in-Some.event.0 = same_first c.args.pending.now due.key c.in-Some.event.0 due.content c.in-Some.event.1 due.first is in
-    subst (λ (k : Key). k.at ≤ c.args.end) same due.due
+pub returns-clause-first : goal.returns-clause-first
+returns-clause-first c = popped_first (set_of c.args.pending.now) c.pop_below.result c.pop_below.ensures.first
 
-pub returns-in-Some-clause-taken : goal.returns-in-Some-clause-taken
-unfolding key_cmp
-returns-in-Some-clause-taken c = taken c.args.pending.now c.pop_first.new.self c.in-Some.event.0 c.in-Some.ensures.updates.0
+pub returns-clause-due : goal.returns-clause-due
+returns-clause-due c = popped_due c.pop_below.result (c.ticks.result + 1) c.args.end (omega (arith, c.ticks.ensures)) c.pop_below.ensures.below
 
-pub returns-in-None-clause-none : goal.returns-in-None-clause-none
-returns-in-None-clause-none c = λ _. none_in_none c.args.pending.now c.args.end c.in-None.ensures.variant.1
+pub returns-clause-taken : goal.returns-clause-taken
+returns-clause-taken c = popped (set_of c.args.pending.now) (set_of c.pop_below.new.self) c.pop_below.result c.pop_below.ensures.taken

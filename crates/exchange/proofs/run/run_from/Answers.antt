@@ -8,10 +8,16 @@ use Rattle.member_laws.proofs.Reached.{rows_named}
 use Rattle.member.proofs.Fair.{steps_later}
 use Rattle.exchange.proofs.Left.{HasRun, run_named, one_more, run_over, run_wears, fewer_left}
 use Rattle.exchange.proofs.Lasting.{members_unworn, lasts_next, lasts_over}
+use Rattle.exchange.proofs.Runs.{new_events}
 use Rattle.exchange.proofs.run.run_from.Goals as goal
 
 pub advance-requires-clause-named : goal.advance-requires-clause-named
 advance-requires-clause-named c = run_named c.args.setting.now.scenario.now (world_of c.loop-rows.cluster) c.loop-rows.rows.items c.requires.sound c.loop-rows.invariant.run
+
+pub advance-requires-clause-new : goal.advance-requires-clause-new
+advance-requires-clause-new c = λ k content.
+    let so_far = c.loop-rows.invariant.run in
+    new_events c.args.setting.now.scenario.now so_far.keys c.loop-rows.rows.items (world_of c.loop-rows.cluster) k content c.requires.sound so_far.run
 
 pub loop-rows-smaller : goal.loop-rows-smaller
 loop-rows-smaller c =
