@@ -1,0 +1,5 @@
+pub mod Delays
+pub mod Safe
+pub mod Schedule
+pub mod Swaps
+pub mod Early
