@@ -11,7 +11,8 @@ use Rattle.base.specs.Order.{key_cmp, IsBefore, key_total, moments-from_before, 
 use Rattle.base.specs.World.{Machine, World, IsPending, with_events, settled, rows_of, events_of, outcome, NextStep, Run, IsOver, Outcome}
 use Rattle.base.specs.Run.{MakesLater, holds-settled, handled, trace, run-exists, trace-step, tells}
 use Rattle.base.proofs.Rising.{all_weaker}
-use Rattle.windows.specs.Delays.{KeepsDelays}
+use Rattle.windows.specs.Delays.{SendsAsItself}
+use Rattle.windows.specs.Safe.{IsFirstOf}
 use Rattle.windows.specs.Schedule.{TestedStep, OffersEarly, CatchesUp}
 use Rattle.windows.specs.Swaps.{NoneIs, pending_settled, settled_swap}
 
@@ -50,26 +51,29 @@ module _ {S C R : Type 0} where
 differs : (q k : Key) → eq_by_cmp key_cmp q k ≡ false → q ≢ k
 differs q k e same = false≢true (sym e ∙ ap is_eq (ap (λ r. key_cmp r k) same ∙ tied_itself key_total k))
 
-module _ {S C R : Type 0} (delay : ℕ → ℕ → ℕ) (step : Machine S C R) (keeps : KeepsDelays delay step) where
-  made_later : (k : Key) (c : C) (o : Option S) → AllByRecursion (λ e. k.at < e.0.at) (events_of (option_map (step k c) o))
-  made_later k c None = tt
-  made_later k c (Some s) = keeps.later k c s
+-- the least of all and the least of a receiver are one, or for two members
+pub receivers_differ : {S C R : Type 0} (step : Machine S C R) (w v : World S C) (k q : Key) (made : List R) → IsFirstOf w k → NextStep step w q v made → q ≢ k → q.to ≢ k.to
+receivers_differ step w v k q made first next other same = other (same_key q k (first.least q (ap is_some next.here) same) (next.least k first.here))
 
-  pub events_later : (w : World S C) (k : Key) (c : C) → AllByRecursion (λ e. k.at < e.0.at) (events_of (outcome step w k c))
-  events_later w k c = made_later k c (get w.members k.to)
+module _ {S C R : Type 0} (step : Machine S C R) where
+  -- what holds of all that a machine makes holds of what it makes here
+  made_all : (P : Key → Key → Type 0) → ((k : Key) (c : C) (s : S) → AllByRecursion (λ e. P k e.0) (step k c s).events)
+      → (k : Key) (c : C) (o : Option S) → AllByRecursion (λ e. P k e.0) (events_of (option_map (step k c) o))
+  made_all P all k c None = tt
+  made_all P all k c (Some s) = all k c s
 
-  made_own : (k : Key) (c : C) (o : Option S) → AllByRecursion (λ e. e.0.from ≡ k.to) (events_of (option_map (step k c) o))
-  made_own k c None = tt
-  made_own k c (Some s) = keeps.own k c s
+  pub events_later : MakesLater step → (w : World S C) (k : Key) (c : C) → AllByRecursion (λ e. k.at < e.0.at) (events_of (outcome step w k c))
+  events_later later w k c = made_all (λ k e. k.at < e.at) later k c (get w.members k.to)
 
-  pub events_own : (w : World S C) (k : Key) (c : C) → AllByRecursion (λ e. e.0.from ≡ k.to) (events_of (outcome step w k c))
-  events_own w k c = made_own k c (get w.members k.to)
+  pub events_own : SendsAsItself step → (w : World S C) (k : Key) (c : C) → AllByRecursion (λ e. e.0.from ≡ k.to) (events_of (outcome step w k c))
+  events_own own w k c = made_all (λ k e. e.from ≡ k.to) own k c (get w.members k.to)
 
-  -- events of two members have keys that differ
-  pub apart_by_sender : (m n : ℕ) (es fs : List (Key × C)) → m ≢ n → AllByRecursion (λ e. e.0.from ≡ m) es → AllByRecursion (λ e. e.0.from ≡ n) fs → AllByRecursion (λ e. NoneIs e.0 fs) es
-  apart_by_sender m n es fs other of_m of_n =
-      all_weaker _ (λ e. NoneIs e.0 fs) (λ e from. all_weaker _ (λ f. f.0 ≢ e.0) (λ f by same. other (sym from ∙ ap (λ (k : Key). k.from) (sym same) ∙ by)) fs of_n) es of_m
+-- events of two members have keys that differ
+pub apart_by_sender : {C : Type 0} (m n : ℕ) (es fs : List (Key × C)) → m ≢ n → AllByRecursion (λ e. e.0.from ≡ m) es → AllByRecursion (λ e. e.0.from ≡ n) fs → AllByRecursion (λ e. NoneIs e.0 fs) es
+apart_by_sender m n es fs other of_m of_n =
+    all_weaker _ (λ e. NoneIs e.0 fs) (λ e from. all_weaker _ (λ f. f.0 ≢ e.0) (λ f by same. other (sym from ∙ ap (λ (k : Key). k.from) (sym same) ∙ by)) fs of_n) es of_m
 
+module _ {S C R : Type 0} (step : Machine S C R) (later : MakesLater step) (own : SendsAsItself step) where
   module _ (end : ℕ) (Test : World S C → Key → Type 0) (offers : OffersEarly step end Test) where
     module _ (w : World S C) (k : Key) (c : C) (passes : Test w k) (here : get w.pending k ≡ Some c) where
       -- its turn has come
@@ -89,8 +93,8 @@ module _ {S C R : Type 0} (delay : ℕ → ℕ → ℕ) (step : Machine S C R) (
         no_earlier : q.at ≤ k.at
         no_earlier = moments-from_not_before k q (next.least k (ap is_some here))
 
-        receivers_differ : q.to ≢ k.to
-        receivers_differ same = other (same_key q k ((offers.first w k passes).least q (ap is_some next.here) same) (next.least k (ap is_some here)))
+        receivers_apart : q.to ≢ k.to
+        receivers_apart = receivers_differ step w mid k q made (offers.first w k passes) next other
 
         leaves_k : NoneIs k (events_of (outcome step w q next.content))
         leaves_k =
@@ -106,31 +110,31 @@ module _ {S C R : Type 0} (delay : ℕ → ℕ → ℕ) (step : Machine S C R) (
             let at : e.0.at ≡ q.at = ap (λ (r : Key). r.at) same in
             let low = no_earlier in
             omega arith)
-            (events_of (outcome step w k c)) (events_later w k c)
+            (events_of (outcome step w k c)) (events_later step later w k c)
 
         content_there : get mid.pending k ≡ Some c
         content_there = ap (λ (u : World S C). get u.pending k) next.world ∙ content_stays w q k (outcome step w q next.content) other leaves_k ∙ here
 
         same_outcome : outcome step mid k c ≡ outcome step w k c
         same_outcome =
-            ap (option_map (step k c)) (ap (λ (u : World S C). get u.members k.to) next.world ∙ member_stays w q k.to (outcome step w q next.content) receivers_differ)
+            ap (option_map (step k c)) (ap (λ (u : World S C). get u.members k.to) next.world ∙ member_stays w q k.to (outcome step w q next.content) receivers_apart)
 
         -- q is next where k has been handled, and the two worlds after both are one
         next_after : NextStep step (settled w k (outcome step w k c)) q (settled mid k (outcome step mid k c)) made
         next_after =
             let v : World S C = settled w k (outcome step w k c) in
             let out : outcome step v q next.content ≡ outcome step w q next.content =
-            ap (option_map (step q next.content)) (member_stays w k q.to (outcome step w k c) (λ same. receivers_differ (sym same))) in
+            ap (option_map (step q next.content)) (member_stays w k q.to (outcome step w k c) (λ same. receivers_apart (sym same))) in
             record {
               content = next.content;
               here = content_stays w k q (outcome step w k c) (λ same. other (sym same)) leaves_q ∙ next.here;
-              least = holds-settled step keeps.later end (λ r. ¬ (IsBefore r q)) w k c (λ r there _. next.least r there)
-                  (λ r later before. let low = no_earlier in let h = moments-from_before r q before in omega arith);
+              least = holds-settled step later end (λ r. ¬ (IsBefore r q)) w k c (λ r there _. next.least r there)
+                  (λ r past before. let low = no_earlier in let h = moments-from_before r q before in omega arith);
               world =
                   ap (settled mid k) same_outcome
                   ∙ ap (λ u. settled u k (outcome step w k c)) next.world
-                  ∙ settled_swap w q k (outcome step w q next.content) (outcome step w k c) receivers_differ leaves_k leaves_q
-                  (apart_by_sender q.to k.to _ _ receivers_differ (events_own w q next.content) (events_own w k c))
+                  ∙ settled_swap w q k (outcome step w q next.content) (outcome step w k c) receivers_apart leaves_k leaves_q
+                  (apart_by_sender q.to k.to _ _ receivers_apart (events_own step own w q next.content) (events_own step own w k c))
                   ∙ ap (settled v q) (sym out);
               made = next.made ∙ ap rows_of (sym out);
             }
@@ -145,7 +149,7 @@ module _ {S C R : Type 0} (delay : ℕ → ℕ → ℕ) (step : Machine S C R) (
           until = (mid, made, rest.front, in_time, next, rest.until, refl);
           turn = subst (λ l. NextStep step rest.there k rest.after l) (ap rows_of same_outcome) rest.turn;
           alike = (settled mid k (outcome step mid k c), made, rest.front, in_time, next_after, rest.alike, refl);
-          others = (receivers_differ, rest.others);
+          others = (receivers_apart, rest.others);
         }
 
     by_key : (w mid : World S C) (k q : Key) (c : C) (made : List R) → Test w k → get w.pending k ≡ Some c → q.at ≤ end → NextStep step w q mid made
@@ -168,10 +172,10 @@ module _ {S C R : Type 0} (delay : ℕ → ℕ → ℕ) (step : Machine S C R) (
     -- one event that passes the test, handled before its turn
     pub early_step : (w v : World S C) (k : Key) (made : List R) → TestedStep step Test w k v made → CatchesUp step end w v k made
     early_step w v k made is =
-        let whole = run-exists step keeps.later end w in
+        let whole = run-exists step later end w in
         subst (λ u. CatchesUp step end w u k made) (sym is.world)
         (subst (CatchesUp step end w (settled w k (outcome step w k is.content)) k) (sym is.made)
-        (catches_up (handled step keeps.later end w) w whole.last (trace step keeps.later end w) k is.content whole.run whole.over is.passes is.here))
+        (catches_up (handled step later end w) w whole.last (trace step later end w) k is.content whole.run whole.over is.passes is.here))
 
 -- ---- what that says of the keys and the rows of the runs to the end
 

@@ -3,3 +3,4 @@ pub mod Safe
 pub mod Schedule
 pub mod Swaps
 pub mod Early
+pub mod Safety

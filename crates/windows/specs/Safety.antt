@@ -1,0 +1,84 @@
+-- A safe event may be handled before its turn.
+use Rattle.std.proofs.Common.{◌≡◌, ◌≢◌, ℕ, ◌+◌, ◌<◌, ◌≤◌, true, List, [], ◌∷◌, ◌++◌, Option, Some, None, ap, ◌∙◌, sym, subst, refl, arith}
+use Rattle.std.specs.Option.{IfSome, is_some}
+use Rattle.std.specs.List.{AllByRecursion}
+use Rattle.std.specs.FinMap.{get, contains_key, remove}
+use Rattle.base.specs.declared.key.Key.{Key}
+use Rattle.base.specs.Order.{IsBefore, moments-from_before, moments-from_not_before}
+use Rattle.base.specs.World.{Machine, World, IsPending, with_events, settled, events_of, outcome, NextStep}
+use Rattle.base.specs.Run.{MakesLater, holds-with_events, contains-remove}
+use Rattle.base.proofs.Rising.{all_weaker}
+use Rattle.windows.specs.Delays.{KeepsDelays, ComesFar, KeepsFar}
+use Rattle.windows.specs.Safe.{IsFirstOf, IsSafe}
+use Rattle.windows.specs.Schedule.{OffersEarly, Schedule}
+use Rattle.windows.specs.Swaps.{NoneIs, pending_settled}
+use Rattle.windows.specs.Early.{content_stays, receivers_differ, events_later}
+
+module _ {S C R : Type 0} (step : Machine S C R) where
+  -- what holds of the pending events and of those made holds of all that pend after the step
+  holds_after : (P : Key → Type 0) (w v : World S C) (q : Key) (made : List R) (next : NextStep step w q v made)
+      → ((r : Key) → IsPending w r → P r) → AllByRecursion (λ e. P e.0) (events_of (outcome step w q next.content)) → (r : Key) → IsPending v r → P r
+  holds_after P w v q made next old new r here =
+      holds-with_events P (events_of (outcome step w q next.content)) (remove w.pending q) (λ t there. old t (contains-remove w.pending q t there).0) new r
+      (subst (λ m. contains_key m r ≡ true) (ap (λ (u : World S C). u.pending) next.world ∙ pending_settled w q (outcome step w q next.content)) here)
+
+module _ {S C R : Type 0} (step : Machine S C R) (later : MakesLater step) (end : ℕ) (least_delay : Option ℕ) (Fact : World S C → Type 0) (keeps : KeepsFar end least_delay Fact step) where
+  abbrev pub SafeHere : World S C → Key → Type 0
+  SafeHere w k = IsSafe end least_delay w k × Fact w
+
+  module _ (w v : World S C) (k q : Key) (made : List R) (safe : SafeHere w k) (next : NextStep step w q v made) (other : q ≢ k) where
+    made_now : List (Key × C)
+    made_now = events_of (outcome step w q next.content)
+
+    in_time : q.at ≤ end
+    in_time = let low = moments-from_not_before k q (next.least k safe.0.first.here) in let h = safe.0.in_time in omega arith
+
+    reaches : (d : Option ℕ) (e : Key) → q.to ≢ k.to → IfSome d (λ d. (r : Key) → IsPending w r → k.at < r.at + d) → ComesFar d q e → e.to ≡ k.to → k.at < e.at
+    reaches None e apart near far same = absurd (apart (sym far ∙ same))
+    reaches (Some d) e apart near far same =
+        let h = near q (ap is_some next.here) in
+        let past = far (λ back. apart (sym back ∙ same)) in
+        omega arith
+
+    untouched : AllByRecursion (λ e. e.0.to ≡ k.to → k.at < e.0.at) (events_of (outcome step w q next.content))
+    untouched =
+        all_weaker _ (λ e. e.0.to ≡ k.to → k.at < e.0.at)
+        (λ e far. reaches least_delay e.0 (receivers_differ step w v k q made safe.0.first next other) safe.0.near far)
+        (events_of (outcome step w q next.content)) (keeps.far w q next.content safe.1 next.here in_time)
+
+    leaves : NoneIs k (events_of (outcome step w q next.content))
+    leaves =
+        all_weaker _ (λ e. e.0 ≢ k)
+        (λ e past same. let h = past (ap (λ (r : Key). r.to) same) in let at : e.0.at ≡ k.at = ap (λ (r : Key). r.at) same in omega arith)
+        (events_of (outcome step w q next.content)) untouched
+
+    near_after : (d : Option ℕ) → IfSome d (λ d. (r : Key) → IsPending w r → k.at < r.at + d) → IfSome d (λ d. (r : Key) → IsPending v r → k.at < r.at + d)
+    near_after None near = tt
+    near_after (Some d) near =
+        let h = near q (ap is_some next.here) in
+        holds_after step (λ r. k.at < r.at + d) w v q made next near
+        (all_weaker _ (λ e. k.at < e.0.at + d) (λ e past. omega arith) (events_of (outcome step w q next.content)) (events_later step later w q next.content))
+
+    stays : SafeHere v k
+    stays = (
+      record {
+        first = record {
+          here = ap is_some (ap (λ (u : World S C). get u.pending k) next.world ∙ content_stays w q k (outcome step w q next.content) other leaves) ∙ safe.0.first.here;
+          least = holds_after step (λ r. r.to ≡ k.to → ¬ (IsBefore r k)) w v q made next safe.0.first.least
+              (all_weaker _ (λ e. e.0.to ≡ k.to → ¬ (IsBefore e.0 k)) (λ e past same before. let h = past same in let low = moments-from_before e.0 k before in omega arith)
+              (events_of (outcome step w q next.content)) untouched);
+        };
+        in_time = safe.0.in_time;
+        near = near_after least_delay safe.0.near;
+      },
+      subst Fact (sym next.world) (keeps.stays w q next.content safe.1 next.here in_time),
+    )
+
+  -- an event that is safe may be handled before its turn
+  pub safe_offers : OffersEarly step end SafeHere
+  safe_offers = record {
+    first = λ w k safe. safe.0.first;
+    in_time = λ w k safe. safe.0.in_time;
+    stays = λ w v k q made safe next other. stays w v k q made safe next other;
+    untouched = λ w v k q made safe next other. untouched w v k q made safe next other;
+  }
