@@ -4,3 +4,4 @@ pub mod Schedule
 pub mod Swaps
 pub mod Early
 pub mod Safety
+pub mod Merge

@@ -1,16 +1,16 @@
 -- A safe event may be handled before its turn.
-use Rattle.std.proofs.Common.{◌≡◌, ◌≢◌, ℕ, ◌+◌, ◌<◌, ◌≤◌, true, List, [], ◌∷◌, ◌++◌, Option, Some, None, ap, ◌∙◌, sym, subst, refl, arith}
+use Rattle.std.proofs.Common.{◌≡◌, ◌≢◌, ℕ, ◌+◌, ◌<◌, ◌≤◌, true, List, Option, Some, None, ap, ◌∙◌, sym, subst, arith}
 use Rattle.std.specs.Option.{IfSome, is_some}
 use Rattle.std.specs.List.{AllByRecursion}
 use Rattle.std.specs.FinMap.{get, contains_key, remove}
 use Rattle.base.specs.declared.key.Key.{Key}
 use Rattle.base.specs.Order.{IsBefore, moments-from_before, moments-from_not_before}
-use Rattle.base.specs.World.{Machine, World, IsPending, with_events, settled, events_of, outcome, NextStep}
+use Rattle.base.specs.World.{Machine, World, IsPending, events_of, outcome, NextStep}
 use Rattle.base.specs.Run.{MakesLater, holds-with_events, contains-remove}
 use Rattle.base.proofs.Rising.{all_weaker}
-use Rattle.windows.specs.Delays.{KeepsDelays, ComesFar, KeepsFar}
-use Rattle.windows.specs.Safe.{IsFirstOf, IsSafe}
-use Rattle.windows.specs.Schedule.{OffersEarly, Schedule}
+use Rattle.windows.specs.Delays.{ComesFar, KeepsFar}
+use Rattle.windows.specs.Safe.{IsSafe}
+use Rattle.windows.specs.Schedule.{OffersEarly}
 use Rattle.windows.specs.Swaps.{NoneIs, pending_settled}
 use Rattle.windows.specs.Early.{content_stays, receivers_differ, events_later}
 

@@ -1,6 +1,6 @@
 -- Runs in which any event that passes a test may be the next.
-use Rattle.std.specs.Prelude.{◌≡◌, ◌≢◌, ℕ, ◌<◌, ◌≤◌, List, [], ◌∷◌, ◌++◌, Some}
-use Rattle.std.specs.List.{AllByRecursion}
+use Rattle.std.specs.Prelude.{◌≡◌, ◌≢◌, ℕ, ◌<◌, ◌≤◌, nat_eq, List, [], ◌∷◌, ◌++◌, Some}
+use Rattle.std.specs.List.{AllByRecursion, filter}
 use Rattle.std.specs.FinMap.{get}
 use Rattle.base.specs.declared.key.Key.{Key}
 use Rattle.base.specs.World.{Machine, World, settled, rows_of, events_of, outcome, NextStep, Run}
@@ -42,3 +42,11 @@ module _ {S C R : Type 0} (step : Machine S C R) where
     pub turn : NextStep step there k after made
     pub alike : Run step end v before front after
     pub others : AllByRecursion (λ q. q.to ≢ k.to) before
+
+-- each row that a step writes is its receiver's
+abbrev pub TellsWhose : {S C R : Type 0} → (R → ℕ) → Machine S C R → Type 0
+TellsWhose {S} {C} whose step = (k : Key) (c : C) (s : S) → AllByRecursion (λ row. whose row ≡ k.to) (step k c s).rows
+
+-- the rows of one member
+abbrev pub rows_by : {R : Type 0} → (R → ℕ) → ℕ → List R → List R
+rows_by whose m rows = filter (λ row. nat_eq (whose row) m) rows
