@@ -5,3 +5,4 @@ pub mod Swaps
 pub mod Early
 pub mod Safety
 pub mod Merge
+pub mod Sorting
