@@ -68,6 +68,16 @@ module _ {S C R : Type 0} (step : Machine S C R) where
   pub events_own : SendsAsItself step → (w : World S C) (k : Key) (c : C) → AllByRecursion (λ e. e.0.from ≡ k.to) (events_of (outcome step w k c))
   events_own own w k c = made_all (λ k e. e.from ≡ k.to) own k c (get w.members k.to)
 
+  rows_made : (P : Key → R → Type 0) → ((k : Key) (c : C) (s : S) → AllByRecursion (P k) (step k c s).rows)
+      → (k : Key) (c : C) (o : Option S) → AllByRecursion (P k) (rows_of (option_map (step k c) o))
+  rows_made P all k c None = tt
+  rows_made P all k c (Some s) = all k c s
+
+  -- what holds of all rows that a machine writes holds of those that it writes here
+  pub all_rows : (P : Key → R → Type 0) → ((k : Key) (c : C) (s : S) → AllByRecursion (P k) (step k c s).rows)
+      → (w : World S C) (k : Key) (c : C) → AllByRecursion (P k) (rows_of (outcome step w k c))
+  all_rows P all w k c = rows_made P all k c (get w.members k.to)
+
 -- events of two members have keys that differ
 pub apart_by_sender : {C : Type 0} (m n : ℕ) (es fs : List (Key × C)) → m ≢ n → AllByRecursion (λ e. e.0.from ≡ m) es → AllByRecursion (λ e. e.0.from ≡ n) fs → AllByRecursion (λ e. NoneIs e.0 fs) es
 apart_by_sender m n es fs other of_m of_n =

@@ -6,3 +6,4 @@ pub mod Early
 pub mod Safety
 pub mod Merge
 pub mod Sorting
+pub mod Released

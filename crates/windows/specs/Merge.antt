@@ -1,9 +1,7 @@
 -- The rows of a schedule and those of the run from where it ends are the rows of the run, and each member's stand in one order.
-use Rattle.std.proofs.Common.{◌≡◌, ◌≢◌, ℕ, Bool, true, false, cond, nat_eq, List, [], ◌∷◌, ◌++◌, Option, Some, None, ap, ◌∙◌, sym, subst, refl, append_assoc}
-use Rattle.std.specs.Option.{option_map}
+use Rattle.std.proofs.Common.{◌≡◌, ◌≢◌, ℕ, Bool, true, false, cond, nat_eq, List, [], ◌∷◌, ◌++◌, ap, ◌∙◌, sym, subst, refl, append_assoc}
 use Rattle.std.specs.List.{AllByRecursion, filter}
 use Rattle.std.specs.List.Sorted.{IsPermutation}
-use Rattle.std.specs.FinMap.{get}
 use Rattle.std.proofs.lemmas.Bool.{eqb-true, eqb-false}
 use Rattle.std.proofs.lemmas.List.Elements.{filter-append}
 use Rattle.std.proofs.lemmas.List.Sorted.{IsPermutation-refl, IsPermutation-trans, IsPermutation-append_comm, IsPermutation-append_left, IsPermutation-append_right}
@@ -13,7 +11,7 @@ use Rattle.base.specs.Run.{MakesLater, handled, trace}
 use Rattle.base.proofs.Rising.{all_append, all_weaker}
 use Rattle.windows.specs.Delays.{SendsAsItself}
 use Rattle.windows.specs.Schedule.{Schedule, OffersEarly, TellsWhose, rows_by}
-use Rattle.windows.specs.Early.{early_step, whole_runs}
+use Rattle.windows.specs.Early.{all_rows, early_step, whole_runs}
 
 module _ {A : Type 0} where
   -- what comes later goes to the front
@@ -55,12 +53,8 @@ module _ {R : Type 0} (whose : R → ℕ) where
       ∙ ap (λ l. l ++ rows_by whose m (front ++ back)) (sym none) ∙ sym (filter-append _ made (front ++ back))
 
 module _ {S C R : Type 0} (step : Machine S C R) (whose : R → ℕ) (tells : TellsWhose whose step) where
-  tells_made : (k : Key) (c : C) (o : Option S) → AllByRecursion (λ row. whose row ≡ k.to) (rows_of (option_map (step k c) o))
-  tells_made k c None = tt
-  tells_made k c (Some s) = tells k c s
-
   rows_own : (w : World S C) (k : Key) (c : C) → AllByRecursion (λ row. whose row ≡ k.to) (rows_of (outcome step w k c))
-  rows_own w k c = tells_made k c (get w.members k.to)
+  rows_own = all_rows step (λ k row. whose row ≡ k.to) tells
 
   -- the rows of a run that handles no event for a member are others'
   rows_of_others : (end m : ℕ) (ks : List Key) (w v : World S C) (rows : List R) → Run step end w ks rows v → AllByRecursion (λ q. q.to ≢ m) ks → AllByRecursion (λ row. whose row ≢ m) rows

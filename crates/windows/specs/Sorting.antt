@@ -17,7 +17,7 @@ no_item : {A : Type 0} (f : A → ℕ) (xs : List A) → AllByRecursion (λ x. f
 no_item f [] none = refl
 no_item f (x ∷ xs) none = let e = sum_by-cons f x xs in let first = none.0 in let rest = no_item f xs none.1 in omega arith
 
-module _ {A : Type 0} (cmp : A → A → Ordering) (total : IsTotalOrder cmp) where
+module _ {A : Type 0} (cmp : A → A → Ordering) where
   -- the second is not before the first
   abbrev pub IsAtMost : A → A → Type 0
   IsAtMost a b = is_lt (cmp b a) ≡ false
@@ -25,27 +25,28 @@ module _ {A : Type 0} (cmp : A → A → Ordering) (total : IsTotalOrder cmp) wh
   abbrev pub IsLess : A → A → Type 0
   IsLess a b = cmp a b ≡ Less
 
-  by_turn : (a b : A) (o : Ordering) → cmp a b ≡ o → cmp b a ≡ ordering_reverse o
+module _ {A : Type 0} (cmp : A → A → Ordering) (total : IsTotalOrder cmp) where
+  pub by_turn : (a b : A) (o : Ordering) → cmp a b ≡ o → cmp b a ≡ ordering_reverse o
   by_turn a b o e = total.antisymm b a ∙ ap ordering_reverse e
 
-  at_most_by : (a b : A) (o : Ordering) → cmp b a ≡ o → (IsLess b a → ⊥) → is_lt o ≡ false
+  at_most_by : (a b : A) (o : Ordering) → cmp b a ≡ o → (IsLess cmp b a → ⊥) → is_lt o ≡ false
   at_most_by a b Less e none = absurd (none e)
   at_most_by a b Equal e none = refl
   at_most_by a b Greater e none = refl
 
-  not_less : (a b : A) → IsAtMost a b → IsLess b a → ⊥
+  not_less : (a b : A) → IsAtMost cmp a b → IsLess cmp b a → ⊥
   not_less a b low e = false≢true (sym low ∙ ap is_lt e)
 
-  less_or_by : (a b c : A) (o : Ordering) → cmp a c ≡ o → IsLess a b → IsAtMost b c → IsLess a c
+  less_or_by : (a b c : A) (o : Ordering) → cmp a c ≡ o → IsLess cmp a b → IsAtMost cmp b c → IsLess cmp a c
   less_or_by a b c Less e less low = e
   less_or_by a b c Equal e less low = absurd (not_less b c low (sym (total.congr a c b e) ∙ less))
   less_or_by a b c Greater e less low = absurd (not_less b c low (total.trans c a b (by_turn a c Greater e) less))
 
   -- before the one, and so before what the one is not after
-  less_or : (a b c : A) → IsLess a b → IsAtMost b c → IsLess a c
+  less_or : (a b c : A) → IsLess cmp a b → IsAtMost cmp b c → IsLess cmp a c
   less_or a b c = less_or_by a b c (cmp a c) refl
 
-  at_most_trans : (a b c : A) → IsAtMost a b → IsAtMost b c → IsAtMost a c
+  at_most_trans : (a b c : A) → IsAtMost cmp a b → IsAtMost cmp b c → IsAtMost cmp a c
   at_most_trans a b c first second = at_most_by a c (cmp c a) refl (λ back. not_less b c second (less_or c a b back first))
 
   -- ---- in order by places, and from the front
@@ -55,13 +56,13 @@ module _ {A : Type 0} (cmp : A → A → Ordering) (total : IsTotalOrder cmp) wh
       let e : suc k + 1 ≡ suc (k + 1) = omega arith in
       subst (λ n. is_lt (cmp (get_or (x ∷ xs) n d) (get_or xs k d)) ≡ false) e (sorted (suc k) d (omega arith) (omega arith))
 
-  below_all : (x : A) (xs : List A) → IsSorted cmp (x ∷ xs) → IsRising IsAtMost xs → AllByRecursion (IsAtMost x) xs
+  below_all : (x : A) (xs : List A) → IsSorted cmp (x ∷ xs) → IsRising (IsAtMost cmp) xs → AllByRecursion (IsAtMost cmp x) xs
   below_all x [] sorted up = tt
   below_all x (y ∷ ys) sorted up =
-      let first : IsAtMost x y = sorted 0 x (omega arith) (omega arith) in
-      (first, all_weaker _ (IsAtMost x) (λ z low. at_most_trans x y z first low) ys up.0)
+      let first : IsAtMost cmp x y = sorted 0 x (omega arith) (omega arith) in
+      (first, all_weaker _ (IsAtMost cmp x) (λ z low. at_most_trans x y z first low) ys up.0)
 
-  pub rising_from_sorted : (xs : List A) → IsSorted cmp xs → IsRising IsAtMost xs
+  pub rising_from_sorted : (xs : List A) → IsSorted cmp xs → IsRising (IsAtMost cmp) xs
   rising_from_sorted [] sorted = tt
   rising_from_sorted (x ∷ xs) sorted = let up = rising_from_sorted xs (tail_sorted x xs sorted) in (below_all x xs sorted up, up)
 
@@ -71,14 +72,14 @@ module _ {A : Type 0} (cmp : A → A → Ordering) (total : IsTotalOrder cmp) wh
   abbrev Tells : List A → A → Type 0
   Tells xs y = AllByRecursion (λ x. cmp y x ≡ Equal → y ≡ x) xs
 
-  apart : (x y : A) → IsLess x y → (cmp x y ≡ Equal → x ≡ y) × (cmp y x ≡ Equal → y ≡ x)
+  apart : (x y : A) → IsLess cmp x y → (cmp x y ≡ Equal → x ≡ y) × (cmp y x ≡ Equal → y ≡ x)
   apart x y less = (λ e. absurd (false≢true (sym (ap is_lt e) ∙ ap is_lt less)), λ e. absurd (false≢true (sym (ap is_lt (tied_back total y x e)) ∙ ap is_lt less)))
 
-  tells_more : (x : A) (xs ys : List A) → AllByRecursion (IsLess x) ys → AllByRecursion (Tells xs) ys → AllByRecursion (Tells (x ∷ xs)) ys
+  tells_more : (x : A) (xs ys : List A) → AllByRecursion (IsLess cmp x) ys → AllByRecursion (Tells xs) ys → AllByRecursion (Tells (x ∷ xs)) ys
   tells_more x xs [] less all = tt
   tells_more x xs (y ∷ ys) less all = (((apart x y less.0).1, all.0), tells_more x xs ys less.1 all.1)
 
-  tells_itself : (xs : List A) → IsRising IsLess xs → AllByRecursion (Tells xs) xs
+  tells_itself : (xs : List A) → IsRising (IsLess cmp) xs → AllByRecursion (Tells xs) xs
   tells_itself [] up = tt
   tells_itself (x ∷ xs) up = ((λ e. refl, all_weaker _ (λ y. cmp x y ≡ Equal → x ≡ y) (λ y less. (apart x y less).0) xs up.0), tells_more x xs xs up.0 (tells_itself xs up.1))
 
@@ -92,7 +93,7 @@ module _ {A : Type 0} (cmp : A → A → Ordering) (total : IsTotalOrder cmp) wh
   not_past : A → A → ℕ
   not_past x z = cond (is_lt (cmp x z)) 0 1
 
-  no_less : (x y : A) (xs ys : List A) → AllByRecursion (IsLess x) xs → SameItems (x ∷ xs) (y ∷ ys) → IsLess y x → ⊥
+  no_less : (x y : A) (xs ys : List A) → AllByRecursion (IsLess cmp x) xs → SameItems (x ∷ xs) (y ∷ ys) → IsLess cmp y x → ⊥
   unfolding before_one
   no_less x y xs ys up same less =
       let one : before_one x y ≡ 1 = ap (λ o. cond (is_lt o) 1 0) less in
@@ -103,7 +104,7 @@ module _ {A : Type 0} (cmp : A → A → Ordering) (total : IsTotalOrder cmp) wh
       let e = same (before_one x) in
       omega arith
 
-  no_greater : (x y : A) (xs ys : List A) → AllByRecursion (IsAtMost y) ys → SameItems (x ∷ xs) (y ∷ ys) → IsLess x y → ⊥
+  no_greater : (x y : A) (xs ys : List A) → AllByRecursion (IsAtMost cmp y) ys → SameItems (x ∷ xs) (y ∷ ys) → IsLess cmp x y → ⊥
   unfolding not_past
   no_greater x y xs ys up same less =
       let own : not_past x x ≡ 1 = ap (λ o. cond (is_lt o) 0 1) (tied_itself total x) in
@@ -125,7 +126,7 @@ module _ {A : Type 0} (cmp : A → A → Ordering) (total : IsTotalOrder cmp) wh
   lengths_differ : (x : A) (xs : List A) → (sum_by (λ (z : A). 1) (x ∷ xs) ≡ 0) → ⊥
   lengths_differ x xs e = let more = sum_by-cons (λ (z : A). 1) x xs in omega arith
 
-  by_first : (x y : A) (xs ys : List A) → AllByRecursion (IsLess x) xs → AllByRecursion (IsAtMost y) ys → SameItems (x ∷ xs) (y ∷ ys) → Tells (x ∷ xs) y → (SameItems xs ys → ys ≡ xs)
+  by_first : (x y : A) (xs ys : List A) → AllByRecursion (IsLess cmp x) xs → AllByRecursion (IsAtMost cmp y) ys → SameItems (x ∷ xs) (y ∷ ys) → Tells (x ∷ xs) y → (SameItems xs ys → ys ≡ xs)
       → (o : Ordering) → cmp y x ≡ o → y ∷ ys ≡ x ∷ xs
   by_first x y xs ys strict up same tells rest Less e = absurd (no_less x y xs ys strict same e)
   by_first x y xs ys strict up same tells rest Greater e = absurd (no_greater x y xs ys up same (by_turn y x Greater e))
@@ -134,14 +135,14 @@ module _ {A : Type 0} (cmp : A → A → Ordering) (total : IsTotalOrder cmp) wh
       let more = rest (rest_same x y xs ys first same) in
       λ i. first i ∷ more i
 
-  same_order : (xs ys : List A) → IsRising IsLess xs → IsRising IsAtMost ys → SameItems xs ys → AllByRecursion (Tells xs) ys → ys ≡ xs
+  same_order : (xs ys : List A) → IsRising (IsLess cmp) xs → IsRising (IsAtMost cmp) ys → SameItems xs ys → AllByRecursion (Tells xs) ys → ys ≡ xs
   same_order [] [] strict up same tells = refl
   same_order [] (y ∷ ys) strict up same tells = absurd (lengths_differ y ys (same (λ z. 1)))
   same_order (x ∷ xs) [] strict up same tells = absurd (lengths_differ x xs (sym (same (λ z. 1))))
   same_order (x ∷ xs) (y ∷ ys) strict up same tells =
       by_first x y xs ys strict.0 up.0 same tells.0 (λ alike. same_order xs ys strict.1 up.1 alike (all_weaker _ (Tells xs) (λ z h. h.1) ys tells.1)) (cmp y x) refl
 
-  pub one_order : (xs ys : List A) → IsRising IsLess xs → IsPermutation xs ys → IsRising IsAtMost ys → ys ≡ xs
+  pub one_order : (xs ys : List A) → IsRising (IsLess cmp) xs → IsPermutation xs ys → IsRising (IsAtMost cmp) ys → ys ≡ xs
   one_order xs ys strict same up =
       same_order xs ys strict up (λ f. sum_by-IsPermutation f xs ys same)
       (recursion_from_All (Tells xs) ys (All-permutation (Tells xs) xs ys same (All-from_recursion (Tells xs) xs (tells_itself xs strict))))
