@@ -7,3 +7,6 @@ pub mod Safety
 pub mod Merge
 pub mod Sorting
 pub mod Released
+pub mod Parts
+pub mod Cuts
+pub mod Windows

@@ -2,7 +2,7 @@
 use Rattle.std.proofs.Common.{◌≡◌, ◌≢◌, ℕ, Bool, true, false, cond, nat_eq, List, [], ◌∷◌, ◌++◌, ap, ◌∙◌, sym, subst, refl, append_assoc}
 use Rattle.std.specs.List.{AllByRecursion, filter}
 use Rattle.std.specs.List.Sorted.{IsPermutation}
-use Rattle.std.proofs.lemmas.Bool.{eqb-true, eqb-false}
+use Rattle.std.proofs.lemmas.Bool.{eqb-true, eqb-false, ne_eqb}
 use Rattle.std.proofs.lemmas.List.Elements.{filter-append}
 use Rattle.std.proofs.lemmas.List.Sorted.{IsPermutation-refl, IsPermutation-trans, IsPermutation-append_comm, IsPermutation-append_left, IsPermutation-append_right}
 use Rattle.base.specs.declared.key.Key.{Key}
@@ -25,15 +25,11 @@ module _ {A : Type 0} where
   filter_none test [] none = refl
   filter_none test (x ∷ xs) none = ap (λ b. cond b (x ∷ filter test xs) (filter test xs)) none.0 ∙ filter_none test xs none.1
 
-differ : (m n : ℕ) → m ≢ n → (b : Bool) → nat_eq m n ≡ b → b ≡ false
-differ m n other true e = absurd (other (eqb-true m n e))
-differ m n other false e = refl
-
 module _ {R : Type 0} (whose : R → ℕ) where
   none_by : (m : ℕ) (rows : List R) → AllByRecursion (λ row. whose row ≢ m) rows → rows_by whose m rows ≡ []
   none_by m rows others =
       filter_none (λ row. nat_eq (whose row) m) rows
-      (all_weaker _ (λ row. nat_eq (whose row) m ≡ false) (λ row other. differ (whose row) m other (nat_eq (whose row) m) refl) rows others)
+      (all_weaker _ (λ row. nat_eq (whose row) m ≡ false) (λ row other. ne_eqb (whose row) m other) rows others)
 
   -- rows of one member change places with rows of others, and each member's stand as before
   moved_by : (m n : ℕ) (front made back : List R) → AllByRecursion (λ row. whose row ≢ n) front → AllByRecursion (λ row. whose row ≡ n) made → (b : Bool) → nat_eq n m ≡ b
