@@ -10,3 +10,4 @@ pub mod Released
 pub mod Parts
 pub mod Cuts
 pub mod Windows
+pub mod Division

@@ -26,10 +26,10 @@ kept_value o x false mine e is = absurd (false≢true (ap is_some is))
 module _ {S C R : Type 0} (step : Machine S C R) (later : MakesLater step) (own : SendsAsItself step) (end : ℕ) (least_delay : Option ℕ) (Fact : World S C → Type 0)
     (keeps : KeepsFar end least_delay Fact step) (bound : ℕ) where
   -- a world in which the windows below the bound may go on
-  abbrev IsReady : World S C → Type 0
+  abbrev pub IsReady : World S C → Type 0
   IsReady w = Fact w × IsCommonBound end least_delay w bound
 
-  abbrev IsSafeHere : World S C → Key → Type 0
+  abbrev pub IsSafeHere : World S C → Key → Type 0
   IsSafeHere = SafeHere step later end least_delay Fact keeps
 
   near_by : (d : Option ℕ) (u : World S C) (k : Key) → k.at < bound → IfSome d (λ d. (q : Key) → IsPending u q → bound ≤ q.at + d) → IfSome d (λ d. (q : Key) → IsPending u q → k.at < q.at + d)
@@ -50,14 +50,14 @@ module _ {S C R : Type 0} (step : Machine S C R) (later : MakesLater step) (own 
   module _ (owns : ℕ → Bool) (extra : List (Key × C)) (late : AllByRecursion (λ e. bound ≤ e.0.at) extra) (strange : AllByRecursion (λ e. owns e.0.from ≡ false) extra) where
     -- Where the steps of a part have led the world. The part is as its steps leave it, with the events that had
     -- come before, and what they made for others has come to these.
-    record Led (u after : World S C) (keys : List Key) (out : List (Key × C)) (rows : List R) : Type 0 where
-      world : World S C
-      schedule : Schedule step IsSafeHere u keys rows world
-      ready : IsReady world
-      part : part_of owns world ≡ joined after extra
-      others : (mine : ℕ → Bool) → ((m : ℕ) → mine m ≡ true → owns m ≡ false) → part_of mine world ≡ joined (part_of mine u) (for_own mine out)
-      far : AllByRecursion (λ e. bound ≤ e.0.at) out
-      from : AllByRecursion (λ e. owns e.0.from ≡ true) out
+    pub record Led (u after : World S C) (keys : List Key) (out : List (Key × C)) (rows : List R) : Type 0 where
+      pub world : World S C
+      pub schedule : Schedule step IsSafeHere u keys rows world
+      pub ready : IsReady world
+      pub part : part_of owns world ≡ joined after extra
+      pub others : (mine : ℕ → Bool) → ((m : ℕ) → mine m ≡ true → owns m ≡ false) → part_of mine world ≡ joined (part_of mine u) (for_own mine out)
+      pub far : AllByRecursion (λ e. bound ≤ e.0.at) out
+      pub from : AllByRecursion (λ e. owns e.0.from ≡ true) out
 
     module _ (u p mid : World S C) (k : Key) (sent : List (Key × C)) (made : List R) (ready : IsReady u) (cut : part_of owns u ≡ joined p extra) (is : PartStep step owns bound p k sent made mid) where
       out_there : Option (Outcome S C R)
@@ -150,7 +150,7 @@ module _ {S C R : Type 0} (step : Machine S C R) (later : MakesLater step) (own 
           (for_others owns (events_of (outcome step p k is.content))) (all_kept (λ e. not (owns e.0.to)) (λ e. e.0.from ≡ k.to) (events_of (outcome step p k is.content)) (events_own step own p k is.content)))
 
     -- the steps of a part are steps of the world
-    leads : (keys : List Key) (u p after : World S C) (out : List (Key × C)) (rows : List R) → IsReady u → part_of owns u ≡ joined p extra
+    pub leads : (keys : List Key) (u p after : World S C) (out : List (Key × C)) (rows : List R) → IsReady u → part_of owns u ≡ joined p extra
         → PartRun step owns bound p keys out rows after → Led u after keys out rows
     leads [] u p after out rows ready cut run = record {
       world = u;
