@@ -1,17 +1,22 @@
 -- The windows of all parts of a division.
-use Rattle.std.proofs.Common.{◌≡◌, ◌≢◌, ℕ, ◌≤◌, Bool, true, false, List, [], ◌∷◌, ◌++◌, Option, ap, ◌∙◌, sym, subst, refl, append_assoc}
+use Rattle.std.proofs.Common.{◌≡◌, ◌≢◌, ℕ, ◌<◌, ◌≤◌, Bool, true, false, cond, List, [], ◌∷◌, ◌++◌, Option, None, ap, inl, inr, ◌∙◌, sym, subst, refl, append_assoc}
+use Rattle.std.specs.Option.{is_some}
+use Rattle.std.specs.Ordering.{nat_cmp}
+use Rattle.std.specs.Cmp.{nat_cmp_total}
+use Rattle.std.specs.FinMap.{get, contains_key, same_map, nat_cmp-IsAntisymmetric}
 use Rattle.std.specs.List.{AllByRecursion, flat_map}
-use Rattle.std.proofs.lemmas.Bool.{eqb-true, ne_eqb}
+use Rattle.std.proofs.lemmas.Bool.{eqb-true, ne_eqb, eq-eqb}
 use Rattle.std.proofs.lemmas.List.Elements.{filter-append}
 use Rattle.base.specs.declared.key.Key.{Key}
-use Rattle.base.specs.World.{Machine, World}
-use Rattle.base.specs.Run.{MakesLater}
+use Rattle.base.specs.Order.{key_cmp, key_total, key_exact}
+use Rattle.base.specs.World.{Machine, World, IsPending}
+use Rattle.base.specs.Run.{MakesLater, holds-with_events}
 use Rattle.base.specs.Rising.{IsRising}
 use Rattle.base.proofs.Rising.{all_append, all_weaker}
 use Rattle.windows.specs.Delays.{SendsAsItself, KeepsFar}
 use Rattle.windows.specs.Schedule.{Schedule}
-use Rattle.windows.specs.Parts.{part_of, for_own, joined, is_in, Done, IsWindowOf, PartRun}
-use Rattle.windows.specs.Cuts.{joined_joined, all_kept, own_of_others}
+use Rattle.windows.specs.Parts.{part_of, for_own, joined, is_in, Done, IsWindowOf, IsCommonBound, PartRun, HasWindow, all_keys, all_out, all_rows, AreWindows, StandsAfter}
+use Rattle.windows.specs.Cuts.{get_retained, joined_joined, all_kept, own_of_others}
 use Rattle.windows.specs.Windows.{IsReady, IsSafeHere, Led, leads}
 
 schedule_append : {S C R : Type 0} (step : Machine S C R) (Test : World S C → Key → Type 0) (ks ls : List Key) (w u v : World S C) (rows more : List R)
@@ -46,9 +51,6 @@ module _ {S C R : Type 0} (step : Machine S C R) (later : MakesLater step) (own 
   abbrev owns : Done S C R → ℕ → Bool
   owns d = is_in division d.part
 
-  abbrev all_out : List (Done S C R) → List (Key × C)
-  all_out ds = flat_map (λ d. d.out) ds
-
   -- a part whose window is still to come has only had events come to it, from other parts
   record Awaits (u : World S C) (outs : List (Key × C)) (d : Done S C R) : Type 0 where
     cut : part_of (owns d) u ≡ joined (part_of (owns d) w) (for_own (owns d) outs)
@@ -57,7 +59,7 @@ module _ {S C R : Type 0} (step : Machine S C R) (later : MakesLater step) (own 
 
   record AllLed (u : World S C) (outs : List (Key × C)) (ds : List (Done S C R)) : Type 0 where
     world : World S C
-    schedule : Schedule step (IsSafeHere step later own end least_delay Fact keeps bound) u (flat_map (λ d. d.keys) ds) (flat_map (λ d. d.rows) ds) world
+    schedule : Schedule step (IsSafeHere step later own end least_delay Fact keeps bound) u (all_keys ds) (all_rows ds) world
     ready : IsReady step later own end least_delay Fact keeps bound world
     far : AllByRecursion (λ e. bound ≤ e.0.at) (all_out ds)
     parts : AllByRecursion (λ d. part_of (owns d) world ≡ joined d.after (for_own (owns d) (outs ++ all_out ds))) ds
@@ -124,3 +126,78 @@ module _ {S C R : Type 0} (step : Machine S C R) (later : MakesLater step) (own 
       let led = first_led d ds u outs ready late apart.0 awaits.0 in
       then_rest d ds u outs ready late apart.0 awaits.0
       (all_led ds led.world (outs ++ d.out) led.ready (all_append _ outs d.out late led.far) apart.1 (all_still d ds u outs ready late apart.0 awaits.0 ds apart.0 awaits.1))
+
+  -- ---- the statement of all windows of a world
+
+  none_has : (ds : List (Done S C R)) (part : ℕ) → ¬ (HasWindow ds part) → AllByRecursion (λ d. d.part ≢ part) ds
+  none_has [] part none = tt
+  none_has (d ∷ ds) part none = (λ same. none (inl same), none_has ds part (λ h. none (inr h)))
+
+  await_first : (ds : List (Done S C R)) → AllByRecursion (IsWindowOf step division bound w) ds → AllByRecursion (Awaits w []) ds
+  await_first ds windows = all_weaker _ (Awaits w []) (λ d window. record { cut = refl; strange = tt; window = window }) ds windows
+
+  module _ (ds : List (Done S C R)) (ready : IsReady step later own end least_delay Fact keeps bound w) (are : AreWindows step division bound w ds) where
+    led_by_all : AllLed w [] ds
+    led_by_all = all_led ds w [] ready tt are.different (await_first ds are.windows)
+
+    -- where the windows lead
+    pub after_all : World S C
+    after_all = led_by_all.world
+
+    pub all_schedule : Schedule step (IsSafeHere step later own end least_delay Fact keeps bound) w (all_keys ds) (all_rows ds) after_all
+    unfolding after_all
+    all_schedule = led_by_all.schedule
+
+    pub ready_after : IsReady step later own end least_delay Fact keeps bound after_all
+    unfolding after_all
+    ready_after = led_by_all.ready
+
+    pub stands_after : StandsAfter division w ds after_all
+    unfolding after_all
+    stands_after = record { parts = led_by_all.parts; others = λ part none. led_by_all.others part (none_has ds part none) }
+
+    left_by : (q : Key) (es : List (Done S C R)) → IsPending after_all q → HasWindow es (division q.to) → AllByRecursion (IsWindowOf step division bound w) es
+        → AllByRecursion (λ d. part_of (owns d) after_all ≡ joined d.after (for_own (owns d) (all_out ds))) es → bound ≤ q.at
+    left_by q [] here none windows parts = absurd none
+    left_by q (d ∷ es) here (inr more) windows parts = left_by q es here more windows.1 parts.1
+    left_by q (d ∷ es) here (inl same) windows parts =
+        let kept : IsPending (part_of (owns d) after_all) q =
+        ap is_some (get_retained key_total key_exact (λ r. owns d r.to) (after_all).pending q ∙ ap (λ b. cond b (get (after_all).pending q) None) (eq-eqb (division q.to) d.part (sym same))) ∙ here in
+        holds-with_events (λ r. bound ≤ r.at) (for_own (owns d) (all_out ds)) d.after.pending windows.0.done (late_own (owns d) (all_out ds) led_by_all.far)
+        q (subst (λ (x : World S C). contains_key x.pending q ≡ true) parts.0 kept)
+
+    -- nothing is left below the bound for a part that had its window
+    pub none_left : (q : Key) → IsPending after_all q → HasWindow ds (division q.to) → bound ≤ q.at
+    none_left q here has = left_by q ds here has are.windows stands_after.parts
+
+early_of_run : {S C R : Type 0} (step : Machine S C R) (owns : ℕ → Bool) (bound : ℕ) (ks : List Key) (p v : World S C) (out : List (Key × C)) (rows : List R) → PartRun step owns bound p ks out rows v
+    → AllByRecursion (λ k. k.at < bound) ks
+early_of_run step owns bound [] p v out rows run = tt
+early_of_run step owns bound (k ∷ ks) p v out rows run = (run.5.early, early_of_run step owns bound ks run.0 v run.2 run.4 run.6)
+
+-- all events of the windows are before the bound
+pub keys_early : {S C R : Type 0} (step : Machine S C R) (division : ℕ → ℕ) (bound : ℕ) (w : World S C) (ds : List (Done S C R)) → AllByRecursion (IsWindowOf step division bound w) ds
+    → AllByRecursion (λ k. k.at < bound) (all_keys ds)
+keys_early step division bound w [] windows = tt
+keys_early step division bound w (d ∷ ds) windows =
+    all_append _ d.keys (all_keys ds) (early_of_run step (is_in division d.part) bound d.keys (part_of (is_in division d.part) w) d.after d.out d.rows windows.0.run)
+    (keys_early step division bound w ds windows.1)
+
+member_kept : {S C : Type 0} (division : ℕ → ℕ) (u : World S C) (m : ℕ) → get (part_of (is_in division (division m)) u).members m ≡ get u.members m
+member_kept division u m =
+    get_retained nat_cmp_total nat_cmp-IsAntisymmetric (is_in division (division m)) u.members m ∙ ap (λ b. cond b (get u.members m) None) (eq-eqb (division m) (division m) refl)
+
+event_kept : {S C : Type 0} (division : ℕ → ℕ) (u : World S C) (q : Key) → get (part_of (is_in division (division q.to)) u).pending q ≡ get u.pending q
+event_kept division u q =
+    get_retained key_total key_exact (λ r. is_in division (division q.to) r.to) u.pending q ∙ ap (λ b. cond b (get u.pending q) None) (eq-eqb (division q.to) (division q.to) refl)
+
+-- worlds of which each part is the same are one
+pub same_parts : {S C : Type 0} (division : ℕ → ℕ) (u v : World S C) → ((part : ℕ) → part_of (is_in division part) u ≡ part_of (is_in division part) v) → u ≡ v
+same_parts division u v same =
+    let members : u.members ≡ v.members =
+    same_map nat_cmp_total nat_cmp-IsAntisymmetric _ _ (λ m.
+    sym (member_kept division u m) ∙ ap (λ x. get x.members m) (same (division m)) ∙ member_kept division v m) in
+    let pending : u.pending ≡ v.pending =
+    same_map key_total key_exact _ _ (λ q.
+    sym (event_kept division u q) ∙ ap (λ x. get x.pending q) (same (division q.to)) ∙ event_kept division v q) in
+    λ i. record { members = members i; pending = pending i }

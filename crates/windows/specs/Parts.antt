@@ -1,10 +1,11 @@
 -- Parts of a world, their windows, and what is on its way between them.
-use Rattle.std.specs.Prelude.{◌≡◌, ℕ, ◌+◌, ◌<◌, ◌≤◌, Bool, not, nat_eq, List, [], ◌∷◌, ◌++◌, Option, Some}
+use Rattle.std.specs.Prelude.{◌≡◌, ◌≢◌, ◌⊎◌, ℕ, ◌+◌, ◌<◌, ◌≤◌, Bool, not, nat_eq, List, [], ◌∷◌, ◌++◌, Option, Some}
 use Rattle.std.specs.Option.{option_map, IfSome}
-use Rattle.std.specs.List.{filter}
+use Rattle.std.specs.List.{AllByRecursion, filter, flat_map}
 use Rattle.std.specs.FinMap.{get, retain_keys}
 use Rattle.base.specs.declared.key.Key.{Key}
 use Rattle.base.specs.Order.{IsBefore}
+use Rattle.base.specs.Rising.{IsRising}
 use Rattle.base.specs.World.{Outcome, Machine, World, IsPending, with_events, settled, rows_of, events_of, outcome}
 
 -- the part of a world that some of its members are: their states and the pending events for them
@@ -70,3 +71,29 @@ IsWindowOf step division bound w d = PartWindow step (is_in division d.part) bou
 pub record IsCommonBound {S C : Type 0} (end : ℕ) (least_delay : Option ℕ) (w : World S C) (bound : ℕ) : Type 0 where
   pub in_time : bound ≤ end + 1
   pub near : IfSome least_delay (λ d. (q : Key) → IsPending w q → bound ≤ q.at + d)
+
+-- the part has one of these windows
+abbrev pub HasWindow : {S C R : Type 0} → List (Done S C R) → ℕ → Type 0
+HasWindow [] part = ⊥
+HasWindow (d ∷ ds) part = (d.part ≡ part) ⊎ HasWindow ds part
+
+-- all keys, events that went out and rows of these windows
+abbrev pub all_keys : {S C R : Type 0} → List (Done S C R) → List Key
+all_keys = flat_map (λ d. d.keys)
+
+abbrev pub all_out : {S C R : Type 0} → List (Done S C R) → List (Key × C)
+all_out = flat_map (λ d. d.out)
+
+abbrev pub all_rows : {S C R : Type 0} → List (Done S C R) → List R
+all_rows = flat_map (λ d. d.rows)
+
+-- Windows of different parts of a world, of one bound.
+pub record AreWindows {S C R : Type 0} (step : Machine S C R) (division : ℕ → ℕ) (bound : ℕ) (w : World S C) (ds : List (Done S C R)) : Type 0 where
+  pub windows : AllByRecursion (IsWindowOf step division bound w) ds
+  pub different : IsRising (λ d e. d.part ≢ e.part) ds
+
+-- The world that stands after them: each part is as its window leaves it, or as it was if it has none, and the events
+-- that went out have come to their parts.
+pub record StandsAfter {S C R : Type 0} (division : ℕ → ℕ) (w : World S C) (ds : List (Done S C R)) (v : World S C) : Type 0 where
+  pub parts : AllByRecursion (λ d. part_of (is_in division d.part) v ≡ joined d.after (for_own (is_in division d.part) (all_out ds))) ds
+  pub others : (part : ℕ) → ¬ (HasWindow ds part) → part_of (is_in division part) v ≡ joined (part_of (is_in division part) w) (for_own (is_in division part) (all_out ds))
