@@ -28,3 +28,8 @@ ComesFar (Some d) k e = e.to ≢ k.to → k.at + d ≤ e.at
 pub record KeepsFar {S C R : Type 0} (end : ℕ) (least_delay : Option ℕ) (Fact : World S C → Type 0) (step : Machine S C R) : Type 0 where
   pub stays : (w : World S C) (k : Key) (c : C) → Fact w → get w.pending k ≡ Some c → k.at ≤ end → Fact (settled w k (outcome step w k c))
   pub far : (w : World S C) (k : Key) (c : C) → Fact w → get w.pending k ≡ Some c → k.at ≤ end → AllByRecursion (λ e. ComesFar least_delay k e.0) (events_of (outcome step w k c))
+
+-- Between different members no delay is less; where there is no least delay, there are no two members.
+abbrev pub IsNoMore : (ℕ → Type 0) → (ℕ → ℕ → ℕ) → Option ℕ → Type 0
+IsNoMore IsMember delay None = (i j : ℕ) → IsMember i → IsMember j → i ≡ j
+IsNoMore IsMember delay (Some d) = (i j : ℕ) → IsMember i → IsMember j → i ≢ j → d ≤ delay i j

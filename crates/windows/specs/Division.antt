@@ -14,10 +14,11 @@ use Rattle.base.specs.Run.{MakesLater, holds-with_events}
 use Rattle.base.specs.Rising.{IsRising}
 use Rattle.base.proofs.Rising.{all_append, all_weaker}
 use Rattle.windows.specs.Delays.{SendsAsItself, KeepsFar}
+use Rattle.windows.specs.Safe.{IsSafeIn}
 use Rattle.windows.specs.Schedule.{Schedule}
-use Rattle.windows.specs.Parts.{part_of, for_own, joined, is_in, Done, IsWindowOf, IsCommonBound, PartRun, HasWindow, all_keys, all_out, all_rows, AreWindows, StandsAfter}
+use Rattle.windows.specs.Parts.{part_of, for_own, joined, is_in, Done, IsWindowOf, IsCommonBound, PartRun, HasWindow, all_keys, all_out, all_rows, AreWindows, StandsAfter, IsReady}
 use Rattle.windows.specs.Cuts.{get_retained, joined_joined, all_kept, own_of_others}
-use Rattle.windows.specs.Windows.{IsReady, IsSafeHere, Led, leads}
+use Rattle.windows.specs.Windows.{Led, leads}
 
 schedule_append : {S C R : Type 0} (step : Machine S C R) (Test : World S C → Key → Type 0) (ks ls : List Key) (w u v : World S C) (rows more : List R)
     → Schedule step Test w ks rows u → Schedule step Test u ls more v → Schedule step Test w (ks ++ ls) (rows ++ more) v
@@ -59,8 +60,8 @@ module _ {S C R : Type 0} (step : Machine S C R) (later : MakesLater step) (own 
 
   record AllLed (u : World S C) (outs : List (Key × C)) (ds : List (Done S C R)) : Type 0 where
     world : World S C
-    schedule : Schedule step (IsSafeHere step later own end least_delay Fact keeps bound) u (all_keys ds) (all_rows ds) world
-    ready : IsReady step later own end least_delay Fact keeps bound world
+    schedule : Schedule step (IsSafeIn end least_delay Fact) u (all_keys ds) (all_rows ds) world
+    ready : IsReady end least_delay Fact bound world
     far : AllByRecursion (λ e. bound ≤ e.0.at) (all_out ds)
     parts : AllByRecursion (λ d. part_of (owns d) world ≡ joined d.after (for_own (owns d) (outs ++ all_out ds))) ds
     others : (part : ℕ) → AllByRecursion (λ d. d.part ≢ part) ds → part_of (is_in division part) world ≡ joined (part_of (is_in division part) u) (for_own (is_in division part) (all_out ds))
@@ -71,7 +72,7 @@ module _ {S C R : Type 0} (step : Machine S C R) (later : MakesLater step) (own 
   strange_own : (mine : ℕ → Bool) (outs : List (Key × C)) → AllByRecursion (λ e. mine e.0.from ≡ false) outs → AllByRecursion (λ e. mine e.0.from ≡ false) (for_own mine outs)
   strange_own mine outs strange = all_weaker _ (λ e. mine e.0.from ≡ false) (λ e h. h.1) (for_own mine outs) (all_kept (λ e. mine e.0.to) (λ e. mine e.0.from ≡ false) outs strange)
 
-  module _ (d : Done S C R) (ds : List (Done S C R)) (u : World S C) (outs : List (Key × C)) (ready : IsReady step later own end least_delay Fact keeps bound u)
+  module _ (d : Done S C R) (ds : List (Done S C R)) (u : World S C) (outs : List (Key × C)) (ready : IsReady end least_delay Fact bound u)
       (late : AllByRecursion (λ e. bound ≤ e.0.at) outs) (apart : AllByRecursion (λ e. d.part ≢ e.part) ds) (awaits : Awaits u outs d) where
     first_led : Led step later own end least_delay Fact keeps bound (owns d) (for_own (owns d) outs) (late_own (owns d) outs late) (strange_own (owns d) outs awaits.strange) u d.after d.keys d.out d.rows
     first_led =
@@ -97,7 +98,7 @@ module _ {S C R : Type 0} (step : Machine S C R) (later : MakesLater step) (own 
     then_rest : AllLed first_led.world (outs ++ d.out) ds → AllLed u outs (d ∷ ds)
     then_rest rest = record {
       world = rest.world;
-      schedule = schedule_append step (IsSafeHere step later own end least_delay Fact keeps bound) d.keys _ u first_led.world rest.world d.rows _ first_led.schedule rest.schedule;
+      schedule = schedule_append step (IsSafeIn end least_delay Fact) d.keys _ u first_led.world rest.world d.rows _ first_led.schedule rest.schedule;
       ready = rest.ready;
       far = all_append _ d.out (all_out ds) first_led.far rest.far;
       parts = (
@@ -119,7 +120,7 @@ module _ {S C R : Type 0} (step : Machine S C R) (later : MakesLater step) (own 
     }
 
   -- windows of different parts, one after the other
-  all_led : (ds : List (Done S C R)) (u : World S C) (outs : List (Key × C)) → IsReady step later own end least_delay Fact keeps bound u → AllByRecursion (λ e. bound ≤ e.0.at) outs
+  all_led : (ds : List (Done S C R)) (u : World S C) (outs : List (Key × C)) → IsReady end least_delay Fact bound u → AllByRecursion (λ e. bound ≤ e.0.at) outs
       → IsRising (λ d e. d.part ≢ e.part) ds → AllByRecursion (Awaits u outs) ds → AllLed u outs ds
   all_led [] u outs ready late apart awaits = record { world = u; schedule = (refl, refl); ready = ready; far = tt; parts = tt; others = λ part _. refl }
   all_led (d ∷ ds) u outs ready late apart awaits =
@@ -136,7 +137,7 @@ module _ {S C R : Type 0} (step : Machine S C R) (later : MakesLater step) (own 
   await_first : (ds : List (Done S C R)) → AllByRecursion (IsWindowOf step division bound w) ds → AllByRecursion (Awaits w []) ds
   await_first ds windows = all_weaker _ (Awaits w []) (λ d window. record { cut = refl; strange = tt; window = window }) ds windows
 
-  module _ (ds : List (Done S C R)) (ready : IsReady step later own end least_delay Fact keeps bound w) (are : AreWindows step division bound w ds) where
+  module _ (ds : List (Done S C R)) (ready : IsReady end least_delay Fact bound w) (are : AreWindows step division bound w ds) where
     led_by_all : AllLed w [] ds
     led_by_all = all_led ds w [] ready tt are.different (await_first ds are.windows)
 
@@ -144,11 +145,11 @@ module _ {S C R : Type 0} (step : Machine S C R) (later : MakesLater step) (own 
     pub after_all : World S C
     after_all = led_by_all.world
 
-    pub all_schedule : Schedule step (IsSafeHere step later own end least_delay Fact keeps bound) w (all_keys ds) (all_rows ds) after_all
+    pub all_schedule : Schedule step (IsSafeIn end least_delay Fact) w (all_keys ds) (all_rows ds) after_all
     unfolding after_all
     all_schedule = led_by_all.schedule
 
-    pub ready_after : IsReady step later own end least_delay Fact keeps bound after_all
+    pub ready_after : IsReady end least_delay Fact bound after_all
     unfolding after_all
     ready_after = led_by_all.ready
 

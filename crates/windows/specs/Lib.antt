@@ -11,3 +11,5 @@ pub mod Parts
 pub mod Cuts
 pub mod Windows
 pub mod Division
+pub mod Far
+pub mod Schedules

@@ -97,3 +97,7 @@ pub record AreWindows {S C R : Type 0} (step : Machine S C R) (division : ℕ �
 pub record StandsAfter {S C R : Type 0} (division : ℕ → ℕ) (w : World S C) (ds : List (Done S C R)) (v : World S C) : Type 0 where
   pub parts : AllByRecursion (λ d. part_of (is_in division d.part) v ≡ joined d.after (for_own (is_in division d.part) (all_out ds))) ds
   pub others : (part : ℕ) → ¬ (HasWindow ds part) → part_of (is_in division part) v ≡ joined (part_of (is_in division part) w) (for_own (is_in division part) (all_out ds))
+
+-- a world of which this holds, and in which the windows below the bound may run
+abbrev pub IsReady : {S C : Type 0} → ℕ → Option ℕ → (World S C → Type 0) → ℕ → World S C → Type 0
+IsReady end least_delay Fact bound w = Fact w × IsCommonBound end least_delay w bound

@@ -16,3 +16,7 @@ pub record IsSafe {S C : Type 0} (end : ℕ) (least_delay : Option ℕ) (w : Wor
   pub first : IsFirstOf w k
   pub in_time : k.at ≤ end
   pub near : IfSome least_delay (λ d. (q : Key) → IsPending w q → k.at < q.at + d)
+
+-- and is so in a world of which this holds too
+abbrev pub IsSafeIn : {S C : Type 0} → ℕ → Option ℕ → (World S C → Type 0) → World S C → Key → Type 0
+IsSafeIn end least_delay Fact w k = IsSafe end least_delay w k × Fact w

@@ -10,6 +10,7 @@ use Rattle.base.specs.Run.{MakesLater, holds-with_events, contains-remove}
 use Rattle.base.proofs.Rising.{all_weaker}
 use Rattle.windows.specs.Delays.{ComesFar, KeepsFar}
 use Rattle.windows.specs.Safe.{IsSafe}
+use Rattle.windows.specs.Safe.{IsSafeIn}
 use Rattle.windows.specs.Schedule.{OffersEarly}
 use Rattle.windows.specs.Swaps.{NoneIs, pending_settled}
 use Rattle.windows.specs.Early.{content_stays, receivers_differ, events_later}
@@ -23,13 +24,7 @@ module _ {S C R : Type 0} (step : Machine S C R) where
       (subst (λ m. contains_key m r ≡ true) (ap (λ (u : World S C). u.pending) next.world ∙ pending_settled w q (outcome step w q next.content)) here)
 
 module _ {S C R : Type 0} (step : Machine S C R) (later : MakesLater step) (end : ℕ) (least_delay : Option ℕ) (Fact : World S C → Type 0) (keeps : KeepsFar end least_delay Fact step) where
-  abbrev pub SafeHere : World S C → Key → Type 0
-  SafeHere w k = IsSafe end least_delay w k × Fact w
-
-  module _ (w v : World S C) (k q : Key) (made : List R) (safe : SafeHere w k) (next : NextStep step w q v made) (other : q ≢ k) where
-    made_now : List (Key × C)
-    made_now = events_of (outcome step w q next.content)
-
+  module _ (w v : World S C) (k q : Key) (made : List R) (safe : IsSafeIn end least_delay Fact w k) (next : NextStep step w q v made) (other : q ≢ k) where
     in_time : q.at ≤ end
     in_time = let low = moments-from_not_before k q (next.least k safe.0.first.here) in let h = safe.0.in_time in omega arith
 
@@ -59,7 +54,7 @@ module _ {S C R : Type 0} (step : Machine S C R) (later : MakesLater step) (end 
         holds_after step (λ r. k.at < r.at + d) w v q made next near
         (all_weaker _ (λ e. k.at < e.0.at + d) (λ e past. omega arith) (events_of (outcome step w q next.content)) (events_later step later w q next.content))
 
-    stays : SafeHere v k
+    stays : IsSafeIn end least_delay Fact v k
     stays = (
       record {
         first = record {
@@ -75,7 +70,7 @@ module _ {S C R : Type 0} (step : Machine S C R) (later : MakesLater step) (end 
     )
 
   -- an event that is safe may be handled before its turn
-  pub safe_offers : OffersEarly step end SafeHere
+  pub safe_offers : OffersEarly step end (IsSafeIn end least_delay Fact)
   safe_offers = record {
     first = λ w k safe. safe.0.first;
     in_time = λ w k safe. safe.0.in_time;

@@ -12,11 +12,11 @@ use Rattle.base.specs.World.{Machine, World, IsPending, settled, rows_of, events
 use Rattle.base.specs.Run.{MakesLater, holds-settled, holds-with_events}
 use Rattle.base.proofs.Rising.{all_append, all_weaker}
 use Rattle.windows.specs.Delays.{SendsAsItself, ComesFar, KeepsFar}
+use Rattle.windows.specs.Safe.{IsSafeIn}
 use Rattle.windows.specs.Schedule.{TestedStep, Schedule}
-use Rattle.windows.specs.Parts.{part_of, for_own, for_others, joined, kept_by, PartStep, PartRun, IsCommonBound}
+use Rattle.windows.specs.Parts.{part_of, for_own, for_others, joined, kept_by, PartStep, PartRun, IsCommonBound, IsReady}
 use Rattle.windows.specs.Swaps.{NoneIs}
 use Rattle.windows.specs.Early.{get-with_events, events_own}
-use Rattle.windows.specs.Safety.{SafeHere}
 use Rattle.windows.specs.Cuts.{get_retained, part_settled, part_settled_other, events_kept, settled_joined, joined_joined, all_kept, own_of_sent}
 
 kept_value : {X : Type 0} (o : Option X) (x : X) (b mine : Bool) → mine ≡ b → cond b o None ≡ Some x → (mine ≡ true) × (o ≡ Some x)
@@ -25,13 +25,6 @@ kept_value o x false mine e is = absurd (false≢true (ap is_some is))
 
 module _ {S C R : Type 0} (step : Machine S C R) (later : MakesLater step) (own : SendsAsItself step) (end : ℕ) (least_delay : Option ℕ) (Fact : World S C → Type 0)
     (keeps : KeepsFar end least_delay Fact step) (bound : ℕ) where
-  -- a world in which the windows below the bound may go on
-  abbrev pub IsReady : World S C → Type 0
-  IsReady w = Fact w × IsCommonBound end least_delay w bound
-
-  abbrev pub IsSafeHere : World S C → Key → Type 0
-  IsSafeHere = SafeHere step later end least_delay Fact keeps
-
   near_by : (d : Option ℕ) (u : World S C) (k : Key) → k.at < bound → IfSome d (λ d. (q : Key) → IsPending u q → bound ≤ q.at + d) → IfSome d (λ d. (q : Key) → IsPending u q → k.at < q.at + d)
   near_by None u k early near = tt
   near_by (Some d) u k early near = λ q here. let h = near q here in omega arith
@@ -52,14 +45,14 @@ module _ {S C R : Type 0} (step : Machine S C R) (later : MakesLater step) (own 
     -- come before, and what they made for others has come to these.
     pub record Led (u after : World S C) (keys : List Key) (out : List (Key × C)) (rows : List R) : Type 0 where
       pub world : World S C
-      pub schedule : Schedule step IsSafeHere u keys rows world
-      pub ready : IsReady world
+      pub schedule : Schedule step (IsSafeIn end least_delay Fact) u keys rows world
+      pub ready : IsReady end least_delay Fact bound world
       pub part : part_of owns world ≡ joined after extra
       pub others : (mine : ℕ → Bool) → ((m : ℕ) → mine m ≡ true → owns m ≡ false) → part_of mine world ≡ joined (part_of mine u) (for_own mine out)
       pub far : AllByRecursion (λ e. bound ≤ e.0.at) out
       pub from : AllByRecursion (λ e. owns e.0.from ≡ true) out
 
-    module _ (u p mid : World S C) (k : Key) (sent : List (Key × C)) (made : List R) (ready : IsReady u) (cut : part_of owns u ≡ joined p extra) (is : PartStep step owns bound p k sent made mid) where
+    module _ (u p mid : World S C) (k : Key) (sent : List (Key × C)) (made : List R) (ready : IsReady end least_delay Fact bound u) (cut : part_of owns u ≡ joined p extra) (is : PartStep step owns bound p k sent made mid) where
       out_there : Option (Outcome S C R)
       out_there = outcome step u k is.content
 
@@ -86,7 +79,7 @@ module _ {S C R : Type 0} (step : Machine S C R) (later : MakesLater step) (own 
           (all_weaker _ (λ e. ¬ (IsBefore e.0 k)) (λ e past before. let early = is.early in let h = moments-from_before e.0 k before in omega arith) extra late)
           q (subst (λ (x : World S C). contains_key x.pending q ≡ true) cut kept)
 
-      safe_there : IsSafeHere u k
+      safe_there : IsSafeIn end least_delay Fact u k
       safe_there = (
         record {
           first = record { here = ap is_some found.1; least = least_there };
@@ -99,10 +92,10 @@ module _ {S C R : Type 0} (step : Machine S C R) (later : MakesLater step) (own 
       abbrev led : World S C
       led = settled u k (outcome step u k is.content)
 
-      step_there : TestedStep step IsSafeHere u k led made
+      step_there : TestedStep step (IsSafeIn end least_delay Fact) u k led made
       step_there = record { content = is.content; here = found.1; passes = safe_there; world = refl; made = is.made ∙ ap rows_of (sym same_outcome) }
 
-      ready_there : IsReady led
+      ready_there : IsReady end least_delay Fact bound led
       ready_there = (
         keeps.stays u k is.content ready.0 found.1 safe_there.0.in_time,
         record { in_time = ready.1.in_time; near = near_settled least_delay u k is.content found.1 ready.1.near },
@@ -150,7 +143,7 @@ module _ {S C R : Type 0} (step : Machine S C R) (later : MakesLater step) (own 
           (for_others owns (events_of (outcome step p k is.content))) (all_kept (λ e. not (owns e.0.to)) (λ e. e.0.from ≡ k.to) (events_of (outcome step p k is.content)) (events_own step own p k is.content)))
 
     -- the steps of a part are steps of the world
-    pub leads : (keys : List Key) (u p after : World S C) (out : List (Key × C)) (rows : List R) → IsReady u → part_of owns u ≡ joined p extra
+    pub leads : (keys : List Key) (u p after : World S C) (out : List (Key × C)) (rows : List R) → IsReady end least_delay Fact bound u → part_of owns u ≡ joined p extra
         → PartRun step owns bound p keys out rows after → Led u after keys out rows
     leads [] u p after out rows ready cut run = record {
       world = u;

@@ -1,0 +1,90 @@
+-- Schedules of safe steps and windows against the run, over any machine.
+use Rattle.std.proofs.Common.{◌≡◌, ◌≢◌, ℕ, ◌<◌, ◌≤◌, List, [], ◌∷◌, ◌++◌, Option, ap, ◌∙◌, sym, subst, refl}
+use Rattle.std.specs.List.{AllByRecursion}
+use Rattle.std.specs.List.Sorted.{IsPermutation, IsSorted}
+use Rattle.std.specs.Cmp.{IsTotalOrder}
+use Rattle.std.specs.declared.cmp.Ordering.{Ordering}
+use Rattle.std.specs.declared.cmp.Ordering.TheVariants.{Less}
+use Rattle.base.specs.declared.key.Key.{Key}
+use Rattle.base.specs.World.{Machine, World, IsPending, SequentialRun}
+use Rattle.base.specs.Run.{MakesLater, handled, trace, trace-run}
+use Rattle.base.specs.Rising.{IsPlaceBefore, CountsRows}
+use Rattle.windows.specs.Delays.{SendsAsItself, KeepsFar}
+use Rattle.windows.specs.Safe.{IsSafe, IsSafeIn}
+use Rattle.windows.specs.Schedule.{TestedStep, Schedule, CatchesUp, TellsWhose, rows_by}
+use Rattle.windows.specs.Parts.{Done, IsReady, all_keys, all_rows, AreWindows, StandsAfter, HasWindow}
+use Rattle.windows.specs.Early.{early_step}
+use Rattle.windows.specs.Safety.{safe_offers}
+use Rattle.windows.specs.Merge.{schedule_keys, schedule_rows, schedule_by}
+use Rattle.windows.specs.Released.{released}
+use Rattle.windows.specs.Division.{after_all, all_schedule, ready_after, stands_after, none_left}
+
+module _ {S C R : Type 0} (step : Machine S C R) where
+  weaker_step : (Test Other : World S C → Key → Type 0) (w v : World S C) (k : Key) (made : List R) → Other w k → TestedStep step Test w k v made → TestedStep step Other w k v made
+  weaker_step Test Other w v k made passes is = record { content = is.content; here = is.here; passes = passes; world = is.world; made = is.made }
+
+  weaker_schedule : (Test Other : World S C → Key → Type 0) → ((w : World S C) (k : Key) → Test w k → Other w k) → (ks : List Key) (w v : World S C) (rows : List R)
+      → Schedule step Test w ks rows v → Schedule step Other w ks rows v
+  weaker_schedule Test Other gives [] w v rows is = is
+  weaker_schedule Test Other gives (k ∷ ks) w v rows is =
+      (is.0, is.1, is.2, weaker_step Test Other w is.0 k is.1 (gives w k is.3.passes) is.3, weaker_schedule Test Other gives ks is.0 v is.2 is.4, is.5)
+
+module _ {S C R : Type 0} (step : Machine S C R) (later : MakesLater step) (own : SendsAsItself step) (end : ℕ) (least_delay : Option ℕ) (Fact : World S C → Type 0)
+    (keeps : KeepsFar end least_delay Fact step) where
+  -- a safe event may be handled before its turn
+  pub safe_early : (w v : World S C) (k : Key) (made : List R) → Fact w → TestedStep step (IsSafe end least_delay) w k v made → CatchesUp step end w v k made
+  safe_early w v k made fact is =
+      early_step step later own end (IsSafeIn end least_delay Fact) (safe_offers step later end least_delay Fact keeps) w v k made (weaker_step step _ _ w v k made (is.passes, fact) is)
+
+  -- the fact stays through a schedule
+  pub schedule_kept : (ks : List Key) (w v : World S C) (rows : List R) → Fact w → Schedule step (IsSafe end least_delay) w ks rows v → Schedule step (IsSafeIn end least_delay Fact) w ks rows v × Fact v
+  schedule_kept [] w v rows fact is = (is, subst Fact (sym is.0) fact)
+  schedule_kept (k ∷ ks) w v rows fact is =
+      let mid : Fact is.0 = subst Fact (sym is.3.world) (keeps.stays w k is.3.content fact is.3.here is.3.passes.in_time) in
+      let rest = schedule_kept ks is.0 v is.2 mid is.4 in
+      ((is.0, is.1, is.2, weaker_step step _ _ w is.0 k is.1 (is.3.passes, fact) is.3, rest.0, is.5), rest.1)
+
+  same_run : (w : World S C) (keys : List Key) (rows : List R) → SequentialRun step end w keys rows → (handled step later end w ≡ keys) × (trace step later end w ≡ rows)
+  same_run w keys rows is = trace-run step later end keys w is.last rows is.run is.over
+
+  module _ (w v : World S C) (ks all_ks left_ks : List Key) (rows all left : List R) (fact : Fact w) (is : Schedule step (IsSafe end least_delay) w ks rows v)
+      (whole : SequentialRun step end w all_ks all) (rest : SequentialRun step end v left_ks left) where
+    -- the keys and the rows of a schedule, with those of the run that is left, are the whole run's, in another order
+    pub safe_keys : IsPermutation (ks ++ left_ks) all_ks
+    safe_keys =
+        let keys = schedule_keys step later own end (IsSafeIn end least_delay Fact) (safe_offers step later end least_delay Fact keeps) ks w v rows (schedule_kept ks w v rows fact is).0 in
+        subst (λ l. IsPermutation (ks ++ l) all_ks) (same_run v left_ks left rest).0 (subst (IsPermutation (ks ++ handled step later end v)) (same_run w all_ks all whole).0 keys)
+
+    pub safe_rows : IsPermutation (rows ++ left) all
+    safe_rows =
+        let same = schedule_rows step later own end (IsSafeIn end least_delay Fact) (safe_offers step later end least_delay Fact keeps) ks w v rows (schedule_kept ks w v rows fact is).0 in
+        subst (λ l. IsPermutation (rows ++ l) all) (same_run v left_ks left rest).1 (subst (IsPermutation (rows ++ trace step later end v)) (same_run w all_ks all whole).1 same)
+
+    -- and each member's in the same order
+    pub safe_rows_by : (whose : R → ℕ) → TellsWhose whose step → (m : ℕ) → rows_by whose m all ≡ rows_by whose m rows ++ rows_by whose m left
+    safe_rows_by whose tells m =
+        ap (rows_by whose m) (sym (same_run w all_ks all whole).1)
+        ∙ schedule_by step later own end (IsSafeIn end least_delay Fact) (safe_offers step later end least_delay Fact keeps) whose tells m ks w v rows (schedule_kept ks w v rows fact is).0
+        ∙ ap (λ l. rows_by whose m rows ++ rows_by whose m l) (same_run v left_ks left rest).1
+
+    module _ (place : R → Key × ℕ) (counts : CountsRows place step) (cmp : R → R → Ordering) (total : IsTotalOrder cmp) (agrees : (a b : R) → IsPlaceBefore (place a) (place b) → cmp a b ≡ Less) where
+      -- where all events before a bound were handled, and no later one, the rows, sorted, are the next of the run
+      pub safe_released : (bound : ℕ) (sorted : List R) → AllByRecursion (λ k. k.at < bound) ks → ((q : Key) → IsPending v q → bound ≤ q.at)
+          → IsPermutation rows sorted → IsSorted cmp sorted → all ≡ sorted ++ left
+      safe_released bound sorted below from same up =
+          sym (same_run w all_ks all whole).1
+          ∙ released step later place counts end cmp total agrees own (IsSafeIn end least_delay Fact) (safe_offers step later end least_delay Fact keeps)
+              bound ks w v rows sorted (schedule_kept ks w v rows fact is).0 below from same up
+          ∙ ap (λ l. sorted ++ l) (same_run v left_ks left rest).1
+
+  -- windows of different parts lead by safe steps to a world that stands for the parts
+  pub windows_lead : (division : ℕ → ℕ) (bound : ℕ) (w : World S C) (ds : List (Done S C R)) → IsReady end least_delay Fact bound w → AreWindows step division bound w ds
+      → (v : World S C) × Schedule step (IsSafe end least_delay) w (all_keys ds) (all_rows ds) v × StandsAfter division w ds v × Fact v × ((q : Key) → IsPending v q → HasWindow ds (division q.to) → bound ≤ q.at)
+  windows_lead division bound w ds ready are = (
+    after_all step later own end least_delay Fact keeps bound division w ds ready are,
+    weaker_schedule step (IsSafeIn end least_delay Fact) (IsSafe end least_delay) (λ u k safe. safe.0) (all_keys ds) w _ (all_rows ds)
+        (all_schedule step later own end least_delay Fact keeps bound division w ds ready are),
+    stands_after step later own end least_delay Fact keeps bound division w ds ready are,
+    (ready_after step later own end least_delay Fact keeps bound division w ds ready are).0,
+    none_left step later own end least_delay Fact keeps bound division w ds ready are,
+  )
