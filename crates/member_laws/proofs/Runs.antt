@@ -45,9 +45,9 @@ module _ {S C R : Type 0} (step : Machine S C R) (P : ℕ → S → Type 0) (E :
   one_of members m n new t true e own old here = subst (λ r. P r t) (sym (eqb-true n m e)) (subst (P m) (same_Some new t here) own)
   one_of members m n new t false e own old here = old t here
 
-  after : (w : World S C) (k : Key) (c : C) (held : Option S) → get w.members k.to ≡ held → k.at ≤ end → E k c → IsKept w → IsKept (settled w k (option_map (step k c) held))
-  after w k c None none in_time here kept = record { members = kept.members; events = all_left E w.pending k kept.events }
-  after w k c (Some t) is in_time here kept =
+  pub kept_after : (w : World S C) (k : Key) (c : C) (held : Option S) → get w.members k.to ≡ held → k.at ≤ end → E k c → IsKept w → IsKept (settled w k (option_map (step k c) held))
+  kept_after w k c None none in_time here kept = record { members = kept.members; events = all_left E w.pending k kept.events }
+  kept_after w k c (Some t) is in_time here kept =
       let made = keeps k c t in_time here (kept.members k.to t is) in
       record {
         members = λ n u at. one_of w.members k.to n (step k c t).state u (eqb n k.to) refl made.0 (kept.members n) (sym (get_put w.members k.to n (step k c t).state) ∙ at);
@@ -59,7 +59,7 @@ module _ {S C R : Type 0} (step : Machine S C R) (P : ℕ → S → Type 0) (E :
   run_kept (k ∷ ks) w v rows run kept =
       let next = run.4 in
       run_kept ks run.0 v run.2 run.5
-      (subst IsKept (sym next.world) (after w k next.content (get w.members k.to) refl run.3 (kept.events k next.content next.here) kept))
+      (subst IsKept (sym next.world) (kept_after w k next.content (get w.members k.to) refl run.3 (kept.events k next.content next.here) kept))
 
   -- and what the rows of each step are, those of the run are
   module _ (Q : R → Type 0) (tells : (k : Key) (c : C) (t : S) → E k c → P k.to t → AllByRecursion Q (step k c t).rows) where
@@ -73,7 +73,7 @@ module _ {S C R : Type 0} (step : Machine S C R) (P : ℕ → S → Type 0) (E :
         let next = run.4 in
         let here = kept.events k next.content next.here in
         let made = subst (AllByRecursion Q) (sym next.made) (rows_after w k next.content (get w.members k.to) refl here kept) in
-        let more = run_rows ks run.0 v run.2 run.5 (subst IsKept (sym next.world) (after w k next.content (get w.members k.to) refl run.3 here kept)) in
+        let more = run_rows ks run.0 v run.2 run.5 (subst IsKept (sym next.world) (kept_after w k next.content (get w.members k.to) refl run.3 here kept)) in
         subst (AllByRecursion Q) (sym run.6) (all_append Q run.1 run.2 made more)
 
 -- ---- the opening world

@@ -1,0 +1,12 @@
+pub mod Swaps
+pub mod Early
+pub mod Safety
+pub mod Merge
+pub mod Sorting
+pub mod Released
+pub mod Cuts
+pub mod Windows
+pub mod Division
+pub mod Far
+pub mod Schedules
+pub mod Members

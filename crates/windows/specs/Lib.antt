@@ -1,15 +1,5 @@
 pub mod Delays
 pub mod Safe
 pub mod Schedule
-pub mod Swaps
-pub mod Early
-pub mod Safety
-pub mod Merge
-pub mod Sorting
-pub mod Released
 pub mod Parts
-pub mod Cuts
-pub mod Windows
-pub mod Division
-pub mod Far
-pub mod Schedules
+pub mod Cluster

@@ -13,11 +13,11 @@ use Rattle.windows.specs.Delays.{SendsAsItself, KeepsFar}
 use Rattle.windows.specs.Safe.{IsSafe, IsSafeIn}
 use Rattle.windows.specs.Schedule.{TestedStep, Schedule, CatchesUp, TellsWhose, rows_by}
 use Rattle.windows.specs.Parts.{Done, IsReady, all_keys, all_rows, AreWindows, StandsAfter, HasWindow}
-use Rattle.windows.specs.Early.{early_step}
-use Rattle.windows.specs.Safety.{safe_offers}
-use Rattle.windows.specs.Merge.{schedule_keys, schedule_rows, schedule_by}
-use Rattle.windows.specs.Released.{released}
-use Rattle.windows.specs.Division.{after_all, all_schedule, ready_after, stands_after, none_left}
+use Rattle.windows.proofs.Early.{early_step}
+use Rattle.windows.proofs.Safety.{safe_offers}
+use Rattle.windows.proofs.Merge.{schedule_keys, schedule_rows, schedule_by}
+use Rattle.windows.proofs.Released.{released}
+use Rattle.windows.proofs.Division.{after_all, all_schedule, ready_after, stands_after, none_left}
 
 module _ {S C R : Type 0} (step : Machine S C R) where
   weaker_step : (Test Other : World S C → Key → Type 0) (w v : World S C) (k : Key) (made : List R) → Other w k → TestedStep step Test w k v made → TestedStep step Other w k v made

@@ -12,8 +12,8 @@ use Rattle.windows.specs.Delays.{ComesFar, KeepsFar}
 use Rattle.windows.specs.Safe.{IsSafe}
 use Rattle.windows.specs.Safe.{IsSafeIn}
 use Rattle.windows.specs.Schedule.{OffersEarly}
-use Rattle.windows.specs.Swaps.{NoneIs, pending_settled}
-use Rattle.windows.specs.Early.{content_stays, receivers_differ, events_later}
+use Rattle.windows.proofs.Swaps.{NoneIs, pending_settled}
+use Rattle.windows.proofs.Early.{content_stays, receivers_differ, events_later}
 
 module _ {S C R : Type 0} (step : Machine S C R) where
   -- what holds of the pending events and of those made holds of all that pend after the step

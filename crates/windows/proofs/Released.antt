@@ -17,9 +17,9 @@ use Rattle.base.specs.Rising.{IsRising, IsPlaceBefore, CountsRows}
 use Rattle.base.proofs.Rising.{all_append, all_weaker, rising_append, rows_rise}
 use Rattle.windows.specs.Delays.{SendsAsItself}
 use Rattle.windows.specs.Schedule.{Schedule, OffersEarly, TellsWhose}
-use Rattle.windows.specs.Early.{all_rows}
-use Rattle.windows.specs.Merge.{schedule_rows}
-use Rattle.windows.specs.Sorting.{IsAtMost, IsLess, by_turn, rising_from_sorted, one_order}
+use Rattle.windows.proofs.Early.{all_rows}
+use Rattle.windows.proofs.Merge.{schedule_rows}
+use Rattle.windows.proofs.Sorting.{IsAtMost, IsLess, by_turn, rising_from_sorted, one_order}
 
 module _ {A B : Type 0} (f : A → B) where
   all_mapped : (P : B → Type 0) (xs : List A) → AllByRecursion P (map f xs) → AllByRecursion (λ x. P (f x)) xs

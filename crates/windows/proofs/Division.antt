@@ -17,8 +17,8 @@ use Rattle.windows.specs.Delays.{SendsAsItself, KeepsFar}
 use Rattle.windows.specs.Safe.{IsSafeIn}
 use Rattle.windows.specs.Schedule.{Schedule}
 use Rattle.windows.specs.Parts.{part_of, for_own, joined, is_in, Done, IsWindowOf, IsCommonBound, PartRun, HasWindow, all_keys, all_out, all_rows, AreWindows, StandsAfter, IsReady}
-use Rattle.windows.specs.Cuts.{get_retained, joined_joined, all_kept, own_of_others}
-use Rattle.windows.specs.Windows.{Led, leads}
+use Rattle.windows.proofs.Cuts.{get_retained, joined_joined, all_kept, own_of_others}
+use Rattle.windows.proofs.Windows.{Led, leads}
 
 schedule_append : {S C R : Type 0} (step : Machine S C R) (Test : World S C → Key → Type 0) (ks ls : List Key) (w u v : World S C) (rows more : List R)
     → Schedule step Test w ks rows u → Schedule step Test u ls more v → Schedule step Test w (ks ++ ls) (rows ++ more) v

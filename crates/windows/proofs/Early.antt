@@ -14,7 +14,7 @@ use Rattle.base.proofs.Rising.{all_weaker}
 use Rattle.windows.specs.Delays.{SendsAsItself}
 use Rattle.windows.specs.Safe.{IsFirstOf}
 use Rattle.windows.specs.Schedule.{TestedStep, OffersEarly, CatchesUp}
-use Rattle.windows.specs.Swaps.{NoneIs, pending_settled, settled_swap}
+use Rattle.windows.proofs.Swaps.{NoneIs, pending_settled, settled_swap}
 
 module _ {C : Type 0} where
   inserted_get : (pending : FinMap key_cmp C) (k : Key) (c : C) (q : Key) (b : Bool) → k ≢ q → eq_by_cmp key_cmp q k ≡ b → cond b (Some c) (get pending q) ≡ get pending q

@@ -11,7 +11,7 @@ use Rattle.base.specs.declared.key.Key.{Key}
 use Rattle.base.specs.Order.{key_cmp, key_total, key_exact}
 use Rattle.base.specs.World.{Outcome, World, with_events, settled, events_of}
 use Rattle.windows.specs.Parts.{part_of, for_own, for_others, joined, kept_by}
-use Rattle.windows.specs.Swaps.{NoneIs, pending_settled, with_events-remove, with_events-with_events}
+use Rattle.windows.proofs.Swaps.{NoneIs, pending_settled, with_events-remove, with_events-with_events}
 
 module _ {K X : Type 0} {R : K → K → Ordering} (total : IsTotalOrder R) (exact : IsAntisymmetric R) (own : K → Bool) where
   pub get_retained : (m : FinMap R X) (q : K) → get (retain_keys m own) q ≡ cond (own q) (get m q) None

@@ -11,7 +11,7 @@ use Rattle.base.specs.Run.{MakesLater, handled, trace}
 use Rattle.base.proofs.Rising.{all_append, all_weaker}
 use Rattle.windows.specs.Delays.{SendsAsItself}
 use Rattle.windows.specs.Schedule.{Schedule, OffersEarly, TellsWhose, rows_by}
-use Rattle.windows.specs.Early.{all_rows, early_step, whole_runs}
+use Rattle.windows.proofs.Early.{all_rows, early_step, whole_runs}
 
 module _ {A : Type 0} where
   -- what comes later goes to the front

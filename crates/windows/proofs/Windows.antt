@@ -15,9 +15,9 @@ use Rattle.windows.specs.Delays.{SendsAsItself, ComesFar, KeepsFar}
 use Rattle.windows.specs.Safe.{IsSafeIn}
 use Rattle.windows.specs.Schedule.{TestedStep, Schedule}
 use Rattle.windows.specs.Parts.{part_of, for_own, for_others, joined, kept_by, PartStep, PartRun, IsCommonBound, IsReady}
-use Rattle.windows.specs.Swaps.{NoneIs}
-use Rattle.windows.specs.Early.{get-with_events, events_own}
-use Rattle.windows.specs.Cuts.{get_retained, part_settled, part_settled_other, events_kept, settled_joined, joined_joined, all_kept, own_of_sent}
+use Rattle.windows.proofs.Swaps.{NoneIs}
+use Rattle.windows.proofs.Early.{get-with_events, events_own}
+use Rattle.windows.proofs.Cuts.{get_retained, part_settled, part_settled_other, events_kept, settled_joined, joined_joined, all_kept, own_of_sent}
 
 kept_value : {X : Type 0} (o : Option X) (x : X) (b mine : Bool) → mine ≡ b → cond b o None ≡ Some x → (mine ≡ true) × (o ≡ Some x)
 kept_value o x true mine e is = (e, is)

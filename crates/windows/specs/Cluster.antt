@@ -1,0 +1,35 @@
+-- Schedules and windows of a scenario's cluster.
+use Rattle.std.specs.Prelude.{◌≡◌, ℕ, List, Option, Some, None}
+use Rattle.std.specs.FinMap.{get}
+use Rattle.base.specs.declared.key.Key.{Key}
+use Rattle.scenario.specs.Setup.{Setup, member_count, link_between}
+use Rattle.trace.specs.declared.row.Row.{Row}
+use Rattle.links.specs.Least.{IsReached, IsNoGreater}
+use Rattle.member.specs.declared.content.Content.{Content}
+use Rattle.member.specs.State.{State}
+use Rattle.member.specs.Step.{step}
+use Rattle.member_laws.specs.Words.{IsConsistent, IsAmongMembers}
+use Rattle.member_laws.specs.Runs.{Cluster}
+use Rattle.windows.specs.Safe.{IsSafe}
+use Rattle.windows.specs.Schedule.{TestedStep, Schedule}
+
+abbrev pub link_delay : Setup → ℕ → ℕ → ℕ
+link_delay s i j = (link_between s i j).delay
+
+-- the least delay of a link from a member to another one, where there are two members or more
+abbrev pub IsLeastDelay : Setup → Option ℕ → Type 0
+IsLeastDelay s None = member_count s ≡ 1
+IsLeastDelay s (Some d) = IsReached (link_delay s) (member_count s) d × IsNoGreater (link_delay s) (member_count s) d
+
+-- each member's state is consistent, and each event that pends is among members
+pub record IsSoundCluster (s : Setup) (w : Cluster) : Type 0 where
+  pub states : (m : ℕ) (t : State) → get w.members m ≡ Some t → IsConsistent s m t
+  pub events : (k : Key) (c : Content) → get w.pending k ≡ Some c → IsAmongMembers s k c
+
+-- one safe event of the cluster is handled
+abbrev pub SafeStep : Setup → Option ℕ → Cluster → Key → Cluster → List Row → Type 0
+SafeStep s least_delay = TestedStep (step s) (IsSafe s.end least_delay)
+
+-- safe events are handled one after the other
+abbrev pub SafeSchedule : Setup → Option ℕ → Cluster → List Key → List Row → Cluster → Type 0
+SafeSchedule s least_delay = Schedule (step s) (IsSafe s.end least_delay)
