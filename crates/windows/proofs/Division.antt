@@ -1,11 +1,12 @@
 -- The windows of all parts of a division.
-use Rattle.std.proofs.Common.{◌≡◌, ◌≢◌, ℕ, ◌<◌, ◌≤◌, Bool, true, false, cond, List, [], ◌∷◌, ◌++◌, Option, None, ap, inl, inr, ◌∙◌, sym, subst, refl, append_assoc}
+use Rattle.std.proofs.Common.{◌≡◌, ◌≢◌, ◌⊎◌, ℕ, ◌<◌, ◌≤◌, Bool, true, false, eqb, cond, List, [], ◌∷◌, ◌++◌, Option, None, ap, inl, inr, ◌∙◌, sym, subst, refl, append_assoc}
 use Rattle.std.specs.Option.{is_some}
 use Rattle.std.specs.Ordering.{nat_cmp}
 use Rattle.std.specs.Cmp.{nat_cmp_total}
 use Rattle.std.specs.FinMap.{get, contains_key, same_map, nat_cmp-IsAntisymmetric}
 use Rattle.std.specs.List.{AllByRecursion, flat_map}
 use Rattle.std.proofs.lemmas.Bool.{eqb-true, ne_eqb, eq-eqb}
+use Rattle.std.proofs.lemmas.Bool.Decides.{eqb_tells}
 use Rattle.std.proofs.lemmas.List.Elements.{filter-append}
 use Rattle.base.specs.declared.key.Key.{Key}
 use Rattle.base.specs.Order.{key_cmp, key_total, key_exact}
@@ -202,3 +203,27 @@ same_parts division u v same =
     same_map key_total key_exact _ _ (λ q.
     sym (event_kept division u q) ∙ ap (λ x. get x.pending q) (same (division q.to)) ∙ event_kept division v q) in
     λ i. record { members = members i; pending = pending i }
+
+-- ---- one world
+
+part_same : {S C R : Type 0} (division : ℕ → ℕ) (ds es : List (Done S C R)) (u v : World S C) (part : ℕ)
+    → AllByRecursion (λ d. part_of (is_in division d.part) u ≡ joined d.after (for_own (is_in division d.part) (all_out ds))) es
+    → AllByRecursion (λ d. part_of (is_in division d.part) v ≡ joined d.after (for_own (is_in division d.part) (all_out ds))) es
+    → (¬ (HasWindow es part) → part_of (is_in division part) u ≡ part_of (is_in division part) v) → part_of (is_in division part) u ≡ part_of (is_in division part) v
+part_same division ds [] u v part first second none = none (λ has. has)
+part_same division ds (d ∷ es) u v part first second none = by_number (eqb_tells d.part part) (part_same division ds es u v part first.1 second.1)
+  where
+    by_number : ((eqb d.part part ≡ true) × (d.part ≡ part)) ⊎ ((eqb d.part part ≡ false) × (d.part ≢ part))
+        → ((¬ (HasWindow es part) → part_of (is_in division part) u ≡ part_of (is_in division part) v) → part_of (is_in division part) u ≡ part_of (is_in division part) v)
+        → part_of (is_in division part) u ≡ part_of (is_in division part) v
+    by_number (inl here) rest = subst (λ n. part_of (is_in division n) u ≡ part_of (is_in division n) v) here.1 (first.0 ∙ sym second.0)
+    by_number (inr other) rest = rest (λ gone. none (neither gone))
+      where
+        neither : ¬ (HasWindow es part) → ¬ (HasWindow (d ∷ es) part)
+        neither gone (inl here) = other.1 here
+        neither gone (inr more) = gone more
+
+-- the world that stands after these windows is one
+pub stands_once : {S C R : Type 0} (division : ℕ → ℕ) (w u v : World S C) (ds : List (Done S C R)) → StandsAfter division w ds u → StandsAfter division w ds v → u ≡ v
+stands_once division w u v ds first second =
+    same_parts division u v (λ part. part_same division ds ds u v part first.parts second.parts (λ none. first.others part none ∙ sym (second.others part none)))

@@ -17,7 +17,7 @@ use Rattle.windows.proofs.Early.{early_step}
 use Rattle.windows.proofs.Safety.{safe_offers}
 use Rattle.windows.proofs.Merge.{schedule_keys, schedule_rows, schedule_by}
 use Rattle.windows.proofs.Released.{released}
-use Rattle.windows.proofs.Division.{after_all, all_schedule, ready_after, stands_after, none_left}
+use Rattle.windows.proofs.Division.{after_all, all_schedule, ready_after, stands_after, none_left, keys_early, stands_once}
 
 module _ {S C R : Type 0} (step : Machine S C R) where
   weaker_step : (Test Other : World S C → Key → Type 0) (w v : World S C) (k : Key) (made : List R) → Other w k → TestedStep step Test w k v made → TestedStep step Other w k v made
@@ -88,3 +88,15 @@ module _ {S C R : Type 0} (step : Machine S C R) (later : MakesLater step) (own 
     (ready_after step later own end least_delay Fact keeps bound division w ds ready are).0,
     none_left step later own end least_delay Fact keeps bound division w ds ready are,
   )
+
+  -- the rows of the windows of all parts below a bound, sorted, are the next of the run
+  module _ (place : R → Key × ℕ) (counts : CountsRows place step) (cmp : R → R → Ordering) (total : IsTotalOrder cmp) (agrees : (a b : R) → IsPlaceBefore (place a) (place b) → cmp a b ≡ Less) where
+    pub windows_released : (division : ℕ → ℕ) (bound : ℕ) (w v : World S C) (ds : List (Done S C R)) (all_ks left_ks : List Key) (all left sorted : List R)
+        → IsReady end least_delay Fact bound w → AreWindows step division bound w ds → StandsAfter division w ds v → ((q : Key) → IsPending v q → HasWindow ds (division q.to))
+        → SequentialRun step end w all_ks all → SequentialRun step end v left_ks left → IsPermutation (all_rows ds) sorted → IsSorted cmp sorted → all ≡ sorted ++ left
+    windows_released division bound w v ds all_ks left_ks all left sorted ready are stands covers whole rest items up =
+        let led = windows_lead division bound w ds ready are in
+        let same : led.0 ≡ v = stands_once division w led.0 v ds led.2 stands in
+        safe_released w v (all_keys ds) all_ks left_ks (all_rows ds) all left ready.0 (subst (Schedule step (IsSafe end least_delay) w (all_keys ds) (all_rows ds)) same led.1) whole rest
+        place counts cmp total agrees bound sorted (keys_early step division bound w ds are.windows)
+        (λ q here. subst (λ u. (r : Key) → IsPending u r → HasWindow ds (division r.to) → bound ≤ r.at) same led.4 q here (covers q here)) items up
