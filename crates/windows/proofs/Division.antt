@@ -1,15 +1,14 @@
 -- The windows of all parts of a division.
 use Rattle.std.proofs.Common.{◌≡◌, ◌≢◌, ◌⊎◌, ℕ, ◌<◌, ◌≤◌, Bool, true, false, eqb, cond, List, [], ◌∷◌, ◌++◌, Option, None, ap, inl, inr, ◌∙◌, sym, subst, refl, append_assoc}
 use Rattle.std.specs.Option.{is_some}
-use Rattle.std.specs.Ordering.{nat_cmp}
 use Rattle.std.specs.Cmp.{nat_cmp_total}
 use Rattle.std.specs.FinMap.{get, contains_key, same_map, nat_cmp-IsAntisymmetric}
-use Rattle.std.specs.List.{AllByRecursion, flat_map}
+use Rattle.std.specs.List.{AllByRecursion}
 use Rattle.std.proofs.lemmas.Bool.{eqb-true, ne_eqb, eq-eqb}
 use Rattle.std.proofs.lemmas.Bool.Decides.{eqb_tells}
 use Rattle.std.proofs.lemmas.List.Elements.{filter-append}
 use Rattle.base.specs.declared.key.Key.{Key}
-use Rattle.base.specs.Order.{key_cmp, key_total, key_exact}
+use Rattle.base.specs.Order.{key_total, key_exact}
 use Rattle.base.specs.World.{Machine, World, IsPending}
 use Rattle.base.specs.Run.{MakesLater, holds-with_events}
 use Rattle.base.specs.Rising.{IsRising}
@@ -17,7 +16,7 @@ use Rattle.base.proofs.Rising.{all_append, all_weaker}
 use Rattle.windows.specs.Delays.{SendsAsItself, KeepsFar}
 use Rattle.windows.specs.Safe.{IsSafeIn}
 use Rattle.windows.specs.Schedule.{Schedule}
-use Rattle.windows.specs.Parts.{part_of, for_own, joined, is_in, Done, IsWindowOf, IsCommonBound, PartRun, HasWindow, all_keys, all_out, all_rows, AreWindows, StandsAfter, IsReady}
+use Rattle.windows.specs.Parts.{part_of, for_own, joined, is_in, Done, IsWindowOf, PartRun, HasWindow, all_keys, all_out, all_rows, AreWindows, StandsAfter, IsReady}
 use Rattle.windows.proofs.Cuts.{get_retained, joined_joined, all_kept, own_of_others}
 use Rattle.windows.proofs.Windows.{Led, leads}
 

@@ -1,11 +1,10 @@
 -- What a machine that keeps its delays makes for other members comes far.
-use Rattle.std.proofs.Common.{◌≡◌, ◌≢◌, ℕ, ◌+◌, ◌≤◌, Bool, true, false, nat_eq, List, [], ◌∷◌, Option, Some, None, sym, refl, arith}
+use Rattle.std.proofs.Common.{◌≢◌, ℕ, ◌+◌, ◌≤◌, List, [], ◌∷◌, Option, Some, None, sym, arith}
 use Rattle.std.specs.List.{AllByRecursion}
 use Rattle.std.specs.Option.{option_map}
 use Rattle.std.specs.FinMap.{get}
-use Rattle.std.proofs.lemmas.Bool.{eqb-true, eqb-false}
 use Rattle.base.specs.declared.key.Key.{Key}
-use Rattle.base.specs.World.{Machine, World, events_of, outcome}
+use Rattle.base.specs.World.{Machine, events_of}
 use Rattle.base.proofs.Rising.{all_weaker}
 use Rattle.windows.specs.Delays.{KeepsDelays, ComesFar, KeepsFar, IsNoMore}
 

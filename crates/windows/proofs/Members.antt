@@ -1,27 +1,36 @@
--- The member's step as a machine that the laws of safe steps speak of.
-use Rattle.std.proofs.Common.{◌≡◌, ◌≢◌, ℕ, ◌+◌, ◌<◌, ◌≤◌, List, [], Option, Some, None, ap, sym, refl, arith}
-use Rattle.std.specs.Option.{option_map}
+-- The member's step as a machine that the laws of safe steps speak of, and the laws of its clusters.
+use Rattle.std.proofs.Common.{◌≡◌, ℕ, ◌<◌, ◌≤◌, true, List, [], ◌++◌, Option, Some, None, All, subst, refl, arith}
+use Rattle.std.specs.Option.{is_some, option_map}
 use Rattle.std.specs.List.{AllByRecursion}
+use Rattle.std.specs.List.Sorted.{IsPermutation, IsSorted}
 use Rattle.std.specs.FinMap.{get}
+use Rattle.std.specs.declared.cmp.Ordering.{Ordering}
+use Rattle.std.proofs.lemmas.Bool.{false≢true}
 use Rattle.std.proofs.lemmas.List.Elements.{recursion_from_All}
 use Rattle.base.specs.declared.key.Key.{Key}
-use Rattle.base.specs.World.{events_of, outcome}
+use Rattle.base.specs.World.{IsPending, events_of}
 use Rattle.base.proofs.Rising.{all_weaker}
 use Rattle.scenario.specs.Setup.{Setup, IsSound, member_count}
-use Rattle.links.specs.Least.{IsReached, IsNoGreater}
+use Rattle.trace.specs.declared.row.Row.{Row}
 use Rattle.member.specs.declared.content.Content.{Content}
 use Rattle.member.specs.State.{State}
 use Rattle.member.specs.Opening.{opening}
+use Rattle.member.specs.Places.{place_of}
 use Rattle.member.specs.Step.{step}
-use Rattle.member.proofs.Fair.{fair_step, steps_later, steps_linked}
+use Rattle.member.proofs.Fair.{fair_step, steps_later, steps_linked, steps_counted}
 use Rattle.member_laws.specs.Words.{IsConsistent, IsAmongMembers}
 use Rattle.member_laws.specs.Runs.{Cluster}
 use Rattle.member_laws.proofs.Consistency.{step_consistent}
 use Rattle.member_laws.proofs.Reached.{step_among, consistent_reached, pending_among}
-use Rattle.member_laws.proofs.Runs.{IsKept, kept_after}
+use Rattle.member_laws.proofs.Runs.{kept_after}
 use Rattle.windows.specs.Delays.{SendsAsItself, KeepsDelays, ComesFar, KeepsFar, IsNoMore}
-use Rattle.windows.specs.Cluster.{link_delay, IsLeastDelay, IsSoundCluster}
+use Rattle.windows.specs.Schedule.{CatchesUp, rows_by}
+use Rattle.windows.specs.Parts.{Done, IsCommonBound, AreWindows, StandsAfter, HasWindow, all_keys, all_rows}
+use Rattle.windows.specs.Cluster.{link_delay, IsLeastDelay, IsSoundCluster, SafeStep, SafeSchedule, IsRunFrom, IsRowOrder, IsWhole, whose}
 use Rattle.windows.proofs.Far.{far_made}
+use Rattle.windows.proofs.Released.{tells_receiver}
+use Rattle.windows.proofs.Division.{stands_once}
+use Rattle.windows.proofs.Schedules.{safe_early, schedule_kept, safe_keys, safe_rows, safe_rows_by, safe_released, windows_lead, windows_released}
 
 module _ (s : Setup) (sound : IsSound s) where
   pub sends_as_itself : SendsAsItself (step s)
@@ -59,7 +68,78 @@ module _ (s : Setup) (sound : IsSound s) where
   sound_keeps least_delay least = record {
     stays = λ w k c fact here in_time.
         let kept = kept_after (step s) (IsConsistent s) (IsAmongMembers s) s.end step_keeps w k c (get w.members k.to) refl in_time (fact.events k c here)
-            (record { members = fact.states; events = fact.events }) in
+        (record { members = fact.states; events = fact.events }) in
         record { states = kept.members; events = kept.events };
     far = λ w k c fact here in_time. far_from least_delay least k c (get w.members k.to) (fact.events k c here) (λ t is. fact.states k.to t is);
   }
+
+-- ---- the laws
+
+pub early_here : (s : Setup) (least_delay : Option ℕ) (w v : Cluster) (k : Key) (made : List Row) → IsSound s → IsLeastDelay s least_delay → IsSoundCluster s w → SafeStep s least_delay w k v made
+    → CatchesUp (step s) s.end w v k made
+early_here s d w v k made sound least fact is = safe_early (step s) (steps_later s sound) (sends_as_itself s sound) s.end d (IsSoundCluster s) (sound_keeps s sound d least) w v k made fact is
+
+pub sound_after : (s : Setup) (least_delay : Option ℕ) (w v : Cluster) (keys : List Key) (rows : List Row) → IsSound s → IsLeastDelay s least_delay → IsSoundCluster s w
+    → SafeSchedule s least_delay w keys rows v → IsSoundCluster s v
+sound_after s d w v keys rows sound least fact is =
+    (schedule_kept (step s) (steps_later s sound) (sends_as_itself s sound) s.end d (IsSoundCluster s) (sound_keeps s sound d least) keys w v rows fact is).1
+
+module _ (s : Setup) (d : Option ℕ) (w v : Cluster) (keys run_keys left_keys : List Key) (rows run left : List Row) (sound : IsSound s) (least : IsLeastDelay s d)
+    (fact : IsSoundCluster s w) (is : SafeSchedule s d w keys rows v) (whole : IsRunFrom s w run_keys run) (rest : IsRunFrom s v left_keys left) where
+  pub keys_here : IsPermutation (keys ++ left_keys) run_keys
+  keys_here =
+      safe_keys (step s) (steps_later s sound) (sends_as_itself s sound) s.end d (IsSoundCluster s) (sound_keeps s sound d least) w v keys run_keys left_keys rows run left fact is whole rest
+
+  pub rows_here : IsPermutation (rows ++ left) run
+  rows_here =
+      safe_rows (step s) (steps_later s sound) (sends_as_itself s sound) s.end d (IsSoundCluster s) (sound_keeps s sound d least) w v keys run_keys left_keys rows run left fact is whole rest
+
+  pub rows_by_here : (m : ℕ) → rows_by whose m run ≡ rows_by whose m rows ++ rows_by whose m left
+  rows_by_here =
+      safe_rows_by (step s) (steps_later s sound) (sends_as_itself s sound) s.end d (IsSoundCluster s) (sound_keeps s sound d least) w v keys run_keys left_keys rows run left fact is whole rest
+      whose (tells_receiver (step s) (steps_later s sound) place_of (steps_counted s sound))
+
+pub next_rows : (s : Setup) (least_delay : Option ℕ) (bound : ℕ) (w v : Cluster) (keys run_keys left_keys : List Key) (rows sorted run left : List Row) (cmp : Row → Row → Ordering)
+    → IsSound s → IsLeastDelay s least_delay → IsSoundCluster s w → IsRowOrder cmp → SafeSchedule s least_delay w keys rows v → All (λ (k : Key). k.at < bound) keys
+    → ((q : Key) → IsPending v q → bound ≤ q.at) → IsRunFrom s w run_keys run → IsRunFrom s v left_keys left → IsPermutation rows sorted → IsSorted cmp sorted → run ≡ sorted ++ left
+next_rows s d bound w v keys run_keys left_keys rows sorted run left cmp sound least fact order is below from whole rest items up =
+    safe_released (step s) (steps_later s sound) (sends_as_itself s sound) s.end d (IsSoundCluster s) (sound_keeps s sound d least) w v keys run_keys left_keys rows run left fact is whole rest
+    place_of (steps_counted s sound) cmp order.total order.agrees bound sorted (recursion_from_All (λ (k : Key). k.at < bound) keys below) from items up
+
+module _ (s : Setup) (d : Option ℕ) (division : ℕ → ℕ) (bound : ℕ) (w : Cluster) (windows : List (Done State Content Row)) (sound : IsSound s) (least : IsLeastDelay s d)
+    (fact : IsSoundCluster s w) (common : IsCommonBound s.end d w bound) (are : AreWindows (step s) division bound w windows) where
+  lead : (v : Cluster) × SafeSchedule s d w (all_keys windows) (all_rows windows) v × StandsAfter division w windows v × IsSoundCluster s v
+      × ((q : Key) → IsPending v q → HasWindow windows (division q.to) → bound ≤ q.at)
+  lead = windows_lead (step s) (steps_later s sound) (sends_as_itself s sound) s.end d (IsSoundCluster s) (sound_keeps s sound d least) division bound w windows (fact, common) are
+
+  pub windows_here : (v : Cluster) × SafeSchedule s d w (all_keys windows) (all_rows windows) v × StandsAfter division w windows v
+  windows_here = (lead.0, lead.1, lead.2)
+
+receiver_low : (s : Setup) (v : Cluster) (q : Key) (o : Option Content) → IsSoundCluster s v → get v.pending q ≡ o → is_some o ≡ true → q.to < member_count s
+receiver_low s v q None fact is here = absurd (false≢true here)
+receiver_low s v q (Some c) fact is here = (fact.events q c is).receiver
+
+module _ (s : Setup) (d : Option ℕ) (division : ℕ → ℕ) (bound : ℕ) (w v : Cluster) (windows : List (Done State Content Row)) (sound : IsSound s) (least : IsLeastDelay s d)
+    (fact : IsSoundCluster s w) (common : IsCommonBound s.end d w bound) (are : AreWindows (step s) division bound w windows) (parts : IsWhole s division windows)
+    (stands : StandsAfter division w windows v) where
+  sound_there : IsSoundCluster s v
+  sound_there =
+      let led = lead s d division bound w windows sound least fact common are in
+      subst (IsSoundCluster s) (stands_once division w led.0 v windows led.2 stands) led.3
+
+  has_window : (q : Key) → IsPending v q → HasWindow windows (division q.to)
+  has_window q here = parts q.to (receiver_low s v q (get v.pending q) sound_there refl here)
+
+  pub none_left_here : (q : Key) → IsPending v q → bound ≤ q.at
+  none_left_here q here =
+      let led = lead s d division bound w windows sound least fact common are in
+      let same = stands_once division w led.0 v windows led.2 stands in
+      subst (λ u. (r : Key) → IsPending u r → HasWindow windows (division r.to) → bound ≤ r.at) same led.4 q here (has_window q here)
+
+pub windows_rows : (s : Setup) (least_delay : Option ℕ) (division : ℕ → ℕ) (bound : ℕ) (w v : Cluster) (windows : List (Done State Content Row)) (run_keys left_keys : List Key)
+    (sorted run left : List Row) (cmp : Row → Row → Ordering) → IsSound s → IsLeastDelay s least_delay → IsSoundCluster s w → IsRowOrder cmp → IsCommonBound s.end least_delay w bound
+    → AreWindows (step s) division bound w windows → IsWhole s division windows → StandsAfter division w windows v → IsRunFrom s w run_keys run → IsRunFrom s v left_keys left
+    → IsPermutation (all_rows windows) sorted → IsSorted cmp sorted → run ≡ sorted ++ left
+windows_rows s d division bound w v windows run_keys left_keys sorted run left cmp sound least fact order common are parts stands whole rest items up =
+    windows_released (step s) (steps_later s sound) (sends_as_itself s sound) s.end d (IsSoundCluster s) (sound_keeps s sound d least) place_of (steps_counted s sound) cmp order.total order.agrees
+    division bound w v windows run_keys left_keys run left sorted (fact, common) are stands (has_window s d division bound w v windows sound least fact common are parts stands) whole rest items up

@@ -9,7 +9,6 @@ use Rattle.base.specs.World.{Machine, World, IsPending, events_of, outcome, Next
 use Rattle.base.specs.Run.{MakesLater, holds-with_events, contains-remove}
 use Rattle.base.proofs.Rising.{all_weaker}
 use Rattle.windows.specs.Delays.{ComesFar, KeepsFar}
-use Rattle.windows.specs.Safe.{IsSafe}
 use Rattle.windows.specs.Safe.{IsSafeIn}
 use Rattle.windows.specs.Schedule.{OffersEarly}
 use Rattle.windows.proofs.Swaps.{NoneIs, pending_settled}

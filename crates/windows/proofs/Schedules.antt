@@ -1,5 +1,5 @@
 -- Schedules of safe steps and windows against the run, over any machine.
-use Rattle.std.proofs.Common.{◌≡◌, ◌≢◌, ℕ, ◌<◌, ◌≤◌, List, [], ◌∷◌, ◌++◌, Option, ap, ◌∙◌, sym, subst, refl}
+use Rattle.std.proofs.Common.{◌≡◌, ℕ, ◌<◌, ◌≤◌, List, [], ◌∷◌, ◌++◌, Option, ap, ◌∙◌, sym, subst}
 use Rattle.std.specs.List.{AllByRecursion}
 use Rattle.std.specs.List.Sorted.{IsPermutation, IsSorted}
 use Rattle.std.specs.Cmp.{IsTotalOrder}
@@ -74,7 +74,7 @@ module _ {S C R : Type 0} (step : Machine S C R) (later : MakesLater step) (own 
       safe_released bound sorted below from same up =
           sym (same_run w all_ks all whole).1
           ∙ released step later place counts end cmp total agrees own (IsSafeIn end least_delay Fact) (safe_offers step later end least_delay Fact keeps)
-              bound ks w v rows sorted (schedule_kept ks w v rows fact is).0 below from same up
+          bound ks w v rows sorted (schedule_kept ks w v rows fact is).0 below from same up
           ∙ ap (λ l. sorted ++ l) (same_run v left_ks left rest).1
 
   -- windows of different parts lead by safe steps to a world that stands for the parts

@@ -14,7 +14,7 @@ use Rattle.base.proofs.Rising.{all_append, all_weaker}
 use Rattle.windows.specs.Delays.{SendsAsItself, ComesFar, KeepsFar}
 use Rattle.windows.specs.Safe.{IsSafeIn}
 use Rattle.windows.specs.Schedule.{TestedStep, Schedule}
-use Rattle.windows.specs.Parts.{part_of, for_own, for_others, joined, kept_by, PartStep, PartRun, IsCommonBound, IsReady}
+use Rattle.windows.specs.Parts.{part_of, for_own, for_others, joined, kept_by, PartStep, PartRun, IsReady}
 use Rattle.windows.proofs.Swaps.{NoneIs}
 use Rattle.windows.proofs.Early.{get-with_events, events_own}
 use Rattle.windows.proofs.Cuts.{get_retained, part_settled, part_settled_other, events_kept, settled_joined, joined_joined, all_kept, own_of_sent}

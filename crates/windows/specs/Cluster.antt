@@ -1,17 +1,24 @@
 -- Schedules and windows of a scenario's cluster.
-use Rattle.std.specs.Prelude.{◌≡◌, ℕ, List, Option, Some, None}
+use Rattle.std.specs.Prelude.{◌≡◌, ℕ, ◌<◌, List, Option, Some, None}
 use Rattle.std.specs.FinMap.{get}
+use Rattle.std.specs.Cmp.{IsTotalOrder}
+use Rattle.std.specs.declared.cmp.Ordering.{Ordering}
+use Rattle.std.specs.declared.cmp.Ordering.TheVariants.{Less}
 use Rattle.base.specs.declared.key.Key.{Key}
+use Rattle.base.specs.World.{SequentialRun}
+use Rattle.base.specs.Rising.{IsPlaceBefore}
 use Rattle.scenario.specs.Setup.{Setup, member_count, link_between}
 use Rattle.trace.specs.declared.row.Row.{Row}
 use Rattle.links.specs.Least.{IsReached, IsNoGreater}
 use Rattle.member.specs.declared.content.Content.{Content}
 use Rattle.member.specs.State.{State}
+use Rattle.member.specs.Places.{place_of}
 use Rattle.member.specs.Step.{step}
 use Rattle.member_laws.specs.Words.{IsConsistent, IsAmongMembers}
 use Rattle.member_laws.specs.Runs.{Cluster}
 use Rattle.windows.specs.Safe.{IsSafe}
 use Rattle.windows.specs.Schedule.{TestedStep, Schedule}
+use Rattle.windows.specs.Parts.{Done, HasWindow}
 
 abbrev pub link_delay : Setup → ℕ → ℕ → ℕ
 link_delay s i j = (link_between s i j).delay
@@ -33,3 +40,20 @@ SafeStep s least_delay = TestedStep (step s) (IsSafe s.end least_delay)
 -- safe events are handled one after the other
 abbrev pub SafeSchedule : Setup → Option ℕ → Cluster → List Key → List Row → Cluster → Type 0
 SafeSchedule s least_delay = Schedule (step s) (IsSafe s.end least_delay)
+
+-- the run from this world writes these rows, of the events of these keys
+abbrev pub IsRunFrom : Setup → Cluster → List Key → List Row → Type 0
+IsRunFrom s = SequentialRun (step s) s.end
+
+-- the member of a row
+abbrev pub whose : Row → ℕ
+whose row = row.member
+
+-- a total order of rows that agrees with the order of their places in the trace
+pub record IsRowOrder (cmp : Row → Row → Ordering) : Type 0 where
+  pub total : IsTotalOrder cmp
+  pub agrees : (a b : Row) → IsPlaceBefore (place_of a) (place_of b) → cmp a b ≡ Less
+
+-- these windows are of all parts
+abbrev pub IsWhole : Setup → (ℕ → ℕ) → List (Done State Content Row) → Type 0
+IsWhole s division windows = (m : ℕ) → m < member_count s → HasWindow windows (division m)

@@ -1,3 +1,11 @@
-//! Steps that may be taken before their turn: which they are, and what a run by such steps is to the
-//! run that always takes the least event.
+//! Steps that may be taken before their turn: which they are, and what a cluster that goes on by such
+//! steps, or by windows of its parts, is to the run that always takes the least event.
 #![tactic(auto)]
+
+mod laws;
+
+pub use laws::{
+    a_safe_event_may_come_early, a_schedule_writes_the_rows_of_the_run,
+    safe_steps_keep_a_cluster_sound, the_rows_before_a_bound_are_next, windows_are_safe_steps,
+    windows_write_the_next_rows,
+};

@@ -1,0 +1,88 @@
+//! What holds of every schedule of safe steps and of all windows, stated over the definitions alone.
+
+ghost use Rattle.std.specs.Prelude.{◌≡◌, ◌<◌, ◌≤◌, ◌++◌, ℕ, List, Option, All};
+ghost use Rattle.std.specs.List.Sorted.{IsPermutation, IsSorted};
+ghost use Rattle.std.specs.declared.cmp.Ordering.{Ordering};
+ghost use Rattle.base.specs.declared.key.Key.{Key};
+ghost use Rattle.base.specs.World.{IsPending};
+ghost use Rattle.scenario.specs.Setup.{Setup, IsSound};
+ghost use Rattle.trace.specs.declared.row.Row.{Row};
+ghost use Rattle.member.specs.declared.content.Content.{Content};
+ghost use Rattle.member.specs.State.{State};
+ghost use Rattle.member.specs.Opening.{opening};
+ghost use Rattle.member.specs.Step.{step};
+ghost use Rattle.member_laws.specs.Runs.{Cluster};
+ghost use Rattle.windows.specs.Schedule.{CatchesUp, rows_by};
+ghost use Rattle.windows.specs.Parts.{Done, IsCommonBound, AreWindows, StandsAfter, all_keys, all_rows};
+ghost use Rattle.windows.specs.Cluster.{IsLeastDelay, IsSoundCluster, SafeStep, SafeSchedule, IsRunFrom, IsRowOrder, IsWhole, whose};
+
+/// A safe event that is handled before its turn changes nothing of what follows: the run that waits
+/// for its turn handles first events for other members, with the same rows, and then comes to the
+/// world to which these same events lead after it.
+pub fn a_safe_event_may_come_early()
+    ensures { (s : Setup) (least_delay : Option ℕ) (w v : Cluster) (k : Key) (made : List Row)
+        → IsSound s → IsLeastDelay s least_delay → IsSoundCluster s w → SafeStep s least_delay w k v made
+        → CatchesUp (step s) s.end w v k made }
+{}
+
+/// Every run begins in a sound cluster, and safe steps keep it so.
+pub fn safe_steps_keep_a_cluster_sound()
+    ensures opening { (s : Setup) → IsSound s → IsSoundCluster s (opening s) }
+    ensures schedule { (s : Setup) (least_delay : Option ℕ) (w v : Cluster) (keys : List Key) (rows : List Row)
+        → IsSound s → IsLeastDelay s least_delay → IsSoundCluster s w → SafeSchedule s least_delay w keys rows v
+        → IsSoundCluster s v }
+{}
+
+/// What a schedule of safe steps handles and writes, and what the run from where it ends does, are
+/// together what the run does, in another order. Each member's rows stand in the run's order: those
+/// of a schedule are a beginning of its rows in the run.
+pub fn a_schedule_writes_the_rows_of_the_run()
+    ensures keys { (s : Setup) (least_delay : Option ℕ) (w v : Cluster) (keys run_keys left_keys : List Key) (rows run left : List Row)
+        → IsSound s → IsLeastDelay s least_delay → IsSoundCluster s w → SafeSchedule s least_delay w keys rows v
+        → IsRunFrom s w run_keys run → IsRunFrom s v left_keys left
+        → IsPermutation (keys ++ left_keys) run_keys }
+    ensures rows { (s : Setup) (least_delay : Option ℕ) (w v : Cluster) (keys run_keys left_keys : List Key) (rows run left : List Row)
+        → IsSound s → IsLeastDelay s least_delay → IsSoundCluster s w → SafeSchedule s least_delay w keys rows v
+        → IsRunFrom s w run_keys run → IsRunFrom s v left_keys left
+        → IsPermutation (rows ++ left) run }
+    ensures of_each_member { (s : Setup) (least_delay : Option ℕ) (w v : Cluster) (keys run_keys left_keys : List Key) (rows run left : List Row)
+        → IsSound s → IsLeastDelay s least_delay → IsSoundCluster s w → SafeSchedule s least_delay w keys rows v
+        → IsRunFrom s w run_keys run → IsRunFrom s v left_keys left
+        → (m : ℕ) → rows_by whose m run ≡ rows_by whose m rows ++ rows_by whose m left }
+{}
+
+/// Where a schedule has handled all that pends before a bound, and nothing later, its rows, sorted,
+/// are the next rows of the run.
+pub fn the_rows_before_a_bound_are_next()
+    ensures { (s : Setup) (least_delay : Option ℕ) (bound : ℕ) (w v : Cluster) (keys run_keys left_keys : List Key) (rows sorted run left : List Row)
+        (cmp : Row → Row → Ordering) → IsSound s → IsLeastDelay s least_delay → IsSoundCluster s w → IsRowOrder cmp
+        → SafeSchedule s least_delay w keys rows v → All (λ (k : Key). k.at < bound) keys → ((q : Key) → IsPending v q → bound ≤ q.at)
+        → IsRunFrom s w run_keys run → IsRunFrom s v left_keys left
+        → IsPermutation rows sorted → IsSorted cmp sorted → run ≡ sorted ++ left }
+{}
+
+/// The windows of different parts below a common bound, in any order, are a schedule of safe steps.
+/// It leads to a world, and to one alone, of which each part is as its window leaves it and as the
+/// events find it that went out of the others; nothing is left there below the bound.
+pub fn windows_are_safe_steps()
+    ensures schedule { (s : Setup) (least_delay : Option ℕ) (division : ℕ → ℕ) (bound : ℕ) (w : Cluster) (windows : List (Done State Content Row))
+        → IsSound s → IsLeastDelay s least_delay → IsSoundCluster s w → IsCommonBound s.end least_delay w bound
+        → AreWindows (step s) division bound w windows
+        → (v : Cluster) × SafeSchedule s least_delay w (all_keys windows) (all_rows windows) v × StandsAfter division w windows v }
+    ensures one { (division : ℕ → ℕ) (w u v : Cluster) (windows : List (Done State Content Row))
+        → StandsAfter division w windows u → StandsAfter division w windows v → u ≡ v }
+    ensures none_left { (s : Setup) (least_delay : Option ℕ) (division : ℕ → ℕ) (bound : ℕ) (w v : Cluster) (windows : List (Done State Content Row))
+        → IsSound s → IsLeastDelay s least_delay → IsSoundCluster s w → IsCommonBound s.end least_delay w bound
+        → AreWindows (step s) division bound w windows → IsWhole s division windows → StandsAfter division w windows v
+        → (q : Key) → IsPending v q → bound ≤ q.at }
+{}
+
+/// The rows of the windows of all parts below a common bound, sorted, are the next rows of the run.
+pub fn windows_write_the_next_rows()
+    ensures { (s : Setup) (least_delay : Option ℕ) (division : ℕ → ℕ) (bound : ℕ) (w v : Cluster) (windows : List (Done State Content Row))
+        (run_keys left_keys : List Key) (sorted run left : List Row) (cmp : Row → Row → Ordering)
+        → IsSound s → IsLeastDelay s least_delay → IsSoundCluster s w → IsRowOrder cmp → IsCommonBound s.end least_delay w bound
+        → AreWindows (step s) division bound w windows → IsWhole s division windows → StandsAfter division w windows v
+        → IsRunFrom s w run_keys run → IsRunFrom s v left_keys left
+        → IsPermutation (all_rows windows) sorted → IsSorted cmp sorted → run ≡ sorted ++ left }
+{}
