@@ -86,24 +86,11 @@ apart_by_sender m n es fs other of_m of_n =
 module _ {S C R : Type 0} (step : Machine S C R) (later : MakesLater step) (own : SendsAsItself step) where
   module _ (end : ℕ) (Test : World S C → Key → Type 0) (offers : OffersEarly step end Test) where
     module _ (w : World S C) (k : Key) (c : C) (passes : Test w k) (here : get w.pending k ≡ Some c) where
-      -- its turn has come
-      at_once : (q : Key) (mid : World S C) (made : List R) → NextStep step w q mid made → q ≡ k → CatchesUp step end w (settled w k (outcome step w k c)) k (rows_of (outcome step w k c))
-      at_once q mid made next same = record {
-        before = [];
-        front = [];
-        there = w;
-        after = settled w k (outcome step w k c);
-        until = (refl, refl);
-        turn = record { content = c; here = here; least = subst (λ l. (r : Key) → IsPending w r → ¬ (IsBefore r l)) same next.least; world = refl; made = refl };
-        alike = (refl, refl);
-        others = tt;
-      }
-
       module _ (q : Key) (mid : World S C) (made : List R) (next : NextStep step w q mid made) (other : q ≢ k) where
         no_earlier : q.at ≤ k.at
         no_earlier = moments-from_not_before k q (next.least k (ap is_some here))
 
-        receivers_apart : q.to ≢ k.to
+        pub receivers_apart : q.to ≢ k.to
         receivers_apart = receivers_differ step w mid k q made (offers.first w k passes) next other
 
         leaves_k : NoneIs k (events_of (outcome step w q next.content))
@@ -130,7 +117,7 @@ module _ {S C R : Type 0} (step : Machine S C R) (later : MakesLater step) (own 
             ap (option_map (step k c)) (ap (λ (u : World S C). get u.members k.to) next.world ∙ member_stays w q k.to (outcome step w q next.content) receivers_apart)
 
         -- q is next where k has been handled, and the two worlds after both are one
-        next_after : NextStep step (settled w k (outcome step w k c)) q (settled mid k (outcome step mid k c)) made
+        pub next_after : NextStep step (settled w k (outcome step w k c)) q (settled mid k (outcome step mid k c)) made
         next_after =
             let v : World S C = settled w k (outcome step w k c) in
             let out : outcome step v q next.content ≡ outcome step w q next.content =
@@ -149,43 +136,58 @@ module _ {S C R : Type 0} (step : Machine S C R) (later : MakesLater step) (own 
               made = next.made ∙ ap rows_of (sym out);
             }
 
-        go_on : q.at ≤ end → CatchesUp step end mid (settled mid k (outcome step mid k c)) k (rows_of (outcome step mid k c))
-            → CatchesUp step end w (settled w k (outcome step w k c)) k (rows_of (outcome step w k c))
-        go_on in_time rest = record {
-          before = q ∷ rest.before;
-          front = made ++ rest.front;
-          there = rest.there;
-          after = rest.after;
-          until = (mid, made, rest.front, in_time, next, rest.until, refl);
-          turn = subst (λ l. NextStep step rest.there k rest.after l) (ap rows_of same_outcome) rest.turn;
-          alike = (settled mid k (outcome step mid k c), made, rest.front, in_time, next_after, rest.alike, refl);
-          others = (receivers_apart, rest.others);
-        }
+    -- What holds of an event whose turn has come, and of one that waits where it holds after the step before, holds of each that passes.
+    module _ (P : World S C → Key → C → Type 0)
+        (now : (w : World S C) (k : Key) (c : C) → k.at ≤ end → NextStep step w k (settled w k (outcome step w k c)) (rows_of (outcome step w k c)) → P w k c)
+        (wait : (w : World S C) (k : Key) (c : C) (passes : Test w k) (here : get w.pending k ≡ Some c) (q : Key) (mid : World S C) (made : List R) (next : NextStep step w q mid made) (other : q ≢ k) → q.at ≤ end → P mid k c → P w k c) where
+      by_key : (w mid : World S C) (k q : Key) (c : C) (made : List R) → Test w k → get w.pending k ≡ Some c → q.at ≤ end → NextStep step w q mid made
+          → (Test mid k → get mid.pending k ≡ Some c → P mid k c) → (b : Bool) → eq_by_cmp key_cmp q k ≡ b → P w k c
+      by_key w mid k q c made passes here in_time next rest true e =
+          now w k c (offers.in_time w k passes)
+          (record { content = c; here = here; least = subst (λ l. (r : Key) → IsPending w r → ¬ (IsBefore r l)) (tells q k e) next.least; world = refl; made = refl })
+      by_key w mid k q c made passes here in_time next rest false e =
+          let other = differs q k e in
+          wait w k c passes here q mid made next other in_time (rest (offers.stays w mid k q made passes next other) (content_there w k c passes here q mid made next other))
 
-    by_key : (w mid : World S C) (k q : Key) (c : C) (made : List R) → Test w k → get w.pending k ≡ Some c → q.at ≤ end → NextStep step w q mid made
-        → (Test mid k → get mid.pending k ≡ Some c → CatchesUp step end mid (settled mid k (outcome step mid k c)) k (rows_of (outcome step mid k c)))
-        → (b : Bool) → eq_by_cmp key_cmp q k ≡ b → CatchesUp step end w (settled w k (outcome step w k c)) k (rows_of (outcome step w k c))
-    by_key w mid k q c made passes here in_time next rest true e = at_once w k c passes here q mid made next (tells q k e)
-    by_key w mid k q c made passes here in_time next rest false e =
-        let other = differs q k e in
-        go_on w k c passes here q mid made next other in_time (rest (offers.stays w mid k q made passes next other) (content_there w k c passes here q mid made next other))
+      by_run : (ks : List Key) (w last : World S C) (rows : List R) (k : Key) (c : C) → Run step end w ks rows last → IsOver end last → Test w k → get w.pending k ≡ Some c → P w k c
+      by_run [] w last rows k c run over passes here =
+          let past : end < k.at = subst (IsOver end) run.0 over k (ap is_some here) in
+          let in_time = offers.in_time w k passes in
+          absurd (omega arith)
+      by_run (q ∷ ks) w last rows k c run over passes here =
+          by_key w run.0 k q c run.1 passes here run.3 run.4 (λ passes_there there. by_run ks run.0 last run.2 k c run.5 over passes_there there) (eq_by_cmp key_cmp q k) refl
 
-    catches_up : (ks : List Key) (w last : World S C) (rows : List R) (k : Key) (c : C) → Run step end w ks rows last → IsOver end last → Test w k → get w.pending k ≡ Some c
-        → CatchesUp step end w (settled w k (outcome step w k c)) k (rows_of (outcome step w k c))
-    catches_up [] w last rows k c run over passes here =
-        let past : end < k.at = subst (IsOver end) run.0 over k (ap is_some here) in
-        let in_time = offers.in_time w k passes in
-        absurd (omega arith)
-    catches_up (q ∷ ks) w last rows k c run over passes here =
-        by_key w run.0 k q c run.1 passes here run.3 run.4 (λ passes_there there. catches_up ks run.0 last run.2 k c run.5 over passes_there there) (eq_by_cmp key_cmp q k) refl
+      -- by induction on the run from the world
+      pub by_turns : (w : World S C) (k : Key) (c : C) → Test w k → get w.pending k ≡ Some c → P w k c
+      by_turns w k c = let whole = run-exists step later end w in by_run (handled step later end w) w whole.last (trace step later end w) k c whole.run whole.over
+
+    caught : World S C → Key → C → Type 0
+    caught w k c = CatchesUp step end w (settled w k (outcome step w k c)) k (rows_of (outcome step w k c))
+
+    at_once : (w : World S C) (k : Key) (c : C) → k.at ≤ end → NextStep step w k (settled w k (outcome step w k c)) (rows_of (outcome step w k c)) → caught w k c
+    unfolding caught
+    at_once w k c in_time next = record { before = []; front = []; there = w; after = settled w k (outcome step w k c); until = (refl, refl); turn = next; alike = (refl, refl); others = tt }
+
+    go_on : (w : World S C) (k : Key) (c : C) (passes : Test w k) (here : get w.pending k ≡ Some c) (q : Key) (mid : World S C) (made : List R) (next : NextStep step w q mid made) (other : q ≢ k)
+        → q.at ≤ end → caught mid k c → caught w k c
+    unfolding caught
+    go_on w k c passes here q mid made next other in_time rest = record {
+      before = q ∷ rest.before;
+      front = made ++ rest.front;
+      there = rest.there;
+      after = rest.after;
+      until = (mid, made, rest.front, in_time, next, rest.until, refl);
+      turn = subst (λ l. NextStep step rest.there k rest.after l) (ap rows_of (same_outcome w k c passes here q mid made next other)) rest.turn;
+      alike = (settled mid k (outcome step mid k c), made, rest.front, in_time, next_after w k c passes here q mid made next other, rest.alike, refl);
+      others = (receivers_apart w k c passes here q mid made next other, rest.others);
+    }
 
     -- one event that passes the test, handled before its turn
     pub early_step : (w v : World S C) (k : Key) (made : List R) → TestedStep step Test w k v made → CatchesUp step end w v k made
+    unfolding caught
     early_step w v k made is =
-        let whole = run-exists step later end w in
         subst (λ u. CatchesUp step end w u k made) (sym is.world)
-        (subst (CatchesUp step end w (settled w k (outcome step w k is.content)) k) (sym is.made)
-        (catches_up (handled step later end w) w whole.last (trace step later end w) k is.content whole.run whole.over is.passes is.here))
+        (subst (CatchesUp step end w (settled w k (outcome step w k is.content)) k) (sym is.made) (by_turns caught at_once go_on w k is.content is.passes is.here))
 
 -- ---- what that says of the keys and the rows of the runs to the end
 

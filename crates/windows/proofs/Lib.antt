@@ -10,3 +10,4 @@ pub mod Division
 pub mod Far
 pub mod Schedules
 pub mod Members
+pub mod States

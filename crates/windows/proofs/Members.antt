@@ -1,5 +1,5 @@
 -- The member's step as a machine that the laws of safe steps speak of, and the laws of its clusters.
-use Rattle.std.proofs.Common.{◌≡◌, ℕ, ◌<◌, ◌≤◌, true, List, [], ◌++◌, Option, Some, None, All, subst, refl, arith}
+use Rattle.std.proofs.Common.{◌≡◌, ℕ, ◌<◌, ◌≤◌, Bool, true, List, [], ◌++◌, Option, Some, None, All, subst, refl, arith}
 use Rattle.std.specs.Option.{is_some, option_map}
 use Rattle.std.specs.List.{AllByRecursion}
 use Rattle.std.specs.List.Sorted.{IsPermutation, IsSorted}
@@ -8,7 +8,7 @@ use Rattle.std.specs.declared.cmp.Ordering.{Ordering}
 use Rattle.std.proofs.lemmas.Bool.{false≢true}
 use Rattle.std.proofs.lemmas.List.Elements.{recursion_from_All}
 use Rattle.base.specs.declared.key.Key.{Key}
-use Rattle.base.specs.World.{IsPending, events_of}
+use Rattle.base.specs.World.{IsPending, IsOver, events_of}
 use Rattle.base.proofs.Rising.{all_weaker}
 use Rattle.scenario.specs.Setup.{Setup, IsSound, member_count}
 use Rattle.trace.specs.declared.row.Row.{Row}
@@ -24,13 +24,13 @@ use Rattle.member_laws.proofs.Consistency.{step_consistent}
 use Rattle.member_laws.proofs.Reached.{step_among, consistent_reached, pending_among}
 use Rattle.member_laws.proofs.Runs.{kept_after}
 use Rattle.windows.specs.Delays.{SendsAsItself, KeepsDelays, ComesFar, KeepsFar, IsNoMore}
-use Rattle.windows.specs.Schedule.{CatchesUp, rows_by}
-use Rattle.windows.specs.Parts.{Done, IsCommonBound, AreWindows, StandsAfter, HasWindow, all_keys, all_rows}
+use Rattle.windows.specs.Schedule.{CatchesUp, MeetsState, rows_by}
+use Rattle.windows.specs.Parts.{Done, IsCommonBound, AreWindows, StandsAfter, HasWindow, PartRun, part_of, all_keys, all_rows}
 use Rattle.windows.specs.Cluster.{link_delay, IsLeastDelay, IsSoundCluster, SafeStep, SafeSchedule, IsRunFrom, IsRowOrder, IsWhole, whose}
 use Rattle.windows.proofs.Far.{far_made}
 use Rattle.windows.proofs.Released.{tells_receiver}
 use Rattle.windows.proofs.Division.{stands_once}
-use Rattle.windows.proofs.Schedules.{safe_early, schedule_kept, safe_keys, safe_rows, safe_rows_by, safe_released, windows_lead, windows_released}
+use Rattle.windows.proofs.Schedules.{safe_early, schedule_kept, safe_keys, safe_rows, safe_rows_by, safe_released, safe_trace, safe_met, part_met, windows_lead, windows_released}
 
 module _ (s : Setup) (sound : IsSound s) where
   pub sends_as_itself : SendsAsItself (step s)
@@ -98,6 +98,23 @@ module _ (s : Setup) (d : Option ℕ) (w v : Cluster) (keys run_keys left_keys :
   rows_by_here =
       safe_rows_by (step s) (steps_later s sound) (sends_as_itself s sound) s.end d (IsSoundCluster s) (sound_keeps s sound d least) w v keys run_keys left_keys rows run left fact is whole rest
       whose (tells_receiver (step s) (steps_later s sound) place_of (steps_counted s sound))
+
+pub run_sorted : (s : Setup) (least_delay : Option ℕ) (w v : Cluster) (keys run_keys : List Key) (rows sorted run : List Row) (cmp : Row → Row → Ordering) → IsSound s → IsLeastDelay s least_delay
+    → IsSoundCluster s w → IsRowOrder cmp → SafeSchedule s least_delay w keys rows v → IsOver s.end v → IsRunFrom s w run_keys run → IsPermutation rows sorted → IsSorted cmp sorted → run ≡ sorted
+run_sorted s d w v keys run_keys rows sorted run cmp sound least fact order is over whole items up =
+    safe_trace (step s) (steps_later s sound) (sends_as_itself s sound) s.end d (IsSoundCluster s) (sound_keeps s sound d least)
+    place_of (steps_counted s sound) cmp order.total order.agrees keys run_keys w v rows sorted run fact is over whole items up
+
+pub met_here : (s : Setup) (least_delay : Option ℕ) (w v : Cluster) (keys : List Key) (rows : List Row) (m : ℕ) (t : State) → IsSound s → IsLeastDelay s least_delay → IsSoundCluster s w
+    → SafeSchedule s least_delay w keys rows v → MeetsState (step s) s.end v m t → MeetsState (step s) s.end w m t
+met_here s d w v keys rows m t sound least fact is met =
+    safe_met (step s) (steps_later s sound) (sends_as_itself s sound) s.end d (IsSoundCluster s) (sound_keeps s sound d least) w v keys rows m t fact is met
+
+pub met_in_part : (s : Setup) (least_delay : Option ℕ) (owns : ℕ → Bool) (bound : ℕ) (w after : Cluster) (keys : List Key) (out : List (Key × Content)) (rows : List Row) (m : ℕ) (t : State)
+    → IsSound s → IsLeastDelay s least_delay → IsSoundCluster s w → IsCommonBound s.end least_delay w bound → PartRun (step s) owns bound (part_of owns w) keys out rows after
+    → get after.members m ≡ Some t → MeetsState (step s) s.end w m t
+met_in_part s d owns bound w after keys out rows m t sound least fact common run there =
+    part_met (step s) (steps_later s sound) (sends_as_itself s sound) s.end d (IsSoundCluster s) (sound_keeps s sound d least) owns bound w after keys out rows m t (fact, common) run there
 
 pub next_rows : (s : Setup) (least_delay : Option ℕ) (bound : ℕ) (w v : Cluster) (keys run_keys left_keys : List Key) (rows sorted run left : List Row) (cmp : Row → Row → Ordering)
     → IsSound s → IsLeastDelay s least_delay → IsSoundCluster s w → IsRowOrder cmp → SafeSchedule s least_delay w keys rows v → All (λ (k : Key). k.at < bound) keys

@@ -1,22 +1,26 @@
 -- Schedules of safe steps and windows against the run, over any machine.
-use Rattle.std.proofs.Common.{◌≡◌, ℕ, ◌<◌, ◌≤◌, List, [], ◌∷◌, ◌++◌, Option, ap, ◌∙◌, sym, subst}
+use Rattle.std.proofs.Common.{◌≡◌, ◌≢◌, ℕ, ◌<◌, ◌≤◌, Bool, cond, List, [], ◌∷◌, ◌++◌, Option, Some, None, ap, ◌∙◌, sym, subst, refl}
 use Rattle.std.specs.List.{AllByRecursion}
 use Rattle.std.specs.List.Sorted.{IsPermutation, IsSorted}
-use Rattle.std.specs.Cmp.{IsTotalOrder}
+use Rattle.std.specs.Cmp.{IsTotalOrder, nat_cmp_total}
+use Rattle.std.specs.FinMap.{get, nat_cmp-IsAntisymmetric}
 use Rattle.std.specs.declared.cmp.Ordering.{Ordering}
 use Rattle.std.specs.declared.cmp.Ordering.TheVariants.{Less}
 use Rattle.base.specs.declared.key.Key.{Key}
-use Rattle.base.specs.World.{Machine, World, IsPending, SequentialRun}
+use Rattle.base.specs.World.{Machine, World, IsPending, IsOver, SequentialRun}
 use Rattle.base.specs.Run.{MakesLater, handled, trace, trace-run}
 use Rattle.base.specs.Rising.{IsPlaceBefore, CountsRows}
 use Rattle.windows.specs.Delays.{SendsAsItself, KeepsFar}
 use Rattle.windows.specs.Safe.{IsSafe, IsSafeIn}
-use Rattle.windows.specs.Schedule.{TestedStep, Schedule, CatchesUp, TellsWhose, rows_by}
-use Rattle.windows.specs.Parts.{Done, IsReady, all_keys, all_rows, AreWindows, StandsAfter, HasWindow}
+use Rattle.windows.specs.Schedule.{TestedStep, Schedule, CatchesUp, MeetsState, TellsWhose, rows_by}
+use Rattle.windows.specs.Parts.{Done, IsReady, PartRun, part_of, all_keys, all_rows, AreWindows, StandsAfter, HasWindow}
 use Rattle.windows.proofs.Early.{early_step}
+use Rattle.windows.proofs.States.{met_by_schedule, met_after}
+use Rattle.windows.proofs.Cuts.{get_retained}
+use Rattle.windows.proofs.Windows.{kept_value, leads}
 use Rattle.windows.proofs.Safety.{safe_offers}
 use Rattle.windows.proofs.Merge.{schedule_keys, schedule_rows, schedule_by}
-use Rattle.windows.proofs.Released.{released}
+use Rattle.windows.proofs.Released.{released, sorted_trace}
 use Rattle.windows.proofs.Division.{after_all, all_schedule, ready_after, stands_after, none_left, keys_early, stands_once}
 
 module _ {S C R : Type 0} (step : Machine S C R) where
@@ -76,6 +80,29 @@ module _ {S C R : Type 0} (step : Machine S C R) (later : MakesLater step) (own 
           ∙ released step later place counts end cmp total agrees own (IsSafeIn end least_delay Fact) (safe_offers step later end least_delay Fact keeps)
           bound ks w v rows sorted (schedule_kept ks w v rows fact is).0 below from same up
           ∙ ap (λ l. sorted ++ l) (same_run v left_ks left rest).1
+
+  -- what the run from the end of a schedule meets, the run meets
+  pub safe_met : (w v : World S C) (ks : List Key) (rows : List R) (m : ℕ) (state : S) → Fact w → Schedule step (IsSafe end least_delay) w ks rows v → MeetsState step end v m state → MeetsState step end w m state
+  safe_met w v ks rows m state fact is met =
+      met_by_schedule step later own end (IsSafeIn end least_delay Fact) (safe_offers step later end least_delay Fact keeps) ks w v rows m state (schedule_kept ks w v rows fact is).0 met
+
+  -- and so is a state in which the steps of a part below a common bound leave a member
+  pub part_met : (owns : ℕ → Bool) (bound : ℕ) (w after : World S C) (ks : List Key) (out : List (Key × C)) (rows : List R) (m : ℕ) (state : S) → IsReady end least_delay Fact bound w
+      → PartRun step owns bound (part_of owns w) ks out rows after → get after.members m ≡ Some state → MeetsState step end w m state
+  part_met owns bound w after ks out rows m state ready run there =
+      let led = leads step later own end least_delay Fact keeps bound owns [] tt tt ks w (part_of owns w) after out rows ready refl run in
+      let kept : cond (owns m) (get led.world.members m) None ≡ Some state =
+      sym (get_retained nat_cmp_total nat_cmp-IsAntisymmetric owns led.world.members m) ∙ ap (λ (u : World S C). get u.members m) led.part ∙ there in
+      met_after step later own end (IsSafeIn end least_delay Fact) (safe_offers step later end least_delay Fact keeps) ks w led.world rows m state led.schedule
+      (kept_value (get led.world.members m) state (owns m) (owns m) refl kept).1
+
+  -- the rows of a schedule to the end, sorted, are the run's
+  module _ (place : R → Key × ℕ) (counts : CountsRows place step) (cmp : R → R → Ordering) (total : IsTotalOrder cmp) (agrees : (a b : R) → IsPlaceBefore (place a) (place b) → cmp a b ≡ Less) where
+    pub safe_trace : (ks all_ks : List Key) (w v : World S C) (rows sorted all : List R) → Fact w → Schedule step (IsSafe end least_delay) w ks rows v → IsOver end v → SequentialRun step end w all_ks all
+        → IsPermutation rows sorted → IsSorted cmp sorted → all ≡ sorted
+    safe_trace ks all_ks w v rows sorted all fact is over whole items up =
+        sym (same_run w all_ks all whole).1
+        ∙ sorted_trace step later place counts end cmp total agrees own (IsSafeIn end least_delay Fact) (safe_offers step later end least_delay Fact keeps) ks w v rows sorted (schedule_kept ks w v rows fact is).0 over items up
 
   -- windows of different parts lead by safe steps to a world that stands for the parts
   pub windows_lead : (division : ℕ → ℕ) (bound : ℕ) (w : World S C) (ds : List (Done S C R)) → IsReady end least_delay Fact bound w → AreWindows step division bound w ds

@@ -19,7 +19,8 @@ use Rattle.windows.proofs.Swaps.{NoneIs}
 use Rattle.windows.proofs.Early.{get-with_events, events_own}
 use Rattle.windows.proofs.Cuts.{get_retained, part_settled, part_settled_other, events_kept, settled_joined, joined_joined, all_kept, own_of_sent}
 
-kept_value : {X : Type 0} (o : Option X) (x : X) (b mine : Bool) → mine ≡ b → cond b o None ≡ Some x → (mine ≡ true) × (o ≡ Some x)
+-- a value that is kept is of a kept key
+pub kept_value : {X : Type 0} (o : Option X) (x : X) (b mine : Bool) → mine ≡ b → cond b o None ≡ Some x → (mine ≡ true) × (o ≡ Some x)
 kept_value o x true mine e is = (e, is)
 kept_value o x false mine e is = absurd (false≢true (ap is_some is))
 

@@ -43,6 +43,14 @@ module _ {S C R : Type 0} (step : Machine S C R) where
     pub alike : Run step end v before front after
     pub others : AllByRecursion (λ q. q.to ≢ k.to) before
 
+  -- the run from this world comes to a world in which the member has this state
+  pub record MeetsState (end : ℕ) (w : World S C) (m : ℕ) (state : S) : Type 0 where
+    pub keys : List Key
+    pub rows : List R
+    pub world : World S C
+    pub run : Run step end w keys rows world
+    pub there : get world.members m ≡ Some state
+
 -- each row that a step writes is its receiver's
 abbrev pub TellsWhose : {S C R : Type 0} → (R → ℕ) → Machine S C R → Type 0
 TellsWhose {S} {C} whose step = (k : Key) (c : C) (s : S) → AllByRecursion (λ row. whose row ≡ k.to) (step k c s).rows

@@ -1,10 +1,11 @@
 //! What holds of every schedule of safe steps and of all windows, stated over the definitions alone.
 
-ghost use Rattle.std.specs.Prelude.{◌≡◌, ◌<◌, ◌≤◌, ◌++◌, ℕ, List, Option, All};
+ghost use Rattle.std.specs.Prelude.{◌≡◌, ◌<◌, ◌≤◌, ◌++◌, ℕ, Bool, List, Option, Some, All};
 ghost use Rattle.std.specs.List.Sorted.{IsPermutation, IsSorted};
+ghost use Rattle.std.specs.FinMap.{get};
 ghost use Rattle.std.specs.declared.cmp.Ordering.{Ordering};
 ghost use Rattle.base.specs.declared.key.Key.{Key};
-ghost use Rattle.base.specs.World.{IsPending};
+ghost use Rattle.base.specs.World.{IsPending, IsOver};
 ghost use Rattle.scenario.specs.Setup.{Setup, IsSound};
 ghost use Rattle.trace.specs.declared.row.Row.{Row};
 ghost use Rattle.member.specs.declared.content.Content.{Content};
@@ -12,8 +13,8 @@ ghost use Rattle.member.specs.State.{State};
 ghost use Rattle.member.specs.Opening.{opening};
 ghost use Rattle.member.specs.Step.{step};
 ghost use Rattle.member_laws.specs.Runs.{Cluster};
-ghost use Rattle.windows.specs.Schedule.{CatchesUp, rows_by};
-ghost use Rattle.windows.specs.Parts.{Done, IsCommonBound, AreWindows, StandsAfter, all_keys, all_rows};
+ghost use Rattle.windows.specs.Schedule.{CatchesUp, MeetsState, rows_by};
+ghost use Rattle.windows.specs.Parts.{Done, IsCommonBound, AreWindows, PartRun, StandsAfter, part_of, all_keys, all_rows};
 ghost use Rattle.windows.specs.Cluster.{IsLeastDelay, IsSoundCluster, SafeStep, SafeSchedule, IsRunFrom, IsRowOrder, IsWhole, whose};
 
 /// A safe event that is handled before its turn changes nothing of what follows: the run that waits
@@ -49,6 +50,27 @@ pub fn a_schedule_writes_the_rows_of_the_run()
         → IsSound s → IsLeastDelay s least_delay → IsSoundCluster s w → SafeSchedule s least_delay w keys rows v
         → IsRunFrom s w run_keys run → IsRunFrom s v left_keys left
         → (m : ℕ) → rows_by whose m run ≡ rows_by whose m rows ++ rows_by whose m left }
+{}
+
+/// Where nothing is left up to the end, a schedule's rows, sorted, are the rows of the run.
+pub fn a_schedule_to_the_end_writes_the_run()
+    ensures { (s : Setup) (least_delay : Option ℕ) (w v : Cluster) (keys run_keys : List Key) (rows sorted run : List Row) (cmp : Row → Row → Ordering)
+        → IsSound s → IsLeastDelay s least_delay → IsSoundCluster s w → IsRowOrder cmp
+        → SafeSchedule s least_delay w keys rows v → IsOver s.end v → IsRunFrom s w run_keys run
+        → IsPermutation rows sorted → IsSorted cmp sorted → run ≡ sorted }
+{}
+
+/// A member has no state that it doesn't have in the run: not where a schedule of safe steps leads,
+/// nor after the steps of a part below a common bound.
+pub fn a_schedule_meets_the_states_of_the_run()
+    ensures schedule { (s : Setup) (least_delay : Option ℕ) (w v : Cluster) (keys : List Key) (rows : List Row) (m : ℕ) (t : State)
+        → IsSound s → IsLeastDelay s least_delay → IsSoundCluster s w → SafeSchedule s least_delay w keys rows v
+        → MeetsState (step s) s.end v m t → MeetsState (step s) s.end w m t }
+    ensures part { (s : Setup) (least_delay : Option ℕ) (owns : ℕ → Bool) (bound : ℕ) (w after : Cluster) (keys : List Key)
+        (out : List (Key × Content)) (rows : List Row) (m : ℕ) (t : State)
+        → IsSound s → IsLeastDelay s least_delay → IsSoundCluster s w → IsCommonBound s.end least_delay w bound
+        → PartRun (step s) owns bound (part_of owns w) keys out rows after → get after.members m ≡ Some t
+        → MeetsState (step s) s.end w m t }
 {}
 
 /// Where a schedule has handled all that pends before a bound, and nothing later, its rows, sorted,
