@@ -57,7 +57,7 @@ receivers_differ step w v k q made first next other same = other (same_key q k (
 
 module _ {S C R : Type 0} (step : Machine S C R) where
   -- what holds of all that a machine makes holds of what it makes here
-  made_all : (P : Key → Key → Type 0) → ((k : Key) (c : C) (s : S) → AllByRecursion (λ e. P k e.0) (step k c s).events)
+  pub made_all : (P : Key → Key → Type 0) → ((k : Key) (c : C) (s : S) → AllByRecursion (λ e. P k e.0) (step k c s).events)
       → (k : Key) (c : C) (o : Option S) → AllByRecursion (λ e. P k e.0) (events_of (option_map (step k c) o))
   made_all P all k c None = tt
   made_all P all k c (Some s) = all k c s

@@ -11,3 +11,4 @@ pub mod Far
 pub mod Schedules
 pub mod Members
 pub mod States
+pub mod Outs

@@ -1,14 +1,14 @@
 -- The member's step as a machine that the laws of safe steps speak of, and the laws of its clusters.
-use Rattle.std.proofs.Common.{◌≡◌, ℕ, ◌<◌, ◌≤◌, Bool, true, List, [], ◌++◌, Option, Some, None, All, subst, refl, arith}
-use Rattle.std.specs.Option.{is_some, option_map}
+use Rattle.std.proofs.Common.{◌≡◌, ℕ, ◌+◌, ◌<◌, ◌≤◌, Bool, true, List, [], ◌++◌, Option, Some, None, All, subst, refl, arith}
+use Rattle.std.specs.Option.{IfSome, is_some, option_map}
 use Rattle.std.specs.List.{AllByRecursion}
 use Rattle.std.specs.List.Sorted.{IsPermutation, IsSorted}
 use Rattle.std.specs.FinMap.{get}
 use Rattle.std.specs.declared.cmp.Ordering.{Ordering}
 use Rattle.std.proofs.lemmas.Bool.{false≢true}
-use Rattle.std.proofs.lemmas.List.Elements.{recursion_from_All}
+use Rattle.std.proofs.lemmas.List.Elements.{recursion_from_All, All-from_recursion}
 use Rattle.base.specs.declared.key.Key.{Key}
-use Rattle.base.specs.World.{IsPending, IsOver, events_of}
+use Rattle.base.specs.World.{IsPending, IsOver, Run, events_of}
 use Rattle.base.proofs.Rising.{all_weaker}
 use Rattle.scenario.specs.Setup.{Setup, IsSound, member_count}
 use Rattle.trace.specs.declared.row.Row.{Row}
@@ -28,6 +28,7 @@ use Rattle.windows.specs.Schedule.{CatchesUp, MeetsState, rows_by}
 use Rattle.windows.specs.Parts.{Done, IsCommonBound, AreWindows, StandsAfter, HasWindow, PartRun, part_of, all_keys, all_rows}
 use Rattle.windows.specs.Cluster.{link_delay, IsLeastDelay, IsSoundCluster, SafeStep, SafeSchedule, IsRunFrom, IsRowOrder, IsWhole, whose}
 use Rattle.windows.proofs.Far.{far_made}
+use Rattle.windows.proofs.Outs.{out_late, run_is_schedule}
 use Rattle.windows.proofs.Released.{tells_receiver}
 use Rattle.windows.proofs.Division.{stands_once}
 use Rattle.windows.proofs.Schedules.{safe_early, schedule_kept, safe_keys, safe_rows, safe_rows_by, safe_released, safe_trace, safe_met, part_met, windows_lead, windows_released}
@@ -115,6 +116,20 @@ pub met_in_part : (s : Setup) (least_delay : Option ℕ) (owns : ℕ → Bool) (
     → get after.members m ≡ Some t → MeetsState (step s) s.end w m t
 met_in_part s d owns bound w after keys out rows m t sound least fact common run there =
     part_met (step s) (steps_later s sound) (sends_as_itself s sound) s.end d (IsSoundCluster s) (sound_keeps s sound d least) owns bound w after keys out rows m t (fact, common) run there
+
+pub sent_late : (s : Setup) (owns : ℕ → Bool) (bound from : ℕ) (p after : Cluster) (keys : List Key) (out : List (Key × Content)) (rows : List Row) → IsSound s
+    → ((q : Key) → IsPending p q → (owns q.to ≡ true) × (from ≤ q.at)) → PartRun (step s) owns bound p keys out rows after
+    → All (λ (e : Key × Content). from + link_delay s e.0.from e.0.to ≤ e.0.at) out
+sent_late s owns bound from p after keys out rows sound all run =
+    All-from_recursion (λ (e : Key × Content). from + link_delay s e.0.from e.0.to ≤ e.0.at) out (out_late (link_delay s) (step s) (keeps_delays s sound) owns bound from keys p after out rows all run)
+
+some_delay : (s : Setup) → IsSound s → (least_delay : Option ℕ) → IsLeastDelay s least_delay → IfSome least_delay (λ d. 0 < d)
+some_delay s sound None alone = tt
+some_delay s sound (Some d) is = let link = (sound.between is.0.0 is.0.1).delay.0 in subst (λ n. 0 < n) is.0.3 link
+
+pub run_here : (s : Setup) (least_delay : Option ℕ) (w v : Cluster) (keys : List Key) (rows : List Row) → IsSound s → IsLeastDelay s least_delay → Run (step s) s.end w keys rows v
+    → SafeSchedule s least_delay w keys rows v
+run_here s d w v keys rows sound least run = run_is_schedule (step s) s.end d (some_delay s sound d least) keys w v rows run
 
 pub next_rows : (s : Setup) (least_delay : Option ℕ) (bound : ℕ) (w v : Cluster) (keys run_keys left_keys : List Key) (rows sorted run left : List Row) (cmp : Row → Row → Ordering)
     → IsSound s → IsLeastDelay s least_delay → IsSoundCluster s w → IsRowOrder cmp → SafeSchedule s least_delay w keys rows v → All (λ (k : Key). k.at < bound) keys

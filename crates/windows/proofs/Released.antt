@@ -15,6 +15,7 @@ use Rattle.base.specs.World.{Machine, World, IsPending, rows_of, outcome, Run, I
 use Rattle.base.specs.Run.{MakesLater, handled, trace, run-exists, trace-over, holds-settled}
 use Rattle.base.specs.Rising.{IsRising, IsPlaceBefore, CountsRows}
 use Rattle.base.proofs.Rising.{all_append, all_weaker, rising_append, rows_rise}
+use Rattle.member_laws.proofs.Carried.{all_map}
 use Rattle.windows.specs.Delays.{SendsAsItself}
 use Rattle.windows.specs.Schedule.{Schedule, OffersEarly, TellsWhose}
 use Rattle.windows.proofs.Early.{all_rows}
@@ -25,10 +26,6 @@ module _ {A B : Type 0} (f : A → B) where
   all_mapped : (P : B → Type 0) (xs : List A) → AllByRecursion P (map f xs) → AllByRecursion (λ x. P (f x)) xs
   all_mapped P [] all = tt
   all_mapped P (x ∷ xs) all = (all.0, all_mapped P xs all.1)
-
-  all_map : (P : B → Type 0) (xs : List A) → AllByRecursion (λ x. P (f x)) xs → AllByRecursion P (map f xs)
-  all_map P [] all = tt
-  all_map P (x ∷ xs) all = (all.0, all_map P xs all.1)
 
   rising_mapped : (before : B → B → Type 0) (Q : A → A → Type 0) → ((x y : A) → before (f x) (f y) → Q x y) → (xs : List A) → IsRising before (map f xs) → IsRising Q xs
   rising_mapped before Q gives [] up = tt
@@ -44,7 +41,7 @@ module _ {S C R : Type 0} (step : Machine S C R) (later : MakesLater step) (plac
   rows_keyed k c s =
       let n : ℕ = length (step k c s).rows in
       all_mapped place (λ p. p.0 ≡ k) (step k c s).rows
-      (subst (AllByRecursion (λ p. p.0 ≡ k)) (sym (counts k c s)) (all_map (λ i. (k, i)) (λ p. p.0 ≡ k) (range_with_len 0 n) (all_keyed k (range_with_len 0 n))))
+      (subst (AllByRecursion (λ p. p.0 ≡ k)) (sym (counts k c s)) (all_map (λ (p : Key × ℕ). p.0 ≡ k) (λ i. (k, i)) (range_with_len 0 n) (all_keyed k (range_with_len 0 n))))
 
   -- and so its receiver
   pub tells_receiver : TellsWhose (λ row. (place row).0.to) step

@@ -1,9 +1,9 @@
 -- Each state that a member has after a schedule it has in the run too.
-use Rattle.std.proofs.Common.{◌≡◌, ◌≢◌, ◌⊎◌, ℕ, ◌≤◌, Bool, true, false, eqb, List, [], ◌∷◌, ◌++◌, Option, Some, ap, ◌∙◌, sym, subst, refl, inl, inr}
+use Rattle.std.proofs.Common.{◌≡◌, ◌≢◌, ◌⊎◌, ℕ, ◌≤◌, true, false, eqb, List, [], ◌∷◌, ◌++◌, Some, ap, ◌∙◌, sym, subst, refl, inl, inr}
 use Rattle.std.specs.FinMap.{get}
 use Rattle.std.proofs.lemmas.Bool.Decides.{eqb_tells}
 use Rattle.base.specs.declared.key.Key.{Key}
-use Rattle.base.specs.World.{Machine, World, settled, rows_of, outcome, NextStep, Run}
+use Rattle.base.specs.World.{Machine, World, settled, outcome, NextStep, Run}
 use Rattle.base.specs.Run.{MakesLater, one_step}
 use Rattle.windows.specs.Delays.{SendsAsItself}
 use Rattle.windows.specs.Schedule.{TestedStep, Schedule, OffersEarly, MeetsState}

@@ -1,11 +1,11 @@
 //! What holds of every schedule of safe steps and of all windows, stated over the definitions alone.
 
-ghost use Rattle.std.specs.Prelude.{◌≡◌, ◌<◌, ◌≤◌, ◌++◌, ℕ, Bool, List, Option, Some, All};
+ghost use Rattle.std.specs.Prelude.{◌≡◌, ◌+◌, ◌<◌, ◌≤◌, ◌++◌, ℕ, Bool, true, List, Option, Some, All};
 ghost use Rattle.std.specs.List.Sorted.{IsPermutation, IsSorted};
 ghost use Rattle.std.specs.FinMap.{get};
 ghost use Rattle.std.specs.declared.cmp.Ordering.{Ordering};
 ghost use Rattle.base.specs.declared.key.Key.{Key};
-ghost use Rattle.base.specs.World.{IsPending, IsOver};
+ghost use Rattle.base.specs.World.{IsPending, IsOver, Run};
 ghost use Rattle.scenario.specs.Setup.{Setup, IsSound};
 ghost use Rattle.trace.specs.declared.row.Row.{Row};
 ghost use Rattle.member.specs.declared.content.Content.{Content};
@@ -15,7 +15,7 @@ ghost use Rattle.member.specs.Step.{step};
 ghost use Rattle.member_laws.specs.Runs.{Cluster};
 ghost use Rattle.windows.specs.Schedule.{CatchesUp, MeetsState, rows_by};
 ghost use Rattle.windows.specs.Parts.{Done, IsCommonBound, AreWindows, PartRun, StandsAfter, part_of, all_keys, all_rows};
-ghost use Rattle.windows.specs.Cluster.{IsLeastDelay, IsSoundCluster, SafeStep, SafeSchedule, IsRunFrom, IsRowOrder, IsWhole, whose};
+ghost use Rattle.windows.specs.Cluster.{link_delay, IsLeastDelay, IsSoundCluster, SafeStep, SafeSchedule, IsRunFrom, IsRowOrder, IsWhole, whose};
 
 /// A safe event that is handled before its turn changes nothing of what follows: the run that waits
 /// for its turn handles first events for other members, with the same rows, and then comes to the
@@ -32,6 +32,13 @@ pub fn safe_steps_keep_a_cluster_sound()
     ensures schedule { (s : Setup) (least_delay : Option ℕ) (w v : Cluster) (keys : List Key) (rows : List Row)
         → IsSound s → IsLeastDelay s least_delay → IsSoundCluster s w → SafeSchedule s least_delay w keys rows v
         → IsSoundCluster s v }
+{}
+
+/// A run is such a schedule, in which the least of all pending events is always the next.
+pub fn a_run_is_a_schedule()
+    ensures { (s : Setup) (least_delay : Option ℕ) (w v : Cluster) (keys : List Key) (rows : List Row)
+        → IsSound s → IsLeastDelay s least_delay → Run (step s) s.end w keys rows v
+        → SafeSchedule s least_delay w keys rows v }
 {}
 
 /// What a schedule of safe steps handles and writes, and what the run from where it ends does, are
@@ -81,6 +88,15 @@ pub fn the_rows_before_a_bound_are_next()
         → SafeSchedule s least_delay w keys rows v → All (λ (k : Key). k.at < bound) keys → ((q : Key) → IsPending v q → bound ≤ q.at)
         → IsRunFrom s w run_keys run → IsRunFrom s v left_keys left
         → IsPermutation rows sorted → IsSorted cmp sorted → run ≡ sorted ++ left }
+{}
+
+/// What a part sends out comes at least its pair's delay after any moment before which nothing pends in
+/// the part.
+pub fn a_part_sends_out_late()
+    ensures { (s : Setup) (owns : ℕ → Bool) (bound from : ℕ) (p after : Cluster) (keys : List Key) (out : List (Key × Content)) (rows : List Row)
+        → IsSound s → ((q : Key) → IsPending p q → (owns q.to ≡ true) × (from ≤ q.at))
+        → PartRun (step s) owns bound p keys out rows after
+        → All (λ (e : Key × Content). from + link_delay s e.0.from e.0.to ≤ e.0.at) out }
 {}
 
 /// The windows of different parts below a common bound, in any order, are a schedule of safe steps.
