@@ -16,7 +16,7 @@ use Rattle.base.proofs.Rising.{all_append, all_weaker}
 use Rattle.windows.specs.Delays.{SendsAsItself, KeepsFar}
 use Rattle.windows.specs.Safe.{IsSafeIn}
 use Rattle.windows.specs.Schedule.{Schedule}
-use Rattle.windows.specs.Parts.{part_of, for_own, joined, is_in, Done, IsWindowOf, PartRun, HasWindow, all_keys, all_out, all_rows, AreWindows, StandsAfter, IsReady}
+use Rattle.windows.specs.Parts.{part_of, for_own, joined, is_in, Window, IsWindowOf, PartRun, HasWindow, all_keys, all_out, all_rows, AreWindows, StandsAfter, IsReady}
 use Rattle.windows.proofs.Cuts.{get_retained, joined_joined, all_kept, own_of_others}
 use Rattle.windows.proofs.Windows.{Led, leads}
 
@@ -49,16 +49,16 @@ own_of_run step owns bound (k ∷ ks) p v out rows run =
 
 module _ {S C R : Type 0} (step : Machine S C R) (later : MakesLater step) (own : SendsAsItself step) (end : ℕ) (least_delay : Option ℕ) (Fact : World S C → Type 0)
     (keeps : KeepsFar end least_delay Fact step) (bound : ℕ) (division : ℕ → ℕ) (w : World S C) where
-  abbrev owns : Done S C R → ℕ → Bool
+  abbrev owns : Window S C R → ℕ → Bool
   owns d = is_in division d.part
 
   -- a part whose window is still to come has only had events come to it, from other parts
-  record Awaits (u : World S C) (outs : List (Key × C)) (d : Done S C R) : Type 0 where
+  record Awaits (u : World S C) (outs : List (Key × C)) (d : Window S C R) : Type 0 where
     cut : part_of (owns d) u ≡ joined (part_of (owns d) w) (for_own (owns d) outs)
     strange : AllByRecursion (λ e. owns d e.0.from ≡ false) outs
     window : IsWindowOf step division bound w d
 
-  record AllLed (u : World S C) (outs : List (Key × C)) (ds : List (Done S C R)) : Type 0 where
+  record AllLed (u : World S C) (outs : List (Key × C)) (ds : List (Window S C R)) : Type 0 where
     world : World S C
     schedule : Schedule step (IsSafeIn end least_delay Fact) u (all_keys ds) (all_rows ds) world
     ready : IsReady end least_delay Fact bound world
@@ -72,7 +72,7 @@ module _ {S C R : Type 0} (step : Machine S C R) (later : MakesLater step) (own 
   strange_own : (mine : ℕ → Bool) (outs : List (Key × C)) → AllByRecursion (λ e. mine e.0.from ≡ false) outs → AllByRecursion (λ e. mine e.0.from ≡ false) (for_own mine outs)
   strange_own mine outs strange = all_weaker _ (λ e. mine e.0.from ≡ false) (λ e h. h.1) (for_own mine outs) (all_kept (λ e. mine e.0.to) (λ e. mine e.0.from ≡ false) outs strange)
 
-  module _ (d : Done S C R) (ds : List (Done S C R)) (u : World S C) (outs : List (Key × C)) (ready : IsReady end least_delay Fact bound u)
+  module _ (d : Window S C R) (ds : List (Window S C R)) (u : World S C) (outs : List (Key × C)) (ready : IsReady end least_delay Fact bound u)
       (late : AllByRecursion (λ e. bound ≤ e.0.at) outs) (apart : AllByRecursion (λ e. d.part ≢ e.part) ds) (awaits : Awaits u outs d) where
     first_led : Led step later own end least_delay Fact keeps bound (owns d) (for_own (owns d) outs) (late_own (owns d) outs late) (strange_own (owns d) outs awaits.strange) u d.after d.keys d.out d.rows
     first_led =
@@ -80,7 +80,7 @@ module _ {S C R : Type 0} (step : Machine S C R) (later : MakesLater step) (own 
         d.keys u (part_of (owns d) w) d.after d.out d.rows ready awaits.cut awaits.window.run
 
     -- the parts whose windows are still to come await theirs
-    still_awaits : (e : Done S C R) → d.part ≢ e.part → Awaits u outs e → Awaits first_led.world (outs ++ d.out) e
+    still_awaits : (e : Window S C R) → d.part ≢ e.part → Awaits u outs e → Awaits first_led.world (outs ++ d.out) e
     still_awaits e other h = record {
       cut =
           first_led.others (owns e) (parts_apart division e.part d.part (λ same. other (sym same)))
@@ -91,7 +91,7 @@ module _ {S C R : Type 0} (step : Machine S C R) (later : MakesLater step) (own 
       window = h.window;
     }
 
-    all_still : (es : List (Done S C R)) → AllByRecursion (λ e. d.part ≢ e.part) es → AllByRecursion (Awaits u outs) es → AllByRecursion (Awaits first_led.world (outs ++ d.out)) es
+    all_still : (es : List (Window S C R)) → AllByRecursion (λ e. d.part ≢ e.part) es → AllByRecursion (Awaits u outs) es → AllByRecursion (Awaits first_led.world (outs ++ d.out)) es
     all_still [] others await = tt
     all_still (e ∷ es) others await = (still_awaits e others.0 await.0, all_still es others.1 await.1)
 
@@ -120,7 +120,7 @@ module _ {S C R : Type 0} (step : Machine S C R) (later : MakesLater step) (own 
     }
 
   -- windows of different parts, one after the other
-  all_led : (ds : List (Done S C R)) (u : World S C) (outs : List (Key × C)) → IsReady end least_delay Fact bound u → AllByRecursion (λ e. bound ≤ e.0.at) outs
+  all_led : (ds : List (Window S C R)) (u : World S C) (outs : List (Key × C)) → IsReady end least_delay Fact bound u → AllByRecursion (λ e. bound ≤ e.0.at) outs
       → IsRising (λ d e. d.part ≢ e.part) ds → AllByRecursion (Awaits u outs) ds → AllLed u outs ds
   all_led [] u outs ready late apart awaits = record { world = u; schedule = (refl, refl); ready = ready; far = tt; parts = tt; others = λ part _. refl }
   all_led (d ∷ ds) u outs ready late apart awaits =
@@ -130,14 +130,14 @@ module _ {S C R : Type 0} (step : Machine S C R) (later : MakesLater step) (own 
 
   -- ---- the statement of all windows of a world
 
-  none_has : (ds : List (Done S C R)) (part : ℕ) → ¬ (HasWindow ds part) → AllByRecursion (λ d. d.part ≢ part) ds
+  none_has : (ds : List (Window S C R)) (part : ℕ) → ¬ (HasWindow ds part) → AllByRecursion (λ d. d.part ≢ part) ds
   none_has [] part none = tt
   none_has (d ∷ ds) part none = (λ same. none (inl same), none_has ds part (λ h. none (inr h)))
 
-  await_first : (ds : List (Done S C R)) → AllByRecursion (IsWindowOf step division bound w) ds → AllByRecursion (Awaits w []) ds
+  await_first : (ds : List (Window S C R)) → AllByRecursion (IsWindowOf step division bound w) ds → AllByRecursion (Awaits w []) ds
   await_first ds windows = all_weaker _ (Awaits w []) (λ d window. record { cut = refl; strange = tt; window = window }) ds windows
 
-  module _ (ds : List (Done S C R)) (ready : IsReady end least_delay Fact bound w) (are : AreWindows step division bound w ds) where
+  module _ (ds : List (Window S C R)) (ready : IsReady end least_delay Fact bound w) (are : AreWindows step division bound w ds) where
     led_by_all : AllLed w [] ds
     led_by_all = all_led ds w [] ready tt are.different (await_first ds are.windows)
 
@@ -157,7 +157,7 @@ module _ {S C R : Type 0} (step : Machine S C R) (later : MakesLater step) (own 
     unfolding after_all
     stands_after = record { parts = led_by_all.parts; others = λ part none. led_by_all.others part (none_has ds part none) }
 
-    left_by : (q : Key) (es : List (Done S C R)) → IsPending after_all q → HasWindow es (division q.to) → AllByRecursion (IsWindowOf step division bound w) es
+    left_by : (q : Key) (es : List (Window S C R)) → IsPending after_all q → HasWindow es (division q.to) → AllByRecursion (IsWindowOf step division bound w) es
         → AllByRecursion (λ d. part_of (owns d) after_all ≡ joined d.after (for_own (owns d) (all_out ds))) es → bound ≤ q.at
     left_by q [] here none windows parts = absurd none
     left_by q (d ∷ es) here (inr more) windows parts = left_by q es here more windows.1 parts.1
@@ -177,7 +177,7 @@ early_of_run step owns bound [] p v out rows run = tt
 early_of_run step owns bound (k ∷ ks) p v out rows run = (run.5.early, early_of_run step owns bound ks run.0 v run.2 run.4 run.6)
 
 -- all events of the windows are before the bound
-pub keys_early : {S C R : Type 0} (step : Machine S C R) (division : ℕ → ℕ) (bound : ℕ) (w : World S C) (ds : List (Done S C R)) → AllByRecursion (IsWindowOf step division bound w) ds
+pub keys_early : {S C R : Type 0} (step : Machine S C R) (division : ℕ → ℕ) (bound : ℕ) (w : World S C) (ds : List (Window S C R)) → AllByRecursion (IsWindowOf step division bound w) ds
     → AllByRecursion (λ k. k.at < bound) (all_keys ds)
 keys_early step division bound w [] windows = tt
 keys_early step division bound w (d ∷ ds) windows =
@@ -205,7 +205,7 @@ same_parts division u v same =
 
 -- ---- one world
 
-part_same : {S C R : Type 0} (division : ℕ → ℕ) (ds es : List (Done S C R)) (u v : World S C) (part : ℕ)
+part_same : {S C R : Type 0} (division : ℕ → ℕ) (ds es : List (Window S C R)) (u v : World S C) (part : ℕ)
     → AllByRecursion (λ d. part_of (is_in division d.part) u ≡ joined d.after (for_own (is_in division d.part) (all_out ds))) es
     → AllByRecursion (λ d. part_of (is_in division d.part) v ≡ joined d.after (for_own (is_in division d.part) (all_out ds))) es
     → (¬ (HasWindow es part) → part_of (is_in division part) u ≡ part_of (is_in division part) v) → part_of (is_in division part) u ≡ part_of (is_in division part) v
@@ -223,6 +223,6 @@ part_same division ds (d ∷ es) u v part first second none = by_number (eqb_tel
         neither gone (inr more) = gone more
 
 -- the world that stands after these windows is one
-pub stands_once : {S C R : Type 0} (division : ℕ → ℕ) (w u v : World S C) (ds : List (Done S C R)) → StandsAfter division w ds u → StandsAfter division w ds v → u ≡ v
+pub stands_once : {S C R : Type 0} (division : ℕ → ℕ) (w u v : World S C) (ds : List (Window S C R)) → StandsAfter division w ds u → StandsAfter division w ds v → u ≡ v
 stands_once division w u v ds first second =
     same_parts division u v (λ part. part_same division ds ds u v part first.parts second.parts (λ none. first.others part none ∙ sym (second.others part none)))

@@ -25,7 +25,7 @@ use Rattle.member_laws.proofs.Reached.{step_among, consistent_reached, pending_a
 use Rattle.member_laws.proofs.Runs.{kept_after}
 use Rattle.windows.specs.Delays.{SendsAsItself, KeepsDelays, ComesFar, KeepsFar, IsNoMore}
 use Rattle.windows.specs.Schedule.{CatchesUp, MeetsState, rows_by}
-use Rattle.windows.specs.Parts.{Done, IsCommonBound, AreWindows, StandsAfter, HasWindow, PartRun, part_of, all_keys, all_rows}
+use Rattle.windows.specs.Parts.{Window, IsCommonBound, AreWindows, StandsAfter, HasWindow, PartRun, part_of, all_keys, all_rows}
 use Rattle.windows.specs.Cluster.{link_delay, IsLeastDelay, IsSoundCluster, SafeStep, SafeSchedule, IsRunFrom, IsRowOrder, IsWhole, whose}
 use Rattle.windows.proofs.Far.{far_made}
 use Rattle.windows.proofs.Outs.{out_late, run_is_schedule}
@@ -138,7 +138,7 @@ next_rows s d bound w v keys run_keys left_keys rows sorted run left cmp sound l
     safe_released (step s) (steps_later s sound) (sends_as_itself s sound) s.end d (IsSoundCluster s) (sound_keeps s sound d least) w v keys run_keys left_keys rows run left fact is whole rest
     place_of (steps_counted s sound) cmp order.total order.agrees bound sorted (recursion_from_All (λ (k : Key). k.at < bound) keys below) from items up
 
-module _ (s : Setup) (d : Option ℕ) (division : ℕ → ℕ) (bound : ℕ) (w : Cluster) (windows : List (Done State Content Row)) (sound : IsSound s) (least : IsLeastDelay s d)
+module _ (s : Setup) (d : Option ℕ) (division : ℕ → ℕ) (bound : ℕ) (w : Cluster) (windows : List (Window State Content Row)) (sound : IsSound s) (least : IsLeastDelay s d)
     (fact : IsSoundCluster s w) (common : IsCommonBound s.end d w bound) (are : AreWindows (step s) division bound w windows) where
   lead : (v : Cluster) × SafeSchedule s d w (all_keys windows) (all_rows windows) v × StandsAfter division w windows v × IsSoundCluster s v
       × ((q : Key) → IsPending v q → HasWindow windows (division q.to) → bound ≤ q.at)
@@ -151,7 +151,7 @@ receiver_low : (s : Setup) (v : Cluster) (q : Key) (o : Option Content) → IsSo
 receiver_low s v q None fact is here = absurd (false≢true here)
 receiver_low s v q (Some c) fact is here = (fact.events q c is).receiver
 
-module _ (s : Setup) (d : Option ℕ) (division : ℕ → ℕ) (bound : ℕ) (w v : Cluster) (windows : List (Done State Content Row)) (sound : IsSound s) (least : IsLeastDelay s d)
+module _ (s : Setup) (d : Option ℕ) (division : ℕ → ℕ) (bound : ℕ) (w v : Cluster) (windows : List (Window State Content Row)) (sound : IsSound s) (least : IsLeastDelay s d)
     (fact : IsSoundCluster s w) (common : IsCommonBound s.end d w bound) (are : AreWindows (step s) division bound w windows) (parts : IsWhole s division windows)
     (stands : StandsAfter division w windows v) where
   sound_there : IsSoundCluster s v
@@ -168,7 +168,7 @@ module _ (s : Setup) (d : Option ℕ) (division : ℕ → ℕ) (bound : ℕ) (w 
       let same = stands_once division w led.0 v windows led.2 stands in
       subst (λ u. (r : Key) → IsPending u r → HasWindow windows (division r.to) → bound ≤ r.at) same led.4 q here (has_window q here)
 
-pub windows_rows : (s : Setup) (least_delay : Option ℕ) (division : ℕ → ℕ) (bound : ℕ) (w v : Cluster) (windows : List (Done State Content Row)) (run_keys left_keys : List Key)
+pub windows_rows : (s : Setup) (least_delay : Option ℕ) (division : ℕ → ℕ) (bound : ℕ) (w v : Cluster) (windows : List (Window State Content Row)) (run_keys left_keys : List Key)
     (sorted run left : List Row) (cmp : Row → Row → Ordering) → IsSound s → IsLeastDelay s least_delay → IsSoundCluster s w → IsRowOrder cmp → IsCommonBound s.end least_delay w bound
     → AreWindows (step s) division bound w windows → IsWhole s division windows → StandsAfter division w windows v → IsRunFrom s w run_keys run → IsRunFrom s v left_keys left
     → IsPermutation (all_rows windows) sorted → IsSorted cmp sorted → run ≡ sorted ++ left

@@ -18,7 +18,7 @@ use Rattle.member_laws.specs.Words.{IsConsistent, IsAmongMembers}
 use Rattle.member_laws.specs.Runs.{Cluster}
 use Rattle.windows.specs.Safe.{IsSafe}
 use Rattle.windows.specs.Schedule.{TestedStep, Schedule}
-use Rattle.windows.specs.Parts.{Done, HasWindow}
+use Rattle.windows.specs.Parts.{Window, HasWindow}
 
 abbrev pub link_delay : Setup → ℕ → ℕ → ℕ
 link_delay s i j = (link_between s i j).delay
@@ -55,5 +55,5 @@ pub record IsRowOrder (cmp : Row → Row → Ordering) : Type 0 where
   pub agrees : (a b : Row) → IsPlaceBefore (place_of a) (place_of b) → cmp a b ≡ Less
 
 -- these windows are of all parts
-abbrev pub IsWhole : Setup → (ℕ → ℕ) → List (Done State Content Row) → Type 0
+abbrev pub IsWhole : Setup → (ℕ → ℕ) → List (Window State Content Row) → Type 0
 IsWhole s division windows = (m : ℕ) → m < member_count s → HasWindow windows (division m)

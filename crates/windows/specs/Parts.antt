@@ -56,7 +56,7 @@ abbrev pub is_in : (ℕ → ℕ) → ℕ → ℕ → Bool
 is_in division part m = nat_eq (division m) part
 
 -- a part's number and its window: the keys handled, the events that went out, the rows, and the part after it
-pub record Done (S C R : Type 0) : Type 0 where
+pub record Window (S C R : Type 0) : Type 0 where
   pub part : ℕ
   pub keys : List Key
   pub out : List (Key × C)
@@ -64,7 +64,7 @@ pub record Done (S C R : Type 0) : Type 0 where
   pub after : World S C
 
 -- this is the window of that part of the world
-abbrev pub IsWindowOf : {S C R : Type 0} → Machine S C R → (ℕ → ℕ) → ℕ → World S C → Done S C R → Type 0
+abbrev pub IsWindowOf : {S C R : Type 0} → Machine S C R → (ℕ → ℕ) → ℕ → World S C → Window S C R → Type 0
 IsWindowOf step division bound w d = PartWindow step (is_in division d.part) bound (part_of (is_in division d.part) w) d.keys d.out d.rows d.after
 
 -- A common bound: no more than the end and one, nor than the least pending moment and the least delay.
@@ -73,28 +73,28 @@ pub record IsCommonBound {S C : Type 0} (end : ℕ) (least_delay : Option ℕ) (
   pub near : IfSome least_delay (λ d. (q : Key) → IsPending w q → bound ≤ q.at + d)
 
 -- the part has one of these windows
-abbrev pub HasWindow : {S C R : Type 0} → List (Done S C R) → ℕ → Type 0
+abbrev pub HasWindow : {S C R : Type 0} → List (Window S C R) → ℕ → Type 0
 HasWindow [] part = ⊥
 HasWindow (d ∷ ds) part = (d.part ≡ part) ⊎ HasWindow ds part
 
 -- all keys, events that went out and rows of these windows
-abbrev pub all_keys : {S C R : Type 0} → List (Done S C R) → List Key
+abbrev pub all_keys : {S C R : Type 0} → List (Window S C R) → List Key
 all_keys = flat_map (λ d. d.keys)
 
-abbrev pub all_out : {S C R : Type 0} → List (Done S C R) → List (Key × C)
+abbrev pub all_out : {S C R : Type 0} → List (Window S C R) → List (Key × C)
 all_out = flat_map (λ d. d.out)
 
-abbrev pub all_rows : {S C R : Type 0} → List (Done S C R) → List R
+abbrev pub all_rows : {S C R : Type 0} → List (Window S C R) → List R
 all_rows = flat_map (λ d. d.rows)
 
 -- Windows of different parts of a world, of one bound.
-pub record AreWindows {S C R : Type 0} (step : Machine S C R) (division : ℕ → ℕ) (bound : ℕ) (w : World S C) (ds : List (Done S C R)) : Type 0 where
+pub record AreWindows {S C R : Type 0} (step : Machine S C R) (division : ℕ → ℕ) (bound : ℕ) (w : World S C) (ds : List (Window S C R)) : Type 0 where
   pub windows : AllByRecursion (IsWindowOf step division bound w) ds
   pub different : IsRising (λ d e. d.part ≢ e.part) ds
 
 -- The world that stands after them: each part is as its window leaves it, or as it was if it has none, and the events
 -- that went out have come to their parts.
-pub record StandsAfter {S C R : Type 0} (division : ℕ → ℕ) (w : World S C) (ds : List (Done S C R)) (v : World S C) : Type 0 where
+pub record StandsAfter {S C R : Type 0} (division : ℕ → ℕ) (w : World S C) (ds : List (Window S C R)) (v : World S C) : Type 0 where
   pub parts : AllByRecursion (λ d. part_of (is_in division d.part) v ≡ joined d.after (for_own (is_in division d.part) (all_out ds))) ds
   pub others : (part : ℕ) → ¬ (HasWindow ds part) → part_of (is_in division part) v ≡ joined (part_of (is_in division part) w) (for_own (is_in division part) (all_out ds))
 

@@ -14,7 +14,7 @@ ghost use Rattle.member.specs.Opening.{opening};
 ghost use Rattle.member.specs.Step.{step};
 ghost use Rattle.member_laws.specs.Runs.{Cluster};
 ghost use Rattle.windows.specs.Schedule.{CatchesUp, MeetsState, rows_by};
-ghost use Rattle.windows.specs.Parts.{Done, IsCommonBound, AreWindows, PartRun, StandsAfter, part_of, all_keys, all_rows};
+ghost use Rattle.windows.specs.Parts.{Window, IsCommonBound, AreWindows, PartRun, StandsAfter, part_of, all_keys, all_rows};
 ghost use Rattle.windows.specs.Cluster.{link_delay, IsLeastDelay, IsSoundCluster, SafeStep, SafeSchedule, IsRunFrom, IsRowOrder, IsWhole, whose};
 
 /// A safe event that is handled before its turn changes nothing of what follows: the run that waits
@@ -103,13 +103,13 @@ pub fn a_part_sends_out_late()
 /// It leads to a world, and to one alone, of which each part is as its window leaves it and as the
 /// events find it that went out of the others; nothing is left there below the bound.
 pub fn windows_are_safe_steps()
-    ensures schedule { (s : Setup) (least_delay : Option ℕ) (division : ℕ → ℕ) (bound : ℕ) (w : Cluster) (windows : List (Done State Content Row))
+    ensures schedule { (s : Setup) (least_delay : Option ℕ) (division : ℕ → ℕ) (bound : ℕ) (w : Cluster) (windows : List (Window State Content Row))
         → IsSound s → IsLeastDelay s least_delay → IsSoundCluster s w → IsCommonBound s.end least_delay w bound
         → AreWindows (step s) division bound w windows
         → (v : Cluster) × SafeSchedule s least_delay w (all_keys windows) (all_rows windows) v × StandsAfter division w windows v }
-    ensures one { (division : ℕ → ℕ) (w u v : Cluster) (windows : List (Done State Content Row))
+    ensures one { (division : ℕ → ℕ) (w u v : Cluster) (windows : List (Window State Content Row))
         → StandsAfter division w windows u → StandsAfter division w windows v → u ≡ v }
-    ensures none_left { (s : Setup) (least_delay : Option ℕ) (division : ℕ → ℕ) (bound : ℕ) (w v : Cluster) (windows : List (Done State Content Row))
+    ensures none_left { (s : Setup) (least_delay : Option ℕ) (division : ℕ → ℕ) (bound : ℕ) (w v : Cluster) (windows : List (Window State Content Row))
         → IsSound s → IsLeastDelay s least_delay → IsSoundCluster s w → IsCommonBound s.end least_delay w bound
         → AreWindows (step s) division bound w windows → IsWhole s division windows → StandsAfter division w windows v
         → (q : Key) → IsPending v q → bound ≤ q.at }
@@ -117,7 +117,7 @@ pub fn windows_are_safe_steps()
 
 /// The rows of the windows of all parts below a common bound, sorted, are the next rows of the run.
 pub fn windows_write_the_next_rows()
-    ensures { (s : Setup) (least_delay : Option ℕ) (division : ℕ → ℕ) (bound : ℕ) (w v : Cluster) (windows : List (Done State Content Row))
+    ensures { (s : Setup) (least_delay : Option ℕ) (division : ℕ → ℕ) (bound : ℕ) (w v : Cluster) (windows : List (Window State Content Row))
         (run_keys left_keys : List Key) (sorted run left : List Row) (cmp : Row → Row → Ordering)
         → IsSound s → IsLeastDelay s least_delay → IsSoundCluster s w → IsRowOrder cmp → IsCommonBound s.end least_delay w bound
         → AreWindows (step s) division bound w windows → IsWhole s division windows → StandsAfter division w windows v
