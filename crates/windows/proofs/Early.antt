@@ -83,23 +83,32 @@ pub apart_by_sender : {C : Type 0} (m n : ℕ) (es fs : List (Key × C)) → m �
 apart_by_sender m n es fs other of_m of_n =
     all_weaker _ (λ e. NoneIs e.0 fs) (λ e from. all_weaker _ (λ f. f.0 ≢ e.0) (λ f by same. other (sym from ∙ ap (λ (k : Key). k.from) (sym same) ∙ by)) fs of_n) es of_m
 
+-- the least of all is no later than any other
+pub least_no_later : {S C R : Type 0} (step : Machine S C R) (w v : World S C) (k q : Key) (made : List R) → NextStep step w q v made → IsPending w k → q.at ≤ k.at
+least_no_later step w v k q made next here = moments-from_not_before k q (next.least k here)
+
+-- events for a key's receiver that are later than it have other keys
+pub unlike_later : {C : Type 0} (k : Key) (es : List (Key × C)) → AllByRecursion (λ e. e.0.to ≡ k.to → k.at < e.0.at) es → NoneIs k es
+unlike_later k es past =
+    all_weaker _ (λ e. e.0 ≢ k)
+    (λ e h same.
+    let after = h (ap (λ (r : Key). r.to) same) in
+    let at : e.0.at ≡ k.at = ap (λ (r : Key). r.at) same in
+    omega arith)
+    es past
+
 module _ {S C R : Type 0} (step : Machine S C R) (later : MakesLater step) (own : SendsAsItself step) where
   module _ (end : ℕ) (Test : World S C → Key → Type 0) (offers : OffersEarly step end Test) where
     module _ (w : World S C) (k : Key) (c : C) (passes : Test w k) (here : get w.pending k ≡ Some c) where
       module _ (q : Key) (mid : World S C) (made : List R) (next : NextStep step w q mid made) (other : q ≢ k) where
         no_earlier : q.at ≤ k.at
-        no_earlier = moments-from_not_before k q (next.least k (ap is_some here))
+        no_earlier = least_no_later step w mid k q made next (ap is_some here)
 
         pub receivers_apart : q.to ≢ k.to
         receivers_apart = receivers_differ step w mid k q made (offers.first w k passes) next other
 
         leaves_k : NoneIs k (events_of (outcome step w q next.content))
-        leaves_k =
-            all_weaker _ (λ e. e.0 ≢ k) (λ e h same.
-            let past = h (ap (λ (r : Key). r.to) same) in
-            let at : e.0.at ≡ k.at = ap (λ (r : Key). r.at) same in
-            omega arith)
-            (events_of (outcome step w q next.content)) (offers.untouched w mid k q made passes next other)
+        leaves_k = unlike_later k (events_of (outcome step w q next.content)) (offers.untouched w mid k q made passes next other)
 
         leaves_q : NoneIs q (events_of (outcome step w k c))
         leaves_q =

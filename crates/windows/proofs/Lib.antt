@@ -12,3 +12,4 @@ pub mod Schedules
 pub mod Members
 pub mod States
 pub mod Outs
+pub mod Clear

@@ -4,7 +4,7 @@ use Rattle.std.specs.Option.{IfSome, is_some}
 use Rattle.std.specs.List.{AllByRecursion}
 use Rattle.std.specs.FinMap.{get, contains_key, remove}
 use Rattle.base.specs.declared.key.Key.{Key}
-use Rattle.base.specs.Order.{IsBefore, moments-from_before, moments-from_not_before}
+use Rattle.base.specs.Order.{IsBefore, moments-from_before}
 use Rattle.base.specs.World.{Machine, World, IsPending, events_of, outcome, NextStep}
 use Rattle.base.specs.Run.{MakesLater, holds-with_events, contains-remove}
 use Rattle.base.proofs.Rising.{all_weaker}
@@ -12,11 +12,11 @@ use Rattle.windows.specs.Delays.{ComesFar, KeepsFar}
 use Rattle.windows.specs.Safe.{IsSafeIn}
 use Rattle.windows.specs.Schedule.{OffersEarly}
 use Rattle.windows.proofs.Swaps.{NoneIs, pending_settled}
-use Rattle.windows.proofs.Early.{content_stays, receivers_differ, events_later}
+use Rattle.windows.proofs.Early.{content_stays, receivers_differ, events_later, least_no_later, unlike_later}
 
 module _ {S C R : Type 0} (step : Machine S C R) where
   -- what holds of the pending events and of those made holds of all that pend after the step
-  holds_after : (P : Key → Type 0) (w v : World S C) (q : Key) (made : List R) (next : NextStep step w q v made)
+  pub holds_after : (P : Key → Type 0) (w v : World S C) (q : Key) (made : List R) (next : NextStep step w q v made)
       → ((r : Key) → IsPending w r → P r) → AllByRecursion (λ e. P e.0) (events_of (outcome step w q next.content)) → (r : Key) → IsPending v r → P r
   holds_after P w v q made next old new r here =
       holds-with_events P (events_of (outcome step w q next.content)) (remove w.pending q) (λ t there. old t (contains-remove w.pending q t there).0) new r
@@ -25,7 +25,7 @@ module _ {S C R : Type 0} (step : Machine S C R) where
 module _ {S C R : Type 0} (step : Machine S C R) (later : MakesLater step) (end : ℕ) (least_delay : Option ℕ) (Fact : World S C → Type 0) (keeps : KeepsFar end least_delay Fact step) where
   module _ (w v : World S C) (k q : Key) (made : List R) (safe : IsSafeIn end least_delay Fact w k) (next : NextStep step w q v made) (other : q ≢ k) where
     in_time : q.at ≤ end
-    in_time = let low = moments-from_not_before k q (next.least k safe.0.first.here) in let h = safe.0.in_time in omega arith
+    in_time = let low = least_no_later step w v k q made next safe.0.first.here in let h = safe.0.in_time in omega arith
 
     reaches : (d : Option ℕ) (e : Key) → q.to ≢ k.to → IfSome d (λ d. (r : Key) → IsPending w r → k.at < r.at + d) → ComesFar d q e → e.to ≡ k.to → k.at < e.at
     reaches None e apart near far same = absurd (apart (sym far ∙ same))
@@ -41,10 +41,7 @@ module _ {S C R : Type 0} (step : Machine S C R) (later : MakesLater step) (end 
         (events_of (outcome step w q next.content)) (keeps.far w q next.content safe.1 next.here in_time)
 
     leaves : NoneIs k (events_of (outcome step w q next.content))
-    leaves =
-        all_weaker _ (λ e. e.0 ≢ k)
-        (λ e past same. let h = past (ap (λ (r : Key). r.to) same) in let at : e.0.at ≡ k.at = ap (λ (r : Key). r.at) same in omega arith)
-        (events_of (outcome step w q next.content)) untouched
+    leaves = unlike_later k (events_of (outcome step w q next.content)) untouched
 
     near_after : (d : Option ℕ) → IfSome d (λ d. (r : Key) → IsPending w r → k.at < r.at + d) → IfSome d (λ d. (r : Key) → IsPending v r → k.at < r.at + d)
     near_after None near = tt

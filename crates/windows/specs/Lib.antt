@@ -3,3 +3,4 @@ pub mod Safe
 pub mod Schedule
 pub mod Parts
 pub mod Cluster
+pub mod Horizon
