@@ -17,7 +17,7 @@ use Rattle.member.specs.Here.{IsHere, HoldsMembers}
 use Rattle.member.specs.State.{State}
 use Rattle.member.specs.View.{state_of}
 use Rattle.member_laws.specs.Words.{IsConsistent, IsAmongMembers, is_live}
-use Rattle.exchange.specs.Among.{IsOfMembers}
+use Rattle.member_laws.specs.Runs.{IsSoundCluster}
 use Rattle.exchange.specs.View.{members_of}
 use Rattle.exchange.proofs.Members.{get-members_of}
 
@@ -34,7 +34,7 @@ none_living (Some h) absent = absurd (false≢true (sym absent))
 holds_members : (s : Setup) (m : ℕ) (t : State) → IsConsistent s m t → HoldsMembers s m t
 holds_members s m t h = record { others = h.others; listed = λ q absent. h.probes q ∙ none_living (get t.table q) absent; sound = h.order }
 
-module _ (s : Setup) (w : World State Content) (named : IsOfMembers s w) (k : Key) (c : Content) (first : IsFirst w.pending k c) where
+module _ (s : Setup) (w : World State Content) (named : IsSoundCluster s w) (k : Key) (c : Content) (first : IsFirst w.pending k c) where
   pub due_among : IsAmongMembers s k c
   due_among = named.events k c first.here
 
@@ -46,4 +46,4 @@ module _ (s : Setup) (w : World State Content) (named : IsOfMembers s w) (k : Ke
   due_place place count is all = omega (arith, is, all, due_among.receiver)
 
   pub due_known : (t : State) → get w.members k.to ≡ Some t → HoldsMembers s k.to t
-  due_known t here = holds_members s k.to t (named.members k.to t here)
+  due_known t here = holds_members s k.to t (named.states k.to t here)

@@ -12,7 +12,7 @@ use Rattle.member.specs.Opening.{opening}
 use Rattle.member_laws.proofs.Reached.{consistent_reached, pending_among}
 use Rattle.exchange.specs.Runs.{IsRunOf, WearsOut}
 use Rattle.exchange.specs.Advance.{Advances, WearsNext}
-use Rattle.exchange.specs.Among.{IsOfMembers}
+use Rattle.member_laws.specs.Runs.{IsSoundCluster}
 
 module _ (s : Setup) (later : MakesLater (step s)) where
   -- how many events are left to handle
@@ -57,9 +57,9 @@ module _ (s : Setup) (later : MakesLater (step s)) (w : World State Content) whe
   }
 
 -- where the run has come all are among members
-pub run_named : (s : Setup) (w : World State Content) (rows : List Row) → IsSound s → HasRun s w rows → IsOfMembers s w
+pub run_named : (s : Setup) (w : World State Content) (rows : List Row) → IsSound s → HasRun s w rows → IsSoundCluster s w
 run_named s w rows sound so_far = record {
-  members = λ m t here. consistent_reached s sound w m t (so_far.keys, rows, so_far.run) here;
+  states = λ m t here. consistent_reached s sound w m t (so_far.keys, rows, so_far.run) here;
   events = λ k c here. pending_among s sound w k c (so_far.keys, rows, so_far.run) here;
 }
 

@@ -17,7 +17,7 @@ use Rattle.member.specs.declared.member.Member.{Member}
 use Rattle.member.specs.Opening.{opening, opening_state, script_of, crash_event}
 use Rattle.member.specs.View.{state_of}
 use Rattle.exchange.specs.declared.cluster.Cluster.{Cluster}
-use Rattle.exchange.specs.Among.{AreFromBelow}
+use Rattle.exchange.specs.Senders.{AreFromBelow}
 use Rattle.exchange.specs.View.{world_of, by_place, events_in}
 use Rattle.exchange.proofs.Pending.{absent}
 

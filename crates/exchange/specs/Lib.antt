@@ -1,5 +1,5 @@
 pub mod Runs
-pub mod Among
+pub mod Senders
 pub mod Later
 pub mod View
 pub mod Advance

@@ -8,7 +8,8 @@ ghost use Rattle.scenario.specs.Setup.{member_count, IsSound};
 ghost use Rattle.links.specs.Arrival.{AreLinksOf};
 ghost use Rattle.member.specs.Opening.{opening, script_of};
 ghost use Rattle.member.specs.View.{pair_of};
-ghost use Rattle.exchange.specs.Among.{IsOfMembers, AreFromBelow};
+ghost use Rattle.member_laws.specs.Runs.{IsSoundCluster};
+ghost use Rattle.exchange.specs.Senders.{AreFromBelow};
 ghost use Rattle.exchange.specs.Advance.{Advances, WearsNext, MakesNew};
 ghost use Rattle.exchange.specs.View.{world_of, events_in, NoneIsDue};
 
@@ -130,7 +131,7 @@ pub(crate) fn advance(
     requires sound { IsSound setting.now.scenario.now }
     requires fits { AreLinksOf setting.now.links setting.now.scenario.now }
     requires size { vec_len cluster.old.members ≡ member_count setting.now.scenario.now }
-    requires named { IsOfMembers setting.now.scenario.now (world_of cluster.old) }
+    requires named { IsSoundCluster setting.now.scenario.now (world_of cluster.old) }
     requires new { MakesNew setting.now.scenario.now (world_of cluster.old) }
     ensures went { IfOk result (λ went. OnTrue went (Advances setting.now.scenario.now (world_of cluster.old) (world_of cluster.new) rows.old.items rows.new.items)) }
     ensures over { IfOk result (λ went. OnFalse went (IsOver setting.now.scenario.now.end (world_of cluster.old))) }

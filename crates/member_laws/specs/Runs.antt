@@ -1,5 +1,6 @@
--- Which worlds a run of a scenario reaches, and which come after which.
-use Rattle.std.specs.Prelude.{List}
+-- Which worlds a run of a scenario reaches, which come after which, and what holds in each.
+use Rattle.std.specs.Prelude.{◌≡◌, ℕ, List, Some}
+use Rattle.std.specs.FinMap.{get}
 use Rattle.base.specs.declared.key.Key.{Key}
 use Rattle.base.specs.World.{World, Run}
 use Rattle.scenario.specs.Setup.{Setup}
@@ -8,6 +9,7 @@ use Rattle.member.specs.declared.content.Content.{Content}
 use Rattle.member.specs.State.{State}
 use Rattle.member.specs.Opening.{opening}
 use Rattle.member.specs.Step.{step}
+use Rattle.member_laws.specs.Words.{IsConsistent, IsAmongMembers}
 
 -- the members and the events that pend
 abbrev pub Cluster : Type 0
@@ -20,3 +22,8 @@ LeadsTo s w v = (keys : List Key) × (rows : List Row) × Run (step s) s.end w k
 -- the scenario's run comes to this world
 abbrev pub IsReached : Setup → Cluster → Type 0
 IsReached s w = LeadsTo s (opening s) w
+
+-- each member's state is consistent, and each event that pends is among members
+pub record IsSoundCluster (s : Setup) (w : Cluster) : Type 0 where
+  pub states : (m : ℕ) (t : State) → get w.members m ≡ Some t → IsConsistent s m t
+  pub events : (k : Key) (c : Content) → get w.pending k ≡ Some c → IsAmongMembers s k c

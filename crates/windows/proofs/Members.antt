@@ -19,14 +19,14 @@ use Rattle.member.specs.Places.{place_of}
 use Rattle.member.specs.Step.{step}
 use Rattle.member.proofs.Fair.{fair_step, steps_later, steps_linked, steps_counted}
 use Rattle.member_laws.specs.Words.{IsConsistent, IsAmongMembers}
-use Rattle.member_laws.specs.Runs.{Cluster}
+use Rattle.member_laws.specs.Runs.{Cluster, IsSoundCluster}
 use Rattle.member_laws.proofs.Consistency.{step_consistent}
 use Rattle.member_laws.proofs.Reached.{step_among, consistent_reached, pending_among}
 use Rattle.member_laws.proofs.Runs.{kept_after}
 use Rattle.windows.specs.Delays.{SendsAsItself, KeepsDelays, ComesFar, KeepsFar, IsNoMore}
 use Rattle.windows.specs.Schedule.{CatchesUp, MeetsState, rows_by}
 use Rattle.windows.specs.Parts.{Window, IsCommonBound, AreWindows, StandsAfter, HasWindow, PartRun, part_of, all_keys, all_rows}
-use Rattle.windows.specs.Cluster.{link_delay, IsLeastDelay, IsSoundCluster, SafeStep, SafeSchedule, IsRunFrom, IsRowOrder, IsWhole, whose}
+use Rattle.windows.specs.Cluster.{link_delay, IsLeastDelay, SafeStep, SafeSchedule, IsRunFrom, IsRowOrder, IsWhole, whose}
 use Rattle.windows.proofs.Far.{far_made}
 use Rattle.windows.proofs.Outs.{out_late, run_is_schedule}
 use Rattle.windows.proofs.Released.{tells_receiver}

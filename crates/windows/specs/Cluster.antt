@@ -1,6 +1,5 @@
 -- Schedules and windows of a scenario's cluster.
 use Rattle.std.specs.Prelude.{◌≡◌, ℕ, ◌<◌, List, Option, Some, None}
-use Rattle.std.specs.FinMap.{get}
 use Rattle.std.specs.Cmp.{IsTotalOrder}
 use Rattle.std.specs.declared.cmp.Ordering.{Ordering}
 use Rattle.std.specs.declared.cmp.Ordering.TheVariants.{Less}
@@ -14,7 +13,6 @@ use Rattle.member.specs.declared.content.Content.{Content}
 use Rattle.member.specs.State.{State}
 use Rattle.member.specs.Places.{place_of}
 use Rattle.member.specs.Step.{step}
-use Rattle.member_laws.specs.Words.{IsConsistent, IsAmongMembers}
 use Rattle.member_laws.specs.Runs.{Cluster}
 use Rattle.windows.specs.Safe.{IsSafe}
 use Rattle.windows.specs.Schedule.{TestedStep, Schedule}
@@ -27,11 +25,6 @@ link_delay s i j = (link_between s i j).delay
 abbrev pub IsLeastDelay : Setup → Option ℕ → Type 0
 IsLeastDelay s None = member_count s ≡ 1
 IsLeastDelay s (Some d) = IsReached (link_delay s) (member_count s) d × IsNoGreater (link_delay s) (member_count s) d
-
--- each member's state is consistent, and each event that pends is among members
-pub record IsSoundCluster (s : Setup) (w : Cluster) : Type 0 where
-  pub states : (m : ℕ) (t : State) → get w.members m ≡ Some t → IsConsistent s m t
-  pub events : (k : Key) (c : Content) → get w.pending k ≡ Some c → IsAmongMembers s k c
 
 -- one safe event of the cluster is handled
 abbrev pub SafeStep : Setup → Option ℕ → Cluster → Key → Cluster → List Row → Type 0

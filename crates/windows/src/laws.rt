@@ -12,10 +12,10 @@ ghost use Rattle.member.specs.declared.content.Content.{Content};
 ghost use Rattle.member.specs.State.{State};
 ghost use Rattle.member.specs.Opening.{opening};
 ghost use Rattle.member.specs.Step.{step};
-ghost use Rattle.member_laws.specs.Runs.{Cluster};
+ghost use Rattle.member_laws.specs.Runs.{Cluster, IsSoundCluster};
 ghost use Rattle.windows.specs.Schedule.{CatchesUp, MeetsState, rows_by};
 ghost use Rattle.windows.specs.Parts.{Window, IsCommonBound, AreWindows, PartRun, StandsAfter, part_of, all_keys, all_rows};
-ghost use Rattle.windows.specs.Cluster.{link_delay, IsLeastDelay, IsSoundCluster, SafeStep, SafeSchedule, IsRunFrom, IsRowOrder, IsWhole, whose};
+ghost use Rattle.windows.specs.Cluster.{link_delay, IsLeastDelay, SafeStep, SafeSchedule, IsRunFrom, IsRowOrder, IsWhole, whose};
 
 /// A safe event that is handled before its turn changes nothing of what follows: the run that waits
 /// for its turn handles first events for other members, with the same rows, and then comes to the
