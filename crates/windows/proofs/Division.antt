@@ -1,5 +1,5 @@
 -- The windows of all parts of a division.
-use Rattle.std.proofs.Common.{◌≡◌, ◌≢◌, ◌⊎◌, ℕ, ◌<◌, ◌≤◌, Bool, true, false, eqb, cond, List, [], ◌∷◌, ◌++◌, Option, None, ap, inl, inr, ◌∙◌, sym, subst, refl, append_assoc}
+use Rattle.std.proofs.Common.{◌≡◌, ◌≢◌, ◌⊎◌, ℕ, ◌<◌, ◌≤◌, Bool, true, false, eqb, cond, List, [], ◌∷◌, ◌++◌, None, ap, inl, inr, ◌∙◌, sym, subst, refl, append_assoc}
 use Rattle.std.specs.Option.{is_some}
 use Rattle.std.specs.Cmp.{nat_cmp_total}
 use Rattle.std.specs.FinMap.{get, contains_key, same_map, nat_cmp-IsAntisymmetric}
@@ -10,13 +10,12 @@ use Rattle.std.proofs.lemmas.List.Elements.{filter-append}
 use Rattle.base.specs.declared.key.Key.{Key}
 use Rattle.base.specs.Order.{key_total, key_exact}
 use Rattle.base.specs.World.{Machine, World, IsPending}
-use Rattle.base.specs.Run.{MakesLater, holds-with_events}
+use Rattle.base.specs.Run.{holds-with_events}
 use Rattle.base.specs.Rising.{IsRising}
 use Rattle.base.proofs.Rising.{all_append, all_weaker}
-use Rattle.windows.specs.Delays.{SendsAsItself, KeepsFar}
-use Rattle.windows.specs.Safe.{IsSafeIn}
+use Rattle.windows.specs.Delays.{SendsAsItself}
 use Rattle.windows.specs.Schedule.{Schedule}
-use Rattle.windows.specs.Parts.{part_of, for_own, joined, is_in, Window, IsWindowOf, PartRun, HasWindow, all_keys, all_out, all_rows, AreWindows, StandsAfter, IsReady}
+use Rattle.windows.specs.Parts.{part_of, for_own, joined, is_in, Window, IsWindowOf, PartRun, HasWindow, all_keys, all_out, all_rows, AreWindows, StandsAfter, OffersWindows}
 use Rattle.windows.proofs.Cuts.{get_retained, joined_joined, all_kept, own_of_others}
 use Rattle.windows.proofs.Windows.{Led, leads}
 
@@ -47,8 +46,8 @@ own_of_run step owns bound (k ∷ ks) p v out rows run =
     ap (for_own owns) run.7 ∙ own_append owns run.1 run.2
     ∙ ap (λ l. l ++ for_own owns run.2) (ap (for_own owns) run.5.sent ∙ own_of_others owns _) ∙ own_of_run step owns bound ks run.0 v run.2 run.4 run.6
 
-module _ {S C R : Type 0} (step : Machine S C R) (later : MakesLater step) (own : SendsAsItself step) (end : ℕ) (least_delay : Option ℕ) (Fact : World S C → Type 0)
-    (keeps : KeepsFar end least_delay Fact step) (bound : ℕ) (division : ℕ → ℕ) (w : World S C) where
+module _ {S C R : Type 0} (step : Machine S C R) (own : SendsAsItself step) (division bounds : ℕ → ℕ) (Test : World S C → Key → Type 0) (Ready : World S C → Type 0)
+    (offers : OffersWindows division bounds Test Ready step) (w : World S C) where
   abbrev owns : Window S C R → ℕ → Bool
   owns d = is_in division d.part
 
@@ -56,27 +55,29 @@ module _ {S C R : Type 0} (step : Machine S C R) (later : MakesLater step) (own 
   record Awaits (u : World S C) (outs : List (Key × C)) (d : Window S C R) : Type 0 where
     cut : part_of (owns d) u ≡ joined (part_of (owns d) w) (for_own (owns d) outs)
     strange : AllByRecursion (λ e. owns d e.0.from ≡ false) outs
-    window : IsWindowOf step division bound w d
+    window : IsWindowOf step division bounds w d
 
   record AllLed (u : World S C) (outs : List (Key × C)) (ds : List (Window S C R)) : Type 0 where
     world : World S C
-    schedule : Schedule step (IsSafeIn end least_delay Fact) u (all_keys ds) (all_rows ds) world
-    ready : IsReady end least_delay Fact bound world
-    far : AllByRecursion (λ e. bound ≤ e.0.at) (all_out ds)
+    schedule : Schedule step Test u (all_keys ds) (all_rows ds) world
+    ready : Ready world
+    far : AllByRecursion (λ e. bounds (division e.0.to) ≤ e.0.at) (all_out ds)
     parts : AllByRecursion (λ d. part_of (owns d) world ≡ joined d.after (for_own (owns d) (outs ++ all_out ds))) ds
     others : (part : ℕ) → AllByRecursion (λ d. d.part ≢ part) ds → part_of (is_in division part) world ≡ joined (part_of (is_in division part) u) (for_own (is_in division part) (all_out ds))
 
-  late_own : (owns : ℕ → Bool) (outs : List (Key × C)) → AllByRecursion (λ e. bound ≤ e.0.at) outs → AllByRecursion (λ e. bound ≤ e.0.at) (for_own owns outs)
-  late_own owns outs late = all_weaker _ (λ e. bound ≤ e.0.at) (λ e h. h.1) (for_own owns outs) (all_kept (λ e. owns e.0.to) (λ e. bound ≤ e.0.at) outs late)
+  late_own : (part : ℕ) (outs : List (Key × C)) → AllByRecursion (λ e. bounds (division e.0.to) ≤ e.0.at) outs → AllByRecursion (λ e. bounds part ≤ e.0.at) (for_own (is_in division part) outs)
+  late_own part outs late =
+      all_weaker _ (λ e. bounds part ≤ e.0.at) (λ e h. subst (λ n. bounds n ≤ e.0.at) (eqb-true (division e.0.to) part h.0) h.1)
+      (for_own (is_in division part) outs) (all_kept (λ e. is_in division part e.0.to) (λ e. bounds (division e.0.to) ≤ e.0.at) outs late)
 
   strange_own : (mine : ℕ → Bool) (outs : List (Key × C)) → AllByRecursion (λ e. mine e.0.from ≡ false) outs → AllByRecursion (λ e. mine e.0.from ≡ false) (for_own mine outs)
   strange_own mine outs strange = all_weaker _ (λ e. mine e.0.from ≡ false) (λ e h. h.1) (for_own mine outs) (all_kept (λ e. mine e.0.to) (λ e. mine e.0.from ≡ false) outs strange)
 
-  module _ (d : Window S C R) (ds : List (Window S C R)) (u : World S C) (outs : List (Key × C)) (ready : IsReady end least_delay Fact bound u)
-      (late : AllByRecursion (λ e. bound ≤ e.0.at) outs) (apart : AllByRecursion (λ e. d.part ≢ e.part) ds) (awaits : Awaits u outs d) where
-    first_led : Led step later own end least_delay Fact keeps bound (owns d) (for_own (owns d) outs) (late_own (owns d) outs late) (strange_own (owns d) outs awaits.strange) u d.after d.keys d.out d.rows
+  module _ (d : Window S C R) (ds : List (Window S C R)) (u : World S C) (outs : List (Key × C)) (ready : Ready u)
+      (late : AllByRecursion (λ e. bounds (division e.0.to) ≤ e.0.at) outs) (apart : AllByRecursion (λ e. d.part ≢ e.part) ds) (awaits : Awaits u outs d) where
+    first_led : Led step own division bounds Test Ready offers d.part (for_own (owns d) outs) (late_own d.part outs late) (strange_own (owns d) outs awaits.strange) u d.after d.keys d.out d.rows
     first_led =
-        leads step later own end least_delay Fact keeps bound (owns d) (for_own (owns d) outs) (late_own (owns d) outs late) (strange_own (owns d) outs awaits.strange)
+        leads step own division bounds Test Ready offers d.part (for_own (owns d) outs) (late_own d.part outs late) (strange_own (owns d) outs awaits.strange)
         d.keys u (part_of (owns d) w) d.after d.out d.rows ready awaits.cut awaits.window.run
 
     -- the parts whose windows are still to come await theirs
@@ -98,15 +99,15 @@ module _ {S C R : Type 0} (step : Machine S C R) (later : MakesLater step) (own 
     then_rest : AllLed first_led.world (outs ++ d.out) ds → AllLed u outs (d ∷ ds)
     then_rest rest = record {
       world = rest.world;
-      schedule = schedule_append step (IsSafeIn end least_delay Fact) d.keys _ u first_led.world rest.world d.rows _ first_led.schedule rest.schedule;
+      schedule = schedule_append step Test d.keys _ u first_led.world rest.world d.rows _ first_led.schedule rest.schedule;
       ready = rest.ready;
       far = all_append _ d.out (all_out ds) first_led.far rest.far;
       parts = (
         rest.others d.part (all_weaker _ (λ e. e.part ≢ d.part) (λ e other same. other (sym same)) ds apart)
-            ∙ ap (λ x. joined x (for_own (owns d) (all_out ds))) first_led.part
+            ∙ ap (λ x. joined x (for_own (owns d) (all_out ds))) first_led.cut
             ∙ joined_joined d.after (for_own (owns d) outs) (for_own (owns d) (all_out ds))
             ∙ ap (joined d.after)
-            (ap (λ l. for_own (owns d) outs ++ (l ++ for_own (owns d) (all_out ds))) (sym (own_of_run step (owns d) bound d.keys (part_of (owns d) w) d.after d.out d.rows awaits.window.run))
+            (ap (λ l. for_own (owns d) outs ++ (l ++ for_own (owns d) (all_out ds))) (sym (own_of_run step (owns d) (bounds d.part) d.keys (part_of (owns d) w) d.after d.out d.rows awaits.window.run))
             ∙ ap (λ l. for_own (owns d) outs ++ l) (sym (own_append (owns d) d.out (all_out ds)))
             ∙ sym (own_append (owns d) outs (d.out ++ all_out ds))),
         all_weaker _ (λ e. part_of (owns e) rest.world ≡ joined e.after (for_own (owns e) (outs ++ (d.out ++ all_out ds))))
@@ -120,7 +121,7 @@ module _ {S C R : Type 0} (step : Machine S C R) (later : MakesLater step) (own 
     }
 
   -- windows of different parts, one after the other
-  all_led : (ds : List (Window S C R)) (u : World S C) (outs : List (Key × C)) → IsReady end least_delay Fact bound u → AllByRecursion (λ e. bound ≤ e.0.at) outs
+  all_led : (ds : List (Window S C R)) (u : World S C) (outs : List (Key × C)) → Ready u → AllByRecursion (λ e. bounds (division e.0.to) ≤ e.0.at) outs
       → IsRising (λ d e. d.part ≢ e.part) ds → AllByRecursion (Awaits u outs) ds → AllLed u outs ds
   all_led [] u outs ready late apart awaits = record { world = u; schedule = (refl, refl); ready = ready; far = tt; parts = tt; others = λ part _. refl }
   all_led (d ∷ ds) u outs ready late apart awaits =
@@ -134,10 +135,10 @@ module _ {S C R : Type 0} (step : Machine S C R) (later : MakesLater step) (own 
   none_has [] part none = tt
   none_has (d ∷ ds) part none = (λ same. none (inl same), none_has ds part (λ h. none (inr h)))
 
-  await_first : (ds : List (Window S C R)) → AllByRecursion (IsWindowOf step division bound w) ds → AllByRecursion (Awaits w []) ds
+  await_first : (ds : List (Window S C R)) → AllByRecursion (IsWindowOf step division bounds w) ds → AllByRecursion (Awaits w []) ds
   await_first ds windows = all_weaker _ (Awaits w []) (λ d window. record { cut = refl; strange = tt; window = window }) ds windows
 
-  module _ (ds : List (Window S C R)) (ready : IsReady end least_delay Fact bound w) (are : AreWindows step division bound w ds) where
+  module _ (ds : List (Window S C R)) (ready : Ready w) (are : AreWindows step division bounds w ds) where
     led_by_all : AllLed w [] ds
     led_by_all = all_led ds w [] ready tt are.different (await_first ds are.windows)
 
@@ -145,11 +146,11 @@ module _ {S C R : Type 0} (step : Machine S C R) (later : MakesLater step) (own 
     pub after_all : World S C
     after_all = led_by_all.world
 
-    pub all_schedule : Schedule step (IsSafeIn end least_delay Fact) w (all_keys ds) (all_rows ds) after_all
+    pub all_schedule : Schedule step Test w (all_keys ds) (all_rows ds) after_all
     unfolding after_all
     all_schedule = led_by_all.schedule
 
-    pub ready_after : IsReady end least_delay Fact bound after_all
+    pub ready_after : Ready after_all
     unfolding after_all
     ready_after = led_by_all.ready
 
@@ -157,18 +158,19 @@ module _ {S C R : Type 0} (step : Machine S C R) (later : MakesLater step) (own 
     unfolding after_all
     stands_after = record { parts = led_by_all.parts; others = λ part none. led_by_all.others part (none_has ds part none) }
 
-    left_by : (q : Key) (es : List (Window S C R)) → IsPending after_all q → HasWindow es (division q.to) → AllByRecursion (IsWindowOf step division bound w) es
-        → AllByRecursion (λ d. part_of (owns d) after_all ≡ joined d.after (for_own (owns d) (all_out ds))) es → bound ≤ q.at
+    left_by : (q : Key) (es : List (Window S C R)) → IsPending after_all q → HasWindow es (division q.to) → AllByRecursion (IsWindowOf step division bounds w) es
+        → AllByRecursion (λ d. part_of (owns d) after_all ≡ joined d.after (for_own (owns d) (all_out ds))) es → bounds (division q.to) ≤ q.at
     left_by q [] here none windows parts = absurd none
     left_by q (d ∷ es) here (inr more) windows parts = left_by q es here more windows.1 parts.1
     left_by q (d ∷ es) here (inl same) windows parts =
         let kept : IsPending (part_of (owns d) after_all) q =
         ap is_some (get_retained key_total key_exact (λ r. owns d r.to) (after_all).pending q ∙ ap (λ b. cond b (get (after_all).pending q) None) (eq-eqb (division q.to) d.part (sym same))) ∙ here in
-        holds-with_events (λ r. bound ≤ r.at) (for_own (owns d) (all_out ds)) d.after.pending windows.0.done (late_own (owns d) (all_out ds) led_by_all.far)
-        q (subst (λ (x : World S C). contains_key x.pending q ≡ true) parts.0 kept)
+        subst (λ n. bounds n ≤ q.at) same
+        (holds-with_events (λ r. bounds d.part ≤ r.at) (for_own (owns d) (all_out ds)) d.after.pending windows.0.done (late_own d.part (all_out ds) led_by_all.far)
+        q (subst (λ (x : World S C). contains_key x.pending q ≡ true) parts.0 kept))
 
     -- nothing is left below the bound for a part that had its window
-    pub none_left : (q : Key) → IsPending after_all q → HasWindow ds (division q.to) → bound ≤ q.at
+    pub none_left : (q : Key) → IsPending after_all q → HasWindow ds (division q.to) → bounds (division q.to) ≤ q.at
     none_left q here has = left_by q ds here has are.windows stands_after.parts
 
 early_of_run : {S C R : Type 0} (step : Machine S C R) (owns : ℕ → Bool) (bound : ℕ) (ks : List Key) (p v : World S C) (out : List (Key × C)) (rows : List R) → PartRun step owns bound p ks out rows v
@@ -177,7 +179,7 @@ early_of_run step owns bound [] p v out rows run = tt
 early_of_run step owns bound (k ∷ ks) p v out rows run = (run.5.early, early_of_run step owns bound ks run.0 v run.2 run.4 run.6)
 
 -- all events of the windows are before the bound
-pub keys_early : {S C R : Type 0} (step : Machine S C R) (division : ℕ → ℕ) (bound : ℕ) (w : World S C) (ds : List (Window S C R)) → AllByRecursion (IsWindowOf step division bound w) ds
+pub keys_early : {S C R : Type 0} (step : Machine S C R) (division : ℕ → ℕ) (bound : ℕ) (w : World S C) (ds : List (Window S C R)) → AllByRecursion (IsWindowOf step division (λ part. bound) w) ds
     → AllByRecursion (λ k. k.at < bound) (all_keys ds)
 keys_early step division bound w [] windows = tt
 keys_early step division bound w (d ∷ ds) windows =

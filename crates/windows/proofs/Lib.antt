@@ -13,3 +13,4 @@ pub mod Members
 pub mod States
 pub mod Outs
 pub mod Clear
+pub mod Bounds

@@ -25,7 +25,7 @@ use Rattle.member_laws.proofs.Reached.{step_among, consistent_reached, pending_a
 use Rattle.member_laws.proofs.Runs.{kept_after}
 use Rattle.windows.specs.Delays.{SendsAsItself, KeepsDelays, ComesFar, KeepsFar, IsNoMore}
 use Rattle.windows.specs.Schedule.{CatchesUp, MeetsState, rows_by}
-use Rattle.windows.specs.Parts.{Window, IsCommonBound, AreWindows, StandsAfter, HasWindow, PartRun, part_of, all_keys, all_rows}
+use Rattle.windows.specs.Parts.{Window, IsCommonBound, AreWindows, StandsAfter, HasWindow, PartRun, is_in, part_of, all_keys, all_rows}
 use Rattle.windows.specs.Cluster.{link_delay, IsLeastDelay, SafeStep, SafeSchedule, IsRunFrom, IsRowOrder, IsWhole, whose}
 use Rattle.windows.proofs.Far.{far_made}
 use Rattle.windows.proofs.Outs.{out_late, run_is_schedule}
@@ -111,11 +111,11 @@ pub met_here : (s : Setup) (least_delay : Option ℕ) (w v : Cluster) (keys : Li
 met_here s d w v keys rows m t sound least fact is met =
     safe_met (step s) (steps_later s sound) (sends_as_itself s sound) s.end d (IsSoundCluster s) (sound_keeps s sound d least) w v keys rows m t fact is met
 
-pub met_in_part : (s : Setup) (least_delay : Option ℕ) (owns : ℕ → Bool) (bound : ℕ) (w after : Cluster) (keys : List Key) (out : List (Key × Content)) (rows : List Row) (m : ℕ) (t : State)
-    → IsSound s → IsLeastDelay s least_delay → IsSoundCluster s w → IsCommonBound s.end least_delay w bound → PartRun (step s) owns bound (part_of owns w) keys out rows after
-    → get after.members m ≡ Some t → MeetsState (step s) s.end w m t
-met_in_part s d owns bound w after keys out rows m t sound least fact common run there =
-    part_met (step s) (steps_later s sound) (sends_as_itself s sound) s.end d (IsSoundCluster s) (sound_keeps s sound d least) owns bound w after keys out rows m t (fact, common) run there
+pub met_in_part : (s : Setup) (least_delay : Option ℕ) (division : ℕ → ℕ) (part bound : ℕ) (w after : Cluster) (keys : List Key) (out : List (Key × Content)) (rows : List Row) (m : ℕ) (t : State)
+    → IsSound s → IsLeastDelay s least_delay → IsSoundCluster s w → IsCommonBound s.end least_delay w bound
+    → PartRun (step s) (is_in division part) bound (part_of (is_in division part) w) keys out rows after → get after.members m ≡ Some t → MeetsState (step s) s.end w m t
+met_in_part s d division part bound w after keys out rows m t sound least fact common run there =
+    part_met (step s) (steps_later s sound) (sends_as_itself s sound) s.end d (IsSoundCluster s) (sound_keeps s sound d least) division part bound w after keys out rows m t (fact, common) run there
 
 pub sent_late : (s : Setup) (owns : ℕ → Bool) (bound from : ℕ) (p after : Cluster) (keys : List Key) (out : List (Key × Content)) (rows : List Row) → IsSound s
     → ((q : Key) → IsPending p q → (owns q.to ≡ true) × (from ≤ q.at)) → PartRun (step s) owns bound p keys out rows after
@@ -139,7 +139,7 @@ next_rows s d bound w v keys run_keys left_keys rows sorted run left cmp sound l
     place_of (steps_counted s sound) cmp order.total order.agrees bound sorted (recursion_from_All (λ (k : Key). k.at < bound) keys below) from items up
 
 module _ (s : Setup) (d : Option ℕ) (division : ℕ → ℕ) (bound : ℕ) (w : Cluster) (windows : List (Window State Content Row)) (sound : IsSound s) (least : IsLeastDelay s d)
-    (fact : IsSoundCluster s w) (common : IsCommonBound s.end d w bound) (are : AreWindows (step s) division bound w windows) where
+    (fact : IsSoundCluster s w) (common : IsCommonBound s.end d w bound) (are : AreWindows (step s) division (λ part. bound) w windows) where
   lead : (v : Cluster) × SafeSchedule s d w (all_keys windows) (all_rows windows) v × StandsAfter division w windows v × IsSoundCluster s v
       × ((q : Key) → IsPending v q → HasWindow windows (division q.to) → bound ≤ q.at)
   lead = windows_lead (step s) (steps_later s sound) (sends_as_itself s sound) s.end d (IsSoundCluster s) (sound_keeps s sound d least) division bound w windows (fact, common) are
@@ -152,7 +152,7 @@ receiver_low s v q None fact is here = absurd (false≢true here)
 receiver_low s v q (Some c) fact is here = (fact.events q c is).receiver
 
 module _ (s : Setup) (d : Option ℕ) (division : ℕ → ℕ) (bound : ℕ) (w v : Cluster) (windows : List (Window State Content Row)) (sound : IsSound s) (least : IsLeastDelay s d)
-    (fact : IsSoundCluster s w) (common : IsCommonBound s.end d w bound) (are : AreWindows (step s) division bound w windows) (parts : IsWhole s division windows)
+    (fact : IsSoundCluster s w) (common : IsCommonBound s.end d w bound) (are : AreWindows (step s) division (λ part. bound) w windows) (parts : IsWhole s division windows)
     (stands : StandsAfter division w windows v) where
   sound_there : IsSoundCluster s v
   sound_there =
@@ -170,7 +170,7 @@ module _ (s : Setup) (d : Option ℕ) (division : ℕ → ℕ) (bound : ℕ) (w 
 
 pub windows_rows : (s : Setup) (least_delay : Option ℕ) (division : ℕ → ℕ) (bound : ℕ) (w v : Cluster) (windows : List (Window State Content Row)) (run_keys left_keys : List Key)
     (sorted run left : List Row) (cmp : Row → Row → Ordering) → IsSound s → IsLeastDelay s least_delay → IsSoundCluster s w → IsRowOrder cmp → IsCommonBound s.end least_delay w bound
-    → AreWindows (step s) division bound w windows → IsWhole s division windows → StandsAfter division w windows v → IsRunFrom s w run_keys run → IsRunFrom s v left_keys left
+    → AreWindows (step s) division (λ part. bound) w windows → IsWhole s division windows → StandsAfter division w windows v → IsRunFrom s w run_keys run → IsRunFrom s v left_keys left
     → IsPermutation (all_rows windows) sorted → IsSorted cmp sorted → run ≡ sorted ++ left
 windows_rows s d division bound w v windows run_keys left_keys sorted run left cmp sound least fact order common are parts stands whole rest items up =
     windows_released (step s) (steps_later s sound) (sends_as_itself s sound) s.end d (IsSoundCluster s) (sound_keeps s sound d least) place_of (steps_counted s sound) cmp order.total order.agrees

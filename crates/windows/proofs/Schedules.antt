@@ -1,5 +1,5 @@
 -- Schedules of safe steps and windows against the run, over any machine.
-use Rattle.std.proofs.Common.{◌≡◌, ℕ, ◌<◌, ◌≤◌, Bool, cond, List, [], ◌∷◌, ◌++◌, Option, Some, None, ap, ◌∙◌, sym, subst, refl}
+use Rattle.std.proofs.Common.{◌≡◌, ℕ, ◌<◌, ◌≤◌, cond, List, [], ◌∷◌, ◌++◌, Option, Some, None, ap, ◌∙◌, sym, subst, refl}
 use Rattle.std.specs.List.{AllByRecursion}
 use Rattle.std.specs.List.Sorted.{IsPermutation, IsSorted}
 use Rattle.std.specs.Cmp.{IsTotalOrder, nat_cmp_total}
@@ -13,10 +13,11 @@ use Rattle.base.specs.Rising.{IsPlaceBefore, CountsRows}
 use Rattle.windows.specs.Delays.{SendsAsItself, KeepsFar}
 use Rattle.windows.specs.Safe.{IsSafe, IsSafeIn}
 use Rattle.windows.specs.Schedule.{TestedStep, Schedule, CatchesUp, MeetsState, TellsWhose, rows_by}
-use Rattle.windows.specs.Parts.{Window, IsReady, PartRun, part_of, all_keys, all_rows, AreWindows, StandsAfter, HasWindow}
+use Rattle.windows.specs.Parts.{Window, IsReady, PartRun, part_of, is_in, all_keys, all_rows, AreWindows, StandsAfter, HasWindow}
 use Rattle.windows.proofs.Early.{early_step}
 use Rattle.windows.proofs.States.{met_by_schedule, met_after}
 use Rattle.windows.proofs.Cuts.{get_retained}
+use Rattle.windows.proofs.Bounds.{common_offers}
 use Rattle.windows.proofs.Windows.{kept_value, leads}
 use Rattle.windows.proofs.Safety.{safe_offers}
 use Rattle.windows.proofs.Merge.{schedule_keys, schedule_rows, schedule_by}
@@ -87,14 +88,15 @@ module _ {S C R : Type 0} (step : Machine S C R) (later : MakesLater step) (own 
       met_by_schedule step later own end (IsSafeIn end least_delay Fact) (safe_offers step later end least_delay Fact keeps) ks w v rows m state (schedule_kept ks w v rows fact is).0 met
 
   -- and so is a state in which the steps of a part below a common bound leave a member
-  pub part_met : (owns : ℕ → Bool) (bound : ℕ) (w after : World S C) (ks : List Key) (out : List (Key × C)) (rows : List R) (m : ℕ) (state : S) → IsReady end least_delay Fact bound w
-      → PartRun step owns bound (part_of owns w) ks out rows after → get after.members m ≡ Some state → MeetsState step end w m state
-  part_met owns bound w after ks out rows m state ready run there =
-      let led = leads step later own end least_delay Fact keeps bound owns [] tt tt ks w (part_of owns w) after out rows ready refl run in
-      let kept : cond (owns m) (get led.world.members m) None ≡ Some state =
-      sym (get_retained nat_cmp_total nat_cmp-IsAntisymmetric owns led.world.members m) ∙ ap (λ (u : World S C). get u.members m) led.part ∙ there in
+  pub part_met : (division : ℕ → ℕ) (part bound : ℕ) (w after : World S C) (ks : List Key) (out : List (Key × C)) (rows : List R) (m : ℕ) (state : S) → IsReady end least_delay Fact bound w
+      → PartRun step (is_in division part) bound (part_of (is_in division part) w) ks out rows after → get after.members m ≡ Some state → MeetsState step end w m state
+  part_met division part bound w after ks out rows m state ready run there =
+      let led = leads step own division (λ p. bound) (IsSafeIn end least_delay Fact) (IsReady end least_delay Fact bound) (common_offers step later end least_delay Fact keeps bound division)
+      part [] tt tt ks w (part_of (is_in division part) w) after out rows ready refl run in
+      let kept : cond (is_in division part m) (get led.world.members m) None ≡ Some state =
+      sym (get_retained nat_cmp_total nat_cmp-IsAntisymmetric (is_in division part) led.world.members m) ∙ ap (λ (u : World S C). get u.members m) led.cut ∙ there in
       met_after step later own end (IsSafeIn end least_delay Fact) (safe_offers step later end least_delay Fact keeps) ks w led.world rows m state led.schedule
-      (kept_value (get led.world.members m) state (owns m) (owns m) refl kept).1
+      (kept_value (get led.world.members m) state (is_in division part m) (is_in division part m) refl kept).1
 
   -- the rows of a schedule to the end, sorted, are the run's
   module _ (place : R → Key × ℕ) (counts : CountsRows place step) (cmp : R → R → Ordering) (total : IsTotalOrder cmp) (agrees : (a b : R) → IsPlaceBefore (place a) (place b) → cmp a b ≡ Less) where
@@ -105,21 +107,23 @@ module _ {S C R : Type 0} (step : Machine S C R) (later : MakesLater step) (own 
         ∙ sorted_trace step later place counts end cmp total agrees own (IsSafeIn end least_delay Fact) (safe_offers step later end least_delay Fact keeps) ks w v rows sorted (schedule_kept ks w v rows fact is).0 over items up
 
   -- windows of different parts lead by safe steps to a world that stands for the parts
-  pub windows_lead : (division : ℕ → ℕ) (bound : ℕ) (w : World S C) (ds : List (Window S C R)) → IsReady end least_delay Fact bound w → AreWindows step division bound w ds
+  pub windows_lead : (division : ℕ → ℕ) (bound : ℕ) (w : World S C) (ds : List (Window S C R)) → IsReady end least_delay Fact bound w → AreWindows step division (λ part. bound) w ds
       → (v : World S C) × Schedule step (IsSafe end least_delay) w (all_keys ds) (all_rows ds) v × StandsAfter division w ds v × Fact v × ((q : Key) → IsPending v q → HasWindow ds (division q.to) → bound ≤ q.at)
-  windows_lead division bound w ds ready are = (
-    after_all step later own end least_delay Fact keeps bound division w ds ready are,
-    weaker_schedule step (IsSafeIn end least_delay Fact) (IsSafe end least_delay) (λ u k safe. safe.0) (all_keys ds) w _ (all_rows ds)
-        (all_schedule step later own end least_delay Fact keeps bound division w ds ready are),
-    stands_after step later own end least_delay Fact keeps bound division w ds ready are,
-    (ready_after step later own end least_delay Fact keeps bound division w ds ready are).0,
-    none_left step later own end least_delay Fact keeps bound division w ds ready are,
-  )
+  windows_lead division bound w ds ready are =
+      let offers = common_offers step later end least_delay Fact keeps bound division in
+      let Safe : World S C → Key → Type 0 = IsSafeIn end least_delay Fact in
+      let Ready : World S C → Type 0 = IsReady end least_delay Fact bound in (
+        after_all step own division (λ part. bound) Safe Ready offers w ds ready are,
+        weaker_schedule step Safe (IsSafe end least_delay) (λ u k safe. safe.0) (all_keys ds) w _ (all_rows ds) (all_schedule step own division (λ part. bound) Safe Ready offers w ds ready are),
+        stands_after step own division (λ part. bound) Safe Ready offers w ds ready are,
+        (ready_after step own division (λ part. bound) Safe Ready offers w ds ready are).0,
+        none_left step own division (λ part. bound) Safe Ready offers w ds ready are,
+      )
 
   -- the rows of the windows of all parts below a bound, sorted, are the next of the run
   module _ (place : R → Key × ℕ) (counts : CountsRows place step) (cmp : R → R → Ordering) (total : IsTotalOrder cmp) (agrees : (a b : R) → IsPlaceBefore (place a) (place b) → cmp a b ≡ Less) where
     pub windows_released : (division : ℕ → ℕ) (bound : ℕ) (w v : World S C) (ds : List (Window S C R)) (all_ks left_ks : List Key) (all left sorted : List R)
-        → IsReady end least_delay Fact bound w → AreWindows step division bound w ds → StandsAfter division w ds v → ((q : Key) → IsPending v q → HasWindow ds (division q.to))
+        → IsReady end least_delay Fact bound w → AreWindows step division (λ part. bound) w ds → StandsAfter division w ds v → ((q : Key) → IsPending v q → HasWindow ds (division q.to))
         → SequentialRun step end w all_ks all → SequentialRun step end v left_ks left → IsPermutation (all_rows ds) sorted → IsSorted cmp sorted → all ≡ sorted ++ left
     windows_released division bound w v ds all_ks left_ks all left sorted ready are stands covers whole rest items up =
         let led = windows_lead division bound w ds ready are in

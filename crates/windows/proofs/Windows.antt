@@ -1,20 +1,19 @@
 -- The windows of the parts of a world, in any order, are a schedule of safe steps.
-use Rattle.std.proofs.Common.{◌≡◌, ◌≢◌, ℕ, ◌+◌, ◌<◌, ◌≤◌, Bool, true, false, not, cond, List, [], ◌∷◌, Option, Some, None, ap, ◌∙◌, sym, subst, refl, arith}
-use Rattle.std.specs.Option.{IfSome, is_some, option_map}
+use Rattle.std.proofs.Common.{◌≡◌, ◌≢◌, ℕ, ◌<◌, ◌≤◌, Bool, true, false, not, nat_eq, cond, List, [], ◌∷◌, Option, Some, None, ap, ◌∙◌, sym, subst, refl, arith}
+use Rattle.std.specs.Option.{is_some, option_map}
 use Rattle.std.specs.List.{AllByRecursion}
 use Rattle.std.specs.Cmp.{nat_cmp_total}
 use Rattle.std.specs.FinMap.{get, contains_key, nat_cmp-IsAntisymmetric}
-use Rattle.std.proofs.lemmas.Bool.{false≢true, false_from_ne_true}
+use Rattle.std.proofs.lemmas.Bool.{false≢true, false_from_ne_true, eqb-true}
 use Rattle.std.proofs.lemmas.List.Elements.{filter-append}
 use Rattle.base.specs.declared.key.Key.{Key}
 use Rattle.base.specs.Order.{IsBefore, key_total, key_exact, moments-from_before}
 use Rattle.base.specs.World.{Machine, World, IsPending, settled, rows_of, events_of, outcome, Outcome}
-use Rattle.base.specs.Run.{MakesLater, holds-settled, holds-with_events}
+use Rattle.base.specs.Run.{holds-with_events}
 use Rattle.base.proofs.Rising.{all_append, all_weaker}
-use Rattle.windows.specs.Delays.{SendsAsItself, ComesFar, KeepsFar}
-use Rattle.windows.specs.Safe.{IsSafeIn}
+use Rattle.windows.specs.Delays.{SendsAsItself}
 use Rattle.windows.specs.Schedule.{TestedStep, Schedule}
-use Rattle.windows.specs.Parts.{part_of, for_own, for_others, joined, kept_by, PartStep, PartRun, IsReady}
+use Rattle.windows.specs.Parts.{part_of, for_own, for_others, joined, kept_by, PartStep, PartRun, is_in, OffersWindows}
 use Rattle.windows.proofs.Swaps.{NoneIs}
 use Rattle.windows.proofs.Early.{get-with_events, events_own}
 use Rattle.windows.proofs.Cuts.{get_retained, part_settled, part_settled_other, events_kept, settled_joined, joined_joined, all_kept, own_of_sent}
@@ -24,36 +23,24 @@ pub kept_value : {X : Type 0} (o : Option X) (x : X) (b mine : Bool) → mine �
 kept_value o x true mine e is = (e, is)
 kept_value o x false mine e is = absurd (false≢true (ap is_some is))
 
-module _ {S C R : Type 0} (step : Machine S C R) (later : MakesLater step) (own : SendsAsItself step) (end : ℕ) (least_delay : Option ℕ) (Fact : World S C → Type 0)
-    (keeps : KeepsFar end least_delay Fact step) (bound : ℕ) where
-  near_by : (d : Option ℕ) (u : World S C) (k : Key) → k.at < bound → IfSome d (λ d. (q : Key) → IsPending u q → bound ≤ q.at + d) → IfSome d (λ d. (q : Key) → IsPending u q → k.at < q.at + d)
-  near_by None u k early near = tt
-  near_by (Some d) u k early near = λ q here. let h = near q here in omega arith
+module _ {S C R : Type 0} (step : Machine S C R) (own : SendsAsItself step) (division bounds : ℕ → ℕ) (Test : World S C → Key → Type 0) (Ready : World S C → Type 0)
+    (offers : OffersWindows division bounds Test Ready step) where
+  module _ (part : ℕ) (extra : List (Key × C)) (late : AllByRecursion (λ e. bounds part ≤ e.0.at) extra) (strange : AllByRecursion (λ e. is_in division part e.0.from ≡ false) extra) where
+    abbrev owns : ℕ → Bool
+    owns = is_in division part
 
-  near_settled : (d : Option ℕ) (u : World S C) (k : Key) (c : C) → get u.pending k ≡ Some c → IfSome d (λ d. (q : Key) → IsPending u q → bound ≤ q.at + d)
-      → IfSome d (λ d. (q : Key) → IsPending (settled u k (outcome step u k c)) q → bound ≤ q.at + d)
-  near_settled None u k c here near = tt
-  near_settled (Some d) u k c here near =
-      let first = near k (ap is_some here) in
-      holds-settled step later end (λ q. bound ≤ q.at + d) u k c (λ q there _. near q there) (λ q past. omega arith)
-
-  far_by : (d : Option ℕ) (u : World S C) (k e : Key) → IsPending u k → IfSome d (λ d. (q : Key) → IsPending u q → bound ≤ q.at + d) → ComesFar d k e → e.to ≢ k.to → bound ≤ e.at
-  far_by None u k e here near far other = absurd (other far)
-  far_by (Some d) u k e here near far other = let h = near k here in let past = far other in omega arith
-
-  module _ (owns : ℕ → Bool) (extra : List (Key × C)) (late : AllByRecursion (λ e. bound ≤ e.0.at) extra) (strange : AllByRecursion (λ e. owns e.0.from ≡ false) extra) where
     -- Where the steps of a part have led the world. The part is as its steps leave it, with the events that had
     -- come before, and what they made for others has come to these.
     pub record Led (u after : World S C) (keys : List Key) (out : List (Key × C)) (rows : List R) : Type 0 where
       pub world : World S C
-      pub schedule : Schedule step (IsSafeIn end least_delay Fact) u keys rows world
-      pub ready : IsReady end least_delay Fact bound world
-      pub part : part_of owns world ≡ joined after extra
+      pub schedule : Schedule step Test u keys rows world
+      pub ready : Ready world
+      pub cut : part_of owns world ≡ joined after extra
       pub others : (mine : ℕ → Bool) → ((m : ℕ) → mine m ≡ true → owns m ≡ false) → part_of mine world ≡ joined (part_of mine u) (for_own mine out)
-      pub far : AllByRecursion (λ e. bound ≤ e.0.at) out
+      pub far : AllByRecursion (λ e. bounds (division e.0.to) ≤ e.0.at) out
       pub from : AllByRecursion (λ e. owns e.0.from ≡ true) out
 
-    module _ (u p mid : World S C) (k : Key) (sent : List (Key × C)) (made : List R) (ready : IsReady end least_delay Fact bound u) (cut : part_of owns u ≡ joined p extra) (is : PartStep step owns bound p k sent made mid) where
+    module _ (u p mid : World S C) (k : Key) (sent : List (Key × C)) (made : List R) (ready : Ready u) (cut : part_of owns u ≡ joined p extra) (is : PartStep step owns (bounds part) p k sent made mid) where
       out_there : Option (Outcome S C R)
       out_there = outcome step u k is.content
 
@@ -72,35 +59,28 @@ module _ {S C R : Type 0} (step : Machine S C R) (later : MakesLater step) (own 
           (ap (λ b. cond b (get u.members k.to) None) (sym found.0)
           ∙ sym (get_retained nat_cmp_total nat_cmp-IsAntisymmetric owns u.members k.to) ∙ ap (λ (x : World S C). get x.members k.to) cut)
 
-      least_there : (q : Key) → IsPending u q → q.to ≡ k.to → ¬ (IsBefore q k)
+      home : division k.to ≡ part
+      home = eqb-true (division k.to) part found.0
+
+      least_there : (q : Key) → IsPending u q → division q.to ≡ division k.to → ¬ (IsBefore q k)
       least_there q here same =
           let kept : IsPending (part_of owns u) q =
-          ap is_some (get_retained key_total key_exact (λ r. owns r.to) u.pending q ∙ ap (λ b. cond b (get u.pending q) None) (ap owns same ∙ found.0)) ∙ here in
+          ap is_some (get_retained key_total key_exact (λ r. owns r.to) u.pending q ∙ ap (λ b. cond b (get u.pending q) None) (ap (λ n. nat_eq n part) same ∙ found.0)) ∙ here in
           holds-with_events (λ r. ¬ (IsBefore r k)) extra p.pending is.least
           (all_weaker _ (λ e. ¬ (IsBefore e.0 k)) (λ e past before. let early = is.early in let h = moments-from_before e.0 k before in omega arith) extra late)
           q (subst (λ (x : World S C). contains_key x.pending q ≡ true) cut kept)
 
-      safe_there : IsSafeIn end least_delay Fact u k
-      safe_there = (
-        record {
-          first = record { here = ap is_some found.1; least = least_there };
-          in_time = let early = is.early in let h = ready.1.in_time in omega arith;
-          near = near_by least_delay u k is.early ready.1.near;
-        },
-        ready.0,
-      )
+      passes_there : Test u k
+      passes_there = offers.passes u k ready (record { here = ap is_some found.1; least = least_there }) (subst (λ n. k.at < bounds n) (sym home) is.early)
 
       abbrev led : World S C
       led = settled u k (outcome step u k is.content)
 
-      step_there : TestedStep step (IsSafeIn end least_delay Fact) u k led made
-      step_there = record { content = is.content; here = found.1; passes = safe_there; world = refl; made = is.made ∙ ap rows_of (sym same_outcome) }
+      step_there : TestedStep step Test u k led made
+      step_there = record { content = is.content; here = found.1; passes = passes_there; world = refl; made = is.made ∙ ap rows_of (sym same_outcome) }
 
-      ready_there : IsReady end least_delay Fact bound led
-      ready_there = (
-        keeps.stays u k is.content ready.0 found.1 safe_there.0.in_time,
-        record { in_time = ready.1.in_time; near = near_settled least_delay u k is.content found.1 ready.1.near },
-      )
+      ready_there : Ready led
+      ready_there = offers.stays u k is.content ready passes_there found.1
 
       -- the part's own events and those that have come to it have different senders
       unlike_extra : AllByRecursion (λ e. NoneIs e.0 (events_of (option_map (kept_by owns) (outcome step p k is.content)))) extra
@@ -127,15 +107,16 @@ module _ {S C R : Type 0} (step : Machine S C R) (later : MakesLater step) (own 
           ∙ ap (λ l. joined (part_of mine u) l)
           (ap (λ o. for_own mine (events_of o)) same_outcome ∙ sym (own_of_sent owns mine apart (events_of (outcome step p k is.content))) ∙ ap (for_own mine) (sym is.sent))
 
-      other_receiver : (e : Key) → not (owns e.to) ≡ true → e.to ≢ k.to
-      other_receiver e out same = false≢true (sym (ap not (ap owns same ∙ found.0)) ∙ out)
+      other_part : (e : Key) → not (owns e.to) ≡ true → division e.to ≢ division k.to
+      other_part e out same = false≢true (sym (ap not (ap (λ n. nat_eq n part) same ∙ found.0)) ∙ out)
 
-      far_there : AllByRecursion (λ e. bound ≤ e.0.at) sent
+      far_there : AllByRecursion (λ e. bounds (division e.0.to) ≤ e.0.at) sent
       far_there =
-          let far = subst (λ o. AllByRecursion (λ e. ComesFar least_delay k e.0) (events_of o)) same_outcome (keeps.far u k is.content ready.0 found.1 safe_there.0.in_time) in
-          subst (AllByRecursion (λ e. bound ≤ e.0.at)) (sym is.sent)
-          (all_weaker _ (λ e. bound ≤ e.0.at) (λ e h. far_by least_delay u k e.0 (ap is_some found.1) ready.1.near h.1 (other_receiver e.0 h.0))
-          (for_others owns (events_of (outcome step p k is.content))) (all_kept (λ e. not (owns e.0.to)) (λ e. ComesFar least_delay k e.0) (events_of (outcome step p k is.content)) far))
+          let far = subst (λ o. AllByRecursion (λ e. division e.0.to ≢ division k.to → bounds (division e.0.to) ≤ e.0.at) (events_of o)) same_outcome (offers.far u k is.content ready passes_there found.1) in
+          subst (AllByRecursion (λ e. bounds (division e.0.to) ≤ e.0.at)) (sym is.sent)
+          (all_weaker _ (λ e. bounds (division e.0.to) ≤ e.0.at) (λ e h. h.1 (other_part e.0 h.0))
+          (for_others owns (events_of (outcome step p k is.content)))
+          (all_kept (λ e. not (owns e.0.to)) (λ e. division e.0.to ≢ division k.to → bounds (division e.0.to) ≤ e.0.at) (events_of (outcome step p k is.content)) far))
 
       from_there : AllByRecursion (λ e. owns e.0.from ≡ true) sent
       from_there =
@@ -144,15 +125,15 @@ module _ {S C R : Type 0} (step : Machine S C R) (later : MakesLater step) (own 
           (for_others owns (events_of (outcome step p k is.content))) (all_kept (λ e. not (owns e.0.to)) (λ e. e.0.from ≡ k.to) (events_of (outcome step p k is.content)) (events_own step own p k is.content)))
 
     -- the steps of a part are steps of the world
-    pub leads : (keys : List Key) (u p after : World S C) (out : List (Key × C)) (rows : List R) → IsReady end least_delay Fact bound u → part_of owns u ≡ joined p extra
-        → PartRun step owns bound p keys out rows after → Led u after keys out rows
+    pub leads : (keys : List Key) (u p after : World S C) (out : List (Key × C)) (rows : List R) → Ready u → part_of owns u ≡ joined p extra
+        → PartRun step owns (bounds part) p keys out rows after → Led u after keys out rows
     leads [] u p after out rows ready cut run = record {
       world = u;
       schedule = (refl, run.2);
       ready = ready;
-      part = cut ∙ ap (λ x. joined x extra) (sym run.0);
+      cut = cut ∙ ap (λ x. joined x extra) (sym run.0);
       others = λ mine apart. ap (λ l. joined (part_of mine u) (for_own mine l)) (sym run.1);
-      far = subst (AllByRecursion (λ e. bound ≤ e.0.at)) (sym run.1) tt;
+      far = subst (AllByRecursion (λ e. bounds (division e.0.to) ≤ e.0.at)) (sym run.1) tt;
       from = subst (AllByRecursion (λ e. owns e.0.from ≡ true)) (sym run.1) tt;
     }
     leads (k ∷ keys) u p after out rows ready cut run =
@@ -165,12 +146,12 @@ module _ {S C R : Type 0} (step : Machine S C R) (later : MakesLater step) (own 
           world = rest.world;
           schedule = (led u p mid k sent made ready cut is, made, run.4, step_there u p mid k sent made ready cut is, rest.schedule, run.8);
           ready = rest.ready;
-          part = rest.part;
+          cut = rest.cut;
           others = λ mine apart.
               rest.others mine apart
               ∙ ap (λ x. joined x (for_own mine run.2)) (others_there u p mid k sent made ready cut is mine apart)
               ∙ joined_joined (part_of mine u) (for_own mine sent) (for_own mine run.2)
               ∙ ap (joined (part_of mine u)) (sym (filter-append _ sent run.2) ∙ ap (for_own mine) (sym run.7));
-          far = subst (AllByRecursion (λ e. bound ≤ e.0.at)) (sym run.7) (all_append _ sent run.2 (far_there u p mid k sent made ready cut is) rest.far);
+          far = subst (AllByRecursion (λ e. bounds (division e.0.to) ≤ e.0.at)) (sym run.7) (all_append _ sent run.2 (far_there u p mid k sent made ready cut is) rest.far);
           from = subst (AllByRecursion (λ e. owns e.0.from ≡ true)) (sym run.7) (all_append _ sent run.2 (from_there u p mid k sent made ready cut is) rest.from);
         }

@@ -7,6 +7,7 @@ use Rattle.base.specs.declared.key.Key.{Key}
 use Rattle.base.specs.Order.{IsBefore}
 use Rattle.base.specs.Rising.{IsRising}
 use Rattle.base.specs.World.{Outcome, Machine, World, IsPending, with_events, settled, rows_of, events_of, outcome}
+use Rattle.windows.specs.Safe.{IsFirstOfPart}
 
 -- the part of a world that some of its members are: their states and the pending events for them
 abbrev pub part_of : {S C : Type 0} → (ℕ → Bool) → World S C → World S C
@@ -63,9 +64,9 @@ pub record Window (S C R : Type 0) : Type 0 where
   pub rows : List R
   pub after : World S C
 
--- this is the window of that part of the world
-abbrev pub IsWindowOf : {S C R : Type 0} → Machine S C R → (ℕ → ℕ) → ℕ → World S C → Window S C R → Type 0
-IsWindowOf step division bound w d = PartWindow step (is_in division d.part) bound (part_of (is_in division d.part) w) d.keys d.out d.rows d.after
+-- this is the window of that part of the world, below the part's bound
+abbrev pub IsWindowOf : {S C R : Type 0} → Machine S C R → (ℕ → ℕ) → (ℕ → ℕ) → World S C → Window S C R → Type 0
+IsWindowOf step division bounds w d = PartWindow step (is_in division d.part) (bounds d.part) (part_of (is_in division d.part) w) d.keys d.out d.rows d.after
 
 -- A common bound: no more than the end and one, nor than the least pending moment and the least delay.
 pub record IsCommonBound {S C : Type 0} (end : ℕ) (least_delay : Option ℕ) (w : World S C) (bound : ℕ) : Type 0 where
@@ -87,9 +88,9 @@ all_out = flat_map (λ d. d.out)
 abbrev pub all_rows : {S C R : Type 0} → List (Window S C R) → List R
 all_rows = flat_map (λ d. d.rows)
 
--- Windows of different parts of a world, of one bound.
-pub record AreWindows {S C R : Type 0} (step : Machine S C R) (division : ℕ → ℕ) (bound : ℕ) (w : World S C) (ds : List (Window S C R)) : Type 0 where
-  pub windows : AllByRecursion (IsWindowOf step division bound w) ds
+-- Windows of different parts of a world, each below its part's bound.
+pub record AreWindows {S C R : Type 0} (step : Machine S C R) (division : ℕ → ℕ) (bounds : ℕ → ℕ) (w : World S C) (ds : List (Window S C R)) : Type 0 where
+  pub windows : AllByRecursion (IsWindowOf step division bounds w) ds
   pub different : IsRising (λ d e. d.part ≢ e.part) ds
 
 -- The world that stands after them: each part is as its window leaves it, or as it was if it has none, and the events
@@ -101,3 +102,12 @@ pub record StandsAfter {S C R : Type 0} (division : ℕ → ℕ) (w : World S C)
 -- a world of which this holds, and in which the windows below the bound may run
 abbrev pub IsReady : {S C : Type 0} → ℕ → Option ℕ → (World S C → Type 0) → ℕ → World S C → Type 0
 IsReady end least_delay Fact bound w = Fact w × IsCommonBound end least_delay w bound
+
+-- What a test and the bounds of the parts offer, so that each part may run up to its bound by itself. In a world that is
+-- ready, the least event of a part passes the test where it is before the part's bound. Its step leaves the world ready,
+-- and makes nothing for another part before that part's bound.
+pub record OffersWindows {S C R : Type 0} (division bounds : ℕ → ℕ) (Test : World S C → Key → Type 0) (Ready : World S C → Type 0) (step : Machine S C R) : Type 0 where
+  pub passes : (w : World S C) (k : Key) → Ready w → IsFirstOfPart division w k → k.at < bounds (division k.to) → Test w k
+  pub stays : (w : World S C) (k : Key) (c : C) → Ready w → Test w k → get w.pending k ≡ Some c → Ready (settled w k (outcome step w k c))
+  pub far : (w : World S C) (k : Key) (c : C) → Ready w → Test w k → get w.pending k ≡ Some c
+      → AllByRecursion (λ e. division e.0.to ≢ division k.to → bounds (division e.0.to) ≤ e.0.at) (events_of (outcome step w k c))

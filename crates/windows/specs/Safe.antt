@@ -10,6 +10,11 @@ pub record IsFirstOf {S C : Type 0} (w : World S C) (k : Key) : Type 0 where
   pub here : IsPending w k
   pub least : (q : Key) → IsPending w q → q.to ≡ k.to → ¬ (IsBefore q k)
 
+-- the least pending event of its receiver's part
+pub record IsFirstOfPart {S C : Type 0} (division : ℕ → ℕ) (w : World S C) (k : Key) : Type 0 where
+  pub here : IsPending w k
+  pub least : (q : Key) → IsPending w q → division q.to ≡ division k.to → ¬ (IsBefore q k)
+
 -- An event is safe if it is the least pending event of its receiver, its moment is at most the end and, where there
 -- is a least delay between members, its moment is less than the least pending moment plus that delay.
 pub record IsSafe {S C : Type 0} (end : ℕ) (least_delay : Option ℕ) (w : World S C) (k : Key) : Type 0 where

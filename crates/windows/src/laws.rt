@@ -14,7 +14,7 @@ ghost use Rattle.member.specs.Opening.{opening};
 ghost use Rattle.member.specs.Step.{step};
 ghost use Rattle.member_laws.specs.Runs.{Cluster, IsSoundCluster};
 ghost use Rattle.windows.specs.Schedule.{CatchesUp, MeetsState, rows_by};
-ghost use Rattle.windows.specs.Parts.{Window, IsCommonBound, AreWindows, PartRun, StandsAfter, part_of, all_keys, all_rows};
+ghost use Rattle.windows.specs.Parts.{Window, IsCommonBound, AreWindows, PartRun, StandsAfter, is_in, part_of, all_keys, all_rows};
 ghost use Rattle.windows.specs.Cluster.{link_delay, IsLeastDelay, SafeStep, SafeSchedule, IsRunFrom, IsRowOrder, IsWhole, whose};
 
 /// A safe event that is handled before its turn changes nothing of what follows: the run that waits
@@ -73,10 +73,10 @@ pub fn a_schedule_meets_the_states_of_the_run()
     ensures schedule { (s : Setup) (least_delay : Option ℕ) (w v : Cluster) (keys : List Key) (rows : List Row) (m : ℕ) (t : State)
         → IsSound s → IsLeastDelay s least_delay → IsSoundCluster s w → SafeSchedule s least_delay w keys rows v
         → MeetsState (step s) s.end v m t → MeetsState (step s) s.end w m t }
-    ensures part { (s : Setup) (least_delay : Option ℕ) (owns : ℕ → Bool) (bound : ℕ) (w after : Cluster) (keys : List Key)
+    ensures part { (s : Setup) (least_delay : Option ℕ) (division : ℕ → ℕ) (part bound : ℕ) (w after : Cluster) (keys : List Key)
         (out : List (Key × Content)) (rows : List Row) (m : ℕ) (t : State)
         → IsSound s → IsLeastDelay s least_delay → IsSoundCluster s w → IsCommonBound s.end least_delay w bound
-        → PartRun (step s) owns bound (part_of owns w) keys out rows after → get after.members m ≡ Some t
+        → PartRun (step s) (is_in division part) bound (part_of (is_in division part) w) keys out rows after → get after.members m ≡ Some t
         → MeetsState (step s) s.end w m t }
 {}
 
@@ -105,13 +105,13 @@ pub fn a_part_sends_out_late()
 pub fn windows_are_safe_steps()
     ensures schedule { (s : Setup) (least_delay : Option ℕ) (division : ℕ → ℕ) (bound : ℕ) (w : Cluster) (windows : List (Window State Content Row))
         → IsSound s → IsLeastDelay s least_delay → IsSoundCluster s w → IsCommonBound s.end least_delay w bound
-        → AreWindows (step s) division bound w windows
+        → AreWindows (step s) division (λ part. bound) w windows
         → (v : Cluster) × SafeSchedule s least_delay w (all_keys windows) (all_rows windows) v × StandsAfter division w windows v }
     ensures one { (division : ℕ → ℕ) (w u v : Cluster) (windows : List (Window State Content Row))
         → StandsAfter division w windows u → StandsAfter division w windows v → u ≡ v }
     ensures none_left { (s : Setup) (least_delay : Option ℕ) (division : ℕ → ℕ) (bound : ℕ) (w v : Cluster) (windows : List (Window State Content Row))
         → IsSound s → IsLeastDelay s least_delay → IsSoundCluster s w → IsCommonBound s.end least_delay w bound
-        → AreWindows (step s) division bound w windows → IsWhole s division windows → StandsAfter division w windows v
+        → AreWindows (step s) division (λ part. bound) w windows → IsWhole s division windows → StandsAfter division w windows v
         → (q : Key) → IsPending v q → bound ≤ q.at }
 {}
 
@@ -120,7 +120,7 @@ pub fn windows_write_the_next_rows()
     ensures { (s : Setup) (least_delay : Option ℕ) (division : ℕ → ℕ) (bound : ℕ) (w v : Cluster) (windows : List (Window State Content Row))
         (run_keys left_keys : List Key) (sorted run left : List Row) (cmp : Row → Row → Ordering)
         → IsSound s → IsLeastDelay s least_delay → IsSoundCluster s w → IsRowOrder cmp → IsCommonBound s.end least_delay w bound
-        → AreWindows (step s) division bound w windows → IsWhole s division windows → StandsAfter division w windows v
+        → AreWindows (step s) division (λ part. bound) w windows → IsWhole s division windows → StandsAfter division w windows v
         → IsRunFrom s w run_keys run → IsRunFrom s v left_keys left
         → IsPermutation (all_rows windows) sorted → IsSorted cmp sorted → run ≡ sorted ++ left }
 {}
