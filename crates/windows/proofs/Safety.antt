@@ -5,7 +5,7 @@ use Rattle.std.specs.List.{AllByRecursion}
 use Rattle.std.specs.FinMap.{get, contains_key, remove}
 use Rattle.base.specs.declared.key.Key.{Key}
 use Rattle.base.specs.Order.{IsBefore, moments-from_before}
-use Rattle.base.specs.World.{Machine, World, IsPending, events_of, outcome, NextStep}
+use Rattle.base.specs.World.{Machine, World, IsPending, settled, events_of, outcome, NextStep}
 use Rattle.base.specs.Run.{MakesLater, holds-with_events, contains-remove}
 use Rattle.base.proofs.Rising.{all_weaker}
 use Rattle.windows.specs.Delays.{ComesFar, KeepsFar}
@@ -16,11 +16,15 @@ use Rattle.windows.proofs.Early.{content_stays, receivers_differ, events_later, 
 
 module _ {S C R : Type 0} (step : Machine S C R) where
   -- what holds of the pending events and of those made holds of all that pend after the step
+  pub holds_made : (P : Key → Type 0) (w : World S C) (q : Key) (c : C) → ((r : Key) → IsPending w r → P r) → AllByRecursion (λ e. P e.0) (events_of (outcome step w q c))
+      → (r : Key) → IsPending (settled w q (outcome step w q c)) r → P r
+  holds_made P w q c old new r here =
+      holds-with_events P (events_of (outcome step w q c)) (remove w.pending q) (λ t there. old t (contains-remove w.pending q t there).0) new r
+      (subst (λ m. contains_key m r ≡ true) (pending_settled w q (outcome step w q c)) here)
+
   pub holds_after : (P : Key → Type 0) (w v : World S C) (q : Key) (made : List R) (next : NextStep step w q v made)
       → ((r : Key) → IsPending w r → P r) → AllByRecursion (λ e. P e.0) (events_of (outcome step w q next.content)) → (r : Key) → IsPending v r → P r
-  holds_after P w v q made next old new r here =
-      holds-with_events P (events_of (outcome step w q next.content)) (remove w.pending q) (λ t there. old t (contains-remove w.pending q t there).0) new r
-      (subst (λ m. contains_key m r ≡ true) (ap (λ (u : World S C). u.pending) next.world ∙ pending_settled w q (outcome step w q next.content)) here)
+  holds_after P w v q made next old new r here = holds_made P w q next.content old new r (subst (λ u. IsPending u r) next.world here)
 
 module _ {S C R : Type 0} (step : Machine S C R) (later : MakesLater step) (end : ℕ) (least_delay : Option ℕ) (Fact : World S C → Type 0) (keeps : KeepsFar end least_delay Fact step) where
   module _ (w v : World S C) (k q : Key) (made : List R) (safe : IsSafeIn end least_delay Fact w k) (next : NextStep step w q v made) (other : q ≢ k) where
