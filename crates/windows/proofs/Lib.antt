@@ -14,3 +14,4 @@ pub mod States
 pub mod Outs
 pub mod Clear
 pub mod Bounds
+pub mod Horizons

@@ -8,7 +8,7 @@ use Rattle.std.specs.declared.cmp.Ordering.{Ordering}
 use Rattle.std.proofs.lemmas.Bool.{false≢true}
 use Rattle.std.proofs.lemmas.List.Elements.{recursion_from_All, All-from_recursion}
 use Rattle.base.specs.declared.key.Key.{Key}
-use Rattle.base.specs.World.{IsPending, IsOver, Run, events_of}
+use Rattle.base.specs.World.{IsPending, IsOver, Run, settled, outcome, events_of}
 use Rattle.base.proofs.Rising.{all_weaker}
 use Rattle.scenario.specs.Setup.{Setup, IsSound, member_count}
 use Rattle.trace.specs.declared.row.Row.{Row}
@@ -64,13 +64,17 @@ module _ (s : Setup) (sound : IsSound s) where
       far_made (λ m. m < member_count s) (link_delay s) (step s) keeps_delays least_delay (no_more least_delay least) k c t among.receiver
       (all_weaker _ (λ e. e.0.to < member_count s) (λ e is. is.receiver) (step s k c t).events made)
 
-  -- a sound cluster stays so, and what its members make for each other comes far
+  -- a sound cluster stays so
+  pub sound_stays : (w : Cluster) (k : Key) (c : Content) → IsSoundCluster s w → get w.pending k ≡ Some c → k.at ≤ s.end → IsSoundCluster s (settled w k (outcome (step s) w k c))
+  sound_stays w k c fact here in_time =
+      let kept = kept_after (step s) (IsConsistent s) (IsAmongMembers s) s.end step_keeps w k c (get w.members k.to) refl in_time (fact.events k c here)
+      (record { members = fact.states; events = fact.events }) in
+      record { states = kept.members; events = kept.events }
+
+  -- and what its members make for each other comes far
   pub sound_keeps : (least_delay : Option ℕ) → IsLeastDelay s least_delay → KeepsFar s.end least_delay (IsSoundCluster s) (step s)
   sound_keeps least_delay least = record {
-    stays = λ w k c fact here in_time.
-        let kept = kept_after (step s) (IsConsistent s) (IsAmongMembers s) s.end step_keeps w k c (get w.members k.to) refl in_time (fact.events k c here)
-        (record { members = fact.states; events = fact.events }) in
-        record { states = kept.members; events = kept.events };
+    stays = sound_stays;
     far = λ w k c fact here in_time. far_from least_delay least k c (get w.members k.to) (fact.events k c here) (λ t is. fact.states k.to t is);
   }
 
@@ -147,7 +151,8 @@ module _ (s : Setup) (d : Option ℕ) (division : ℕ → ℕ) (bound : ℕ) (w 
   pub windows_here : (v : Cluster) × SafeSchedule s d w (all_keys windows) (all_rows windows) v × StandsAfter division w windows v
   windows_here = (lead.0, lead.1, lead.2)
 
-receiver_low : (s : Setup) (v : Cluster) (q : Key) (o : Option Content) → IsSoundCluster s v → get v.pending q ≡ o → is_some o ≡ true → q.to < member_count s
+-- the receiver of an event that pends in a sound cluster is a member
+pub receiver_low : (s : Setup) (v : Cluster) (q : Key) (o : Option Content) → IsSoundCluster s v → get v.pending q ≡ o → is_some o ≡ true → q.to < member_count s
 receiver_low s v q None fact is here = absurd (false≢true here)
 receiver_low s v q (Some c) fact is here = (fact.events q c is).receiver
 

@@ -7,7 +7,7 @@ use Rattle.std.specs.FinMap.{get, nat_cmp-IsAntisymmetric}
 use Rattle.std.specs.declared.cmp.Ordering.{Ordering}
 use Rattle.std.specs.declared.cmp.Ordering.TheVariants.{Less}
 use Rattle.base.specs.declared.key.Key.{Key}
-use Rattle.base.specs.World.{Machine, World, IsPending, IsOver, SequentialRun}
+use Rattle.base.specs.World.{Machine, World, settled, outcome, IsPending, IsOver, SequentialRun}
 use Rattle.base.specs.Run.{MakesLater, handled, trace, trace-run}
 use Rattle.base.specs.Rising.{IsPlaceBefore, CountsRows}
 use Rattle.windows.specs.Delays.{SendsAsItself, KeepsFar}
@@ -25,14 +25,23 @@ use Rattle.windows.proofs.Released.{released, sorted_trace}
 use Rattle.windows.proofs.Division.{after_all, all_schedule, ready_after, stands_after, none_left, keys_early, stands_once}
 
 module _ {S C R : Type 0} (step : Machine S C R) where
-  weaker_step : (Test Other : World S C → Key → Type 0) (w v : World S C) (k : Key) (made : List R) → Other w k → TestedStep step Test w k v made → TestedStep step Other w k v made
+  pub weaker_step : (Test Other : World S C → Key → Type 0) (w v : World S C) (k : Key) (made : List R) → Other w k → TestedStep step Test w k v made → TestedStep step Other w k v made
   weaker_step Test Other w v k made passes is = record { content = is.content; here = is.here; passes = passes; world = is.world; made = is.made }
 
-  weaker_schedule : (Test Other : World S C → Key → Type 0) → ((w : World S C) (k : Key) → Test w k → Other w k) → (ks : List Key) (w v : World S C) (rows : List R)
+  pub weaker_schedule : (Test Other : World S C → Key → Type 0) → ((w : World S C) (k : Key) → Test w k → Other w k) → (ks : List Key) (w v : World S C) (rows : List R)
       → Schedule step Test w ks rows v → Schedule step Other w ks rows v
   weaker_schedule Test Other gives [] w v rows is = is
   weaker_schedule Test Other gives (k ∷ ks) w v rows is =
       (is.0, is.1, is.2, weaker_step Test Other w is.0 k is.1 (gives w k is.3.passes) is.3, weaker_schedule Test Other gives ks is.0 v is.2 is.4, is.5)
+
+  -- a fact that each step keeps stays through a schedule
+  pub with_fact : (Test : World S C → Key → Type 0) (Fact : World S C → Type 0) → ((w : World S C) (k : Key) (c : C) → Fact w → Test w k → get w.pending k ≡ Some c → Fact (settled w k (outcome step w k c)))
+      → (ks : List Key) (w v : World S C) (rows : List R) → Fact w → Schedule step Test w ks rows v → Schedule step (λ u k. Test u k × Fact u) w ks rows v × Fact v
+  with_fact Test Fact stays [] w v rows fact is = (is, subst Fact (sym is.0) fact)
+  with_fact Test Fact stays (k ∷ ks) w v rows fact is =
+      let mid : Fact is.0 = subst Fact (sym is.3.world) (stays w k is.3.content fact is.3.passes is.3.here) in
+      let rest = with_fact Test Fact stays ks is.0 v is.2 mid is.4 in
+      ((is.0, is.1, is.2, weaker_step Test _ w is.0 k is.1 (is.3.passes, fact) is.3, rest.0, is.5), rest.1)
 
 module _ {S C R : Type 0} (step : Machine S C R) (later : MakesLater step) (own : SendsAsItself step) (end : ℕ) (least_delay : Option ℕ) (Fact : World S C → Type 0)
     (keeps : KeepsFar end least_delay Fact step) where
@@ -43,11 +52,7 @@ module _ {S C R : Type 0} (step : Machine S C R) (later : MakesLater step) (own 
 
   -- the fact stays through a schedule
   pub schedule_kept : (ks : List Key) (w v : World S C) (rows : List R) → Fact w → Schedule step (IsSafe end least_delay) w ks rows v → Schedule step (IsSafeIn end least_delay Fact) w ks rows v × Fact v
-  schedule_kept [] w v rows fact is = (is, subst Fact (sym is.0) fact)
-  schedule_kept (k ∷ ks) w v rows fact is =
-      let mid : Fact is.0 = subst Fact (sym is.3.world) (keeps.stays w k is.3.content fact is.3.here is.3.passes.in_time) in
-      let rest = schedule_kept ks is.0 v is.2 mid is.4 in
-      ((is.0, is.1, is.2, weaker_step step _ _ w is.0 k is.1 (is.3.passes, fact) is.3, rest.0, is.5), rest.1)
+  schedule_kept = with_fact step (IsSafe end least_delay) Fact (λ w k c fact safe here. keeps.stays w k c fact here safe.in_time)
 
   same_run : (w : World S C) (keys : List Key) (rows : List R) → SequentialRun step end w keys rows → (handled step later end w ≡ keys) × (trace step later end w ≡ rows)
   same_run w keys rows is = trace-run step later end keys w is.last rows is.run is.over

@@ -1,5 +1,5 @@
 -- Schedules and windows of a scenario's cluster.
-use Rattle.std.specs.Prelude.{◌≡◌, ℕ, ◌<◌, List, Option, Some, None}
+use Rattle.std.specs.Prelude.{◌≡◌, ◌≢◌, ℕ, ◌<◌, ◌≤◌, List, Option, Some, None}
 use Rattle.std.specs.Cmp.{IsTotalOrder}
 use Rattle.std.specs.declared.cmp.Ordering.{Ordering}
 use Rattle.std.specs.declared.cmp.Ordering.TheVariants.{Less}
@@ -16,6 +16,7 @@ use Rattle.member.specs.Step.{step}
 use Rattle.member_laws.specs.Runs.{Cluster}
 use Rattle.windows.specs.Safe.{IsSafe}
 use Rattle.windows.specs.Schedule.{TestedStep, Schedule}
+use Rattle.windows.specs.Horizon.{IsClear}
 use Rattle.windows.specs.Parts.{Window, HasWindow}
 
 abbrev pub link_delay : Setup → ℕ → ℕ → ℕ
@@ -50,3 +51,16 @@ pub record IsRowOrder (cmp : Row → Row → Ordering) : Type 0 where
 -- these windows are of all parts
 abbrev pub IsWhole : Setup → (ℕ → ℕ) → List (Window State Content Row) → Type 0
 IsWhole s division windows = (m : ℕ) → m < member_count s → HasWindow windows (division m)
+
+-- a part that has a member of the scenario
+abbrev pub IsPeopled : Setup → (ℕ → ℕ) → ℕ → Type 0
+IsPeopled s division part = (m : ℕ) × (m < member_count s) × (division m ≡ part)
+
+-- what lies between two parts is no more than the delay of any link from a member of the one to a member of the other
+abbrev pub LiesBetween : Setup → (ℕ → ℕ) → (ℕ → ℕ → ℕ) → Type 0
+LiesBetween s division between =
+    (i j : ℕ) → i < member_count s → j < member_count s → division i ≢ division j → between (division i) (division j) ≤ link_delay s i j
+
+-- the event is clear in the cluster
+abbrev pub IsClearOf : Setup → (ℕ → ℕ) → (ℕ → ℕ → ℕ) → Cluster → Key → Type 0
+IsClearOf s division between = IsClear s.end division (IsPeopled s division) between

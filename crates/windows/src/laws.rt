@@ -13,9 +13,10 @@ ghost use Rattle.member.specs.State.{State};
 ghost use Rattle.member.specs.Opening.{opening};
 ghost use Rattle.member.specs.Step.{step};
 ghost use Rattle.member_laws.specs.Runs.{Cluster, IsSoundCluster};
-ghost use Rattle.windows.specs.Schedule.{CatchesUp, MeetsState, rows_by};
+ghost use Rattle.windows.specs.Schedule.{TestedStep, Schedule, CatchesUp, MeetsState, rows_by};
 ghost use Rattle.windows.specs.Parts.{Window, IsCommonBound, AreWindows, PartRun, StandsAfter, is_in, part_of, all_keys, all_rows};
-ghost use Rattle.windows.specs.Cluster.{link_delay, IsLeastDelay, SafeStep, SafeSchedule, IsRunFrom, IsRowOrder, IsWhole, whose};
+ghost use Rattle.windows.specs.Horizon.{AreHorizons};
+ghost use Rattle.windows.specs.Cluster.{IsPeopled, LiesBetween, IsClearOf, link_delay, IsLeastDelay, SafeStep, SafeSchedule, IsRunFrom, IsRowOrder, IsWhole, whose};
 
 /// A safe event that is handled before its turn changes nothing of what follows: the run that waits
 /// for its turn handles first events for other members, with the same rows, and then comes to the
@@ -123,4 +124,18 @@ pub fn windows_write_the_next_rows()
         → AreWindows (step s) division (λ part. bound) w windows → IsWhole s division windows → StandsAfter division w windows v
         → IsRunFrom s w run_keys run → IsRunFrom s v left_keys left
         → IsPermutation (all_rows windows) sorted → IsSorted cmp sorted → run ≡ sorted ++ left }
+{}
+
+/// Each part may run up to a bound of its own, where no pending event's walk of links reaches the
+/// part before it: a clear event may be handled before its turn, and windows below such bounds, in
+/// any order, are a schedule of clear steps.
+pub fn parts_may_run_to_their_horizons()
+    ensures early { (s : Setup) (division : ℕ → ℕ) (between : ℕ → ℕ → ℕ) (w v : Cluster) (k : Key) (made : List Row)
+        → IsSound s → LiesBetween s division between → IsSoundCluster s w
+        → TestedStep (step s) (IsClearOf s division between) w k v made → CatchesUp (step s) s.end w v k made }
+    ensures windows { (s : Setup) (division : ℕ → ℕ) (between : ℕ → ℕ → ℕ) (bounds : ℕ → ℕ) (w : Cluster) (windows : List (Window State Content Row))
+        → IsSound s → LiesBetween s division between → IsSoundCluster s w
+        → AreHorizons s.end division (IsPeopled s division) between bounds w → AreWindows (step s) division bounds w windows
+        → (v : Cluster) × Schedule (step s) (IsClearOf s division between) w (all_keys windows) (all_rows windows) v
+        × StandsAfter division w windows v × IsSoundCluster s v }
 {}

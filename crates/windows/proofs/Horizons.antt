@@ -1,0 +1,78 @@
+-- A scenario's parts may run to their horizons.
+use Rattle.std.proofs.Common.{◌≡◌, ◌≢◌, ℕ, ◌+◌, ◌<◌, ◌≤◌, List, Option, Some, None, ap, sym, refl, arith}
+use Rattle.std.specs.Option.{option_map}
+use Rattle.std.specs.List.{AllByRecursion}
+use Rattle.std.specs.FinMap.{get}
+use Rattle.std.proofs.lemmas.List.Elements.{recursion_from_All}
+use Rattle.base.specs.declared.key.Key.{Key}
+use Rattle.base.specs.World.{events_of}
+use Rattle.base.proofs.Rising.{all_weaker}
+use Rattle.scenario.specs.Setup.{Setup, IsSound, member_count}
+use Rattle.trace.specs.declared.row.Row.{Row}
+use Rattle.member.specs.declared.content.Content.{Content}
+use Rattle.member.specs.State.{State}
+use Rattle.member.specs.Step.{step}
+use Rattle.member.proofs.Fair.{steps_later, steps_linked}
+use Rattle.member_laws.specs.Words.{IsConsistent, IsAmongMembers}
+use Rattle.member_laws.specs.Runs.{Cluster, IsSoundCluster}
+use Rattle.member_laws.proofs.Reached.{step_among}
+use Rattle.windows.specs.Schedule.{TestedStep, Schedule, CatchesUp}
+use Rattle.windows.specs.Horizon.{AreHorizons, KeepsBetween, IsClearIn}
+use Rattle.windows.specs.Parts.{Window, AreWindows, StandsAfter, all_keys, all_rows}
+use Rattle.windows.specs.Cluster.{link_delay, IsPeopled, LiesBetween, IsClearOf}
+use Rattle.windows.proofs.Far.{all_both}
+use Rattle.windows.proofs.Early.{early_step}
+use Rattle.windows.proofs.Clear.{clear_offers, horizons_offer}
+use Rattle.windows.proofs.Division.{after_all, all_schedule, ready_after, stands_after}
+use Rattle.windows.proofs.Schedules.{weaker_step, weaker_schedule}
+use Rattle.windows.proofs.Members.{sends_as_itself, sound_stays, receiver_low}
+
+module _ (s : Setup) (sound : IsSound s) (division : ℕ → ℕ) (between : ℕ → ℕ → ℕ) (lies : LiesBetween s division between) where
+  abbrev Comes : Key → Key → Type 0
+  Comes k e = IsPeopled s division (division e.to) × (division e.to ≢ division k.to → k.at + between (division k.to) (division e.to) ≤ e.at)
+
+  comes : (k e : Key) → k.to < member_count s → e.to < member_count s → (e.to ≢ k.to → k.at + link_delay s k.to e.to ≤ e.at) → Comes k e
+  comes k e here there delayed = (
+    (e.to, there, refl),
+    λ other.
+        let late = delayed (λ same. other (ap division same)) in
+        let least = lies k.to e.to here there (λ same. other (sym same)) in
+        omega arith,
+  )
+
+  made_comes : (k : Key) (c : Content) (o : Option State) → IsAmongMembers s k c → ((t : State) → o ≡ Some t → IsConsistent s k.to t) → AllByRecursion (λ e. Comes k e.0) (events_of (option_map (step s k c) o))
+  made_comes k c None among h = tt
+  made_comes k c (Some t) among h =
+      all_weaker _ (λ e. Comes k e.0) (λ e is. comes k e.0 among.receiver is.0.receiver is.1) (step s k c t).events
+      (all_both (λ e. IsAmongMembers s e.0 e.1) (λ e. e.0.to ≢ k.to → k.at + link_delay s k.to e.0.to ≤ e.0.at) (step s k c t).events
+      (recursion_from_All (λ (e : Key × Content). IsAmongMembers s e.0 e.1) (step s k c t).events (step_among s k c t sound among (h t refl))) (steps_linked s sound k c t))
+
+  keeps_between : KeepsBetween s.end division (IsPeopled s division) between (IsSoundCluster s) (step s)
+  keeps_between = record {
+    stays = sound_stays s sound;
+    peopled = λ w k fact here. (k.to, receiver_low s w k (get w.pending k) fact refl here, refl);
+    far = λ w k c fact here in_time. made_comes k c (get w.members k.to) (fact.events k c here) (λ t is. fact.states k.to t is);
+  }
+
+pub clear_early : (s : Setup) (division : ℕ → ℕ) (between : ℕ → ℕ → ℕ) (w v : Cluster) (k : Key) (made : List Row) → IsSound s → LiesBetween s division between → IsSoundCluster s w
+    → TestedStep (step s) (IsClearOf s division between) w k v made → CatchesUp (step s) s.end w v k made
+clear_early s division between w v k made sound lies fact is =
+    let keeps = keeps_between s sound division between lies in
+    early_step (step s) (steps_later s sound) (sends_as_itself s sound) s.end (IsClearIn s.end division (IsPeopled s division) between (IsSoundCluster s))
+    (clear_offers (step s) (steps_later s sound) s.end division (IsPeopled s division) between (IsSoundCluster s) keeps) w v k made
+    (weaker_step (step s) _ (IsClearIn s.end division (IsPeopled s division) between (IsSoundCluster s)) w v k made (is.passes, fact) is)
+
+pub clear_windows : (s : Setup) (division : ℕ → ℕ) (between : ℕ → ℕ → ℕ) (bounds : ℕ → ℕ) (w : Cluster) (windows : List (Window State Content Row)) → IsSound s → LiesBetween s division between
+    → IsSoundCluster s w → AreHorizons s.end division (IsPeopled s division) between bounds w → AreWindows (step s) division bounds w windows
+    → (v : Cluster) × Schedule (step s) (IsClearOf s division between) w (all_keys windows) (all_rows windows) v × StandsAfter division w windows v × IsSoundCluster s v
+clear_windows s division between bounds w windows sound lies fact horizons are =
+    let keeps = keeps_between s sound division between lies in
+    let Clear : Cluster → Key → Type 0 = IsClearIn s.end division (IsPeopled s division) between (IsSoundCluster s) in
+    let Ready : Cluster → Type 0 = λ u. IsSoundCluster s u × AreHorizons s.end division (IsPeopled s division) between bounds u in
+    let offers = horizons_offer (step s) (steps_later s sound) s.end division (IsPeopled s division) between (IsSoundCluster s) keeps bounds in (
+      after_all (step s) (sends_as_itself s sound) division bounds Clear Ready offers w windows (fact, horizons) are,
+      weaker_schedule (step s) Clear (IsClearOf s division between) (λ u k is. is.0) (all_keys windows) w _ (all_rows windows)
+          (all_schedule (step s) (sends_as_itself s sound) division bounds Clear Ready offers w windows (fact, horizons) are),
+      stands_after (step s) (sends_as_itself s sound) division bounds Clear Ready offers w windows (fact, horizons) are,
+      (ready_after (step s) (sends_as_itself s sound) division bounds Clear Ready offers w windows (fact, horizons) are).0,
+    )
