@@ -15,3 +15,4 @@ pub mod Outs
 pub mod Clear
 pub mod Bounds
 pub mod Horizons
+pub mod Order

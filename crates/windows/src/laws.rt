@@ -18,6 +18,8 @@ ghost use Rattle.windows.specs.Parts.{Window, IsCommonBound, AreWindows, PartRun
 ghost use Rattle.windows.specs.Horizon.{AreHorizons};
 ghost use Rattle.windows.specs.Cluster.{IsPeopled, LiesBetween, IsClearOf, link_delay, IsLeastDelay, SafeStep, SafeSchedule, IsRunFrom, IsRowOrder, IsWhole, whose};
 
+use trace::Row;
+
 /// A safe event that is handled before its turn changes nothing of what follows: the run that waits
 /// for its turn handles first events for other members, with the same rows, and then comes to the
 /// world to which these same events lead after it.
@@ -138,4 +140,9 @@ pub fn parts_may_run_to_their_horizons()
         → AreHorizons s.end division (IsPeopled s division) between bounds w → AreWindows (step s) division bounds w windows
         → (v : Cluster) × Schedule (step s) (IsClearOf s division between) w (all_keys windows) (all_rows windows) v
         × StandsAfter division w windows v × IsSoundCluster s v }
+{}
+
+/// The order of rows is one that the laws speak of: by their places first.
+pub fn rows_are_in_order_of_places()
+    ensures { IsRowOrder ⟦<Row as Ord>⟧.cmp }
 {}
