@@ -4,3 +4,7 @@ pub mod Schedule
 pub mod Parts
 pub mod Cluster
 pub mod Horizon
+pub mod View
+pub mod Wears
+pub mod Window
+pub mod Handling

@@ -1,8 +1,12 @@
 //! Steps that may be taken before their turn: which they are, and what a cluster that goes on by such
-//! steps, or by windows of its parts, is to the run that always takes the least event.
+//! steps, or by windows of its parts, is to the run that always takes the least event. And a part of a
+//! cluster, which runs its window.
 #![tactic(auto)]
 
 mod laws;
+mod part;
+mod setting;
+mod steps;
 
 pub use laws::{
     a_part_sends_out_late, a_run_is_a_schedule, a_safe_event_may_come_early,
@@ -11,3 +15,4 @@ pub use laws::{
     rows_are_in_order_of_places, safe_steps_keep_a_cluster_sound, the_rows_before_a_bound_are_next,
     windows_are_safe_steps, windows_write_the_next_rows,
 };
+pub use part::{Done, Part};

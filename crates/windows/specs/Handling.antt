@@ -1,0 +1,51 @@
+-- One step of a part's window, as the part makes it.
+use Rattle.std.specs.Prelude.{◌≡◌, ℕ, ◌≤◌, ◌++◌, Bool, List, Option, Some, None, map}
+use Rattle.std.specs.Option.{option_map}
+use Rattle.std.specs.Ordering.{nat_cmp}
+use Rattle.std.specs.FinMap.{FinMap, get, insert}
+use Rattle.base.specs.declared.key.Key.{Key}
+use Rattle.base.specs.World.{World, IsPending, Outcome, rows_of, events_of}
+use Rattle.scenario.specs.Setup.{Setup}
+use Rattle.trace.specs.declared.row.Row.{Row}
+use Rattle.member.specs.declared.content.Content.{Content}
+use Rattle.member.specs.declared.event.Event.{Event}
+use Rattle.member.specs.declared.event.Effects.{Effects}
+use Rattle.member.specs.State.{State}
+use Rattle.member.specs.Step.{step}
+use Rattle.member.specs.View.{pair_of}
+use Rattle.member.specs.Worn.{IsWorn}
+use Rattle.windows.specs.Parts.{PartStep}
+
+-- what the receiver, where it is one of these members, makes of the event
+abbrev pub made_of : Setup → FinMap nat_cmp State → Event → Option (Outcome State Content Row)
+made_of s members event = option_map (step s event.key event.content) (get members event.key.to)
+
+-- the members after it
+abbrev pub members_after : FinMap nat_cmp State → Event → Option (Outcome State Content Row) → FinMap nat_cmp State
+members_after members event None = members
+members_after members event (Some o) = insert members event.key.to o.state
+
+-- the event was handled: this became of the members, and these effects came of it
+pub record Handles (s : Setup) (event : Event) (before after : FinMap nat_cmp State) (effects : Effects) : Type 0 where
+  pub members : after ≡ members_after before event (made_of s before event)
+  pub events : map pair_of effects.events.items ≡ events_of (made_of s before event)
+  pub rows : effects.rows.items ≡ rows_of (made_of s before event)
+
+-- the receiver's step takes a counter past its limit
+pub record WearsReceiver (s : Setup) (event : Event) (members : FinMap nat_cmp State) : Type 0 where
+  pub member : State
+  pub there : get members event.key.to ≡ Some member
+  pub worn : IsWorn (step s event.key event.content member).state
+
+-- a step of the window leads from p to v, and what it sends out and its rows follow those before
+pub record Advances (s : Setup) (owns : ℕ → Bool) (bound : ℕ) (p v : World State Content) (before after : Effects) : Type 0 where
+  pub key : Key
+  pub sent : List (Key × Content)
+  pub made : List Row
+  pub next : PartStep (step s) owns bound p key sent made v
+  pub out : map pair_of after.events.items ≡ map pair_of before.events.items ++ sent
+  pub rows : after.rows.items ≡ before.rows.items ++ made
+
+-- no event of the part has a moment below the bound
+abbrev pub NoneIsBelow : ℕ → World State Content → Type 0
+NoneIsBelow bound p = (q : Key) → IsPending p q → bound ≤ q.at

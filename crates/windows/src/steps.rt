@@ -1,0 +1,175 @@
+ghost use Rattle.std.specs.Prelude.{◌≡◌, ◌+◌, ◌≤◌, ◌++◌, ◌∷◌, [], false, map, IfOk, OnOk, IsErrOf};
+ghost use Rattle.std.specs.Bool.{OnTrue, OnFalse};
+ghost use Rattle.std.specs.FinMap.{get, contains_key};
+ghost use Rattle.base.specs.World.{with_events};
+ghost use Rattle.base.specs.Rising.{AreNew};
+ghost use Rattle.scenario.specs.Setup.{IsSound, member_count};
+ghost use Rattle.links.specs.Arrival.{AreLinksOf};
+ghost use Rattle.member.specs.Here.{IsHere, HoldsMembers, NamesMembers};
+ghost use Rattle.member.specs.State.{State};
+ghost use Rattle.member.specs.View.{pair_of};
+ghost use Rattle.windows.specs.Parts.{for_own, for_others};
+ghost use Rattle.windows.specs.View.{world_of, states_in, contents_in};
+ghost use Rattle.windows.specs.Window.{is_own, IsConsistentPart, IsWindow, TakeTheirLinks};
+ghost use Rattle.windows.specs.Wears.{WearsInWindow};
+ghost use Rattle.windows.specs.Handling.{Handles, WearsReceiver, Advances, NoneIsBelow};
+
+use crate::part::{Done, Part};
+use crate::setting::Setting;
+use base::{MemberId, Memory};
+use member::{Effects, Event, Member, StepError};
+use std::alloc::Global;
+use std::collections::BTreeMap;
+use worker_queue::EventQueue;
+
+/// Runs the window that begins in this part.
+pub(crate) fn run_from<Q: EventQueue<Event> + Drop>(
+    alloc: Global,
+    mut part: Part<Q>,
+    setting: &Setting,
+) -> Result<Done<Q>, StepError>
+    requires sound { IsSound setting.now.scenario.now }
+    requires fits { AreLinksOf setting.now.links.now setting.now.scenario.now }
+    requires in_time { setting.now.bound ≤ setting.now.scenario.now.end + 1 }
+    requires consistent { IsConsistentPart setting.now.scenario.now (world_of Q.set part) }
+    ensures ok { let before = world_of Q.set part in
+        IfOk result (λ done. IsWindow setting.now.scenario.now setting.now.bound before done.out.items done.rows.items (world_of Q.set done.part)) }
+    ensures number { IfOk result (λ done. done.part.number ≡ part.number) }
+    ensures consistent { IfOk result (λ done. IsConsistentPart setting.now.scenario.now (world_of Q.set done.part)) }
+    ensures far { IfOk result (λ done. TakeTheirLinks setting.now.scenario.now (world_of Q.set part) done.out.items) }
+    ensures worn { IsErrOf result StepError.Worn → WearsInWindow setting.now.scenario.now setting.now.bound (world_of Q.set part) }
+{
+    let mut made = Effects {
+        events: Vec::new(alloc),
+        rows: Vec::new(alloc),
+    };
+    loop {
+        match advance(alloc, &mut part, setting, &mut made) {
+            Ok(true) => {}
+            Ok(false) => {
+                let Effects { events: out, rows } = made;
+                return Ok(Done { part, out, rows });
+            }
+            Err(error) => return Err(error),
+        }
+    }
+}
+
+/// The next step of the window: the least pending event is handled, if its moment is before the bound.
+fn advance<Q: EventQueue<Event>>(
+    alloc: Global,
+    part: &mut Part<Q>,
+    setting: &Setting,
+    out: &mut Effects,
+) -> Result<bool, StepError>
+    requires sound { IsSound setting.now.scenario.now }
+    requires fits { AreLinksOf setting.now.links.now setting.now.scenario.now }
+    requires in_time { setting.now.bound ≤ setting.now.scenario.now.end + 1 }
+    requires consistent { IsConsistentPart setting.now.scenario.now (world_of Q.set part.old) }
+    ensures went { let before = world_of Q.set part.old in
+        IfOk result (λ went. OnTrue went (Advances setting.now.scenario.now (is_own before) setting.now.bound before (world_of Q.set part.new) out.old out.new)) }
+    ensures over { IfOk result (λ went. OnFalse went (NoneIsBelow setting.now.bound (world_of Q.set part.old))) }
+    ensures same { IfOk result (λ went. OnFalse went (world_of Q.set part.new ≡ world_of Q.set part.old)) }
+    ensures none { IfOk result (λ went. OnFalse went (out.new ≡ out.old)) }
+    ensures number { OnOk result (part.new.number ≡ part.old.number) }
+    ensures worn { IsErrOf result StepError.Worn → WearsInWindow setting.now.scenario.now setting.now.bound (world_of Q.set part.old) }
+{
+    let event = match part.queue.pop_below(setting.bound) {
+        Some(event) => event,
+        None => return Ok(false),
+    };
+    let Effects { events, rows } = match handle(alloc, &mut part.members, event, setting) {
+        Ok(made) => made,
+        Err(error) => return Err(error),
+    };
+    match deliver(&part.members, &mut part.queue, events, &mut out.events) {
+        Ok(()) => {}
+        Err(Memory) => return Err(StepError::Memory),
+    }
+    match out.rows.extend_from_slice(&rows) {
+        Ok(()) => {}
+        Err(_) => return Err(StepError::Memory),
+    }
+    Ok(true)
+}
+
+/// What the event's receiver makes of it: nothing where that is none of these members.
+fn handle(
+    alloc: Global,
+    members: &mut BTreeMap<MemberId, Member>,
+    event: Event,
+    setting: &Setting,
+) -> Result<Effects, StepError>
+    requires here { IsHere setting.now.scenario.now setting.now.links.now event.key }
+    requires known { (t : State) → get (states_in members.old) event.key.to ≡ Some t → HoldsMembers setting.now.scenario.now event.key.to t }
+    requires names { NamesMembers (member_count setting.now.scenario.now) event.content }
+    ensures ok { IfOk result (Handles setting.now.scenario.now event (states_in members.old) (states_in members.new)) }
+    ensures worn { IsErrOf result StepError.Worn → WearsReceiver setting.now.scenario.now event (states_in members.old) }
+{
+    let mut made = Effects {
+        events: Vec::new(alloc),
+        rows: Vec::new(alloc),
+    };
+    let Some(member) = members.get_mut(&event.key.to) else {
+        return Ok(made);
+    };
+    match member.step(alloc, event, setting.scenario, setting.links, &mut made) {
+        Ok(()) => Ok(made),
+        Err(error) => Err(error),
+    }
+}
+
+/// Lets the events for these members pend, and sends the others out.
+fn deliver<Q: EventQueue<Event>>(
+    members: &BTreeMap<MemberId, Member>,
+    queue: &mut Q,
+    events: Vec<Event>,
+    out: &mut Vec<Event>,
+) -> Result<(), Memory>
+    requires new { AreNew (contents_in (Q.set queue.old)) (map pair_of events.items) }
+    ensures own { let own = contains_key (states_in members.now) in
+        OnOk result (contents_in (Q.set queue.new) ≡ with_events (contents_in (Q.set queue.old)) (for_own own (map pair_of events.items))) }
+    ensures others { let own = contains_key (states_in members.now) in
+        OnOk result (map pair_of out.new.items ≡ map pair_of out.old.items ++ for_others own (map pair_of events.items)) }
+{
+    for event in events {
+        match place(members, queue, event, out) {
+            Ok(()) => {}
+            Err(Memory) => return Err(Memory),
+        }
+    }
+    Ok(())
+}
+
+/// Lets the event pend, where it is for one of these members, or else sends it out.
+fn place<Q: EventQueue<Event>>(
+    members: &BTreeMap<MemberId, Member>,
+    queue: &mut Q,
+    event: Event,
+    out: &mut Vec<Event>,
+) -> Result<(), Memory>
+    requires new { contains_key (contents_in (Q.set queue.old)) event.key ≡ false }
+    ensures own { let own = contains_key (states_in members.now) in
+        OnOk result (contents_in (Q.set queue.new) ≡ with_events (contents_in (Q.set queue.old)) (for_own own (pair_of event ∷ []))) }
+    ensures others { let own = contains_key (states_in members.now) in
+        OnOk result (map pair_of out.new.items ≡ map pair_of out.old.items ++ for_others own (pair_of event ∷ [])) }
+{
+    if is_for(members, &event) {
+        match queue.push(event) {
+            Ok(()) => Ok(()),
+            Err(_) => Err(Memory),
+        }
+    } else {
+        match out.push(event) {
+            Ok(()) => Ok(()),
+            Err(_) => Err(Memory),
+        }
+    }
+}
+
+/// Whether the event is for one of these members.
+fn is_for(members: &BTreeMap<MemberId, Member>, event: &Event) -> bool
+    ensures { result ≡ contains_key (states_in members.now) event.now.key.to }
+{
+    members.contains_key(&event.key.to)
+}
