@@ -16,3 +16,8 @@ pub mod Clear
 pub mod Bounds
 pub mod Horizons
 pub mod Order
+mod Maps
+mod Deliveries
+mod PartRuns
+mod Consistent
+mod Advancing

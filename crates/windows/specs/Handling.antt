@@ -45,7 +45,3 @@ pub record Advances (s : Setup) (owns : ℕ → Bool) (bound : ℕ) (p v : World
   pub next : PartStep (step s) owns bound p key sent made v
   pub out : map pair_of after.events.items ≡ map pair_of before.events.items ++ sent
   pub rows : after.rows.items ≡ before.rows.items ++ made
-
--- no event of the part has a moment below the bound
-abbrev pub NoneIsBelow : ℕ → World State Content → Type 0
-NoneIsBelow bound p = (q : Key) → IsPending p q → bound ≤ q.at

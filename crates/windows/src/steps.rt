@@ -12,7 +12,8 @@ ghost use Rattle.windows.specs.Parts.{for_own, for_others};
 ghost use Rattle.windows.specs.View.{world_of, states_in, contents_in};
 ghost use Rattle.windows.specs.Window.{is_own, IsConsistentPart, IsWindow, TakeTheirLinks};
 ghost use Rattle.windows.specs.Wears.{WearsInWindow};
-ghost use Rattle.windows.specs.Handling.{Handles, WearsReceiver, Advances, NoneIsBelow};
+ghost use Rattle.worker_queue.specs.Queue.{NoneIsBelow};
+ghost use Rattle.windows.specs.Handling.{Handles, WearsReceiver, Advances};
 
 use crate::part::{Done, Part};
 use crate::setting::Setting;
@@ -68,7 +69,7 @@ fn advance<Q: EventQueue<Event>>(
     requires consistent { IsConsistentPart setting.now.scenario.now (world_of Q.set part.old) }
     ensures went { let before = world_of Q.set part.old in
         IfOk result (λ went. OnTrue went (Advances setting.now.scenario.now (is_own before) setting.now.bound before (world_of Q.set part.new) out.old out.new)) }
-    ensures over { IfOk result (λ went. OnFalse went (NoneIsBelow setting.now.bound (world_of Q.set part.old))) }
+    ensures over { IfOk result (λ went. OnFalse went (NoneIsBelow (world_of Q.set part.old).pending setting.now.bound)) }
     ensures same { IfOk result (λ went. OnFalse went (world_of Q.set part.new ≡ world_of Q.set part.old)) }
     ensures none { IfOk result (λ went. OnFalse went (out.new ≡ out.old)) }
     ensures number { OnOk result (part.new.number ≡ part.old.number) }

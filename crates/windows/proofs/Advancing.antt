@@ -1,0 +1,114 @@
+-- What becomes of a part when its least event is taken and handled, and what was made of it delivered.
+use Rattle.std.proofs.Common.{◌≡◌, ℕ, ◌<◌, Bool, true, false, cond, List, [], ◌∷◌, ◌++◌, map, Option, Some, None, append-nil, ap, ◌∙◌, sym, subst, refl}
+use Rattle.std.specs.Option.{is_some, option_map}
+use Rattle.std.specs.Ordering.{nat_cmp, eq_by_cmp, is_eq}
+use Rattle.std.specs.Cmp.{nat_cmp_total, tied_itself, unsigned_tied}
+use Rattle.std.specs.FinMap.{FinMap, get, contains_key, insert, remove, get-insert}
+use Rattle.std.proofs.lemmas.Bool.{eqb-true}
+use Rattle.base.specs.declared.key.Key.{Key}
+use Rattle.base.specs.Order.{key_cmp}
+use Rattle.base.specs.World.{World, Outcome, with_events, settled, rows_of, events_of, outcome}
+use Rattle.base.specs.Run.{IsFirst}
+use Rattle.scenario.specs.Setup.{Setup}
+use Rattle.trace.specs.declared.row.Row.{Row}
+use Rattle.member.specs.declared.content.Content.{Content}
+use Rattle.member.specs.declared.event.Event.{Event}
+use Rattle.member.specs.declared.event.Effects.{Effects}
+use Rattle.member.specs.State.{State}
+use Rattle.member.specs.Step.{step}
+use Rattle.member.specs.View.{pair_of}
+use Rattle.member.specs.Worn.{IsWorn}
+use Rattle.windows.specs.Parts.{PartStep, for_own, for_others, kept_by}
+use Rattle.windows.specs.Window.{is_own}
+use Rattle.windows.specs.Wears.{WearsInWindow}
+use Rattle.windows.specs.Handling.{Handles, WearsReceiver, Advances, made_of, members_after}
+
+-- ---- the numbers of a part's members stay
+
+same_number : (a b : ℕ) → eq_by_cmp nat_cmp a b ≡ true → a ≡ b
+same_number a b e = eqb-true a b (sym (unsigned_tied a b) ∙ e)
+
+there_again : {S : Type 0} (members : FinMap nat_cmp S) (m q : ℕ) (t u : S) (b : Bool) → get members m ≡ Some t → eq_by_cmp nat_cmp q m ≡ b → is_some (cond b (Some u) (get members q)) ≡ is_some (get members q)
+there_again members m q t u true here e = sym (ap is_some (ap (get members) (same_number q m e) ∙ here))
+there_again members m q t u false here e = refl
+
+-- to write a member anew leaves the numbers of members
+pub same_own : {S : Type 0} (members : FinMap nat_cmp S) (m : ℕ) (t u : S) → get members m ≡ Some t → (q : ℕ) → contains_key (insert members m u) q ≡ contains_key members q
+same_own members m t u here q = ap is_some (get-insert nat_cmp_total members m u q) ∙ there_again members m q t u (eq_by_cmp nat_cmp q m) here refl
+
+module _ (s : Setup) (event : Event) (members : FinMap nat_cmp State) where
+  own_either : (o : Option State) → get members event.key.to ≡ o → (q : ℕ) → contains_key (members_after members event (option_map (step s event.key event.content) o)) q ≡ contains_key members q
+  own_either None none q = refl
+  own_either (Some t) here q = same_own members event.key.to t (step s event.key event.content t).state here q
+
+  -- an event that is handled leaves them
+  pub own_after : (after : FinMap nat_cmp State) → after ≡ members_after members event (made_of s members event) → ◌≡◌ {A = ℕ → Bool} (contains_key after) (contains_key members)
+  own_after after is = λ i q. (ap (λ m. contains_key m q) is ∙ own_either (get members event.key.to) refl q) i
+
+-- ---- a step
+
+module _ (s : Setup) (bound : ℕ) (p : World State Content) (event : Event) (first : IsFirst p.pending event.key event.content) (early : event.key.at < bound) where
+  abbrev made : Option (Outcome State Content Row)
+  made = made_of s p.members event
+
+  world_after : (o : Option (Outcome State Content Row)) (n : FinMap nat_cmp State) (q : FinMap key_cmp Content) → n ≡ members_after p.members event o
+      → q ≡ with_events (remove p.pending event.key) (for_own (is_own p) (events_of o))
+      → ◌≡◌ {A = World State Content} (record { members = n; pending = q }) (settled p event.key (option_map (kept_by (is_own p)) o))
+  world_after None n q members pending = λ i. record { members = members i; pending = pending i }
+  world_after (Some o) n q members pending = λ i. record { members = members i; pending = pending i }
+
+  -- the least event is handled, and what is made of it delivered
+  pub advanced : (n : FinMap nat_cmp State) (taken q : FinMap key_cmp Content) (effects before after : Effects) → Handles s event p.members n effects → taken ≡ remove p.pending event.key
+      → q ≡ with_events taken (for_own (contains_key n) (map pair_of effects.events.items))
+      → map pair_of after.events.items ≡ map pair_of before.events.items ++ for_others (contains_key n) (map pair_of effects.events.items)
+      → after.rows.items ≡ before.rows.items ++ effects.rows.items
+      → Advances s (is_own p) bound p (record { members = n; pending = q }) before after
+  advanced n taken q effects before after handles is_taken delivered sent written =
+      let own : ◌≡◌ {A = ℕ → Bool} (contains_key n) (is_own p) = own_after s event p.members n handles.members in
+      record {
+        key = event.key;
+        sent = for_others (is_own p) (events_of made);
+        made = rows_of made;
+        next = record {
+          content = event.content;
+          here = first.here;
+          least = first.least;
+          early = early;
+          world = world_after made n q handles.members
+              (delivered ∙ ap (λ (f : ℕ → Bool). with_events taken (for_own f (map pair_of effects.events.items))) own
+              ∙ ap (λ es. with_events taken (for_own (is_own p) es)) handles.events
+              ∙ ap (λ m. with_events m (for_own (is_own p) (events_of made))) is_taken);
+          sent = refl;
+          made = refl;
+        };
+        out = sent ∙ ap (λ (f : ℕ → Bool). map pair_of before.events.items ++ for_others f (map pair_of effects.events.items)) own
+            ∙ ap (λ es. map pair_of before.events.items ++ for_others (is_own p) es) handles.events;
+        rows = written ∙ ap (λ rows. before.rows.items ++ rows) handles.rows;
+      }
+
+  -- a counter has no room
+  pub event_wears : WearsReceiver s event p.members → WearsInWindow s bound p
+  event_wears wears =
+      let o : Outcome State Content Row = step s event.key event.content wears.member in
+      let is : made ≡ Some o = ap (option_map (step s event.key event.content)) wears.there in
+      let after : World State Content = settled p event.key (Some (kept_by (is_own p) o)) in
+      let next : PartStep (step s) (is_own p) bound p event.key (for_others (is_own p) o.events) o.rows after = record {
+        content = event.content;
+        here = first.here;
+        least = first.least;
+        early = early;
+        world = ap (λ m. settled p event.key (option_map (kept_by (is_own p)) m)) (sym is);
+        sent = ap (λ m. for_others (is_own p) (events_of m)) (sym is);
+        made = ap rows_of (sym is);
+      } in
+      record {
+        keys = event.key ∷ [];
+        out = for_others (is_own p) o.events;
+        rows = o.rows;
+        world = after;
+        reached = (after, for_others (is_own p) o.events, [], o.rows, [], next, (refl, refl, refl), sym (append-nil (for_others (is_own p) o.events)), sym (append-nil o.rows));
+        number = event.key.to;
+        member = o.state;
+        there = get-insert nat_cmp_total p.members event.key.to o.state event.key.to ∙ ap (λ r. cond (is_eq r) (Some o.state) (get p.members event.key.to)) (tied_itself nat_cmp_total event.key.to);
+        worn = wears.worn;
+      }

@@ -1,0 +1,147 @@
+-- A window leaves a part as a run does: its members are the scenario's, and so is all that pends.
+use Rattle.std.proofs.Common.{◌≡◌, ◌≢◌, ℕ, ◌+◌, ◌<◌, ◌≤◌, ◌^◌, Bool, true, false, cond, List, [], ◌∷◌, ◌++◌, length, Option, Some, None, append-nil, ap, ◌∙◌, sym, subst, refl, arith}
+use Rattle.std.specs.Option.{is_some, option_map, option_map_or}
+use Rattle.std.specs.List.{AllByRecursion}
+use Rattle.std.specs.Ordering.{nat_cmp, eq_by_cmp}
+use Rattle.std.specs.Cmp.{nat_cmp_total, unsigned_tied}
+use Rattle.std.specs.FinMap.{FinMap, get, contains_key, insert, remove, get-insert}
+use Rattle.std.proofs.lemmas.Bool.{false≢true, eqb-true, eq-eqb}
+use Rattle.std.proofs.lemmas.Option.{same_Some}
+use Rattle.base.specs.declared.key.Key.{Key}
+use Rattle.base.specs.Order.{key_cmp}
+use Rattle.base.specs.World.{World, IsPending, settled, outcome, events_of, Run}
+use Rattle.base.specs.Run.{contains-remove, holds-with_events}
+use Rattle.base.specs.Rising.{IsRising, AreNew}
+use Rattle.base.proofs.Rising.{all_weaker}
+use Rattle.incarnation.specs.declared.Claim.{Claim}
+use Rattle.scenario.specs.Setup.{Setup, IsSound, member_count}
+use Rattle.links.specs.declared.table.Links.{Links}
+use Rattle.links.specs.Arrival.{AreLinksOf}
+use Rattle.trace.specs.declared.row.Row.{Row}
+use Rattle.member.specs.declared.content.Content.{Content}
+use Rattle.member.specs.Here.{IsHere, HoldsMembers}
+use Rattle.member.specs.State.{State}
+use Rattle.member.specs.Step.{step}
+use Rattle.member.proofs.Fair.{steps_numbered}
+use Rattle.member_laws.specs.Words.{IsConsistent, IsAmongMembers, is_live}
+use Rattle.member_laws.proofs.Carried.{all_filter}
+use Rattle.member_laws.proofs.Reached.{IsMember, kept_step}
+use Rattle.member_laws.proofs.Runs.{IsKept, run_kept}
+use Rattle.windows.specs.Parts.{PartStep, PartRun, for_own, kept_by}
+use Rattle.windows.specs.Window.{IsConsistentPart}
+use Rattle.windows.proofs.PartRuns.{Kept, next_of}
+
+-- whom a table does not hold, it does not hold as living
+none_living : (held : Option (Claim × ℕ)) → is_some held ≡ false → ◌≡◌ {A = ℕ} (cond (option_map_or (λ (h : Claim × ℕ). is_live h.0) held false) 1 0) 0
+none_living None absent = refl
+none_living (Some h) absent = absurd (false≢true (sym absent))
+
+-- a consistent state holds members of the scenario
+pub holds_members : (s : Setup) (m : ℕ) (t : State) → IsConsistent s m t → HoldsMembers s m t
+holds_members s m t h = record { others = h.others; listed = λ q absent. h.probes q ∙ none_living (get t.table q) absent; sound = h.order }
+
+-- the event may be handled here
+pub event_here : (s : Setup) (l : Links) (bound : ℕ) (k : Key) (c : Content) → IsSound s → AreLinksOf l s → bound ≤ s.end + 1 → k.at < bound → IsAmongMembers s k c → IsHere s l k
+event_here s l bound k c sound links in_time early among =
+    record { sound = sound; links = links; early = omega (arith, in_time, early, sound.end); receiver = among.receiver; sender = among.sender }
+
+-- ---- numbers
+
+-- the sender, where it is one of the part, has used the number
+abbrev Numbered : World State Content → Key → Type 0
+Numbered p q = (t : State) → get p.members q.from ≡ Some t → q.number < t.next_number
+
+same_number : (a b : ℕ) → eq_by_cmp nat_cmp a b ≡ true → a ≡ b
+same_number a b e = eqb-true a b (sym (unsigned_tied a b) ∙ e)
+
+differ : (e f : Key × Content) → e.0.number < f.0.number → e.0 ≢ f.0
+differ e f h same = let n : e.0.number ≡ f.0.number = ap (λ (q : Key). q.number) same in omega arith
+
+all_differ : (es : List (Key × Content)) → IsRising (λ e f. e.0.number < f.0.number) es → IsRising (λ e f. e.0 ≢ f.0) es
+all_differ [] is = tt
+all_differ (e ∷ es) is = (all_weaker (λ f. e.0.number < f.0.number) (λ f. e.0 ≢ f.0) (differ e) es is.0, all_differ es is.1)
+
+module _ (s : Setup) (sound : IsSound s) (p : World State Content) (k : Key) (c : Content) where
+  unused : (t : State) → get p.members k.to ≡ Some t → (q : Key) → ((q : Key) → IsPending p q → Numbered p q) → q.from ≡ k.to → t.next_number ≤ q.number
+      → (b : Bool) → contains_key (remove p.pending k) q ≡ b → b ≡ false
+  unused t receiver q all from h true here =
+      let low : q.number < t.next_number = all q (contains-remove p.pending k q here).0 t (ap (get p.members) from ∙ receiver) in
+      absurd (omega arith)
+  unused t receiver q all from h false here = refl
+
+  new_either : ((q : Key) → IsPending p q → Numbered p q) → (o : Option State) → get p.members k.to ≡ o → AreNew (remove p.pending k) (events_of (option_map (step s k c) o))
+  new_either all None none = record { unlike_pending = tt; unlike_each_other = tt }
+  new_either all (Some t) is = record {
+    unlike_pending =
+        all_weaker _ (λ e. contains_key (remove p.pending k) e.0 ≡ false) (λ e made. unused t is e.0 all made.0 made.1 (contains_key (remove p.pending k) e.0) refl)
+        (step s k c t).events ((steps_numbered s sound).made k c t);
+    unlike_each_other = all_differ (step s k c t).events ((steps_numbered s sound).apart k c t);
+  }
+
+  -- the events that are made of an event of the part are new to it
+  pub new_made : (taken : FinMap key_cmp Content) (made : List (Key × Content)) → taken ≡ remove p.pending k → made ≡ events_of (outcome (step s) p k c) → IsConsistentPart s p → AreNew taken made
+  new_made taken made is_taken is_made is =
+      subst (λ m. AreNew m made) (sym is_taken) (subst (AreNew (remove p.pending k)) (sym is_made) (new_either is.numbered (get p.members k.to) refl))
+
+  module _ (owns : ℕ → Bool) where
+    module _ (t : State) (receiver : get p.members k.to ≡ Some t) where
+      abbrev after : World State Content
+      after = settled p k (Some (kept_by owns (step s k c t)))
+
+      old_number : (q : Key) (b : Bool) (u : State) → eq_by_cmp nat_cmp q.from k.to ≡ b → Numbered p q → cond b (Some (step s k c t).state) (get p.members q.from) ≡ Some u → q.number < u.next_number
+      old_number q true u e used here =
+          let low : q.number < t.next_number = used t (ap (get p.members) (same_number q.from k.to e) ∙ receiver) in
+          let grows = (steps_numbered s sound).grows k c t in
+          let same : (step s k c t).state.next_number ≡ u.next_number = ap (λ (t : State). t.next_number) (same_Some (step s k c t).state u here) in
+          omega arith
+      old_number q false u e used here = used u here
+
+      new_number : (q : Key) (u : State) → q.from ≡ k.to → q.number < (step s k c t).state.next_number → cond (eq_by_cmp nat_cmp q.from k.to) (Some (step s k c t).state) (get p.members q.from) ≡ Some u
+          → q.number < u.next_number
+      new_number q u from low here =
+          let tied : eq_by_cmp nat_cmp q.from k.to ≡ true = unsigned_tied q.from k.to ∙ eq-eqb q.from k.to from in
+          let same : (step s k c t).state.next_number ≡ u.next_number =
+          ap (λ (t : State). t.next_number) (same_Some (step s k c t).state u (ap (λ b. cond b (Some (step s k c t).state) (get p.members q.from)) (sym tied) ∙ here)) in
+          omega arith
+
+      in_after : (q : Key) → ((u : State) → cond (eq_by_cmp nat_cmp q.from k.to) (Some (step s k c t).state) (get p.members q.from) ≡ Some u → q.number < u.next_number) → Numbered after q
+      in_after q h u here = h u (sym (get-insert nat_cmp_total p.members k.to (step s k c t).state q.from) ∙ here)
+
+      numbered_after : ((q : Key) → IsPending p q → Numbered p q) → (q : Key) → IsPending after q → Numbered after q
+      numbered_after all =
+          holds-with_events (Numbered after) (for_own owns (step s k c t).events) (remove p.pending k)
+          (λ q here. in_after q (λ u at. old_number q (eq_by_cmp nat_cmp q.from k.to) u refl (all q (contains-remove p.pending k q here).0) at))
+          (all_filter (λ e. Numbered after e.0) (λ e. owns e.0.to) (step s k c t).events
+          (all_weaker _ (λ e. Numbered after e.0) (λ e made. in_after e.0 (λ u at. new_number e.0 u made.0 made.2 at)) (step s k c t).events ((steps_numbered s sound).made k c t)))
+
+    numbered_either : ((q : Key) → IsPending p q → Numbered p q) → (o : Option State) → get p.members k.to ≡ o → (v : World State Content)
+        → v ≡ settled p k (option_map (kept_by owns) (option_map (step s k c) o)) → (q : Key) → IsPending v q → Numbered v q
+    numbered_either all None none v is = subst (λ v. (q : Key) → IsPending v q → Numbered v q) (sym is) (λ q here. all q (contains-remove p.pending k q here).0)
+    numbered_either all (Some t) here v is = subst (λ v. (q : Key) → IsPending v q → Numbered v q) (sym is) (numbered_after t here all)
+
+-- ---- a window
+
+module _ (s : Setup) (sound : IsSound s) (owns : ℕ → Bool) (bound : ℕ) (in_time : bound ≤ s.end + 1) where
+  keeps_own : (k : Key) (c : Content) (t : State) → k.at ≤ s.end → IsAmongMembers s k c → IsMember s k.to t
+      → IsMember s k.to (step s k c t).state × AllByRecursion (λ e. IsAmongMembers s e.0 e.1) (for_own owns (step s k c t).events)
+  keeps_own k c t early among is =
+      let kept = kept_step s sound k c t early among is in
+      (kept.0, all_filter (λ e. IsAmongMembers s e.0 e.1) (λ e. owns e.0.to) (step s k c t).events kept.1)
+
+  pub consistent_step : (p v : World State Content) (k : Key) (out : List (Key × Content)) (rows : List Row) → PartStep (step s) owns bound p k out rows v → IsConsistentPart s p → IsConsistentPart s v
+  consistent_step p v k out rows is before =
+      let early : k.at ≤ s.end = omega (arith, is.early, in_time) in
+      let run : Run (Kept (step s) owns) s.end p (k ∷ []) rows v = (v, rows, [], early, next_of (step s) owns bound p v k out rows is, (refl, refl), sym (append-nil rows)) in
+      let after =
+      run_kept (Kept (step s) owns) (IsMember s) (IsAmongMembers s) s.end keeps_own (k ∷ []) p v rows run (record { members = before.members; events = before.events }) in
+      record {
+        members = after.members;
+        events = after.events;
+        numbered = numbered_either s sound p k is.content owns before.numbered (get p.members k.to) refl v is.world;
+      }
+
+  -- a part that was consistent before a window is so wherever the window comes
+  pub consistent_run : (ks : List Key) (p v : World State Content) (out : List (Key × Content)) (rows : List Row) → PartRun (step s) owns bound p ks out rows v → IsConsistentPart s p → IsConsistentPart s v
+  consistent_run [] p v out rows run before = subst (IsConsistentPart s) (sym run.0) before
+  consistent_run (k ∷ ks) p v out rows run before =
+      consistent_run ks run.0 v run.2 run.4 run.6 (consistent_step p run.0 k run.1 run.3 run.5 before)

@@ -1,0 +1,105 @@
+-- An event is handled, and what is made of it is delivered.
+use Rattle.std.proofs.Common.{◌≡◌, ◌≢◌, ℕ, Bool, true, false, not, cond, List, [], ◌∷◌, ◌++◌, map, Option, Some, None, append_assoc, append-nil, ap, ◌∙◌, sym, subst, refl}
+use Rattle.std.specs.Option.{is_some, option_map}
+use Rattle.std.specs.List.{AllByRecursion, filter}
+use Rattle.std.specs.Ordering.{nat_cmp, eq_by_cmp}
+use Rattle.std.specs.FinMap.{FinMap, get, empty, contains_key, insert, get-insert}
+use Rattle.std.proofs.lemmas.Bool.{false≢true}
+use Rattle.std.proofs.lemmas.List.{map-append}
+use Rattle.std.proofs.lemmas.List.Elements.{filter-append}
+use Rattle.member_laws.proofs.Carried.{all_filter}
+use Rattle.windows.specs.Swaps.{NoneIs}
+use Rattle.windows.specs.View.{contents_in}
+use Rattle.windows.proofs.Maps.{contents_in-insert}
+use Rattle.windows.specs.Cuts.{joined_joined}
+use Rattle.member.specs.declared.content.Content.{Content}
+use Rattle.base.specs.declared.key.Key.{Key}
+use Rattle.base.specs.Order.{key_cmp, key_total}
+use Rattle.base.specs.World.{World, with_events, events_of, rows_of}
+use Rattle.base.specs.Run.{tells}
+use Rattle.base.specs.Rising.{IsRising, AreNew}
+use Rattle.scenario.specs.Setup.{Setup}
+use Rattle.member.specs.declared.event.Event.{Event}
+use Rattle.member.specs.declared.event.Effects.{Effects}
+use Rattle.member.specs.State.{State}
+use Rattle.member.specs.Step.{step}
+use Rattle.member.specs.View.{pair_of}
+use Rattle.windows.specs.Parts.{for_own, for_others}
+use Rattle.windows.specs.Handling.{Handles, made_of, members_after}
+
+module _ (s : Setup) (event : Event) (before after : FinMap nat_cmp State) (effects : Effects) where
+  -- nobody made anything of it
+  pub handled_by_none : get before event.key.to ≡ None → after ≡ before → effects.events.items ≡ [] → effects.rows.items ≡ [] → Handles s event before after effects
+  handled_by_none none same no_events no_rows =
+      let made : made_of s before event ≡ None = ap (option_map (step s event.key event.content)) none in
+      record {
+        members = same ∙ ap (members_after before event) (sym made);
+        events = ap (map pair_of) no_events ∙ ap events_of (sym made);
+        rows = no_rows ∙ ap rows_of (sym made);
+      }
+
+  -- its receiver made this of it
+  pub handled_by : (t : State) → get before event.key.to ≡ Some t → after ≡ insert before event.key.to (step s event.key event.content t).state
+      → map pair_of effects.events.items ≡ (step s event.key event.content t).events → effects.rows.items ≡ (step s event.key event.content t).rows → Handles s event before after effects
+  handled_by t here changed events rows =
+      let made : made_of s before event ≡ Some (step s event.key event.content t) = ap (option_map (step s event.key event.content)) here in
+      record {
+        members = changed ∙ ap (members_after before event) (sym made);
+        events = events ∙ ap events_of (sym made);
+        rows = rows ∙ ap rows_of (sym made);
+      }
+
+-- ---- deliveries
+
+all_at : {X : Type 0} (P : X → Type 0) (xs ys : List X) (x : X) → AllByRecursion P (xs ++ x ∷ ys) → P x
+all_at P [] ys x all = all.0
+all_at P (y ∷ xs) ys x all = all_at P xs ys x all.1
+
+all_before : {X : Type 0} (before : X → X → Type 0) (xs ys : List X) (x : X) → IsRising before (xs ++ x ∷ ys) → AllByRecursion (λ y. before y x) xs
+all_before before [] ys x rising = tt
+all_before before (y ∷ xs) ys x rising = (all_at (before y) xs ys x rising.0, all_before before xs ys x rising.1)
+
+module _ {C : Type 0} where
+  absent_inserted : (pending : FinMap key_cmp C) (k q : Key) (c : C) → k ≢ q → contains_key pending q ≡ false → contains_key (insert pending k c) q ≡ false
+  absent_inserted pending k q c other absent = either (eq_by_cmp key_cmp q k) refl
+    where
+      either : (b : Bool) → eq_by_cmp key_cmp q k ≡ b → contains_key (insert pending k c) q ≡ false
+      either true e = absurd (other (sym (tells q k e)))
+      either false e = ap is_some (get-insert key_total pending k c q ∙ ap (λ b. cond b (Some c) (get pending q)) e) ∙ absent
+
+  absent_with : (es : List (Key × C)) (pending : FinMap key_cmp C) (q : Key) → NoneIs q es → contains_key pending q ≡ false → contains_key (with_events pending es) q ≡ false
+  absent_with [] pending q none absent = absent
+  absent_with (e ∷ es) pending q none absent = absent_with es (insert pending e.0 e.1) q none.1 (absent_inserted pending e.0 q e.1 none.0 absent)
+
+  -- of new events each is new also once those before it that are kept pend
+  pub still_new : (owns : ℕ → Bool) (pending : FinMap key_cmp C) (all es fs : List (Key × C)) (e : Key × C) → all ≡ es ++ e ∷ fs → AreNew pending all
+      → contains_key (with_events pending (for_own owns es)) e.0 ≡ false
+  still_new owns pending all es fs e is new =
+      absent_with (for_own owns es) pending e.0
+      (all_filter (λ f. f.0 ≢ e.0) (λ f. owns f.0.to) es (all_before (λ f g. f.0 ≢ g.0) es fs e (subst (IsRising (λ f g. f.0 ≢ g.0)) is new.unlike_each_other)))
+      (all_at (λ f. contains_key pending f.0 ≡ false) es fs e (subst (AllByRecursion (λ f. contains_key pending f.0 ≡ false)) is new.unlike_pending))
+
+module _ (owns : ℕ → Bool) where
+  -- one event more pends
+  pub one_more_own : (pending now after : FinMap key_cmp Content) (events : List Event) (event : Event) → now ≡ with_events pending (for_own owns (map pair_of events))
+      → after ≡ with_events now (for_own owns (pair_of event ∷ [])) → after ≡ with_events pending (for_own owns (map pair_of (events ++ event ∷ [])))
+  one_more_own pending now after events event so_far one =
+      one ∙ ap (λ m. with_events m (for_own owns (pair_of event ∷ []))) so_far
+      ∙ ap (λ (w : World State Content). w.pending) (joined_joined (record { members = empty; pending = pending }) (for_own owns (map pair_of events)) (for_own owns (pair_of event ∷ [])))
+      ∙ ap (with_events pending) (sym (filter-append (λ e. owns e.0.to) (map pair_of events) (pair_of event ∷ [])))
+      ∙ ap (λ l. with_events pending (for_own owns l)) (sym (map-append pair_of events (event ∷ [])))
+
+  -- one event more goes out
+  pub one_more_other : (out now after : List (Key × Content)) (events : List Event) (event : Event) → now ≡ out ++ for_others owns (map pair_of events)
+      → after ≡ now ++ for_others owns (pair_of event ∷ []) → after ≡ out ++ for_others owns (map pair_of (events ++ event ∷ []))
+  one_more_other out now after events event so_far one =
+      one ∙ ap (λ l. l ++ for_others owns (pair_of event ∷ [])) so_far
+      ∙ append_assoc out (for_others owns (map pair_of events)) (for_others owns (pair_of event ∷ []))
+      ∙ ap (λ l. out ++ l) (sym (filter-append (λ e. not (owns e.0.to)) (map pair_of events) (pair_of event ∷ [])))
+      ∙ ap (λ l. out ++ for_others owns l) (sym (map-append pair_of events (event ∷ [])))
+
+-- an event that pends where it is for one of these members
+pub kept_if_own : (owns : Bool) (events after : FinMap key_cmp Event) (event : Event) → owns ≡ true → after ≡ insert events event.key event
+    → contents_in after ≡ with_events (contents_in events) (cond owns (pair_of event ∷ []) [])
+kept_if_own owns events after event own pushed =
+    ap contents_in pushed ∙ contents_in-insert events event.key event ∙ ap (λ b. with_events (contents_in events) (cond b (pair_of event ∷ []) [])) (sym own)

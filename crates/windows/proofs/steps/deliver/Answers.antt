@@ -1,0 +1,31 @@
+use Rattle.std.proofs.Common.{◌≡◌, ◌++◌, ◌∷◌, [], map, append_assoc, ap, ◌∙◌, sym, subst}
+use Rattle.std.specs.FinMap.{contains_key}
+use Rattle.std.proofs.lemmas.List.{map-append}
+use Rattle.base.specs.World.{with_events}
+use Rattle.member.specs.View.{pair_of}
+use Rattle.windows.specs.View.{states_in, contents_in}
+use Rattle.windows.proofs.Deliveries.{still_new, one_more_own, one_more_other}
+use Rattle.windows.proofs.steps.deliver.Goals as goal
+
+pub place-requires : goal.place-requires
+place-requires g c =
+    let own = contains_key (states_in c.args.members.now) in
+    let before = contents_in (g.Q.EventQueue.set c.args.queue.now) in
+    let event = c.in-Some.event in
+    let all : c.args.events.items ≡ c.loop-event.yielded ++ event ∷ c.next.new.self.rest.items =
+    c.loop-event.invariant.left ∙ ap (λ rest. c.loop-event.yielded ++ rest) c.in-Some.ensures.steps.0 in
+    let pairs : map pair_of c.args.events.items ≡ map pair_of c.loop-event.yielded ++ pair_of event ∷ map pair_of c.next.new.self.rest.items =
+    ap (map pair_of) all ∙ map-append pair_of c.loop-event.yielded (event ∷ c.next.new.self.rest.items) in
+    record {
+      new = ap (λ pending. contains_key pending event.key) c.loop-event.invariant.own ∙ still_new own before _ (map pair_of c.loop-event.yielded) _ (pair_of event) pairs c.requires.new;
+    }
+
+pub loop-event-preserved : goal.loop-event-preserved
+loop-event-preserved g c =
+    let own = contains_key (states_in c.args.members.now) in
+    let event = c.in-Some.event in
+    record {
+      left = c.loop-event.invariant.left ∙ ap (λ rest. c.loop-event.yielded ++ rest) c.in-Some.ensures.steps.0 ∙ sym (append_assoc c.loop-event.yielded (event ∷ []) c.next.new.self.rest.items);
+      own = one_more_own own _ _ _ c.loop-event.yielded event c.loop-event.invariant.own c.in-Ok.ensures.own;
+      others = one_more_other own _ _ _ c.loop-event.yielded event c.loop-event.invariant.others c.in-Ok.ensures.others;
+    }
