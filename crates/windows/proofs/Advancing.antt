@@ -1,13 +1,11 @@
 -- What becomes of a part when its least event is taken and handled, and what was made of it delivered.
-use Rattle.std.proofs.Common.{◌≡◌, ℕ, ◌<◌, Bool, true, false, cond, List, [], ◌∷◌, ◌++◌, map, Option, Some, None, append-nil, ap, ◌∙◌, sym, subst, refl}
-use Rattle.std.specs.Option.{is_some, option_map}
-use Rattle.std.specs.Ordering.{nat_cmp, eq_by_cmp, is_eq}
-use Rattle.std.specs.Cmp.{nat_cmp_total, tied_itself, unsigned_tied}
-use Rattle.std.specs.FinMap.{FinMap, get, contains_key, insert, remove, get-insert}
-use Rattle.std.proofs.lemmas.Bool.{eqb-true}
-use Rattle.base.specs.declared.key.Key.{Key}
+use Rattle.std.proofs.Common.{◌≡◌, ℕ, ◌<◌, Bool, cond, [], ◌∷◌, ◌++◌, map, Option, Some, None, ap, ◌∙◌, sym, refl}
+use Rattle.std.specs.Option.{option_map}
+use Rattle.std.specs.Ordering.{nat_cmp, is_eq}
+use Rattle.std.specs.Cmp.{nat_cmp_total, tied_itself}
+use Rattle.std.specs.FinMap.{FinMap, get, contains_key, remove, get-insert}
 use Rattle.base.specs.Order.{key_cmp}
-use Rattle.base.specs.World.{World, Outcome, with_events, settled, rows_of, events_of, outcome}
+use Rattle.base.specs.World.{World, Outcome, with_events, settled, rows_of, events_of}
 use Rattle.base.specs.Run.{IsFirst}
 use Rattle.scenario.specs.Setup.{Setup}
 use Rattle.trace.specs.declared.row.Row.{Row}
@@ -17,24 +15,11 @@ use Rattle.member.specs.declared.event.Effects.{Effects}
 use Rattle.member.specs.State.{State}
 use Rattle.member.specs.Step.{step}
 use Rattle.member.specs.View.{pair_of}
-use Rattle.member.specs.Worn.{IsWorn}
 use Rattle.windows.specs.Parts.{PartStep, for_own, for_others, kept_by}
 use Rattle.windows.specs.Window.{is_own}
 use Rattle.windows.specs.Wears.{WearsInWindow}
+use Rattle.windows.proofs.PartRuns.{same_own, one_step_run}
 use Rattle.windows.specs.Handling.{Handles, WearsReceiver, Advances, made_of, members_after}
-
--- ---- the numbers of a part's members stay
-
-same_number : (a b : ℕ) → eq_by_cmp nat_cmp a b ≡ true → a ≡ b
-same_number a b e = eqb-true a b (sym (unsigned_tied a b) ∙ e)
-
-there_again : {S : Type 0} (members : FinMap nat_cmp S) (m q : ℕ) (t u : S) (b : Bool) → get members m ≡ Some t → eq_by_cmp nat_cmp q m ≡ b → is_some (cond b (Some u) (get members q)) ≡ is_some (get members q)
-there_again members m q t u true here e = sym (ap is_some (ap (get members) (same_number q m e) ∙ here))
-there_again members m q t u false here e = refl
-
--- to write a member anew leaves the numbers of members
-pub same_own : {S : Type 0} (members : FinMap nat_cmp S) (m : ℕ) (t u : S) → get members m ≡ Some t → (q : ℕ) → contains_key (insert members m u) q ≡ contains_key members q
-same_own members m t u here q = ap is_some (get-insert nat_cmp_total members m u q) ∙ there_again members m q t u (eq_by_cmp nat_cmp q m) here refl
 
 module _ (s : Setup) (event : Event) (members : FinMap nat_cmp State) where
   own_either : (o : Option State) → get members event.key.to ≡ o → (q : ℕ) → contains_key (members_after members event (option_map (step s event.key event.content) o)) q ≡ contains_key members q
@@ -106,7 +91,7 @@ module _ (s : Setup) (bound : ℕ) (p : World State Content) (event : Event) (fi
         out = for_others (is_own p) o.events;
         rows = o.rows;
         world = after;
-        reached = (after, for_others (is_own p) o.events, [], o.rows, [], next, (refl, refl, refl), sym (append-nil (for_others (is_own p) o.events)), sym (append-nil o.rows));
+        reached = one_step_run (step s) (is_own p) bound p after (for_others (is_own p) o.events) o.rows event.key next;
         number = event.key.to;
         member = o.state;
         there = get-insert nat_cmp_total p.members event.key.to o.state event.key.to ∙ ap (λ r. cond (is_eq r) (Some o.state) (get p.members event.key.to)) (tied_itself nat_cmp_total event.key.to);

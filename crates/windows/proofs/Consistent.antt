@@ -1,11 +1,13 @@
 -- A window leaves a part as a run does: its members are the scenario's, and so is all that pends.
-use Rattle.std.proofs.Common.{◌≡◌, ◌≢◌, ℕ, ◌+◌, ◌<◌, ◌≤◌, ◌^◌, Bool, true, false, cond, List, [], ◌∷◌, ◌++◌, length, Option, Some, None, append-nil, ap, ◌∙◌, sym, subst, refl, arith}
+use Rattle.std.proofs.Common.{◌≡◌, ◌≢◌, ℕ, ◌+◌, ◌<◌, ◌≤◌, Bool, true, false, cond, List, [], ◌∷◌, Option, Some, None, append-nil, ap, ◌∙◌, sym, subst, refl, arith}
 use Rattle.std.specs.Option.{is_some, option_map, option_map_or}
 use Rattle.std.specs.List.{AllByRecursion}
 use Rattle.std.specs.Ordering.{nat_cmp, eq_by_cmp}
 use Rattle.std.specs.Cmp.{nat_cmp_total, unsigned_tied}
-use Rattle.std.specs.FinMap.{FinMap, get, contains_key, insert, remove, get-insert}
-use Rattle.std.proofs.lemmas.Bool.{false≢true, eqb-true, eq-eqb}
+use Rattle.std.specs.FinMap.{FinMap, get, contains_key, remove, get-insert}
+use Rattle.std.proofs.lemmas.Bool.{false≢true, eq-eqb}
+use Rattle.std.proofs.lemmas.Map.Lookups.{exact_unsigned}
+use Rattle.std.proofs.lemmas.Map.Views.{tells_apart}
 use Rattle.std.proofs.lemmas.Option.{same_Some}
 use Rattle.base.specs.declared.key.Key.{Key}
 use Rattle.base.specs.Order.{key_cmp}
@@ -14,7 +16,7 @@ use Rattle.base.specs.Run.{contains-remove, holds-with_events}
 use Rattle.base.specs.Rising.{IsRising, AreNew}
 use Rattle.base.proofs.Rising.{all_weaker}
 use Rattle.incarnation.specs.declared.Claim.{Claim}
-use Rattle.scenario.specs.Setup.{Setup, IsSound, member_count}
+use Rattle.scenario.specs.Setup.{Setup, IsSound}
 use Rattle.links.specs.declared.table.Links.{Links}
 use Rattle.links.specs.Arrival.{AreLinksOf}
 use Rattle.trace.specs.declared.row.Row.{Row}
@@ -26,7 +28,7 @@ use Rattle.member.proofs.Fair.{steps_numbered}
 use Rattle.member_laws.specs.Words.{IsConsistent, IsAmongMembers, is_live}
 use Rattle.member_laws.proofs.Carried.{all_filter}
 use Rattle.member_laws.proofs.Reached.{IsMember, kept_step}
-use Rattle.member_laws.proofs.Runs.{IsKept, run_kept}
+use Rattle.member_laws.proofs.Runs.{run_kept}
 use Rattle.windows.specs.Parts.{PartStep, PartRun, for_own, kept_by}
 use Rattle.windows.specs.Window.{IsConsistentPart}
 use Rattle.windows.proofs.PartRuns.{Kept, next_of}
@@ -50,9 +52,6 @@ event_here s l bound k c sound links in_time early among =
 -- the sender, where it is one of the part, has used the number
 abbrev Numbered : World State Content → Key → Type 0
 Numbered p q = (t : State) → get p.members q.from ≡ Some t → q.number < t.next_number
-
-same_number : (a b : ℕ) → eq_by_cmp nat_cmp a b ≡ true → a ≡ b
-same_number a b e = eqb-true a b (sym (unsigned_tied a b) ∙ e)
 
 differ : (e f : Key × Content) → e.0.number < f.0.number → e.0 ≢ f.0
 differ e f h same = let n : e.0.number ≡ f.0.number = ap (λ (q : Key). q.number) same in omega arith
@@ -90,7 +89,7 @@ module _ (s : Setup) (sound : IsSound s) (p : World State Content) (k : Key) (c 
 
       old_number : (q : Key) (b : Bool) (u : State) → eq_by_cmp nat_cmp q.from k.to ≡ b → Numbered p q → cond b (Some (step s k c t).state) (get p.members q.from) ≡ Some u → q.number < u.next_number
       old_number q true u e used here =
-          let low : q.number < t.next_number = used t (ap (get p.members) (same_number q.from k.to e) ∙ receiver) in
+          let low : q.number < t.next_number = used t (ap (get p.members) (tells_apart exact_unsigned q.from k.to e) ∙ receiver) in
           let grows = (steps_numbered s sound).grows k c t in
           let same : (step s k c t).state.next_number ≡ u.next_number = ap (λ (t : State). t.next_number) (same_Some (step s k c t).state u here) in
           omega arith

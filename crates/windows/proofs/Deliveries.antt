@@ -1,17 +1,16 @@
 -- An event is handled, and what is made of it is delivered.
-use Rattle.std.proofs.Common.{◌≡◌, ◌≢◌, ℕ, Bool, true, false, not, cond, List, [], ◌∷◌, ◌++◌, map, Option, Some, None, append_assoc, append-nil, ap, ◌∙◌, sym, subst, refl}
+use Rattle.std.proofs.Common.{◌≡◌, ◌≢◌, ℕ, Bool, true, false, not, cond, List, [], ◌∷◌, ◌++◌, map, Some, None, append_assoc, ap, ◌∙◌, sym, subst, refl}
 use Rattle.std.specs.Option.{is_some, option_map}
-use Rattle.std.specs.List.{AllByRecursion, filter}
+use Rattle.std.specs.List.{AllByRecursion}
 use Rattle.std.specs.Ordering.{nat_cmp, eq_by_cmp}
 use Rattle.std.specs.FinMap.{FinMap, get, empty, contains_key, insert, get-insert}
-use Rattle.std.proofs.lemmas.Bool.{false≢true}
 use Rattle.std.proofs.lemmas.List.{map-append}
 use Rattle.std.proofs.lemmas.List.Elements.{filter-append}
 use Rattle.member_laws.proofs.Carried.{all_filter}
-use Rattle.windows.specs.Swaps.{NoneIs}
+use Rattle.windows.proofs.Swaps.{NoneIs}
 use Rattle.windows.specs.View.{contents_in}
 use Rattle.windows.proofs.Maps.{contents_in-insert}
-use Rattle.windows.specs.Cuts.{joined_joined}
+use Rattle.windows.proofs.Cuts.{joined_joined}
 use Rattle.member.specs.declared.content.Content.{Content}
 use Rattle.base.specs.declared.key.Key.{Key}
 use Rattle.base.specs.Order.{key_cmp, key_total}

@@ -21,3 +21,5 @@ mod Deliveries
 mod PartRuns
 mod Consistent
 mod Advancing
+mod Reach
+mod PartWindows

@@ -1,10 +1,9 @@
 -- The world that a part stands for.
-use Rattle.std.specs.Prelude.{◌≡◌, ℕ, Bool, map}
+use Rattle.std.specs.Prelude.{ℕ, map}
 use Rattle.std.specs.Ordering.{nat_cmp}
 use Rattle.std.specs.BTreeMap.{BTreeMap}
-use Rattle.std.specs.FinMap.{FinMap, from_entries, entries, contains_key}
+use Rattle.std.specs.FinMap.{FinMap, from_entries, entries}
 use Rattle.std.specs.declared.cmp.Ordering.{Ordering}
-use Rattle.base.specs.declared.key.Key.{Key}
 use Rattle.base.specs.Order.{key_cmp}
 use Rattle.base.specs.World.{World}
 use Rattle.member.specs.declared.content.Content.{Content}

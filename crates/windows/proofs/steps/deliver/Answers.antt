@@ -1,7 +1,6 @@
-use Rattle.std.proofs.Common.{◌≡◌, ◌++◌, ◌∷◌, [], map, append_assoc, ap, ◌∙◌, sym, subst}
+use Rattle.std.proofs.Common.{◌≡◌, ◌++◌, ◌∷◌, [], map, append_assoc, ap, ◌∙◌, sym}
 use Rattle.std.specs.FinMap.{contains_key}
 use Rattle.std.proofs.lemmas.List.{map-append}
-use Rattle.base.specs.World.{with_events}
 use Rattle.member.specs.View.{pair_of}
 use Rattle.windows.specs.View.{states_in, contents_in}
 use Rattle.windows.proofs.Deliveries.{still_new, one_more_own, one_more_other}

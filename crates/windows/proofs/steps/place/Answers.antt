@@ -1,4 +1,4 @@
-use Rattle.std.proofs.Common.{◌≡◌, ◌∷◌, [], cond, OnOk, ap, ◌∙◌, sym, subst}
+use Rattle.std.proofs.Common.{◌≡◌, ◌∷◌, [], cond, OnOk, ◌∙◌, sym, subst}
 use Rattle.std.specs.FinMap.{contains_key}
 use Rattle.base.specs.World.{with_events}
 use Rattle.member.specs.View.{pair_of}
