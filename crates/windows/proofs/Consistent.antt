@@ -1,5 +1,5 @@
 -- A window leaves a part as a run does: its members are the scenario's, and so is all that pends.
-use Rattle.std.proofs.Common.{◌≡◌, ◌≢◌, ℕ, ◌+◌, ◌<◌, ◌≤◌, Bool, true, false, cond, List, [], ◌∷◌, Option, Some, None, append-nil, ap, ◌∙◌, sym, subst, refl, arith}
+use Rattle.std.proofs.Common.{◌≡◌, ◌≢◌, ℕ, ◌+◌, ◌<◌, ◌≤◌, Bool, true, false, not, cond, List, [], ◌∷◌, Option, Some, None, append-nil, ap, ◌∙◌, sym, subst, refl, arith}
 use Rattle.std.specs.Option.{is_some, option_map, option_map_or}
 use Rattle.std.specs.List.{AllByRecursion}
 use Rattle.std.specs.Ordering.{nat_cmp, eq_by_cmp}
@@ -14,7 +14,7 @@ use Rattle.base.specs.Order.{key_cmp}
 use Rattle.base.specs.World.{World, IsPending, settled, outcome, events_of, Run}
 use Rattle.base.specs.Run.{contains-remove, holds-with_events}
 use Rattle.base.specs.Rising.{IsRising, AreNew}
-use Rattle.base.proofs.Rising.{all_weaker}
+use Rattle.base.proofs.Rising.{all_append, all_weaker}
 use Rattle.incarnation.specs.declared.Claim.{Claim}
 use Rattle.scenario.specs.Setup.{Setup, IsSound}
 use Rattle.links.specs.declared.table.Links.{Links}
@@ -29,7 +29,7 @@ use Rattle.member_laws.specs.Words.{IsConsistent, IsAmongMembers, is_live}
 use Rattle.member_laws.proofs.Carried.{all_filter}
 use Rattle.member_laws.proofs.Reached.{IsMember, kept_step}
 use Rattle.member_laws.proofs.Runs.{run_kept}
-use Rattle.windows.specs.Parts.{PartStep, PartRun, for_own, kept_by}
+use Rattle.windows.specs.Parts.{PartStep, PartRun, for_own, for_others, kept_by}
 use Rattle.windows.specs.Window.{IsConsistentPart}
 use Rattle.windows.proofs.PartRuns.{Kept, next_of}
 
@@ -144,3 +144,21 @@ module _ (s : Setup) (sound : IsSound s) (owns : ℕ → Bool) (bound : ℕ) (in
   consistent_run [] p v out rows run before = subst (IsConsistentPart s) (sym run.0) before
   consistent_run (k ∷ ks) p v out rows run before =
       consistent_run ks run.0 v run.2 run.4 run.6 (consistent_step p run.0 k run.1 run.3 run.5 before)
+
+  sent_among : (p : World State Content) (k : Key) (c : Content) (o : Option State) → get p.members k.to ≡ o → k.at ≤ s.end → IsAmongMembers s k c → IsConsistentPart s p
+      → AllByRecursion (λ e. IsAmongMembers s e.0 e.1) (for_others owns (events_of (option_map (step s k c) o)))
+  sent_among p k c None none early among before = tt
+  sent_among p k c (Some t) here early among before =
+      all_filter (λ e. IsAmongMembers s e.0 e.1) (λ e. not (owns e.0.to)) (step s k c t).events (kept_step s sound k c t early among (before.members k.to t here)).1
+
+  -- and what it sends out is among members of the scenario
+  pub among_run : (ks : List Key) (p v : World State Content) (out : List (Key × Content)) (rows : List Row) → PartRun (step s) owns bound p ks out rows v → IsConsistentPart s p
+      → AllByRecursion (λ e. IsAmongMembers s e.0 e.1) out
+  among_run [] p v out rows run before = subst (AllByRecursion (λ e. IsAmongMembers s e.0 e.1)) (sym run.1) tt
+  among_run (k ∷ ks) p v out rows run before =
+      let is = run.5 in
+      let early : k.at ≤ s.end = omega (arith, is.early, in_time) in
+      let sent = subst (AllByRecursion (λ e. IsAmongMembers s e.0 e.1)) (sym is.sent)
+      (sent_among p k is.content (get p.members k.to) refl early (before.events k is.content is.here) before) in
+      let more = among_run ks run.0 v run.2 run.4 run.6 (consistent_step p run.0 k run.1 run.3 is before) in
+      subst (AllByRecursion (λ e. IsAmongMembers s e.0 e.1)) (sym run.7) (all_append (λ e. IsAmongMembers s e.0 e.1) run.1 run.2 sent more)

@@ -1,22 +1,25 @@
 -- The window of a part so far, and how it goes on: what the loop that runs it keeps.
-use Rattle.std.proofs.Common.{◌≡◌, ℕ, ◌+◌, ◌<◌, ◌≤◌, Bool, List, [], ◌∷◌, ◌++◌, map, ap, sym, subst, refl}
+use Rattle.std.proofs.Common.{◌≡◌, ℕ, ◌+◌, ◌<◌, ◌≤◌, Bool, List, [], ◌∷◌, ◌++◌, map, All, ap, sym, subst, refl}
+use Rattle.std.proofs.lemmas.List.Elements.{All-from_recursion}
 use Rattle.base.specs.declared.key.Key.{Key}
 use Rattle.base.specs.World.{World}
 use Rattle.base.specs.Run.{MakesLater}
 use Rattle.scenario.specs.Setup.{Setup, IsSound}
 use Rattle.member.specs.declared.content.Content.{Content}
+use Rattle.member.specs.declared.event.Event.{Event}
 use Rattle.member.specs.declared.event.Effects.{Effects}
 use Rattle.member.specs.State.{State}
 use Rattle.member.specs.Step.{step}
 use Rattle.member.specs.View.{pair_of}
+use Rattle.member_laws.specs.Words.{IsAmongMembers}
 use Rattle.worker_queue.specs.Queue.{NoneIsBelow}
 use Rattle.windows.specs.Parts.{PartRun}
 use Rattle.windows.specs.Window.{is_own, IsConsistentPart, IsWindow, TakeTheirLinks}
 use Rattle.windows.specs.Wears.{WearsInWindow}
 use Rattle.windows.specs.Handling.{Advances}
 use Rattle.windows.proofs.PartRuns.{own_run, runs_join, one_step_run, steps_left, fewer_left}
-use Rattle.windows.proofs.Consistent.{consistent_run}
-use Rattle.windows.proofs.Reach.{all_far}
+use Rattle.windows.proofs.Consistent.{consistent_run, among_run}
+use Rattle.windows.proofs.Reach.{all_far, of_pairs}
 
 -- how many events are left to handle, once the window of the part p has come here
 abbrev pub left_in : (s : Setup) → MakesLater (step s) → ℕ → World State Content → World State Content → ℕ
@@ -70,6 +73,12 @@ module _ (s : Setup) (bound : ℕ) (p v : World State Content) (so_far : Effects
   module _ (sound : IsSound s) where
     pub window_consistent : bound ≤ s.end + 1 → IsConsistentPart s p → IsConsistentPart s v
     window_consistent in_time before = consistent_run s sound (is_own p) bound in_time has.keys p v (map pair_of so_far.events.items) so_far.rows.items has.run before
+
+    pub window_among : bound ≤ s.end + 1 → IsConsistentPart s p → All (λ (e : Event). IsAmongMembers s e.key e.content) so_far.events.items
+    window_among in_time before =
+        All-from_recursion (λ (e : Event). IsAmongMembers s e.key e.content) so_far.events.items
+        (of_pairs (λ e. IsAmongMembers s e.0 e.1) so_far.events.items
+        (among_run s sound (is_own p) bound in_time has.keys p v (map pair_of so_far.events.items) so_far.rows.items has.run before))
 
     pub window_far : TakeTheirLinks s p so_far.events.items
     window_far = all_far s bound has.keys p v so_far.events.items so_far.rows.items sound has.run

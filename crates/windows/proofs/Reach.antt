@@ -26,7 +26,8 @@ both : {A : Type 0} (P Q : A → Type 0) (xs : List A) → AllByRecursion P xs �
 both P Q [] h g = tt
 both P Q (x ∷ xs) h g = ((h.0, g.0), both P Q xs h.1 g.1)
 
-of_pairs : (P : Key × Content → Type 0) (es : List Event) → AllByRecursion P (map pair_of es) → AllByRecursion (λ (e : Event). P (pair_of e)) es
+-- what holds of all as pairs, holds of all
+pub of_pairs : (P : Key × Content → Type 0) (es : List Event) → AllByRecursion P (map pair_of es) → AllByRecursion (λ (e : Event). P (pair_of e)) es
 of_pairs P [] all = tt
 of_pairs P (e ∷ es) all = (all.0, of_pairs P es all.1)
 

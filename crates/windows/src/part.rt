@@ -1,6 +1,8 @@
-ghost use Rattle.std.specs.Prelude.{◌≡◌, ◌+◌, ◌≤◌, IfOk, IsErrOf};
+ghost use Rattle.std.specs.Prelude.{◌≡◌, ◌+◌, ◌≤◌, All, IfOk, IsErrOf};
 ghost use Rattle.scenario.specs.Setup.{IsSound};
 ghost use Rattle.links.specs.Arrival.{AreLinksOf};
+ghost use Rattle.member.specs.declared.event.Event.{Event};
+ghost use Rattle.member_laws.specs.Words.{IsAmongMembers};
 ghost use Rattle.windows.specs.View.{world_of};
 ghost use Rattle.windows.specs.Window.{IsConsistentPart, IsWindow, TakeTheirLinks};
 ghost use Rattle.windows.specs.Wears.{WearsInWindow};
@@ -60,7 +62,8 @@ impl<Q: EventQueue<Event> + Drop> Part<Q> {
         ensures number { IfOk result (λ done. done.part.number ≡ self.number) }
         ensures consistent { IfOk result (λ done. IsConsistentPart scenario.now (world_of Q.set done.part)) }
 
-        // No event that goes out comes sooner than its link lets it.
+        // What goes out is among the scenario's members, and no event of it comes sooner than its link lets it.
+        ensures among { IfOk result (λ done. All (λ (e : Event). IsAmongMembers scenario.now e.key e.content) done.out.items) }
         ensures far { IfOk result (λ done. TakeTheirLinks scenario.now (world_of Q.set self) done.out.items) }
 
         // No fault comes without its cause.

@@ -1,4 +1,4 @@
-ghost use Rattle.std.specs.Prelude.{◌≡◌, ◌+◌, ◌≤◌, ◌++◌, ◌∷◌, [], false, map, IfOk, OnOk, IsErrOf};
+ghost use Rattle.std.specs.Prelude.{◌≡◌, ◌+◌, ◌≤◌, ◌++◌, ◌∷◌, [], false, map, All, IfOk, OnOk, IsErrOf};
 ghost use Rattle.std.specs.Bool.{OnTrue, OnFalse};
 ghost use Rattle.std.specs.FinMap.{get, contains_key};
 ghost use Rattle.base.specs.World.{with_events};
@@ -7,7 +7,9 @@ ghost use Rattle.scenario.specs.Setup.{IsSound, member_count};
 ghost use Rattle.links.specs.Arrival.{AreLinksOf};
 ghost use Rattle.member.specs.Here.{IsHere, HoldsMembers, NamesMembers};
 ghost use Rattle.member.specs.State.{State};
+ghost use Rattle.member.specs.declared.event.Event.{Event};
 ghost use Rattle.member.specs.View.{pair_of};
+ghost use Rattle.member_laws.specs.Words.{IsAmongMembers};
 ghost use Rattle.windows.specs.Parts.{for_own, for_others};
 ghost use Rattle.windows.specs.View.{world_of, states_in, contents_in};
 ghost use Rattle.windows.specs.Window.{is_own, IsConsistentPart, IsWindow, TakeTheirLinks};
@@ -37,6 +39,7 @@ pub(crate) fn run_from<Q: EventQueue<Event> + Drop>(
         IfOk result (λ done. IsWindow setting.now.scenario.now setting.now.bound before done.out.items done.rows.items (world_of Q.set done.part)) }
     ensures number { IfOk result (λ done. done.part.number ≡ part.number) }
     ensures consistent { IfOk result (λ done. IsConsistentPart setting.now.scenario.now (world_of Q.set done.part)) }
+    ensures among { IfOk result (λ done. All (λ (e : Event). IsAmongMembers setting.now.scenario.now e.key e.content) done.out.items) }
     ensures far { IfOk result (λ done. TakeTheirLinks setting.now.scenario.now (world_of Q.set part) done.out.items) }
     ensures worn { IsErrOf result StepError.Worn → WearsInWindow setting.now.scenario.now setting.now.bound (world_of Q.set part) }
 {

@@ -1,12 +1,14 @@
-use Rattle.std.proofs.Common.{◌≡◌, Bool, Err, ap, ◌∙◌, sym, subst}
+use Rattle.std.proofs.Common.{◌≡◌, Bool, All, Err, ap, ◌∙◌, sym, subst}
 use Rattle.std.specs.Bool.{OnTrue, OnFalse}
+use Rattle.member.specs.declared.event.Event.{Event}
 use Rattle.member.specs.declared.event.Effects.{Effects}
+use Rattle.member_laws.specs.Words.{IsAmongMembers}
 use Rattle.member.specs.declared.turn.StepError.TheVariants.{Worn}
 use Rattle.worker_queue.specs.Queue.{NoneIsBelow}
 use Rattle.windows.specs.View.{world_of}
 use Rattle.windows.specs.Window.{is_own, IsConsistentPart, TakeTheirLinks}
 use Rattle.windows.specs.Handling.{Advances}
-use Rattle.windows.proofs.PartWindows.{IsWindowSoFar, one_more, fewer, window_wears, window_consistent, window_far, window_over}
+use Rattle.windows.proofs.PartWindows.{IsWindowSoFar, one_more, fewer, window_wears, window_consistent, window_among, window_far, window_over}
 use Rattle.windows.proofs.steps.run_from.Goals as goal
 
 pub advance-requires-clause-consistent : goal.advance-requires-clause-consistent
@@ -57,6 +59,14 @@ returns-in-Ok-false-clause-consistent g c =
     let same = subst (λ (b : Bool). OnFalse b (after ≡ before)) c.in-Ok-false.field-0-test c.in-Ok-false.ensures.same in
     subst (IsConsistentPart s) (sym same)
     (window_consistent s c.args.setting.now.bound (world_of g.Q.EventQueue.set c.args.part) before c.loop-out.made c.loop-out.invariant.window c.requires.sound c.requires.in_time c.requires.consistent)
+
+pub returns-in-Ok-false-clause-among : goal.returns-in-Ok-false-clause-among
+returns-in-Ok-false-clause-among g c =
+    let s = c.args.setting.now.scenario.now in
+    let none = subst (λ (b : Bool). OnFalse b (c.advance.new.out ≡ c.loop-out.made)) c.in-Ok-false.field-0-test c.in-Ok-false.ensures.none in
+    subst (λ (out : Effects). All (λ (e : Event). IsAmongMembers s e.key e.content) out.events.items) (sym none)
+    (window_among s c.args.setting.now.bound (world_of g.Q.EventQueue.set c.args.part) (world_of g.Q.EventQueue.set c.loop-out.part) c.loop-out.made c.loop-out.invariant.window c.requires.sound c.requires.in_time
+    c.requires.consistent)
 
 pub returns-in-Ok-false-clause-far : goal.returns-in-Ok-false-clause-far
 returns-in-Ok-false-clause-far g c =
