@@ -18,7 +18,7 @@ use Rattle.member.specs.Step.{step}
 use Rattle.member.specs.View.{pair_of}
 use Rattle.member.proofs.Fair.{steps_later, steps_linked, steps_numbered}
 use Rattle.windows.specs.Parts.{PartStep, PartRun, for_others}
-use Rattle.windows.specs.Cuts.{all_kept}
+use Rattle.windows.proofs.Cuts.{all_kept}
 use Rattle.windows.specs.Window.{is_own, TakeTheirLinks}
 use Rattle.windows.proofs.PartRuns.{Kept, kept_later, next_of, own_step}
 
