@@ -170,7 +170,8 @@ module _ {S C R : Type 0} (next : S → ℕ) (step : Machine S C R) (numbers : U
       unlike_each_other = rising_weaker (λ e f. e.0.number < f.0.number) (λ e f. e.0 ≢ f.0) differ (step k c s).events (numbers.apart k c s);
     }
 
-  numbered_settled : (w : World S C) (k : Key) (c : C) (o : Option S) → get w.members k.to ≡ o → IsNumbered next w → IsNumbered next (settled w k (option_map (step k c) o))
+  -- whichever event is handled
+  pub numbered_settled : (w : World S C) (k : Key) (c : C) (o : Option S) → get w.members k.to ≡ o → IsNumbered next w → IsNumbered next (settled w k (option_map (step k c) o))
   numbered_settled w k c None receiver all q here = all q (contains-remove w.pending k q here).0
   numbered_settled w k c (Some s) receiver all q here = numbered_after w k c s receiver all q here
 

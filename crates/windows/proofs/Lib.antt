@@ -16,6 +16,7 @@ pub mod Clear
 pub mod Bounds
 pub mod Horizons
 pub mod Order
+pub mod Numbers
 mod Maps
 mod Deliveries
 mod PartRuns

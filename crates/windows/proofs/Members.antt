@@ -3,12 +3,13 @@ use Rattle.std.proofs.Common.{◌≡◌, ℕ, ◌+◌, ◌<◌, ◌≤◌, Bool,
 use Rattle.std.specs.Option.{IfSome, is_some, option_map}
 use Rattle.std.specs.List.{AllByRecursion}
 use Rattle.std.specs.List.Sorted.{IsPermutation, IsSorted}
-use Rattle.std.specs.FinMap.{get}
+use Rattle.std.specs.FinMap.{get, remove}
 use Rattle.std.specs.declared.cmp.Ordering.{Ordering}
 use Rattle.std.proofs.lemmas.Bool.{false≢true}
 use Rattle.std.proofs.lemmas.List.Elements.{recursion_from_All, All-from_recursion}
 use Rattle.base.specs.declared.key.Key.{Key}
 use Rattle.base.specs.World.{IsPending, IsOver, Run, settled, outcome, events_of}
+use Rattle.base.specs.Rising.{AreNew}
 use Rattle.base.proofs.Rising.{all_weaker}
 use Rattle.scenario.specs.Setup.{Setup, IsSound, member_count}
 use Rattle.trace.specs.declared.row.Row.{Row}
@@ -17,21 +18,23 @@ use Rattle.member.specs.State.{State}
 use Rattle.member.specs.Opening.{opening}
 use Rattle.member.specs.Places.{place_of}
 use Rattle.member.specs.Step.{step}
-use Rattle.member.proofs.Fair.{fair_step, steps_later, steps_linked, steps_counted}
+use Rattle.member.proofs.Fair.{fair_step, steps_later, steps_linked, steps_counted, steps_numbered}
 use Rattle.member_laws.specs.Words.{IsConsistent, IsAmongMembers}
 use Rattle.member_laws.specs.Runs.{Cluster, IsSoundCluster}
 use Rattle.member_laws.proofs.Consistency.{step_consistent}
 use Rattle.member_laws.proofs.Reached.{step_among, consistent_reached, pending_among}
 use Rattle.member_laws.proofs.Runs.{kept_after}
 use Rattle.windows.specs.Delays.{SendsAsItself, KeepsDelays, ComesFar, KeepsFar, IsNoMore}
+use Rattle.windows.specs.Safe.{IsSafe}
 use Rattle.windows.specs.Schedule.{CatchesUp, MeetsState, rows_by}
-use Rattle.windows.specs.Parts.{Window, IsCommonBound, AreWindows, StandsAfter, HasWindow, PartRun, is_in, part_of, all_keys, all_rows}
-use Rattle.windows.specs.Cluster.{link_delay, IsLeastDelay, SafeStep, SafeSchedule, IsRunFrom, IsRowOrder, IsWhole, whose}
+use Rattle.windows.specs.Parts.{Window, IsCommonBound, AreWindows, StandsAfter, HasWindow, PartRun, for_own, is_in, part_of, all_keys, all_rows}
+use Rattle.windows.specs.Cluster.{UsesUpTo, link_delay, IsLeastDelay, SafeStep, SafeSchedule, IsRunFrom, IsRowOrder, IsWhole, whose}
 use Rattle.windows.proofs.Far.{far_made}
+use Rattle.windows.proofs.Numbers.{numbered_schedule}
 use Rattle.windows.proofs.Outs.{out_late, run_is_schedule}
 use Rattle.windows.proofs.Released.{tells_receiver}
 use Rattle.windows.proofs.Division.{stands_once}
-use Rattle.windows.proofs.Schedules.{safe_early, schedule_kept, safe_keys, safe_rows, safe_rows_by, safe_released, safe_trace, safe_met, part_met, windows_lead, windows_released}
+use Rattle.windows.proofs.Schedules.{safe_early, schedule_kept, safe_keys, safe_rows, safe_rows_by, safe_released, safe_trace, safe_met, part_met, part_new, windows_lead, windows_released}
 
 module _ (s : Setup) (sound : IsSound s) where
   pub sends_as_itself : SendsAsItself (step s)
@@ -120,6 +123,18 @@ pub met_in_part : (s : Setup) (least_delay : Option ℕ) (division : ℕ → ℕ
     → PartRun (step s) (is_in division part) bound (part_of (is_in division part) w) keys out rows after → get after.members m ≡ Some t → MeetsState (step s) s.end w m t
 met_in_part s d division part bound w after keys out rows m t sound least fact common run there =
     part_met (step s) (steps_later s sound) (sends_as_itself s sound) s.end d (IsSoundCluster s) (sound_keeps s sound d least) division part bound w after keys out rows m t (fact, common) run there
+
+pub numbered_here : (s : Setup) (least_delay : Option ℕ) (w v : Cluster) (keys : List Key) (rows : List Row) → IsSound s → UsesUpTo w → SafeSchedule s least_delay w keys rows v → UsesUpTo v
+numbered_here s d w v keys rows sound numbered is =
+    numbered_schedule (λ (t : State). t.next_number) (step s) (steps_numbered s sound) (IsSafe s.end d) keys w v rows numbered is
+
+pub new_here : (s : Setup) (least_delay : Option ℕ) (division : ℕ → ℕ) (part bound : ℕ) (w p : Cluster) (keys : List Key) (out : List (Key × Content)) (rows : List Row) (k : Key) (c : Content)
+    → IsSound s → IsLeastDelay s least_delay → IsSoundCluster s w → UsesUpTo w → IsCommonBound s.end least_delay w bound
+    → PartRun (step s) (is_in division part) bound (part_of (is_in division part) w) keys out rows p → get p.pending k ≡ Some c
+    → AreNew (remove p.pending k) (for_own (is_in division part) (events_of (outcome (step s) p k c)))
+new_here s d division part bound w p keys out rows k c sound least fact numbered common run here =
+    part_new (step s) (steps_later s sound) (sends_as_itself s sound) s.end d (IsSoundCluster s) (sound_keeps s sound d least)
+    (λ (t : State). t.next_number) (steps_numbered s sound) division part bound w p keys out rows k c (fact, common) numbered run here
 
 pub sent_late : (s : Setup) (owns : ℕ → Bool) (bound from : ℕ) (p after : Cluster) (keys : List Key) (out : List (Key × Content)) (rows : List Row) → IsSound s
     → ((q : Key) → IsPending p q → (owns q.to ≡ true) × (from ≤ q.at)) → PartRun (step s) owns bound p keys out rows after

@@ -1,22 +1,26 @@
 -- Schedules of safe steps and windows against the run, over any machine.
-use Rattle.std.proofs.Common.{◌≡◌, ℕ, ◌<◌, ◌≤◌, cond, List, [], ◌∷◌, ◌++◌, Option, Some, None, ap, ◌∙◌, sym, subst, refl}
+use Rattle.std.proofs.Common.{◌≡◌, ℕ, ◌<◌, ◌≤◌, Bool, true, cond, List, [], ◌∷◌, ◌++◌, Option, Some, None, ap, ◌∙◌, sym, subst, refl}
+use Rattle.std.specs.Option.{option_map}
 use Rattle.std.specs.List.{AllByRecursion}
 use Rattle.std.specs.List.Sorted.{IsPermutation, IsSorted}
 use Rattle.std.specs.Cmp.{IsTotalOrder, nat_cmp_total}
-use Rattle.std.specs.FinMap.{get, nat_cmp-IsAntisymmetric}
+use Rattle.std.specs.FinMap.{get, remove, nat_cmp-IsAntisymmetric}
 use Rattle.std.specs.declared.cmp.Ordering.{Ordering}
 use Rattle.std.specs.declared.cmp.Ordering.TheVariants.{Less}
 use Rattle.base.specs.declared.key.Key.{Key}
-use Rattle.base.specs.World.{Machine, World, settled, outcome, IsPending, IsOver, SequentialRun}
+use Rattle.base.specs.World.{Machine, World, events_of, settled, outcome, IsPending, IsOver, SequentialRun}
 use Rattle.base.specs.Run.{MakesLater, handled, trace, trace-run}
-use Rattle.base.specs.Rising.{IsPlaceBefore, CountsRows}
+use Rattle.base.specs.Order.{key_total, key_exact}
+use Rattle.base.specs.Rising.{IsPlaceBefore, CountsRows, UsesNumbers, IsNumbered, AreNew}
+use Rattle.base.proofs.Rising.{new_step}
 use Rattle.windows.specs.Delays.{SendsAsItself, KeepsFar}
 use Rattle.windows.specs.Safe.{IsSafe, IsSafeIn}
 use Rattle.windows.specs.Schedule.{TestedStep, Schedule, CatchesUp, MeetsState, TellsWhose, rows_by}
-use Rattle.windows.specs.Parts.{Window, IsReady, PartRun, part_of, is_in, all_keys, all_rows, AreWindows, StandsAfter, HasWindow}
+use Rattle.windows.specs.Parts.{Window, IsReady, for_own, PartRun, part_of, is_in, all_keys, all_rows, AreWindows, StandsAfter, HasWindow}
 use Rattle.windows.proofs.Early.{early_step}
 use Rattle.windows.proofs.States.{met_by_schedule, met_after}
 use Rattle.windows.proofs.Cuts.{get_retained}
+use Rattle.windows.proofs.Numbers.{numbered_schedule, new_in_part}
 use Rattle.windows.proofs.Bounds.{common_offers}
 use Rattle.windows.proofs.Windows.{kept_value, leads}
 use Rattle.windows.proofs.Safety.{safe_offers}
@@ -102,6 +106,25 @@ module _ {S C R : Type 0} (step : Machine S C R) (later : MakesLater step) (own 
       sym (get_retained nat_cmp_total nat_cmp-IsAntisymmetric (is_in division part) led.world.members m) ∙ ap (λ (u : World S C). get u.members m) led.cut ∙ there in
       met_after step later own end (IsSafeIn end least_delay Fact) (safe_offers step later end least_delay Fact keeps) ks w led.world rows m state led.schedule
       (kept_value (get led.world.members m) state (is_in division part m) (is_in division part m) refl kept).1
+
+  -- and the events that such a part makes for its own members are new in it
+  pub part_new : (next : S → ℕ) → UsesNumbers next step → (division : ℕ → ℕ) (part bound : ℕ) (w p : World S C) (ks : List Key) (out : List (Key × C)) (rows : List R) (k : Key) (c : C)
+      → IsReady end least_delay Fact bound w → IsNumbered next w → PartRun step (is_in division part) bound (part_of (is_in division part) w) ks out rows p → get p.pending k ≡ Some c
+      → AreNew (remove p.pending k) (for_own (is_in division part) (events_of (outcome step p k c)))
+  part_new next numbers division part bound w p ks out rows k c ready numbered run here =
+      let owns : ℕ → Bool = is_in division part in
+      let led = leads step own division (λ n. bound) (IsSafeIn end least_delay Fact) (IsReady end least_delay Fact bound) (common_offers step later end least_delay Fact keeps bound division)
+      part [] tt tt ks w (part_of owns w) p out rows ready refl run in
+      let mine : owns k.to ≡ true =
+      (kept_value (get led.world.pending k) c (owns k.to) (owns k.to) refl
+      (sym (get_retained key_total key_exact (λ q. owns q.to) led.world.pending k) ∙ ap (λ (u : World S C). get u.pending k) led.cut ∙ here)).0 in
+      let same : outcome step led.world k c ≡ outcome step p k c =
+      ap (option_map (step k c))
+      (ap (λ b. cond b (get led.world.members k.to) None) (sym mine)
+      ∙ sym (get_retained nat_cmp_total nat_cmp-IsAntisymmetric owns led.world.members k.to) ∙ ap (λ (u : World S C). get u.members k.to) led.cut) in
+      new_in_part owns led.world p k (events_of (outcome step p k c)) led.cut mine
+      (subst (λ o. AreNew (remove led.world.pending k) (events_of o)) same
+      (new_step next step numbers led.world k c (numbered_schedule next step numbers (IsSafeIn end least_delay Fact) ks w led.world rows numbered led.schedule)))
 
   -- the rows of a schedule to the end, sorted, are the run's
   module _ (place : R → Key × ℕ) (counts : CountsRows place step) (cmp : R → R → Ordering) (total : IsTotalOrder cmp) (agrees : (a b : R) → IsPlaceBefore (place a) (place b) → cmp a b ≡ Less) where

@@ -5,7 +5,7 @@ use Rattle.std.specs.declared.cmp.Ordering.{Ordering}
 use Rattle.std.specs.declared.cmp.Ordering.TheVariants.{Less}
 use Rattle.base.specs.declared.key.Key.{Key}
 use Rattle.base.specs.World.{SequentialRun}
-use Rattle.base.specs.Rising.{IsPlaceBefore}
+use Rattle.base.specs.Rising.{IsPlaceBefore, IsNumbered}
 use Rattle.scenario.specs.Setup.{Setup, member_count, link_between}
 use Rattle.trace.specs.declared.row.Row.{Row}
 use Rattle.links.specs.Least.{IsReached, IsNoGreater}
@@ -26,6 +26,10 @@ link_delay s i j = (link_between s i j).delay
 abbrev pub IsLeastDelay : Setup → Option ℕ → Type 0
 IsLeastDelay s None = member_count s ≡ 1
 IsLeastDelay s (Some d) = IsReached (link_delay s) (member_count s) d × IsNoGreater (link_delay s) (member_count s) d
+
+-- each event that pends has a number that its sender has used
+abbrev pub UsesUpTo : Cluster → Type 0
+UsesUpTo = IsNumbered (λ (t : State). t.next_number)
 
 -- one safe event of the cluster is handled
 abbrev pub SafeStep : Setup → Option ℕ → Cluster → Key → Cluster → List Row → Type 0

@@ -2,10 +2,11 @@
 
 ghost use Rattle.std.specs.Prelude.{◌≡◌, ◌+◌, ◌<◌, ◌≤◌, ◌++◌, ℕ, Bool, true, List, Option, Some, All};
 ghost use Rattle.std.specs.List.Sorted.{IsPermutation, IsSorted};
-ghost use Rattle.std.specs.FinMap.{get};
+ghost use Rattle.std.specs.FinMap.{get, remove};
 ghost use Rattle.std.specs.declared.cmp.Ordering.{Ordering};
 ghost use Rattle.base.specs.declared.key.Key.{Key};
-ghost use Rattle.base.specs.World.{IsPending, IsOver, Run};
+ghost use Rattle.base.specs.World.{IsPending, IsOver, Run, events_of, outcome};
+ghost use Rattle.base.specs.Rising.{AreNew};
 ghost use Rattle.scenario.specs.Setup.{Setup, IsSound};
 ghost use Rattle.trace.specs.declared.row.Row.{Row};
 ghost use Rattle.member.specs.declared.content.Content.{Content};
@@ -14,9 +15,9 @@ ghost use Rattle.member.specs.Opening.{opening};
 ghost use Rattle.member.specs.Step.{step};
 ghost use Rattle.member_laws.specs.Runs.{Cluster, IsSoundCluster};
 ghost use Rattle.windows.specs.Schedule.{TestedStep, Schedule, CatchesUp, MeetsState, rows_by};
-ghost use Rattle.windows.specs.Parts.{Window, IsCommonBound, AreWindows, PartRun, StandsAfter, is_in, part_of, all_keys, all_rows};
+ghost use Rattle.windows.specs.Parts.{Window, IsCommonBound, AreWindows, PartRun, StandsAfter, is_in, part_of, for_own, all_keys, all_rows};
 ghost use Rattle.windows.specs.Horizon.{AreHorizons};
-ghost use Rattle.windows.specs.Cluster.{IsPeopled, LiesBetween, IsClearOf, link_delay, IsLeastDelay, SafeStep, SafeSchedule, IsRunFrom, IsRowOrder, IsWhole, whose};
+ghost use Rattle.windows.specs.Cluster.{UsesUpTo, IsPeopled, LiesBetween, IsClearOf, link_delay, IsLeastDelay, SafeStep, SafeSchedule, IsRunFrom, IsRowOrder, IsWhole, whose};
 
 use trace::Row;
 
@@ -91,6 +92,18 @@ pub fn the_rows_before_a_bound_are_next()
         → SafeSchedule s least_delay w keys rows v → All (λ (k : Key). k.at < bound) keys → ((q : Key) → IsPending v q → bound ≤ q.at)
         → IsRunFrom s w run_keys run → IsRunFrom s v left_keys left
         → IsPermutation rows sorted → IsSorted cmp sorted → run ≡ sorted ++ left }
+{}
+
+/// No event made takes the place of another, also in a schedule and in a part: each that pends has a
+/// number that its sender has used, and what a step of a part makes for the part is new there.
+pub fn events_stay_new()
+    ensures numbers { (s : Setup) (least_delay : Option ℕ) (w v : Cluster) (keys : List Key) (rows : List Row)
+        → IsSound s → UsesUpTo w → SafeSchedule s least_delay w keys rows v → UsesUpTo v }
+    ensures part { (s : Setup) (least_delay : Option ℕ) (division : ℕ → ℕ) (part bound : ℕ) (w p : Cluster) (keys : List Key)
+        (out : List (Key × Content)) (rows : List Row) (k : Key) (c : Content)
+        → IsSound s → IsLeastDelay s least_delay → IsSoundCluster s w → UsesUpTo w → IsCommonBound s.end least_delay w bound
+        → PartRun (step s) (is_in division part) bound (part_of (is_in division part) w) keys out rows p → get p.pending k ≡ Some c
+        → AreNew (remove p.pending k) (for_own (is_in division part) (events_of (outcome (step s) p k c))) }
 {}
 
 /// What a part sends out comes at least its pair's delay after any moment before which nothing pends in
