@@ -1,85 +1,40 @@
 -- A queue of events as the pending events of a world.
 use Rattle.std.proofs.Common.{◌≡◌, ◌≢◌, ℕ, ◌+◌, ◌<◌, ◌≤◌, Bool, true, false, cond, List, [], ◌∷◌, ◌++◌, Option, Some, None, IfSome, IfNone, map, ap, ◌∙◌, sym, refl, arith}
-use Rattle.std.specs.Option.{option_map, is_some}
 use Rattle.std.specs.List.{AllByRecursion}
-use Rattle.std.specs.Ordering.{eq_by_cmp}
-use Rattle.std.specs.FinMap.{FinMap, get, insert, remove, empty, entries, find, contains_key, get-entries, get-from_entries, get-insert, get-remove, get-empty, same_map}
+use Rattle.std.specs.FinMap.{FinMap, insert, remove, contains_key}
 use Rattle.std.proofs.lemmas.Bool.{false≢true}
 use Rattle.base.specs.declared.key.Key.{Key}
-use Rattle.base.specs.Order.{key_cmp, key_total, key_exact}
+use Rattle.base.specs.Order.{key_cmp}
 use Rattle.base.specs.World.{with_events}
 use Rattle.base.specs.Rising.{IsRising, AreNew}
 use Rattle.base.specs.Run.{IsFirst, holds-with_events}
 use Rattle.worker_queue.specs.Queue.{NoneIsBelow}
 use Rattle.member.specs.declared.content.Content.{Content}
 use Rattle.member.specs.declared.event.Event.{Event}
-use Rattle.exchange.specs.View.{contents_of, NoneIsDue}
-
-abbrev content_of : Event → Content
-content_of event = event.content
-
-abbrev entry_of : Key × Event → Key × Content
-entry_of e = (e.0, e.1.content)
-
-mapped : (b : Bool) (now before : Option Event) → option_map content_of (cond b now before) ≡ cond b (option_map content_of now) (option_map content_of before)
-mapped true now before = refl
-mapped false now before = refl
-
-find-contents : (es : List (Key × Event)) (q : Key) → find key_cmp q (map entry_of es) ≡ option_map content_of (find key_cmp q es)
-find-contents [] q = refl
-find-contents (e ∷ es) q = ap (cond (eq_by_cmp key_cmp q e.0) (Some e.1.content)) (find-contents es q) ∙ sym (mapped (eq_by_cmp key_cmp q e.0) (Some e.1) (find key_cmp q es))
-
-some_mapped : (o : Option Event) → is_some (option_map content_of o) ≡ is_some o
-some_mapped None = refl
-some_mapped (Some event) = refl
-
-module _ (events : FinMap key_cmp Event) where
-  get-contents_of : (q : Key) → get (contents_of events) q ≡ option_map content_of (get events q)
-  get-contents_of q = get-from_entries key_total (map entry_of (entries events)) q ∙ find-contents (entries events) q ∙ ap (option_map content_of) (sym (get-entries events q))
-
-  contains-contents_of : (q : Key) → contains_key (contents_of events) q ≡ contains_key events q
-  contains-contents_of q = ap is_some (get-contents_of q) ∙ some_mapped (get events q)
-
-pub contents_of-empty : contents_of empty ≡ empty
-contents_of-empty = same_map key_total key_exact _ _ (λ q. get-contents_of empty q ∙ ap (option_map content_of) (get-empty key_cmp q) ∙ sym (get-empty key_cmp q))
-
-contents_of-insert : (events : FinMap key_cmp Event) (k : Key) (event : Event) → contents_of (insert events k event) ≡ insert (contents_of events) k event.content
-contents_of-insert events k event =
-    same_map key_total key_exact _ _ (λ q.
-    get-contents_of (insert events k event) q ∙ ap (option_map content_of) (get-insert key_total events k event q)
-    ∙ mapped (eq_by_cmp key_cmp q k) (Some event) (get events q) ∙ ap (cond (eq_by_cmp key_cmp q k) (Some event.content)) (sym (get-contents_of events q))
-    ∙ sym (get-insert key_total (contents_of events) k event.content q))
-
-contents_of-remove : (events : FinMap key_cmp Event) (k : Key) → contents_of (remove events k) ≡ remove (contents_of events) k
-contents_of-remove events k =
-    same_map key_total key_exact _ _ (λ q.
-    get-contents_of (remove events k) q ∙ ap (option_map content_of) (get-remove key_total events k q)
-    ∙ mapped (eq_by_cmp key_cmp q k) None (get events q) ∙ ap (cond (eq_by_cmp key_cmp q k) None) (sym (get-contents_of events q))
-    ∙ sym (get-remove key_total (contents_of events) k q))
+use Rattle.windows.specs.View.{contents_in}
+use Rattle.windows.proofs.Maps.{still_pending, contents_in-insert, contents_in-remove, first_content}
+use Rattle.exchange.specs.View.{NoneIsDue}
 
 module _ (before after : FinMap key_cmp Event) where
   -- what a push and a pop make of the contents
-  pub pushed : (event : Event) → after ≡ insert before event.key event → contents_of after ≡ insert (contents_of before) event.key event.content
-  pushed event is = ap contents_of is ∙ contents_of-insert before event.key event
+  pub pushed : (event : Event) → after ≡ insert before event.key event → contents_in after ≡ insert (contents_in before) event.key event.content
+  pushed event is = ap contents_in is ∙ contents_in-insert before event.key event
 
-  pub popped : (o : Option Event) → IfSome o (λ event. after ≡ remove before event.key) → IfSome o (λ event. contents_of after ≡ remove (contents_of before) event.key)
+  pub popped : (o : Option Event) → IfSome o (λ event. after ≡ remove before event.key) → IfSome o (λ event. contents_in after ≡ remove (contents_in before) event.key)
   popped None is = tt
-  popped (Some event) is = ap contents_of is ∙ contents_of-remove before event.key
+  popped (Some event) is = ap contents_in is ∙ contents_in-remove before event.key
 
 module _ (events : FinMap key_cmp Event) where
-  pub still_absent : (k : Key) → contains_key (contents_of events) k ≡ false → contains_key events k ≡ false
-  still_absent k absent = sym (contains-contents_of events k) ∙ absent
+  pub still_absent : (k : Key) → contains_key (contents_in events) k ≡ false → contains_key events k ≡ false
+  still_absent k absent = sym (still_pending events k) ∙ absent
 
-  pub popped_first : (o : Option Event) → IfSome o (λ event. IsFirst events event.key event) → IfSome o (λ event. IsFirst (contents_of events) event.key event.content)
+  pub popped_first : (o : Option Event) → IfSome o (λ event. IsFirst events event.key event) → IfSome o (λ event. IsFirst (contents_in events) event.key event.content)
   popped_first None is = tt
-  popped_first (Some event) is = record {
-    here = get-contents_of events event.key ∙ ap (option_map content_of) is.here;
-    least = λ q there. is.least q (sym (contains-contents_of events q) ∙ there);
-  }
+  popped_first (Some event) is = first_content events event.key event is
 
   -- what lies below the moment after the end is due up to it
-  pub none_due : (o : Option Event) (bound end : ℕ) → bound ≡ end + 1 → IfNone o (NoneIsBelow events bound) → IfNone o (NoneIsDue (contents_of events) end)
-  none_due None bound end is none = λ q here. let late = none q (sym (contains-contents_of events q) ∙ here) in omega arith
+  pub none_due : (o : Option Event) (bound end : ℕ) → bound ≡ end + 1 → IfNone o (NoneIsBelow events bound) → IfNone o (NoneIsDue (contents_in events) end)
+  none_due None bound end is none = λ q here. let late = none q (sym (still_pending events q) ∙ here) in omega arith
   none_due (Some event) bound end is none = tt
 
 pub popped_due : (o : Option Event) (bound end : ℕ) → bound ≡ end + 1 → IfSome o (λ event. event.key.at < bound) → IfSome o (λ event. event.key.at ≤ end)

@@ -2,7 +2,7 @@
 use Rattle.std.specs.Prelude.{◌≡◌, ℕ, ◌<◌, true, List, map}
 use Rattle.std.specs.List.{enumerate_from}
 use Rattle.std.specs.Ordering.{nat_cmp}
-use Rattle.std.specs.FinMap.{FinMap, from_entries, entries, contains_key}
+use Rattle.std.specs.FinMap.{FinMap, from_entries, contains_key}
 use Rattle.base.specs.declared.key.Key.{Key}
 use Rattle.base.specs.Order.{key_cmp}
 use Rattle.base.specs.World.{World}
@@ -13,6 +13,7 @@ use Rattle.member.specs.declared.event.Event.{Event}
 use Rattle.member.specs.declared.member.Member.{Member}
 use Rattle.member.specs.State.{State}
 use Rattle.member.specs.View.{state_of}
+use Rattle.windows.specs.View.{contents_in}
 use Rattle.exchange.specs.declared.cluster.Cluster.{Cluster}
 
 -- states by their places
@@ -23,13 +24,9 @@ by_place states = from_entries (enumerate_from 0 states)
 abbrev pub members_of : List Member → FinMap nat_cmp State
 members_of ms = by_place (map state_of ms)
 
--- what the events of a set ask of their receivers, by their keys
-abbrev pub contents_of : FinMap key_cmp Event → FinMap key_cmp Content
-contents_of events = from_entries (map (λ e. (e.0, e.1.content)) (entries events))
-
 -- the pending events by their keys
 abbrev pub events_in : {keyed : _} → TreeQueue Event keyed → FinMap key_cmp Content
-events_in queue = contents_of (set_of queue)
+events_in queue = contents_in (set_of queue)
 
 -- none of these events is due up to the end
 abbrev pub NoneIsDue : FinMap key_cmp Content → ℕ → Type 0

@@ -17,7 +17,7 @@ pub mod Bounds
 pub mod Horizons
 pub mod Order
 pub mod Numbers
-mod Maps
+pub mod Maps
 mod Deliveries
 mod PartRuns
 mod Consistent

@@ -5,7 +5,7 @@ use Rattle.std.specs.Ordering.{nat_cmp, eq_by_cmp}
 use Rattle.std.specs.Cmp.{IsTotalOrder, nat_cmp_total}
 use Rattle.std.specs.declared.cmp.Ordering.{Ordering}
 use Rattle.std.specs.BTreeMap.{BTreeMap, is_at}
-use Rattle.std.specs.FinMap.{FinMap, IsAntisymmetric, nat_cmp-IsAntisymmetric, from_entries, entries, get, contains_key, insert, remove, find, get-from_entries, get-entries, get-insert, get-remove, same_map}
+use Rattle.std.specs.FinMap.{FinMap, IsAntisymmetric, nat_cmp-IsAntisymmetric, from_entries, entries, get, contains_key, insert, remove, find, get-from_entries, get-entries, empty, get-insert, get-remove, get-empty, same_map}
 use Rattle.base.specs.declared.key.Key.{Key}
 use Rattle.base.specs.Order.{key_cmp, key_total, key_exact}
 use Rattle.base.specs.Run.{IsFirst}
@@ -70,6 +70,9 @@ content_at events q = get_mapped (λ (e : Event). e.content) key_total events q
 
 pub still_pending : (events : FinMap key_cmp Event) (q : Key) → contains_key (contents_in events) q ≡ contains_key events q
 still_pending events q = ap is_some (content_at events q) ∙ still_there (λ (e : Event). e.content) (get events q)
+
+pub contents_in-empty : contents_in empty ≡ empty
+contents_in-empty = same_map key_total key_exact _ _ (λ q. content_at empty q ∙ ap (option_map (λ (e : Event). e.content)) (get-empty key_cmp q) ∙ sym (get-empty key_cmp q))
 
 pub contents_in-insert : (events : FinMap key_cmp Event) (k : Key) (e : Event) → contents_in (insert events k e) ≡ insert (contents_in events) k e.content
 contents_in-insert events k e = mapped_insert (λ (e : Event). e.content) key_total key_exact events k e

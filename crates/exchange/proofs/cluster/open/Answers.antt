@@ -2,14 +2,15 @@ use Rattle.std.proofs.Common.{length, map, ap, ◌∙◌, arith}
 use Rattle.std.proofs.lemmas.List.FromFn.{length-map-range_with_len}
 use Rattle.member.specs.Opening.{opening_state}
 use Rattle.member.specs.View.{state_of}
-use Rattle.exchange.specs.View.{contents_of, events_in}
-use Rattle.exchange.proofs.Pending.{contents_of-empty}
+use Rattle.windows.specs.View.{contents_in}
+use Rattle.windows.proofs.Maps.{contents_in-empty}
+use Rattle.exchange.specs.View.{events_in}
 use Rattle.exchange.proofs.Members.{same_length}
 use Rattle.exchange.proofs.Openings.{opened, one_more_waits, one_more_script, scripts_from_below}
 use Rattle.exchange.proofs.cluster.open.Goals as goal
 
 pub loop-number-init : goal.loop-number-init
-loop-number-init c = record { members = ap (map state_of) c.new-members.ensures.items; pending = ap contents_of c.new-pending.ensures ∙ contents_of-empty }
+loop-number-init c = record { members = ap (map state_of) c.new-members.ensures.items; pending = ap contents_in c.new-pending.ensures ∙ contents_in-empty }
 
 pub add_script-requires-clause-earlier : goal.add_script-requires-clause-earlier
 add_script-requires-clause-earlier c = scripts_from_below c.args.scenario.now c.loop-number.number (events_in c.loop-number.pending) c.loop-number.invariant.pending
