@@ -24,3 +24,4 @@ mod Consistent
 mod Advancing
 mod Reach
 mod PartWindows
+mod Opened

@@ -5,6 +5,8 @@
 
 mod laws;
 mod part;
+#[cfg(test)]
+mod part_tests;
 mod setting;
 mod steps;
 

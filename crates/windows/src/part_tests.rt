@@ -1,0 +1,258 @@
+//! Two members over the fastest link, each in a part of its own, window by window.
+
+ghost use Rattle.std.specs.Prelude.{◌≡◌, ◌<◌, false, All, IfOk, OnOk, IsTrue};
+ghost use Rattle.std.specs.FinMap.{contains_key, empty};
+ghost use Rattle.scenario.specs.Setup.{member_count};
+ghost use Rattle.member.specs.declared.event.Event.{Event};
+ghost use Rattle.member_laws.specs.Words.{IsAmongMembers};
+ghost use Rattle.windows.specs.View.{world_of};
+ghost use Rattle.windows.specs.Window.{IsConsistentPart};
+
+use crate::part::{Done, Part};
+use base::{Key, MemberId, Memory, Moment};
+use links::Links;
+use member::{Content, Event, Member};
+use scenario::{Scenario, read};
+use std::alloc::Global;
+use std::collections::BTreeMap;
+use std::process::Abort;
+use std::test::Fail;
+use trace::{Row, What};
+use worker_queue::{EventQueue, TreeQueue};
+
+const TWO_MEMBERS: &str = "version = 1
+seed = 7
+end = 3
+[swim]
+period = 1000
+timeout = 300
+spread = 1
+[link]
+delay = 1
+[[group]]
+name = \"n\"
+count = 2
+";
+
+fn scenario_of(rt: &impl Abort, alloc: Global, text: &str) -> Scenario {
+    match read(alloc, text.as_bytes()) {
+        Ok(scenario) => scenario,
+        Err(_) => panic!(rt; "the text is no scenario"),
+    }
+}
+
+/// A part of one member, before the run.
+fn opened<Q: EventQueue<Event> + Drop>(
+    alloc: Global,
+    scenario: &Scenario,
+    number: u16,
+    mut queue: Q,
+) -> Result<Part<Q>, Memory>
+    requires there { number < member_count scenario.now }
+    requires none { Q.set queue ≡ empty }
+    ensures { IfOk result (λ part. IsConsistentPart scenario.now (world_of Q.set part)) }
+{
+    let waiting = Member::of(alloc, scenario, MemberId(number))?;
+    let mut members = BTreeMap::new(alloc);
+    match members.insert(MemberId(number), waiting) {
+        Ok(_) => {}
+        Err(_) => return Err(Memory),
+    }
+    let key = Key {
+        at: scenario.start(MemberId(number)),
+        to: MemberId(number),
+        from: MemberId(number),
+        number: 0,
+    };
+    let content = Content::Start;
+    match queue.push(Event { key, content }) {
+        Ok(()) => {}
+        Err(_) => return Err(Memory),
+    }
+    Ok(Part {
+        number: number as usize,
+        members,
+        queue,
+    })
+}
+
+/// An event of another part's member comes to the part, before all that pends there.
+fn receive<Q: EventQueue<Event>>(
+    rt: &impl Abort,
+    scenario: &Scenario,
+    part: &mut Part<Q>,
+    event: Event,
+) -> Result<(), Memory>
+    requires consistent { IsConsistentPart scenario.now (world_of Q.set part.old) }
+    requires among { IsAmongMembers scenario.now event.key event.content }
+    ensures { OnOk result (IsConsistentPart scenario.now (world_of Q.set part.new)) }
+{
+    assert!(rt; !part.members.contains_key(&event.key.from));
+    assert!(rt; is_first(&part.queue, &event));
+    match part.queue.push(event) {
+        Ok(()) => Ok(()),
+        Err(_) => Err(Memory),
+    }
+}
+
+/// Whether the event comes before all that pends.
+fn is_first<Q: EventQueue<Event>>(queue: &Q, event: &Event) -> bool
+    ensures { IsTrue result → contains_key (Q.set queue.now) event.now.key ≡ false }
+{
+    match queue.least() {
+        Some(least) => event.key < least,
+        None => true,
+    }
+}
+
+/// The window of a part below the bound.
+fn window<Q: EventQueue<Event> + Drop>(
+    rt: &impl Abort,
+    alloc: Global,
+    scenario: &Scenario,
+    part: Part<Q>,
+    bound: u64,
+) -> Done<Q>
+    requires { IsConsistentPart scenario.now (world_of Q.set part) }
+    ensures consistent { IsConsistentPart scenario.now (world_of Q.set result.part) }
+    ensures among { All (λ (e : Event). IsAmongMembers scenario.now e.key e.content) result.out.items }
+{
+    assert!(rt; bound <= scenario.end().ticks() + 1);
+    let links = match Links::of(alloc, scenario) {
+        Ok(links) => links,
+        Err(_) => panic!(rt; "want of memory"),
+    };
+    match part.run(alloc, Moment(bound), scenario, &links) {
+        Ok(done) => done,
+        Err(_) => panic!(rt; "the window was refused"),
+    }
+}
+
+/// What the window has written: moments, members, and what each row tells of. Nothing went out.
+fn assert_rows(rt: &impl Abort, rows: &[Row], wanted: &[(u64, u16, What)]) {
+    assert_eq!(rt; rows.len(), wanted.len());
+    for (row, wanted) in rows.iter().zip(wanted) {
+        assert_eq!(rt; row.at.ticks(), wanted.0);
+        assert_eq!(rt; row.member.0, wanted.1);
+        assert_eq!(rt; row.what, wanted.2);
+    }
+}
+
+/// How many events pend, and the moment of the least.
+fn assert_pending<Q: EventQueue<Event>>(rt: &impl Abort, part: &Part<Q>, count: usize, least: u64) {
+    assert_eq!(rt; part.queue.len(), count);
+    match part.queue.least() {
+        Some(key) => assert_eq!(rt; key.at.ticks(), least),
+        None => panic!(rt; "nothing pends"),
+    }
+}
+
+/// Whether the event is for this member, at this moment.
+fn is_at(event: &Event, at: u64, to: u16) -> bool {
+    event.key.at.ticks() == at && event.key.to.0 == to
+}
+
+/// A window that writes these rows, and of which nothing goes out.
+fn quiet<Q: EventQueue<Event> + Drop>(
+    rt: &impl Abort,
+    alloc: Global,
+    scenario: &Scenario,
+    part: Part<Q>,
+    bound: u64,
+    wanted: &[(u64, u16, What)],
+) -> Part<Q>
+    requires { IsConsistentPart scenario.now (world_of Q.set part) }
+    ensures { IsConsistentPart scenario.now (world_of Q.set result) }
+{
+    let Done { part, out, rows } = window(rt, alloc, scenario, part, bound);
+    assert_rows(rt, &rows, wanted);
+    assert!(rt; out.is_empty());
+    part
+}
+
+/// A window that writes this one row, and out of which one event goes, for this member at this moment.
+fn sending<Q: EventQueue<Event> + Drop>(
+    rt: &impl Abort,
+    alloc: Global,
+    scenario: &Scenario,
+    part: Part<Q>,
+    bound: u64,
+    row: (u64, u16, What),
+    arrives: (u64, u16),
+) -> (Part<Q>, Event)
+    requires { IsConsistentPart scenario.now (world_of Q.set part) }
+    ensures consistent { IsConsistentPart scenario.now (world_of Q.set result.0) }
+    ensures among { IsAmongMembers scenario.now result.1.key result.1.content }
+{
+    let Done {
+        part,
+        mut out,
+        rows,
+    } = window(rt, alloc, scenario, part, bound);
+    assert_rows(rt, &rows, &[row]);
+    assert_eq!(rt; out.len(), 1);
+    match out.pop() {
+        Some(event) => {
+            assert!(rt; is_at(&event, arrives.0, arrives.1));
+            (part, event)
+        }
+        None => panic!(rt; "nothing went out"),
+    }
+}
+
+/// Both start, each pings the other, and each is answered.
+#[test]
+fn two_parts_run_window_by_window(rt: HostRuntime) -> Result<(), Fail> {
+    let alloc = rt.alloc();
+    let scenario = scenario_of(&rt, alloc, TWO_MEMBERS);
+    let count = scenario.members();
+    assert_eq!(rt; count, 2);
+    let first = opened(alloc, &scenario, 0, TreeQueue::new(alloc))?;
+    let second = opened(alloc, &scenario, 1, TreeQueue::new(alloc))?;
+
+    let first = quiet(&rt, alloc, &scenario, first, 1, &[(0, 0, What::Start)]);
+    let second = quiet(&rt, alloc, &scenario, second, 1, &[(0, 1, What::Start)]);
+    assert_pending(&rt, &first, 1, 1);
+    assert_pending(&rt, &second, 1, 1);
+
+    let (mut first, to_second) =
+        sending(&rt, alloc, &scenario, first, 2, (1, 0, What::Ping), (2, 1));
+    let (mut second, to_first) =
+        sending(&rt, alloc, &scenario, second, 2, (1, 1, What::Ping), (2, 0));
+    assert_pending(&rt, &first, 2, 301);
+    assert_pending(&rt, &second, 2, 301);
+    receive(&rt, &scenario, &mut first, to_first)?;
+    receive(&rt, &scenario, &mut second, to_second)?;
+    assert_pending(&rt, &first, 3, 2);
+
+    let (mut first, to_second) =
+        sending(&rt, alloc, &scenario, first, 3, (2, 0, What::Ack), (3, 1));
+    let (mut second, to_first) =
+        sending(&rt, alloc, &scenario, second, 3, (2, 1, What::Ack), (3, 0));
+    receive(&rt, &scenario, &mut first, to_first)?;
+    receive(&rt, &scenario, &mut second, to_second)?;
+
+    let first = quiet(&rt, alloc, &scenario, first, 4, &[]);
+    let second = quiet(&rt, alloc, &scenario, second, 4, &[]);
+    assert_pending(&rt, &first, 2, 301);
+    assert_pending(&rt, &second, 2, 301);
+    Ok(())
+}
+
+/// What is due at the bound or later waits.
+#[test]
+fn an_event_at_the_bound_waits(rt: HostRuntime) -> Result<(), Fail> {
+    let alloc = rt.alloc();
+    let scenario = scenario_of(&rt, alloc, TWO_MEMBERS);
+    let count = scenario.members();
+    assert_eq!(rt; count, 2);
+    let part = opened(alloc, &scenario, 1, TreeQueue::new(alloc))?;
+    let part = quiet(&rt, alloc, &scenario, part, 0, &[]);
+    assert_pending(&rt, &part, 1, 0);
+    let part = quiet(&rt, alloc, &scenario, part, 1, &[(0, 1, What::Start)]);
+    assert_pending(&rt, &part, 1, 1);
+    let part = quiet(&rt, alloc, &scenario, part, 1, &[]);
+    assert_pending(&rt, &part, 1, 1);
+    assert_eq!(rt; part.number, 1);
+    Ok(())
+}
