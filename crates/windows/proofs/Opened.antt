@@ -1,21 +1,31 @@
 -- The parts of the tests: one member before its start, and an event that comes from elsewhere.
-use Rattle.std.proofs.Common.{◌≡◌, ◌≢◌, ℕ, ◌<◌, Bool, true, false, cond, Option, Some, None, ap, ◌∙◌, sym, subst, refl, arith}
-use Rattle.std.specs.Option.{is_some, option_map_or}
-use Rattle.std.specs.Ordering.{nat_cmp, eq_by_cmp}
-use Rattle.std.specs.FinMap.{get, contains_key, insert, get-insert}
+use Rattle.std.proofs.Common.{◌≡◌, ℕ, ◌<◌, Bool, true, false, cond, [], Option, Some, None, ap, ◌∙◌, sym, subst, refl, arith}
+use Rattle.std.specs.Option.{is_some, option_map, option_map_or}
+use Rattle.std.specs.Ordering.{nat_cmp, eq_by_cmp, is_lt}
+use Rattle.std.specs.Cmp.{nat_cmp_total}
+use Rattle.std.specs.declared.cmp.Ordering.{Ordering}
+use Rattle.std.specs.declared.cmp.Ordering.TheVariants.{Less, Equal, Greater}
+use Rattle.std.specs.BTreeMap.{BTreeMap, is_at}
+use Rattle.std.specs.FinMap.{FinMap, empty, get, contains_key, insert, get-insert, get-empty}
 use Rattle.std.proofs.lemmas.Bool.{false≢true}
 use Rattle.std.proofs.lemmas.Option.{same_Some}
 use Rattle.std.proofs.lemmas.Map.Lookups.{exact_unsigned}
 use Rattle.std.proofs.lemmas.Map.Views.{tells_apart}
 use Rattle.base.specs.declared.key.Key.{Key}
-use Rattle.base.specs.Order.{key_cmp, key_total, IsBefore}
-use Rattle.base.specs.World.{World, IsPending}
+use Rattle.base.specs.Order.{key_cmp, key_total}
+use Rattle.base.specs.World.{World}
 use Rattle.base.specs.Run.{tells}
 use Rattle.scenario.specs.Setup.{Setup, member_count, crash_of}
 use Rattle.member.specs.declared.content.Content.{Content}
 use Rattle.member.specs.declared.content.Content.TheVariants.{Start}
+use Rattle.member.specs.declared.event.Event.{Event}
+use Rattle.member.specs.declared.member.Member.{Member}
 use Rattle.member.specs.State.{State}
-use Rattle.member.specs.Opening.{opening_state, first_number, script_key}
+use Rattle.member.specs.View.{state_of}
+use Rattle.base.proofs.Trees.{found}
+use Rattle.windows.specs.View.{states_in, contents_in}
+use Rattle.windows.proofs.Maps.{state_at, states_in-insert, content_at, contents_in-insert}
+use Rattle.member.specs.Opening.{opening_state, script_key}
 use Rattle.member_laws.specs.Words.{IsConsistent, IsAmongMembers}
 use Rattle.member_laws.proofs.Consistency.{opening_consistent}
 use Rattle.worker_queue.specs.Queue.{IsLeastKey}
@@ -78,3 +88,33 @@ module _ (s : Setup) (p : World State Content) (k : Key) (c : Content) (before :
     events = λ q d here. among_either q d (eq_by_cmp key_cmp q k) refl (sym (get-insert key_total p.pending k c q) ∙ here);
     numbered = λ q here u known. used_either q u (eq_by_cmp key_cmp q k) refl (ap is_some (sym (get-insert key_total p.pending k c q)) ∙ here) known;
   }
+
+pub one_member : (before after : BTreeMap ℕ Member) (m : ℕ) (x : Member) (t : State) → before.entries ≡ [] → ((q : ℕ) → found nat_cmp after.entries q ≡ cond (is_at (nat_cmp m) q) (Some x) (found nat_cmp before.entries q))
+    → state_of x ≡ t → (q : ℕ) → get (states_in after) q ≡ cond (eq_by_cmp nat_cmp q m) (Some t) None
+one_member before after m x t none put is q =
+    let absent : get (states_in before) q ≡ None = state_at before q ∙ ap (λ es. option_map state_of (found nat_cmp es q)) none in
+    ap (λ members. get members q) (states_in-insert before after m x put) ∙ get-insert nat_cmp_total (states_in before) m (state_of x) q
+    ∙ (λ i. cond (eq_by_cmp nat_cmp q m) (Some (is i)) (absent i))
+
+pub one_event : (before after : FinMap key_cmp Event) (event : Event) → before ≡ empty → after ≡ insert before event.key event
+    → (q : Key) → get (contents_in after) q ≡ cond (eq_by_cmp key_cmp q event.key) (Some event.content) None
+one_event before after event none put q =
+    let absent : get (contents_in before) q ≡ None = content_at before q ∙ ap (option_map (λ (e : Event). e.content)) (ap (λ events. get events q) none ∙ get-empty key_cmp q) in
+    ap (λ events. get events q) (ap contents_in put ∙ contents_in-insert before event.key event) ∙ get-insert key_total (contents_in before) event.key event.content q
+    ∙ ap (cond (eq_by_cmp key_cmp q event.key) (Some event.content)) absent
+
+is_less : (o : Ordering) → is_lt o ≡ true → o ≡ Less
+is_less Less e = refl
+is_less Equal e = absurd (false≢true e)
+is_less Greater e = absurd (false≢true e)
+
+-- what comes before the least event isn't among the events
+pub absent_if_first : (events : FinMap key_cmp Event) (k least : Key) (r : Bool) → IsLeastKey events least → r ≡ is_lt (key_cmp k least) → r ≡ true → contains_key events k ≡ false
+absent_if_first events k least r is compared went = either (contains_key events k) refl
+  where
+    either : (b : Bool) → contains_key events k ≡ b → b ≡ false
+    either true here = absurd (is.least k here (is_less (key_cmp k least) (sym compared ∙ went)))
+    either false here = refl
+
+pub absent_if_none : (events : FinMap key_cmp Event) (k : Key) → events ≡ empty → contains_key events k ≡ false
+absent_if_none events k none = ap (λ m. contains_key m k) none ∙ ap is_some (get-empty key_cmp k)

@@ -87,7 +87,9 @@ fn receive<Q: EventQueue<Event>>(
     requires among { IsAmongMembers scenario.now event.key event.content }
     ensures { OnOk result (IsConsistentPart scenario.now (world_of Q.set part.new)) }
 {
-    assert!(rt; !part.members.contains_key(&event.key.from));
+    if part.members.contains_key(&event.key.from) {
+        panic!(rt; "the event is of the part's own");
+    }
     assert!(rt; is_first(&part.queue, &event));
     match part.queue.push(event) {
         Ok(()) => Ok(()),
@@ -100,7 +102,7 @@ fn is_first<Q: EventQueue<Event>>(queue: &Q, event: &Event) -> bool
     ensures { IsTrue result → contains_key (Q.set queue.now) event.now.key ≡ false }
 {
     match queue.least() {
-        Some(least) => event.key < least,
+        Some(least) => event.key.cmp(&least).is_lt(),
         None => true,
     }
 }
@@ -215,20 +217,48 @@ fn two_parts_run_window_by_window(rt: HostRuntime) -> Result<(), Fail> {
     assert_pending(&rt, &first, 1, 1);
     assert_pending(&rt, &second, 1, 1);
 
-    let (mut first, to_second) =
-        sending(&rt, alloc, &scenario, first, 2, (1, 0, What::Ping), (2, 1));
-    let (mut second, to_first) =
-        sending(&rt, alloc, &scenario, second, 2, (1, 1, What::Ping), (2, 0));
+    let (mut first, to_second) = sending(
+        &rt,
+        alloc,
+        &scenario,
+        first,
+        2,
+        (1, 0, What::Ping),
+        (2, 1),
+    );
+    let (mut second, to_first) = sending(
+        &rt,
+        alloc,
+        &scenario,
+        second,
+        2,
+        (1, 1, What::Ping),
+        (2, 0),
+    );
     assert_pending(&rt, &first, 2, 301);
     assert_pending(&rt, &second, 2, 301);
     receive(&rt, &scenario, &mut first, to_first)?;
     receive(&rt, &scenario, &mut second, to_second)?;
     assert_pending(&rt, &first, 3, 2);
 
-    let (mut first, to_second) =
-        sending(&rt, alloc, &scenario, first, 3, (2, 0, What::Ack), (3, 1));
-    let (mut second, to_first) =
-        sending(&rt, alloc, &scenario, second, 3, (2, 1, What::Ack), (3, 0));
+    let (mut first, to_second) = sending(
+        &rt,
+        alloc,
+        &scenario,
+        first,
+        3,
+        (2, 0, What::Ack),
+        (3, 1),
+    );
+    let (mut second, to_first) = sending(
+        &rt,
+        alloc,
+        &scenario,
+        second,
+        3,
+        (2, 1, What::Ack),
+        (3, 0),
+    );
     receive(&rt, &scenario, &mut first, to_first)?;
     receive(&rt, &scenario, &mut second, to_second)?;
 
