@@ -130,7 +130,7 @@ fn window<Q: EventQueue<Event> + Drop>(
     }
 }
 
-/// What the window has written: moments, members, and what each row tells of. Nothing went out.
+/// What the window has written: moments, members, and what each row tells of.
 fn assert_rows(rt: &impl Abort, rows: &[Row], wanted: &[(u64, u16, What)]) {
     assert_eq!(rt; rows.len(), wanted.len());
     for (row, wanted) in rows.iter().zip(wanted) {
