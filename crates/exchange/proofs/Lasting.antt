@@ -19,7 +19,7 @@ use Rattle.member.specs.View.{state_of}
 use Rattle.member.specs.Worn.{IsWorn}
 use Rattle.member.proofs.Worn.{not_worn}
 use Rattle.member_laws.specs.Runs.{LeadsTo}
-use Rattle.exchange.specs.Runs.{WearsOut}
+use Rattle.member_laws.specs.Runs.{WearsOut}
 use Rattle.exchange.specs.Advance.{Advances}
 use Rattle.exchange.specs.View.{members_of}
 use Rattle.exchange.proofs.Members.{get-members_of}

@@ -10,7 +10,7 @@ use Rattle.member.specs.State.{State}
 use Rattle.member.specs.Step.{step}
 use Rattle.member.specs.Opening.{opening}
 use Rattle.member_laws.proofs.Reached.{consistent_reached, pending_among}
-use Rattle.exchange.specs.Runs.{IsRunOf, WearsOut}
+use Rattle.member_laws.specs.Runs.{IsRunOf, WearsOut}
 use Rattle.exchange.specs.Advance.{Advances, WearsNext}
 use Rattle.member_laws.specs.Runs.{IsSoundCluster}
 

@@ -6,3 +6,13 @@ mod Steps
 mod Left
 mod Lasting
 mod Due
+mod Coming
+mod Bounding
+mod Turning
+mod RowOrders
+mod Fresh
+mod Sending
+mod Turned
+mod Goes
+mod Ends
+mod Wearing

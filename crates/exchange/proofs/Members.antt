@@ -27,12 +27,12 @@ get-by_place : (xs : List State) (i : ℕ) → get (by_place xs) i ≡ slice_get
 get-by_place xs i =
     get-from_entries nat_cmp_total (enumerate_from 0 xs) i ∙ ap (λ n. find nat_cmp n (enumerate_from 0 xs)) (let e : i ≡ 0 + i = omega arith in e) ∙ find_place xs 0 i
 
-at_place : (xs : List State) (i : ℕ) (x : State) → i < length xs → slice_get (slice_set xs i x) i ≡ Some x
+pub at_place : {X : Type 0} (xs : List X) (i : ℕ) (x : X) → i < length xs → slice_get (slice_set xs i x) i ≡ Some x
 at_place [] i x h = absurd (omega arith)
 at_place (y ∷ ys) zero x h = refl
 at_place (y ∷ ys) (suc i) x h = at_place ys i x (omega arith)
 
-elsewhere : (xs : List State) (i q : ℕ) (x : State) → ¬ (q ≡ i) → slice_get (slice_set xs i x) q ≡ slice_get xs q
+pub elsewhere : {X : Type 0} (xs : List X) (i q : ℕ) (x : X) → ¬ (q ≡ i) → slice_get (slice_set xs i x) q ≡ slice_get xs q
 elsewhere [] i q x h = refl
 elsewhere (y ∷ ys) zero zero x h = absurd (h refl)
 elsewhere (y ∷ ys) zero (suc q) x h = refl

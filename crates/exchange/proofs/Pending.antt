@@ -1,17 +1,16 @@
 -- A queue of events as the pending events of a world.
-use Rattle.std.proofs.Common.{◌≡◌, ◌≢◌, ℕ, ◌+◌, ◌<◌, ◌≤◌, Bool, true, false, cond, List, [], ◌∷◌, ◌++◌, Option, Some, None, IfSome, IfNone, map, ap, ◌∙◌, sym, refl, arith}
-use Rattle.std.specs.List.{AllByRecursion}
+use Rattle.std.proofs.Common.{◌≡◌, ◌≢◌, ℕ, ◌+◌, ◌<◌, ◌≤◌, Bool, true, false, List, [], ◌∷◌, ◌++◌, Option, Some, None, IfSome, IfNone, ap, ◌∙◌, sym, refl, arith}
 use Rattle.std.specs.FinMap.{FinMap, insert, remove, contains_key}
 use Rattle.std.proofs.lemmas.Bool.{false≢true}
 use Rattle.base.specs.declared.key.Key.{Key}
 use Rattle.base.specs.Order.{key_cmp}
 use Rattle.base.specs.World.{with_events}
-use Rattle.base.specs.Rising.{IsRising, AreNew}
+use Rattle.base.specs.Rising.{AreNew}
 use Rattle.base.specs.Run.{IsFirst, holds-with_events}
 use Rattle.worker_queue.specs.Queue.{NoneIsBelow}
-use Rattle.member.specs.declared.content.Content.{Content}
 use Rattle.member.specs.declared.event.Event.{Event}
 use Rattle.windows.specs.View.{contents_in}
+use Rattle.windows.proofs.Deliveries.{all_at, all_before}
 use Rattle.windows.proofs.Maps.{still_pending, contents_in-insert, contents_in-remove, first_content}
 use Rattle.exchange.specs.View.{NoneIsDue}
 
@@ -52,21 +51,13 @@ module _ {C : Type 0} where
   pub absent : (events : FinMap key_cmp C) (k : Key) → ((q : Key) → contains_key events q ≡ true → q ≢ k) → contains_key events k ≡ false
   absent events k others = absent_at events k others (contains_key events k) refl
 
-  all_at : (P : Key × C → Type 0) (before : List (Key × C)) (e : Key × C) (after : List (Key × C)) → AllByRecursion P (before ++ e ∷ after) → P e
-  all_at P [] e after all = all.0
-  all_at P (f ∷ before) e after all = all_at P before e after all.1
-
-  all_apart : (before : List (Key × C)) (e : Key × C) (after : List (Key × C)) → IsRising (λ f g. f.0 ≢ g.0) (before ++ e ∷ after) → AllByRecursion (λ f. f.0 ≢ e.0) before
-  all_apart [] e after apart = tt
-  all_apart (f ∷ before) e after apart = (all_at (λ g. f.0 ≢ g.0) before e after apart.0, all_apart before e after apart.1)
-
   -- of new events that are added one after the other, each is new when its turn comes
   pub next_is_new : (pending : FinMap key_cmp C) (before : List (Key × C)) (e : Key × C) (after : List (Key × C)) → AreNew pending (before ++ e ∷ after)
       → contains_key (with_events pending before) e.0 ≡ false
   next_is_new pending before e after new =
       absent (with_events pending before) e.0 (holds-with_events (λ q. q ≢ e.0) before pending
-      (λ q here same. false≢true (sym (all_at (λ f. contains_key pending f.0 ≡ false) before e after new.unlike_pending) ∙ ap (contains_key pending) (sym same) ∙ here))
-      (all_apart before e after new.unlike_each_other))
+      (λ q here same. false≢true (sym (all_at (λ f. contains_key pending f.0 ≡ false) before after e new.unlike_pending) ∙ ap (contains_key pending) (sym same) ∙ here))
+      (all_before (λ f g. f.0 ≢ g.0) before after e new.unlike_each_other))
 
   -- the events so far, and one more
   pub with_events_more : (es : List (Key × C)) (e : Key × C) (pending : FinMap key_cmp C) → with_events pending (es ++ e ∷ []) ≡ insert (with_events pending es) e.0 e.1

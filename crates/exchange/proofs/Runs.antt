@@ -1,27 +1,22 @@
 -- Runs of a sound scenario: there is one, and in it no event takes the place of another.
-use Rattle.std.proofs.Common.{◌≡◌, ℕ, zero, suc, ◌+◌, ◌<◌, ◌≤◌, Bool, true, false, cond, eqb, List, map, flat_map, Option, Some, None, ap, ◌∙◌, sym, refl, arith, inl}
-use Rattle.std.specs.Option.{is_some, option_map_or}
-use Rattle.std.specs.List.{AllByRecursion, range_with_len}
-use Rattle.std.specs.Ordering.{nat_cmp, eq_by_cmp}
-use Rattle.std.specs.Cmp.{nat_cmp_total, unsigned_tied}
-use Rattle.std.specs.FinMap.{empty, get, find, remove, get-empty, get-from_entries}
-use Rattle.std.proofs.lemmas.Bool.{false≢true, eqb-false, eqb-true}
+use Rattle.std.proofs.Common.{◌≡◌, ℕ, List, Option, inl}
+use Rattle.std.specs.FinMap.{remove}
 use Rattle.base.specs.declared.key.Key.{Key}
-use Rattle.base.specs.Order.{key_cmp}
 use Rattle.base.specs.World.{World, Run, events_of, outcome}
-use Rattle.base.specs.Run.{handled, trace, run-exists, one_run, holds-with_events}
-use Rattle.base.specs.Rising.{IsNumbered, AreNew}
-use Rattle.base.proofs.Rising.{all_append, numbered_run, new_step}
-use Rattle.scenario.specs.Setup.{Setup, IsSound, member_count, start_of, crash_of}
+use Rattle.base.specs.Run.{handled, trace, run-exists, one_run}
+use Rattle.base.specs.Rising.{AreNew}
+use Rattle.base.proofs.Rising.{numbered_run, new_step}
+use Rattle.scenario.specs.Setup.{Setup, IsSound}
 use Rattle.trace.specs.declared.row.Row.{Row}
 use Rattle.trace.specs.Text.{trace_text}
 use Rattle.trace.proofs.Beginnings.{beginning-none, Keeps-same}
 use Rattle.member.specs.declared.content.Content.{Content}
 use Rattle.member.specs.State.{State}
 use Rattle.member.specs.Step.{step}
-use Rattle.member.specs.Opening.{opening, opening_state, first_number, numbers, script_key, crash_event, script_of}
+use Rattle.member.specs.Opening.{opening}
 use Rattle.member.proofs.Fair.{steps_later, steps_numbered}
-use Rattle.exchange.specs.Runs.{IsRunOf}
+use Rattle.member_laws.proofs.Opened.{opening_numbered}
+use Rattle.member_laws.specs.Runs.{IsRunOf}
 use Rattle.exchange.specs.Promise.{WritesBeginning}
 
 pub some_run : (s : Setup) → IsSound s → (rows : List Row) × IsRunOf s rows
@@ -38,56 +33,6 @@ pub writes_nothing : (s : Setup) (trace report : Option (List ℕ)) → IsSound 
 writes_nothing s trace report sound =
     let run = some_run s sound in
     record { rows = run.0; run = run.1; written = inl (beginning-none trace trace (trace_text s run.0) (Keeps-same trace), Keeps-same report) }
-
--- ---- the opening world
-
-module _ (s : Setup) where
-  next_find : (m a : ℕ) (rest : Option State) (b : Bool) → eqb m a ≡ b → (¬ (m ≡ a) → rest ≡ Some (opening_state s m))
-      → cond (eq_by_cmp nat_cmp m a) (Some (opening_state s a)) rest ≡ Some (opening_state s m)
-  next_find m a rest true e later = ap (λ b. cond b (Some (opening_state s a)) rest) (unsigned_tied m a ∙ e) ∙ ap (λ n. Some (opening_state s n)) (sym (eqb-true m a e))
-  next_find m a rest false e later = ap (λ b. cond b (Some (opening_state s a)) rest) (unsigned_tied m a ∙ e) ∙ later (eqb-false m a e)
-
-  find_member : (m a n : ℕ) → a ≤ m → m < a + n → find nat_cmp m (map (λ i. (i, opening_state s i)) (range_with_len a n)) ≡ Some (opening_state s m)
-  find_member m a zero from below = absurd (omega arith)
-  find_member m a (suc n) from below =
-      next_find m a (find nat_cmp m (map (λ i. (i, opening_state s i)) (range_with_len (a + 1) n))) (eqb m a) refl (λ other. find_member m (a + 1) n (omega arith) (omega arith))
-
-  member_there : (m : ℕ) → m < member_count s → get (opening s).members m ≡ Some (opening_state s m)
-  member_there m there =
-      get-from_entries nat_cmp_total (map (λ i. (i, opening_state s i)) (numbers s)) m ∙ find_member m 0 (member_count s) (omega arith) (omega arith)
-
-  opened_number : (m : ℕ) → (opening_state s m).next_number ≡ first_number s m
-  unfolding opening_state
-  opened_number m = refl
-
-  -- the maker of an event of the script has used its number
-  abbrev Numbered : Key → Type 0
-  Numbered q = (t : State) × (get (opening s).members q.from ≡ Some t) × (q.number < t.next_number)
-
-  number_used : (m at number : ℕ) → m < member_count s → number < first_number s m → Numbered (script_key m at number)
-  number_used m at number there used = (opening_state s m, member_there m there, omega (arith, used, opened_number m))
-
-  first_after : (crash : Option ℕ) → 0 < option_map_or (λ at. 2) crash 1
-  first_after None = omega arith
-  first_after (Some at) = omega arith
-
-  crash_numbered : (m : ℕ) (crash : Option ℕ) → crash_of s m ≡ crash → m < member_count s → AllByRecursion {X = Key × Content} (λ e. Numbered e.0) (crash_event m crash)
-  crash_numbered m None is there = tt
-  crash_numbered m (Some at) is there =
-      (number_used m at 1 there (let two : first_number s m ≡ 2 = ap (λ o. option_map_or (λ at. 2) o 1) is in omega arith), tt)
-
-  script_numbered : (m : ℕ) → m < member_count s → AllByRecursion {X = Key × Content} (λ e. Numbered e.0) (script_of s m)
-  script_numbered m there = (number_used m (start_of s m) 0 there (first_after (crash_of s m)), crash_numbered m (crash_of s m) refl there)
-
-  scripts_numbered : (a n : ℕ) → a + n ≤ member_count s → AllByRecursion {X = Key × Content} (λ e. Numbered e.0) (flat_map (script_of s) (range_with_len a n))
-  scripts_numbered a zero h = tt
-  scripts_numbered a (suc n) h =
-      all_append (λ e. Numbered e.0) (script_of s a) (flat_map (script_of s) (range_with_len (a + 1) n)) (script_numbered a (omega arith)) (scripts_numbered (a + 1) n (omega arith))
-
-  opening_numbered : IsNumbered (λ (t : State). t.next_number) (opening s)
-  opening_numbered =
-      holds-with_events Numbered (flat_map (script_of s) (numbers s)) empty
-      (λ q here. absurd (false≢true (ap is_some (sym (get-empty key_cmp q)) ∙ here))) (scripts_numbered 0 (member_count s) (omega arith))
 
 pub new_events : (s : Setup) (keys : List Key) (rows : List Row) (w : World State Content) (k : Key) (c : Content) → IsSound s
     → Run (step s) s.end (opening s) keys rows w → AreNew (remove w.pending k) (events_of (outcome (step s) w k c))

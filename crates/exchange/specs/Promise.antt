@@ -6,7 +6,7 @@ use Rattle.trace.specs.declared.row.Row.{Row}
 use Rattle.trace.specs.Text.{trace_text}
 use Rattle.trace.specs.Sinks.{AppendsBeginning}
 use Rattle.reports.specs.Text.{report_text}
-use Rattle.exchange.specs.Runs.{IsRunOf}
+use Rattle.member_laws.specs.Runs.{IsRunOf}
 
 -- the trace and the report of the scenario's run were appended, each to the bytes of its sink; the run has so many rows
 pub record WritesRun (s : Setup) (trace_old trace_new report_old report_new : Option (List ℕ)) (count : ℕ) : Type 0 where

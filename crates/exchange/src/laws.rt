@@ -13,7 +13,7 @@ ghost use Rattle.member.specs.State.{State};
 ghost use Rattle.member.specs.Step.{step};
 ghost use Rattle.member.specs.Opening.{opening};
 ghost use Rattle.member.specs.Places.{place_of};
-ghost use Rattle.exchange.specs.Runs.{IsRunOf};
+ghost use Rattle.member_laws.specs.Runs.{IsRunOf};
 
 /// Every scenario has a run, so a run is finite.
 pub fn a_run_exists()

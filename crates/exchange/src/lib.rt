@@ -3,6 +3,7 @@
 
 mod cluster;
 mod laws;
+mod parts;
 mod run;
 mod setting;
 pub mod testing;
@@ -14,6 +15,7 @@ mod tests_meeting;
 mod tests_reports;
 #[cfg(test)]
 mod tests_seeds;
+mod turns;
 
 pub use laws::{a_run_exists, events_are_new, keys_rise, rows_rise, the_run_is_one};
 pub use run::{Summary, run_one};

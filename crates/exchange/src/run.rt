@@ -6,7 +6,7 @@ ghost use Rattle.member.specs.Opening.{opening};
 ghost use Rattle.trace.specs.Sinks.{AppendsBeginning, failures_of_write};
 ghost use Rattle.trace.specs.Text.{NamesMembers, trace_text};
 ghost use Rattle.reports.specs.Text.{report_text};
-ghost use Rattle.exchange.specs.Runs.{IsRunOf, WearsOut};
+ghost use Rattle.member_laws.specs.Runs.{IsRunOf, WearsOut};
 ghost use Rattle.exchange.specs.Promise.{WritesRun, WritesBeginning};
 ghost use Rattle.exchange.specs.View.{world_of};
 
@@ -63,7 +63,49 @@ pub fn run_one<A: Sink, B: Sink>(
     ensures others_report { IfErr result (λ fault. fault ≢ Fault.Write → B.failed report.new ≡ B.failed report.old) }
     ensures relay { IfErr result (λ fault. fault ≢ Fault.Relay) }
 {
-    let rows = match simulate(alloc, scenario) {
+    let outcome = simulate(alloc, scenario);
+    write_run(alloc, outcome, scenario, trace, report)
+}
+
+/// Writes what came of a run: its trace, and then its report, as `run_one` says.
+pub(crate) fn write_run<A: Sink, B: Sink>(
+    alloc: Global,
+    outcome: Result<Vec<Row>, StepError>,
+    scenario: &Scenario,
+    trace: &mut A,
+    report: &mut B,
+) -> Result<Summary, Fault>
+    requires run { IfOk outcome (λ rows. IsRunOf scenario.now rows.items) }
+    requires named { IfOk outcome (λ rows. All (NamesMembers scenario.now) rows.items) }
+    requires worn { IsErrOf outcome StepError.Worn → WearsOut scenario.now }
+    requires lasts { OnOk outcome (¬ (WearsOut scenario.now)) }
+    requires sound { IsSound scenario.now }
+    requires few { A.failed trace.old < 2 ^ 63 }
+    requires few_of_report { B.failed report.old < 2 ^ 63 }
+
+    // The sinks get exactly the trace of the scenario's run, and the report on it.
+    ensures written { IfOk result (λ summary. WritesRun scenario.now (A.held trace.old) (A.held trace.new)
+        (B.held report.old) (B.held report.new) summary.rows) }
+    ensures beginning { OnErr result (WritesBeginning scenario.now (A.held trace.old) (A.held trace.new)
+        (B.held report.old) (B.held report.new)) }
+
+    // Where the trace's sink fails, at its flush too, the report's is left as it was.
+    ensures first { A.failed trace.old < A.failed trace.new → report.new ≡ report.old }
+
+    // No counter of a run that succeeds passes 2^63.
+    ensures lasts { OnOk result (¬ (WearsOut scenario.now)) }
+
+    // No fault comes without its cause.
+    ensures worn { IsErrOf result Fault.Worn → WearsOut scenario.now }
+    ensures write { IsErrOf result Fault.Write
+        → (A.failed trace.old < A.failed trace.new) ⊎ (B.failed report.old < B.failed report.new) }
+    ensures whole { OnOk result (A.failed trace.new ≡ A.failed trace.old) }
+    ensures whole_report { OnOk result (B.failed report.new ≡ B.failed report.old) }
+    ensures others { IfErr result (λ fault. fault ≢ Fault.Write → A.failed trace.new ≡ A.failed trace.old) }
+    ensures others_report { IfErr result (λ fault. fault ≢ Fault.Write → B.failed report.new ≡ B.failed report.old) }
+    ensures relay { IfErr result (λ fault. fault ≢ Fault.Relay) }
+{
+    let rows = match outcome {
         Ok(rows) => rows,
         Err(StepError::Memory) => return Err(Fault::Memory),
         Err(StepError::Worn) => return Err(Fault::Worn),

@@ -12,3 +12,4 @@ pub mod Runs
 pub mod Carried
 pub mod Reached
 pub mod Moments
+pub mod Opened

@@ -220,7 +220,7 @@ all_soon s k c t sound ours in_time h timely =
 
 -- ---- runs
 
-both : {A : Type 0} (P Q : A → Type 0) (xs : List A) → AllByRecursion P xs → AllByRecursion Q xs → AllByRecursion (λ x. P x × Q x) xs
+pub both : {A : Type 0} (P Q : A → Type 0) (xs : List A) → AllByRecursion P xs → AllByRecursion Q xs → AllByRecursion (λ x. P x × Q x) xs
 both P Q [] h g = tt
 both P Q (x ∷ xs) h g = ((h.0, g.0), both P Q xs h.1 g.1)
 

@@ -1,19 +1,24 @@
--- Which worlds a run of a scenario reaches, which come after which, and what holds in each.
+-- The run of a scenario: its rows, which worlds it reaches, which come after which, and what holds in each.
 use Rattle.std.specs.Prelude.{◌≡◌, ℕ, List, Some}
 use Rattle.std.specs.FinMap.{get}
 use Rattle.base.specs.declared.key.Key.{Key}
-use Rattle.base.specs.World.{World, Run}
+use Rattle.base.specs.World.{World, Run, SequentialRun}
 use Rattle.scenario.specs.Setup.{Setup}
 use Rattle.trace.specs.declared.row.Row.{Row}
 use Rattle.member.specs.declared.content.Content.{Content}
 use Rattle.member.specs.State.{State}
 use Rattle.member.specs.Opening.{opening}
 use Rattle.member.specs.Step.{step}
+use Rattle.member.specs.Worn.{IsWorn}
 use Rattle.member_laws.specs.Words.{IsConsistent, IsAmongMembers}
 
 -- the members and the events that pend
 abbrev pub Cluster : Type 0
 Cluster = World State Content
+
+-- these are the rows of the scenario's run, in the order made
+abbrev pub IsRunOf : Setup → List Row → Type 0
+IsRunOf s rows = (keys : List Key) × SequentialRun (step s) s.end (opening s) keys rows
 
 -- next steps lead from the one world to the other, none later than the end
 abbrev pub LeadsTo : Setup → Cluster → Cluster → Type 0
@@ -27,3 +32,14 @@ IsReached s w = LeadsTo s (opening s) w
 pub record IsSoundCluster (s : Setup) (w : Cluster) : Type 0 where
   pub states : (m : ℕ) (t : State) → get w.members m ≡ Some t → IsConsistent s m t
   pub events : (k : Key) (c : Content) → get w.pending k ≡ Some c → IsAmongMembers s k c
+
+-- the run reaches a world in which a member's counter is past its limit
+pub record WearsOut (s : Setup) : Type 0 where
+  pub keys : List Key
+  pub rows : List Row
+  pub world : Cluster
+  pub reached : Run (step s) s.end (opening s) keys rows world
+  pub number : ℕ
+  pub member : State
+  pub there : get world.members number ≡ Some member
+  pub worn : IsWorn member

@@ -50,11 +50,12 @@ module _ (s : Setup) (event : Event) (before after : FinMap nat_cmp State) (effe
 
 -- ---- deliveries
 
-all_at : {X : Type 0} (P : X → Type 0) (xs ys : List X) (x : X) → AllByRecursion P (xs ++ x ∷ ys) → P x
+-- what holds of all holds of one of them, and a rising list before one of its items
+pub all_at : {X : Type 0} (P : X → Type 0) (xs ys : List X) (x : X) → AllByRecursion P (xs ++ x ∷ ys) → P x
 all_at P [] ys x all = all.0
 all_at P (y ∷ xs) ys x all = all_at P xs ys x all.1
 
-all_before : {X : Type 0} (before : X → X → Type 0) (xs ys : List X) (x : X) → IsRising before (xs ++ x ∷ ys) → AllByRecursion (λ y. before y x) xs
+pub all_before : {X : Type 0} (before : X → X → Type 0) (xs ys : List X) (x : X) → IsRising before (xs ++ x ∷ ys) → AllByRecursion (λ y. before y x) xs
 all_before before [] ys x rising = tt
 all_before before (y ∷ xs) ys x rising = (all_at (before y) xs ys x rising.0, all_before before xs ys x rising.1)
 

@@ -40,7 +40,7 @@ own_append : {C : Type 0} (owns : ℕ → Bool) (es fs : List (Key × C)) → fo
 own_append owns es fs = filter-append (λ e. owns e.0.to) es fs
 
 -- none of what a window sent out is for its own part
-own_of_run : {S C R : Type 0} (step : Machine S C R) (owns : ℕ → Bool) (bound : ℕ) (ks : List Key) (p v : World S C) (out : List (Key × C)) (rows : List R) → PartRun step owns bound p ks out rows v → for_own owns out ≡ []
+pub own_of_run : {S C R : Type 0} (step : Machine S C R) (owns : ℕ → Bool) (bound : ℕ) (ks : List Key) (p v : World S C) (out : List (Key × C)) (rows : List R) → PartRun step owns bound p ks out rows v → for_own owns out ≡ []
 own_of_run step owns bound [] p v out rows run = ap (for_own owns) run.1
 own_of_run step owns bound (k ∷ ks) p v out rows run =
     ap (for_own owns) run.7 ∙ own_append owns run.1 run.2

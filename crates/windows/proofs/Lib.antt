@@ -18,10 +18,12 @@ pub mod Horizons
 pub mod Order
 pub mod Numbers
 pub mod Maps
-mod Deliveries
+pub mod Deliveries
 mod PartRuns
-mod Consistent
+pub mod Consistent
 mod Advancing
 mod Reach
 mod PartWindows
 mod Opened
+pub mod Fresh
+pub mod Exchanged

@@ -27,11 +27,12 @@ use Rattle.member_laws.proofs.Runs.{kept_after}
 use Rattle.windows.specs.Delays.{SendsAsItself, KeepsDelays, ComesFar, KeepsFar, IsNoMore}
 use Rattle.windows.specs.Safe.{IsSafe}
 use Rattle.windows.specs.Schedule.{CatchesUp, MeetsState, rows_by}
-use Rattle.windows.specs.Parts.{Window, IsCommonBound, AreWindows, StandsAfter, HasWindow, PartRun, for_own, is_in, part_of, all_keys, all_rows}
+use Rattle.windows.specs.Parts.{Window, IsCommonBound, AreWindows, StandsAfter, HasWindow, PartRun, for_own, is_in, part_of, all_out, all_keys, all_rows}
 use Rattle.windows.specs.Cluster.{UsesUpTo, link_delay, IsLeastDelay, SafeStep, SafeSchedule, IsRunFrom, IsRowOrder, IsWhole, whose}
 use Rattle.windows.proofs.Far.{far_made}
 use Rattle.windows.proofs.Numbers.{numbered_schedule}
 use Rattle.windows.proofs.Outs.{out_late, run_is_schedule}
+use Rattle.windows.proofs.Exchanged.{all_new}
 use Rattle.windows.proofs.Released.{tells_receiver}
 use Rattle.windows.proofs.Division.{stands_once}
 use Rattle.windows.proofs.Schedules.{safe_early, schedule_kept, safe_keys, safe_rows, safe_rows_by, safe_released, safe_trace, safe_met, part_met, part_new, windows_lead, windows_released}
@@ -135,6 +136,12 @@ pub new_here : (s : Setup) (least_delay : Option ℕ) (division : ℕ → ℕ) (
 new_here s d division part bound w p keys out rows k c sound least fact numbered common run here =
     part_new (step s) (steps_later s sound) (sends_as_itself s sound) s.end d (IsSoundCluster s) (sound_keeps s sound d least)
     (λ (t : State). t.next_number) (steps_numbered s sound) division part bound w p keys out rows k c (fact, common) numbered run here
+
+pub sent_new : (s : Setup) (division bounds : ℕ → ℕ) (w : Cluster) (windows : List (Window State Content Row)) → IsSound s → UsesUpTo w → AreWindows (step s) division bounds w windows
+    → All (λ (d : Window State Content Row). AreNew d.after.pending (for_own (is_in division d.part) (all_out windows))) windows
+sent_new s division bounds w windows sound numbered are =
+    All-from_recursion (λ (d : Window State Content Row). AreNew d.after.pending (for_own (is_in division d.part) (all_out windows))) windows
+    (all_new (link_delay s) (step s) (keeps_delays s sound) (λ (t : State). t.next_number) (steps_numbered s sound) division bounds w numbered windows are)
 
 pub sent_late : (s : Setup) (owns : ℕ → Bool) (bound from : ℕ) (p after : Cluster) (keys : List Key) (out : List (Key × Content)) (rows : List Row) → IsSound s
     → ((q : Key) → IsPending p q → (owns q.to ≡ true) × (from ≤ q.at)) → PartRun (step s) owns bound p keys out rows after

@@ -50,3 +50,7 @@ module _ {S C : Type 0} (owns : ℕ → Bool) where
         (all_kept (λ e. owns e.0.to) (λ e. contains_key (remove u.pending k) e.0 ≡ false) events new.unlike_pending);
     unlike_each_other = rising_kept (λ e f. e.0 ≢ f.0) (λ e. owns e.0.to) events new.unlike_each_other;
   }
+
+pub rising_weaker : {A : Type 0} (P Q : A → A → Type 0) → ((a b : A) → P a b → Q a b) → (xs : List A) → IsRising P xs → IsRising Q xs
+rising_weaker P Q gives [] up = tt
+rising_weaker P Q gives (x ∷ xs) up = (all_weaker (P x) (Q x) (gives x) xs up.0, rising_weaker P Q gives xs up.1)

@@ -37,10 +37,10 @@ module _ {S C R : Type 0} (delay : ℕ → ℕ → ℕ) (step : Machine S C R) (
     comes_here : AllByRecursion (λ e. Comes k e.0) (events_of (outcome step p k is.content))
     comes_here = made_all step Comes comes_all k is.content (get p.members k.to)
 
-    handled_from : (owns k.to ≡ true) × (from ≤ k.at)
+    pub handled_from : (owns k.to ≡ true) × (from ≤ k.at)
     handled_from = all k (ap is_some is.here)
 
-    from_after : IsFrom mid
+    pub from_after : IsFrom mid
     from_after q here =
         holds-with_events (λ r. (owns r.to ≡ true) × (from ≤ r.at)) (for_own owns (events_of (outcome step p k is.content))) (remove p.pending k)
         (λ r there. all r (contains-remove p.pending k r there).0)

@@ -17,14 +17,11 @@ use Rattle.member.specs.State.{State}
 use Rattle.member.specs.Step.{step}
 use Rattle.member.specs.View.{pair_of}
 use Rattle.member.proofs.Fair.{steps_later, steps_linked, steps_numbered}
+use Rattle.member_laws.proofs.Moments.{both}
 use Rattle.windows.specs.Parts.{PartStep, PartRun, for_others}
 use Rattle.windows.proofs.Cuts.{all_kept}
 use Rattle.windows.specs.Window.{is_own, TakeTheirLinks}
 use Rattle.windows.proofs.PartRuns.{Kept, kept_later, next_of, own_step}
-
-both : {A : Type 0} (P Q : A → Type 0) (xs : List A) → AllByRecursion P xs → AllByRecursion Q xs → AllByRecursion (λ x. P x × Q x) xs
-both P Q [] h g = tt
-both P Q (x ∷ xs) h g = ((h.0, g.0), both P Q xs h.1 g.1)
 
 -- what holds of all as pairs, holds of all
 pub of_pairs : (P : Key × Content → Type 0) (es : List Event) → AllByRecursion P (map pair_of es) → AllByRecursion (λ (e : Event). P (pair_of e)) es

@@ -15,7 +15,7 @@ ghost use Rattle.member.specs.Opening.{opening};
 ghost use Rattle.member.specs.Step.{step};
 ghost use Rattle.member_laws.specs.Runs.{Cluster, IsSoundCluster};
 ghost use Rattle.windows.specs.Schedule.{TestedStep, Schedule, CatchesUp, MeetsState, rows_by};
-ghost use Rattle.windows.specs.Parts.{Window, IsCommonBound, AreWindows, PartRun, StandsAfter, is_in, part_of, for_own, all_keys, all_rows};
+ghost use Rattle.windows.specs.Parts.{Window, IsCommonBound, AreWindows, PartRun, StandsAfter, is_in, part_of, for_own, all_out, all_keys, all_rows};
 ghost use Rattle.windows.specs.Horizon.{AreHorizons};
 ghost use Rattle.windows.specs.Cluster.{UsesUpTo, IsPeopled, LiesBetween, IsClearOf, link_delay, IsLeastDelay, SafeStep, SafeSchedule, IsRunFrom, IsRowOrder, IsWhole, whose};
 
@@ -95,8 +95,10 @@ pub fn the_rows_before_a_bound_are_next()
 {}
 
 /// No event made takes the place of another, also in a schedule and in a part: each that pends has a
-/// number that its sender has used, and what a step of a part makes for the part is new there.
+/// number that its sender has used, what a step of a part makes for the part is new there, and what
+/// went out of the windows of all parts is new in each part after its window.
 pub fn events_stay_new()
+    ensures opening { (s : Setup) → UsesUpTo (opening s) }
     ensures numbers { (s : Setup) (least_delay : Option ℕ) (w v : Cluster) (keys : List Key) (rows : List Row)
         → IsSound s → UsesUpTo w → SafeSchedule s least_delay w keys rows v → UsesUpTo v }
     ensures part { (s : Setup) (least_delay : Option ℕ) (division : ℕ → ℕ) (part bound : ℕ) (w p : Cluster) (keys : List Key)
@@ -104,6 +106,9 @@ pub fn events_stay_new()
         → IsSound s → IsLeastDelay s least_delay → IsSoundCluster s w → UsesUpTo w → IsCommonBound s.end least_delay w bound
         → PartRun (step s) (is_in division part) bound (part_of (is_in division part) w) keys out rows p → get p.pending k ≡ Some c
         → AreNew (remove p.pending k) (for_own (is_in division part) (events_of (outcome (step s) p k c))) }
+    ensures sent { (s : Setup) (division bounds : ℕ → ℕ) (w : Cluster) (windows : List (Window State Content Row))
+        → IsSound s → UsesUpTo w → AreWindows (step s) division bounds w windows
+        → All (λ (d : Window State Content Row). AreNew d.after.pending (for_own (is_in division d.part) (all_out windows))) windows }
 {}
 
 /// What a part sends out comes at least its pair's delay after any moment before which nothing pends in

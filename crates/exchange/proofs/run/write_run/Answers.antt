@@ -1,21 +1,22 @@
 -- the sinks get the trace and the report of one list of rows; what is written out here fails at once where a body does something else
-use Rattle.std.proofs.Common.{rules, arith, inr, sym}
+use Rattle.std.proofs.Common.{IfOk, rules, arith, inr, sym, subst}
+use Rattle.member_laws.specs.Runs.{IsRunOf}
 use Rattle.exchange.proofs.Runs.{writes_nothing}
-use Rattle.exchange.proofs.run.run_one.Goals as goal
+use Rattle.exchange.proofs.run.write_run.Goals as goal
 
 pub returns-in-Err-Memory-clause-beginning : goal.returns-in-Err-Memory-clause-beginning
-returns-in-Err-Memory-clause-beginning g c = writes_nothing c.args.scenario.now _ _ c.simulate.ensures.sound
+returns-in-Err-Memory-clause-beginning g c = writes_nothing c.args.scenario.now _ _ c.requires.sound
 
 pub returns-in-Err-Memory-clause-worn : goal.returns-in-Err-Memory-clause-worn
 returns-in-Err-Memory-clause-worn g c h = cc
 
 pub returns-in-Err-Worn-clause-beginning : goal.returns-in-Err-Worn-clause-beginning
-returns-in-Err-Worn-clause-beginning g c = writes_nothing c.args.scenario.now _ _ c.simulate.ensures.sound
+returns-in-Err-Worn-clause-beginning g c = writes_nothing c.args.scenario.now _ _ c.requires.sound
 
 pub returns-in-Ok-write_report-clause-written : goal.returns-in-Ok-write_report-clause-written
 returns-in-Ok-write_report-clause-written g c = record {
   rows = c.in-Ok.rows.items;
-  run = c.in-Ok.ensures.run;
+  run = subst (λ o. IfOk o (λ rows. IsRunOf c.args.scenario.now rows.items)) c.in-Ok.is c.requires.run;
   counted = search rules fits 100;
   trace = rw (sym c.deref.ensures.value) c.in-Ok-write_trace.ensures.whole;
   report = rw (sym c.deref-2.ensures.value) c.in-Ok-write_report.ensures.whole;
@@ -27,7 +28,7 @@ returns-clause-written g c = tt
 pub returns-clause-beginning : goal.returns-clause-beginning
 returns-clause-beginning g c = record {
   rows = c.in-Ok.rows.items;
-  run = c.in-Ok.ensures.run;
+  run = subst (λ o. IfOk o (λ rows. IsRunOf c.args.scenario.now rows.items)) c.in-Ok.is c.requires.run;
   written = inr (rw (sym c.deref.ensures.value) c.in-Ok-write_trace.ensures.whole, rw (sym c.deref-2.ensures.value) c.in-Err-write_report.ensures.part);
 }
 

@@ -1,0 +1,139 @@
+-- A schedule of safe steps leads to where the run ends, and keeps a cluster whole.
+use Rattle.std.proofs.Common.{◌≡◌, ℕ, ◌<◌, ◌≤◌, true, List, [], ◌∷◌, ◌++◌, Option, Some, None, append_assoc, ap, ◌∙◌, sym, subst, refl, arith, inl, inr}
+use Rattle.std.specs.Option.{is_some, option_map}
+use Rattle.std.specs.List.{filter}
+use Rattle.std.specs.FinMap.{get, contains_key}
+use Rattle.std.proofs.lemmas.Bool.{false≢true}
+use Rattle.base.specs.declared.key.Key.{Key}
+use Rattle.base.specs.World.{Machine, World, Outcome, IsPending, IsOver, Run, NextStep, settled, outcome, events_of}
+use Rattle.base.specs.Run.{MakesLater, handled, trace, run-exists, one_step, run_more}
+use Rattle.base.specs.Rising.{IsNumbered}
+use Rattle.scenario.specs.Setup.{Setup, IsSound}
+use Rattle.trace.specs.declared.row.Row.{Row}
+use Rattle.member.specs.State.{State}
+use Rattle.member.specs.Step.{step}
+use Rattle.member.proofs.Fair.{steps_later, steps_numbered}
+use Rattle.member_laws.specs.Runs.{Cluster, IsSoundCluster}
+use Rattle.windows.specs.Parts.{kept_by, for_others}
+use Rattle.windows.specs.Cluster.{IsLeastDelay, SafeSchedule, SafeStep}
+use Rattle.windows.proofs.Members.{early_here, sound_after}
+use Rattle.exchange.specs.Parts.{IsWholeCluster}
+use Rattle.exchange.proofs.Fresh.{Keeps, keeps_nothing, keeps_on, by_receiver}
+
+module _ {S C R : Type 0} (step : Machine S C R) (end : ℕ) where
+  -- the run from this world ends there
+  pub record EndsIn (w last : World S C) : Type 0 where
+    pub keys : List Key
+    pub rows : List R
+    pub run : Run step end w keys rows last
+    pub over : IsOver end last
+
+  run_joins : (ks ls : List Key) (w v u : World S C) (rows more : List R) → Run step end w ks rows v → Run step end v ls more u → Run step end w (ks ++ ls) (rows ++ more) u
+  run_joins [] ls w v u rows more run next =
+      subst (λ l. Run step end w ls (l ++ more) u) (sym run.1) (subst (λ x. Run step end x ls more u) run.0 next)
+  run_joins (k ∷ ks) ls w v u rows more run next =
+      (run.0, run.1, run.2 ++ more, run.3, run.4, run_joins ks ls run.0 v u run.2 more run.5 next, ap (λ l. l ++ more) run.6 ∙ append_assoc run.1 run.2 more)
+
+  over_or_step : (w u v : World S C) (k : Key) (made : List R) → v ≡ w → IsOver end v → k.at ≤ end → NextStep step w k u made → ⊥
+  over_or_step w u v k made same over in_time next = let past : end < k.at = subst (IsOver end) same over k (ap is_some next.here) in omega arith
+
+  one_end_by : (later : MakesLater step) (ks ls : List Key) (w u v : World S C) (rows found : List R) → Run step end w ks rows u → IsOver end u → Run step end w ls found v → IsOver end v → u ≡ v
+  one_end_by later [] [] w u v rows found a over b ends = a.0 ∙ sym b.0
+  one_end_by later [] (l ∷ ls) w u v rows found a over b ends = absurd (over_or_step w b.0 u l b.1 a.0 over b.3 b.4)
+  one_end_by later (k ∷ ks) [] w u v rows found a over b ends = absurd (over_or_step w a.0 v k a.1 b.0 ends a.3 a.4)
+  one_end_by later (k ∷ ks) (l ∷ ls) w u v rows found a over b ends =
+      let same = one_step step later end w a.0 b.0 k l a.1 b.1 a.4 b.4 in
+      one_end_by later ks ls a.0 u v a.2 b.2 a.5 over (subst (λ m. Run step end m ls b.2 v) (sym same.1) b.5) ends
+
+  -- it ends in one world alone
+  pub one_end : (later : MakesLater step) (w u v : World S C) → EndsIn w u → EndsIn w v → u ≡ v
+  one_end later w u v a b = one_end_by later a.keys b.keys w u v a.rows b.rows a.run a.over b.run b.over
+
+  pub end_there : (later : MakesLater step) (w : World S C) → (last : World S C) × EndsIn w last
+  end_there later w =
+      let is = run-exists step later end w in
+      (is.last, record { keys = handled step later end w; rows = trace step later end w; run = is.run; over = is.over })
+
+  pub end_before : (ks : List Key) (w v last : World S C) (rows : List R) → Run step end w ks rows v → EndsIn v last → EndsIn w last
+  end_before ks w v last rows run is = record {
+    keys = ks ++ is.keys;
+    rows = rows ++ is.rows;
+    run = run_joins ks is.keys w v last rows is.rows run is.run;
+    over = is.over;
+  }
+
+module _ (s : Setup) (sound : IsSound s) (d : Option ℕ) (least : IsLeastDelay s d) where
+  step_end : (w v last : Cluster) (k : Key) (made : List Row) → IsSoundCluster s w → SafeStep s d w k v made → EndsIn (step s) s.end v last → EndsIn (step s) s.end w last
+  step_end w v last k made fact is ends =
+      let later = steps_later s sound in
+      let early = early_here s d w v k made sound least fact is in
+      let there = end_there (step s) s.end later early.after in
+      let same = one_end (step s) s.end later v there.0 last (end_before (step s) s.end early.before v early.after there.0 early.front early.alike there.1) ends in
+      subst (EndsIn (step s) s.end w) same
+      (end_before (step s) s.end (early.before ++ k ∷ []) w early.after there.0 (early.front ++ made)
+      (run_more (step s) later s.end early.before w early.there early.after early.front made k early.until is.passes.in_time early.turn) there.1)
+
+  -- where the run ends from the end of a schedule, it ends
+  pub schedule_end : (ks : List Key) (w v last : Cluster) (rows : List Row) → IsSoundCluster s w → SafeSchedule s d w ks rows v → EndsIn (step s) s.end v last → EndsIn (step s) s.end w last
+  schedule_end [] w v last rows fact is ends = subst (λ u. EndsIn (step s) s.end u last) is.0 ends
+  schedule_end (k ∷ ks) w v last rows fact is ends =
+      let mid = sound_after s d w is.0 (k ∷ []) is.1 sound least fact (is.0, is.1, [], is.3, (refl, refl), sym (nil_after is.1)) in
+      step_end w is.0 last k is.1 fact is.3 (schedule_end ks is.0 v last is.2 mid is.4 ends)
+    where
+      nil_after : (xs : List Row) → xs ++ [] ≡ xs
+      nil_after [] = refl
+      nil_after (x ∷ xs) = ap (λ l. x ∷ l) (nil_after xs)
+
+-- ---- what a schedule keeps
+
+all_of : {A : Type 0} (xs : List A) → filter (λ x. true) xs ≡ xs
+all_of [] = refl
+all_of (x ∷ xs) = ap (λ l. x ∷ l) (all_of xs)
+
+whole_kept : {S C R : Type 0} (o : Option (Outcome S C R)) → option_map (kept_by (λ m. true)) o ≡ o
+whole_kept None = refl
+whole_kept (Some o) = ap (λ l. Some (record { state = o.state; events = l; rows = o.rows })) (all_of o.events)
+
+module _ (s : Setup) (sound : IsSound s) (d : Option ℕ) where
+  abbrev next_of : State → ℕ
+  next_of t = t.next_number
+
+  abbrev KeepsAll : Cluster → Cluster → Type 0
+  KeepsAll w v = (out : List _) × Keeps next_of (step s) (steps_numbered s sound) w v out
+
+  schedule_keeps : (ks : List Key) (w v : Cluster) (rows : List Row) → SafeSchedule s d w ks rows v → KeepsAll w v
+  schedule_keeps [] w v rows is = ([], subst (λ u. Keeps next_of (step s) (steps_numbered s sound) w u []) (sym is.0) (keeps_nothing next_of (step s) (steps_numbered s sound) w))
+  schedule_keeps (k ∷ ks) w v rows is =
+      let numbers = steps_numbered s sound in
+      let c = is.3.content in
+      let one = by_receiver next_of (step s) numbers (λ m. true) 0 w k c (get w.members k.to) refl in
+      let out = for_others (λ m. true) (events_of (outcome (step s) w k c)) in
+      let mid : Keeps next_of (step s) numbers w is.0 out =
+      subst (λ u. Keeps next_of (step s) numbers w u out) (ap (settled w k) (whole_kept (outcome (step s) w k c)) ∙ sym is.3.world) one in
+      let rest = schedule_keeps ks is.0 v is.2 is.4 in
+      (out ++ rest.0, keeps_on next_of (step s) numbers w is.0 v out rest.0 mid rest.1)
+
+  module _ (w v : Cluster) (keeps : KeepsAll w v) where
+    numbered_on : IsNumbered next_of w → IsNumbered next_of v
+    numbered_on all q here = elim (keeps.1.old q here) [ inl old ↦ was old | inr made ↦ (made.last, made.behind, made.below) ]
+      where
+        was : IsPending w q → (t : State) × (get v.members q.from ≡ Some t) × (q.number < t.next_number)
+        was old =
+            let used = all q old in
+            let more = keeps.1.grown q.from used.0 used.1 in
+            let low = used.2 in
+            let grows = more.2 in
+            (more.0, more.1, omega arith)
+
+    peopled_on : (m : ℕ) → contains_key v.members m ≡ contains_key w.members m
+    peopled_on m = by_value (get w.members m) refl (get v.members m) refl
+      where
+        by_value : (o : Option State) → get w.members m ≡ o → (r : Option State) → get v.members m ≡ r → contains_key v.members m ≡ contains_key w.members m
+        by_value (Some t) is r now = let more = keeps.1.grown m t is in ap is_some more.1 ∙ sym (ap is_some is)
+        by_value None is (Some u) now = let was = keeps.1.been m u now in absurd (false≢true (sym (ap is_some is) ∙ ap is_some was.1))
+        by_value None is None now = ap is_some now ∙ sym (ap is_some is)
+
+  pub whole_after : (ks : List Key) (w v : Cluster) (rows : List Row) → SafeSchedule s d w ks rows v → IsSoundCluster s v → IsWholeCluster s w → IsWholeCluster s v
+  whole_after ks w v rows is there whole =
+      let keeps = schedule_keeps ks w v rows is in
+      record { sound = there; numbered = numbered_on w v keeps whole.numbered; peopled = λ m. peopled_on w v keeps m ∙ whole.peopled m }

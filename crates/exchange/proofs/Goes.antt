@@ -1,0 +1,303 @@
+-- How the run in turn goes on: what the loop that makes it keeps.
+use Rattle.std.proofs.Common.{◌≡◌, ◌↔◌, All, ℕ, zero, suc, ◌+◌, ◌<◌, ◌≤◌, Bool, true, false, cond, nat_lt, eqb, List, [], ◌∷◌, ◌++◌, map, length, Option, Some, None, append-nil, ap, ◌∙◌, sym, subst, refl, arith}
+use Rattle.std.specs.Option.{IfSome, is_some, option_map}
+use Rattle.std.specs.List.{AllByRecursion, slice_get, range_with_len}
+use Rattle.std.specs.Cmp.{nat_cmp_total, unsigned_tied}
+use Rattle.std.specs.Ordering.{nat_cmp, eq_by_cmp}
+use Rattle.std.specs.FinMap.{FinMap, get, find, entries, from_entries, get-insert, contains_key, nat_cmp-IsAntisymmetric, get-from_entries}
+use Rattle.std.proofs.lemmas.Bool.{false≢true, eqb-true, eq-eqb, ltb-true, ltb-false}
+use Rattle.std.proofs.lemmas.Option.{same_Some, slice_get_within}
+use Rattle.base.specs.declared.key.Key.{Key}
+use Rattle.base.specs.Order.{key_cmp, key_total, key_exact}
+use Rattle.base.specs.World.{IsPending, IsOver, Run, NextStep, settled}
+use Rattle.scenario.specs.Setup.{Setup, IsSound, member_count, link_between}
+use Rattle.scenario.specs.Division.{Deal}
+use Rattle.trace.specs.declared.row.Row.{Row}
+use Rattle.member.specs.declared.content.Content.{Content}
+use Rattle.member.specs.declared.event.Event.{Event}
+use Rattle.member.specs.State.{State}
+use Rattle.member.specs.Step.{step}
+use Rattle.member.specs.Opening.{opening, opening_state, numbers}
+use Rattle.member.proofs.Fair.{steps_later}
+use Rattle.member_laws.specs.Runs.{Cluster, IsSoundCluster}
+use Rattle.member_laws.proofs.Reached.{consistent_reached, pending_among, rows_named}
+use Rattle.worker_queue.specs.Queue.{NoneIsBelow}
+use Rattle.windows.specs.declared.part.Part.{Part}
+use Rattle.links.specs.Least.{IsReached, IsNoGreater}
+use Rattle.trace.specs.Text.{NamesMembers}
+use Rattle.windows.specs.Window.{is_own}
+use Rattle.windows.proofs.Members.{met_in_part, run_here, sound_after}
+use Rattle.std.specs.BTreeMap.{BTreeMap}
+use Rattle.std.proofs.lemmas.Map.Lookups.{exact_unsigned}
+use Rattle.std.proofs.lemmas.Map.Views.{tells_apart}
+use Rattle.member.specs.declared.member.Member.{Member}
+use Rattle.member.specs.View.{state_of}
+use Rattle.member.specs.Worn.{IsWorn}
+use Rattle.member.proofs.Worn.{not_worn}
+use Rattle.exchange.proofs.Wearing.{worn_stays}
+use Rattle.exchange.proofs.Ends.{one_end, end_there, end_before}
+use Rattle.windows.specs.Parts.{PartRun, part_of, is_in}
+use Rattle.windows.specs.Schedule.{MeetsState}
+use Rattle.windows.specs.Cluster.{IsLeastDelay}
+use Rattle.windows.specs.View.{world_of, states_in}
+use Rattle.windows.proofs.Cuts.{get_retained}
+use Rattle.member_laws.specs.Runs.{IsRunOf, WearsOut}
+use Rattle.exchange.specs.Parts.{part_number, NonePendsBefore, OneWears, StandFor, IsWholeCluster, MayTurn, HaveTurned}
+use Rattle.exchange.specs.Bounds.{IsNextBound}
+use Rattle.exchange.proofs.Coming.{behind}
+use Rattle.member_laws.proofs.Opened.{member_there, opening_numbered}
+use Rattle.windows.proofs.Maps.{still_pending}
+use Rattle.exchange.proofs.Turning.{all_places, world_at, pending_kept, own_here}
+use Rattle.exchange.proofs.Turned.{led, stand_after, whole_led, none_led, run_led, met_led}
+
+-- ---- what pends in the parts pends in their world
+
+module _ {Q : Type 0} (set : Q → FinMap key_cmp Event) (deal : Deal) (parts : List (Part Q)) (w : Cluster) (stand : StandFor set deal parts w) where
+  place_of_all : (P : Part Q → Type 0) → ((i : ℕ) (p : Part Q) → slice_get parts i ≡ Some p → world_of set p ≡ part_of (is_in (part_number deal) i) w → P p) → AllByRecursion P parts
+  place_of_all P each = all_places P parts (λ i p here. each i p here (world_at set deal parts w stand i p here))
+
+  -- where nothing of the world pends before a moment, nothing of the parts does
+  pub none_of_parts : (t : ℕ) → ((q : Key) → IsPending w q → t ≤ q.at) → NonePendsBefore set parts t
+  none_of_parts t from =
+      place_of_all (λ p. NoneIsBelow (set p.queue) t)
+      (λ i p here is q there.
+      from q (pending_kept (is_in (part_number deal) i) w q (subst (λ (x : Cluster). contains_key x.pending q ≡ true) is (still_pending (set p.queue) q ∙ there))))
+
+  at_place : (P : Part Q → Type 0) (xs : List (Part Q)) (i : ℕ) (p : Part Q) → slice_get xs i ≡ Some p → AllByRecursion P xs → P p
+  at_place P [] i p here all = absurd (false≢true (ap is_some here))
+  at_place P (x ∷ xs) zero p here all = subst P (same_Some x p here) all.0
+  at_place P (x ∷ xs) (suc i) p here all = at_place P xs i p here all.1
+
+  -- and the other way round
+  pub none_of_world : (t : ℕ) → ((q : Key) → IsPending w q → part_number deal q.to < deal.parts) → NonePendsBefore set parts t
+      → (q : Key) → IsPending w q → t ≤ q.at
+  none_of_world t known none q here =
+      let i = part_number deal q.to in
+      let found = behind (world_of set) (slice_get parts i) (part_of (is_in (part_number deal) i) w) (stand.worlds i (known q here)) in
+      let kept : contains_key (part_of (is_in (part_number deal) i) w).pending q ≡ true =
+      ap is_some (get_retained key_total key_exact (λ r. is_in (part_number deal) i r.to) w.pending q) ∙ ap (λ b. is_some (cond b (get w.pending q) None)) (eq-eqb i i refl) ∙ here in
+      at_place (λ p. NoneIsBelow (set p.queue) t) parts i found.0 found.1 none q
+      (sym (still_pending (set found.0.queue) q) ∙ subst (λ (x : Cluster). contains_key x.pending q ≡ true) (sym found.2) kept)
+
+-- ---- the run so far
+
+-- The parts stand for a world of all members, and nothing pends there before a moment. The run from there, after the rows so
+-- far, is the scenario's, to the same end; and what it meets, the scenario's run meets.
+pub record IsUnderWay {Q : Type 0} (set : Q → FinMap key_cmp Event) (s : Setup) (deal : Deal) (from : ℕ) (parts : List (Part Q)) (rows : List Row) : Type 0 where
+  pub world : Cluster
+  pub stand : StandFor set deal parts world
+  pub whole : IsWholeCluster s world
+  pub none : NonePendsBefore set parts from
+  pub follows : (keys : List Key) (left : List Row) (last : Cluster) → Run (step s) s.end world keys left last → IsOver s.end last
+      → (all : List Key) × Run (step s) s.end (opening s) all (rows ++ left) last
+  pub met : (m : ℕ) (t : State) → MeetsState (step s) s.end world m t → MeetsState (step s) s.end (opening s) m t
+
+-- ---- the opening
+
+find_none : (s : Setup) (m a n : ℕ) → a + n ≤ m → find nat_cmp m (map (λ i. (i, opening_state s i)) (range_with_len a n)) ≡ None
+find_none s m a zero past = refl
+find_none s m a (suc n) past =
+    ap (λ b. cond b (Some (opening_state s a)) (find nat_cmp m (map (λ i. (i, opening_state s i)) (range_with_len (a + 1) n)))) (unsigned_tied m a ∙ differs (eqb m a) refl)
+    ∙ find_none s m (a + 1) n (omega arith)
+  where
+    differs : (b : Bool) → eqb m a ≡ b → b ≡ false
+    differs true e = let same = eqb-true m a e in absurd (omega arith)
+    differs false e = refl
+
+pub opening_whole : (s : Setup) → IsSound s → IsWholeCluster s (opening s)
+opening_whole s sound = record {
+  sound = record {
+    states = λ m t here. consistent_reached s sound (opening s) m t ([], [], (refl, refl)) here;
+    events = λ k c here. pending_among s sound (opening s) k c ([], [], (refl, refl)) here;
+  };
+  numbered = opening_numbered s;
+  peopled = λ m. by_test m (nat_lt m (member_count s)) refl;
+}
+  where
+    by_test : (m : ℕ) (b : Bool) → nat_lt m (member_count s) ≡ b → contains_key (opening s).members m ≡ b
+    by_test m true h = ap is_some (member_there s m (ltb-true m (member_count s) h))
+    by_test m false h =
+        let past = ltb-false m (member_count s) h in
+        ap is_some (get-from_entries nat_cmp_total (map (λ i. (i, opening_state s i)) (numbers s)) m ∙ find_none s m 0 (member_count s) (omega arith))
+
+pub not_yet : {Q : Type 0} (set : Q → FinMap key_cmp Event) (s : Setup) (deal : Deal) (parts : List (Part Q)) → IsSound s → StandFor set deal parts (opening s) → IsUnderWay set s deal 0 parts []
+not_yet set s deal parts sound stand = record {
+  world = opening s;
+  stand = stand;
+  whole = opening_whole s sound;
+  none = none_of_parts set deal parts (opening s) stand 0 (λ q here. omega arith);
+  follows = λ keys left last run over. (keys, run);
+  met = λ m t met. met;
+}
+
+-- ---- the next turn
+
+is_least : (s : Setup) (d : Option ℕ) → IfSome d (IsReached (λ i j. (link_between s i j).delay) (member_count s)) → IfSome d (IsNoGreater (λ i j. (link_between s i j).delay) (member_count s))
+    → (d ≡ None → member_count s ≡ 1) → IsLeastDelay s d
+is_least s None reached least alone = alone refl
+is_least s (Some d) reached least alone = (reached, least)
+
+pub least_of_links : (s : Setup) (d : Option ℕ) → IfSome d (IsReached (λ i j. (link_between s i j).delay) (member_count s))
+    → IfSome d (IsNoGreater (λ i j. (link_between s i j).delay) (member_count s)) → (d ≡ None ↔ member_count s ≡ 1) → IsLeastDelay s d
+least_of_links s d reached least alone = is_least s d reached least alone.0
+
+some_delay : (s : Setup) (d : Option ℕ) → IsSound s → IsLeastDelay s d → IfSome d (λ d. 0 < d)
+some_delay s None sound least = tt
+some_delay s (Some d) sound least =
+    let reached = least.0 in
+    let long = (sound.between reached.0 reached.1).delay in
+    omega (arith, long, reached.3)
+
+module _ {Q : Type 0} (set : Q → FinMap key_cmp Event) (s : Setup) (sound : IsSound s) (deal : Deal) (divides : length deal.part_of ≡ member_count s)
+    (below : (m : ℕ) → m < member_count s → part_number deal m < deal.parts) (parts : List (Part Q)) (rows : List Row) (from : ℕ) (so_far : IsUnderWay set s deal from parts rows) where
+  receiver_below : (q : Key) → IsPending so_far.world q → q.to < member_count s
+  receiver_below q here = by_value (get so_far.world.pending q) refl here
+    where
+      by_value : (o : Option Content) → get so_far.world.pending q ≡ o → is_some o ≡ true → q.to < member_count s
+      by_value None is here = absurd (false≢true here)
+      by_value (Some c) is here = (so_far.whole.sound.events q c is).receiver
+
+  none_of_it : (t : ℕ) → NonePendsBefore set parts t → (q : Key) → IsPending so_far.world q → t ≤ q.at
+  none_of_it t = none_of_world set deal parts so_far.world so_far.stand t (λ q here. below q.to (receiver_below q here))
+
+  pub near_all : (d : Option ℕ) (least bound : ℕ) → NonePendsBefore set parts least → IfSome d (λ d. bound ≤ least + d) → IfSome d (λ d. (q : Key) → IsPending so_far.world q → bound ≤ q.at + d)
+  near_all None least bound none near = tt
+  near_all (Some d) least bound none near = λ q here. let low = none_of_it least none q here in omega arith
+
+  module _ (d : Option ℕ) (least : IsLeastDelay s d) (bound : ℕ) (next : IsNextBound set parts s.end d bound) where
+    abbrev pub may_turn : MayTurn set s deal bound parts
+    may_turn = record {
+      world = so_far.world;
+      stand = so_far.stand;
+      whole = so_far.whole;
+      least_delay = d;
+      least = least;
+      common = record { in_time = next.in_time; near = near_all d next.least bound next.none next.near };
+    }
+
+    pub further : (from < bound) × (bound ≤ s.end + 1)
+    further = (let past = next.past (some_delay s d sound least) in let low = next.some from so_far.none in omega arith, next.in_time)
+
+    pub goes_on : (after : List (Part Q)) (rows_after : List Row) → HaveTurned set s deal bound parts after rows rows_after → IsUnderWay set s deal bound after rows_after
+    goes_on after rows_after turned =
+        let v = (led set s sound deal bound parts turned.done divides may_turn turned.windows).0 in
+        let stand = stand_after set s sound deal bound parts turned.done divides may_turn turned.windows after turned.come in
+        record {
+          world = v;
+          stand = stand;
+          whole = whole_led set s sound deal bound parts turned.done divides may_turn turned.windows;
+          none = none_of_parts set deal after v stand bound (none_led set s sound deal bound parts turned.done divides may_turn turned.windows below);
+          follows = λ keys left last run over.
+              let before = run_led set s sound deal bound parts turned.done divides may_turn turned.windows below rows rows_after left keys last turned.rows run over in
+              let all = so_far.follows before.0 before.1 last before.2 over in
+              (all.0, subst (λ l. Run (step s) s.end (opening s) all.0 l last) before.3 all.1);
+          met = λ m t met. so_far.met m t (met_led set s sound deal bound parts turned.done divides may_turn turned.windows m t met);
+        }
+
+    -- a counter that a window wears out the run wears out
+    pub one_wears : OneWears set s bound parts → WearsOut s
+    one_wears is =
+        let i = length is.before in
+        let here : slice_get parts i ≡ Some is.part = ap (λ l. slice_get l i) is.there ∙ after_front is.before is.part is.after in
+        let low : i < deal.parts = let within = slice_get_within parts i is.part here in omega (arith, within, so_far.stand.count) in
+        let world = world_at set deal parts so_far.world so_far.stand i is.part here in
+        let owns = is_in (part_number deal) i in
+        let p = part_of owns so_far.world in
+        let run : PartRun (step s) owns bound p is.wears.keys is.wears.out is.wears.rows is.wears.world =
+        subst (λ f. PartRun (step s) f bound p is.wears.keys is.wears.out is.wears.rows is.wears.world) (own_here s deal divides so_far.world so_far.whole i low)
+        (subst (λ x. PartRun (step s) (is_own x) bound x is.wears.keys is.wears.out is.wears.rows is.wears.world) world is.wears.reached) in
+        let met = so_far.met is.wears.number is.wears.member
+        (met_in_part s d (part_number deal) i bound so_far.world is.wears.world is.wears.keys is.wears.out is.wears.rows is.wears.number is.wears.member sound least so_far.whole.sound may_turn.common run is.wears.there) in
+        record { keys = met.keys; rows = met.rows; world = met.world; reached = met.run; number = is.wears.number; member = is.wears.member; there = met.there; worn = is.wears.worn }
+      where
+        after_front : {A : Type 0} (xs : List A) (x : A) (ys : List A) → slice_get (xs ++ x ∷ ys) (length xs) ≡ Some x
+        after_front [] x ys = refl
+        after_front (y ∷ xs) x ys = after_front xs x ys
+
+  -- where nothing is left up to the end, the run is whole
+  pub is_over : NonePendsBefore set parts (s.end + 1) → IsOver s.end so_far.world
+  is_over none q here = let low = none_of_it (s.end + 1) none q here in omega arith
+
+  whole_run : IsOver s.end so_far.world → (all : List Key) × Run (step s) s.end (opening s) all rows so_far.world
+  whole_run over =
+      let all = so_far.follows [] [] so_far.world (refl, refl) over in
+      (all.0, subst (λ l. Run (step s) s.end (opening s) all.0 l so_far.world) (append-nil rows) all.1)
+
+  pub run_is : NonePendsBefore set parts (s.end + 1) → IsRunOf s rows
+  run_is none = let all = whole_run (is_over none) in (all.0, record { last = so_far.world; run = all.1; over = is_over none })
+
+  pub run_names : NonePendsBefore set parts (s.end + 1) → All (NamesMembers s) rows
+  run_names none = let all = whole_run (is_over none) in rows_named s sound all.0 rows so_far.world all.1
+
+  pub past_end : s.end < from → NonePendsBefore set parts (s.end + 1)
+  past_end past = none_of_parts set deal parts so_far.world so_far.stand (s.end + 1) (λ q here. let low = none_of_it from so_far.none q here in omega arith)
+
+-- ---- a run that comes to its end in a world in memory wore nothing out
+
+unworn_found : (es : List (ℕ × Member)) (m : ℕ) (t : State) → find nat_cmp m (map (λ e. (e.0, state_of e.1)) es) ≡ Some t → ¬ (IsWorn t)
+unworn_found [] m t is = absurd (false≢true (ap is_some is))
+unworn_found (e ∷ es) m t is = by_test (unworn_found es m t) (eq_by_cmp nat_cmp m e.0) is
+  where
+    by_test : (find nat_cmp m (map (λ e. (e.0, state_of e.1)) es) ≡ Some t → ¬ (IsWorn t)) → (b : Bool)
+        → cond b (Some (state_of e.1)) (find nat_cmp m (map (λ e. (e.0, state_of e.1)) es)) ≡ Some t → ¬ (IsWorn t)
+    by_test rest true is = subst (λ u. ¬ (IsWorn u)) (same_Some (state_of e.1) t is) (not_worn e.1)
+    by_test rest false is = rest is
+
+part_unworn : (members : BTreeMap ℕ Member) (m : ℕ) (t : State) → get (states_in members) m ≡ Some t → ¬ (IsWorn t)
+part_unworn members m t is =
+    unworn_found (entries (from_entries members.entries)) m t (sym (get-from_entries nat_cmp_total (map (λ e. (e.0, state_of e.1)) (entries (from_entries members.entries))) m) ∙ is)
+
+module _ (s : Setup) (sound : IsSound s) (d : Option ℕ) (least : IsLeastDelay s d) where
+  worn_next : (w v : Cluster) (k : Key) (made : List Row) (m : ℕ) (t : State) → IsSoundCluster s w → NextStep (step s) w k v made → get w.members m ≡ Some t → IsWorn t
+      → (u : State) × (get v.members m ≡ Some u) × IsWorn u
+  worn_next w v k made m t fact next here worn = subst (λ (x : Cluster). (u : State) × (get x.members m ≡ Some u) × IsWorn u) (sym next.world) (by_receiver (get w.members k.to) refl)
+    where
+      by_test : (r : State) (b : Bool) → get w.members k.to ≡ Some r → eq_by_cmp nat_cmp m k.to ≡ b
+          → (u : State) × (cond b (Some (step s k next.content r).state) (get w.members m) ≡ Some u) × IsWorn u
+      by_test r true receiver e =
+          let same : t ≡ r = same_Some t r (sym here ∙ ap (get w.members) (tells_apart exact_unsigned m k.to e) ∙ receiver) in
+          ((step s k next.content r).state, refl, worn_stays s k next.content r (fact.states k.to r receiver).waits (subst IsWorn same worn))
+      by_test r false receiver e = (t, here, worn)
+
+      by_receiver : (o : Option State) → get w.members k.to ≡ o → (u : State) × (get (settled w k (option_map (step s k next.content) o)).members m ≡ Some u) × IsWorn u
+      by_receiver None none = (t, here, worn)
+      by_receiver (Some r) receiver =
+          let is = by_test r (eq_by_cmp nat_cmp m k.to) receiver refl in
+          (is.0, get-insert nat_cmp_total w.members k.to (step s k next.content r).state m ∙ is.1, is.2)
+
+  worn_to_end : (ks : List Key) (w v : Cluster) (rows : List Row) (m : ℕ) (t : State) → IsSoundCluster s w → Run (step s) s.end w ks rows v → get w.members m ≡ Some t → IsWorn t
+      → (u : State) × (get v.members m ≡ Some u) × IsWorn u
+  worn_to_end [] w v rows m t fact run here worn = (t, ap (λ (x : Cluster). get x.members m) run.0 ∙ here, worn)
+  worn_to_end (k ∷ ks) w v rows m t fact run here worn =
+      let one = run_here s d w run.0 (k ∷ []) run.1 sound least (run.0, run.1, [], run.3, run.4, (refl, refl), sym (append-nil run.1)) in
+      let mid = sound_after s d w run.0 (k ∷ []) run.1 sound least fact one in
+      let next = worn_next w run.0 k run.1 m t fact run.4 here worn in
+      worn_to_end ks run.0 v run.2 m next.0 mid run.5 next.1 next.2
+
+  wears_nothing : (all : List Key) (rows : List Row) (world : Cluster) → Run (step s) s.end (opening s) all rows world → IsOver s.end world
+      → ((m : ℕ) (t : State) → get world.members m ≡ Some t → ¬ (IsWorn t)) → ¬ (WearsOut s)
+  wears_nothing all rows world run over unworn out =
+      let later = steps_later s sound in
+      let fact = sound_after s d (opening s) out.world out.keys out.rows sound least (opening_whole s sound).sound (run_here s d (opening s) out.world out.keys out.rows sound least out.reached) in
+      let rest = end_there (step s) s.end later out.world in
+      let same = one_end (step s) s.end later (opening s) rest.0 world (end_before (step s) s.end out.keys (opening s) out.world rest.0 out.rows out.reached rest.1)
+      (record { keys = all; rows = rows; run = run; over = over }) in
+      let there = worn_to_end rest.1.keys out.world rest.0 rest.1.rows out.number out.member fact rest.1.run out.there out.worn in
+      unworn out.number there.0 (ap (λ (x : Cluster). get x.members out.number) (sym same) ∙ there.1) there.2
+
+module _ {Q : Type 0} (set : Q → FinMap key_cmp Event) (s : Setup) (sound : IsSound s) (deal : Deal) (divides : length deal.part_of ≡ member_count s)
+    (below : (m : ℕ) → m < member_count s → part_number deal m < deal.parts) (parts : List (Part Q)) (rows : List Row) (from : ℕ) (so_far : IsUnderWay set s deal from parts rows) where
+  all_unworn : (m : ℕ) (t : State) → get so_far.world.members m ≡ Some t → ¬ (IsWorn t)
+  all_unworn m t here =
+      let low = ltb-true m (member_count s) (sym (so_far.whole.peopled m) ∙ ap is_some here) in
+      let i = part_number deal m in
+      let found = behind (world_of set) (slice_get parts i) (part_of (is_in (part_number deal) i) so_far.world) (so_far.stand.worlds i (below m low)) in
+      let kept : get (part_of (is_in (part_number deal) i) so_far.world).members m ≡ Some t =
+      get_retained nat_cmp_total nat_cmp-IsAntisymmetric (is_in (part_number deal) i) so_far.world.members m ∙ ap (λ b. cond b (get so_far.world.members m) None) (eq-eqb i i refl) ∙ here in
+      part_unworn found.0.members m t (ap (λ (x : Cluster). get x.members m) found.2 ∙ kept)
+
+  pub run_lasts : (d : Option ℕ) → IsLeastDelay s d → NonePendsBefore set parts (s.end + 1) → ¬ (WearsOut s)
+  run_lasts d least none =
+      let over = is_over set s sound deal divides below parts rows from so_far none in
+      let all = whole_run set s sound deal divides below parts rows from so_far over in
+      wears_nothing s sound d least all.0 rows so_far.world all.1 over all_unworn

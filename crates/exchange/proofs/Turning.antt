@@ -1,0 +1,223 @@
+-- The windows of all parts against the windows of the world that they stand for.
+use Rattle.std.proofs.Common.{◌≡◌, ◌≢◌, ◌⊎◌, ℕ, zero, suc, ◌+◌, ◌<◌, ◌≤◌, Bool, true, false, cond, eqb, nat_lt, unwrap_or, List, [], ◌∷◌, ◌++◌, map, length, Option, Some, None, ap, ◌∙◌, sym, subst, refl, arith, inl, inr}
+use Rattle.std.specs.Option.{option_map, is_some}
+use Rattle.std.specs.List.{AllByRecursion, slice_get, flat_map}
+use Rattle.std.specs.Cmp.{nat_cmp_total}
+use Rattle.std.specs.FinMap.{FinMap, get, nat_cmp-IsAntisymmetric}
+use Rattle.std.proofs.lemmas.Bool.{false≢true, eqb-true, eqb-false, ltb-true, ltb-false}
+use Rattle.std.proofs.lemmas.Option.{same_Some, slice_get_within, slice_get_past}
+use Rattle.std.proofs.lemmas.List.{map-append}
+use Rattle.base.specs.declared.key.Key.{Key}
+use Rattle.base.specs.Order.{key_cmp, key_total, key_exact}
+use Rattle.base.specs.World.{IsPending}
+use Rattle.base.specs.Rising.{IsRising}
+use Rattle.scenario.specs.Setup.{Setup, member_count}
+use Rattle.scenario.specs.Division.{Deal}
+use Rattle.trace.specs.declared.row.Row.{Row}
+use Rattle.member.specs.declared.content.Content.{Content}
+use Rattle.member.specs.declared.event.Event.{Event}
+use Rattle.member.specs.State.{State}
+use Rattle.member.specs.Step.{step}
+use Rattle.member.specs.View.{pair_of}
+use Rattle.member_laws.specs.Runs.{Cluster}
+use Rattle.windows.specs.declared.part.Part.{Part}
+use Rattle.windows.specs.declared.part.Done.{Done}
+use Rattle.windows.specs.Parts.{PartWindow, Window, IsWindowOf, HasWindow, AreWindows, part_of, is_in, all_rows, all_out}
+use Rattle.windows.specs.View.{world_of}
+use Rattle.windows.specs.Window.{is_own, IsConsistentPart, IsWindow}
+use Rattle.windows.proofs.Cuts.{get_retained}
+use Rattle.windows.proofs.Windows.{kept_value}
+use Rattle.exchange.specs.Parts.{part_number, StandFor, IsWholeCluster, HadWindows}
+
+pub all_places : {A : Type 0} (P : A → Type 0) (xs : List A) → ((i : ℕ) (x : A) → slice_get xs i ≡ Some x → P x) → AllByRecursion P xs
+all_places P [] each = tt
+all_places P (x ∷ xs) each = (each 0 x refl, all_places P xs (λ i y here. each (suc i) y here))
+
+-- ---- parts of a world
+
+-- what pends in a part pends in its world
+pub pending_kept : (owns : ℕ → Bool) (w : Cluster) (k : Key) → IsPending (part_of owns w) k → IsPending w k
+pending_kept owns w k here = by_test (owns k.to) (sym (ap is_some (get_retained key_total key_exact (λ q. owns q.to) w.pending k)) ∙ here)
+  where
+    by_test : (b : Bool) → is_some (cond b (get w.pending k) None) ≡ true → is_some (get w.pending k) ≡ true
+    by_test true here = here
+    by_test false here = absurd (false≢true here)
+
+module _ (s : Setup) (w : Cluster) (whole : IsWholeCluster s w) (owns : ℕ → Bool) where
+  pub member_in : (m : ℕ) (t : State) → get (part_of owns w).members m ≡ Some t → (owns m ≡ true) × (get w.members m ≡ Some t)
+  member_in m t here = kept_value (get w.members m) t (owns m) (owns m) refl (sym (get_retained nat_cmp_total nat_cmp-IsAntisymmetric owns w.members m) ∙ here)
+
+  event_in : (k : Key) (c : Content) → get (part_of owns w).pending k ≡ Some c → (owns k.to ≡ true) × (get w.pending k ≡ Some c)
+  event_in k c here = kept_value (get w.pending k) c (owns k.to) (owns k.to) refl (sym (get_retained key_total key_exact (λ q. owns q.to) w.pending k) ∙ here)
+
+  pub pending_in : (k : Key) → IsPending (part_of owns w) k → (owns k.to ≡ true) × IsPending w k
+  pending_in k here = by_value (get (part_of owns w).pending k) refl here
+    where
+      by_value : (o : Option Content) → get (part_of owns w).pending k ≡ o → is_some o ≡ true → (owns k.to ≡ true) × IsPending w k
+      by_value None is here = absurd (false≢true here)
+      by_value (Some c) is here = let found = event_in k c is in (found.0, ap is_some found.1)
+
+  lower : (m : ℕ) → nat_lt m (member_count s) ≡ true → m < member_count s
+  lower m h = ltb-true m (member_count s) h
+
+  part_consistent : IsConsistentPart s (part_of owns w)
+  part_consistent = record {
+    members = λ m t here. let found = member_in m t here in (lower m (sym (whole.peopled m) ∙ ap is_some found.1), whole.sound.states m t found.1);
+    events = λ k c here. whole.sound.events k c (event_in k c here).1;
+    numbered = λ k here t there.
+        let used = whole.numbered k (pending_in k here).1 in
+        let same : used.0 ≡ t = same_Some used.0 t (sym used.1 ∙ (member_in k.from t there).1) in
+        subst (λ (u : State). k.number < u.next_number) same used.2;
+  }
+
+module _ {Q : Type 0} (set : Q → FinMap key_cmp Event) (deal : Deal) (parts : List (Part Q)) (w : Cluster) (stand : StandFor set deal parts w) where
+  pub world_at : (i : ℕ) (p : Part Q) → slice_get parts i ≡ Some p → world_of set p ≡ part_of (is_in (part_number deal) i) w
+  world_at i p here =
+      let within = slice_get_within parts i p here in
+      same_Some (world_of set p) (part_of (is_in (part_number deal) i) w)
+      (sym (ap (option_map (world_of set)) here) ∙ stand.worlds i (omega (arith, stand.count, within)))
+
+  pub parts_consistent : (s : Setup) → IsWholeCluster s w → AllByRecursion (λ p. IsConsistentPart s (world_of set p)) parts
+  parts_consistent s whole =
+      all_places (λ p. IsConsistentPart s (world_of set p)) parts
+      (λ i p here. subst (IsConsistentPart s) (sym (world_at i p here)) (part_consistent s w whole (is_in (part_number deal) i)))
+
+-- whoever has a part below their number is a member
+pub low_by_part : (deal : Deal) (m i : ℕ) → i < deal.parts → part_number deal m ≡ i → m < length deal.part_of
+low_by_part deal m i low is = by_test (nat_lt m (length deal.part_of)) refl
+  where
+    by_test : (b : Bool) → nat_lt m (length deal.part_of) ≡ b → m < length deal.part_of
+    by_test true h = ltb-true m (length deal.part_of) h
+    by_test false h =
+        let past = ltb-false m (length deal.part_of) h in
+        let none : part_number deal m ≡ deal.parts = ap (λ o. unwrap_or o deal.parts) (slice_get_past deal.part_of m past) in
+        absurd (omega (arith, none, is))
+
+-- a part's members are those whose part has its number
+module _ (s : Setup) (deal : Deal) (divides : length deal.part_of ≡ member_count s) (w : Cluster) (whole : IsWholeCluster s w) (i : ℕ) (low : i < deal.parts) where
+  own_at : (m : ℕ) (b : Bool) → is_in (part_number deal) i m ≡ b → is_some (cond b (get w.members m) None) ≡ b
+  own_at m true is =
+      let below = low_by_part deal m i low (eqb-true (part_number deal m) i is) in
+      whole.peopled m ∙ there (nat_lt m (member_count s)) refl (omega (arith, below, divides))
+    where
+      there : (b : Bool) → nat_lt m (member_count s) ≡ b → m < member_count s → b ≡ true
+      there true h less = refl
+      there false h less = let past = ltb-false m (member_count s) h in absurd (omega arith)
+  own_at m false is = refl
+
+  pub own_here : ◌≡◌ {A = ℕ → Bool} (is_own (part_of (is_in (part_number deal) i) w)) (is_in (part_number deal) i)
+  own_here = λ j m.
+      (ap is_some (get_retained nat_cmp_total nat_cmp-IsAntisymmetric (is_in (part_number deal) i) w.members m) ∙ own_at m (is_in (part_number deal) i m) refl) j
+
+-- ---- windows of all parts
+
+module _ {Q : Type 0} (set : Q → FinMap key_cmp Event) (s : Setup) (bound : ℕ) where
+  pub one_window_more : (parts : List (Part Q)) (done : List (Done Q)) (part : Part Q) (last : Done Q) → HadWindows set s bound parts done
+      → IsWindow s bound (world_of set part) last.out.items last.rows.items (world_of set last.part) → HadWindows set s bound (parts ++ part ∷ []) (done ++ last ∷ [])
+  one_window_more [] [] part last had one = (one, tt)
+  one_window_more [] (d ∷ done) part last had one = absurd had
+  one_window_more (p ∷ parts) [] part last had one = absurd had
+  one_window_more (p ∷ parts) (d ∷ done) part last had one = (had.0, one_window_more parts done part last had.1 one)
+
+  pub same_count : (ps : List (Part Q)) (ds : List (Done Q)) → HadWindows set s bound ps ds → length ds ≡ length ps
+  same_count [] [] had = refl
+  same_count [] (d ∷ ds) had = absurd had
+  same_count (p ∷ ps) [] had = absurd had
+  same_count (p ∷ ps) (d ∷ ds) had = ap suc (same_count ps ds had.1)
+
+  -- the windows of the parts, numbered from a on
+  abbrev pub windows_from : (a : ℕ) (ps : List (Part Q)) (ds : List (Done Q)) → HadWindows set s bound ps ds → List (Window State Content Row)
+  windows_from a [] [] had = []
+  windows_from a [] (d ∷ ds) had = absurd had
+  windows_from a (p ∷ ps) [] had = absurd had
+  windows_from a (p ∷ ps) (d ∷ ds) had =
+      record { part = a; keys = had.0.0; out = map pair_of d.out.items; rows = d.rows.items; after = world_of set d.part } ∷ windows_from (a + 1) ps ds had.1
+
+  pub rows_same : (a : ℕ) (ps : List (Part Q)) (ds : List (Done Q)) (had : HadWindows set s bound ps ds) → all_rows (windows_from a ps ds had) ≡ flat_map (λ d. d.rows.items) ds
+  rows_same a [] [] had = refl
+  rows_same a [] (d ∷ ds) had = absurd had
+  rows_same a (p ∷ ps) [] had = absurd had
+  rows_same a (p ∷ ps) (d ∷ ds) had = ap (λ l. d.rows.items ++ l) (rows_same (a + 1) ps ds had.1)
+
+  pub out_same : (a : ℕ) (ps : List (Part Q)) (ds : List (Done Q)) (had : HadWindows set s bound ps ds) → all_out (windows_from a ps ds had) ≡ map pair_of (flat_map (λ d. d.out.items) ds)
+  out_same a [] [] had = refl
+  out_same a [] (d ∷ ds) had = absurd had
+  out_same a (p ∷ ps) [] had = absurd had
+  out_same a (p ∷ ps) (d ∷ ds) had =
+      ap (λ l. map pair_of d.out.items ++ l) (out_same (a + 1) ps ds had.1) ∙ sym (map-append pair_of d.out.items (flat_map (λ d. d.out.items) ds))
+
+  numbers_past : (a b : ℕ) (ps : List (Part Q)) (ds : List (Done Q)) (had : HadWindows set s bound ps ds) → a < b → AllByRecursion (λ (e : Window State Content Row). a ≢ e.part) (windows_from b ps ds had)
+  numbers_past a b [] [] had past = tt
+  numbers_past a b [] (d ∷ ds) had past = absurd had
+  numbers_past a b (p ∷ ps) [] had past = absurd had
+  numbers_past a b (p ∷ ps) (d ∷ ds) had past = (λ same. omega arith, numbers_past a (b + 1) ps ds had.1 (omega arith))
+
+  all_different : (a : ℕ) (ps : List (Part Q)) (ds : List (Done Q)) (had : HadWindows set s bound ps ds)
+      → IsRising (λ (d e : Window State Content Row). d.part ≢ e.part) (windows_from a ps ds had)
+  all_different a [] [] had = tt
+  all_different a [] (d ∷ ds) had = absurd had
+  all_different a (p ∷ ps) [] had = absurd had
+  all_different a (p ∷ ps) (d ∷ ds) had = (numbers_past a (a + 1) ps ds had.1 (omega arith), all_different (a + 1) ps ds had.1)
+
+  pub has_window : (a i : ℕ) (ps : List (Part Q)) (ds : List (Done Q)) (had : HadWindows set s bound ps ds) → a ≤ i → i < a + length ps → HasWindow (windows_from a ps ds had) i
+  has_window a i [] [] had from below = absurd (omega arith)
+  has_window a i [] (d ∷ ds) had from below = absurd had
+  has_window a i (p ∷ ps) [] had from below = absurd had
+  has_window a i (p ∷ ps) (d ∷ ds) had from below = by_test (λ past. has_window (a + 1) i ps ds had.1 past (omega arith)) (eqb a i) refl
+    where
+      by_test : (a + 1 ≤ i → HasWindow (windows_from (a + 1) ps ds had.1) i) → (b : Bool) → eqb a i ≡ b → (a ≡ i) ⊎ HasWindow (windows_from (a + 1) ps ds had.1) i
+      by_test later true h = inl (eqb-true a i h)
+      by_test later false h = let other = eqb-false a i h in inr (later (omega arith))
+
+  module _ (deal : Deal) (divides : length deal.part_of ≡ member_count s) (w : Cluster) (whole : IsWholeCluster s w) where
+    abbrev owns : ℕ → ℕ → Bool
+    owns i = is_in (part_number deal) i
+
+    -- the parts from that number on
+    abbrev Follow : ℕ → List (Part Q) → Type 0
+    Follow a ps = (i : ℕ) (p : Part Q) → slice_get ps i ≡ Some p → (a + i < deal.parts) × (world_of set p ≡ part_of (owns (a + i)) w)
+
+    next_follow : (a : ℕ) (p : Part Q) (ps : List (Part Q)) → Follow a (p ∷ ps) → Follow (a + 1) ps
+    next_follow a p ps follow i q here =
+        let found = follow (suc i) q here in
+        let same : a + suc i ≡ (a + 1) + i = omega arith in
+        (let low = found.0 in omega arith, found.1 ∙ ap (λ n. part_of (owns n) w) same)
+
+    first_run : (a : ℕ) (p : Part Q) (ps : List (Part Q)) (keys : List Key) (out : List (Key × Content)) (rows : List Row) (after : Cluster) → Follow a (p ∷ ps)
+        → PartWindow (step s) (is_own (world_of set p)) bound (world_of set p) keys out rows after → PartWindow (step s) (owns a) bound (part_of (owns a) w) keys out rows after
+    first_run a p ps keys out rows after follow is =
+        let found = follow 0 p refl in
+        let low = found.0 in
+        let same : a + 0 ≡ a = omega arith in
+        let here : world_of set p ≡ part_of (owns a) w = found.1 ∙ ap (λ n. part_of (owns n) w) same in
+        subst (λ f. PartWindow (step s) f bound (part_of (owns a) w) keys out rows after) (own_here s deal divides w whole a (omega arith))
+        (subst (λ x. PartWindow (step s) (is_own x) bound x keys out rows after) here is)
+
+    all_windows : (a : ℕ) (ps : List (Part Q)) (ds : List (Done Q)) (had : HadWindows set s bound ps ds) → Follow a ps
+        → AllByRecursion (IsWindowOf (step s) (part_number deal) (λ part. bound) w) (windows_from a ps ds had)
+    all_windows a [] [] had follow = tt
+    all_windows a [] (d ∷ ds) had follow = absurd had
+    all_windows a (p ∷ ps) [] had follow = absurd had
+    all_windows a (p ∷ ps) (d ∷ ds) had follow =
+        (first_run a p ps had.0.0 (map pair_of d.out.items) d.rows.items (world_of set d.part) follow had.0.1, all_windows (a + 1) ps ds had.1 (next_follow a p ps follow))
+
+    pub follow_all : (ps : List (Part Q)) → StandFor set deal ps w → Follow 0 ps
+    follow_all ps stand i p here = (let within = slice_get_within ps i p here in omega (arith, stand.count, within), world_at set deal ps w stand i p here ∙ ap (λ n. part_of (owns n) w) (let same : i ≡ 0 + i = omega arith in same))
+
+    pub are_windows : (ps : List (Part Q)) (ds : List (Done Q)) (had : HadWindows set s bound ps ds) → StandFor set deal ps w
+        → AreWindows (step s) (part_number deal) (λ part. bound) w (windows_from 0 ps ds had)
+    are_windows ps ds had stand = record { windows = all_windows 0 ps ds had (follow_all ps stand); different = all_different 0 ps ds had }
+
+    -- what is known of each window by its part's number is known of each part
+    pub fact_by_number : (P : ℕ → Cluster → Type 0) (a : ℕ) (ps : List (Part Q)) (ds : List (Done Q)) (had : HadWindows set s bound ps ds)
+        → AllByRecursion (λ (d : Window State Content Row). P d.part d.after) (windows_from a ps ds had)
+        → (i : ℕ) (d : Done Q) → slice_get ds i ≡ Some d → P (a + i) (world_of set d.part)
+    fact_by_number P a [] [] had all i d here = absurd (false≢true (ap is_some here))
+    fact_by_number P a [] (e ∷ ds) had all i d here = absurd had
+    fact_by_number P a (p ∷ ps) [] had all i d here = absurd had
+    fact_by_number P a (p ∷ ps) (e ∷ ds) had all zero d here =
+        let same : a ≡ a + 0 = omega arith in
+        subst (λ n. P n (world_of set d.part)) same (subst (λ (x : Done Q). P a (world_of set x.part)) (same_Some e d here) all.0)
+    fact_by_number P a (p ∷ ps) (e ∷ ds) had all (suc i) d here =
+        let same : (a + 1) + i ≡ a + suc i = omega arith in
+        subst (λ n. P n (world_of set d.part)) same (fact_by_number P (a + 1) ps ds had.1 all.1 i d here)

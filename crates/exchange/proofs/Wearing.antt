@@ -1,0 +1,148 @@
+-- A counter past its limit stays so through every step.
+use Rattle.std.proofs.Common.{◌≡◌, ℕ, ◌<◌, Bool, true, false, cond, List, Option, Some, None, subst, refl, arith, inl, inr}
+use Rattle.std.specs.Option.{option_map_or}
+use Rattle.base.specs.declared.key.Key.{Key}
+use Rattle.scenario.specs.Setup.{Setup, crash_of}
+use Rattle.incarnation.specs.declared.Claim.{Claim}
+use Rattle.incarnation.specs.declared.Update.{Update}
+use Rattle.lifeguard.specs.declared.probe.Probe.{Probe}
+use Rattle.member.specs.declared.member.Phase.{Phase}
+use Rattle.member.specs.declared.member.Phase.TheVariants.{Waiting, Joining, Running, Down}
+use Rattle.member.specs.declared.content.Content.{Content}
+use Rattle.member.specs.declared.content.Content.TheVariants.{Start, Crash, JoinTimer, PeriodTimer, TimeoutTimer, NackTimer, SuspicionTimer, Join, Welcome, Ping, PingReq, Ack, Nack}
+use Rattle.member.specs.State.{State}
+use Rattle.member.specs.Turn.{Effect, unchanged}
+use Rattle.member.specs.Send.{nack_sent}
+use Rattle.member.specs.Opening.{opening_state}
+use Rattle.member.specs.Step.{crashed, join_asked, join_handled, joined, period_begun, timed_out, help_asked, ping_heard, ping_req_heard, ack_heard, nack_due, nack_heard, confirmed, suspicion_over, handled, step}
+use Rattle.member.specs.Worn.{IsWorn}
+use Rattle.member.proofs.Worn.{kept_row, kept_timer, kept_sent, kept_ping, kept_ack, kept_join, kept_welcome, kept_applied, kept_all, kept_asked, kept_probe_ended, kept_next, kept_owed, kept_taken, kept_first_period}
+use Rattle.member_laws.specs.Words.{WaitsAsOpened}
+
+either_worn : (b : Bool) (o p : Effect) → IsWorn o.state → IsWorn p.state → IsWorn (cond b o p).state
+either_worn true o p first second = first
+either_worn false o p first second = second
+
+kept_crashed : (k : Key) (o : Effect) → IsWorn o.state → IsWorn (crashed k o).state
+unfolding crashed
+kept_crashed k o worn = kept_row k _ _ _ _ _ worn
+
+kept_join_asked : (s : Setup) (k : Key) (o : Effect) → IsWorn o.state → IsWorn (join_asked s k o).state
+unfolding join_asked
+kept_join_asked s k o worn = kept_timer k _ _ _ (kept_join s k o worn)
+
+kept_join_handled : (s : Setup) (k : Key) (o : Effect) → IsWorn o.state → IsWorn (join_handled s k o).state
+unfolding join_handled
+kept_join_handled s k o worn = kept_welcome s k _ _ (kept_applied s true k _ o worn)
+
+kept_joined : (s : Setup) (k : Key) (entries : List Update) (o : Effect) → IsWorn o.state → IsWorn (joined s k entries o).state
+unfolding joined
+kept_joined s k entries o worn = kept_first_period s k _ (kept_all s false k entries _ (kept_row k _ _ _ _ _ worn))
+
+kept_period : (s : Setup) (k : Key) (o : Effect) → IsWorn o.state → IsWorn (period_begun s k o).state
+unfolding period_begun
+kept_period s k o worn = kept_timer k _ _ _ (kept_next s k _ (kept_probe_ended s k _ o worn))
+
+kept_help : (s : Setup) (k : Key) (probe : Probe) (o : Effect) → IsWorn o.state → IsWorn (help_asked s k probe o).state
+unfolding help_asked
+kept_help s k probe o worn = either_worn s.lifeguard.probe _ _ (kept_asked s k _ _ _ _ worn) (kept_asked s k _ _ _ _ worn)
+
+kept_timed_out : (s : Setup) (k : Key) (seq : ℕ) (probe : Option Probe) (o : Effect) → IsWorn o.state → IsWorn (timed_out s k seq probe o).state
+unfolding timed_out
+kept_timed_out s k seq None o worn = worn
+kept_timed_out s k seq (Some probe) o worn = either_worn _ _ _ (kept_help s k probe o worn) worn
+
+kept_ping_heard : (s : Setup) (k : Key) (initiator seq : ℕ) (updates : List Update) (o : Effect) → IsWorn o.state → IsWorn (ping_heard s k initiator seq updates o).state
+unfolding ping_heard
+kept_ping_heard s k initiator seq updates o worn = kept_ack s k _ _ _ _ (kept_all s true k updates o worn)
+
+kept_ping_req_heard : (s : Setup) (k : Key) (seq target : ℕ) (updates : List Update) (o : Effect) → IsWorn o.state → IsWorn (ping_req_heard s k seq target updates o).state
+unfolding ping_req_heard
+kept_ping_req_heard s k seq target updates o worn = kept_owed s k seq _ (kept_ping s k _ _ _ _ (kept_all s true k updates o worn))
+
+kept_ack_heard : (s : Setup) (k : Key) (initiator seq : ℕ) (updates : List Update) (o : Effect) → IsWorn o.state → IsWorn (ack_heard s k initiator seq updates o).state
+unfolding ack_heard
+kept_ack_heard s k initiator seq updates o worn = kept_taken s k _ _ _ (kept_all s true k updates o worn)
+
+kept_nack_due : (s : Setup) (k : Key) (initiator seq : ℕ) (o : Effect) → IsWorn o.state → IsWorn (nack_due s k initiator seq o).state
+unfolding nack_due nack_sent
+kept_nack_due s k initiator seq o worn = either_worn _ _ _ (kept_sent s k _ _ _ _ _ worn) worn
+
+kept_nack_heard : (seq : ℕ) (o : Effect) → IsWorn o.state → IsWorn (nack_heard seq o).state
+unfolding nack_heard
+kept_nack_heard seq o worn = worn
+
+kept_confirmed : (s : Setup) (k : Key) (subject : ℕ) (held : Option (Claim × ℕ)) (o : Effect) → IsWorn o.state → IsWorn (confirmed s k subject held o).state
+kept_confirmed s k subject None o worn = worn
+kept_confirmed s k subject (Some held) o worn = kept_applied s true k _ o worn
+
+kept_suspicion_over : (s : Setup) (k : Key) (subject : ℕ) (o : Effect) → IsWorn o.state → IsWorn (suspicion_over s k subject o).state
+unfolding suspicion_over
+kept_suspicion_over s k subject o worn = either_worn _ _ _ (kept_confirmed s k subject _ o worn) worn
+
+kept_handled : (s : Setup) (k : Key) (c : Content) (phase : Phase) (o : Effect) → (phase ≡ Waiting → ¬ (IsWorn o.state)) → IsWorn o.state → IsWorn (handled s k c phase o).state
+unfolding handled
+kept_handled s k Start Waiting o waits worn = absurd (waits refl worn)
+kept_handled s k Start Joining o waits worn = worn
+kept_handled s k Start Running o waits worn = worn
+kept_handled s k Start Down o waits worn = worn
+kept_handled s k Crash Waiting o waits worn = worn
+kept_handled s k Crash Joining o waits worn = kept_crashed k o worn
+kept_handled s k Crash Running o waits worn = kept_crashed k o worn
+kept_handled s k Crash Down o waits worn = worn
+kept_handled s k JoinTimer Waiting o waits worn = worn
+kept_handled s k JoinTimer Joining o waits worn = kept_join_asked s k o worn
+kept_handled s k JoinTimer Running o waits worn = worn
+kept_handled s k JoinTimer Down o waits worn = worn
+kept_handled s k PeriodTimer Waiting o waits worn = worn
+kept_handled s k PeriodTimer Joining o waits worn = worn
+kept_handled s k PeriodTimer Running o waits worn = kept_period s k o worn
+kept_handled s k PeriodTimer Down o waits worn = worn
+kept_handled s k (TimeoutTimer seq) Waiting o waits worn = worn
+kept_handled s k (TimeoutTimer seq) Joining o waits worn = worn
+kept_handled s k (TimeoutTimer seq) Running o waits worn = kept_timed_out s k seq o.state.probe o worn
+kept_handled s k (TimeoutTimer seq) Down o waits worn = worn
+kept_handled s k (NackTimer initiator seq) Waiting o waits worn = worn
+kept_handled s k (NackTimer initiator seq) Joining o waits worn = worn
+kept_handled s k (NackTimer initiator seq) Running o waits worn = kept_nack_due s k initiator seq o worn
+kept_handled s k (NackTimer initiator seq) Down o waits worn = worn
+kept_handled s k (SuspicionTimer subject) Waiting o waits worn = worn
+kept_handled s k (SuspicionTimer subject) Joining o waits worn = worn
+kept_handled s k (SuspicionTimer subject) Running o waits worn = kept_suspicion_over s k subject o worn
+kept_handled s k (SuspicionTimer subject) Down o waits worn = worn
+kept_handled s k Join Waiting o waits worn = worn
+kept_handled s k Join Joining o waits worn = worn
+kept_handled s k Join Running o waits worn = kept_join_handled s k o worn
+kept_handled s k Join Down o waits worn = worn
+kept_handled s k (Welcome entries) Waiting o waits worn = worn
+kept_handled s k (Welcome entries) Joining o waits worn = kept_joined s k entries o worn
+kept_handled s k (Welcome entries) Running o waits worn = worn
+kept_handled s k (Welcome entries) Down o waits worn = worn
+kept_handled s k (Ping initiator seq updates) Waiting o waits worn = worn
+kept_handled s k (Ping initiator seq updates) Joining o waits worn = worn
+kept_handled s k (Ping initiator seq updates) Running o waits worn = kept_ping_heard s k initiator seq updates o worn
+kept_handled s k (Ping initiator seq updates) Down o waits worn = worn
+kept_handled s k (PingReq seq target updates) Waiting o waits worn = worn
+kept_handled s k (PingReq seq target updates) Joining o waits worn = worn
+kept_handled s k (PingReq seq target updates) Running o waits worn = kept_ping_req_heard s k seq target updates o worn
+kept_handled s k (PingReq seq target updates) Down o waits worn = worn
+kept_handled s k (Ack initiator seq updates) Waiting o waits worn = worn
+kept_handled s k (Ack initiator seq updates) Joining o waits worn = worn
+kept_handled s k (Ack initiator seq updates) Running o waits worn = kept_ack_heard s k initiator seq updates o worn
+kept_handled s k (Ack initiator seq updates) Down o waits worn = worn
+kept_handled s k (Nack seq) Waiting o waits worn = worn
+kept_handled s k (Nack seq) Joining o waits worn = worn
+kept_handled s k (Nack seq) Running o waits worn = kept_nack_heard seq o worn
+kept_handled s k (Nack seq) Down o waits worn = worn
+
+fresh_number : (crash : Option ℕ) → option_map_or (λ at. 2) crash 1 < 3
+fresh_number None = omega arith
+fresh_number (Some at) = omega arith
+
+opened_unworn : (s : Setup) (m : ℕ) → ¬ (IsWorn (opening_state s m))
+unfolding opening_state
+opened_unworn s m worn = let few = fresh_number (crash_of s m) in elim worn [ inl h ↦ omega arith | inr more ↦ elim more [ inl h ↦ omega arith | inr h ↦ omega arith ] ]
+
+pub worn_stays : (s : Setup) (k : Key) (c : Content) (t : State) → WaitsAsOpened s k.to t → IsWorn t → IsWorn (step s k c t).state
+unfolding step
+worn_stays s k c t waits worn = kept_handled s k c t.phase (unchanged t) (λ is h. opened_unworn s k.to (subst IsWorn (waits is) h)) worn

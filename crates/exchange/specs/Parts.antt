@@ -1,0 +1,96 @@
+-- A cluster that is divided into parts, and what the windows of all parts make of it.
+use Rattle.std.specs.Prelude.{◌≡◌, ◌↔◌, ℕ, ◌<◌, ◌≤◌, List, [], ◌∷◌, ◌++◌, map, length, nat_lt, unwrap_or, Option, Some, None}
+use Rattle.std.specs.List.{AllByRecursion, slice_get, flat_map}
+use Rattle.std.specs.List.Sorted.{IsPermutation, IsSorted}
+use Rattle.std.specs.Option.{option_map}
+use Rattle.std.specs.FinMap.{FinMap, contains_key}
+use Rattle.std.specs.declared.cmp.Ordering.{Ordering}
+use Rattle.base.specs.declared.key.Key.{Key}
+use Rattle.base.specs.Order.{key_cmp}
+use Rattle.base.specs.Rising.{IsNumbered}
+use Rattle.scenario.specs.Setup.{Setup, member_count}
+use Rattle.scenario.specs.Division.{Deal}
+use Rattle.trace.specs.declared.row.Row.{Row}
+use Rattle.worker_queue.specs.Queue.{NoneIsBelow}
+use Rattle.member.specs.declared.content.Content.{Content}
+use Rattle.member.specs.declared.event.Event.{Event}
+use Rattle.member.specs.State.{State}
+use Rattle.member.specs.View.{pair_of}
+use Rattle.member_laws.specs.Runs.{Cluster, IsSoundCluster}
+use Rattle.windows.specs.declared.part.Part.{Part}
+use Rattle.windows.specs.declared.part.Done.{Done}
+use Rattle.windows.specs.Parts.{IsCommonBound, part_of, is_in, for_own, joined}
+use Rattle.windows.specs.Cluster.{IsLeastDelay, IsRowOrder}
+use Rattle.windows.specs.View.{world_of}
+use Rattle.windows.specs.Window.{IsWindow}
+use Rattle.windows.specs.Wears.{WearsInWindow}
+
+-- the part of a member, and for whoever is none a number that no part has
+abbrev pub part_number : Deal → ℕ → ℕ
+part_number deal m = unwrap_or (slice_get deal.part_of m) deal.parts
+
+-- a cluster of all members of the scenario, in which each event that pends has a number that its sender has used
+pub record IsWholeCluster (s : Setup) (w : Cluster) : Type 0 where
+  pub sound : IsSoundCluster s w
+  pub numbered : IsNumbered (λ (t : State). t.next_number) w
+  pub peopled : (m : ℕ) → contains_key w.members m ≡ nat_lt m (member_count s)
+
+-- no later than that moment, where there is one
+abbrev pub IsUpTo : Option ℕ → ℕ → Type 0
+IsUpTo None t = Unit {0}
+IsUpTo (Some at) t = t ≤ at
+
+-- some rows, sorted by an order that agrees with the trace's, follow those before
+abbrev pub AddsSorted : List Row → List Row → List Row → Type 0
+AddsSorted made before after =
+    (cmp : Row → Row → Ordering) × (sorted : List Row) × IsRowOrder cmp × IsPermutation made sorted × IsSorted cmp sorted × (after ≡ before ++ sorted)
+
+module _ {Q : Type 0} (set : Q → FinMap key_cmp Event) where
+  -- nothing pends in these parts before the moment
+  abbrev pub NonePendsBefore : List (Part Q) → ℕ → Type 0
+  NonePendsBefore parts t = AllByRecursion (λ (p : Part Q). NoneIsBelow (set p.queue) t) parts
+
+  -- the least moment that pends in these parts: just before moments up to it nothing pends
+  abbrev pub IsLeastMoment : List (Part Q) → Option ℕ → Type 0
+  IsLeastMoment parts least = (t : ℕ) → NonePendsBefore parts t ↔ IsUpTo least t
+
+  -- The parts stand for this world: each, at the place of its number, for its part of it.
+  pub record StandFor (deal : Deal) (parts : List (Part Q)) (w : Cluster) : Type 0 where
+    pub count : length parts ≡ deal.parts
+    pub worlds : (i : ℕ) → i < deal.parts → option_map (world_of set) (slice_get parts i) ≡ Some (part_of (is_in (part_number deal) i) w)
+
+  -- the parts stand for a world of all members, in which the windows below the bound may run
+  pub record MayTurn (s : Setup) (deal : Deal) (bound : ℕ) (parts : List (Part Q)) : Type 0 where
+    pub world : Cluster
+    pub stand : StandFor deal parts world
+    pub whole : IsWholeCluster s world
+    pub least_delay : Option ℕ
+    pub least : IsLeastDelay s least_delay
+    pub common : IsCommonBound s.end least_delay world bound
+
+  -- each of these parts had its window
+  abbrev pub HadWindows : Setup → ℕ → List (Part Q) → List (Done Q) → Type 0
+  HadWindows s bound [] [] = Unit {0}
+  HadWindows s bound (p ∷ ps) (d ∷ ds) = IsWindow s bound (world_of set p) d.out.items d.rows.items (world_of set d.part) × HadWindows s bound ps ds
+  HadWindows s bound _ _ = ⊥
+
+  -- one of these parts wears a counter out within its window
+  pub record OneWears (s : Setup) (bound : ℕ) (parts : List (Part Q)) : Type 0 where
+    pub before : List (Part Q)
+    pub part : Part Q
+    pub after : List (Part Q)
+    pub there : parts ≡ before ++ part ∷ after
+    pub wears : WearsInWindow s bound (world_of set part)
+
+  -- these events have come to the parts of their receivers
+  pub record HaveCome (division : ℕ → ℕ) (before after : List (Part Q)) (events : List (Key × Content)) : Type 0 where
+    pub count : length after ≡ length before
+    pub worlds : (i : ℕ) → option_map (world_of set) (slice_get after i) ≡ option_map (λ p. joined (world_of set p) (for_own (is_in division i) events)) (slice_get before i)
+
+  -- All parts have had their windows, the events that went out have come to their parts, and the rows of all, sorted,
+  -- follow those before.
+  pub record HaveTurned (s : Setup) (deal : Deal) (bound : ℕ) (before after : List (Part Q)) (rows_before rows_after : List Row) : Type 0 where
+    pub done : List (Done Q)
+    pub windows : HadWindows s bound before done
+    pub come : HaveCome (part_number deal) (map (λ d. d.part) done) after (map pair_of (flat_map (λ d. d.out.items) done))
+    pub rows : AddsSorted (flat_map (λ d. d.rows.items) done) rows_before rows_after
