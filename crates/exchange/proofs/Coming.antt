@@ -21,7 +21,7 @@ use Rattle.windows.specs.View.{world_of}
 use Rattle.windows.proofs.Cuts.{joined_joined}
 use Rattle.exchange.specs.Parts.{HaveCome}
 use Rattle.exchange.proofs.Members.{at_place, elsewhere}
-use Rattle.exchange.proofs.Pending.{pushed, next_is_new, still_absent}
+use Rattle.exchange.proofs.Pending.{next_is_new}
 
 pub twice : {A B C : Type 0} (f : A → B) (g : B → C) (o : Option A) → option_map g (option_map f o) ≡ option_map (λ x. g (f x)) o
 twice f g None = refl
@@ -31,7 +31,7 @@ same_map : {A B : Type 0} (f g : A → B) (o : Option A) → ((x : A) → f x �
 same_map f g None same = refl
 same_map f g (Some x) same = ap Some (same x)
 
-same_count : {A : Type 0} (xs : List A) (i : ℕ) (x : A) → length (slice_set xs i x) ≡ length xs
+pub same_count : {A : Type 0} (xs : List A) (i : ℕ) (x : A) → length (slice_set xs i x) ≡ length xs
 same_count [] i x = refl
 same_count (y ∷ ys) zero x = refl
 same_count (y ∷ ys) (suc i) x = ap suc (same_count ys i x)
@@ -58,14 +58,11 @@ module _ {Q : Type 0} (set : Q → FinMap key_cmp Event) (division : ℕ → ℕ
         (λ p. joined_joined (world_of set p) (own es) (own fs) ∙ ap (joined (world_of set p)) (sym (filter-append (λ e. is_in division i e.0.to) es fs)));
   }
 
-  -- one event comes: its part's queue takes it in
-  module _ (parts : List (Part Q)) (place : ℕ) (part : Part Q) (queue : Q) (event : Event) (own : division event.key.to ≡ place) (here : slice_get parts place ≡ Some part)
-      (took : set queue ≡ insert (set part.queue) event.key event) (within : place < length parts) where
-    abbrev after : Part Q
-    after = record { number = part.number; members = part.members; queue = queue }
-
+  -- one event comes to its part
+  module _ (parts : List (Part Q)) (place : ℕ) (part after : Part Q) (event : Event) (own : division event.key.to ≡ place) (here : slice_get parts place ≡ Some part)
+      (took : world_of set after ≡ joined (world_of set part) (pair_of event ∷ [])) (within : place < length parts) where
     world_after : (b : Bool) → is_in division place event.key.to ≡ b → world_of set after ≡ joined (world_of set part) (cond b (pair_of event ∷ []) [])
-    world_after true mine = ap (λ m. record { members = (world_of set part).members; pending = m }) (pushed (set part.queue) (set queue) event took)
+    world_after true mine = took
     world_after false other = absurd (false≢true (sym other ∙ eq-eqb (division event.key.to) place own))
 
     at : (i : ℕ) (b : Bool) → eqb i place ≡ b
@@ -115,11 +112,19 @@ module _ {Q : Type 0} (set : Q → FinMap key_cmp Event) (division : ℕ → ℕ
       subst (λ (w : Cluster). AreNew w.pending (own (pair_of event ∷ []))) was.2
       (new_own (world_of set was.0).pending (map pair_of yielded) (map pair_of rest) (pair_of event) i (is_in division i event.key.to) refl split)
 
-  -- so the queue of its part has no event of its key
+  -- so its part has no event of its key
   pub absent_at_place : (part : Part Q) (event : Event) (i : ℕ) → division event.key.to ≡ i → AreNew (world_of set part).pending (for_own (is_in division i) (pair_of event ∷ []))
-      → contains_key (set part.queue) event.key ≡ false
-  absent_at_place part event i own new = by_test (is_in division i event.key.to) refl (new)
+      → contains_key (world_of set part).pending event.key ≡ false
+  absent_at_place part event i own new = by_test (is_in division i event.key.to) refl new
     where
-      by_test : (b : Bool) → is_in division i event.key.to ≡ b → AreNew (world_of set part).pending (cond b (pair_of event ∷ []) []) → contains_key (set part.queue) event.key ≡ false
-      by_test true mine new = still_absent (set part.queue) event.key new.unlike_pending.0
+      by_test : (b : Bool) → is_in division i event.key.to ≡ b → AreNew (world_of set part).pending (cond b (pair_of event ∷ []) []) → contains_key (world_of set part).pending event.key ≡ false
+      by_test true mine new = new.unlike_pending.0
       by_test false other new = absurd (false≢true (sym other ∙ eq-eqb (division event.key.to) i own))
+
+  -- and each part still has the members that it had
+  pub members_stay : (before now : List (Part Q)) (es : List (Key × Content)) → HaveCome set division before now es → (i : ℕ) (part : Part Q) → slice_get now i ≡ Some part
+      → (old : Part Q) × (slice_get before i ≡ Some old) × ((world_of set part).members ≡ (world_of set old).members)
+  members_stay before now es come i part here =
+      let was = behind (λ p. joined (world_of set p) (for_own (is_in division i) es)) (slice_get before i) (world_of set part)
+      (sym (come.worlds i) ∙ ap (option_map (world_of set)) here) in
+      (was.0, was.1, ap (λ (w : Cluster). w.members) (sym was.2))

@@ -46,7 +46,6 @@ use Rattle.exchange.specs.Parts.{part_number, NonePendsBefore, OneWears, StandFo
 use Rattle.exchange.specs.Bounds.{IsNextBound}
 use Rattle.exchange.proofs.Coming.{behind}
 use Rattle.member_laws.proofs.Opened.{member_there, opening_numbered}
-use Rattle.windows.proofs.Maps.{still_pending}
 use Rattle.exchange.proofs.Turning.{all_places, world_at, pending_kept, own_here}
 use Rattle.exchange.proofs.Turned.{led, stand_after, whole_led, none_led, run_led, met_led}
 
@@ -59,9 +58,8 @@ module _ {Q : Type 0} (set : Q → FinMap key_cmp Event) (deal : Deal) (parts : 
   -- where nothing of the world pends before a moment, nothing of the parts does
   pub none_of_parts : (t : ℕ) → ((q : Key) → IsPending w q → t ≤ q.at) → NonePendsBefore set parts t
   none_of_parts t from =
-      place_of_all (λ p. NoneIsBelow (set p.queue) t)
-      (λ i p here is q there.
-      from q (pending_kept (is_in (part_number deal) i) w q (subst (λ (x : Cluster). contains_key x.pending q ≡ true) is (still_pending (set p.queue) q ∙ there))))
+      place_of_all (λ p. NoneIsBelow (world_of set p).pending t)
+      (λ i p here is q there. from q (pending_kept (is_in (part_number deal) i) w q (subst (λ (x : Cluster). contains_key x.pending q ≡ true) is there)))
 
   at_place : (P : Part Q → Type 0) (xs : List (Part Q)) (i : ℕ) (p : Part Q) → slice_get xs i ≡ Some p → AllByRecursion P xs → P p
   at_place P [] i p here all = absurd (false≢true (ap is_some here))
@@ -76,8 +74,7 @@ module _ {Q : Type 0} (set : Q → FinMap key_cmp Event) (deal : Deal) (parts : 
       let found = behind (world_of set) (slice_get parts i) (part_of (is_in (part_number deal) i) w) (stand.worlds i (known q here)) in
       let kept : contains_key (part_of (is_in (part_number deal) i) w).pending q ≡ true =
       ap is_some (get_retained key_total key_exact (λ r. is_in (part_number deal) i r.to) w.pending q) ∙ ap (λ b. is_some (cond b (get w.pending q) None)) (eq-eqb i i refl) ∙ here in
-      at_place (λ p. NoneIsBelow (set p.queue) t) parts i found.0 found.1 none q
-      (sym (still_pending (set found.0.queue) q) ∙ subst (λ (x : Cluster). contains_key x.pending q ≡ true) (sym found.2) kept)
+      at_place (λ p. NoneIsBelow (world_of set p).pending t) parts i found.0 found.1 none q (subst (λ (x : Cluster). contains_key x.pending q ≡ true) (sym found.2) kept)
 
 -- ---- the run so far
 
@@ -94,7 +91,7 @@ pub record IsUnderWay {Q : Type 0} (set : Q → FinMap key_cmp Event) (s : Setup
 
 -- ---- the opening
 
-find_none : (s : Setup) (m a n : ℕ) → a + n ≤ m → find nat_cmp m (map (λ i. (i, opening_state s i)) (range_with_len a n)) ≡ None
+pub find_none : (s : Setup) (m a n : ℕ) → a + n ≤ m → find nat_cmp m (map (λ i. (i, opening_state s i)) (range_with_len a n)) ≡ None
 find_none s m a zero past = refl
 find_none s m a (suc n) past =
     ap (λ b. cond b (Some (opening_state s a)) (find nat_cmp m (map (λ i. (i, opening_state s i)) (range_with_len (a + 1) n)))) (unsigned_tied m a ∙ differs (eqb m a) refl)
@@ -243,9 +240,12 @@ unworn_found (e ∷ es) m t is = by_test (unworn_found es m t) (eq_by_cmp nat_cm
     by_test rest true is = subst (λ u. ¬ (IsWorn u)) (same_Some (state_of e.1) t is) (not_worn e.1)
     by_test rest false is = rest is
 
-part_unworn : (members : BTreeMap ℕ Member) (m : ℕ) (t : State) → get (states_in members) m ≡ Some t → ¬ (IsWorn t)
-part_unworn members m t is =
+tree_unworn : (members : BTreeMap ℕ Member) (m : ℕ) (t : State) → get (states_in members) m ≡ Some t → ¬ (IsWorn t)
+tree_unworn members m t is =
     unworn_found (entries (from_entries members.entries)) m t (sym (get-from_entries nat_cmp_total (map (λ e. (e.0, state_of e.1)) (entries (from_entries members.entries))) m) ∙ is)
+
+part_unworn : {Q : Type 0} (set : Q → FinMap key_cmp Event) (part : Part Q) (m : ℕ) (t : State) → get (world_of set part).members m ≡ Some t → ¬ (IsWorn t)
+part_unworn set part = tree_unworn part.members
 
 module _ (s : Setup) (sound : IsSound s) (d : Option ℕ) (least : IsLeastDelay s d) where
   worn_next : (w v : Cluster) (k : Key) (made : List Row) (m : ℕ) (t : State) → IsSoundCluster s w → NextStep (step s) w k v made → get w.members m ≡ Some t → IsWorn t
@@ -294,7 +294,7 @@ module _ {Q : Type 0} (set : Q → FinMap key_cmp Event) (s : Setup) (sound : Is
       let found = behind (world_of set) (slice_get parts i) (part_of (is_in (part_number deal) i) so_far.world) (so_far.stand.worlds i (below m low)) in
       let kept : get (part_of (is_in (part_number deal) i) so_far.world).members m ≡ Some t =
       get_retained nat_cmp_total nat_cmp-IsAntisymmetric (is_in (part_number deal) i) so_far.world.members m ∙ ap (λ b. cond b (get so_far.world.members m) None) (eq-eqb i i refl) ∙ here in
-      part_unworn found.0.members m t (ap (λ (x : Cluster). get x.members m) found.2 ∙ kept)
+      part_unworn set found.0 m t (ap (λ (x : Cluster). get x.members m) found.2 ∙ kept)
 
   pub run_lasts : (d : Option ℕ) → IsLeastDelay s d → NonePendsBefore set parts (s.end + 1) → ¬ (WearsOut s)
   run_lasts d least none =

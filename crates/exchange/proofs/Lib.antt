@@ -16,3 +16,4 @@ mod Turned
 mod Goes
 mod Ends
 mod Wearing
+mod Admitted

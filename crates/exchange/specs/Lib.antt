@@ -6,3 +6,5 @@ pub mod Advance
 pub mod Promise
 pub mod Parts
 pub mod Bounds
+pub mod Admitting
+pub mod Openings

@@ -2,10 +2,14 @@
 #![tactic(auto)]
 
 mod cluster;
+mod in_turn;
 mod laws;
+mod opening;
 mod parts;
+mod rows;
 mod run;
 mod setting;
+mod stand_in;
 pub mod testing;
 #[cfg(test)]
 mod tests;
@@ -17,5 +21,6 @@ mod tests_reports;
 mod tests_seeds;
 mod turns;
 
+pub use in_turn::run_in_turn;
 pub use laws::{a_run_exists, events_are_new, keys_rise, rows_rise, the_run_is_one};
 pub use run::{Summary, run_one};

@@ -19,6 +19,7 @@ turn-requires-clause-ready g c =
     let d = c.least_delay-least_delay in
     let least = least_of_links s d.result (d.ensures.reached s c.requires.fits) (d.ensures.least s c.requires.fits) (d.ensures.alone s c.requires.fits) in
     let next = subst (λ l. IsNextBound set l s.end d.result c.in-Some.bound) c.deref.ensures.value (subst (λ e. IsNextBound set c.deref.result.now e d.result c.in-Some.bound) c.requires.end c.in-Some.ensures.bound) in
+    λ loans lives.
     may_turn set s c.requires.sound c.args.division.now c.requires.divides c.requires.below c.loop-from.parts.items c.loop-from.rows.items c.loop-from.from c.loop-from.invariant.run
     d.result least c.in-Some.bound next
 
