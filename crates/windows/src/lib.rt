@@ -4,6 +4,7 @@
 #![tactic(auto)]
 
 mod laws;
+mod own_members;
 mod part;
 #[cfg(test)]
 mod part_tests;
