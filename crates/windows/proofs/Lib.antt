@@ -28,3 +28,4 @@ mod PartWindows
 mod Opened
 pub mod Fresh
 pub mod Exchanged
+pub mod Wholes

@@ -1,5 +1,5 @@
 -- A part of one member, and an event that comes to it from elsewhere: what the tests keep.
-use Rattle.std.proofs.Common.{◌≡◌, ℕ, ◌<◌, Bool, true, false, cond, [], Option, Some, None, ap, ◌∙◌, sym, subst, refl, arith}
+use Rattle.std.proofs.Common.{◌≡◌, ℕ, ◌<◌, Bool, true, false, cond, [], Option, Some, None, Result, Ok, Err, OnOk, ap, ◌∙◌, sym, subst, refl, arith}
 use Rattle.std.specs.Option.{is_some, option_map_or}
 use Rattle.std.specs.List.{AllByRecursion}
 use Rattle.std.specs.Ordering.{nat_cmp, eq_by_cmp, is_lt}
@@ -23,7 +23,7 @@ use Rattle.member.specs.Opening.{opening_state, first_number, crash_event, scrip
 use Rattle.member_laws.specs.Words.{IsConsistent, IsAmongMembers}
 use Rattle.member_laws.proofs.Consistency.{opening_consistent}
 use Rattle.worker_queue.specs.Queue.{IsLeastKey}
-use Rattle.windows.specs.Admitting.{with_member}
+use Rattle.windows.specs.Admitting.{AreFromBelow, with_member}
 use Rattle.windows.specs.Window.{is_own, IsConsistentPart}
 
 module _ (s : Setup) (m : ℕ) (there : m < member_count s) where
@@ -118,3 +118,11 @@ absent_if_first events k least r is compared went = either (contains_key events 
 
 pub absent_if_none : (events : FinMap key_cmp Content) (k : Key) → events ≡ empty → contains_key events k ≡ false
 absent_if_none events k none = ap (λ m. contains_key m k) none ∙ ap is_some (get-empty key_cmp k)
+
+-- before anybody comes, nothing pends
+pub none_from_below : (events : FinMap key_cmp Content) (m : ℕ) → events ≡ empty → AreFromBelow events m
+none_from_below events m none q here = absurd (false≢true (sym (absent_if_none events q none) ∙ here))
+
+pub if_received : {E : Type 0} (s : Setup) (result : Result (Unit {0}) E) (after received : World State Content) → OnOk result (after ≡ received) → IsConsistentPart s received → OnOk result (IsConsistentPart s after)
+if_received s (Ok _) after received is consistent = subst (IsConsistentPart s) (sym is) consistent
+if_received s (Err _) after received is consistent = tt

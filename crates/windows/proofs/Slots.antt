@@ -1,17 +1,22 @@
 -- The members of a part at their places as the map of their states.
-use Rattle.std.proofs.Common.{◌≡◌, ℕ, zero, suc, ◌+◌, ◌<◌, ◌≤◌, Bool, true, false, cond, eqb, nat_lt, List, [], ◌∷◌, ◌++◌, length, Option, Some, None, slice_set, ap, ◌∙◌, sym, refl, arith}
+use Rattle.std.proofs.Common.{◌≡◌, ℕ, zero, suc, ◌+◌, ◌<◌, ◌≤◌, Bool, true, false, cond, eqb, nat_lt, List, [], ◌∷◌, ◌++◌, length, Option, Some, None, slice_set, ap, ◌∙◌, sym, subst, refl, arith}
 use Rattle.std.specs.Option.{is_some, option_map}
 use Rattle.std.specs.List.{slice_get, slice_index_or}
 use Rattle.std.specs.Ordering.{nat_cmp, eq_by_cmp}
 use Rattle.std.specs.Cmp.{nat_cmp_total, unsigned_tied}
 use Rattle.std.specs.FinMap.{FinMap, nat_cmp-IsAntisymmetric, from_entries, get, contains_key, insert, empty, find, get-from_entries, get-insert, get-empty, same_map}
-use Rattle.std.proofs.lemmas.Bool.{eqb-true, eqb-false, eq-eqb, ltb-true}
+use Rattle.std.proofs.lemmas.Bool.{false≢true, eqb-true, eqb-false, eq-eqb, ltb-true}
 use Rattle.std.proofs.lemmas.List.{get_or-set_same, get_or-set_other, set-get_or}
-use Rattle.std.proofs.lemmas.Option.{get_or_from_slice_get}
+use Rattle.std.proofs.lemmas.Option.{same_Some, get_or_from_slice_get}
 use Rattle.member.specs.declared.member.Member.{Member}
 use Rattle.member.specs.State.{State}
 use Rattle.member.specs.View.{state_of}
-use Rattle.windows.specs.View.{states_from}
+use Rattle.base.specs.Order.{key_cmp}
+use Rattle.member.specs.declared.event.Event.{Event}
+use Rattle.member.specs.Worn.{IsWorn}
+use Rattle.member.proofs.Worn.{not_worn}
+use Rattle.windows.specs.declared.part.Part.{Part}
+use Rattle.windows.specs.View.{states_from, world_of}
 
 -- who stands at a place
 abbrev pub slot_at : List (Option Member) → ℕ → Option Member
@@ -116,3 +121,11 @@ not_less i n over = by_test (nat_lt i n) refl
     by_test : (b : Bool) → nat_lt i n ≡ b → b ≡ false
     by_test true h = let low = ltb-true i n h in absurd (omega arith)
     by_test false h = refl
+
+unworn_slot : (slot : Option Member) (t : State) → option_map state_of slot ≡ Some t → ¬ (IsWorn t)
+unworn_slot None t is = absurd (false≢true (ap is_some is))
+unworn_slot (Some x) t is = subst (λ u. ¬ (IsWorn u)) (same_Some (state_of x) t is) (not_worn x)
+
+-- no member in memory has a counter past its limit
+pub part_unworn : {Q : Type 0} (set : Q → FinMap key_cmp Event) (part : Part Q) (m : ℕ) (t : State) → get (world_of set part).members m ≡ Some t → ¬ (IsWorn t)
+part_unworn set part m t is = unworn_slot (slot_at part.members.slots.items m) t (sym (state_at part.members.slots.items m) ∙ is)

@@ -99,6 +99,7 @@ fn window<Q: EventQueue<Event> + Drop>(
     ensures consistent { IsConsistentPart scenario.now (world_of Q.set result.part) }
     ensures among { All (λ (e : Event). IsAmongMembers scenario.now e.key e.content) result.out.items }
 {
+    assert!(rt; bound <= scenario.end().ticks() + 1);
     let links = match Links::of(alloc, scenario) {
         Ok(links) => links,
         Err(_) => panic!(rt; "want of memory"),

@@ -1,15 +1,19 @@
 use Rattle.std.proofs.Common.{ap, ◌∙◌, sym, subst}
 use Rattle.std.specs.FinMap.{empty}
+use Rattle.base.specs.World.{World}
+use Rattle.member.specs.declared.content.Content.{Content}
+use Rattle.member.specs.State.{State}
 use Rattle.worker_queue.proofs.Contents.{contents_by-empty}
 use Rattle.windows.specs.Admitting.{with_member}
 use Rattle.windows.specs.View.{contents_in, content_of}
 use Rattle.windows.specs.Window.{IsConsistentPart}
 use Rattle.windows.proofs.Admitting.{with_pending}
-use Rattle.windows.proofs.Opened.{alone_consistent}
+use Rattle.windows.proofs.Opened.{alone_consistent, none_from_below}
 use Rattle.windows.proofs.part_tests.opened.Goals as goal
 
 pub admit-requires-clause-earlier : goal.admit-requires-clause-earlier
-admit-requires-clause-earlier g c = ?
+admit-requires-clause-earlier g c =
+    none_from_below _ c.args.number (ap (λ (w : World State Content). w.pending) c.new-part.ensures.world ∙ ap contents_in c.requires.none ∙ contents_by-empty content_of)
 
 pub returns : goal.returns
 returns g c =
