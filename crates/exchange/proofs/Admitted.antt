@@ -1,4 +1,4 @@
--- Members that are put into their parts, one after the other, and the opening world.
+-- Members that are put into their parts, one after the other.
 use Rattle.std.proofs.Common.{◌≡◌, ℕ, zero, suc, ◌+◌, ◌<◌, ◌≤◌, Bool, true, false, cond, eqb, List, [], ◌∷◌, ◌++◌, map, length, Option, Some, None, slice_set, ap, ◌∙◌, sym, subst, refl, arith}
 use Rattle.std.specs.Option.{option_map, is_some}
 use Rattle.std.specs.List.{AllByRecursion, slice_get, range_with_len}
@@ -8,7 +8,6 @@ use Rattle.std.specs.declared.cmp.Ordering.{Ordering}
 use Rattle.std.specs.FinMap.{FinMap, IsAntisymmetric, nat_cmp-IsAntisymmetric, empty, insert, retain_keys, from_entries, from_entries_push, get-empty, same_map}
 use Rattle.std.proofs.lemmas.Bool.{false≢true, eqb-true, eqb-false, eq-eqb}
 use Rattle.std.proofs.lemmas.Option.{slice_get_within}
-use Rattle.std.proofs.lemmas.List.FromFn.{map-range_with_len_more}
 use Rattle.base.specs.declared.key.Key.{Key}
 use Rattle.base.specs.Order.{key_cmp, key_total, key_exact}
 use Rattle.base.specs.World.{IsPending, with_events}
@@ -24,26 +23,12 @@ use Rattle.windows.specs.declared.part.Part.{Part}
 use Rattle.windows.specs.Parts.{part_of, is_in, for_own}
 use Rattle.windows.specs.View.{world_of}
 use Rattle.windows.proofs.Cuts.{get_retained, retain_insert, retain_insert_other}
-use Rattle.exchange.specs.Admitting.{with_member}
-use Rattle.exchange.specs.Openings.{opened_below, nobody}
-use Rattle.exchange.specs.Parts.{part_number, StandFor}
-use Rattle.exchange.specs.Senders.{AreFromBelow}
-use Rattle.exchange.proofs.Coming.{same_count}
-use Rattle.exchange.proofs.Goes.{find_none}
-use Rattle.exchange.proofs.Members.{at_place, elsewhere}
-use Rattle.exchange.proofs.Openings.{one_more_script, scripts_from_below}
-use Rattle.exchange.proofs.Turning.{pending_kept, world_at}
-
--- ---- the cluster
-
--- one member more
-pub one_more_opened : (s : Setup) (n : ℕ) → opened_below s (n + 1) ≡ with_member s n (opened_below s n)
-one_more_opened s n =
-    let members : (opened_below s (n + 1)).members ≡ insert (opened_below s n).members n (opening_state s n) =
-    ap from_entries (map-range_with_len_more (λ m. (m, opening_state s m)) 0 n n (omega arith))
-    ∙ from_entries_push nat_cmp_total nat_cmp-IsAntisymmetric (map (λ m. (m, opening_state s m)) (range_with_len 0 n)) n (opening_state s n) (find_none s n 0 n (omega arith)) in
-    let pending : (opened_below s (n + 1)).pending ≡ with_events (opened_below s n).pending (script_of s n) = sym (one_more_script s n (opened_below s n).pending _ refl refl) in
-    λ i. record { members = members i; pending = pending i }
+use Rattle.windows.specs.Admitting.{AreFromBelow, with_member, opened_below}
+use Rattle.windows.proofs.Admitting.{scripts_from_below, one_more_opened}
+use Rattle.windows.proofs.Wholes.{pending_kept}
+use Rattle.exchange.specs.Parts.{nobody, part_number, StandFor}
+use Rattle.exchange.proofs.Coming.{same_count, at_place, elsewhere}
+use Rattle.exchange.proofs.Turning.{world_at}
 
 -- ---- a part of it
 

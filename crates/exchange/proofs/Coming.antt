@@ -1,5 +1,5 @@
 -- Events that come to the parts of their receivers.
-use Rattle.std.proofs.Common.{◌≡◌, ℕ, zero, suc, ◌<◌, Bool, true, false, cond, eqb, nat_eq, List, [], ◌∷◌, ◌++◌, map, length, Option, Some, None, slice_set, ap, ◌∙◌, sym, subst, refl}
+use Rattle.std.proofs.Common.{◌≡◌, ◌≢◌, ℕ, zero, suc, ◌<◌, Bool, true, false, cond, eqb, nat_eq, List, [], ◌∷◌, ◌++◌, map, length, Option, Some, None, slice_set, ap, ◌∙◌, sym, subst, refl, arith}
 use Rattle.std.specs.Option.{option_map, is_some}
 use Rattle.std.specs.List.{slice_get}
 use Rattle.std.specs.FinMap.{FinMap, contains_key, insert}
@@ -10,6 +10,7 @@ use Rattle.std.proofs.lemmas.List.Elements.{filter-append}
 use Rattle.base.specs.declared.key.Key.{Key}
 use Rattle.base.specs.Order.{key_cmp}
 use Rattle.base.specs.World.{with_events}
+use Rattle.base.specs.Run.{holds-with_events}
 use Rattle.base.specs.Rising.{AreNew}
 use Rattle.member.specs.declared.content.Content.{Content}
 use Rattle.member.specs.declared.event.Event.{Event}
@@ -18,10 +19,10 @@ use Rattle.member_laws.specs.Runs.{Cluster}
 use Rattle.windows.specs.declared.part.Part.{Part}
 use Rattle.windows.specs.Parts.{is_in, for_own, joined}
 use Rattle.windows.specs.View.{world_of}
+use Rattle.windows.proofs.Admitting.{absent}
+use Rattle.windows.proofs.Deliveries.{all_at, all_before}
 use Rattle.windows.proofs.Cuts.{joined_joined}
 use Rattle.exchange.specs.Parts.{HaveCome}
-use Rattle.exchange.proofs.Members.{at_place, elsewhere}
-use Rattle.exchange.proofs.Pending.{next_is_new}
 
 pub twice : {A B C : Type 0} (f : A → B) (g : B → C) (o : Option A) → option_map g (option_map f o) ≡ option_map (λ x. g (f x)) o
 twice f g None = refl
@@ -35,6 +36,26 @@ pub same_count : {A : Type 0} (xs : List A) (i : ℕ) (x : A) → length (slice_
 same_count [] i x = refl
 same_count (y ∷ ys) zero x = refl
 same_count (y ∷ ys) (suc i) x = ap suc (same_count ys i x)
+
+pub at_place : {X : Type 0} (xs : List X) (i : ℕ) (x : X) → i < length xs → slice_get (slice_set xs i x) i ≡ Some x
+at_place [] i x h = absurd (omega arith)
+at_place (y ∷ ys) zero x h = refl
+at_place (y ∷ ys) (suc i) x h = at_place ys i x (omega arith)
+
+pub elsewhere : {X : Type 0} (xs : List X) (i q : ℕ) (x : X) → ¬ (q ≡ i) → slice_get (slice_set xs i x) q ≡ slice_get xs q
+elsewhere [] i q x h = refl
+elsewhere (y ∷ ys) zero zero x h = absurd (h refl)
+elsewhere (y ∷ ys) zero (suc q) x h = refl
+elsewhere (y ∷ ys) (suc i) zero x h = refl
+elsewhere (y ∷ ys) (suc i) (suc q) x h = elsewhere ys i q x (λ e. h (ap suc e))
+
+-- of new events that are added one after the other, each is new when its turn comes
+next_is_new : {C : Type 0} (pending : FinMap key_cmp C) (before : List (Key × C)) (e : Key × C) (after : List (Key × C)) → AreNew pending (before ++ e ∷ after)
+    → contains_key (with_events pending before) e.0 ≡ false
+next_is_new pending before e after new =
+    absent (with_events pending before) e.0 (holds-with_events (λ q. q ≢ e.0) before pending
+    (λ q here same. false≢true (sym (all_at (λ f. contains_key pending f.0 ≡ false) before after e new.unlike_pending) ∙ ap (contains_key pending) (sym same) ∙ here))
+    (all_before (λ f g. f.0 ≢ g.0) before after e new.unlike_each_other))
 
 -- what stands behind a value that is there
 pub behind : {A B : Type 0} (f : A → B) (o : Option A) (y : B) → option_map f o ≡ Some y → (x : A) × (o ≡ Some x) × (f x ≡ y)

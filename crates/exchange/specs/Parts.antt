@@ -1,27 +1,26 @@
 -- A cluster that is divided into parts, and what the windows of all parts make of it.
-use Rattle.std.specs.Prelude.{◌≡◌, ◌↔◌, ℕ, ◌<◌, ◌≤◌, true, List, [], ◌∷◌, ◌++◌, map, length, nat_lt, unwrap_or, Option, Some, None}
+use Rattle.std.specs.Prelude.{◌≡◌, ◌↔◌, ℕ, ◌<◌, ◌≤◌, true, List, [], ◌∷◌, ◌++◌, map, length, unwrap_or, Option, Some, None}
 use Rattle.std.specs.List.{AllByRecursion, slice_get, flat_map}
 use Rattle.std.specs.List.Sorted.{IsPermutation, IsSorted}
 use Rattle.std.specs.Option.{option_map}
-use Rattle.std.specs.FinMap.{FinMap, contains_key}
+use Rattle.std.specs.FinMap.{FinMap, empty}
 use Rattle.std.specs.declared.cmp.Ordering.{Ordering}
 use Rattle.base.specs.declared.key.Key.{Key}
 use Rattle.base.specs.Order.{key_cmp}
-use Rattle.base.specs.Rising.{IsNumbered, IsRising, IsPlaceBefore}
-use Rattle.scenario.specs.Setup.{Setup, member_count}
+use Rattle.base.specs.Rising.{IsRising, IsPlaceBefore}
+use Rattle.scenario.specs.Setup.{Setup}
 use Rattle.scenario.specs.Division.{Deal}
 use Rattle.trace.specs.declared.row.Row.{Row}
 use Rattle.worker_queue.specs.Queue.{NoneIsBelow}
 use Rattle.member.specs.declared.content.Content.{Content}
 use Rattle.member.specs.declared.event.Event.{Event}
 use Rattle.member.specs.Places.{place_of}
-use Rattle.member.specs.State.{State}
 use Rattle.member.specs.View.{pair_of}
-use Rattle.member_laws.specs.Runs.{Cluster, IsSoundCluster}
+use Rattle.member_laws.specs.Runs.{Cluster}
 use Rattle.windows.specs.declared.part.Part.{Part}
 use Rattle.windows.specs.declared.part.Done.{Done}
 use Rattle.windows.specs.Parts.{IsCommonBound, part_of, is_in, for_own, joined}
-use Rattle.windows.specs.Cluster.{IsLeastDelay, IsRowOrder}
+use Rattle.windows.specs.Cluster.{IsLeastDelay, IsRowOrder, IsWholeCluster}
 use Rattle.windows.specs.View.{world_of}
 use Rattle.windows.specs.Window.{is_own, IsWindow}
 use Rattle.windows.specs.Wears.{WearsInWindow}
@@ -30,11 +29,9 @@ use Rattle.windows.specs.Wears.{WearsInWindow}
 abbrev pub part_number : Deal → ℕ → ℕ
 part_number deal m = unwrap_or (slice_get deal.part_of m) deal.parts
 
--- a cluster of all members of the scenario, in which each event that pends has a number that its sender has used
-pub record IsWholeCluster (s : Setup) (w : Cluster) : Type 0 where
-  pub sound : IsSoundCluster s w
-  pub numbered : IsNumbered (λ (t : State). t.next_number) w
-  pub peopled : (m : ℕ) → contains_key w.members m ≡ nat_lt m (member_count s)
+-- a cluster of nobody, in which nothing pends
+abbrev pub nobody : Cluster
+nobody = record { members = empty; pending = empty }
 
 -- no later than that moment, where there is one
 abbrev pub IsUpTo : Option ℕ → ℕ → Type 0

@@ -1,7 +1,6 @@
 //! The run of a scenario: every event in the order of the keys, its rows in the order made.
 #![tactic(auto)]
 
-mod cluster;
 mod in_turn;
 mod laws;
 mod opening;
@@ -9,7 +8,6 @@ mod parts;
 mod rows;
 mod run;
 mod setting;
-mod stand_in;
 pub mod testing;
 #[cfg(test)]
 mod tests;
@@ -19,8 +17,13 @@ mod tests_meeting;
 mod tests_reports;
 #[cfg(test)]
 mod tests_seeds;
+#[cfg(test)]
+mod tests_turns;
 mod turns;
 
 pub use in_turn::run_in_turn;
-pub use laws::{a_run_exists, events_are_new, keys_rise, rows_rise, the_run_is_one};
+pub use laws::{
+    a_run_exists, events_are_new, keys_rise, rows_rise, the_run_is_one,
+    the_window_of_all_is_the_run,
+};
 pub use run::{Summary, run_one};

@@ -4,10 +4,9 @@ ghost use Rattle.scenario.specs.Setup.{member_count};
 ghost use Rattle.member.specs.Opening.{opening};
 ghost use Rattle.worker_queue.specs.View.{set_of};
 ghost use Rattle.windows.specs.View.{world_of};
-ghost use Rattle.exchange.specs.Parts.{part_number, StandFor};
-ghost use Rattle.exchange.specs.Openings.{opened_below, nobody};
+ghost use Rattle.windows.specs.Admitting.{opened_below};
+ghost use Rattle.exchange.specs.Parts.{nobody, part_number, StandFor};
 
-use crate::stand_in::{admit, new_part};
 use base::{MemberId, Memory};
 use member::Event;
 use scenario::{Division, Scenario};
@@ -38,7 +37,7 @@ fn empty_parts(alloc: Global, count: usize) -> Result<Vec<Part<TreeQueue<Event>>
 {
     let mut parts = Vec::new(alloc);
     for number in 0..count {
-        let part = new_part(alloc, number, TreeQueue::new(alloc));
+        let part = Part::new(alloc, number, TreeQueue::new(alloc));
         match parts.push(part) {
             Ok(()) => {}
             Err(_) => return Err(Memory),
@@ -85,7 +84,7 @@ fn admit_one<Q: EventQueue<Event> + Drop>(
 {
     let place = division.part(member);
     let part = &mut parts[place];
-    match admit(part, alloc, scenario, member) {
+    match part.admit(alloc, scenario, member) {
         Ok(()) => Ok(()),
         Err(Memory) => Err(Memory),
     }

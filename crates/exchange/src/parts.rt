@@ -10,7 +10,6 @@ ghost use Rattle.std.specs.Option.{option_map};
 ghost use Rattle.links.specs.Least.{lesser_of};
 ghost use Rattle.exchange.specs.Parts.{part_number, IsLeastMoment, HaveTheirMembers, HaveCome};
 
-use crate::stand_in::{least as least_of, receive};
 use base::{Key, Memory, Moment};
 use member::Event;
 use scenario::Division;
@@ -23,7 +22,7 @@ pub(crate) fn least_moment<Q: EventQueue<Event> + Drop>(parts: &[Part<Q>]) -> Op
 {
     let mut least = None;
     for part in parts {
-        least = lesser(least, least_of(part));
+        least = lesser(least, part.least());
     }
     least
 }
@@ -80,7 +79,7 @@ fn place<Q: EventQueue<Event> + Drop>(
     let place = division.part(key.to);
     let event = Event { key, content };
     let part = &mut parts[place];
-    match receive(part, event) {
+    match part.receive(event) {
         Ok(()) => Ok(()),
         Err(Memory) => Err(Memory),
     }

@@ -1,6 +1,6 @@
 use Rattle.std.proofs.Common.{◌≡◌, ◌<◌, below_more, subst, arith}
 use Rattle.scenario.specs.Setup.{member_count}
-use Rattle.exchange.specs.Openings.{opened_below}
+use Rattle.windows.specs.Admitting.{opened_below}
 use Rattle.exchange.specs.Parts.{StandFor}
 use Rattle.exchange.proofs.opening.admit_all.Goals as goal
 

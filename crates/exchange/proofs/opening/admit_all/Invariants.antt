@@ -1,5 +1,5 @@
 use Rattle.std.proofs.Common.{ℕ, ◌<◌}
-use Rattle.exchange.specs.Openings.{opened_below}
+use Rattle.windows.specs.Admitting.{opened_below}
 use Rattle.exchange.specs.Parts.{part_number, StandFor}
 use Rattle.exchange.proofs.opening.admit_all.Given as goal
 

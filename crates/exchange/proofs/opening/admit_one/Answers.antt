@@ -14,5 +14,5 @@ pub returns-in-Ok-clause-opened : goal.returns-in-Ok-clause-opened
 returns-in-Ok-clause-opened g c =
     let part = c.index_mut-part.result.now in
     let here = slice_get_read c.args.parts.now.items _ c.part-place.result part refl (omega (arith, c.requires.so_far.count, c.part-place.ensures.below)) c.index_mut-part.ensures.value in
-    one_more_stands g.Q.EventQueue.set c.args.scenario.now c.args.division.now c.args.parts.now.items c.args.member c.part-place.result part c.admit.new.part c.requires.so_far
+    one_more_stands g.Q.EventQueue.set c.args.scenario.now c.args.division.now c.args.parts.now.items c.args.member c.part-place.result part c.admit.new.self c.requires.so_far
     (ap (λ o. unwrap_or o c.args.division.now.parts) c.part-place.ensures.value) here c.in-Ok.ensures.world

@@ -27,4 +27,4 @@ returns-in-Ok g c =
     let deal = c.args.division.now in
     let own = ap (λ o. unwrap_or o deal.parts) c.part-place.ensures.value in
     let here = slice_get_read c.args.parts.now.items _ c.part-place.result part refl (omega (arith, c.requires.count, c.part-place.ensures.below)) c.index_mut-part.ensures.value in
-    one_comes g.Q.EventQueue.set (part_number deal) c.args.parts.now.items c.part-place.result part c.receive.new.part c.args.event own here c.in-Ok.ensures.world (omega (arith, c.requires.count, c.part-place.ensures.below))
+    one_comes g.Q.EventQueue.set (part_number deal) c.args.parts.now.items c.part-place.result part c.receive.new.self c.args.event own here c.in-Ok.ensures.world (omega (arith, c.requires.count, c.part-place.ensures.below))
