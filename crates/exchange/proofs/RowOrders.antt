@@ -1,37 +1,136 @@
--- The order of rows by their fields agrees with the order of their places in the trace.
-use Rattle.std.proofs.Common.{◌≡◌, inl, inr, ap, ◌∙◌, sym, refl}
-use Rattle.std.specs.Ordering.{nat_cmp, ordering_then}
-use Rattle.std.specs.Cmp.{IsTotalOrder, nat_cmp_is, tied_itself}
+-- The rows of windows in row order.
+use Rattle.std.proofs.Common.{◌≡◌, ℕ, zero, suc, ◌+◌, ◌<◌, Bool, true, false, cond, not, eqb, List, [], ◌∷◌, ◌++◌, map, length, take, get_or, vec_len, append-nil, count_by, ap, ◌∙◌, sym, subst, refl, arith}
+use Rattle.std.specs.List.{AllByRecursion, flat_map}
+use Rattle.std.specs.List.Sorted.{IsPermutation, IsSorted}
+use Rattle.std.specs.Ordering.{is_lt}
 use Rattle.std.specs.declared.cmp.Ordering.{Ordering}
-use Rattle.std.specs.declared.cmp.Ordering.TheVariants.{Less, Equal, Greater}
+use Rattle.std.specs.declared.cmp.Ordering.TheVariants.{Less}
+use Rattle.std.specs.FinMap.{FinMap}
+use Rattle.std.proofs.lemmas.Bool.{true≢false, eqb-true}
+use Rattle.std.proofs.Math.Seq.{take-append_seam}
+use Rattle.std.proofs.lemmas.List.Sums.{sum_by-cons}
+use Rattle.std.specs.Cmp.{IsTotalOrder}
 use Rattle.base.specs.declared.key.Key.{Key}
-use Rattle.base.specs.Order.{key_cmp, key_total}
-use Rattle.base.specs.Rising.{IsPlaceBefore}
+use Rattle.base.specs.Order.{key_cmp}
+use Rattle.base.specs.World.{Run}
+use Rattle.base.specs.Rising.{IsRising, IsPlaceBefore}
+use Rattle.base.proofs.Rising.{all_weaker, rows_rise}
+use Rattle.scenario.specs.Setup.{Setup, IsSound}
 use Rattle.trace.specs.declared.row.Row.{Row}
+use Rattle.member.specs.declared.content.Content.{Content}
+use Rattle.member.specs.declared.event.Event.{Event}
 use Rattle.member.specs.Places.{place_of}
-use Rattle.windows.specs.Cluster.{IsRowOrder}
+use Rattle.member.specs.Step.{step}
+use Rattle.member.specs.View.{pair_of}
+use Rattle.member.proofs.Fair.{steps_later, steps_counted}
+use Rattle.member_laws.specs.Runs.{Cluster}
+use Rattle.windows.specs.declared.part.Part.{Part}
+use Rattle.windows.specs.declared.part.Done.{Done}
+use Rattle.windows.specs.Parts.{PartRun}
+use Rattle.windows.specs.View.{world_of}
+use Rattle.windows.specs.Window.{is_own}
+use Rattle.windows.proofs.Sorting.{by_turn}
+use Rattle.windows.proofs.PartRuns.{Kept, kept_later, next_of}
+use Rattle.exchange.specs.Parts.{RowsRise, HadWindows}
 
-then_then : (a b c : Ordering) → ordering_then a (ordering_then b c) ≡ ordering_then (ordering_then a b) c
-then_then Less b c = refl
-then_then Equal b c = refl
-then_then Greater b c = refl
+-- ---- a part writes in row order
 
--- first by the key, then by what follows
-by_key : (a b : Key) (rest : Ordering)
-    → ordering_then (nat_cmp a.at b.at) (ordering_then (nat_cmp a.to b.to) (ordering_then (nat_cmp a.from b.from) (ordering_then (nat_cmp a.number b.number) rest))) ≡ ordering_then (key_cmp a b) rest
-unfolding key_cmp
-by_key a b rest =
-    ap (λ o. ordering_then (nat_cmp a.at b.at) (ordering_then (nat_cmp a.to b.to) o)) (then_then (nat_cmp a.from b.from) (nat_cmp a.number b.number) rest)
-    ∙ ap (ordering_then (nat_cmp a.at b.at)) (then_then (nat_cmp a.to b.to) _ rest) ∙ then_then (nat_cmp a.at b.at) _ rest
+module _ (s : Setup) (sound : IsSound s) (owns : ℕ → Bool) (bound : ℕ) where
+  -- the steps of a part as a run of the machine that keeps only own events
+  kept_run : (ks : List Key) (p v : Cluster) (out : List (Key × Content)) (rows : List Row) → PartRun (step s) owns bound p ks out rows v → Run (Kept (step s) owns) bound p ks rows v
+  kept_run [] p v out rows run = (run.0, run.2)
+  kept_run (k ∷ ks) p v out rows run =
+      let is = run.5 in
+      let early = is.early in
+      (run.0, run.3, run.4, omega arith, next_of (step s) owns bound p run.0 k run.1 run.3 is, kept_run ks run.0 v run.2 run.4 run.6, run.8)
 
-module _ (cmp rest : Row → Row → Ordering)
-    (fields : (a b : Row) → cmp a b ≡ ordering_then (nat_cmp a.at b.at) (ordering_then (nat_cmp a.member b.member)
-    (ordering_then (nat_cmp a.from b.from) (ordering_then (nat_cmp a.number b.number) (ordering_then (nat_cmp a.index b.index) (rest a b)))))) where
-  by_place : (a b : Row) → IsPlaceBefore (place_of a) (place_of b) → ordering_then (key_cmp (place_of a).0 (place_of b).0) (ordering_then (nat_cmp a.index b.index) (rest a b)) ≡ Less
-  by_place a b (inl before) = ap (λ o. ordering_then o (ordering_then (nat_cmp a.index b.index) (rest a b))) before
-  by_place a b (inr same) =
-      let tied : key_cmp (place_of a).0 (place_of b).0 ≡ Equal = ap (λ k. key_cmp (place_of a).0 k) (sym same.0) ∙ tied_itself key_total (place_of a).0 in
-      ap (λ o. ordering_then o (ordering_then (nat_cmp a.index b.index) (rest a b))) tied ∙ ap (λ o. ordering_then o (rest a b)) (sym (nat_cmp_is a.index b.index Less same.1))
+  pub part_rows_rise : (ks : List Key) (p v : Cluster) (out : List (Key × Content)) (rows : List Row) → PartRun (step s) owns bound p ks out rows v → IsRising IsPlaceBefore (map place_of rows)
+  part_rows_rise ks p v out rows run =
+      rows_rise (Kept (step s) owns) (kept_later (step s) owns (steps_later s sound)) bound place_of (steps_counted s sound) ks p v rows (kept_run ks p v out rows run)
 
-  pub row_order : IsTotalOrder cmp → IsRowOrder cmp
-  row_order total = record { total = total; agrees = λ a b before. fields a b ∙ by_key (place_of a).0 (place_of b).0 _ ∙ by_place a b before }
+module _ {Q : Type 0} (set : Q → FinMap key_cmp Event) (s : Setup) (sound : IsSound s) (bound : ℕ) where
+  -- so does each window
+  pub windows_rise : (ps : List (Part Q)) (ds : List (Done Q)) → HadWindows set s bound ps ds → RowsRise ds
+  windows_rise [] [] had = tt
+  windows_rise [] (d ∷ ds) had = absurd had
+  windows_rise (p ∷ ps) [] had = absurd had
+  windows_rise (p ∷ ps) (d ∷ ds) had = (
+    part_rows_rise s sound (is_own (world_of set p)) bound had.0.0 (world_of set p) (world_of set d.part) (map pair_of d.out.items) d.rows.items had.0.1.run,
+    windows_rise ps ds had.1,
+  )
+
+-- ---- rows that rise are sorted
+
+module _ {A : Type 0} (lt : A → A → Bool) where
+  sorted_from_rising : (xs : List A) → IsRising (λ x y. lt y x ≡ false) xs → (k : ℕ) (d : A) → k + 1 < length xs → lt (get_or xs (k + 1) d) (get_or xs k d) ≡ false
+  sorted_from_rising [] up k d within = absurd (omega arith)
+  sorted_from_rising (x ∷ []) up k d within = absurd (omega arith)
+  sorted_from_rising (x ∷ y ∷ ys) up zero d within = up.0.0
+  sorted_from_rising (x ∷ y ∷ ys) up (suc k) d within =
+      let e : suc (k + 1) ≡ suc k + 1 = omega arith in
+      subst (λ n. lt (get_or (x ∷ y ∷ ys) n d) (get_or (y ∷ ys) k d) ≡ false) e (sorted_from_rising (y ∷ ys) up.1 k d (omega arith))
+
+all_of_places : (P : Key × ℕ → Type 0) (rows : List Row) → AllByRecursion P (map place_of rows) → AllByRecursion (λ row. P (place_of row)) rows
+all_of_places P [] all = tt
+all_of_places P (row ∷ rows) all = (all.0, all_of_places P rows all.1)
+
+module _ (cmp : Row → Row → Ordering) (total : IsTotalOrder cmp) (agrees : (a b : Row) → IsPlaceBefore (place_of a) (place_of b) → cmp a b ≡ Less) where
+  after_place : (a b : Row) → IsPlaceBefore (place_of a) (place_of b) → is_lt (cmp b a) ≡ false
+  after_place a b before = ap is_lt (by_turn cmp total a b Less (agrees a b before))
+
+  rising_by_places : (rows : List Row) → IsRising IsPlaceBefore (map place_of rows) → IsRising (λ a b. is_lt (cmp b a) ≡ false) rows
+  rising_by_places [] up = tt
+  rising_by_places (row ∷ rows) up =
+      (all_weaker _ (λ b. is_lt (cmp b row) ≡ false) (λ b before. after_place row b before) rows (all_of_places (IsPlaceBefore (place_of row)) rows up.0), rising_by_places rows up.1)
+
+  pub sorted_by_places : (rows : List Row) → IsRising IsPlaceBefore (map place_of rows) → IsSorted cmp rows
+  sorted_by_places rows up = λ k d low within. sorted_from_rising (λ a b. is_lt (cmp a b)) rows (rising_by_places rows up) k d within
+
+  -- ---- where one part alone wrote rows
+
+  module _ {Q : Type 0} where
+    abbrev wrote : Done Q → Bool
+    wrote d = not (eqb (vec_len d.rows) 0)
+
+    no_rows : (d : Done Q) → wrote d ≡ false → d.rows.items ≡ []
+    no_rows d none = empty_list d.rows.items (by_test (eqb (vec_len d.rows) 0) refl none)
+      where
+        empty_list : (rows : List Row) → length rows ≡ 0 → rows ≡ []
+        empty_list [] e = refl
+        empty_list (row ∷ rows) e = absurd (omega arith)
+
+        by_test : (b : Bool) → eqb (vec_len d.rows) 0 ≡ b → not b ≡ false → length d.rows.items ≡ 0
+        by_test true e h = let many = eqb-true (vec_len d.rows) 0 e in omega (arith, d.rows.ok.0)
+        by_test false e h = absurd (true≢false h)
+
+    none_or_more : (d : Done Q) (rest : List Row) (n : ℕ) (b : Bool) → wrote d ≡ b → cond b 1 0 + n ≡ 0 → (n ≡ 0 → rest ≡ []) → d.rows.items ++ rest ≡ []
+    none_or_more d rest n true is none later = absurd (omega arith)
+    none_or_more d rest n false is none later = ap (λ l. l ++ rest) (no_rows d is) ∙ later (omega arith)
+
+    none_wrote : (ds : List (Done Q)) → count_by wrote ds ≡ 0 → flat_map (λ d. d.rows.items) ds ≡ []
+    none_wrote [] none = refl
+    none_wrote (d ∷ ds) none =
+        let more = sum_by-cons (λ (d : Done Q). cond (wrote d) 1 0) d ds in
+        none_or_more d (flat_map (λ d. d.rows.items) ds) (count_by wrote ds) (wrote d) refl (omega arith) (none_wrote ds)
+
+    one_or_more : (d : Done Q) (rest : List Row) (n : ℕ) (b : Bool) → wrote d ≡ b → cond b 1 0 + n < 2 → IsRising IsPlaceBefore (map place_of d.rows.items) → (n ≡ 0 → rest ≡ [])
+        → (n < 2 → IsRising IsPlaceBefore (map place_of rest)) → IsRising IsPlaceBefore (map place_of (d.rows.items ++ rest))
+    one_or_more d rest n true is few up none later =
+        subst (λ l. IsRising IsPlaceBefore (map place_of l)) (sym (ap (λ l. d.rows.items ++ l) (none (omega arith)) ∙ append-nil d.rows.items)) up
+    one_or_more d rest n false is few up none later = subst (λ l. IsRising IsPlaceBefore (map place_of (l ++ rest))) (sym (no_rows d is)) (later (omega arith))
+
+    one_alone : (ds : List (Done Q)) → count_by wrote ds < 2 → RowsRise ds → IsRising IsPlaceBefore (map place_of (flat_map (λ d. d.rows.items) ds))
+    one_alone [] few up = tt
+    one_alone (d ∷ ds) few up =
+        let more = sum_by-cons (λ (d : Done Q). cond (wrote d) 1 0) d ds in
+        one_or_more d (flat_map (λ d. d.rows.items) ds) (count_by wrote ds) (wrote d) refl (omega arith) up.0 (none_wrote ds) (λ low. one_alone ds low up.1)
+
+    pub one_wrote : (ds : List (Done Q)) → count_by wrote ds < 2 → RowsRise ds → IsSorted cmp (flat_map (λ d. d.rows.items) ds)
+    one_wrote ds few up = sorted_by_places (flat_map (λ d. d.rows.items) ds) (one_alone ds few up)
+
+pub as_it_is : {A : Type 0} (xs ys : List A) → ys ≡ xs → IsPermutation xs ys
+as_it_is xs ys same = record { moves = []; below = tt; is = same }
+
+-- what a sort has written over the whole list
+pub all_written : {A : Type 0} (n : ℕ) (xs ys : List A) → length xs ≡ n → take n (xs ++ ys) ≡ xs
+all_written n xs ys many = subst (λ k. take k (xs ++ ys) ≡ xs) many (take-append_seam xs ys)
