@@ -6,19 +6,24 @@ use exchange::testing::TWO_MEMBERS;
 use files::testing::Fails;
 use std::test::Fail;
 
-/// A name of which no file can be made, the name of the report, and what is told and left as the trace. A
-/// trace is made before its report, so it is replaced by nothing where the report can't be made.
+/// Words, a name of which no file can be made, and what is told and left as the trace. A trace is made before
+/// its report, so it is replaced by nothing where the report can't be made. One file doesn't take both.
 const UNMADE: [(&str, &str, &str, &str); 3] = [
-    ("r.txt", "r.txt", "swimsim: file r.txt\n", ""),
     (
-        "t.csv",
+        "run two.toml --trace t.csv --report r.txt",
         "r.txt",
+        "swimsim: file r.txt\n",
+        "",
+    ),
+    (
+        "run two.toml --trace t.csv --report r.txt",
+        "t.csv",
         "swimsim: file t.csv\n",
         "an older trace, which is replaced",
     ),
     (
+        "run two.toml --trace t.csv --report t.csv",
         "",
-        "t.csv",
         "swimsim: file t.csv\n",
         "an older trace, which is replaced",
     ),
