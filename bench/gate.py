@@ -8,9 +8,9 @@ each crate: its proof; its tests, with the second proof of the crate that they t
 there are and what one cost on average, the first check of the crate over nothing included. Linux only.
 
 Each command that the gate starts is looked at several times a second. What it used since the last look is known once it
-has ended, by what the gate's own process then has of ended children, so nothing is lost; only of commands that end
-between the same two looks is the rest dealt out in equal parts. `other` is the gate itself, and what is too short for a
-look.
+has ended, by what the gate's own process then has of ended children, so nothing is lost: of commands that end between
+the same two looks the rest is dealt out in equal parts, and what is too short for a look goes to the next that ends.
+`other` is the gate itself.
 """
 
 import os
