@@ -6,13 +6,13 @@ use Rattle.std.specs.Io.KnownBytes.{Appends}
 use Rattle.clap.specs.Words.{Text}
 use Rattle.scenario.specs.Setup.{Setup}
 use Rattle.cli.specs.Outcomes.{Shelf, ScenarioFails, FileFails, RunFails, RefusesFile, Empties, EmptiesTrace, RunsAll, Done, report_word, Fails}
-use Rattle.cli.specs.Printed.{rows_line}
-use Rattle.cli.specs.Words.{Answers, AsksForRun, AsksForCheck, IsCommand}
-use Rattle.cli.specs.declared.words.Asked.{Asked}
-use Rattle.cli.specs.declared.words.Asked.TheVariants as asked
-use Rattle.cli.specs.declared.words.RunWords.{RunWords}
-use Rattle.cli.specs.declared.failure.Failure.{Failure}
-use Rattle.cli.specs.declared.failure.Failure.TheVariants.{File, Usage, Rule, Workers, Division, Run, Memory, Output}
+use Rattle.command_line.specs.Printed.{rows_line}
+use Rattle.command_line.specs.Words.{Answers, AsksForRun, AsksForCheck, IsCommand}
+use Rattle.command_line.specs.declared.words.Asked.{Asked}
+use Rattle.command_line.specs.declared.words.Asked.TheVariants as asked
+use Rattle.command_line.specs.declared.words.RunWords.{RunWords}
+use Rattle.command_line.specs.declared.failure.Failure.{Failure}
+use Rattle.command_line.specs.declared.failure.Failure.TheVariants.{File, Usage, Rule, Workers, Division, Run, Memory, Output}
 
 -- words with an answer are a command
 pub is_command : (words : List Text) (answer : Asked) → Answers words answer → IsCommand words

@@ -1,7 +1,2 @@
-mod App
 mod Commands
-mod KeptLemmas
-mod Numbers
-mod Parts
-mod RunRows
 mod Stored

@@ -4,7 +4,7 @@ use Rattle.std.specs.Io.KnownBytes.{Appends, Keeps}
 use Rattle.clap.specs.Words.{Text}
 use Rattle.trace.specs.Sinks.{AppendsBeginning}
 use Rattle.trace.proofs.Beginnings.{Appends-none}
-use Rattle.cli.specs.Files.{Known, HoldsNow, ClosesAs, KeepsOthers}
+use Rattle.files.specs.Files.{Known, HoldsNow, ClosesAs, KeepsOthers}
 use Rattle.cli.specs.Outcomes.{Shelf, HoldsBeginning, HoldsReport, BeginsReport, KeepsRest}
 
 -- an empty file, closed after a text was written to it, holds the text

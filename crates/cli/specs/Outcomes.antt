@@ -11,15 +11,15 @@ use Rattle.trace.specs.declared.row.Row.{Row}
 use Rattle.reports.specs.Text.{report_text}
 use Rattle.exchange.specs.Runs.{IsRunOf, WearsOut}
 use Rattle.clap.specs.Words.{Text}
-use Rattle.cli.specs.Files.{Known, Holds, HoldsNow, IsAbsent, KeepsOthers}
-use Rattle.cli.specs.Words.{AsksForRun, AsksForCheck, AsksForHelp, IsNoCommand}
-use Rattle.cli.specs.Division.{AsksForWorkers, Divides}
-use Rattle.cli.specs.Printed.{rows_line, members_line}
-use Rattle.cli.specs.Failures.{status_of, RefusesDivision, RefusesWorkers}
-use Rattle.cli.specs.declared.words.RunWords.{RunWords}
-use Rattle.cli.specs.declared.words.Split.{Split}
-use Rattle.cli.specs.declared.failure.Failure.{Failure}
-use Rattle.cli.specs.declared.failure.Failure.TheVariants.{File, Usage, Rule, Run, Memory, Output}
+use Rattle.files.specs.Files.{Known, Holds, HoldsNow, IsAbsent, KeepsOthers}
+use Rattle.command_line.specs.Words.{AsksForRun, AsksForCheck, AsksForHelp, IsNoCommand}
+use Rattle.command_line.specs.Division.{AsksForWorkers, Divides}
+use Rattle.command_line.specs.Printed.{rows_line, members_line}
+use Rattle.command_line.specs.Failures.{status_of, RefusesDivision, RefusesWorkers}
+use Rattle.command_line.specs.declared.words.RunWords.{RunWords}
+use Rattle.command_line.specs.declared.words.Split.{Split}
+use Rattle.command_line.specs.declared.failure.Failure.{Failure}
+use Rattle.command_line.specs.declared.failure.Failure.TheVariants.{File, Usage, Rule, Run, Memory, Output}
 
 -- what each name stands for, as far as it is known
 abbrev pub Shelf : Type 0

@@ -1,21 +1,15 @@
-//! The command line of swimsim: what the words ask for, the files that it takes, and how it ends.
+//! The program: it does what the words of a command line ask for, over files and writers that are
+//! handed in, and answers the exit status.
 #![tactic(auto)]
 
-mod division;
-mod failure;
-mod files;
 mod program;
 mod simulation;
 pub mod system;
-pub mod testing;
-mod words;
 
-pub use division::{division_asked, workers_asked};
-pub use failure::{Failure, refuse};
-pub use files::{FileFault, Files};
+pub use command_line::{Asked, Failure, RunWords, Split, division_asked, parse, refuse, workers_asked};
+pub use files::{FileFault, Files, testing};
 pub use program::command;
 pub use simulation::{check, simulate};
-pub use words::{Asked, RunWords, Split, parse};
 
 #[cfg(test)]
 mod report_tests;

@@ -1,17 +1,14 @@
 //! The program as a function over files and writers.
 ghost use Rattle.std.specs.Prelude.{◌≡◌, ◌≢◌, ◌⊎◌, ◌≤◌, map, Ok, Some, None, IfOk, IfErr, OnOk, IsErrOf};
-ghost use Rattle.std.specs.Io.KnownBytes.{Appends};
-ghost use Rattle.cli.specs.Words.{IsCommand, IsNoCommand};
-ghost use Rattle.cli.specs.Printed.{members_line, rows_line};
+ghost use Rattle.command_line.specs.Words.{IsCommand, IsNoCommand};
 ghost use Rattle.cli.specs.Outcomes.{Done, Fails, Ends, RunsAll, RunFails, RunsFile, FileFails, RunsScenario, ScenarioFails, StoresRun, StoreFails, report_word, HasVerdict, LoadFails};
 
-use crate::division::{division_asked, workers_asked};
-use crate::failure::{Failure, refuse};
-use crate::files::{FileFault, Files};
 use crate::simulation::{check, simulate};
-use crate::words::{Asked, RunWords, parse};
-use clap::Error;
+use command_line::{
+    Asked, Failure, RunWords, division_asked, parse, print_help, print_members, print_rows, refuse, workers_asked,
+};
 use exchange::Summary;
+use files::{FileFault, Files};
 use scenario::{Scenario, Workers};
 use std::alloc::Global;
 use std::convert::AsStr;
@@ -88,38 +85,6 @@ fn perform<'a, S: AsStr, F: Files, O: Write>(
             Err(failure) => Err(failure),
         },
     }
-}
-
-/// Prints how many rows a trace has.
-fn print_rows<'a, O: Write>(rows: u64, out: &mut O) -> Result<(), Failure<'a>>
-    ensures printed { OnOk result (Appends (O.contents out.old) (O.contents out.new) (rows_line rows)) }
-    ensures failure { IfErr result (λ failure. failure ≡ Failure.Output) }
-{
-    if writeln!(out, "rows {rows}").is_err() || out.flush().is_err() {
-        return Err(Failure::Output);
-    }
-    Ok(())
-}
-
-/// Prints how many members a scenario has.
-fn print_members<'a, O: Write>(members: usize, out: &mut O) -> Result<(), Failure<'a>>
-    ensures printed { OnOk result (Appends (O.contents out.old) (O.contents out.new) (members_line members)) }
-    ensures failure { IfErr result (λ failure. failure ≡ Failure.Output) }
-{
-    if writeln!(out, "members {members}").is_err() || out.flush().is_err() {
-        return Err(Failure::Output);
-    }
-    Ok(())
-}
-
-/// Prints the help that was asked for.
-fn print_help<'a, O: Write>(help: &Error, out: &mut O) -> Result<(), Failure<'a>>
-    ensures { IfErr result (λ failure. failure ≡ Failure.Output) }
-{
-    if write!(out, "{help}").is_err() || out.flush().is_err() {
-        return Err(Failure::Output);
-    }
-    Ok(())
 }
 
 /// Runs the scenario of one file, and writes its trace and its report to others.

@@ -1,6 +1,6 @@
 //! Runs that write a report too, and what is left where that fails.
 
-use crate::testing::Fails;
+use files::testing::Fails;
 use crate::tests::{Left, expect_refusal, files_with, left_by};
 use exchange::testing::TWO_MEMBERS;
 use std::test::Fail;

@@ -2,11 +2,11 @@
 ghost use Rattle.std.specs.Prelude.{◌≡◌, ◌≢◌, Ok, IfOk, IfErr, OnErr, IsErrOf};
 ghost use Rattle.scenario.specs.Rules.{verdict};
 ghost use Rattle.exchange.specs.Runs.{WearsOut};
-ghost use Rattle.cli.specs.Failures.{RefusesText};
+ghost use Rattle.command_line.specs.Failures.{RefusesText};
 ghost use Rattle.exchange.specs.Promise.{WritesRun, WritesBeginning};
 
-use crate::failure::Failure;
 use base::Fault;
+use command_line::Failure;
 use exchange::{Summary, run_one};
 use scenario::Scenario;
 use std::alloc::Global;

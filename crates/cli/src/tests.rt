@@ -1,4 +1,4 @@
-use crate::testing::{Fails, MemoryFiles, MemoryWriter};
+use files::testing::{Fails, MemoryFiles, MemoryWriter};
 use crate::{Failure, command, refuse};
 use base::Fault;
 use exchange::testing::TWO_MEMBERS;

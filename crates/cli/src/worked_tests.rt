@@ -1,7 +1,7 @@
 //! The worked runs, by the words that ask for them: what the program prints, and the files that it leaves.
 
 use crate::report_tests::{RUN, holds};
-use crate::testing::Fails;
+use files::testing::Fails;
 use crate::tests::{Left, files_with, left_by};
 use exchange::testing::{LOST_PATH, THREE_HELPERS, WORKED};
 use std::process::Abort;

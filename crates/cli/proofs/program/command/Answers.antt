@@ -1,8 +1,8 @@
 -- the status tells done from not done, and why
 use Rattle.std.proofs.Common.{◌≡◌, ◌≢◌, ◌≤◌, ◌⊎◌, ◌∙◌, ℕ, Err, ap, sym, refl, inl, inr, arith}
-use Rattle.cli.specs.Failures.{status_of}
-use Rattle.cli.specs.declared.failure.Failure.{Failure}
-use Rattle.cli.specs.declared.failure.Failure.TheVariants.{File, Usage, Rule, Workers, Division, Run, Memory, Output}
+use Rattle.command_line.specs.Failures.{status_of}
+use Rattle.command_line.specs.declared.failure.Failure.{Failure}
+use Rattle.command_line.specs.declared.failure.Failure.TheVariants.{File, Usage, Rule, Workers, Division, Run, Memory, Output}
 use Rattle.cli.proofs.program.command.Goals as goal
 
 -- no failure has the status of what was done

@@ -1,0 +1,4 @@
+mod App
+mod Numbers
+mod Parts
+mod RunRows

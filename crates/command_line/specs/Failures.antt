@@ -1,0 +1,88 @@
+-- How a command that failed ends, and what users read of it.
+use Rattle.std.specs.Prelude.{◌≡◌, ℕ, List, [], ◌∷◌, ◌++◌, Option, Result, Err, codes}
+use Rattle.std.specs.Fmt.{decimal}
+use Rattle.scenario.specs.Rules.{verdict}
+use Rattle.scenario.specs.Division.{Deal}
+use Rattle.scenario.specs.declared.division.DivisionFault.{DivisionFault}
+use Rattle.scenario.specs.declared.division.DivisionFault.TheVariants as division
+use Rattle.clap.specs.Words.{Text}
+use Rattle.base.specs.declared.fault.Fault.{Fault}
+use Rattle.base.specs.declared.fault.Fault.TheVariants as fault
+use Rattle.command_line.specs.Division.{AreParts, AsksForWorkers, DivisionFails, ListFails}
+use Rattle.command_line.specs.declared.words.Split.{Split}
+use Rattle.command_line.specs.declared.failure.Failure.{Failure}
+use Rattle.command_line.specs.declared.failure.Failure.TheVariants.{File, Usage, Rule, Workers, Division, Run, Memory, Output}
+
+-- the exit status
+abbrev pub status_of : Failure → ℕ
+status_of (File name) = 1
+status_of Output = 1
+status_of Usage = 2
+status_of (Rule number) = 3
+status_of Workers = 4
+status_of (Division cause) = 4
+status_of (Run cause) = 5
+status_of Memory = 5
+
+-- the number by which users know a fault of a run
+abbrev pub fault_number : Fault → ℕ
+fault_number fault.Memory = 1
+fault_number fault.Worn = 2
+fault_number fault.Write = 3
+fault_number fault.Relay = 4
+
+-- the number by which users know a fault of a division
+abbrev pub division_number : DivisionFault → ℕ
+division_number division.Length = 1
+division_number division.PartNumber = 2
+division_number division.Parts = 3
+
+-- what failed, in words
+abbrev pub message_of : Failure → List ℕ
+message_of (File name) = codes "file " ++ name.now
+message_of Usage = codes "usage"
+message_of (Rule number) = codes "scenario rule " ++ decimal number
+message_of Workers = codes "workers"
+message_of (Division cause) = codes "division V" ++ decimal (division_number cause)
+message_of (Run cause) = codes "run F" ++ decimal (fault_number cause)
+message_of Memory = codes "memory"
+message_of Output = codes "output"
+
+-- the line on standard error, with its line feed; there is none where standard output failed
+abbrev pub line_of : Failure → List ℕ
+line_of Output = []
+line_of failure = codes "swimsim: " ++ message_of failure ++ 10 ∷ []
+
+-- what a scenario's text may be refused by: a rule, which is its verdict, or want of memory
+abbrev pub RefusesText : List ℕ → Failure → Type 0
+RefusesText bytes (Rule rule) = verdict bytes ≡ Err rule
+RefusesText bytes Memory = Unit {0}
+RefusesText bytes _ = ⊥
+
+-- no number of workers is asked for
+abbrev pub RefusesWorkers : Option Text → Failure → Type 0
+RefusesWorkers word Workers = (workers : ℕ) → ¬ (AsksForWorkers word workers)
+RefusesWorkers word _ = ⊥
+
+-- the words give no division of so many members, or memory was refused
+abbrev pub RefusesDivision : ℕ → Split → Failure → Type 0
+RefusesDivision members split (Division cause) = DivisionFails members split cause
+RefusesDivision members split Memory = Unit {0}
+RefusesDivision members split _ = ⊥
+
+-- the same of the items of a list
+abbrev pub RefusesList : ℕ → List Text → Failure → Type 0
+RefusesList members items (Division cause) = ListFails members items cause
+RefusesList members items Memory = Unit {0}
+RefusesList members items _ = ⊥
+
+-- an item is no number of a part, or memory was refused
+abbrev pub RefusesItems : List Text → Failure → Type 0
+RefusesItems items (Division division.PartNumber) = (numbers : List ℕ) → ¬ (AreParts items numbers)
+RefusesItems items Memory = Unit {0}
+RefusesItems items _ = ⊥
+
+-- the fault of a division
+abbrev pub IsFaultOf : Result Deal DivisionFault → Failure → Type 0
+IsFaultOf answer (Division cause) = answer ≡ Err cause
+IsFaultOf answer _ = ⊥

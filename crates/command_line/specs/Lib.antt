@@ -1,0 +1,4 @@
+pub mod Failures
+pub mod Words
+pub mod Division
+pub mod Printed

@@ -1,0 +1,94 @@
+-- What words ask for, as `clap` reads them by the commands below.
+use Rattle.std.specs.Prelude.{◌≡◌, ◌≢◌, ◌⊎◌, List, Option, Some, None, [], true, codes, option_map}
+use Rattle.clap.specs.Words.{App, Row, Rule, Text, new_app, new_rule, with_rule, with_subcommand}
+use Rattle.clap.specs.Words.{first_of, fault_of, subcommand_of, kind_of, IsAmong}
+use Rattle.clap.specs.declared.error.kind.ErrorKind.{ErrorKind}
+use Rattle.clap.specs.declared.error.kind.ErrorKind.TheVariants.{DisplayHelp}
+use Rattle.command_line.specs.declared.words.Asked.{Asked}
+use Rattle.command_line.specs.declared.words.Asked.TheVariants.{Run, Check, Help}
+use Rattle.command_line.specs.declared.words.RunWords.{RunWords}
+use Rattle.command_line.specs.declared.words.Split.{Split}
+use Rattle.command_line.specs.declared.words.Split.TheVariants as split
+
+-- the scenario's file
+abbrev pub file_rule : Rule
+file_rule = record (new_rule (codes "FILE")) { required = true }
+
+-- an option with one value, which may be left out
+abbrev pub option_rule : Text → Rule
+option_rule name = record (new_rule name) { long = Some name; value_names = 1 }
+
+abbrev pub trace_rule : Rule
+trace_rule = record (option_rule (codes "trace")) { required = true }
+
+-- the command `run`: a file and the option --trace, both required, and four options more
+abbrev pub run_app : App
+run_app =
+    let traced = with_rule (with_rule (new_app (codes "run")) file_rule) trace_rule in
+    let reported = with_rule traced (option_rule (codes "report")) in
+    let worked = with_rule reported (option_rule (codes "workers")) in
+    with_rule (with_rule worked (option_rule (codes "parts"))) (option_rule (codes "division"))
+
+-- the command `check`: a file
+abbrev pub check_app : App
+check_app = with_rule (new_app (codes "check")) file_rule
+
+-- the program, whose words come without its name
+abbrev pub bare_app : App
+bare_app = let app = new_app (codes "swimsim") in
+    record app { top = record app.top { no_binary_name = true; subcommand_required = true } }
+
+abbrev pub swimsim_app : App
+swimsim_app = with_subcommand (with_subcommand bare_app run_app.top) check_app.top
+
+-- how the members are to be divided: by --parts, by --division or, with neither, by the number of workers
+abbrev pub IsSplitIn : List Row → Split → Type 0
+IsSplitIn rows split.Workers = (first_of (codes "parts") rows ≡ None) × (first_of (codes "division") rows ≡ None)
+IsSplitIn rows (split.Parts word) = (first_of (codes "parts") rows ≡ Some word.now) × (first_of (codes "division") rows ≡ None)
+IsSplitIn rows (split.List list) = (first_of (codes "parts") rows ≡ None) × (first_of (codes "division") rows ≡ Some list.now)
+
+-- the command that was met is `run`, with these words
+pub record IsRunIn (met : Option (Text × List Row)) (run : RunWords) : Type 0 where
+  pub rows : List Row
+  pub met_run : met ≡ Some (codes "run", rows)
+  pub file : first_of (codes "FILE") rows ≡ Some run.file.now
+  pub trace : first_of (codes "trace") rows ≡ Some run.trace.now
+  pub report : first_of (codes "report") rows ≡ option_map (λ word. word.now) run.report
+  pub workers : first_of (codes "workers") rows ≡ option_map (λ word. word.now) run.workers
+  pub divided : IsSplitIn rows run.split
+
+-- the command that was met is `check`, with this file
+pub record IsCheckIn (met : Option (Text × List Row)) (file : Text) : Type 0 where
+  pub rows : List Row
+  pub met_check : met ≡ Some (codes "check", rows)
+  pub named : first_of (codes "FILE") rows ≡ Some file
+
+-- the words ask for this run
+abbrev pub AsksForRun : List Text → RunWords → Type 0
+AsksForRun words run = IsRunIn (subcommand_of swimsim_app words) run
+
+-- the words ask to check this file
+abbrev pub AsksForCheck : List Text → Text → Type 0
+AsksForCheck words file = IsCheckIn (subcommand_of swimsim_app words) file
+
+-- the words ask for help
+abbrev pub AsksForHelp : List Text → Type 0
+AsksForHelp words = IsAmong DisplayHelp (fault_of swimsim_app words)
+
+-- what the words ask for: a run or a check where they have no fault, and help where they want it
+abbrev pub Answers : List Text → Asked → Type 0
+Answers words (Run run) = (fault_of swimsim_app words ≡ []) × AsksForRun words run
+Answers words (Check file) = (fault_of swimsim_app words ≡ []) × AsksForCheck words file.now
+Answers words (Help help) = (kind_of help ≡ DisplayHelp) × AsksForHelp words
+
+-- the words ask for no run and no check
+abbrev pub AsksForNone : List Text → Type 0
+AsksForNone words = ((run : RunWords) → ¬ (AsksForRun words run)) × ((file : Text) → ¬ (AsksForCheck words file))
+
+-- the words have a fault that is no wish for help, or ask for neither a run nor a check
+abbrev pub IsNoCommand : List Text → Type 0
+IsNoCommand words = ((kind : ErrorKind) × (kind ≢ DisplayHelp) × IsAmong kind (fault_of swimsim_app words)) ⊎ AsksForNone words
+
+-- the words ask for a run, a check or help
+abbrev pub IsCommand : List Text → Type 0
+IsCommand words = ((run : RunWords) × AsksForRun words run) ⊎ (((file : Text) × AsksForCheck words file) ⊎ AsksForHelp words)

@@ -1,0 +1,207 @@
+//! How the members are divided into parts, and how many workers there are, by the words that say so.
+ghost use Rattle.std.specs.Prelude.{◌≡◌, ◌≢◌, ℕ, ◌+◌, ◌<◌, ◌≤◌, ◌^◌, Ok, Err, option_map, map, IfOk, IfErr, IfSome, IsNone, decimal, ◌%◌, length};
+ghost use Rattle.std.specs.List.{range_with_len};
+ghost use Rattle.scenario.specs.Setup.{member_count};
+ghost use Rattle.scenario.specs.Division.{divided};
+ghost use Rattle.command_line.specs.Division.{AreParts, AsksForWorkers, Divides, DividesByList, IsCount, IsNumber, has_prefix, in_turn, items_of, past_greatest};
+ghost use Rattle.command_line.specs.Failures.{IsFaultOf, RefusesDivision, RefusesItems, RefusesList, RefusesWorkers};
+
+use crate::failure::Failure;
+use crate::words::Split;
+use scenario::{Division, DivisionFault, Scenario, Workers};
+use std::alloc::{AllocError, Global};
+
+/// The most parts of a division, and the most workers.
+const MOST: usize = 64;
+
+/// How many workers a word asks for; one where there is no word.
+///
+/// Failure: `Workers` where the word isn't a number of 1 to 64 in decimal, without sign or leading zero.
+pub fn workers_asked(word: Option<&str>) -> Result<Workers, Failure<'static>>
+    ensures asked { IfOk result (AsksForWorkers (option_map (λ text. text.now) word.entry)) }
+    ensures refused { IfErr result (RefusesWorkers (option_map (λ text. text.now) word.entry)) }
+{
+    match word {
+        Some(word) => match count_asked(word) {
+            Some(count) => some_workers(count),
+            None => Err(Failure::Workers),
+        },
+        None => some_workers(1),
+    }
+}
+
+/// So many workers.
+fn some_workers(count: usize) -> Result<Workers, Failure<'static>>
+    requires some { 1 ≤ count }
+    requires few { count ≤ 64 }
+    ensures { result ≡ Ok count }
+{
+    match Workers::new(count) {
+        Some(workers) => Ok(workers),
+        None => Err(Failure::Workers),
+    }
+}
+
+/// Divides the members as the words say, or in turn among as many parts as there are workers.
+///
+/// Failures: `Division` with `Parts` where a number of parts isn't one of 1 to 64 in decimal, without
+/// sign or leading zero; with `Length` where a list has another length than there are members; with
+/// `PartNumber` where an item isn't such a number of 0 to 63. `Memory`.
+pub fn division_asked(
+    alloc: Global,
+    scenario: &Scenario,
+    split: Split<'_>,
+    workers: Workers,
+) -> Result<Division, Failure<'static>>
+    ensures divided { IfOk result (Divides (member_count scenario.now) workers split.entry) }
+    ensures refused { IfErr result (RefusesDivision (member_count scenario.now) split.entry) }
+{
+    match split {
+        Split::Workers => deal(alloc, scenario, workers.count()),
+        Split::Parts(word) => match count_asked(word) {
+            Some(parts) => deal(alloc, scenario, parts),
+            None => Err(Failure::Division(DivisionFault::Parts)),
+        },
+        Split::List(list) => deal_by_list(alloc, scenario, list),
+    }
+}
+
+/// The number of parts or workers that a word names: 1 to 64.
+fn count_asked(word: &str) -> Option<usize>
+    ensures some { IfSome result (IsCount word.now) }
+    ensures none { IsNone result → (count : ℕ) → ¬ (IsCount word.now count) }
+{
+    let count = usize::from(number(word)?);
+    if count == 0 || count > MOST {
+        return None;
+    }
+    Some(count)
+}
+
+/// Deals the members to so many parts in turn.
+fn deal(alloc: Global, scenario: &Scenario, parts: usize) -> Result<Division, Failure<'static>>
+    requires some { 1 ≤ parts }
+    requires few { parts ≤ 64 }
+    ensures divided { IfOk result (λ division. division ≡ in_turn (member_count scenario.now) parts) }
+    ensures refused { IfErr result (λ failure. failure ≡ Failure.Memory) }
+{
+    let part_of = match parts_in_turn(alloc, scenario.members(), parts) {
+        Ok(part_of) => part_of,
+        Err(_) => return Err(Failure::Memory),
+    };
+    divide(scenario, parts, part_of)
+}
+
+/// The part of each of so many members, where they are dealt to so many parts in turn.
+fn parts_in_turn(alloc: Global, members: usize, parts: usize) -> Result<Vec<u8>, AllocError>
+    requires some { 1 ≤ parts }
+    requires few { parts ≤ 64 }
+    ensures { IfOk result (λ part_of. part_of.items ≡ map (λ m. m % parts) (range_with_len 0 members)) }
+{
+    (0..members)
+        .map(|member| (member % parts) as u8)
+        .collect(alloc)
+}
+
+/// Deals each member to the part that its item of a list names, items being parted by commas.
+fn deal_by_list(
+    alloc: Global,
+    scenario: &Scenario,
+    list: &str,
+) -> Result<Division, Failure<'static>>
+    ensures divided { IfOk result (DividesByList (member_count scenario.now) (items_of list.now)) }
+    ensures refused { IfErr result (RefusesList (member_count scenario.now) (items_of list.now)) }
+{
+    if item_count(list) != scenario.members() {
+        return Err(Failure::Division(DivisionFault::Length));
+    }
+    let part_of = match part_numbers(alloc, list) {
+        Ok(part_of) => part_of,
+        Err(failure) => return Err(failure),
+    };
+    let parts = past_greatest(&part_of);
+    divide(scenario, parts, part_of)
+}
+
+/// One more than the greatest of the numbers.
+fn past_greatest(numbers: &[u8]) -> usize
+    ensures { result ≡ past_greatest numbers.now }
+{
+    let greatest = numbers
+        .iter()
+        .fold(0u8, |greatest, number| greatest.max(*number));
+    usize::from(greatest) + 1
+}
+
+/// How many items a list has.
+fn item_count(list: &str) -> usize
+    ensures { result ≡ length (items_of list.now) }
+{
+    list.split(',').count()
+}
+
+/// The numbers that the items of a list name, each 0 to 63.
+fn part_numbers(alloc: Global, list: &str) -> Result<Vec<u8>, Failure<'static>>
+    ensures numbers { IfOk result (λ numbers. AreParts (items_of list.now) numbers.items) }
+    ensures refused { IfErr result (RefusesItems (items_of list.now)) }
+{
+    let mut numbers = Vec::new(alloc);
+    for item in list.split(',') {
+        match part_number(item) {
+            Some(part) => {
+                if numbers.push(part).is_err() {
+                    return Err(Failure::Memory);
+                }
+            }
+            None => return Err(Failure::Division(DivisionFault::PartNumber)),
+        }
+    }
+    Ok(numbers)
+}
+
+/// The number of a part, 0 to 63, that an item names.
+fn part_number(item: &str) -> Option<u8>
+    ensures some { IfSome result (IsNumber 0 63 item.now) }
+    ensures none { IsNone result → (part : ℕ) → ¬ (IsNumber 0 63 item.now part) }
+{
+    let part = number(item)?;
+    if usize::from(part) >= MOST {
+        return None;
+    }
+    Some(part)
+}
+
+/// The number that a word is in decimal, without sign or leading zero, where it is at most 255.
+fn number(word: &str) -> Option<u8>
+    ensures some { IfSome result (λ n. decimal n ≡ word.now) }
+    ensures none { IsNone result → (n : ℕ) → n < 2 ^ 8 → decimal n ≢ word.now }
+{
+    if has_prefix(word.as_bytes()) {
+        return None;
+    }
+    match word.parse() {
+        Ok(number) => Some(number),
+        Err(_) => None,
+    }
+}
+
+/// Whether a sign or a leading zero is the first of the bytes.
+fn has_prefix(bytes: &[u8]) -> bool
+    ensures { result ≡ has_prefix bytes.now }
+{
+    match bytes {
+        [] => false,
+        [first, rest @ ..] => *first == b'+' || *first == b'0' && !rest.is_empty(),
+    }
+}
+
+/// The division, with its fault as a failure.
+fn divide(scenario: &Scenario, parts: usize, part_of: Vec<u8>) -> Result<Division, Failure<'static>>
+    ensures divided { IfOk result (λ deal. divided (member_count scenario.now) parts part_of.items ≡ Ok deal) }
+    ensures refused { IfErr result (IsFaultOf (divided (member_count scenario.now) parts part_of.items)) }
+{
+    match Division::new(scenario, parts, part_of) {
+        Ok(division) => Ok(division),
+        Err(fault) => Err(Failure::Division(fault)),
+    }
+}

@@ -1,0 +1,111 @@
+//! Why a command ends without doing what it was asked for, and what the user then sees.
+ghost use Rattle.std.specs.Prelude.{◌≡◌, ◌≤◌, Some, OnOk};
+ghost use Rattle.std.specs.Io.KnownBytes.{Appends};
+ghost use Rattle.command_line.specs.Failures.{status_of, message_of, line_of, fault_number, division_number};
+
+use base::Fault;
+use scenario::DivisionFault;
+use std::io::Write;
+use std::{fmt, io};
+
+/// Why a command ends without doing what it was asked for.
+#[derive(Clone, Copy, Debug, PartialEq, Eq)]
+pub enum Failure<'a> {
+    /// The file of this name can't be read or made.
+    File(&'a str),
+    /// The words of the command line are no command.
+    Usage,
+    /// The scenario breaks this rule.
+    Rule(u8),
+    /// What was said of workers is no number of them.
+    Workers,
+    /// There is no such division of the members.
+    Division(DivisionFault),
+    /// The run was refused.
+    Run(Fault),
+    /// Memory was refused outside a run.
+    Memory,
+    /// Standard output took less than it was given.
+    Output,
+}
+
+impl Failure<'_> {
+    /// The exit status that a command ends with.
+    pub fn status(&self) -> u8
+        ensures { result ≡ status_of self.now }
+    {
+        match self {
+            Failure::File(_) | Failure::Output => 1,
+            Failure::Usage => 2,
+            Failure::Rule(_) => 3,
+            Failure::Workers | Failure::Division(_) => 4,
+            Failure::Run(_) | Failure::Memory => 5,
+        }
+    }
+}
+
+/// The number by which users know a fault of a run.
+fn fault_number(fault: Fault) -> u8
+    ensures { result ≡ fault_number fault }
+{
+    match fault {
+        Fault::Memory => 1,
+        Fault::Worn => 2,
+        Fault::Write => 3,
+        Fault::Relay => 4,
+    }
+}
+
+/// The number by which users know a fault of a division.
+fn division_number(fault: DivisionFault) -> u8
+    ensures { result ≡ division_number fault }
+{
+    match fault {
+        DivisionFault::Length => 1,
+        DivisionFault::PartNumber => 2,
+        DivisionFault::Parts => 3,
+    }
+}
+
+impl fmt::Display for Failure<'_> {
+    // `Output` has a message for programmers alone: no line tells it.
+    ghost output = { λ failure. Some (message_of failure) };
+
+    fn fmt<W: fmt::Write>(&self, f: &mut fmt::Formatter<W>) -> fmt::Result {
+        match self {
+            Failure::File(name) => write!(f, "file {name}"),
+            Failure::Usage => write!(f, "usage"),
+            Failure::Rule(rule) => write!(f, "scenario rule {rule}"),
+            Failure::Workers => write!(f, "workers"),
+            Failure::Division(fault) => {
+                let number = division_number(*fault);
+                write!(f, "division V{number}")
+            }
+            Failure::Run(fault) => {
+                let number = fault_number(*fault);
+                write!(f, "run F{number}")
+            }
+            Failure::Memory => write!(f, "memory"),
+            Failure::Output => write!(f, "output"),
+        }
+    }
+}
+
+/// Writes the line that tells users of a failure. There is none for standard output that failed.
+fn tell<E: Write>(failure: &Failure<'_>, err: &mut E) -> io::Result<()>
+    ensures { OnOk result (Appends (E.contents err.old) (E.contents err.new) (line_of failure.now)) }
+{
+    match failure {
+        Failure::Output => Ok(()),
+        _ => writeln!(err, "swimsim: {failure}"),
+    }
+}
+
+/// Tells users of a failure on `err`, as far as it takes the line, and answers the exit status.
+pub fn refuse<E: Write>(failure: &Failure<'_>, err: &mut E) -> u8
+    ensures status { result ≡ status_of failure.now }
+    ensures range { result ≤ 5 }
+{
+    let _ = tell(failure, err);
+    failure.status()
+}

@@ -1,0 +1,13 @@
+//! What the words of a command line ask for, and what a command prints.
+#![tactic(auto)]
+
+mod division;
+mod failure;
+mod printing;
+pub mod system;
+mod words;
+
+pub use division::{division_asked, workers_asked};
+pub use failure::{Failure, refuse};
+pub use printing::{print_help, print_members, print_rows};
+pub use words::{Asked, RunWords, Split, parse};

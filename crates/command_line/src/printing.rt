@@ -1,0 +1,46 @@
+//! What a command prints on standard output.
+ghost use Rattle.std.specs.Prelude.{◌≡◌, OnOk, IfErr};
+ghost use Rattle.std.specs.Io.KnownBytes.{Appends};
+ghost use Rattle.command_line.specs.Printed.{members_line, rows_line};
+
+use crate::failure::Failure;
+use clap::Error;
+use std::io::Write;
+
+/// Prints how many rows a trace has.
+///
+/// Failure: `Output` where `out` takes less, or its flush fails.
+pub fn print_rows<'a, O: Write>(rows: u64, out: &mut O) -> Result<(), Failure<'a>>
+    ensures printed { OnOk result (Appends (O.contents out.old) (O.contents out.new) (rows_line rows)) }
+    ensures failure { IfErr result (λ failure. failure ≡ Failure.Output) }
+{
+    if writeln!(out, "rows {rows}").is_err() || out.flush().is_err() {
+        return Err(Failure::Output);
+    }
+    Ok(())
+}
+
+/// Prints how many members a scenario has.
+///
+/// Failure: `Output` where `out` takes less, or its flush fails.
+pub fn print_members<'a, O: Write>(members: usize, out: &mut O) -> Result<(), Failure<'a>>
+    ensures printed { OnOk result (Appends (O.contents out.old) (O.contents out.new) (members_line members)) }
+    ensures failure { IfErr result (λ failure. failure ≡ Failure.Output) }
+{
+    if writeln!(out, "members {members}").is_err() || out.flush().is_err() {
+        return Err(Failure::Output);
+    }
+    Ok(())
+}
+
+/// Prints the help that was asked for.
+///
+/// Failure: `Output` where `out` takes less, or its flush fails.
+pub fn print_help<'a, O: Write>(help: &Error, out: &mut O) -> Result<(), Failure<'a>>
+    ensures { IfErr result (λ failure. failure ≡ Failure.Output) }
+{
+    if write!(out, "{help}").is_err() || out.flush().is_err() {
+        return Err(Failure::Output);
+    }
+    Ok(())
+}

@@ -1,0 +1,225 @@
+//! What the words of a command line ask for.
+ghost use Rattle.std.specs.Prelude.{◌≡◌, ◌⊎◌, map, option_map, IfOk, IfErr, IfSome, IsNone, IsErrOf, List, ℕ, false};
+ghost use Rattle.clap.specs.Words.{FailsBy, app_of, fault_of, first_of, found_of, rows_of, rule_of, subcommand_of, subcommand_rows_of};
+ghost use Rattle.clap.specs.declared.builder.command.Command.TheViews.{out-Command};
+ghost use Rattle.command_line.specs.declared.words.RunWords.{RunWords as Wish};
+ghost use Rattle.command_line.specs.declared.words.Split.{Split as Wanted};
+ghost use Rattle.command_line.specs.Words.{check_app, file_rule, option_rule, run_app, swimsim_app, Answers, IsCheckIn, IsNoCommand, IsRunIn, IsSplitIn};
+
+use crate::failure::Failure;
+use clap::error::ErrorKind;
+use clap::{Arg, ArgMatches, Command, Error};
+use std::alloc::{AllocError, Global};
+use std::convert::AsStr;
+
+/// How the members are to be divided into parts, in the words of the command line.
+#[derive(Clone, Copy, Debug, PartialEq, Eq)]
+pub enum Split<'a> {
+    /// Member m in the part m modulo the number of workers.
+    Workers,
+    /// Member m in the part m modulo this number.
+    Parts(&'a str),
+    /// Each member in the part that its item of this list names.
+    List(&'a str),
+}
+
+/// The words of the command `run`.
+#[derive(Clone, Copy, Debug, PartialEq, Eq)]
+pub struct RunWords<'a> {
+    /// The name of the scenario's file.
+    pub file: &'a str,
+    /// The name of the file that takes the trace.
+    pub trace: &'a str,
+    /// The name of the file that takes the report, where one is asked for.
+    pub report: Option<&'a str>,
+    /// How many workers run it; one where that isn't said.
+    pub workers: Option<&'a str>,
+    /// How the members are to be divided.
+    pub split: Split<'a>,
+}
+
+/// What the words ask for.
+#[derive(Debug, Drop)]
+pub enum Asked<'a> {
+    /// To run a scenario, and write its trace and its report.
+    Run(RunWords<'a>),
+    /// To check the scenario in the file of this name.
+    Check(&'a str),
+    /// To be shown the help that is this answer's text.
+    Help(Error),
+}
+
+/// What the words, without the program's name, ask for.
+///
+/// Failures: `Usage` where they are no command; `Memory`.
+pub fn parse<'a, S: AsStr>(alloc: Global, words: &'a [S]) -> Result<Asked<'a>, Failure<'a>>
+    ensures answer { IfOk result (Answers (map S.text words.entry.now)) }
+    ensures usage { IsErrOf result Failure.Usage → IsNoCommand (map S.text words.entry.now) }
+    ensures failures { IfErr result (λ f. (f ≡ Failure.Usage) ⊎ (f ≡ Failure.Memory)) }
+{
+    match matches_of(alloc, words) {
+        Ok(matches) => match run_asked(&matches) {
+            Some(run) => Ok(Asked::Run(run)),
+            None => match check_asked(&matches) {
+                Some(file) => Ok(Asked::Check(file)),
+                None => Err(Failure::Usage),
+            },
+        },
+        Err(error) => match error.kind() {
+            ErrorKind::OutOfMemory => Err(Failure::Memory),
+            ErrorKind::DisplayHelp => Ok(Asked::Help(error)),
+            _ => Err(Failure::Usage),
+        },
+    }
+}
+
+/// What `clap` makes of the words.
+fn matches_of<'a, S: AsStr>(alloc: Global, words: &'a [S]) -> Result<ArgMatches<'a>, Error>
+    ensures run { IfOk result
+        (λ m. subcommand_rows_of m ≡ subcommand_of swimsim_app (map S.text words.entry.now)) }
+    ensures kinds { FailsBy (fault_of swimsim_app (map S.text words.entry.now)) result }
+{
+    program_command(alloc)?.try_get_matches_from(words)
+}
+
+/// The program's command line, as `clap` knows it.
+fn program_command<'a>(alloc: Global) -> Result<Command<'a>, AllocError>
+    ensures { IfOk result (λ command. app_of command ≡ swimsim_app) }
+{
+    Command::new(alloc, "swimsim")
+        .bin_name("swimsim")?
+        .about("Simulates clusters of the SWIM membership protocol")
+        .no_binary_name(true)
+        .subcommand_required(true)
+        .subcommand(run_command(alloc)?)?
+        .subcommand(check_command(alloc)?)
+}
+
+/// The command `run`, as `clap` knows it.
+fn run_command<'a>(alloc: Global) -> Result<Command<'a>, AllocError>
+    ensures app { IfOk result (λ command. app_of command ≡ run_app) }
+    ensures local { IfOk result (λ command. (out-Command command).has_globals ≡ false) }
+{
+    let trace = option(
+        alloc,
+        "trace",
+        "T",
+        "The file that takes the trace; one that is there is replaced",
+    );
+    let report = option(
+        alloc,
+        "report",
+        "R",
+        "The file that takes the report; one that is there is replaced",
+    );
+    let workers = option(
+        alloc,
+        "workers",
+        "N",
+        "How many workers run the parts, 1 to 64 [default: 1]",
+    );
+    let parts = option(
+        alloc,
+        "parts",
+        "P",
+        "To how many parts the members are dealt in turn, 1 to 64 [default: the number of workers]",
+    );
+    let division = option(
+        alloc,
+        "division",
+        "LIST",
+        "The part of each member, 0 to 63, parted by commas; not together with --parts",
+    );
+    Command::new(alloc, "run")
+        .about("Runs a scenario, and writes its trace")
+        .arg(file_argument(alloc))?
+        .arg(trace.required(true))?
+        .arg(report)?
+        .arg(workers)?
+        .arg(parts)?
+        .arg(division)
+}
+
+/// The command `check`, as `clap` knows it.
+fn check_command<'a>(alloc: Global) -> Result<Command<'a>, AllocError>
+    ensures app { IfOk result (λ command. app_of command ≡ check_app) }
+    ensures local { IfOk result (λ command. (out-Command command).has_globals ≡ false) }
+{
+    Command::new(alloc, "check")
+        .about("Reads a scenario, and prints how many members it has")
+        .arg(file_argument(alloc))
+}
+
+/// The argument for the scenario's file.
+fn file_argument<'a>(alloc: Global) -> Arg<'a>
+    ensures rule { rule_of result ≡ file_rule }
+    ensures local { result.global ≡ false }
+{
+    Arg::new(alloc, "FILE")
+        .help("The scenario, a TOML document")
+        .required(true)
+}
+
+/// An option with one value, which may be left out.
+fn option<'a>(alloc: Global, name: &'a str, value: &'a str, help: &'a str) -> Arg<'a>
+    ensures rule { rule_of result ≡ option_rule name.entry.now }
+    ensures local { result.global ≡ false }
+{
+    Arg::new(alloc, name)
+        .long(name)
+        .value_name(value)
+        .help(help)
+}
+
+/// The run that is asked for by words that `clap` took.
+fn run_asked<'a>(matches: &ArgMatches<'a>) -> Option<RunWords<'a>>
+    ensures some { IfSome result (IsRunIn (subcommand_rows_of matches.now)) }
+    ensures none { IsNone result → (run : Wish) → ¬ (IsRunIn (subcommand_rows_of matches.now) run) }
+{
+    let run = matches.subcommand_matches("run")?;
+    let file = value_of(run, "FILE")?;
+    let trace = value_of(run, "trace")?;
+    let report = value_of(run, "report");
+    let workers = value_of(run, "workers");
+    let split = split_asked(run)?;
+    Some(RunWords {
+        file,
+        trace,
+        report,
+        workers,
+        split,
+    })
+}
+
+/// How the members are to be divided by the words of a run. The two options for it exclude each other.
+fn split_asked<'a>(run: &ArgMatches<'a>) -> Option<Split<'a>>
+    ensures some { IfSome result (IsSplitIn (rows_of (found_of run.now))) }
+    ensures none { IsNone result → (split : Wanted) → ¬ (IsSplitIn (rows_of (found_of run.now)) split) }
+{
+    match value_of(run, "parts") {
+        None => match value_of(run, "division") {
+            None => Some(Split::Workers),
+            Some(list) => Some(Split::List(list)),
+        },
+        Some(parts) => match value_of(run, "division") {
+            None => Some(Split::Parts(parts)),
+            Some(_) => None,
+        },
+    }
+}
+
+/// The file whose check is asked for by words that `clap` took.
+fn check_asked<'a>(matches: &ArgMatches<'a>) -> Option<&'a str>
+    ensures some { IfSome result (λ file. IsCheckIn (subcommand_rows_of matches.now) file.now) }
+    ensures none { IsNone result → (file : List ℕ) → ¬ (IsCheckIn (subcommand_rows_of matches.now) file) }
+{
+    let check = matches.subcommand_matches("check")?;
+    value_of(check, "FILE")
+}
+
+/// The first value of an argument, if it has one.
+fn value_of<'a>(matches: &ArgMatches<'a>, id: &str) -> Option<&'a str>
+    ensures { option_map (λ word. word.now) result ≡ first_of id.now (rows_of (found_of matches.now)) }
+{
+    matches.get_str(id)
+}

@@ -1,0 +1,3 @@
+pub mod Files
+pub mod Memory
+pub mod System

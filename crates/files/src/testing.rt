@@ -1,0 +1,227 @@
+//! Files and writers over memory, which fail where a test wants them to.
+ghost use Rattle.std.specs.Prelude.{◌≡◌, ◌≤◌, ℕ, List, [], Some, None, true, false, option_map, position, IfSome, OnOk, OnErr};
+ghost use Rattle.files.specs.Files.{KeepsOthers};
+ghost use Rattle.files.specs.Memory.{written_by, writer_fails, has_name, kept_bytes, can_make, made_fail, with_locked, with_fails};
+
+use crate::{FileFault, Files};
+use std::alloc::{AllocError, Global};
+use std::io;
+use std::io::Write;
+
+/// Where a writer over memory fails.
+#[derive(Clone, Copy, Debug, PartialEq, Eq)]
+pub enum Fails {
+    /// Nowhere.
+    Never,
+    /// At the write of this number, counted from 1.
+    AtWrite(u64),
+    /// Once it has taken this many bytes.
+    After(usize),
+    /// At each flush.
+    AtFlush,
+}
+
+/// A writer that holds its bytes in memory. It fails where it was set to, and where memory is refused.
+#[derive(Drop)]
+pub struct MemoryWriter {
+    bytes: Vec<u8>,
+    writes: u64,
+    fails: Fails,
+}
+
+impl MemoryWriter {
+    /// A writer with no bytes yet.
+    pub fn new(alloc: Global, fails: Fails) -> MemoryWriter
+        ensures empty { written_by result ≡ [] }
+        ensures fails { writer_fails result ≡ fails }
+    {
+        MemoryWriter {
+            bytes: Vec::new(alloc),
+            writes: 0,
+            fails,
+        }
+    }
+
+    /// What was written.
+    pub fn bytes(&self) -> &[u8]
+        ensures { result.now ≡ written_by self.now }
+    {
+        self.bytes.as_slice()
+    }
+
+    /// How many of so many bytes the write of this moment takes.
+    fn share(&self, length: usize) -> Option<usize>
+        ensures { IfSome result (λ taken. taken ≤ length) }
+    {
+        match self.fails {
+            Fails::AtWrite(number) if number == self.writes => None,
+            Fails::After(most) => match most.saturating_sub(self.bytes.len()) {
+                0 => None,
+                room => Some(length.min(room)),
+            },
+            _ => Some(length),
+        }
+    }
+}
+
+impl Write for MemoryWriter {
+    ghost contents = { λ writer. Some (written_by writer) };
+
+    fn write(&mut self, buf: &[u8]) -> io::Result<usize> {
+        self.writes = self.writes.saturating_add(1);
+        match self.share(buf.len()) {
+            Some(taken) => {
+                self.bytes.extend_from_slice(&buf[..taken])?;
+                Ok(taken)
+            }
+            None => Err(io::Error::from(io::ErrorKind::StorageFull)),
+        }
+    }
+
+    fn flush(&mut self) -> io::Result<()> {
+        match self.fails {
+            Fails::AtFlush => Err(io::Error::from(io::ErrorKind::StorageFull)),
+            _ => Ok(()),
+        }
+    }
+}
+
+/// A file in memory.
+#[derive(Drop)]
+struct Kept {
+    name: String,
+    bytes: Vec<u8>,
+}
+
+/// Files in memory.
+#[derive(Drop)]
+pub struct MemoryFiles {
+    alloc: Global,
+    kept: Vec<Kept>,
+    locked: Option<&'static str>,
+    fails: Fails,
+}
+
+impl MemoryFiles {
+    /// No files yet. Files can be made, and do not fail.
+    pub fn new(alloc: Global) -> MemoryFiles
+        ensures empty { (name : List ℕ) → kept_bytes result name ≡ None }
+        ensures makes { (name : List ℕ) → can_make result name ≡ true }
+        ensures fails { made_fail result ≡ Fails.Never }
+    {
+        MemoryFiles {
+            alloc,
+            kept: Vec::new(alloc),
+            locked: None,
+            fails: Fails::Never,
+        }
+    }
+
+    /// The same files, where none of this name can be made.
+    pub fn refusing_to_make(mut self, name: &'static str) -> MemoryFiles
+        ensures { result ≡ with_locked self (Some name.entry) }
+    {
+        self.locked = Some(name);
+        self
+    }
+
+    /// Whether a file of this name can be made.
+    fn can_make(&self, name: &str) -> bool
+        ensures { result ≡ can_make self.now name.now }
+    {
+        match self.locked {
+            Some(locked) => locked != name,
+            None => true,
+        }
+    }
+
+    /// The same files, where those that are made fail in this way.
+    pub fn failing(mut self, fails: Fails) -> MemoryFiles
+        ensures { result ≡ with_fails self fails }
+    {
+        self.fails = fails;
+        self
+    }
+
+    /// Keeps a file of this name and these bytes, in the place of one that has the name already.
+    /// Nothing changes where memory is refused.
+    pub fn keep(&mut self, name: &str, bytes: &[u8]) -> Result<(), AllocError>
+        ensures kept { OnOk result (kept_bytes self.new name.now ≡ Some bytes.now) }
+        ensures others { KeepsOthers (kept_bytes self.old) (kept_bytes self.new) name.now }
+        ensures same { OnErr result (kept_bytes self.new ≡ kept_bytes self.old) }
+        ensures makes { can_make self.new ≡ can_make self.old }
+        ensures fails { made_fail self.new ≡ made_fail self.old }
+    {
+        let bytes = Vec::from_slice(self.alloc, bytes)?;
+        self.store(name, bytes)
+    }
+
+    /// The bytes of a file.
+    pub fn bytes(&self, name: &str) -> Option<&[u8]>
+        ensures { option_map (λ bytes. bytes.now) result ≡ kept_bytes self.now name.now }
+    {
+        let file = self.kept.iter().find(|file| file.name.as_str() == name)?;
+        Some(file.bytes.as_slice())
+    }
+
+    /// Where the file of a name stands.
+    fn place(&self, name: &str) -> Option<usize>
+        ensures { result ≡ position (has_name name.now) self.now.kept.items }
+    {
+        self.kept.iter().position(|file| file.name.as_str() == name)
+    }
+
+    /// Stores the bytes under the name. A name that is there takes no memory, and nothing changes
+    /// where memory is refused.
+    fn store(&mut self, name: &str, bytes: Vec<u8>) -> Result<(), AllocError>
+        ensures stored { OnOk result (kept_bytes self.new name.now ≡ Some bytes.items) }
+        ensures others { KeepsOthers (kept_bytes self.old) (kept_bytes self.new) name.now }
+        ensures same { OnErr result (kept_bytes self.new ≡ kept_bytes self.old) }
+        ensures there { OnErr result (kept_bytes self.old name.now ≡ None) }
+        ensures makes { can_make self.new ≡ can_make self.old }
+        ensures fails { made_fail self.new ≡ made_fail self.old }
+    {
+        match self.place(name) {
+            Some(place) => self.kept[place].bytes = bytes,
+            None => {
+                let name = String::from_str(self.alloc, name)?;
+                self.kept.push(Kept { name, bytes })?;
+            }
+        }
+        Ok(())
+    }
+}
+
+impl Files for MemoryFiles {
+    type Made = MemoryWriter;
+
+    // all is known
+    ghost known = { λ files name. Some (kept_bytes files name) };
+
+    ghost makes = { can_make };
+
+    fn read(&mut self, alloc: Global, name: &str) -> Result<Vec<u8>, FileFault> {
+        match self.bytes(name) {
+            Some(bytes) => match Vec::from_slice(alloc, bytes) {
+                Ok(bytes) => Ok(bytes),
+                Err(_) => Err(FileFault::Memory),
+            },
+            None => Err(FileFault::Refused),
+        }
+    }
+
+    fn make(&mut self, name: &str) -> Result<MemoryWriter, FileFault> {
+        if !self.can_make(name) {
+            return Err(FileFault::Refused);
+        }
+        match self.keep(name, b"") {
+            Ok(()) => Ok(MemoryWriter::new(self.alloc, self.fails)),
+            Err(_) => Err(FileFault::Memory),
+        }
+    }
+
+    fn close(&mut self, name: &str, made: MemoryWriter) {
+        // the name has its place since the file was made
+        let _ = self.store(name, made.bytes);
+    }
+}
