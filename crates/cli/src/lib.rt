@@ -6,13 +6,15 @@ mod program;
 mod simulation;
 pub mod system;
 
-pub use command_line::{Asked, Failure, RunWords, Split, division_asked, parse, refuse, workers_asked};
+pub use command_line::{
+    Asked, Failure, RunWords, Split, division_asked, parse, refuse, workers_asked,
+};
 pub use files::{FileFault, Files, testing};
 pub use program::command;
 pub use simulation::{check, simulate};
 
 #[cfg(test)]
-mod report_tests;
+mod file_tests;
 #[cfg(test)]
 mod tests;
 #[cfg(test)]

@@ -1,25 +1,29 @@
 //! The program as a function over files and writers.
-ghost use Rattle.std.specs.Prelude.{◌≡◌, ◌≢◌, ◌⊎◌, ◌≤◌, map, Ok, Some, None, IfOk, IfErr, OnOk, IsErrOf};
+ghost use Rattle.std.specs.Prelude.{◌≡◌, ◌≢◌, ◌⊎◌, ◌≤◌, map, Ok, Some, None, IfOk, IfErr, OnOk, IsErrOf, length};
+ghost use Rattle.scenario.specs.Setup.{member_count};
 ghost use Rattle.command_line.specs.Words.{IsCommand, IsNoCommand};
 ghost use Rattle.cli.specs.Outcomes.{Done, Fails, Ends, RunsAll, RunFails, RunsFile, FileFails, RunsScenario, ScenarioFails, StoresRun, StoreFails, report_word, HasVerdict, LoadFails};
 
 use crate::simulation::{check, simulate};
 use command_line::{
-    Asked, Failure, RunWords, division_asked, parse, print_help, print_members, print_rows, refuse, workers_asked,
+    Asked, Failure, RunWords, division_asked, parse, print_help, print_members, print_rows, refuse,
+    workers_asked,
 };
 use exchange::Summary;
 use files::{FileFault, Files};
-use scenario::{Scenario, Workers};
+use scenario::{Division, Scenario, Workers};
 use std::alloc::Global;
 use std::convert::AsStr;
 use std::io;
 use std::io::Write;
+use std::thread::Threads;
 
 /// Does what the words ask for, and answers the exit status.
 ///
-/// `words` are those of the command line without the program's name. A failure is told in one line on
+/// `rt` starts the threads of a run. `words` are those of the command line without the program's name. A failure is told in one line on
 /// `err`, and `out` then gets nothing, unless `out` itself failed.
 pub fn command<S: AsStr, F: Files, O: Write, E: Write>(
+    rt: &(impl Threads + Sync),
     alloc: Global,
     words: &[S],
     files: &mut F,
@@ -47,7 +51,7 @@ pub fn command<S: AsStr, F: Files, O: Write, E: Write>(
     ensures silent { 2 ≤ result → out.new ≡ out.old }
     ensures quiet { result ≡ 0 → err.new ≡ err.old }
 {
-    match perform(alloc, words, files, out) {
+    match perform(rt, alloc, words, files, out) {
         Ok(()) => 0,
         Err(failure) => refuse(&failure, err),
     }
@@ -55,6 +59,7 @@ pub fn command<S: AsStr, F: Files, O: Write, E: Write>(
 
 /// Does what the words ask for.
 fn perform<'a, S: AsStr, F: Files, O: Write>(
+    rt: &(impl Threads + Sync),
     alloc: Global,
     words: &'a [S],
     files: &mut F,
@@ -76,7 +81,7 @@ fn perform<'a, S: AsStr, F: Files, O: Write>(
     };
     match asked {
         Asked::Help(help) => print_help(&help, out),
-        Asked::Run(words) => match run(alloc, words, files) {
+        Asked::Run(words) => match run(rt, alloc, words, files) {
             Ok(summary) => print_rows(summary.rows, out),
             Err(failure) => Err(failure),
         },
@@ -89,6 +94,7 @@ fn perform<'a, S: AsStr, F: Files, O: Write>(
 
 /// Runs the scenario of one file, and writes its trace and its report to others.
 fn run<'a, F: Files>(
+    rt: &(impl Threads + Sync),
     alloc: Global,
     words: RunWords<'a>,
     files: &mut F,
@@ -99,13 +105,14 @@ fn run<'a, F: Files>(
         (RunFails (F.known files.old) (F.known files.new) (F.makes files.old) words.entry) }
 {
     match workers_asked(words.workers) {
-        Ok(workers) => run_file(alloc, words, workers, files),
+        Ok(workers) => run_file(rt, alloc, words, workers, files),
         Err(failure) => Err(failure),
     }
 }
 
 /// Runs the scenario of one file with so many workers, and writes its trace and its report to others.
 fn run_file<'a, F: Files>(
+    rt: &(impl Threads + Sync),
     alloc: Global,
     words: RunWords<'a>,
     workers: Workers,
@@ -117,7 +124,7 @@ fn run_file<'a, F: Files>(
         (FileFails (F.known files.old) (F.known files.new) (F.makes files.old) workers words.entry) }
 {
     match load(alloc, words.file, files) {
-        Ok(scenario) => run_scenario(alloc, &scenario, words, workers, files),
+        Ok(scenario) => run_scenario(rt, alloc, &scenario, words, workers, files),
         Err(failure) => Err(failure),
     }
 }
@@ -125,6 +132,7 @@ fn run_file<'a, F: Files>(
 /// Divides a scenario as the words say, runs it with so many workers, and writes its trace and its report
 /// to files.
 fn run_scenario<'a, F: Files>(
+    rt: &(impl Threads + Sync),
     alloc: Global,
     scenario: &Scenario,
     words: RunWords<'a>,
@@ -136,12 +144,11 @@ fn run_scenario<'a, F: Files>(
     ensures failed { IfErr result (ScenarioFails scenario.now (F.known files.old) (F.known files.new)
         (F.makes files.old) workers words.entry) }
 {
-    // the runs of today are the same for each division
-    let _division = match division_asked(alloc, scenario, words.split, workers) {
+    let division = match division_asked(alloc, scenario, words.split, workers) {
         Ok(division) => division,
         Err(failure) => return Err(failure),
     };
-    store_run(alloc, scenario, words, files)
+    store_run(rt, alloc, scenario, &division, words, files)
 }
 
 /// The scenario of a file.
@@ -159,29 +166,35 @@ fn load<'a, F: Files>(alloc: Global, name: &'a str, files: &mut F) -> Result<Sce
 
 /// Runs a scenario, and writes its trace to a file, and its report to another where one is asked for.
 fn store_run<'a, F: Files>(
+    rt: &(impl Threads + Sync),
     alloc: Global,
     scenario: &Scenario,
+    division: &Division,
     words: RunWords<'a>,
     files: &mut F,
 ) -> Result<Summary, Failure<'a>>
+    requires divided { length division.now.part_of ≡ member_count scenario.now }
     ensures done { IfOk result (λ summary. StoresRun scenario.now (F.known files.old) (F.known files.new)
         words.entry.trace.now (report_word words.entry) summary.rows) }
     ensures failed { IfErr result (StoreFails scenario.now (F.known files.old) (F.known files.new)
         (F.makes files.old) words.entry.trace.now (report_word words.entry)) }
 {
     match words.report {
-        Some(report) => store_both(alloc, scenario, words.trace, report, files),
-        None => store_trace(alloc, scenario, words.trace, files),
+        Some(report) => store_both(rt, alloc, scenario, division, words.trace, report, files),
+        None => store_trace(rt, alloc, scenario, division, words.trace, files),
     }
 }
 
 /// Runs a scenario, and writes its trace to the file of a name. Its report goes nowhere.
 fn store_trace<'a, F: Files>(
+    rt: &(impl Threads + Sync),
     alloc: Global,
     scenario: &Scenario,
+    division: &Division,
     name: &'a str,
     files: &mut F,
 ) -> Result<Summary, Failure<'a>>
+    requires divided { length division.now.part_of ≡ member_count scenario.now }
     ensures done { IfOk result (λ summary. StoresRun scenario.now (F.known files.old) (F.known files.new)
         name.entry.now None summary.rows) }
     ensures failed { IfErr result (StoreFails scenario.now (F.known files.old) (F.known files.new)
@@ -191,7 +204,7 @@ fn store_trace<'a, F: Files>(
         Ok(made) => made,
         Err(fault) => return Err(file_failure(fault, name)),
     };
-    let (made, _nowhere, outcome) = simulate(alloc, scenario, made, io::sink());
+    let (made, _nowhere, outcome) = simulate(rt, alloc, scenario, division, made, io::sink());
     files.close(name, made);
     match outcome {
         Ok(summary) => Ok(summary),
@@ -202,12 +215,15 @@ fn store_trace<'a, F: Files>(
 /// Runs a scenario, and writes its trace and its report to the files of two names, which are made in that
 /// order. One name for both is refused before either is made, since one file can't hold both.
 fn store_both<'a, F: Files>(
+    rt: &(impl Threads + Sync),
     alloc: Global,
     scenario: &Scenario,
+    division: &Division,
     trace: &'a str,
     report: &'a str,
     files: &mut F,
 ) -> Result<Summary, Failure<'a>>
+    requires divided { length division.now.part_of ≡ member_count scenario.now }
     ensures done { IfOk result (λ summary. StoresRun scenario.now (F.known files.old) (F.known files.new)
         trace.entry.now (Some report.entry.now) summary.rows) }
     ensures failed { IfErr result (StoreFails scenario.now (F.known files.old) (F.known files.new)
@@ -224,7 +240,14 @@ fn store_both<'a, F: Files>(
         Ok(made) => made,
         Err(fault) => return Err(file_failure(fault, report)),
     };
-    let (made_trace, made_report, outcome) = simulate(alloc, scenario, made_trace, made_report);
+    let (made_trace, made_report, outcome) = simulate(
+        rt,
+        alloc,
+        scenario,
+        division,
+        made_trace,
+        made_report,
+    );
     files.close(trace, made_trace);
     files.close(report, made_report);
     match outcome {

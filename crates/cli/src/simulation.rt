@@ -1,5 +1,6 @@
 //! From a scenario's bytes to its trace and its report.
-ghost use Rattle.std.specs.Prelude.{◌≡◌, ◌≢◌, Ok, IfOk, IfErr, OnErr, IsErrOf};
+ghost use Rattle.std.specs.Prelude.{◌≡◌, ◌≢◌, Ok, IfOk, IfErr, OnErr, IsErrOf, length};
+ghost use Rattle.scenario.specs.Setup.{member_count};
 ghost use Rattle.scenario.specs.Rules.{verdict};
 ghost use Rattle.exchange.specs.Runs.{WearsOut};
 ghost use Rattle.command_line.specs.Failures.{RefusesText};
@@ -8,9 +9,10 @@ ghost use Rattle.exchange.specs.Promise.{WritesRun, WritesBeginning};
 use base::Fault;
 use command_line::Failure;
 use exchange::{Summary, run_one};
-use scenario::Scenario;
+use scenario::{Division, Scenario};
 use std::alloc::Global;
 use std::io::Write;
+use std::thread::Threads;
 use trace::Put;
 
 /// The number of the rule that stands for want of memory.
@@ -30,14 +32,17 @@ pub fn check(alloc: Global, bytes: &[u8]) -> Result<Scenario, Failure<'static>>
     }
 }
 
-/// Runs a scenario, writes its trace to one writer and then its report to the other, and gives both back.
-/// After a fault they have got a beginning of that.
+/// Runs a scenario by a division of its members, writes its trace to one writer and then its report to the
+/// other, and gives both back. After a fault they have got a beginning of that.
 pub fn simulate<T: Write, R: Write>(
+    rt: &(impl Threads + Sync),
     alloc: Global,
     scenario: &Scenario,
+    division: &Division,
     trace: T,
     report: R,
 ) -> (T, R, Result<Summary, Fault>)
+    requires divided { length division.now.part_of ≡ member_count scenario.now }
     ensures written { IfOk result.2 (λ summary. WritesRun scenario.now (T.contents trace) (T.contents result.0)
         (R.contents report) (R.contents result.1) summary.rows) }
     ensures beginning { OnErr result.2 (WritesBeginning scenario.now (T.contents trace) (T.contents result.0)
@@ -47,6 +52,7 @@ pub fn simulate<T: Write, R: Write>(
 {
     let mut trace = Put::new(trace);
     let mut report = Put::new(report);
+    // a run is the same for each division, and goes on one thread so far
     let outcome = run_one(alloc, scenario, &mut trace, &mut report);
     (trace.into_inner(), report.into_inner(), outcome)
 }

@@ -11,7 +11,14 @@ fn main(rt: HostRuntime) -> ExitCode {
     let status = match words(&rt) {
         Ok(words) => {
             let mut files = SystemFiles::new(&rt);
-            command(rt.alloc(), words.as_slice(), &mut files, &mut out, &mut err)
+            command(
+                &rt,
+                rt.alloc(),
+                words.as_slice(),
+                &mut files,
+                &mut out,
+                &mut err,
+            )
         }
         Err(failure) => refuse(&failure, &mut err),
     };

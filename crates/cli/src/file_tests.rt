@@ -1,0 +1,91 @@
+//! What is left of trace and report: in the place of older ones, and where a file can't be made or takes
+//! less than it is given.
+
+use crate::tests::{REPORTED, RUN, expect_refusal, files_with, holds, left_by, older_files};
+use exchange::testing::TWO_MEMBERS;
+use files::testing::Fails;
+use std::test::Fail;
+
+/// A name of which no file can be made, the name of the report, and what is told and left as the trace. A
+/// trace is made before its report, so it is replaced by nothing where the report can't be made.
+const UNMADE: [(&str, &str, &str, &str); 3] = [
+    ("r.txt", "r.txt", "swimsim: file r.txt\n", ""),
+    (
+        "t.csv",
+        "r.txt",
+        "swimsim: file t.csv\n",
+        "an older trace, which is replaced",
+    ),
+    (
+        "",
+        "t.csv",
+        "swimsim: file t.csv\n",
+        "an older trace, which is replaced",
+    ),
+];
+
+#[test]
+fn files_that_cannot_be_made_are_told(rt: HostRuntime) -> Result<(), Fail> {
+    for (line, locked, told, trace) in UNMADE {
+        let files = older_files(&rt, TWO_MEMBERS.scenario)?.refusing_to_make(locked);
+        let left = left_by(&rt, line, files, Fails::Never)?;
+        expect_refusal(&rt, &left, 1, told);
+        assert!(rt; holds(&left, "t.csv", trace));
+        assert!(rt; holds(&left, "r.txt", "an older report"));
+    }
+    Ok(())
+}
+
+/// Files that take more bytes than the trace has, and fewer than the report.
+#[test]
+fn each_byte_of_the_report_may_have_no_room(rt: HostRuntime) -> Result<(), Fail> {
+    assert!(rt; TWO_MEMBERS.trace.len() < TWO_MEMBERS.report.len());
+    for bytes in TWO_MEMBERS.trace.len()..TWO_MEMBERS.report.len() {
+        let files = files_with(&rt, TWO_MEMBERS.scenario)?.failing(Fails::After(bytes));
+        let left = left_by(&rt, REPORTED, files, Fails::Never)?;
+        expect_refusal(&rt, &left, 5, "swimsim: run F3\n");
+        assert!(rt; holds(&left, "t.csv", TWO_MEMBERS.trace));
+        let report = left.files.bytes("r.txt").ok_or("no report")?;
+        assert_eq!(rt; report.len(), bytes);
+        assert!(rt; TWO_MEMBERS.report.as_bytes().starts_with(report));
+    }
+    Ok(())
+}
+
+/// The report's file is made, but nothing is put into it.
+#[test]
+fn no_report_follows_half_a_trace(rt: HostRuntime) -> Result<(), Fail> {
+    for (fails, trace) in [
+        (Fails::AtWrite(1), ""),
+        (Fails::After(40), "moment,member,from,number,what,about,val"),
+        (Fails::AtFlush, TWO_MEMBERS.trace),
+    ] {
+        let files = older_files(&rt, TWO_MEMBERS.scenario)?.failing(fails);
+        let left = left_by(&rt, REPORTED, files, Fails::Never)?;
+        expect_refusal(&rt, &left, 5, "swimsim: run F3\n");
+        assert!(rt; holds(&left, "t.csv", trace));
+        assert!(rt; holds(&left, "r.txt", ""));
+    }
+    Ok(())
+}
+
+#[test]
+fn each_write_of_the_trace_may_fail(rt: HostRuntime) -> Result<(), Fail> {
+    let mut failed = 0u64;
+    for number in 1..=64 {
+        let files = files_with(&rt, TWO_MEMBERS.scenario)?.failing(Fails::AtWrite(number));
+        let left = left_by(&rt, RUN, files, Fails::Never)?;
+        if left.status == 0 {
+            assert!(rt; holds(&left, "t.csv", TWO_MEMBERS.trace));
+            break;
+        }
+        expect_refusal(&rt, &left, 5, "swimsim: run F3\n");
+        let bytes = left.files.bytes("t.csv").ok_or("no trace")?;
+        assert!(rt; bytes.len() < TWO_MEMBERS.trace.len());
+        assert!(rt; TWO_MEMBERS.trace.as_bytes().starts_with(bytes));
+        failed = number;
+    }
+    // the header is a write, and there are rows
+    assert!(rt; 2 <= failed && failed < 64, "{failed}");
+    Ok(())
+}
