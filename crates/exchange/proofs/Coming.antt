@@ -1,5 +1,5 @@
 -- Events that come to the parts of their receivers.
-use Rattle.std.proofs.Common.{◌≡◌, ℕ, zero, suc, ◌<◌, Bool, true, false, cond, eqb, nat_eq, List, [], ◌∷◌, ◌++◌, map, length, Option, Some, None, slice_set, ap, ◌∙◌, sym, subst, refl}
+use Rattle.std.proofs.Common.{◌≡◌, ◌≢◌, ℕ, zero, suc, ◌<◌, Bool, true, false, cond, eqb, nat_eq, List, [], ◌∷◌, ◌++◌, map, length, Option, Some, None, slice_set, ap, ◌∙◌, sym, subst, refl, arith}
 use Rattle.std.specs.Option.{option_map, is_some}
 use Rattle.std.specs.List.{slice_get}
 use Rattle.std.specs.FinMap.{FinMap, contains_key, insert}
@@ -10,6 +10,7 @@ use Rattle.std.proofs.lemmas.List.Elements.{filter-append}
 use Rattle.base.specs.declared.key.Key.{Key}
 use Rattle.base.specs.Order.{key_cmp}
 use Rattle.base.specs.World.{with_events}
+use Rattle.base.specs.Run.{holds-with_events}
 use Rattle.base.specs.Rising.{AreNew}
 use Rattle.member.specs.declared.content.Content.{Content}
 use Rattle.member.specs.declared.event.Event.{Event}
@@ -18,10 +19,10 @@ use Rattle.member_laws.specs.Runs.{Cluster}
 use Rattle.windows.specs.declared.part.Part.{Part}
 use Rattle.windows.specs.Parts.{is_in, for_own, joined}
 use Rattle.windows.specs.View.{world_of}
+use Rattle.windows.proofs.Admitting.{absent}
+use Rattle.windows.proofs.Deliveries.{all_at, all_before}
 use Rattle.windows.proofs.Cuts.{joined_joined}
 use Rattle.exchange.specs.Parts.{HaveCome}
-use Rattle.exchange.proofs.Members.{at_place, elsewhere}
-use Rattle.exchange.proofs.Pending.{pushed, next_is_new, still_absent}
 
 pub twice : {A B C : Type 0} (f : A → B) (g : B → C) (o : Option A) → option_map g (option_map f o) ≡ option_map (λ x. g (f x)) o
 twice f g None = refl
@@ -31,10 +32,30 @@ same_map : {A B : Type 0} (f g : A → B) (o : Option A) → ((x : A) → f x �
 same_map f g None same = refl
 same_map f g (Some x) same = ap Some (same x)
 
-same_count : {A : Type 0} (xs : List A) (i : ℕ) (x : A) → length (slice_set xs i x) ≡ length xs
+pub same_count : {A : Type 0} (xs : List A) (i : ℕ) (x : A) → length (slice_set xs i x) ≡ length xs
 same_count [] i x = refl
 same_count (y ∷ ys) zero x = refl
 same_count (y ∷ ys) (suc i) x = ap suc (same_count ys i x)
+
+pub at_place : {X : Type 0} (xs : List X) (i : ℕ) (x : X) → i < length xs → slice_get (slice_set xs i x) i ≡ Some x
+at_place [] i x h = absurd (omega arith)
+at_place (y ∷ ys) zero x h = refl
+at_place (y ∷ ys) (suc i) x h = at_place ys i x (omega arith)
+
+pub elsewhere : {X : Type 0} (xs : List X) (i q : ℕ) (x : X) → ¬ (q ≡ i) → slice_get (slice_set xs i x) q ≡ slice_get xs q
+elsewhere [] i q x h = refl
+elsewhere (y ∷ ys) zero zero x h = absurd (h refl)
+elsewhere (y ∷ ys) zero (suc q) x h = refl
+elsewhere (y ∷ ys) (suc i) zero x h = refl
+elsewhere (y ∷ ys) (suc i) (suc q) x h = elsewhere ys i q x (λ e. h (ap suc e))
+
+-- of new events that are added one after the other, each is new when its turn comes
+next_is_new : {C : Type 0} (pending : FinMap key_cmp C) (before : List (Key × C)) (e : Key × C) (after : List (Key × C)) → AreNew pending (before ++ e ∷ after)
+    → contains_key (with_events pending before) e.0 ≡ false
+next_is_new pending before e after new =
+    absent (with_events pending before) e.0 (holds-with_events (λ q. q ≢ e.0) before pending
+    (λ q here same. false≢true (sym (all_at (λ f. contains_key pending f.0 ≡ false) before after e new.unlike_pending) ∙ ap (contains_key pending) (sym same) ∙ here))
+    (all_before (λ f g. f.0 ≢ g.0) before after e new.unlike_each_other))
 
 -- what stands behind a value that is there
 pub behind : {A B : Type 0} (f : A → B) (o : Option A) (y : B) → option_map f o ≡ Some y → (x : A) × (o ≡ Some x) × (f x ≡ y)
@@ -58,14 +79,11 @@ module _ {Q : Type 0} (set : Q → FinMap key_cmp Event) (division : ℕ → ℕ
         (λ p. joined_joined (world_of set p) (own es) (own fs) ∙ ap (joined (world_of set p)) (sym (filter-append (λ e. is_in division i e.0.to) es fs)));
   }
 
-  -- one event comes: its part's queue takes it in
-  module _ (parts : List (Part Q)) (place : ℕ) (part : Part Q) (queue : Q) (event : Event) (own : division event.key.to ≡ place) (here : slice_get parts place ≡ Some part)
-      (took : set queue ≡ insert (set part.queue) event.key event) (within : place < length parts) where
-    abbrev after : Part Q
-    after = record { number = part.number; members = part.members; queue = queue }
-
+  -- one event comes to its part
+  module _ (parts : List (Part Q)) (place : ℕ) (part after : Part Q) (event : Event) (own : division event.key.to ≡ place) (here : slice_get parts place ≡ Some part)
+      (took : world_of set after ≡ joined (world_of set part) (pair_of event ∷ [])) (within : place < length parts) where
     world_after : (b : Bool) → is_in division place event.key.to ≡ b → world_of set after ≡ joined (world_of set part) (cond b (pair_of event ∷ []) [])
-    world_after true mine = ap (λ m. record { members = (world_of set part).members; pending = m }) (pushed (set part.queue) (set queue) event took)
+    world_after true mine = took
     world_after false other = absurd (false≢true (sym other ∙ eq-eqb (division event.key.to) place own))
 
     at : (i : ℕ) (b : Bool) → eqb i place ≡ b
@@ -115,11 +133,19 @@ module _ {Q : Type 0} (set : Q → FinMap key_cmp Event) (division : ℕ → ℕ
       subst (λ (w : Cluster). AreNew w.pending (own (pair_of event ∷ []))) was.2
       (new_own (world_of set was.0).pending (map pair_of yielded) (map pair_of rest) (pair_of event) i (is_in division i event.key.to) refl split)
 
-  -- so the queue of its part has no event of its key
+  -- so its part has no event of its key
   pub absent_at_place : (part : Part Q) (event : Event) (i : ℕ) → division event.key.to ≡ i → AreNew (world_of set part).pending (for_own (is_in division i) (pair_of event ∷ []))
-      → contains_key (set part.queue) event.key ≡ false
-  absent_at_place part event i own new = by_test (is_in division i event.key.to) refl (new)
+      → contains_key (world_of set part).pending event.key ≡ false
+  absent_at_place part event i own new = by_test (is_in division i event.key.to) refl new
     where
-      by_test : (b : Bool) → is_in division i event.key.to ≡ b → AreNew (world_of set part).pending (cond b (pair_of event ∷ []) []) → contains_key (set part.queue) event.key ≡ false
-      by_test true mine new = still_absent (set part.queue) event.key new.unlike_pending.0
+      by_test : (b : Bool) → is_in division i event.key.to ≡ b → AreNew (world_of set part).pending (cond b (pair_of event ∷ []) []) → contains_key (world_of set part).pending event.key ≡ false
+      by_test true mine new = new.unlike_pending.0
       by_test false other new = absurd (false≢true (sym other ∙ eq-eqb (division event.key.to) i own))
+
+  -- and each part still has the members that it had
+  pub members_stay : (before now : List (Part Q)) (es : List (Key × Content)) → HaveCome set division before now es → (i : ℕ) (part : Part Q) → slice_get now i ≡ Some part
+      → (old : Part Q) × (slice_get before i ≡ Some old) × ((world_of set part).members ≡ (world_of set old).members)
+  members_stay before now es come i part here =
+      let was = behind (λ p. joined (world_of set p) (for_own (is_in division i) es)) (slice_get before i) (world_of set part)
+      (sym (come.worlds i) ∙ ap (option_map (world_of set)) here) in
+      (was.0, was.1, ap (λ (w : Cluster). w.members) (sym was.2))

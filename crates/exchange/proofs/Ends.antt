@@ -7,18 +7,16 @@ use Rattle.std.proofs.lemmas.Bool.{false≢true}
 use Rattle.base.specs.declared.key.Key.{Key}
 use Rattle.base.specs.World.{Machine, World, Outcome, IsPending, IsOver, Run, NextStep, settled, outcome, events_of}
 use Rattle.base.specs.Run.{MakesLater, handled, trace, run-exists, one_step, run_more}
-use Rattle.base.specs.Rising.{IsNumbered}
 use Rattle.scenario.specs.Setup.{Setup, IsSound}
 use Rattle.trace.specs.declared.row.Row.{Row}
+use Rattle.member.specs.declared.content.Content.{Content}
 use Rattle.member.specs.State.{State}
 use Rattle.member.specs.Step.{step}
-use Rattle.member.proofs.Fair.{steps_later, steps_numbered}
+use Rattle.member.proofs.Fair.{steps_later}
 use Rattle.member_laws.specs.Runs.{Cluster, IsSoundCluster}
-use Rattle.windows.specs.Parts.{kept_by, for_others}
-use Rattle.windows.specs.Cluster.{IsLeastDelay, SafeSchedule, SafeStep}
-use Rattle.windows.proofs.Members.{early_here, sound_after}
-use Rattle.exchange.specs.Parts.{IsWholeCluster}
-use Rattle.exchange.proofs.Fresh.{Keeps, keeps_nothing, keeps_on, by_receiver}
+use Rattle.windows.specs.Cluster.{IsLeastDelay, IsWholeCluster, SafeSchedule, SafeStep}
+use Rattle.windows.proofs.Members.{early_here, sound_after, numbered_here}
+use Rattle.windows.proofs.PartRuns.{same_own}
 
 module _ {S C R : Type 0} (step : Machine S C R) (end : ℕ) where
   -- the run from this world ends there
@@ -86,54 +84,20 @@ module _ (s : Setup) (sound : IsSound s) (d : Option ℕ) (least : IsLeastDelay 
 
 -- ---- what a schedule keeps
 
-all_of : {A : Type 0} (xs : List A) → filter (λ x. true) xs ≡ xs
-all_of [] = refl
-all_of (x ∷ xs) = ap (λ l. x ∷ l) (all_of xs)
-
-whole_kept : {S C R : Type 0} (o : Option (Outcome S C R)) → option_map (kept_by (λ m. true)) o ≡ o
-whole_kept None = refl
-whole_kept (Some o) = ap (λ l. Some (record { state = o.state; events = l; rows = o.rows })) (all_of o.events)
+settled_same : (s : Setup) (w : Cluster) (k : Key) (c : Content) (o : Option State) → get w.members k.to ≡ o → (m : ℕ)
+    → contains_key (settled w k (option_map (step s k c) o)).members m ≡ contains_key w.members m
+settled_same s w k c None none m = refl
+settled_same s w k c (Some t) here m = same_own w.members k.to t (step s k c t).state here m
 
 module _ (s : Setup) (sound : IsSound s) (d : Option ℕ) where
-  abbrev next_of : State → ℕ
-  next_of t = t.next_number
-
-  abbrev KeepsAll : Cluster → Cluster → Type 0
-  KeepsAll w v = (out : List _) × Keeps next_of (step s) (steps_numbered s sound) w v out
-
-  schedule_keeps : (ks : List Key) (w v : Cluster) (rows : List Row) → SafeSchedule s d w ks rows v → KeepsAll w v
-  schedule_keeps [] w v rows is = ([], subst (λ u. Keeps next_of (step s) (steps_numbered s sound) w u []) (sym is.0) (keeps_nothing next_of (step s) (steps_numbered s sound) w))
-  schedule_keeps (k ∷ ks) w v rows is =
-      let numbers = steps_numbered s sound in
-      let c = is.3.content in
-      let one = by_receiver next_of (step s) numbers (λ m. true) 0 w k c (get w.members k.to) refl in
-      let out = for_others (λ m. true) (events_of (outcome (step s) w k c)) in
-      let mid : Keeps next_of (step s) numbers w is.0 out =
-      subst (λ u. Keeps next_of (step s) numbers w u out) (ap (settled w k) (whole_kept (outcome (step s) w k c)) ∙ sym is.3.world) one in
-      let rest = schedule_keeps ks is.0 v is.2 is.4 in
-      (out ++ rest.0, keeps_on next_of (step s) numbers w is.0 v out rest.0 mid rest.1)
-
-  module _ (w v : Cluster) (keeps : KeepsAll w v) where
-    numbered_on : IsNumbered next_of w → IsNumbered next_of v
-    numbered_on all q here = elim (keeps.1.old q here) [ inl old ↦ was old | inr made ↦ (made.last, made.behind, made.below) ]
-      where
-        was : IsPending w q → (t : State) × (get v.members q.from ≡ Some t) × (q.number < t.next_number)
-        was old =
-            let used = all q old in
-            let more = keeps.1.grown q.from used.0 used.1 in
-            let low = used.2 in
-            let grows = more.2 in
-            (more.0, more.1, omega arith)
-
-    peopled_on : (m : ℕ) → contains_key v.members m ≡ contains_key w.members m
-    peopled_on m = by_value (get w.members m) refl (get v.members m) refl
-      where
-        by_value : (o : Option State) → get w.members m ≡ o → (r : Option State) → get v.members m ≡ r → contains_key v.members m ≡ contains_key w.members m
-        by_value (Some t) is r now = let more = keeps.1.grown m t is in ap is_some more.1 ∙ sym (ap is_some is)
-        by_value None is (Some u) now = let was = keeps.1.been m u now in absurd (false≢true (sym (ap is_some is) ∙ ap is_some was.1))
-        by_value None is None now = ap is_some now ∙ sym (ap is_some is)
+  same_members : (ks : List Key) (w v : Cluster) (rows : List Row) → SafeSchedule s d w ks rows v → (m : ℕ) → contains_key v.members m ≡ contains_key w.members m
+  same_members [] w v rows is m = ap (λ (u : Cluster). contains_key u.members m) is.0
+  same_members (k ∷ ks) w v rows is m =
+      same_members ks is.0 v is.2 is.4 m ∙ ap (λ (u : Cluster). contains_key u.members m) is.3.world ∙ settled_same s w k is.3.content (get w.members k.to) refl m
 
   pub whole_after : (ks : List Key) (w v : Cluster) (rows : List Row) → SafeSchedule s d w ks rows v → IsSoundCluster s v → IsWholeCluster s w → IsWholeCluster s v
-  whole_after ks w v rows is there whole =
-      let keeps = schedule_keeps ks w v rows is in
-      record { sound = there; numbered = numbered_on w v keeps whole.numbered; peopled = λ m. peopled_on w v keeps m ∙ whole.peopled m }
+  whole_after ks w v rows is there whole = record {
+    sound = there;
+    numbered = numbered_here s d w v ks rows sound whole.numbered is;
+    peopled = λ m. same_members ks w v rows is m ∙ whole.peopled m;
+  }

@@ -9,7 +9,7 @@ use Rattle.std.proofs.lemmas.Bool.{false≢true, eqb-true, eq-eqb, ltb-true, ltb
 use Rattle.std.proofs.lemmas.Option.{same_Some, slice_get_within}
 use Rattle.base.specs.declared.key.Key.{Key}
 use Rattle.base.specs.Order.{key_cmp, key_total, key_exact}
-use Rattle.base.specs.World.{IsPending, IsOver, Run, NextStep, settled}
+use Rattle.base.specs.World.{IsPending, IsOver, Run}
 use Rattle.scenario.specs.Setup.{Setup, IsSound, member_count, link_between}
 use Rattle.scenario.specs.Division.{Deal}
 use Rattle.trace.specs.declared.row.Row.{Row}
@@ -18,36 +18,29 @@ use Rattle.member.specs.declared.event.Event.{Event}
 use Rattle.member.specs.State.{State}
 use Rattle.member.specs.Step.{step}
 use Rattle.member.specs.Opening.{opening, opening_state, numbers}
-use Rattle.member.proofs.Fair.{steps_later}
 use Rattle.member_laws.specs.Runs.{Cluster, IsSoundCluster}
-use Rattle.member_laws.proofs.Reached.{consistent_reached, pending_among, rows_named}
+use Rattle.member_laws.proofs.Reached.{rows_named}
 use Rattle.worker_queue.specs.Queue.{NoneIsBelow}
 use Rattle.windows.specs.declared.part.Part.{Part}
 use Rattle.links.specs.Least.{IsReached, IsNoGreater}
 use Rattle.trace.specs.Text.{NamesMembers}
 use Rattle.windows.specs.Window.{is_own}
-use Rattle.windows.proofs.Members.{met_in_part, run_here, sound_after}
-use Rattle.std.specs.BTreeMap.{BTreeMap}
-use Rattle.std.proofs.lemmas.Map.Lookups.{exact_unsigned}
-use Rattle.std.proofs.lemmas.Map.Views.{tells_apart}
-use Rattle.member.specs.declared.member.Member.{Member}
-use Rattle.member.specs.View.{state_of}
+use Rattle.windows.proofs.Members.{met_in_part}
 use Rattle.member.specs.Worn.{IsWorn}
-use Rattle.member.proofs.Worn.{not_worn}
-use Rattle.exchange.proofs.Wearing.{worn_stays}
-use Rattle.exchange.proofs.Ends.{one_end, end_there, end_before}
 use Rattle.windows.specs.Parts.{PartRun, part_of, is_in}
 use Rattle.windows.specs.Schedule.{MeetsState}
-use Rattle.windows.specs.Cluster.{IsLeastDelay}
-use Rattle.windows.specs.View.{world_of, states_in}
+use Rattle.windows.specs.Cluster.{IsLeastDelay, IsWholeCluster}
+use Rattle.windows.specs.View.{world_of}
 use Rattle.windows.proofs.Cuts.{get_retained}
 use Rattle.member_laws.specs.Runs.{IsRunOf, WearsOut}
-use Rattle.exchange.specs.Parts.{part_number, NonePendsBefore, OneWears, StandFor, IsWholeCluster, MayTurn, HaveTurned}
+use Rattle.exchange.specs.Parts.{part_number, NonePendsBefore, OneWears, StandFor, MayTurn, HaveTurned}
 use Rattle.exchange.specs.Bounds.{IsNextBound}
 use Rattle.exchange.proofs.Coming.{behind}
-use Rattle.member_laws.proofs.Opened.{member_there, opening_numbered}
-use Rattle.windows.proofs.Maps.{still_pending}
-use Rattle.exchange.proofs.Turning.{all_places, world_at, pending_kept, own_here}
+use Rattle.exchange.proofs.Turning.{all_places, world_at, own_by_part}
+use Rattle.exchange.proofs.Lasting.{wears_nothing}
+use Rattle.windows.proofs.Wholes.{pending_kept}
+use Rattle.windows.proofs.Slots.{part_unworn}
+use Rattle.exchange.proofs.Whole.{opening_whole}
 use Rattle.exchange.proofs.Turned.{led, stand_after, whole_led, none_led, run_led, met_led}
 
 -- ---- what pends in the parts pends in their world
@@ -59,9 +52,8 @@ module _ {Q : Type 0} (set : Q → FinMap key_cmp Event) (deal : Deal) (parts : 
   -- where nothing of the world pends before a moment, nothing of the parts does
   pub none_of_parts : (t : ℕ) → ((q : Key) → IsPending w q → t ≤ q.at) → NonePendsBefore set parts t
   none_of_parts t from =
-      place_of_all (λ p. NoneIsBelow (set p.queue) t)
-      (λ i p here is q there.
-      from q (pending_kept (is_in (part_number deal) i) w q (subst (λ (x : Cluster). contains_key x.pending q ≡ true) is (still_pending (set p.queue) q ∙ there))))
+      place_of_all (λ p. NoneIsBelow (world_of set p).pending t)
+      (λ i p here is q there. from q (pending_kept (is_in (part_number deal) i) w q (subst (λ (x : Cluster). contains_key x.pending q ≡ true) is there)))
 
   at_place : (P : Part Q → Type 0) (xs : List (Part Q)) (i : ℕ) (p : Part Q) → slice_get xs i ≡ Some p → AllByRecursion P xs → P p
   at_place P [] i p here all = absurd (false≢true (ap is_some here))
@@ -76,8 +68,7 @@ module _ {Q : Type 0} (set : Q → FinMap key_cmp Event) (deal : Deal) (parts : 
       let found = behind (world_of set) (slice_get parts i) (part_of (is_in (part_number deal) i) w) (stand.worlds i (known q here)) in
       let kept : contains_key (part_of (is_in (part_number deal) i) w).pending q ≡ true =
       ap is_some (get_retained key_total key_exact (λ r. is_in (part_number deal) i r.to) w.pending q) ∙ ap (λ b. is_some (cond b (get w.pending q) None)) (eq-eqb i i refl) ∙ here in
-      at_place (λ p. NoneIsBelow (set p.queue) t) parts i found.0 found.1 none q
-      (sym (still_pending (set found.0.queue) q) ∙ subst (λ (x : Cluster). contains_key x.pending q ≡ true) (sym found.2) kept)
+      at_place (λ p. NoneIsBelow (world_of set p).pending t) parts i found.0 found.1 none q (subst (λ (x : Cluster). contains_key x.pending q ≡ true) (sym found.2) kept)
 
 -- ---- the run so far
 
@@ -93,32 +84,6 @@ pub record IsUnderWay {Q : Type 0} (set : Q → FinMap key_cmp Event) (s : Setup
   pub met : (m : ℕ) (t : State) → MeetsState (step s) s.end world m t → MeetsState (step s) s.end (opening s) m t
 
 -- ---- the opening
-
-find_none : (s : Setup) (m a n : ℕ) → a + n ≤ m → find nat_cmp m (map (λ i. (i, opening_state s i)) (range_with_len a n)) ≡ None
-find_none s m a zero past = refl
-find_none s m a (suc n) past =
-    ap (λ b. cond b (Some (opening_state s a)) (find nat_cmp m (map (λ i. (i, opening_state s i)) (range_with_len (a + 1) n)))) (unsigned_tied m a ∙ differs (eqb m a) refl)
-    ∙ find_none s m (a + 1) n (omega arith)
-  where
-    differs : (b : Bool) → eqb m a ≡ b → b ≡ false
-    differs true e = let same = eqb-true m a e in absurd (omega arith)
-    differs false e = refl
-
-pub opening_whole : (s : Setup) → IsSound s → IsWholeCluster s (opening s)
-opening_whole s sound = record {
-  sound = record {
-    states = λ m t here. consistent_reached s sound (opening s) m t ([], [], (refl, refl)) here;
-    events = λ k c here. pending_among s sound (opening s) k c ([], [], (refl, refl)) here;
-  };
-  numbered = opening_numbered s;
-  peopled = λ m. by_test m (nat_lt m (member_count s)) refl;
-}
-  where
-    by_test : (m : ℕ) (b : Bool) → nat_lt m (member_count s) ≡ b → contains_key (opening s).members m ≡ b
-    by_test m true h = ap is_some (member_there s m (ltb-true m (member_count s) h))
-    by_test m false h =
-        let past = ltb-false m (member_count s) h in
-        ap is_some (get-from_entries nat_cmp_total (map (λ i. (i, opening_state s i)) (numbers s)) m ∙ find_none s m 0 (member_count s) (omega arith))
 
 pub not_yet : {Q : Type 0} (set : Q → FinMap key_cmp Event) (s : Setup) (deal : Deal) (parts : List (Part Q)) → IsSound s → StandFor set deal parts (opening s) → IsUnderWay set s deal 0 parts []
 not_yet set s deal parts sound stand = record {
@@ -204,7 +169,7 @@ module _ {Q : Type 0} (set : Q → FinMap key_cmp Event) (s : Setup) (sound : Is
         let owns = is_in (part_number deal) i in
         let p = part_of owns so_far.world in
         let run : PartRun (step s) owns bound p is.wears.keys is.wears.out is.wears.rows is.wears.world =
-        subst (λ f. PartRun (step s) f bound p is.wears.keys is.wears.out is.wears.rows is.wears.world) (own_here s deal divides so_far.world so_far.whole i low)
+        subst (λ f. PartRun (step s) f bound p is.wears.keys is.wears.out is.wears.rows is.wears.world) (own_by_part s deal so_far.world i divides so_far.whole low)
         (subst (λ x. PartRun (step s) (is_own x) bound x is.wears.keys is.wears.out is.wears.rows is.wears.world) world is.wears.reached) in
         let met = so_far.met is.wears.number is.wears.member
         (met_in_part s d (part_number deal) i bound so_far.world is.wears.world is.wears.keys is.wears.out is.wears.rows is.wears.number is.wears.member sound least so_far.whole.sound may_turn.common run is.wears.there) in
@@ -232,58 +197,7 @@ module _ {Q : Type 0} (set : Q → FinMap key_cmp Event) (s : Setup) (sound : Is
   pub past_end : s.end < from → NonePendsBefore set parts (s.end + 1)
   past_end past = none_of_parts set deal parts so_far.world so_far.stand (s.end + 1) (λ q here. let low = none_of_it from so_far.none q here in omega arith)
 
--- ---- a run that comes to its end in a world in memory wore nothing out
-
-unworn_found : (es : List (ℕ × Member)) (m : ℕ) (t : State) → find nat_cmp m (map (λ e. (e.0, state_of e.1)) es) ≡ Some t → ¬ (IsWorn t)
-unworn_found [] m t is = absurd (false≢true (ap is_some is))
-unworn_found (e ∷ es) m t is = by_test (unworn_found es m t) (eq_by_cmp nat_cmp m e.0) is
-  where
-    by_test : (find nat_cmp m (map (λ e. (e.0, state_of e.1)) es) ≡ Some t → ¬ (IsWorn t)) → (b : Bool)
-        → cond b (Some (state_of e.1)) (find nat_cmp m (map (λ e. (e.0, state_of e.1)) es)) ≡ Some t → ¬ (IsWorn t)
-    by_test rest true is = subst (λ u. ¬ (IsWorn u)) (same_Some (state_of e.1) t is) (not_worn e.1)
-    by_test rest false is = rest is
-
-part_unworn : (members : BTreeMap ℕ Member) (m : ℕ) (t : State) → get (states_in members) m ≡ Some t → ¬ (IsWorn t)
-part_unworn members m t is =
-    unworn_found (entries (from_entries members.entries)) m t (sym (get-from_entries nat_cmp_total (map (λ e. (e.0, state_of e.1)) (entries (from_entries members.entries))) m) ∙ is)
-
-module _ (s : Setup) (sound : IsSound s) (d : Option ℕ) (least : IsLeastDelay s d) where
-  worn_next : (w v : Cluster) (k : Key) (made : List Row) (m : ℕ) (t : State) → IsSoundCluster s w → NextStep (step s) w k v made → get w.members m ≡ Some t → IsWorn t
-      → (u : State) × (get v.members m ≡ Some u) × IsWorn u
-  worn_next w v k made m t fact next here worn = subst (λ (x : Cluster). (u : State) × (get x.members m ≡ Some u) × IsWorn u) (sym next.world) (by_receiver (get w.members k.to) refl)
-    where
-      by_test : (r : State) (b : Bool) → get w.members k.to ≡ Some r → eq_by_cmp nat_cmp m k.to ≡ b
-          → (u : State) × (cond b (Some (step s k next.content r).state) (get w.members m) ≡ Some u) × IsWorn u
-      by_test r true receiver e =
-          let same : t ≡ r = same_Some t r (sym here ∙ ap (get w.members) (tells_apart exact_unsigned m k.to e) ∙ receiver) in
-          ((step s k next.content r).state, refl, worn_stays s k next.content r (fact.states k.to r receiver).waits (subst IsWorn same worn))
-      by_test r false receiver e = (t, here, worn)
-
-      by_receiver : (o : Option State) → get w.members k.to ≡ o → (u : State) × (get (settled w k (option_map (step s k next.content) o)).members m ≡ Some u) × IsWorn u
-      by_receiver None none = (t, here, worn)
-      by_receiver (Some r) receiver =
-          let is = by_test r (eq_by_cmp nat_cmp m k.to) receiver refl in
-          (is.0, get-insert nat_cmp_total w.members k.to (step s k next.content r).state m ∙ is.1, is.2)
-
-  worn_to_end : (ks : List Key) (w v : Cluster) (rows : List Row) (m : ℕ) (t : State) → IsSoundCluster s w → Run (step s) s.end w ks rows v → get w.members m ≡ Some t → IsWorn t
-      → (u : State) × (get v.members m ≡ Some u) × IsWorn u
-  worn_to_end [] w v rows m t fact run here worn = (t, ap (λ (x : Cluster). get x.members m) run.0 ∙ here, worn)
-  worn_to_end (k ∷ ks) w v rows m t fact run here worn =
-      let one = run_here s d w run.0 (k ∷ []) run.1 sound least (run.0, run.1, [], run.3, run.4, (refl, refl), sym (append-nil run.1)) in
-      let mid = sound_after s d w run.0 (k ∷ []) run.1 sound least fact one in
-      let next = worn_next w run.0 k run.1 m t fact run.4 here worn in
-      worn_to_end ks run.0 v run.2 m next.0 mid run.5 next.1 next.2
-
-  wears_nothing : (all : List Key) (rows : List Row) (world : Cluster) → Run (step s) s.end (opening s) all rows world → IsOver s.end world
-      → ((m : ℕ) (t : State) → get world.members m ≡ Some t → ¬ (IsWorn t)) → ¬ (WearsOut s)
-  wears_nothing all rows world run over unworn out =
-      let later = steps_later s sound in
-      let fact = sound_after s d (opening s) out.world out.keys out.rows sound least (opening_whole s sound).sound (run_here s d (opening s) out.world out.keys out.rows sound least out.reached) in
-      let rest = end_there (step s) s.end later out.world in
-      let same = one_end (step s) s.end later (opening s) rest.0 world (end_before (step s) s.end out.keys (opening s) out.world rest.0 out.rows out.reached rest.1)
-      (record { keys = all; rows = rows; run = run; over = over }) in
-      let there = worn_to_end rest.1.keys out.world rest.0 rest.1.rows out.number out.member fact rest.1.run out.there out.worn in
-      unworn out.number there.0 (ap (λ (x : Cluster). get x.members out.number) (sym same) ∙ there.1) there.2
+-- ---- a run that comes to its end in parts in memory wore nothing out
 
 module _ {Q : Type 0} (set : Q → FinMap key_cmp Event) (s : Setup) (sound : IsSound s) (deal : Deal) (divides : length deal.part_of ≡ member_count s)
     (below : (m : ℕ) → m < member_count s → part_number deal m < deal.parts) (parts : List (Part Q)) (rows : List Row) (from : ℕ) (so_far : IsUnderWay set s deal from parts rows) where
@@ -294,10 +208,10 @@ module _ {Q : Type 0} (set : Q → FinMap key_cmp Event) (s : Setup) (sound : Is
       let found = behind (world_of set) (slice_get parts i) (part_of (is_in (part_number deal) i) so_far.world) (so_far.stand.worlds i (below m low)) in
       let kept : get (part_of (is_in (part_number deal) i) so_far.world).members m ≡ Some t =
       get_retained nat_cmp_total nat_cmp-IsAntisymmetric (is_in (part_number deal) i) so_far.world.members m ∙ ap (λ b. cond b (get so_far.world.members m) None) (eq-eqb i i refl) ∙ here in
-      part_unworn found.0.members m t (ap (λ (x : Cluster). get x.members m) found.2 ∙ kept)
+      part_unworn set found.0 m t (ap (λ (x : Cluster). get x.members m) found.2 ∙ kept)
 
-  pub run_lasts : (d : Option ℕ) → IsLeastDelay s d → NonePendsBefore set parts (s.end + 1) → ¬ (WearsOut s)
-  run_lasts d least none =
+  pub run_lasts : NonePendsBefore set parts (s.end + 1) → ¬ (WearsOut s)
+  run_lasts none =
       let over = is_over set s sound deal divides below parts rows from so_far none in
       let all = whole_run set s sound deal divides below parts rows from so_far over in
-      wears_nothing s sound d least all.0 rows so_far.world all.1 over all_unworn
+      wears_nothing s sound all.0 rows so_far.world all.1 over all_unworn

@@ -1,37 +1,85 @@
--- The order of rows by their fields agrees with the order of their places in the trace.
-use Rattle.std.proofs.Common.{◌≡◌, inl, inr, ap, ◌∙◌, sym, refl}
-use Rattle.std.specs.Ordering.{nat_cmp, ordering_then}
-use Rattle.std.specs.Cmp.{IsTotalOrder, nat_cmp_is, tied_itself}
+-- The rows of windows in row order.
+use Rattle.std.proofs.Common.{◌≡◌, ℕ, zero, suc, ◌+◌, ◌<◌, Bool, true, false, cond, not, eqb, List, [], ◌∷◌, ◌++◌, map, length, take, get_or, vec_len, append-nil, count_by, ap, ◌∙◌, sym, subst, refl, arith}
+use Rattle.std.specs.List.{AllByRecursion, flat_map}
+use Rattle.std.specs.List.Sorted.{IsPermutation, IsSorted}
 use Rattle.std.specs.declared.cmp.Ordering.{Ordering}
-use Rattle.std.specs.declared.cmp.Ordering.TheVariants.{Less, Equal, Greater}
-use Rattle.base.specs.declared.key.Key.{Key}
-use Rattle.base.specs.Order.{key_cmp, key_total}
-use Rattle.base.specs.Rising.{IsPlaceBefore}
+use Rattle.std.specs.declared.cmp.Ordering.TheVariants.{Less}
+use Rattle.std.specs.FinMap.{FinMap}
+use Rattle.std.proofs.lemmas.Bool.{true≢false, eqb-true}
+use Rattle.std.proofs.Math.Seq.{take-append_seam}
+use Rattle.std.proofs.lemmas.List.Sums.{sum_by-cons}
+use Rattle.std.specs.Cmp.{IsTotalOrder}
+use Rattle.base.specs.Order.{key_cmp}
+use Rattle.base.specs.Rising.{IsRising, IsPlaceBefore}
+use Rattle.scenario.specs.Setup.{Setup, IsSound}
 use Rattle.trace.specs.declared.row.Row.{Row}
+use Rattle.member.specs.declared.event.Event.{Event}
 use Rattle.member.specs.Places.{place_of}
-use Rattle.windows.specs.Cluster.{IsRowOrder}
+use Rattle.member.specs.View.{pair_of}
+use Rattle.windows.specs.declared.part.Part.{Part}
+use Rattle.windows.specs.declared.part.Done.{Done}
+use Rattle.windows.specs.View.{world_of}
+use Rattle.windows.specs.Window.{is_own}
+use Rattle.windows.proofs.RowOrders.{part_rows_rise, sorted_by_places}
+use Rattle.exchange.specs.Parts.{RowsRise, HadWindows}
 
-then_then : (a b c : Ordering) → ordering_then a (ordering_then b c) ≡ ordering_then (ordering_then a b) c
-then_then Less b c = refl
-then_then Equal b c = refl
-then_then Greater b c = refl
+module _ {Q : Type 0} (set : Q → FinMap key_cmp Event) (s : Setup) (sound : IsSound s) (bound : ℕ) where
+  -- so does each window
+  pub windows_rise : (ps : List (Part Q)) (ds : List (Done Q)) → HadWindows set s bound ps ds → RowsRise ds
+  windows_rise [] [] had = tt
+  windows_rise [] (d ∷ ds) had = absurd had
+  windows_rise (p ∷ ps) [] had = absurd had
+  windows_rise (p ∷ ps) (d ∷ ds) had = (
+    part_rows_rise s sound (is_own (world_of set p)) bound had.0.0 (world_of set p) (world_of set d.part) (map pair_of d.out.items) d.rows.items had.0.1.run,
+    windows_rise ps ds had.1,
+  )
 
--- first by the key, then by what follows
-by_key : (a b : Key) (rest : Ordering)
-    → ordering_then (nat_cmp a.at b.at) (ordering_then (nat_cmp a.to b.to) (ordering_then (nat_cmp a.from b.from) (ordering_then (nat_cmp a.number b.number) rest))) ≡ ordering_then (key_cmp a b) rest
-unfolding key_cmp
-by_key a b rest =
-    ap (λ o. ordering_then (nat_cmp a.at b.at) (ordering_then (nat_cmp a.to b.to) o)) (then_then (nat_cmp a.from b.from) (nat_cmp a.number b.number) rest)
-    ∙ ap (ordering_then (nat_cmp a.at b.at)) (then_then (nat_cmp a.to b.to) _ rest) ∙ then_then (nat_cmp a.at b.at) _ rest
+-- ---- where one part alone wrote rows
 
-module _ (cmp rest : Row → Row → Ordering)
-    (fields : (a b : Row) → cmp a b ≡ ordering_then (nat_cmp a.at b.at) (ordering_then (nat_cmp a.member b.member)
-    (ordering_then (nat_cmp a.from b.from) (ordering_then (nat_cmp a.number b.number) (ordering_then (nat_cmp a.index b.index) (rest a b)))))) where
-  by_place : (a b : Row) → IsPlaceBefore (place_of a) (place_of b) → ordering_then (key_cmp (place_of a).0 (place_of b).0) (ordering_then (nat_cmp a.index b.index) (rest a b)) ≡ Less
-  by_place a b (inl before) = ap (λ o. ordering_then o (ordering_then (nat_cmp a.index b.index) (rest a b))) before
-  by_place a b (inr same) =
-      let tied : key_cmp (place_of a).0 (place_of b).0 ≡ Equal = ap (λ k. key_cmp (place_of a).0 k) (sym same.0) ∙ tied_itself key_total (place_of a).0 in
-      ap (λ o. ordering_then o (ordering_then (nat_cmp a.index b.index) (rest a b))) tied ∙ ap (λ o. ordering_then o (rest a b)) (sym (nat_cmp_is a.index b.index Less same.1))
+module _ (cmp : Row → Row → Ordering) (total : IsTotalOrder cmp) (agrees : (a b : Row) → IsPlaceBefore (place_of a) (place_of b) → cmp a b ≡ Less) where
+  module _ {Q : Type 0} where
+    abbrev wrote : Done Q → Bool
+    wrote d = not (eqb (vec_len d.rows) 0)
 
-  pub row_order : IsTotalOrder cmp → IsRowOrder cmp
-  row_order total = record { total = total; agrees = λ a b before. fields a b ∙ by_key (place_of a).0 (place_of b).0 _ ∙ by_place a b before }
+    no_rows : (d : Done Q) → wrote d ≡ false → d.rows.items ≡ []
+    no_rows d none = empty_list d.rows.items (by_test (eqb (vec_len d.rows) 0) refl none)
+      where
+        empty_list : (rows : List Row) → length rows ≡ 0 → rows ≡ []
+        empty_list [] e = refl
+        empty_list (row ∷ rows) e = absurd (omega arith)
+
+        by_test : (b : Bool) → eqb (vec_len d.rows) 0 ≡ b → not b ≡ false → length d.rows.items ≡ 0
+        by_test true e h = let many = eqb-true (vec_len d.rows) 0 e in omega (arith, d.rows.ok.0)
+        by_test false e h = absurd (true≢false h)
+
+    none_or_more : (d : Done Q) (rest : List Row) (n : ℕ) (b : Bool) → wrote d ≡ b → cond b 1 0 + n ≡ 0 → (n ≡ 0 → rest ≡ []) → d.rows.items ++ rest ≡ []
+    none_or_more d rest n true is none later = absurd (omega arith)
+    none_or_more d rest n false is none later = ap (λ l. l ++ rest) (no_rows d is) ∙ later (omega arith)
+
+    none_wrote : (ds : List (Done Q)) → count_by wrote ds ≡ 0 → flat_map (λ d. d.rows.items) ds ≡ []
+    none_wrote [] none = refl
+    none_wrote (d ∷ ds) none =
+        let more = sum_by-cons (λ (d : Done Q). cond (wrote d) 1 0) d ds in
+        none_or_more d (flat_map (λ d. d.rows.items) ds) (count_by wrote ds) (wrote d) refl (omega arith) (none_wrote ds)
+
+    one_or_more : (d : Done Q) (rest : List Row) (n : ℕ) (b : Bool) → wrote d ≡ b → cond b 1 0 + n < 2 → IsRising IsPlaceBefore (map place_of d.rows.items) → (n ≡ 0 → rest ≡ [])
+        → (n < 2 → IsRising IsPlaceBefore (map place_of rest)) → IsRising IsPlaceBefore (map place_of (d.rows.items ++ rest))
+    one_or_more d rest n true is few up none later =
+        subst (λ l. IsRising IsPlaceBefore (map place_of l)) (sym (ap (λ l. d.rows.items ++ l) (none (omega arith)) ∙ append-nil d.rows.items)) up
+    one_or_more d rest n false is few up none later = subst (λ l. IsRising IsPlaceBefore (map place_of (l ++ rest))) (sym (no_rows d is)) (later (omega arith))
+
+    one_alone : (ds : List (Done Q)) → count_by wrote ds < 2 → RowsRise ds → IsRising IsPlaceBefore (map place_of (flat_map (λ d. d.rows.items) ds))
+    one_alone [] few up = tt
+    one_alone (d ∷ ds) few up =
+        let more = sum_by-cons (λ (d : Done Q). cond (wrote d) 1 0) d ds in
+        one_or_more d (flat_map (λ d. d.rows.items) ds) (count_by wrote ds) (wrote d) refl (omega arith) up.0 (none_wrote ds) (λ low. one_alone ds low up.1)
+
+    pub one_wrote : (ds : List (Done Q)) → count_by wrote ds < 2 → RowsRise ds → IsSorted cmp (flat_map (λ d. d.rows.items) ds)
+    one_wrote ds few up = sorted_by_places cmp total agrees (flat_map (λ d. d.rows.items) ds) (one_alone ds few up)
+
+pub as_it_is : {A : Type 0} (xs ys : List A) → ys ≡ xs → IsPermutation xs ys
+as_it_is xs ys same = record { moves = []; below = tt; is = same }
+
+-- what a sort has written over the whole list
+pub all_written : {A : Type 0} (n : ℕ) (xs ys : List A) → length xs ≡ n → take n (xs ++ ys) ≡ xs
+all_written n xs ys many = subst (λ k. take k (xs ++ ys) ≡ xs) many (take-append_seam xs ys)

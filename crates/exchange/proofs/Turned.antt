@@ -7,7 +7,8 @@ use Rattle.std.specs.List.{AllByRecursion, slice_get, flat_map, filter}
 use Rattle.std.specs.List.Sorted.{IsPermutation}
 use Rattle.std.specs.FinMap.{FinMap, get, contains_key, insert, get-insert}
 use Rattle.std.proofs.lemmas.Bool.{false≢true, eq-eqb, ltb-true, ltb-false}
-use Rattle.std.proofs.lemmas.Option.{slice_get-map, slice_get_past}
+use Rattle.std.proofs.lemmas.Option.{slice_get-map, slice_get_past, slice_get_within}
+use Rattle.std.proofs.lemmas.List.Elements.{recursion_from_All}
 use Rattle.base.specs.declared.key.Key.{Key}
 use Rattle.base.specs.Order.{key_cmp, key_total}
 use Rattle.base.specs.World.{IsPending, IsOver, Run, with_events}
@@ -24,15 +25,17 @@ use Rattle.member.specs.View.{pair_of}
 use Rattle.member_laws.specs.Runs.{Cluster, IsSoundCluster}
 use Rattle.windows.specs.declared.part.Part.{Part}
 use Rattle.windows.specs.declared.part.Done.{Done}
-use Rattle.windows.specs.Parts.{Window, part_of, is_in, for_own, joined, all_keys, all_rows, all_out, HasWindow, AreWindows, StandsAfter}
-use Rattle.windows.specs.Cluster.{SafeSchedule, IsWhole}
+use Rattle.windows.specs.Parts.{Window, IsWindowOf, part_of, is_in, for_own, joined, all_keys, all_rows, all_out, HasWindow, AreWindows, StandsAfter}
+use Rattle.windows.specs.Cluster.{SafeSchedule, IsWhole, IsWholeCluster}
 use Rattle.windows.specs.Schedule.{MeetsState}
-use Rattle.windows.proofs.Members.{windows_here, sound_after, none_left_here, windows_rows, met_here}
+use Rattle.windows.proofs.Wholes.{pending_kept}
+use Rattle.windows.proofs.Members.{sent_new, windows_here, sound_after, none_left_here, windows_rows, met_here}
 use Rattle.windows.specs.View.{world_of}
-use Rattle.exchange.specs.Parts.{part_number, StandFor, IsWholeCluster, MayTurn, HadWindows, HaveCome, AddsSorted}
+use Rattle.windows.specs.Window.{is_own}
+use Rattle.windows.proofs.PartRuns.{own_run}
+use Rattle.exchange.specs.Parts.{part_number, HaveTheirMembers, StandFor, MayTurn, HadWindows, HaveCome, AddsSorted}
 use Rattle.exchange.proofs.Coming.{behind}
-use Rattle.exchange.proofs.Turning.{windows_from, rows_same, has_window, out_same, same_count, are_windows, fact_by_number, pending_kept}
-use Rattle.exchange.proofs.Sending.{all_new}
+use Rattle.exchange.proofs.Turning.{windows_from, rows_same, has_window, out_same, same_count, are_windows, fact_by_number, own_by_part}
 use Rattle.exchange.proofs.Ends.{schedule_end, whole_after}
 
 -- ---- events that pend once they have come
@@ -79,12 +82,33 @@ module _ {Q : Type 0} (set : Q → FinMap key_cmp Event) (s : Setup) (sound : Is
   new_to_parts i part here =
       let done = behind (λ (d : Done Q). d.part) (slice_get ds i) part (sym (slice_get-map (λ (d : Done Q). d.part) ds i) ∙ here) in
       let are = are_windows set s bound deal divides ready.world ready.whole ps ds had ready.stand in
-      let new = fact_by_number set s bound deal divides ready.world ready.whole (λ n after. AreNew after.pending (for_own (is_in (part_number deal) n) (all_out windows))) 0 ps ds had
-      (all_new s sound deal bound ready.world ready.whole windows windows are.different are.windows are.windows) i done.0 done.1 in
+      let all = recursion_from_All (λ (d : Window State Content Row). AreNew d.after.pending (for_own (is_in (part_number deal) d.part) (all_out windows))) windows
+      (sent_new s (part_number deal) (λ part. bound) ready.world windows sound ready.whole.numbered are) in
+      let new = fact_by_number set s bound deal divides ready.world ready.whole (λ n after. AreNew after.pending (for_own (is_in (part_number deal) n) (all_out windows))) 0 ps ds had all i done.0 done.1 in
       let same : 0 + i ≡ i = omega arith in
       subst (λ (p : Part Q). AreNew (world_of set p).pending (for_own (is_in (part_number deal) i) outs)) done.2
       (subst (λ l. AreNew (world_of set done.0.part).pending (for_own (is_in (part_number deal) i) l)) (out_same set s bound 0 ps ds had)
       (subst (λ n. AreNew (world_of set done.0.part).pending (for_own (is_in (part_number deal) n) (all_out windows))) same new))
+
+  -- each part has its members after its window too
+  pub members_after : HaveTheirMembers set deal (map (λ (d : Done Q). d.part) ds)
+  members_after i part here m low is =
+      let done = behind (λ (d : Done Q). d.part) (slice_get ds i) part (sym (slice_get-map (λ (d : Done Q). d.part) ds i) ∙ here) in
+      let are = are_windows set s bound deal divides ready.world ready.whole ps ds had ready.stand in
+      let within = slice_get_within ds i done.0 done.1 in
+      let stay = fact_by_number set s bound deal divides ready.world ready.whole (λ n after. (q : ℕ) → is_own after q ≡ is_own (part_of (is_in (part_number deal) n) ready.world) q) 0 ps ds had
+      (own_stay windows are.windows) i done.0 done.1 m in
+      let same : 0 + i ≡ i = omega arith in
+      let before : is_own (part_of (is_in (part_number deal) i) ready.world) m ≡ true =
+      ap (λ (f : ℕ → Bool). f m) (own_by_part s deal ready.world i divides ready.whole (omega (arith, within, same_count set s bound ps ds had, ready.stand.count)))
+      ∙ eq-eqb (part_number deal m) i is in
+      ap (λ (p : Part Q). is_own (world_of set p) m) (sym done.2) ∙ subst (λ n. is_own (world_of set done.0.part) m ≡ is_own (part_of (is_in (part_number deal) n) ready.world) m) same stay ∙ before
+    where
+      own_stay : (ws : List (Window State Content Row)) → AllByRecursion (IsWindowOf (step s) (part_number deal) (λ part. bound) ready.world) ws
+          → AllByRecursion (λ (d : Window State Content Row). (q : ℕ) → is_own d.after q ≡ is_own (part_of (is_in (part_number deal) d.part) ready.world) q) ws
+      own_stay ws are =
+          all_weaker (IsWindowOf (step s) (part_number deal) (λ part. bound) ready.world) _
+          (λ d is q. own_run (step s) (is_in (part_number deal) d.part) bound d.keys (part_of (is_in (part_number deal) d.part) ready.world) d.after d.out d.rows is.run q) ws are
 
   pub count_after : length (map (λ (d : Done Q). d.part) ds) ≡ deal.parts
   count_after = as_many ds ∙ same_count set s bound ps ds had ∙ ready.stand.count

@@ -25,50 +25,15 @@ use Rattle.windows.specs.declared.part.Done.{Done}
 use Rattle.windows.specs.Parts.{PartWindow, Window, IsWindowOf, HasWindow, AreWindows, part_of, is_in, all_rows, all_out}
 use Rattle.windows.specs.View.{world_of}
 use Rattle.windows.specs.Window.{is_own, IsConsistentPart, IsWindow}
-use Rattle.windows.proofs.Cuts.{get_retained}
-use Rattle.windows.proofs.Windows.{kept_value}
-use Rattle.exchange.specs.Parts.{part_number, StandFor, IsWholeCluster, HadWindows}
+use Rattle.windows.specs.Cluster.{IsWholeCluster}
+use Rattle.windows.proofs.Wholes.{part_consistent, own_here, window_by_number}
+use Rattle.exchange.specs.Parts.{part_number, StandFor, HadWindows}
 
 pub all_places : {A : Type 0} (P : A → Type 0) (xs : List A) → ((i : ℕ) (x : A) → slice_get xs i ≡ Some x → P x) → AllByRecursion P xs
 all_places P [] each = tt
 all_places P (x ∷ xs) each = (each 0 x refl, all_places P xs (λ i y here. each (suc i) y here))
 
 -- ---- parts of a world
-
--- what pends in a part pends in its world
-pub pending_kept : (owns : ℕ → Bool) (w : Cluster) (k : Key) → IsPending (part_of owns w) k → IsPending w k
-pending_kept owns w k here = by_test (owns k.to) (sym (ap is_some (get_retained key_total key_exact (λ q. owns q.to) w.pending k)) ∙ here)
-  where
-    by_test : (b : Bool) → is_some (cond b (get w.pending k) None) ≡ true → is_some (get w.pending k) ≡ true
-    by_test true here = here
-    by_test false here = absurd (false≢true here)
-
-module _ (s : Setup) (w : Cluster) (whole : IsWholeCluster s w) (owns : ℕ → Bool) where
-  pub member_in : (m : ℕ) (t : State) → get (part_of owns w).members m ≡ Some t → (owns m ≡ true) × (get w.members m ≡ Some t)
-  member_in m t here = kept_value (get w.members m) t (owns m) (owns m) refl (sym (get_retained nat_cmp_total nat_cmp-IsAntisymmetric owns w.members m) ∙ here)
-
-  event_in : (k : Key) (c : Content) → get (part_of owns w).pending k ≡ Some c → (owns k.to ≡ true) × (get w.pending k ≡ Some c)
-  event_in k c here = kept_value (get w.pending k) c (owns k.to) (owns k.to) refl (sym (get_retained key_total key_exact (λ q. owns q.to) w.pending k) ∙ here)
-
-  pub pending_in : (k : Key) → IsPending (part_of owns w) k → (owns k.to ≡ true) × IsPending w k
-  pending_in k here = by_value (get (part_of owns w).pending k) refl here
-    where
-      by_value : (o : Option Content) → get (part_of owns w).pending k ≡ o → is_some o ≡ true → (owns k.to ≡ true) × IsPending w k
-      by_value None is here = absurd (false≢true here)
-      by_value (Some c) is here = let found = event_in k c is in (found.0, ap is_some found.1)
-
-  lower : (m : ℕ) → nat_lt m (member_count s) ≡ true → m < member_count s
-  lower m h = ltb-true m (member_count s) h
-
-  part_consistent : IsConsistentPart s (part_of owns w)
-  part_consistent = record {
-    members = λ m t here. let found = member_in m t here in (lower m (sym (whole.peopled m) ∙ ap is_some found.1), whole.sound.states m t found.1);
-    events = λ k c here. whole.sound.events k c (event_in k c here).1;
-    numbered = λ k here t there.
-        let used = whole.numbered k (pending_in k here).1 in
-        let same : used.0 ≡ t = same_Some used.0 t (sym used.1 ∙ (member_in k.from t there).1) in
-        subst (λ (u : State). k.number < u.next_number) same used.2;
-  }
 
 module _ {Q : Type 0} (set : Q → FinMap key_cmp Event) (deal : Deal) (parts : List (Part Q)) (w : Cluster) (stand : StandFor set deal parts w) where
   pub world_at : (i : ℕ) (p : Part Q) → slice_get parts i ≡ Some p → world_of set p ≡ part_of (is_in (part_number deal) i) w
@@ -93,21 +58,11 @@ low_by_part deal m i low is = by_test (nat_lt m (length deal.part_of)) refl
         let none : part_number deal m ≡ deal.parts = ap (λ o. unwrap_or o deal.parts) (slice_get_past deal.part_of m past) in
         absurd (omega (arith, none, is))
 
--- a part's members are those whose part has its number
-module _ (s : Setup) (deal : Deal) (divides : length deal.part_of ≡ member_count s) (w : Cluster) (whole : IsWholeCluster s w) (i : ℕ) (low : i < deal.parts) where
-  own_at : (m : ℕ) (b : Bool) → is_in (part_number deal) i m ≡ b → is_some (cond b (get w.members m) None) ≡ b
-  own_at m true is =
-      let below = low_by_part deal m i low (eqb-true (part_number deal m) i is) in
-      whole.peopled m ∙ there (nat_lt m (member_count s)) refl (omega (arith, below, divides))
-    where
-      there : (b : Bool) → nat_lt m (member_count s) ≡ b → m < member_count s → b ≡ true
-      there true h less = refl
-      there false h less = let past = ltb-false m (member_count s) h in absurd (omega arith)
-  own_at m false is = refl
-
-  pub own_here : ◌≡◌ {A = ℕ → Bool} (is_own (part_of (is_in (part_number deal) i) w)) (is_in (part_number deal) i)
-  own_here = λ j m.
-      (ap is_some (get_retained nat_cmp_total nat_cmp-IsAntisymmetric (is_in (part_number deal) i) w.members m) ∙ own_at m (is_in (part_number deal) i m) refl) j
+-- so a part's members are those whose part has its number
+pub own_by_part : (s : Setup) (deal : Deal) (w : Cluster) (i : ℕ) → length deal.part_of ≡ member_count s → IsWholeCluster s w → i < deal.parts
+    → ◌≡◌ {A = ℕ → Bool} (is_own (part_of (is_in (part_number deal) i) w)) (is_in (part_number deal) i)
+own_by_part s deal w i divides whole low =
+    own_here s w whole (is_in (part_number deal) i) (λ m mine. let below = low_by_part deal m i low (eqb-true (part_number deal m) i mine) in omega (arith, below, divides))
 
 -- ---- windows of all parts
 
@@ -190,7 +145,7 @@ module _ {Q : Type 0} (set : Q → FinMap key_cmp Event) (s : Setup) (bound : �
         let low = found.0 in
         let same : a + 0 ≡ a = omega arith in
         let here : world_of set p ≡ part_of (owns a) w = found.1 ∙ ap (λ n. part_of (owns n) w) same in
-        subst (λ f. PartWindow (step s) f bound (part_of (owns a) w) keys out rows after) (own_here s deal divides w whole a (omega arith))
+        window_by_number s (part_number deal) a bound w after keys out rows whole (λ m mine. let below = low_by_part deal m a (omega arith) mine in omega (arith, below, divides))
         (subst (λ x. PartWindow (step s) (is_own x) bound x keys out rows after) here is)
 
     all_windows : (a : ℕ) (ps : List (Part Q)) (ds : List (Done Q)) (had : HadWindows set s bound ps ds) → Follow a ps

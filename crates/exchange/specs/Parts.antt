@@ -1,39 +1,37 @@
 -- A cluster that is divided into parts, and what the windows of all parts make of it.
-use Rattle.std.specs.Prelude.{◌≡◌, ◌↔◌, ℕ, ◌<◌, ◌≤◌, List, [], ◌∷◌, ◌++◌, map, length, nat_lt, unwrap_or, Option, Some, None}
+use Rattle.std.specs.Prelude.{◌≡◌, ◌↔◌, ℕ, ◌<◌, ◌≤◌, true, List, [], ◌∷◌, ◌++◌, map, length, unwrap_or, Option, Some, None}
 use Rattle.std.specs.List.{AllByRecursion, slice_get, flat_map}
 use Rattle.std.specs.List.Sorted.{IsPermutation, IsSorted}
 use Rattle.std.specs.Option.{option_map}
-use Rattle.std.specs.FinMap.{FinMap, contains_key}
+use Rattle.std.specs.FinMap.{FinMap, empty}
 use Rattle.std.specs.declared.cmp.Ordering.{Ordering}
 use Rattle.base.specs.declared.key.Key.{Key}
 use Rattle.base.specs.Order.{key_cmp}
-use Rattle.base.specs.Rising.{IsNumbered}
-use Rattle.scenario.specs.Setup.{Setup, member_count}
+use Rattle.base.specs.Rising.{IsRising, IsPlaceBefore}
+use Rattle.scenario.specs.Setup.{Setup}
 use Rattle.scenario.specs.Division.{Deal}
 use Rattle.trace.specs.declared.row.Row.{Row}
 use Rattle.worker_queue.specs.Queue.{NoneIsBelow}
 use Rattle.member.specs.declared.content.Content.{Content}
 use Rattle.member.specs.declared.event.Event.{Event}
-use Rattle.member.specs.State.{State}
+use Rattle.member.specs.Places.{place_of}
 use Rattle.member.specs.View.{pair_of}
-use Rattle.member_laws.specs.Runs.{Cluster, IsSoundCluster}
+use Rattle.member_laws.specs.Runs.{Cluster}
 use Rattle.windows.specs.declared.part.Part.{Part}
 use Rattle.windows.specs.declared.part.Done.{Done}
 use Rattle.windows.specs.Parts.{IsCommonBound, part_of, is_in, for_own, joined}
-use Rattle.windows.specs.Cluster.{IsLeastDelay, IsRowOrder}
+use Rattle.windows.specs.Cluster.{IsLeastDelay, IsRowOrder, IsWholeCluster}
 use Rattle.windows.specs.View.{world_of}
-use Rattle.windows.specs.Window.{IsWindow}
+use Rattle.windows.specs.Window.{is_own, IsWindow}
 use Rattle.windows.specs.Wears.{WearsInWindow}
 
 -- the part of a member, and for whoever is none a number that no part has
 abbrev pub part_number : Deal → ℕ → ℕ
 part_number deal m = unwrap_or (slice_get deal.part_of m) deal.parts
 
--- a cluster of all members of the scenario, in which each event that pends has a number that its sender has used
-pub record IsWholeCluster (s : Setup) (w : Cluster) : Type 0 where
-  pub sound : IsSoundCluster s w
-  pub numbered : IsNumbered (λ (t : State). t.next_number) w
-  pub peopled : (m : ℕ) → contains_key w.members m ≡ nat_lt m (member_count s)
+-- a cluster of nobody, in which nothing pends
+abbrev pub nobody : Cluster
+nobody = record { members = empty; pending = empty }
 
 -- no later than that moment, where there is one
 abbrev pub IsUpTo : Option ℕ → ℕ → Type 0
@@ -45,10 +43,14 @@ abbrev pub AddsSorted : List Row → List Row → List Row → Type 0
 AddsSorted made before after =
     (cmp : Row → Row → Ordering) × (sorted : List Row) × IsRowOrder cmp × IsPermutation made sorted × IsSorted cmp sorted × (after ≡ before ++ sorted)
 
+-- the rows of each of these windows stand in the order of their places, and no two of them have one place
+abbrev pub RowsRise : {Q : Type 0} → List (Done Q) → Type 0
+RowsRise {Q} done = AllByRecursion (λ (d : Done Q). IsRising IsPlaceBefore (map place_of d.rows.items)) done
+
 module _ {Q : Type 0} (set : Q → FinMap key_cmp Event) where
   -- nothing pends in these parts before the moment
   abbrev pub NonePendsBefore : List (Part Q) → ℕ → Type 0
-  NonePendsBefore parts t = AllByRecursion (λ (p : Part Q). NoneIsBelow (set p.queue) t) parts
+  NonePendsBefore parts t = AllByRecursion (λ (p : Part Q). NoneIsBelow (world_of set p).pending t) parts
 
   -- the least moment that pends in these parts: just before moments up to it nothing pends
   abbrev pub IsLeastMoment : List (Part Q) → Option ℕ → Type 0
@@ -58,6 +60,10 @@ module _ {Q : Type 0} (set : Q → FinMap key_cmp Event) where
   pub record StandFor (deal : Deal) (parts : List (Part Q)) (w : Cluster) : Type 0 where
     pub count : length parts ≡ deal.parts
     pub worlds : (i : ℕ) → i < deal.parts → option_map (world_of set) (slice_get parts i) ≡ Some (part_of (is_in (part_number deal) i) w)
+
+  -- each part has the members that are divided to it
+  abbrev pub HaveTheirMembers : Deal → List (Part Q) → Type 0
+  HaveTheirMembers deal parts = (i : ℕ) (p : Part Q) → slice_get parts i ≡ Some p → (m : ℕ) → m < length deal.part_of → part_number deal m ≡ i → is_own (world_of set p) m ≡ true
 
   -- the parts stand for a world of all members, in which the windows below the bound may run
   pub record MayTurn (s : Setup) (deal : Deal) (bound : ℕ) (parts : List (Part Q)) : Type 0 where

@@ -1,6 +1,6 @@
 //! What holds of every run, stated over the definitions alone.
 
-ghost use Rattle.std.specs.Prelude.{◌≡◌, List, Some, map};
+ghost use Rattle.std.specs.Prelude.{◌≡◌, ◌+◌, List, Some, map};
 ghost use Rattle.std.specs.FinMap.{remove, get};
 ghost use Rattle.base.specs.Order.{IsBefore};
 ghost use Rattle.base.specs.World.{World, Run, SequentialRun, events_of, outcome};
@@ -14,6 +14,8 @@ ghost use Rattle.member.specs.Step.{step};
 ghost use Rattle.member.specs.Opening.{opening};
 ghost use Rattle.member.specs.Places.{place_of};
 ghost use Rattle.member_laws.specs.Runs.{IsRunOf};
+ghost use Rattle.windows.specs.Parts.{PartWindow};
+ghost use Rattle.windows.specs.Window.{is_own};
 
 /// Every scenario has a run, so a run is finite.
 pub fn a_run_exists()
@@ -23,6 +25,12 @@ pub fn a_run_exists()
 /// No scenario has two.
 pub fn the_run_is_one()
     ensures { (s : Setup) (first second : List Row) → IsSound s → IsRunOf s first → IsRunOf s second → first ≡ second }
+{}
+
+/// The run is the window, up to the end, of one part that owns every member.
+pub fn the_window_of_all_is_the_run()
+    ensures { (s : Setup) (keys : List Key) (out : List (Key × Content)) (rows : List Row) (after : World State Content) → IsSound s
+        → PartWindow (step s) (is_own (opening s)) (s.end + 1) (opening s) keys out rows after → SequentialRun (step s) s.end (opening s) keys rows }
 {}
 
 /// Events are handled in the order of their keys, which rise strictly.

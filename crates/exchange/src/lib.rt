@@ -1,9 +1,11 @@
 //! The run of a scenario: every event in the order of the keys, its rows in the order made.
 #![tactic(auto)]
 
-mod cluster;
+mod in_turn;
 mod laws;
+mod opening;
 mod parts;
+mod rows;
 mod run;
 mod setting;
 pub mod testing;
@@ -15,7 +17,13 @@ mod tests_meeting;
 mod tests_reports;
 #[cfg(test)]
 mod tests_seeds;
+#[cfg(test)]
+mod tests_turns;
 mod turns;
 
-pub use laws::{a_run_exists, events_are_new, keys_rise, rows_rise, the_run_is_one};
+pub use in_turn::run_in_turn;
+pub use laws::{
+    a_run_exists, events_are_new, keys_rise, rows_rise, the_run_is_one,
+    the_window_of_all_is_the_run,
+};
 pub use run::{Summary, run_one};

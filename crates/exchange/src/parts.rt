@@ -8,7 +8,7 @@ ghost use Rattle.windows.specs.Parts.{for_own, is_in};
 ghost use Rattle.windows.specs.View.{world_of};
 ghost use Rattle.std.specs.Option.{option_map};
 ghost use Rattle.links.specs.Least.{lesser_of};
-ghost use Rattle.exchange.specs.Parts.{part_number, IsLeastMoment, HaveCome};
+ghost use Rattle.exchange.specs.Parts.{part_number, IsLeastMoment, HaveTheirMembers, HaveCome};
 
 use base::{Key, Memory, Moment};
 use member::Event;
@@ -17,12 +17,12 @@ use windows::Part;
 use worker_queue::EventQueue;
 
 /// The least moment that pends in any of these parts: None where nothing pends.
-pub(crate) fn least_moment<Q: EventQueue<Event>>(parts: &[Part<Q>]) -> Option<Moment>
+pub(crate) fn least_moment<Q: EventQueue<Event> + Drop>(parts: &[Part<Q>]) -> Option<Moment>
     ensures { IsLeastMoment Q.set parts.now result }
 {
     let mut least = None;
     for part in parts {
-        least = lesser(least, part.queue.least());
+        least = lesser(least, part.least());
     }
     least
 }
@@ -41,13 +41,14 @@ fn lesser(moment: Option<Moment>, key: Option<Key>) -> Option<Moment>
 }
 
 /// Lets each event pend in the part of its receiver.
-pub(crate) fn deliver<Q: EventQueue<Event>>(
+pub(crate) fn deliver<Q: EventQueue<Event> + Drop>(
     parts: &mut Vec<Part<Q>>,
     events: Vec<Event>,
     division: &Division,
 ) -> Result<(), Memory>
     requires count { length parts.old.items ≡ division.now.parts }
     requires named { All (λ (event : AnEvent). event.key.to < length division.now.part_of) events.items }
+    requires members { HaveTheirMembers Q.set division.now parts.old.items }
     requires new { (i : _) (part : APart Q) → slice_get parts.old.items i ≡ Some part
         → AreNew (world_of Q.set part).pending (for_own (is_in (part_number division.now) i) (map pair_of events.items)) }
     ensures { OnOk result (HaveCome Q.set (part_number division.now) parts.old.items parts.new.items (map pair_of events.items)) }
@@ -62,13 +63,14 @@ pub(crate) fn deliver<Q: EventQueue<Event>>(
 }
 
 /// Lets the event pend in the part of its receiver.
-fn place<Q: EventQueue<Event>>(
+fn place<Q: EventQueue<Event> + Drop>(
     parts: &mut Vec<Part<Q>>,
     event: Event,
     division: &Division,
 ) -> Result<(), Memory>
     requires count { length parts.old.items ≡ division.now.parts }
     requires named { event.key.to < length division.now.part_of }
+    requires members { HaveTheirMembers Q.set division.now parts.old.items }
     requires new { (i : _) (part : APart Q) → slice_get parts.old.items i ≡ Some part
         → AreNew (world_of Q.set part).pending (for_own (is_in (part_number division.now) i) (map pair_of (event ∷ []))) }
     ensures { OnOk result (HaveCome Q.set (part_number division.now) parts.old.items parts.new.items (map pair_of (event ∷ []))) }
@@ -77,8 +79,8 @@ fn place<Q: EventQueue<Event>>(
     let place = division.part(key.to);
     let event = Event { key, content };
     let part = &mut parts[place];
-    match part.queue.push(event) {
+    match part.receive(event) {
         Ok(()) => Ok(()),
-        Err(_) => Err(Memory),
+        Err(Memory) => Err(Memory),
     }
 }

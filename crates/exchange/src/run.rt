@@ -1,17 +1,12 @@
-ghost use Rattle.std.specs.Prelude.{◌≡◌, ◌≢◌, ◌+◌, ◌<◌, ◌^◌, ◌⊎◌, IfOk, OnOk, IfErr, OnErr, IsErrOf, All, vec_len};
+ghost use Rattle.std.specs.Prelude.{◌≡◌, ◌≢◌, ◌+◌, ◌<◌, ◌^◌, ◌⊎◌, IfOk, OnOk, IfErr, OnErr, IsErrOf, All};
 ghost use Rattle.std.specs.Io.KnownBytes.{Appends, Keeps};
-ghost use Rattle.scenario.specs.Setup.{IsSound, member_count};
-ghost use Rattle.links.specs.Arrival.{AreLinksOf};
-ghost use Rattle.member.specs.Opening.{opening};
+ghost use Rattle.scenario.specs.Setup.{IsSound};
 ghost use Rattle.trace.specs.Sinks.{AppendsBeginning, failures_of_write};
 ghost use Rattle.trace.specs.Text.{NamesMembers, trace_text};
 ghost use Rattle.reports.specs.Text.{report_text};
 ghost use Rattle.member_laws.specs.Runs.{IsRunOf, WearsOut};
 ghost use Rattle.exchange.specs.Promise.{WritesRun, WritesBeginning};
-ghost use Rattle.exchange.specs.View.{world_of};
 
-use crate::cluster::{Cluster, advance, open};
-use crate::setting::Setting;
 use base::{Fault, Memory, Moment};
 use links::Links;
 use member::StepError;
@@ -19,6 +14,8 @@ use reports::report_on;
 use scenario::Scenario;
 use std::alloc::Global;
 use trace::{Row, Sink, Stopped, WriteError, put_all, write_head, write_rows};
+use windows::{Done, Part};
+use worker_queue::TreeQueue;
 
 /// What a run did.
 #[derive(Clone, Copy, Debug, PartialEq, Eq)]
@@ -193,7 +190,8 @@ fn flush<S: Sink>(sink: &mut S) -> Result<(), WriteError>
     }
 }
 
-/// All rows of the scenario's run, in the order made.
+/// All rows of the scenario's run, in the order made: those of the window of one part, which owns every
+/// member, up to the end.
 pub(crate) fn simulate(alloc: Global, scenario: &Scenario) -> Result<Vec<Row>, StepError>
     ensures run { IfOk result (λ rows. IsRunOf scenario.now rows.items) }
     ensures named { IfOk result (λ rows. All (NamesMembers scenario.now) rows.items) }
@@ -201,42 +199,24 @@ pub(crate) fn simulate(alloc: Global, scenario: &Scenario) -> Result<Vec<Row>, S
     ensures lasts { OnOk result (¬ (WearsOut scenario.now)) }
     ensures sound { IsSound scenario.now }
 {
-    let end = scenario.end();
+    let past_the_end = Moment(scenario.end().ticks() + 1);
     let links = match Links::of(alloc, scenario) {
         Ok(links) => links,
         Err(Memory) => return Err(StepError::Memory),
     };
-    let setting = Setting { scenario, links };
-    let cluster = match open(alloc, scenario) {
-        Ok(cluster) => cluster,
+    let part = match Part::whole(alloc, scenario, TreeQueue::new(alloc)) {
+        Ok(part) => part,
         Err(Memory) => return Err(StepError::Memory),
     };
-    run_from(alloc, cluster, &setting, end)
-}
-
-/// All rows of the run that begins in this cluster.
-fn run_from(
-    alloc: Global,
-    mut cluster: Cluster,
-    setting: &Setting,
-    end: Moment,
-) -> Result<Vec<Row>, StepError>
-    requires end { end ≡ setting.now.scenario.now.end }
-    requires sound { IsSound setting.now.scenario.now }
-    requires fits { AreLinksOf setting.now.links setting.now.scenario.now }
-    requires size { vec_len cluster.members ≡ member_count setting.now.scenario.now }
-    requires opened { world_of cluster ≡ opening setting.now.scenario.now }
-    ensures run { IfOk result (λ rows. IsRunOf setting.now.scenario.now rows.items) }
-    ensures named { IfOk result (λ rows. All (NamesMembers setting.now.scenario.now) rows.items) }
-    ensures worn { IsErrOf result StepError.Worn → WearsOut setting.now.scenario.now }
-    ensures lasts { OnOk result (¬ (WearsOut setting.now.scenario.now)) }
-{
-    let mut rows = Vec::new(alloc);
-    loop {
-        match advance(alloc, &mut cluster, setting, end, &mut rows) {
-            Ok(true) => {}
-            Ok(false) => return Ok(rows),
-            Err(error) => return Err(error),
+    match part.run(alloc, past_the_end, scenario, &links) {
+        Ok(done) => {
+            let Done {
+                part: _,
+                out: _,
+                rows,
+            } = done;
+            Ok(rows)
         }
+        Err(error) => Err(error),
     }
 }

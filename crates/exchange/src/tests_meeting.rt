@@ -688,7 +688,7 @@ extra = 1000000
 ",
 );
 
-const MEETINGS: [Meeting; 13] = [
+pub(crate) const MEETINGS: [Meeting; 13] = [
     CRASH_BEFORE_JOIN,
     JOIN_AFTER_CONFIRM,
     JOIN_BEFORE_CRASH,
@@ -704,6 +704,12 @@ const MEETINGS: [Meeting; 13] = [
     WELCOME_HOLDS_SUSPECT,
 ];
 
+/// The text of the scenario with its first two lines.
+pub(crate) fn text_of(rt: &impl AllocGlobal, seed: u64, text: &str) -> Result<String, Fail> {
+    let whole = format!(in rt.alloc(); "version = 1\nseed = {seed}\n{text}")?;
+    Ok(whole)
+}
+
 /// Asserts that the scenario's run under the seed has these rows.
 fn assert_rows(
     rt: &(impl Abort + AllocGlobal),
@@ -711,7 +717,7 @@ fn assert_rows(
     text: &str,
     rows: &str,
 ) -> Result<(), Fail> {
-    let text = format!(in rt.alloc(); "version = 1\nseed = {seed}\n{text}")?;
+    let text = text_of(rt, seed, text)?;
     let scenario = read(rt.alloc(), text.as_bytes())?;
     let mut trace = MemorySink::new(rt.alloc());
     let mut report = MemorySink::new(rt.alloc());

@@ -9,21 +9,25 @@ ghost use Rattle.windows.specs.declared.part.Done.{Done as ADone};
 ghost use Rattle.windows.specs.View.{world_of};
 ghost use Rattle.windows.specs.Window.{IsConsistentPart};
 ghost use Rattle.member_laws.specs.Runs.{IsRunOf, WearsOut};
-ghost use Rattle.exchange.specs.Parts.{part_number, NonePendsBefore, StandFor, MayTurn, HadWindows, OneWears, HaveTurned, AddsSorted};
+ghost use Rattle.exchange.specs.Parts.{part_number, NonePendsBefore, StandFor, MayTurn, HadWindows, OneWears, HaveTurned};
 ghost use Rattle.exchange.specs.Bounds.{IsNextBound};
 
 use crate::parts::{deliver, least_moment};
+use crate::rows::add_rows;
 use crate::setting::Setting;
 use base::{Memory, Moment};
 use member::{Event, StepError};
 use scenario::Division;
 use std::alloc::Global;
+use std::marker::Sync;
+use std::thread::Threads;
 use trace::Row;
 use windows::{Done, Part};
 use worker_queue::EventQueue;
 
 /// All rows of the run that begins in these parts.
 pub(crate) fn run_turns<Q: EventQueue<Event> + Drop>(
+    rt: &(impl Threads + Sync),
     alloc: Global,
     mut parts: Vec<Part<Q>>,
     setting: &Setting,
@@ -49,7 +53,7 @@ pub(crate) fn run_turns<Q: EventQueue<Event> + Drop>(
         let Some(bound) = next_bound(&parts, end, least_delay) else {
             return Ok(rows);
         };
-        parts = match turn(alloc, parts, bound, setting, division, &mut rows) {
+        parts = match turn(rt, alloc, parts, bound, setting, division, &mut rows) {
             Ok(parts) => parts,
             Err(error) => return Err(error),
         };
@@ -60,7 +64,7 @@ pub(crate) fn run_turns<Q: EventQueue<Event> + Drop>(
 
 /// The bound of the next windows: None where nothing pends up to the end. The windows may reach past
 /// the least pending moment by as much as any event takes to another member, and up to the end.
-fn next_bound<Q: EventQueue<Event>>(
+fn next_bound<Q: EventQueue<Event> + Drop>(
     parts: &[Part<Q>],
     end: Moment,
     least_delay: Option<u64>,
@@ -103,6 +107,7 @@ fn bound_after(least: u64, last: u64, least_delay: Option<u64>) -> u64
 /// Runs the windows of all parts below the bound, one after another, and lets the events that go out
 /// pend in the parts of their receivers. The rows of all follow, sorted.
 fn turn<Q: EventQueue<Event> + Drop>(
+    rt: &(impl Threads + Sync),
     alloc: Global,
     parts: Vec<Part<Q>>,
     bound: Moment,
@@ -121,7 +126,7 @@ fn turn<Q: EventQueue<Event> + Drop>(
         Ok(done) => done,
         Err(error) => return Err(error),
     };
-    match add_rows(alloc, &done, rows) {
+    match add_rows(rt, alloc, &done, rows) {
         Ok(()) => {}
         Err(Memory) => return Err(StepError::Memory),
     }
@@ -161,39 +166,6 @@ fn run_windows<Q: EventQueue<Event> + Drop>(
         }
     }
     Ok(all)
-}
-
-/// Adds the rows of all windows, sorted, to those so far.
-fn add_rows<Q: EventQueue<Event>>(
-    alloc: Global,
-    done: &[Done<Q>],
-    rows: &mut Vec<Row>,
-) -> Result<(), Memory>
-    ensures { OnOk result (AddsSorted (flat_map (λ (d : ADone Q). d.rows.items) done.now) rows.old.items rows.new.items) }
-{
-    let mut made = rows_of(alloc, done)?;
-    match made.sort() {
-        Ok(()) => {}
-        Err(_) => return Err(Memory),
-    }
-    match rows.extend_from_slice(&made) {
-        Ok(()) => Ok(()),
-        Err(_) => Err(Memory),
-    }
-}
-
-/// The rows of all windows.
-fn rows_of<Q: EventQueue<Event>>(alloc: Global, done: &[Done<Q>]) -> Result<Vec<Row>, Memory>
-    ensures { IfOk result (λ rows. rows.items ≡ flat_map (λ (d : ADone Q). d.rows.items) done.now) }
-{
-    let mut rows = Vec::new(alloc);
-    for one in done {
-        match rows.extend_from_slice(&one.rows) {
-            Ok(()) => {}
-            Err(_) => return Err(Memory),
-        }
-    }
-    Ok(rows)
 }
 
 /// The parts after their windows, and the events that went out.

@@ -1,8 +1,9 @@
 use Rattle.std.proofs.Common.{◌++◌, ◌∷◌, [], map, append_assoc, ap, ◌∙◌, sym, subst}
+use Rattle.std.specs.FinMap.{contains_key}
 use Rattle.std.proofs.lemmas.List.{map-append}
 use Rattle.member.specs.View.{pair_of}
 use Rattle.exchange.specs.Parts.{part_number, HaveCome}
-use Rattle.exchange.proofs.Coming.{none_come, more_come, new_in_turn}
+use Rattle.exchange.proofs.Coming.{none_come, more_come, new_in_turn, members_stay}
 use Rattle.exchange.proofs.parts.deliver.Goals as goal
 
 pub loop-event-init : goal.loop-event-init
@@ -13,6 +14,11 @@ loop-event-init g c = record {
 
 pub place-requires-clause-count : goal.place-requires-clause-count
 place-requires-clause-count g c = c.loop-event.invariant.come.count ∙ c.requires.count
+
+pub place-requires-clause-members : goal.place-requires-clause-members
+place-requires-clause-members g c = λ i part here m low is.
+    let old = members_stay g.Q.EventQueue.set (part_number c.args.division.now) c.args.parts.now.items c.loop-event.parts.items (map pair_of c.loop-event.yielded) c.loop-event.invariant.come i part here in
+    ap (λ ms. contains_key ms m) old.2 ∙ c.requires.members i old.0 old.1 m low is
 
 pub place-requires-clause-new : goal.place-requires-clause-new
 place-requires-clause-new g c =

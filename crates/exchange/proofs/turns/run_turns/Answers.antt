@@ -19,6 +19,7 @@ turn-requires-clause-ready g c =
     let d = c.least_delay-least_delay in
     let least = least_of_links s d.result (d.ensures.reached s c.requires.fits) (d.ensures.least s c.requires.fits) (d.ensures.alone s c.requires.fits) in
     let next = subst (λ l. IsNextBound set l s.end d.result c.in-Some.bound) c.deref.ensures.value (subst (λ e. IsNextBound set c.deref.result.now e d.result c.in-Some.bound) c.requires.end c.in-Some.ensures.bound) in
+    λ loans lives.
     may_turn set s c.requires.sound c.args.division.now c.requires.divides c.requires.below c.loop-from.parts.items c.loop-from.rows.items c.loop-from.from c.loop-from.invariant.run
     d.result least c.in-Some.bound next
 
@@ -95,17 +96,13 @@ pub returns-in_default-clause-lasts : goal.returns-in_default-clause-lasts
 returns-in_default-clause-lasts g c =
     let s = c.args.setting.now.scenario.now in
     let set = g.Q.EventQueue.set in
-    let d = c.least_delay-least_delay in
-    let least = least_of_links s d.result (d.ensures.reached s c.requires.fits) (d.ensures.least s c.requires.fits) (d.ensures.alone s c.requires.fits) in
     let none = subst (λ l. NonePendsBefore set l (s.end + 1)) c.deref.ensures.value (subst (λ e. NonePendsBefore set c.deref.result.now (e + 1)) c.requires.end c.in_default.ensures.over) in
-    run_lasts set s c.requires.sound c.args.division.now c.requires.divides c.requires.below c.loop-from.parts.items c.loop-from.rows.items c.loop-from.from c.loop-from.invariant.run d.result least none
+    run_lasts set s c.requires.sound c.args.division.now c.requires.divides c.requires.below c.loop-from.parts.items c.loop-from.rows.items c.loop-from.from c.loop-from.invariant.run none
 
 pub returns-clause-lasts : goal.returns-clause-lasts
 returns-clause-lasts g c =
     let s = c.args.setting.now.scenario.now in
     let set = g.Q.EventQueue.set in
     let past : s.end < c.loop-from.from = omega (arith, c.requires.end) in
-    let d = c.least_delay-least_delay in
-    let least = least_of_links s d.result (d.ensures.reached s c.requires.fits) (d.ensures.least s c.requires.fits) (d.ensures.alone s c.requires.fits) in
     let none = past_end set s c.requires.sound c.args.division.now c.requires.divides c.requires.below c.loop-from.parts.items c.loop-from.rows.items c.loop-from.from c.loop-from.invariant.run past in
-    run_lasts set s c.requires.sound c.args.division.now c.requires.divides c.requires.below c.loop-from.parts.items c.loop-from.rows.items c.loop-from.from c.loop-from.invariant.run d.result least none
+    run_lasts set s c.requires.sound c.args.division.now c.requires.divides c.requires.below c.loop-from.parts.items c.loop-from.rows.items c.loop-from.from c.loop-from.invariant.run none

@@ -6,14 +6,20 @@ use Rattle.member.specs.declared.event.Event.{Event}
 use Rattle.member.specs.View.{pair_of}
 use Rattle.windows.specs.Parts.{for_own, is_in}
 use Rattle.windows.specs.View.{world_of}
-use Rattle.exchange.specs.Parts.{part_number}
+use Rattle.exchange.specs.Parts.{part_number, RowsRise, HaveTheirMembers}
+use Rattle.exchange.proofs.RowOrders.{windows_rise}
 use Rattle.exchange.proofs.Turning.{parts_consistent}
-use Rattle.exchange.proofs.Turned.{new_to_parts, named_out, count_after}
+use Rattle.exchange.proofs.Turned.{new_to_parts, members_after, named_out, count_after}
 use Rattle.exchange.proofs.turns.turn.Goals as goal
 
 pub run_windows-requires-clause-consistent : goal.run_windows-requires-clause-consistent
 run_windows-requires-clause-consistent g c =
     parts_consistent g.Q.EventQueue.set c.args.division.now c.args.parts.items c.requires.ready.world c.requires.ready.stand c.args.setting.now.scenario.now c.requires.ready.whole
+
+pub add_rows-requires-clause-rise : goal.add_rows-requires-clause-rise
+add_rows-requires-clause-rise g c = λ loans lives.
+    subst RowsRise (sym c.deref.ensures.value)
+    (windows_rise g.Q.EventQueue.set c.args.setting.now.scenario.now c.requires.sound c.args.bound c.args.parts.items c.in-Ok.done.items c.in-Ok.ensures.ok)
 
 pub deliver-requires-clause-count : goal.deliver-requires-clause-count
 deliver-requires-clause-count g c =
@@ -25,6 +31,11 @@ deliver-requires-clause-named g c =
     subst (All (λ (e : Event). e.key.to < length c.args.division.now.part_of)) (sym c.in-Ok-take_apart.ensures.out)
     (All-from_recursion (λ (e : Event). e.key.to < length c.args.division.now.part_of) _
     (named_out g.Q.EventQueue.set c.args.setting.now.scenario.now c.requires.sound c.args.division.now c.args.bound c.args.parts.items c.in-Ok.done.items c.requires.divides c.requires.ready c.in-Ok.ensures.ok))
+
+pub deliver-requires-clause-members : goal.deliver-requires-clause-members
+deliver-requires-clause-members g c =
+    subst (HaveTheirMembers g.Q.EventQueue.set c.args.division.now) (sym c.in-Ok-take_apart.ensures.parts)
+    (members_after g.Q.EventQueue.set c.args.setting.now.scenario.now c.requires.sound c.args.division.now c.args.bound c.args.parts.items c.in-Ok.done.items c.requires.divides c.requires.ready c.in-Ok.ensures.ok)
 
 pub deliver-requires-clause-new : goal.deliver-requires-clause-new
 deliver-requires-clause-new g c = λ i part here.
