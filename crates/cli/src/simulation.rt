@@ -8,7 +8,7 @@ ghost use Rattle.exchange.specs.Promise.{WritesRun, WritesBeginning};
 
 use base::Fault;
 use command_line::Failure;
-use exchange::{Summary, run_one};
+use exchange::{Summary, run_in_turn};
 use scenario::{Division, Scenario};
 use std::alloc::Global;
 use std::io::Write;
@@ -52,7 +52,6 @@ pub fn simulate<T: Write, R: Write>(
 {
     let mut trace = Put::new(trace);
     let mut report = Put::new(report);
-    // a run is the same for each division, and goes on one thread so far
-    let outcome = run_one(alloc, scenario, &mut trace, &mut report);
+    let outcome = run_in_turn(rt, alloc, scenario, division, &mut trace, &mut report);
     (trace.into_inner(), report.into_inner(), outcome)
 }
