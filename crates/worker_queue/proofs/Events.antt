@@ -34,6 +34,9 @@ module _ {E : Type 0} where
     keyed_same : IsKeyed key m → n.entries ≡ m.entries → IsKeyed key n
     keyed_same keyed same q event here = keyed q event (ap (λ es. found key_cmp es q) (sym same) ∙ here)
 
+    pub keyed_taken : (k : Key) → IsKeyed key m → ((q : Key) → found key_cmp n.entries q ≡ cond (is_at (key_cmp k) q) None (found key_cmp m.entries q)) → IsKeyed key n
+    keyed_taken k keyed changed = keyed_changed k None keyed (λ e is. absurd (false≢true (ap is_some is))) changed
+
     -- an insert, also one that was refused
     pub keyed_inserted : {A F : Type 0} (event : E) (k : Key) (result : Result A F) → IsKeyed key m → key event ≡ k → OnOk result (Updates key_cmp m n k (Some event)) → OnErr result (IsUnchanged m n)
         → IsKeyed key n
@@ -43,7 +46,7 @@ module _ {E : Type 0} where
     -- a pop, also one of an empty tree
     pub keyed_popped : (popped : Option (Key × E)) → IsKeyed key m → IfSome popped (λ p. Updates key_cmp m n p.0 None) → IfNone popped (IsUnchanged m n) → IsKeyed key n
     keyed_popped None keyed changed same = keyed_same keyed same
-    keyed_popped (Some p) keyed changed same = keyed_changed p.0 None keyed (λ e is. absurd (false≢true (ap is_some is))) changed.0
+    keyed_popped (Some p) keyed changed same = keyed_taken p.0 keyed changed.0
 
   none_found : (q : Key) (es : List (Key × E)) → AllByRecursion (λ k. key_cmp q k ≡ Less) (keys_of es) → found key_cmp es q ≡ None
   none_found q [] below = refl

@@ -1,2 +1,4 @@
+pub mod Contents
 mod Events
 mod Numbers
+mod Receivers

@@ -1,3 +1,4 @@
+pub mod Contents
 pub mod Queue
 pub mod Tree
 pub mod View
