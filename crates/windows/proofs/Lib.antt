@@ -24,6 +24,7 @@ pub mod Consistent
 mod Advancing
 mod Reach
 mod PartWindows
+mod Plays
 mod Opened
 pub mod Fresh
 pub mod Exchanged

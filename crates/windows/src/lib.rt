@@ -5,6 +5,7 @@
 
 mod laws;
 mod part;
+mod play;
 #[cfg(test)]
 mod part_tests;
 mod setting;
@@ -18,3 +19,4 @@ pub use laws::{
     windows_are_safe_steps, windows_write_the_next_rows,
 };
 pub use part::{Done, Part};
+pub use play::{Played, a_play_is_a_schedule};
