@@ -25,6 +25,9 @@ mod Advancing
 mod Reach
 mod PartWindows
 mod Plays
+mod PlayRows
+mod PlayWorlds
+mod Playing
 mod Opened
 pub mod Fresh
 pub mod Exchanged
