@@ -25,7 +25,9 @@ mod Advancing
 mod Reach
 mod PartWindows
 mod Plays
+mod PlayChoices
 mod PlayRows
+mod PlaySafe
 mod PlayWorlds
 mod Playing
 mod Opened

@@ -3,6 +3,7 @@ pub mod Safe
 pub mod Schedule
 pub mod Parts
 pub mod Play
+pub mod Choosing
 pub mod Cluster
 pub mod Horizon
 pub mod View
