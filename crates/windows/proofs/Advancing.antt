@@ -19,7 +19,7 @@ use Rattle.windows.specs.Parts.{PartStep, for_own, for_others, kept_by}
 use Rattle.windows.specs.Window.{is_own}
 use Rattle.windows.specs.Wears.{WearsInWindow}
 use Rattle.windows.proofs.PartRuns.{same_own, one_step_run}
-use Rattle.windows.specs.Handling.{Handles, WearsReceiver, Advances, made_of, members_after}
+use Rattle.windows.specs.Handling.{Handles, HandlesTaken, WearsReceiver, Advances, made_of, members_after}
 
 module _ (s : Setup) (event : Event) (members : FinMap nat_cmp State) where
   own_either : (o : Option State) → get members event.key.to ≡ o → (q : ℕ) → contains_key (members_after members event (option_map (step s event.key event.content) o)) q ≡ contains_key members q
@@ -29,6 +29,22 @@ module _ (s : Setup) (event : Event) (members : FinMap nat_cmp State) where
   -- an event that is handled leaves them
   pub own_after : (after : FinMap nat_cmp State) → after ≡ members_after members event (made_of s members event) → ◌≡◌ {A = ℕ → Bool} (contains_key after) (contains_key members)
   own_after after is = λ i q. (ap (λ m. contains_key m q) is ∙ own_either (get members event.key.to) refl q) i
+
+-- what the receiver made of the event is delivered
+pub taken_handled : (s : Setup) (event : Event) (p : World State Content) (n : FinMap nat_cmp State) (q : FinMap key_cmp Content) (effects before after : Effects) → Handles s event p.members n effects
+    → q ≡ with_events p.pending (for_own (contains_key n) (map pair_of effects.events.items))
+    → map pair_of after.events.items ≡ map pair_of before.events.items ++ for_others (contains_key n) (map pair_of effects.events.items)
+    → after.rows.items ≡ before.rows.items ++ effects.rows.items → HandlesTaken s event p (record { members = n; pending = q }) before after
+taken_handled s event p n q effects before after handles delivered sent written =
+    let own : ◌≡◌ {A = ℕ → Bool} (contains_key n) (is_own p) = own_after s event p.members n handles.members in
+    record {
+      members = handles.members;
+      pending = delivered ∙ ap (λ (f : ℕ → Bool). with_events p.pending (for_own f (map pair_of effects.events.items))) own
+          ∙ ap (λ es. with_events p.pending (for_own (is_own p) es)) handles.events;
+      out = sent ∙ ap (λ (f : ℕ → Bool). map pair_of before.events.items ++ for_others f (map pair_of effects.events.items)) own
+          ∙ ap (λ es. map pair_of before.events.items ++ for_others (is_own p) es) handles.events;
+      rows = written ∙ ap (λ rows. before.rows.items ++ rows) handles.rows;
+    }
 
 -- ---- a step
 
@@ -42,34 +58,25 @@ module _ (s : Setup) (bound : ℕ) (p : World State Content) (event : Event) (fi
   world_after None n q members pending = λ i. record { members = members i; pending = pending i }
   world_after (Some o) n q members pending = λ i. record { members = members i; pending = pending i }
 
-  -- the least event is handled, and what is made of it delivered
-  pub advanced : (n : FinMap nat_cmp State) (taken q : FinMap key_cmp Content) (effects before after : Effects) → Handles s event p.members n effects → taken ≡ remove p.pending event.key
-      → q ≡ with_events taken (for_own (contains_key n) (map pair_of effects.events.items))
-      → map pair_of after.events.items ≡ map pair_of before.events.items ++ for_others (contains_key n) (map pair_of effects.events.items)
-      → after.rows.items ≡ before.rows.items ++ effects.rows.items
-      → Advances s (is_own p) bound p (record { members = n; pending = q }) before after
-  advanced n taken q effects before after handles is_taken delivered sent written =
-      let own : ◌≡◌ {A = ℕ → Bool} (contains_key n) (is_own p) = own_after s event p.members n handles.members in
-      record {
-        key = event.key;
-        sent = for_others (is_own p) (events_of made);
-        made = rows_of made;
-        next = record {
-          content = event.content;
-          here = first.here;
-          least = first.least;
-          early = early;
-          world = world_after made n q handles.members
-              (delivered ∙ ap (λ (f : ℕ → Bool). with_events taken (for_own f (map pair_of effects.events.items))) own
-              ∙ ap (λ es. with_events taken (for_own (is_own p) es)) handles.events
-              ∙ ap (λ m. with_events m (for_own (is_own p) (events_of made))) is_taken);
-          sent = refl;
-          made = refl;
-        };
-        out = sent ∙ ap (λ (f : ℕ → Bool). map pair_of before.events.items ++ for_others f (map pair_of effects.events.items)) own
-            ∙ ap (λ es. map pair_of before.events.items ++ for_others (is_own p) es) handles.events;
-        rows = written ∙ ap (λ rows. before.rows.items ++ rows) handles.rows;
-      }
+  -- the least event is taken out and handled
+  pub advanced : (taken : FinMap key_cmp Content) (v : World State Content) (before after : Effects) → taken ≡ remove p.pending event.key
+      → HandlesTaken s event (record { members = p.members; pending = taken }) v before after → Advances s (is_own p) bound p v before after
+  advanced taken v before after is_taken handled = record {
+    key = event.key;
+    sent = for_others (is_own p) (events_of made);
+    made = rows_of made;
+    next = record {
+      content = event.content;
+      here = first.here;
+      least = first.least;
+      early = early;
+      world = world_after made v.members v.pending handled.members (handled.pending ∙ ap (λ m. with_events m (for_own (is_own p) (events_of made))) is_taken);
+      sent = refl;
+      made = refl;
+    };
+    out = handled.out;
+    rows = handled.rows;
+  }
 
   -- a counter has no room
   pub event_wears : WearsReceiver s event p.members → WearsInWindow s bound p

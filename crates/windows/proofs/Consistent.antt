@@ -30,8 +30,8 @@ use Rattle.member_laws.proofs.Carried.{all_filter}
 use Rattle.member_laws.proofs.Reached.{IsMember, kept_step}
 use Rattle.member_laws.proofs.Runs.{run_kept}
 use Rattle.windows.specs.Parts.{PartStep, PartRun, for_own, for_others, kept_by}
-use Rattle.windows.specs.Window.{IsConsistentPart}
-use Rattle.windows.proofs.PartRuns.{Kept, next_of}
+use Rattle.windows.specs.Window.{is_own, IsConsistentPart}
+use Rattle.windows.proofs.PartRuns.{Kept, next_of, own_step}
 
 -- whom a table does not hold, it does not hold as living
 none_living : (held : Option (Claim × ℕ)) → is_some held ≡ false → ◌≡◌ {A = ℕ} (cond (option_map_or (λ (h : Claim × ℕ). is_live h.0) held false) 1 0) 0
@@ -127,8 +127,34 @@ module _ (s : Setup) (sound : IsSound s) (owns : ℕ → Bool) (bound : ℕ) (in
       let kept = kept_step s sound k c t early among is in
       (kept.0, all_filter (λ e. IsAmongMembers s e.0 e.1) (λ e. owns e.0.to) (step s k c t).events kept.1)
 
-  pub consistent_step : (p v : World State Content) (k : Key) (out : List (Key × Content)) (rows : List Row) → PartStep (step s) owns bound p k out rows v → IsConsistentPart s p → IsConsistentPart s v
-  consistent_step p v k out rows is before =
+  -- who is one of these is a member of the part
+  abbrev Owned : World State Content → Type 0
+  Owned p = (q : ℕ) → owns q ≡ true → is_own p q ≡ true
+
+  owned_still : (p v : World State Content) (k : Key) (out : List (Key × Content)) (rows : List Row) → PartStep (step s) owns bound p k out rows v → Owned p → Owned v
+  owned_still p v k out rows is owned q h = own_step (step s) owns bound p v k out rows is q ∙ owned q h
+
+  -- what pends for its members pends for them after a step too
+  module _ (p : World State Content) (k : Key) (owned : Owned p) (before : (q : Key) → IsPending p q → is_own p q.to ≡ true) where
+    one_owned : (e : Key × Content) (rest : List (Key × Content)) (b : Bool) → owns e.0.to ≡ b → AllByRecursion (λ e. is_own p e.0.to ≡ true) rest → AllByRecursion (λ e. is_own p e.0.to ≡ true) (cond b (e ∷ rest) rest)
+    one_owned e rest true h all = (owned e.0.to h, all)
+    one_owned e rest false h all = all
+
+    all_owned : (es : List (Key × Content)) → AllByRecursion (λ e. is_own p e.0.to ≡ true) (for_own owns es)
+    all_owned [] = tt
+    all_owned (e ∷ es) = one_owned e (for_own owns es) (owns e.0.to) refl (all_owned es)
+
+    own_either : (v : World State Content) → ((q : ℕ) → is_own v q ≡ is_own p q) → (c : Content) (o : Option State)
+        → v ≡ settled p k (option_map (kept_by owns) (option_map (step s k c) o)) → (q : Key) → IsPending v q → is_own v q.to ≡ true
+    own_either v same c None is q here = same q.to ∙ before q (contains-remove p.pending k q (subst (λ (w : World State Content). IsPending w q) is here)).0
+    own_either v same c (Some t) is q here =
+        same q.to
+        ∙ holds-with_events (λ (r : Key). is_own p r.to ≡ true) (for_own owns (step s k c t).events) (remove p.pending k)
+        (λ r there. before r (contains-remove p.pending k r there).0) (all_owned (step s k c t).events) q
+        (subst (λ (w : World State Content). IsPending w q) is here)
+
+  pub consistent_step : (p v : World State Content) (k : Key) (out : List (Key × Content)) (rows : List Row) → PartStep (step s) owns bound p k out rows v → Owned p → IsConsistentPart s p → IsConsistentPart s v
+  consistent_step p v k out rows is owned before =
       let early : k.at ≤ s.end = omega (arith, is.early, in_time) in
       let run : Run (Kept (step s) owns) s.end p (k ∷ []) rows v = (v, rows, [], early, next_of (step s) owns bound p v k out rows is, (refl, refl), sym (append-nil rows)) in
       let after =
@@ -136,14 +162,15 @@ module _ (s : Setup) (sound : IsSound s) (owns : ℕ → Bool) (bound : ℕ) (in
       record {
         members = after.members;
         events = after.events;
+        own = own_either p k owned before.own v (own_step (step s) owns bound p v k out rows is) is.content (get p.members k.to) is.world;
         numbered = numbered_either s sound p k is.content owns before.numbered (get p.members k.to) refl v is.world;
       }
 
   -- a part that was consistent before a window is so wherever the window comes
-  pub consistent_run : (ks : List Key) (p v : World State Content) (out : List (Key × Content)) (rows : List Row) → PartRun (step s) owns bound p ks out rows v → IsConsistentPart s p → IsConsistentPart s v
-  consistent_run [] p v out rows run before = subst (IsConsistentPart s) (sym run.0) before
-  consistent_run (k ∷ ks) p v out rows run before =
-      consistent_run ks run.0 v run.2 run.4 run.6 (consistent_step p run.0 k run.1 run.3 run.5 before)
+  pub consistent_run : (ks : List Key) (p v : World State Content) (out : List (Key × Content)) (rows : List Row) → PartRun (step s) owns bound p ks out rows v → Owned p → IsConsistentPart s p → IsConsistentPart s v
+  consistent_run [] p v out rows run owned before = subst (IsConsistentPart s) (sym run.0) before
+  consistent_run (k ∷ ks) p v out rows run owned before =
+      consistent_run ks run.0 v run.2 run.4 run.6 (owned_still p run.0 k run.1 run.3 run.5 owned) (consistent_step p run.0 k run.1 run.3 run.5 owned before)
 
   sent_among : (p : World State Content) (k : Key) (c : Content) (o : Option State) → get p.members k.to ≡ o → k.at ≤ s.end → IsAmongMembers s k c → IsConsistentPart s p
       → AllByRecursion (λ e. IsAmongMembers s e.0 e.1) (for_others owns (events_of (option_map (step s k c) o)))
@@ -152,13 +179,13 @@ module _ (s : Setup) (sound : IsSound s) (owns : ℕ → Bool) (bound : ℕ) (in
       all_filter (λ e. IsAmongMembers s e.0 e.1) (λ e. not (owns e.0.to)) (step s k c t).events (kept_step s sound k c t early among (before.members k.to t here)).1
 
   -- and what it sends out is among members of the scenario
-  pub among_run : (ks : List Key) (p v : World State Content) (out : List (Key × Content)) (rows : List Row) → PartRun (step s) owns bound p ks out rows v → IsConsistentPart s p
+  pub among_run : (ks : List Key) (p v : World State Content) (out : List (Key × Content)) (rows : List Row) → PartRun (step s) owns bound p ks out rows v → Owned p → IsConsistentPart s p
       → AllByRecursion (λ e. IsAmongMembers s e.0 e.1) out
-  among_run [] p v out rows run before = subst (AllByRecursion (λ e. IsAmongMembers s e.0 e.1)) (sym run.1) tt
-  among_run (k ∷ ks) p v out rows run before =
+  among_run [] p v out rows run owned before = subst (AllByRecursion (λ e. IsAmongMembers s e.0 e.1)) (sym run.1) tt
+  among_run (k ∷ ks) p v out rows run owned before =
       let is = run.5 in
       let early : k.at ≤ s.end = omega (arith, is.early, in_time) in
       let sent = subst (AllByRecursion (λ e. IsAmongMembers s e.0 e.1)) (sym is.sent)
       (sent_among p k is.content (get p.members k.to) refl early (before.events k is.content is.here) before) in
-      let more = among_run ks run.0 v run.2 run.4 run.6 (consistent_step p run.0 k run.1 run.3 is before) in
+      let more = among_run ks run.0 v run.2 run.4 run.6 (owned_still p run.0 k run.1 run.3 is owned) (consistent_step p run.0 k run.1 run.3 is owned before) in
       subst (AllByRecursion (λ e. IsAmongMembers s e.0 e.1)) (sym run.7) (all_append (λ e. IsAmongMembers s e.0 e.1) run.1 run.2 sent more)

@@ -1,5 +1,5 @@
 -- An event is handled, and what is made of it is delivered.
-use Rattle.std.proofs.Common.{◌≡◌, ◌≢◌, ℕ, Bool, true, false, not, cond, List, [], ◌∷◌, ◌++◌, map, Some, None, append_assoc, ap, ◌∙◌, sym, subst, refl}
+use Rattle.std.proofs.Common.{◌≡◌, ◌≢◌, ℕ, Bool, true, false, not, cond, List, [], ◌∷◌, ◌++◌, map, Some, None, Result, Ok, Err, OnOk, append_assoc, ap, ◌∙◌, sym, subst, refl}
 use Rattle.std.specs.Option.{is_some, option_map}
 use Rattle.std.specs.List.{AllByRecursion}
 use Rattle.std.specs.Ordering.{nat_cmp, eq_by_cmp}
@@ -8,8 +8,6 @@ use Rattle.std.proofs.lemmas.List.{map-append}
 use Rattle.std.proofs.lemmas.List.Elements.{filter-append}
 use Rattle.member_laws.proofs.Carried.{all_filter}
 use Rattle.windows.proofs.Swaps.{NoneIs}
-use Rattle.windows.specs.View.{contents_in}
-use Rattle.windows.proofs.Maps.{contents_in-insert}
 use Rattle.windows.proofs.Cuts.{joined_joined}
 use Rattle.member.specs.declared.content.Content.{Content}
 use Rattle.base.specs.declared.key.Key.{Key}
@@ -99,7 +97,7 @@ module _ (owns : ℕ → Bool) where
       ∙ ap (λ l. out ++ for_others owns l) (sym (map-append pair_of events (event ∷ [])))
 
 -- an event that pends where it is for one of these members
-pub kept_if_own : (owns : Bool) (events after : FinMap key_cmp Event) (event : Event) → owns ≡ true → after ≡ insert events event.key event
-    → contents_in after ≡ with_events (contents_in events) (cond owns (pair_of event ∷ []) [])
-kept_if_own owns events after event own pushed =
-    ap contents_in pushed ∙ contents_in-insert events event.key event ∙ ap (λ b. with_events (contents_in events) (cond b (pair_of event ∷ []) [])) (sym own)
+pub kept_if_own : {E : Type 0} (result : Result (Unit {0}) E) (own : Bool) (pending after : FinMap key_cmp Content) (event : Event) → own ≡ true → OnOk result (after ≡ insert pending event.key event.content)
+    → OnOk result (after ≡ with_events pending (cond own (pair_of event ∷ []) []))
+kept_if_own (Ok _) own pending after event is pushed = pushed ∙ ap (λ b. with_events pending (cond b (pair_of event ∷ []) [])) (sym is)
+kept_if_own (Err _) own pending after event is pushed = tt

@@ -17,9 +17,10 @@ pub mod Bounds
 pub mod Horizons
 pub mod Order
 pub mod Numbers
-pub mod Maps
+pub mod Slots
+pub mod Admitting
 pub mod Deliveries
-mod PartRuns
+pub mod PartRuns
 pub mod Consistent
 mod Advancing
 mod Reach
@@ -33,3 +34,4 @@ mod Playing
 mod Opened
 pub mod Fresh
 pub mod Exchanged
+pub mod Wholes

@@ -1,81 +1,94 @@
--- The parts of the tests: one member before its start, and an event that comes from elsewhere.
-use Rattle.std.proofs.Common.{◌≡◌, ℕ, ◌<◌, Bool, true, false, cond, [], Option, Some, None, ap, ◌∙◌, sym, subst, refl, arith}
-use Rattle.std.specs.Option.{is_some, option_map, option_map_or}
+-- A part of one member, and an event that comes to it from elsewhere: what the tests keep.
+use Rattle.std.proofs.Common.{◌≡◌, ℕ, ◌<◌, Bool, true, false, cond, [], Option, Some, None, Result, Ok, Err, OnOk, ap, ◌∙◌, sym, subst, refl, arith}
+use Rattle.std.specs.Option.{is_some, option_map_or}
+use Rattle.std.specs.List.{AllByRecursion}
 use Rattle.std.specs.Ordering.{nat_cmp, eq_by_cmp, is_lt}
-use Rattle.std.specs.Cmp.{nat_cmp_total}
+use Rattle.std.specs.Cmp.{nat_cmp_total, unsigned_tied}
 use Rattle.std.specs.declared.cmp.Ordering.{Ordering}
 use Rattle.std.specs.declared.cmp.Ordering.TheVariants.{Less, Equal, Greater}
-use Rattle.std.specs.BTreeMap.{BTreeMap, is_at}
 use Rattle.std.specs.FinMap.{FinMap, empty, get, contains_key, insert, get-insert, get-empty}
-use Rattle.std.proofs.lemmas.Bool.{false≢true}
+use Rattle.std.proofs.lemmas.Bool.{false≢true, eq-eqb}
 use Rattle.std.proofs.lemmas.Option.{same_Some}
 use Rattle.std.proofs.lemmas.Map.Lookups.{exact_unsigned}
 use Rattle.std.proofs.lemmas.Map.Views.{tells_apart}
 use Rattle.base.specs.declared.key.Key.{Key}
 use Rattle.base.specs.Order.{key_cmp, key_total}
-use Rattle.base.specs.World.{World}
+use Rattle.base.specs.World.{World, IsPending}
 use Rattle.base.specs.Run.{tells}
+use Rattle.base.proofs.Kept.{HoldsOfAll, all_with_events}
 use Rattle.scenario.specs.Setup.{Setup, member_count, crash_of}
 use Rattle.member.specs.declared.content.Content.{Content}
-use Rattle.member.specs.declared.content.Content.TheVariants.{Start}
-use Rattle.member.specs.declared.event.Event.{Event}
-use Rattle.member.specs.declared.member.Member.{Member}
 use Rattle.member.specs.State.{State}
-use Rattle.member.specs.View.{state_of}
-use Rattle.base.proofs.Trees.{found}
-use Rattle.windows.specs.View.{states_in, contents_in}
-use Rattle.windows.proofs.Maps.{state_at, states_in-insert, content_at, contents_in-insert}
-use Rattle.member.specs.Opening.{opening_state, script_key}
+use Rattle.member.specs.Opening.{opening_state, first_number, crash_event, script_of}
 use Rattle.member_laws.specs.Words.{IsConsistent, IsAmongMembers}
 use Rattle.member_laws.proofs.Consistency.{opening_consistent}
 use Rattle.worker_queue.specs.Queue.{IsLeastKey}
-use Rattle.windows.specs.Window.{IsConsistentPart}
+use Rattle.windows.specs.Admitting.{AreFromBelow, with_member}
+use Rattle.windows.specs.Window.{is_own, IsConsistentPart}
 
-opened_number : (s : Setup) (m : ℕ) → 0 < (opening_state s m).next_number
-unfolding opening_state
-opened_number s m = first_after (crash_of s m)
-  where
-    first_after : (crash : Option ℕ) → 0 < option_map_or (λ at. 2) crash 1
-    first_after None = omega arith
-    first_after (Some at) = omega arith
+module _ (s : Setup) (m : ℕ) (there : m < member_count s) where
+  opened_number : (opening_state s m).next_number ≡ first_number s m
+  unfolding opening_state
+  opened_number = refl
 
-module _ (s : Setup) (m : ℕ) (at : ℕ) (there : m < member_count s) where
-  member_either : (q : ℕ) (u : State) (b : Bool) → eq_by_cmp nat_cmp q m ≡ b → cond b (Some (opening_state s m)) None ≡ Some u → (q < member_count s) × IsConsistent s q u
-  member_either q u true e is =
-      let same : m ≡ q = sym (tells_apart exact_unsigned q m e) in
-      subst (λ r. (r < member_count s) × IsConsistent s r u) same (there, subst (IsConsistent s m) (same_Some (opening_state s m) u is) (opening_consistent s m))
+  -- an event of the member's script
+  abbrev Own : Key → Content → Type 0
+  Own k c = IsAmongMembers s k c × (k.to ≡ m) × (k.number < (opening_state s m).next_number)
+
+  first_after : (crash : Option ℕ) → 0 < option_map_or (λ at. 2) crash 1
+  first_after None = omega arith
+  first_after (Some at) = omega arith
+
+  crash_own : (crash : Option ℕ) → crash_of s m ≡ crash → AllByRecursion {X = Key × Content} (λ e. Own e.0 e.1) (crash_event m crash)
+  crash_own None is = tt
+  crash_own (Some at) is =
+      let two : first_number s m ≡ 2 = ap (λ o. option_map_or (λ at. 2) o 1) is in
+      ((record { receiver = there; sender = there; names = tt }, refl, omega (arith, two, opened_number)), tt)
+
+  script_own : AllByRecursion {X = Key × Content} (λ e. Own e.0 e.1) (script_of s m)
+  script_own = let first = first_after (crash_of s m) in ((record { receiver = there; sender = there; names = tt }, refl, omega (arith, first, opened_number)), crash_own (crash_of s m) refl)
+
+  abbrev pub alone : World State Content
+  alone = with_member s m (record { members = empty; pending = empty })
+
+  own_all : HoldsOfAll Own alone.pending
+  own_all = all_with_events Own (script_of s m) empty (λ k c here. absurd (false≢true (ap is_some (sym (get-empty key_cmp k) ∙ here)))) script_own
+
+  own_pending : (q : Key) → IsPending alone q → (q.to ≡ m) × (q.number < (opening_state s m).next_number)
+  own_pending q = by_value (get alone.pending q) refl
+    where
+      by_value : (o : Option Content) → get alone.pending q ≡ o → is_some o ≡ true → (q.to ≡ m) × (q.number < (opening_state s m).next_number)
+      by_value None is here = absurd (false≢true here)
+      by_value (Some c) is here = let own = own_all q c is in (own.1, own.2)
+
+  here_alone : (q : ℕ) → get alone.members q ≡ cond (eq_by_cmp nat_cmp q m) (Some (opening_state s m)) None
+  here_alone q = get-insert nat_cmp_total empty m (opening_state s m) q ∙ ap (cond (eq_by_cmp nat_cmp q m) (Some (opening_state s m))) (get-empty nat_cmp q)
+
+  member_either : (q : ℕ) (u : State) (b : Bool) → eq_by_cmp nat_cmp q m ≡ b → cond b (Some (opening_state s m)) None ≡ Some u → (q ≡ m) × (opening_state s m ≡ u)
+  member_either q u true e is = (tells_apart exact_unsigned q m e, same_Some (opening_state s m) u is)
   member_either q u false e is = absurd (false≢true (ap is_some is))
 
-  event_either : (q : Key) (c : Content) (b : Bool) → eq_by_cmp key_cmp q (script_key m at 0) ≡ b → cond b (Some Start) None ≡ Some c → IsAmongMembers s q c
-  event_either q c true e is =
-      subst (λ k. IsAmongMembers s k c) (sym (tells q (script_key m at 0) e))
-      (subst (IsAmongMembers s (script_key m at 0)) (same_Some Start c is) (record { receiver = there; sender = there; names = tt }))
-  event_either q c false e is = absurd (false≢true (ap is_some is))
+  member_alone : (q : ℕ) (u : State) → get alone.members q ≡ Some u → (q ≡ m) × (opening_state s m ≡ u)
+  member_alone q u here = member_either q u (eq_by_cmp nat_cmp q m) refl (sym (here_alone q) ∙ here)
 
-  number_either : (q : Key) (u : State) (b a : Bool) → eq_by_cmp key_cmp q (script_key m at 0) ≡ b → ◌≡◌ {A = Bool} (is_some (cond b (Some Start) None)) true
-      → cond a (Some (opening_state s m)) None ≡ Some u → q.number < u.next_number
-  number_either q u true true e pends is =
-      let least : q.number ≡ 0 = ap (λ (k : Key). k.number) (tells q (script_key m at 0) e) in
-      let same : (opening_state s m).next_number ≡ u.next_number = ap (λ (t : State). t.next_number) (same_Some (opening_state s m) u is) in
-      let low = opened_number s m in
-      omega arith
-  number_either q u true false e pends is = absurd (false≢true (ap is_some is))
-  number_either q u false a e pends is = absurd (false≢true pends)
-
-  -- one member before its start, and its start
-  pub opened_consistent : (p : World State Content) → ((q : ℕ) → get p.members q ≡ cond (eq_by_cmp nat_cmp q m) (Some (opening_state s m)) None)
-      → ((q : Key) → get p.pending q ≡ cond (eq_by_cmp key_cmp q (script_key m at 0)) (Some Start) None) → IsConsistentPart s p
-  opened_consistent p members pending = record {
-    members = λ q u here. member_either q u (eq_by_cmp nat_cmp q m) refl (sym (members q) ∙ here);
-    events = λ q c here. event_either q c (eq_by_cmp key_cmp q (script_key m at 0)) refl (sym (pending q) ∙ here);
-    numbered = λ q here u known.
-        number_either q u (eq_by_cmp key_cmp q (script_key m at 0)) (eq_by_cmp nat_cmp q.from m) refl (ap is_some (sym (pending q)) ∙ here) (sym (members q.from) ∙ known);
+  -- one member before its start, and its script
+  pub alone_consistent : IsConsistentPart s alone
+  alone_consistent = record {
+    members = λ q u here. let is = member_alone q u here in
+        subst (λ r. (r < member_count s) × IsConsistent s r u) (sym is.0) (there, subst (IsConsistent s m) is.1 (opening_consistent s m));
+    events = λ q c here. (own_all q c here).0;
+    own = λ q here. ap is_some (here_alone q.to ∙ ap (λ b. cond b (Some (opening_state s m)) None) (unsigned_tied q.to m ∙ eq-eqb q.to m (own_pending q here).0));
+    numbered = λ q here u known. subst (λ (t : State). q.number < t.next_number) (member_alone q.from u known).1 (own_pending q here).1;
   }
 
-module _ (s : Setup) (p : World State Content) (k : Key) (c : Content) (before : IsConsistentPart s p) (among : IsAmongMembers s k c) (elsewhere : contains_key p.members k.from ≡ false) where
+module _ (s : Setup) (p : World State Content) (k : Key) (c : Content) (before : IsConsistentPart s p) (among : IsAmongMembers s k c) (own : is_own p k.to ≡ true) (elsewhere : is_own p k.from ≡ false) where
   among_either : (q : Key) (d : Content) (b : Bool) → eq_by_cmp key_cmp q k ≡ b → cond b (Some c) (get p.pending q) ≡ Some d → IsAmongMembers s q d
   among_either q d true e is = subst (λ r. IsAmongMembers s r d) (sym (tells q k e)) (subst (IsAmongMembers s k) (same_Some c d is) among)
   among_either q d false e is = before.events q d is
+
+  own_either : (q : Key) (b : Bool) → eq_by_cmp key_cmp q k ≡ b → is_some (cond b (Some c) (get p.pending q)) ≡ true → is_own p q.to ≡ true
+  own_either q true e pends = ap (λ (r : Key). is_own p r.to) (tells q k e) ∙ own
+  own_either q false e pends = before.own q pends
 
   used_either : (q : Key) (u : State) (b : Bool) → eq_by_cmp key_cmp q k ≡ b → is_some (cond b (Some c) (get p.pending q)) ≡ true → get p.members q.from ≡ Some u → q.number < u.next_number
   used_either q u true e pends known = absurd (false≢true (sym elsewhere ∙ ap is_some (ap (λ (r : Key). get p.members r.from) (sym (tells q k e)) ∙ known)))
@@ -86,22 +99,9 @@ module _ (s : Setup) (p : World State Content) (k : Key) (c : Content) (before :
   received_consistent = record {
     members = before.members;
     events = λ q d here. among_either q d (eq_by_cmp key_cmp q k) refl (sym (get-insert key_total p.pending k c q) ∙ here);
+    own = λ q here. own_either q (eq_by_cmp key_cmp q k) refl (ap is_some (sym (get-insert key_total p.pending k c q)) ∙ here);
     numbered = λ q here u known. used_either q u (eq_by_cmp key_cmp q k) refl (ap is_some (sym (get-insert key_total p.pending k c q)) ∙ here) known;
   }
-
-pub one_member : (before after : BTreeMap ℕ Member) (m : ℕ) (x : Member) (t : State) → before.entries ≡ [] → ((q : ℕ) → found nat_cmp after.entries q ≡ cond (is_at (nat_cmp m) q) (Some x) (found nat_cmp before.entries q))
-    → state_of x ≡ t → (q : ℕ) → get (states_in after) q ≡ cond (eq_by_cmp nat_cmp q m) (Some t) None
-one_member before after m x t none put is q =
-    let absent : get (states_in before) q ≡ None = state_at before q ∙ ap (λ es. option_map state_of (found nat_cmp es q)) none in
-    ap (λ members. get members q) (states_in-insert before after m x put) ∙ get-insert nat_cmp_total (states_in before) m (state_of x) q
-    ∙ (λ i. cond (eq_by_cmp nat_cmp q m) (Some (is i)) (absent i))
-
-pub one_event : (before after : FinMap key_cmp Event) (event : Event) → before ≡ empty → after ≡ insert before event.key event
-    → (q : Key) → get (contents_in after) q ≡ cond (eq_by_cmp key_cmp q event.key) (Some event.content) None
-one_event before after event none put q =
-    let absent : get (contents_in before) q ≡ None = content_at before q ∙ ap (option_map (λ (e : Event). e.content)) (ap (λ events. get events q) none ∙ get-empty key_cmp q) in
-    ap (λ events. get events q) (ap contents_in put ∙ contents_in-insert before event.key event) ∙ get-insert key_total (contents_in before) event.key event.content q
-    ∙ ap (cond (eq_by_cmp key_cmp q event.key) (Some event.content)) absent
 
 is_less : (o : Ordering) → is_lt o ≡ true → o ≡ Less
 is_less Less e = refl
@@ -109,12 +109,20 @@ is_less Equal e = absurd (false≢true e)
 is_less Greater e = absurd (false≢true e)
 
 -- what comes before the least event isn't among the events
-pub absent_if_first : (events : FinMap key_cmp Event) (k least : Key) (r : Bool) → IsLeastKey events least → r ≡ is_lt (key_cmp k least) → r ≡ true → contains_key events k ≡ false
+pub absent_if_first : (events : FinMap key_cmp Content) (k least : Key) (r : Bool) → IsLeastKey events least → r ≡ is_lt (key_cmp k least) → r ≡ true → contains_key events k ≡ false
 absent_if_first events k least r is compared went = either (contains_key events k) refl
   where
     either : (b : Bool) → contains_key events k ≡ b → b ≡ false
     either true here = absurd (is.least k here (is_less (key_cmp k least) (sym compared ∙ went)))
     either false here = refl
 
-pub absent_if_none : (events : FinMap key_cmp Event) (k : Key) → events ≡ empty → contains_key events k ≡ false
+pub absent_if_none : (events : FinMap key_cmp Content) (k : Key) → events ≡ empty → contains_key events k ≡ false
 absent_if_none events k none = ap (λ m. contains_key m k) none ∙ ap is_some (get-empty key_cmp k)
+
+-- before anybody comes, nothing pends
+pub none_from_below : (events : FinMap key_cmp Content) (m : ℕ) → events ≡ empty → AreFromBelow events m
+none_from_below events m none q here = absurd (false≢true (sym (absent_if_none events q none) ∙ here))
+
+pub if_received : {E : Type 0} (s : Setup) (result : Result (Unit {0}) E) (after received : World State Content) → OnOk result (after ≡ received) → IsConsistentPart s received → OnOk result (IsConsistentPart s after)
+if_received s (Ok _) after received is consistent = subst (IsConsistentPart s) (sym is) consistent
+if_received s (Err _) after received is consistent = tt

@@ -72,13 +72,13 @@ module _ (s : Setup) (bound : ℕ) (p v : World State Content) (so_far : Effects
 
   module _ (sound : IsSound s) where
     pub window_consistent : bound ≤ s.end + 1 → IsConsistentPart s p → IsConsistentPart s v
-    window_consistent in_time before = consistent_run s sound (is_own p) bound in_time has.keys p v (map pair_of so_far.events.items) so_far.rows.items has.run before
+    window_consistent in_time before = consistent_run s sound (is_own p) bound in_time has.keys p v (map pair_of so_far.events.items) so_far.rows.items has.run (λ q own. own) before
 
     pub window_among : bound ≤ s.end + 1 → IsConsistentPart s p → All (λ (e : Event). IsAmongMembers s e.key e.content) so_far.events.items
     window_among in_time before =
         All-from_recursion (λ (e : Event). IsAmongMembers s e.key e.content) so_far.events.items
         (of_pairs (λ e. IsAmongMembers s e.0 e.1) so_far.events.items
-        (among_run s sound (is_own p) bound in_time has.keys p v (map pair_of so_far.events.items) so_far.rows.items has.run before))
+        (among_run s sound (is_own p) bound in_time has.keys p v (map pair_of so_far.events.items) so_far.rows.items has.run (λ q own. own) before))
 
     pub window_far : TakeTheirLinks s p so_far.events.items
     window_far = all_far s bound has.keys p v so_far.events.items so_far.rows.items sound has.run

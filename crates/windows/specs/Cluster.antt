@@ -1,6 +1,7 @@
 -- Schedules and windows of a scenario's cluster.
-use Rattle.std.specs.Prelude.{◌≡◌, ◌≢◌, ℕ, ◌<◌, ◌≤◌, List, Option, Some, None}
+use Rattle.std.specs.Prelude.{◌≡◌, ◌≢◌, ℕ, ◌<◌, ◌≤◌, nat_lt, List, Option, Some, None}
 use Rattle.std.specs.Cmp.{IsTotalOrder}
+use Rattle.std.specs.FinMap.{contains_key}
 use Rattle.std.specs.declared.cmp.Ordering.{Ordering}
 use Rattle.std.specs.declared.cmp.Ordering.TheVariants.{Less}
 use Rattle.base.specs.declared.key.Key.{Key}
@@ -13,7 +14,7 @@ use Rattle.member.specs.declared.content.Content.{Content}
 use Rattle.member.specs.State.{State}
 use Rattle.member.specs.Places.{place_of}
 use Rattle.member.specs.Step.{step}
-use Rattle.member_laws.specs.Runs.{Cluster}
+use Rattle.member_laws.specs.Runs.{Cluster, IsSoundCluster}
 use Rattle.windows.specs.Safe.{IsSafe}
 use Rattle.windows.specs.Schedule.{TestedStep, Schedule}
 use Rattle.windows.specs.Horizon.{IsClear}
@@ -30,6 +31,12 @@ IsLeastDelay s (Some d) = IsReached (link_delay s) (member_count s) d × IsNoGre
 -- each event that pends has a number that its sender has used
 abbrev pub UsesUpTo : Cluster → Type 0
 UsesUpTo = IsNumbered (λ (t : State). t.next_number)
+
+-- a cluster of all members of the scenario, in which each event that pends has a number that its sender has used
+pub record IsWholeCluster (s : Setup) (w : Cluster) : Type 0 where
+  pub sound : IsSoundCluster s w
+  pub numbered : UsesUpTo w
+  pub peopled : (m : ℕ) → contains_key w.members m ≡ nat_lt m (member_count s)
 
 -- one safe event of the cluster is handled
 abbrev pub SafeStep : Setup → Option ℕ → Cluster → Key → Cluster → List Row → Type 0

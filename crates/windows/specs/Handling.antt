@@ -4,7 +4,7 @@ use Rattle.std.specs.Option.{option_map}
 use Rattle.std.specs.Ordering.{nat_cmp}
 use Rattle.std.specs.FinMap.{FinMap, get, insert}
 use Rattle.base.specs.declared.key.Key.{Key}
-use Rattle.base.specs.World.{World, Outcome, rows_of, events_of}
+use Rattle.base.specs.World.{World, Outcome, rows_of, events_of, with_events}
 use Rattle.scenario.specs.Setup.{Setup}
 use Rattle.trace.specs.declared.row.Row.{Row}
 use Rattle.member.specs.declared.content.Content.{Content}
@@ -14,7 +14,8 @@ use Rattle.member.specs.State.{State}
 use Rattle.member.specs.Step.{step}
 use Rattle.member.specs.View.{pair_of}
 use Rattle.member.specs.Worn.{IsWorn}
-use Rattle.windows.specs.Parts.{PartStep}
+use Rattle.windows.specs.Parts.{PartStep, for_own, for_others}
+use Rattle.windows.specs.Window.{is_own}
 
 -- what the receiver, where it is one of these members, makes of the event
 abbrev pub made_of : Setup → FinMap nat_cmp State → Event → Option (Outcome State Content Row)
@@ -30,6 +31,14 @@ pub record Handles (s : Setup) (event : Event) (before after : FinMap nat_cmp St
   pub members : after ≡ members_after before event (made_of s before event)
   pub events : map pair_of effects.events.items ≡ events_of (made_of s before event)
   pub rows : effects.rows.items ≡ rows_of (made_of s before event)
+
+-- An event that was taken out of a part is handled: this is the part after it, and what its receiver made for others and
+-- its rows follow the effects before.
+pub record HandlesTaken (s : Setup) (event : Event) (p v : World State Content) (before after : Effects) : Type 0 where
+  pub members : v.members ≡ members_after p.members event (made_of s p.members event)
+  pub pending : v.pending ≡ with_events p.pending (for_own (is_own p) (events_of (made_of s p.members event)))
+  pub out : map pair_of after.events.items ≡ map pair_of before.events.items ++ for_others (is_own p) (events_of (made_of s p.members event))
+  pub rows : after.rows.items ≡ before.rows.items ++ rows_of (made_of s p.members event)
 
 -- the receiver's step takes a counter past its limit
 pub record WearsReceiver (s : Setup) (event : Event) (members : FinMap nat_cmp State) : Type 0 where

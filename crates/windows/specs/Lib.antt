@@ -9,4 +9,5 @@ pub mod Horizon
 pub mod View
 pub mod Wears
 pub mod Window
+pub mod Admitting
 pub mod Handling

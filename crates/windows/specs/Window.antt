@@ -1,5 +1,5 @@
 -- The window of a part of a scenario's cluster: what it needs, what it is, and how far it reaches.
-use Rattle.std.specs.Prelude.{◌≡◌, ℕ, ◌+◌, ◌<◌, ◌≤◌, Bool, List, Some, map, All}
+use Rattle.std.specs.Prelude.{◌≡◌, ℕ, ◌+◌, ◌<◌, ◌≤◌, Bool, true, List, Some, map, All}
 use Rattle.std.specs.FinMap.{get, contains_key}
 use Rattle.base.specs.declared.key.Key.{Key}
 use Rattle.base.specs.World.{World, IsPending}
@@ -18,10 +18,12 @@ abbrev pub is_own : World State Content → ℕ → Bool
 is_own p m = contains_key p.members m
 
 -- A part wherever a run has come: its members are the scenario's, each with a consistent state, each event that
--- pends is among members of the scenario, and has a number that its sender, where that is one of the part, has used.
+-- pends is among members of the scenario, for one of the part, and has a number that its sender, where that is one of
+-- the part too, has used.
 pub record IsConsistentPart (s : Setup) (p : World State Content) : Type 0 where
   pub members : (m : ℕ) (t : State) → get p.members m ≡ Some t → (m < member_count s) × IsConsistent s m t
   pub events : (k : Key) (c : Content) → get p.pending k ≡ Some c → IsAmongMembers s k c
+  pub own : (k : Key) → IsPending p k → is_own p k.to ≡ true
   pub numbered : (k : Key) → IsPending p k → (t : State) → get p.members k.from ≡ Some t → k.number < t.next_number
 
 -- The window of the part below the bound: these events go out to members of other parts, these rows are written, and

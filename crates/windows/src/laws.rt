@@ -7,7 +7,7 @@ ghost use Rattle.std.specs.declared.cmp.Ordering.{Ordering};
 ghost use Rattle.base.specs.declared.key.Key.{Key};
 ghost use Rattle.base.specs.World.{IsPending, IsOver, Run, events_of, outcome};
 ghost use Rattle.base.specs.Rising.{AreNew};
-ghost use Rattle.scenario.specs.Setup.{Setup, IsSound};
+ghost use Rattle.scenario.specs.Setup.{Setup, IsSound, member_count};
 ghost use Rattle.trace.specs.declared.row.Row.{Row};
 ghost use Rattle.member.specs.declared.content.Content.{Content};
 ghost use Rattle.member.specs.State.{State};
@@ -15,9 +15,10 @@ ghost use Rattle.member.specs.Opening.{opening};
 ghost use Rattle.member.specs.Step.{step};
 ghost use Rattle.member_laws.specs.Runs.{Cluster, IsSoundCluster};
 ghost use Rattle.windows.specs.Schedule.{TestedStep, Schedule, CatchesUp, MeetsState, rows_by};
-ghost use Rattle.windows.specs.Parts.{Window, IsCommonBound, AreWindows, PartRun, StandsAfter, is_in, part_of, for_own, all_out, all_keys, all_rows};
+ghost use Rattle.windows.specs.Window.{is_own, IsConsistentPart};
+ghost use Rattle.windows.specs.Parts.{Window, IsCommonBound, AreWindows, PartRun, PartWindow, StandsAfter, is_in, part_of, for_own, all_out, all_keys, all_rows};
 ghost use Rattle.windows.specs.Horizon.{AreHorizons};
-ghost use Rattle.windows.specs.Cluster.{UsesUpTo, IsPeopled, LiesBetween, IsClearOf, link_delay, IsLeastDelay, SafeStep, SafeSchedule, IsRunFrom, IsRowOrder, IsWhole, whose};
+ghost use Rattle.windows.specs.Cluster.{UsesUpTo, IsWholeCluster, IsPeopled, LiesBetween, IsClearOf, link_delay, IsLeastDelay, SafeStep, SafeSchedule, IsRunFrom, IsRowOrder, IsWhole, whose};
 
 use trace::Row;
 
@@ -163,4 +164,14 @@ pub fn parts_may_run_to_their_horizons()
 /// The order of rows is one that the laws speak of: by their places first.
 pub fn rows_are_in_order_of_places()
     ensures { IsRowOrder ⟦<Row as Ord>⟧.cmp }
+{}
+
+/// A part of a whole cluster is consistent, and its members are those of its number, so that its window
+/// (`IsWindow`) is that of the division's part of that number (`IsWindowOf`).
+pub fn a_part_owns_the_members_of_its_number()
+    ensures consistent { (s : Setup) (owns : ℕ → Bool) (w : Cluster) → IsWholeCluster s w → IsConsistentPart s (part_of owns w) }
+    ensures window { (s : Setup) (division : ℕ → ℕ) (part bound : ℕ) (w after : Cluster) (keys : List Key) (out : List (Key × Content)) (rows : List Row)
+        → IsWholeCluster s w → ((m : ℕ) → division m ≡ part → m < member_count s)
+        → PartWindow (step s) (is_own (part_of (is_in division part) w)) bound (part_of (is_in division part) w) keys out rows after
+        → PartWindow (step s) (is_in division part) bound (part_of (is_in division part) w) keys out rows after }
 {}

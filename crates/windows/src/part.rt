@@ -1,30 +1,36 @@
-ghost use Rattle.std.specs.Prelude.{◌≡◌, ◌+◌, ◌≤◌, All, IfOk, IsErrOf};
-ghost use Rattle.scenario.specs.Setup.{IsSound};
+ghost use Rattle.std.specs.Prelude.{◌≡◌, ◌+◌, ◌<◌, ◌∷◌, [], true, false, All, IfOk, OnOk, IfSome, IfNone, IsErrOf, min};
+ghost use Rattle.std.specs.FinMap.{empty, contains_key, insert};
+ghost use Rattle.scenario.specs.Setup.{IsSound, member_count};
 ghost use Rattle.links.specs.Arrival.{AreLinksOf};
-ghost use Rattle.member.specs.declared.event.Event.{Event};
+ghost use Rattle.member.specs.Opening.{opening, script_key};
+ghost use Rattle.member.specs.View.{pair_of};
+ghost use Rattle.member.specs.declared.event.Event.{Event as AnEvent};
 ghost use Rattle.member_laws.specs.Words.{IsAmongMembers};
-ghost use Rattle.windows.specs.View.{world_of};
-ghost use Rattle.windows.specs.Window.{IsConsistentPart, IsWindow, TakeTheirLinks};
+ghost use Rattle.worker_queue.specs.Queue.{IsLeastKey};
+ghost use Rattle.windows.specs.Admitting.{AreFromBelow, with_member};
+ghost use Rattle.windows.specs.Parts.{joined};
+ghost use Rattle.windows.specs.View.{world_of, contents_in};
+ghost use Rattle.windows.specs.Window.{IsConsistentPart, IsWindow, TakeTheirLinks, is_own};
 ghost use Rattle.windows.specs.Wears.{WearsInWindow};
 
+use crate::own_members::OwnMembers;
 use crate::setting::Setting;
 use crate::steps::run_from;
-use base::{MemberId, Moment};
+use base::{Key, MemberId, Memory, Moment};
 use links::Links;
-use member::{Event, Member, StepError};
+use member::{Content, Event, Member, StepError};
 use scenario::Scenario;
 use std::alloc::Global;
-use std::collections::BTreeMap;
 use trace::Row;
 use worker_queue::EventQueue;
 
-/// A part of a cluster: some of its members, by their numbers, and the events that pend for them.
+/// A part of a cluster: some of its members, and the events that pend for them.
 #[derive(Drop)]
 pub struct Part<Q: EventQueue<Event>> {
     /// Which part it is.
     pub number: usize,
-    pub members: BTreeMap<MemberId, Member>,
-    pub queue: Q,
+    pub(crate) members: OwnMembers,
+    pub(crate) queue: Q,
 }
 
 /// What the window of a part gives.
@@ -39,9 +45,76 @@ pub struct Done<Q: EventQueue<Event>> {
 }
 
 impl<Q: EventQueue<Event> + Drop> Part<Q> {
-    /// Runs the window of the part below the bound: its events with a moment before the bound are handled
-    /// in the order of their keys. An event that is made for a member of the part pends in it, and is
-    /// handled too where its moment is before the bound; one for any other member goes out.
+    /// A part of that number with no members yet, whose queue this is. It takes no memory.
+    pub fn new(alloc: Global, number: usize, queue: Q) -> Self
+        ensures number { result.number ≡ number }
+        ensures world { world_of Q.set result ≡ record { members = empty; pending = contents_in (Q.set queue) } }
+    {
+        Part {
+            number,
+            members: OwnMembers::new(alloc),
+            queue,
+        }
+    }
+
+    /// The one part that owns every member of the scenario, as a run begins: all wait, and all events of
+    /// the script pend. The queue has no events yet.
+    pub fn whole(alloc: Global, scenario: &Scenario, queue: Q) -> Result<Self, Memory>
+        requires { Q.set queue ≡ empty }
+        ensures { IfOk result (λ part. world_of Q.set part ≡ opening scenario.now) }
+    {
+        let mut part = Part::new(alloc, 0, queue);
+        for number in 0..scenario.members() {
+            part.admit(alloc, scenario, MemberId(number as u16))?;
+        }
+        Ok(part)
+    }
+
+    /// Takes in a member of the scenario as it waits for its start, and lets pend what the script has for
+    /// it: its start, and its crash if it has one. So far only members before it have events.
+    pub fn admit(
+        &mut self,
+        alloc: Global,
+        scenario: &Scenario,
+        member: MemberId,
+    ) -> Result<(), Memory>
+        requires named { member < member_count scenario.now }
+        requires earlier { AreFromBelow (world_of Q.set self.old).pending member }
+        ensures world { OnOk result (world_of Q.set self.new ≡ with_member scenario.now member (world_of Q.set self.old)) }
+        ensures number { OnOk result (self.new.number ≡ self.old.number) }
+    {
+        let waiting = Member::of(alloc, scenario, member)?;
+        self.members.insert(member, waiting)?;
+        let start = script_event(member, scenario.start(member), 0, Content::Start);
+        push(&mut self.queue, start)?;
+        match scenario.crash(member) {
+            Some(at) => push(&mut self.queue, script_event(member, at, 1, Content::Crash)),
+            None => Ok(()),
+        }
+    }
+
+    /// Lets an event for one of its members pend.
+    pub fn receive(&mut self, event: Event) -> Result<(), Memory>
+        requires own { is_own (world_of Q.set self.old) event.key.to ≡ true }
+        requires new { contains_key (world_of Q.set self.old).pending event.key ≡ false }
+        ensures world { OnOk result (world_of Q.set self.new ≡ joined (world_of Q.set self.old) (pair_of event ∷ [])) }
+        ensures number { OnOk result (self.new.number ≡ self.old.number) }
+    {
+        push(&mut self.queue, event)
+    }
+
+    /// The least key of what pends: None where nothing does.
+    pub fn least(&self) -> Option<Key>
+        ensures least { IfSome result (IsLeastKey (world_of Q.set self.now).pending) }
+        ensures none { IfNone result ((world_of Q.set self.now).pending ≡ empty) }
+    {
+        self.queue.least()
+    }
+
+    /// Runs the window of the part below the bound, or below the moment after the scenario's end where that
+    /// is less: its events with an earlier moment are handled in the order of their keys. An event that is
+    /// made for a member of the part pends in it, and is handled too where it is early enough; one for any
+    /// other member goes out.
     ///
     /// Refusals: `Memory`; `Worn` where a counter of the window would pass 2^63.
     pub fn run(
@@ -53,27 +126,51 @@ impl<Q: EventQueue<Event> + Drop> Part<Q> {
     ) -> Result<Done<Q>, StepError>
         requires sound { IsSound scenario.now }
         requires fits { AreLinksOf links.now scenario.now }
-        requires in_time { bound ≤ scenario.now.end + 1 }
         requires consistent { IsConsistentPart scenario.now (world_of Q.set self) }
 
         // What went out, the rows and the part that is left are those of the part's window.
         ensures ok { let before = world_of Q.set self in
-            IfOk result (λ done. IsWindow scenario.now bound before done.out.items done.rows.items (world_of Q.set done.part)) }
+            IfOk result (λ done. IsWindow scenario.now (min bound (scenario.now.end + 1)) before done.out.items done.rows.items (world_of Q.set done.part)) }
         ensures number { IfOk result (λ done. done.part.number ≡ self.number) }
         ensures consistent { IfOk result (λ done. IsConsistentPart scenario.now (world_of Q.set done.part)) }
+        ensures among { IfOk result (λ done. All (λ (e : AnEvent). IsAmongMembers scenario.now e.key e.content) done.out.items) }
 
-        // What goes out is among the scenario's members, and no event of it comes sooner than its link lets it.
-        ensures among { IfOk result (λ done. All (λ (e : Event). IsAmongMembers scenario.now e.key e.content) done.out.items) }
+        // Each event that went out takes at least as long as the link of its pair.
         ensures far { IfOk result (λ done. TakeTheirLinks scenario.now (world_of Q.set self) done.out.items) }
 
-        // No fault comes without its cause.
-        ensures worn { IsErrOf result StepError.Worn → WearsInWindow scenario.now bound (world_of Q.set self) }
+        // Memory apart, only a counter that has no room refuses the window.
+        ensures worn { IsErrOf result StepError.Worn → WearsInWindow scenario.now (min bound (scenario.now.end + 1)) (world_of Q.set self) }
     {
+        let past_the_end = scenario.end().ticks() + 1;
         let setting = Setting {
-            bound,
+            bound: Moment(bound.ticks().min(past_the_end)),
             scenario,
             links,
         };
         run_from(alloc, self, &setting)
+    }
+}
+
+/// An event of the script: its receiver is its sender.
+fn script_event(member: MemberId, at: Moment, number: u64, content: Content) -> Event
+    ensures { pair_of result ≡ (script_key member at number, content) }
+{
+    let key = Key {
+        at,
+        to: member,
+        from: member,
+        number,
+    };
+    Event { key, content }
+}
+
+/// Lets one more event pend.
+pub(crate) fn push<Q: EventQueue<Event>>(queue: &mut Q, event: Event) -> Result<(), Memory>
+    requires { contains_key (contents_in (Q.set queue.old)) event.key ≡ false }
+    ensures { OnOk result (contents_in (Q.set queue.new) ≡ insert (contents_in (Q.set queue.old)) event.key event.content) }
+{
+    match queue.push(event) {
+        Ok(()) => Ok(()),
+        Err(_) => Err(Memory),
     }
 }

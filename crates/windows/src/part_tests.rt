@@ -9,12 +9,11 @@ ghost use Rattle.windows.specs.View.{world_of};
 ghost use Rattle.windows.specs.Window.{IsConsistentPart};
 
 use crate::part::{Done, Part};
-use base::{Key, MemberId, Memory, Moment};
+use base::{MemberId, Memory, Moment};
 use links::Links;
-use member::{Content, Event, Member};
+use member::Event;
 use scenario::{Scenario, read};
 use std::alloc::Global;
-use std::collections::BTreeMap;
 use std::process::Abort;
 use std::test::Fail;
 use trace::{Row, What};
@@ -46,38 +45,19 @@ fn opened<Q: EventQueue<Event> + Drop>(
     alloc: Global,
     scenario: &Scenario,
     number: u16,
-    mut queue: Q,
+    queue: Q,
 ) -> Result<Part<Q>, Memory>
     requires there { number < member_count scenario.now }
     requires none { Q.set queue ≡ empty }
     ensures { IfOk result (λ part. IsConsistentPart scenario.now (world_of Q.set part)) }
 {
-    let waiting = Member::of(alloc, scenario, MemberId(number))?;
-    let mut members = BTreeMap::new(alloc);
-    match members.insert(MemberId(number), waiting) {
-        Ok(_) => {}
-        Err(_) => return Err(Memory),
-    }
-    let key = Key {
-        at: scenario.start(MemberId(number)),
-        to: MemberId(number),
-        from: MemberId(number),
-        number: 0,
-    };
-    let content = Content::Start;
-    match queue.push(Event { key, content }) {
-        Ok(()) => {}
-        Err(_) => return Err(Memory),
-    }
-    Ok(Part {
-        number: number as usize,
-        members,
-        queue,
-    })
+    let mut part = Part::new(alloc, number as usize, queue);
+    part.admit(alloc, scenario, MemberId(number))?;
+    Ok(part)
 }
 
 /// An event of another part's member comes to the part, before all that pends there.
-fn receive<Q: EventQueue<Event>>(
+fn receive<Q: EventQueue<Event> + Drop>(
     rt: &impl Abort,
     scenario: &Scenario,
     part: &mut Part<Q>,
@@ -87,21 +67,21 @@ fn receive<Q: EventQueue<Event>>(
     requires among { IsAmongMembers scenario.now event.key event.content }
     ensures { OnOk result (IsConsistentPart scenario.now (world_of Q.set part.new)) }
 {
-    if part.members.contains_key(&event.key.from) {
+    if part.members.has(&event.key.from) {
         panic!(rt; "the event is of the part's own");
     }
-    assert!(rt; is_first(&part.queue, &event));
-    match part.queue.push(event) {
-        Ok(()) => Ok(()),
-        Err(_) => Err(Memory),
+    if !part.members.has(&event.key.to) {
+        panic!(rt; "the event is for another part");
     }
+    assert!(rt; is_first(part, &event));
+    part.receive(event)
 }
 
 /// Whether the event comes before all that pends.
-fn is_first<Q: EventQueue<Event>>(queue: &Q, event: &Event) -> bool
-    ensures { IsTrue result → contains_key (Q.set queue.now) event.now.key ≡ false }
+fn is_first<Q: EventQueue<Event> + Drop>(part: &Part<Q>, event: &Event) -> bool
+    ensures { IsTrue result → contains_key (world_of Q.set part.now).pending event.now.key ≡ false }
 {
-    match queue.least() {
+    match part.least() {
         Some(least) => event.key.cmp(&least).is_lt(),
         None => true,
     }
@@ -141,9 +121,9 @@ fn assert_rows(rt: &impl Abort, rows: &[Row], wanted: &[(u64, u16, What)]) {
 }
 
 /// How many events pend, and the moment of the least.
-fn assert_pending<Q: EventQueue<Event>>(rt: &impl Abort, part: &Part<Q>, count: usize, least: u64) {
+fn assert_pending<Q: EventQueue<Event> + Drop>(rt: &impl Abort, part: &Part<Q>, count: usize, least: u64) {
     assert_eq!(rt; part.queue.len(), count);
-    match part.queue.least() {
+    match part.least() {
         Some(key) => assert_eq!(rt; key.at.ticks(), least),
         None => panic!(rt; "nothing pends"),
     }

@@ -1,7 +1,7 @@
-ghost use Rattle.std.specs.Prelude.{◌≡◌, ◌+◌, ◌≤◌, ◌++◌, ◌∷◌, [], false, map, All, IfOk, OnOk, IsErrOf};
+ghost use Rattle.std.specs.Prelude.{◌≡◌, ◌+◌, ◌≤◌, ◌++◌, ◌∷◌, [], false, map, Some, All, IfOk, OnOk, IsErrOf};
 ghost use Rattle.std.specs.Bool.{OnTrue, OnFalse};
 ghost use Rattle.std.specs.FinMap.{get, contains_key};
-ghost use Rattle.base.specs.World.{with_events};
+ghost use Rattle.base.specs.World.{with_events, events_of};
 ghost use Rattle.base.specs.Rising.{AreNew};
 ghost use Rattle.scenario.specs.Setup.{IsSound, member_count};
 ghost use Rattle.links.specs.Arrival.{AreLinksOf};
@@ -15,14 +15,14 @@ ghost use Rattle.windows.specs.View.{world_of, states_in, contents_in};
 ghost use Rattle.windows.specs.Window.{is_own, IsConsistentPart, IsWindow, TakeTheirLinks};
 ghost use Rattle.windows.specs.Wears.{WearsInWindow};
 ghost use Rattle.worker_queue.specs.Queue.{NoneIsBelow};
-ghost use Rattle.windows.specs.Handling.{Handles, WearsReceiver, Advances};
+ghost use Rattle.windows.specs.Handling.{HandlesTaken, WearsReceiver, Advances, made_of};
 
-use crate::part::{Done, Part};
+use crate::own_members::OwnMembers;
+use crate::part::{Done, Part, push};
 use crate::setting::Setting;
-use base::{MemberId, Memory};
-use member::{Effects, Event, Member, StepError};
+use base::Memory;
+use member::{Effects, Event, StepError};
 use std::alloc::Global;
-use std::collections::BTreeMap;
 use worker_queue::EventQueue;
 
 /// Runs the window that begins in this part.
@@ -82,7 +82,30 @@ fn advance<Q: EventQueue<Event>>(
         Some(event) => event,
         None => return Ok(false),
     };
-    let Effects { events, rows } = match handle(alloc, &mut part.members, event, setting) {
+    match handle_taken(alloc, part, event, setting, out) {
+        Ok(()) => Ok(true),
+        Err(error) => Err(error),
+    }
+}
+
+/// Handles an event that was just taken out of the part's queue. What its receiver makes for members of
+/// the part pends there, and the rest goes out.
+pub(crate) fn handle_taken<Q: EventQueue<Event>>(
+    alloc: Global,
+    part: &mut Part<Q>,
+    event: Event,
+    setting: &Setting,
+    out: &mut Effects,
+) -> Result<(), StepError>
+    requires here { IsHere setting.now.scenario.now setting.now.links.now event.key }
+    requires known { (t : State) → get (world_of Q.set part.old).members event.key.to ≡ Some t → HoldsMembers setting.now.scenario.now event.key.to t }
+    requires names { NamesMembers (member_count setting.now.scenario.now) event.content }
+    requires new { AreNew (world_of Q.set part.old).pending (events_of (made_of setting.now.scenario.now (world_of Q.set part.old).members event)) }
+    ensures ok { OnOk result (HandlesTaken setting.now.scenario.now event (world_of Q.set part.old) (world_of Q.set part.new) out.old out.new) }
+    ensures number { OnOk result (part.new.number ≡ part.old.number) }
+    ensures worn { IsErrOf result StepError.Worn → WearsReceiver setting.now.scenario.now event (world_of Q.set part.old).members }
+{
+    let Effects { events, rows } = match part.members.handle(alloc, event, setting) {
         Ok(made) => made,
         Err(error) => return Err(error),
     };
@@ -91,41 +114,14 @@ fn advance<Q: EventQueue<Event>>(
         Err(Memory) => return Err(StepError::Memory),
     }
     match out.rows.extend_from_slice(&rows) {
-        Ok(()) => {}
-        Err(_) => return Err(StepError::Memory),
-    }
-    Ok(true)
-}
-
-/// What the event's receiver makes of it: nothing where that is none of these members.
-fn handle(
-    alloc: Global,
-    members: &mut BTreeMap<MemberId, Member>,
-    event: Event,
-    setting: &Setting,
-) -> Result<Effects, StepError>
-    requires here { IsHere setting.now.scenario.now setting.now.links.now event.key }
-    requires known { (t : State) → get (states_in members.old) event.key.to ≡ Some t → HoldsMembers setting.now.scenario.now event.key.to t }
-    requires names { NamesMembers (member_count setting.now.scenario.now) event.content }
-    ensures ok { IfOk result (Handles setting.now.scenario.now event (states_in members.old) (states_in members.new)) }
-    ensures worn { IsErrOf result StepError.Worn → WearsReceiver setting.now.scenario.now event (states_in members.old) }
-{
-    let mut made = Effects {
-        events: Vec::new(alloc),
-        rows: Vec::new(alloc),
-    };
-    let Some(member) = members.get_mut(&event.key.to) else {
-        return Ok(made);
-    };
-    match member.step(alloc, event, setting.scenario, setting.links, &mut made) {
-        Ok(()) => Ok(made),
-        Err(error) => Err(error),
+        Ok(()) => Ok(()),
+        Err(_) => Err(StepError::Memory),
     }
 }
 
 /// Lets the events for these members pend, and sends the others out.
 fn deliver<Q: EventQueue<Event>>(
-    members: &BTreeMap<MemberId, Member>,
+    members: &OwnMembers,
     queue: &mut Q,
     events: Vec<Event>,
     out: &mut Vec<Event>,
@@ -147,7 +143,7 @@ fn deliver<Q: EventQueue<Event>>(
 
 /// Lets the event pend, where it is for one of these members, or else sends it out.
 fn place<Q: EventQueue<Event>>(
-    members: &BTreeMap<MemberId, Member>,
+    members: &OwnMembers,
     queue: &mut Q,
     event: Event,
     out: &mut Vec<Event>,
@@ -158,22 +154,12 @@ fn place<Q: EventQueue<Event>>(
     ensures others { let own = contains_key (states_in members.now) in
         OnOk result (map pair_of out.new.items ≡ map pair_of out.old.items ++ for_others own (pair_of event ∷ [])) }
 {
-    if is_for(members, &event) {
-        match queue.push(event) {
-            Ok(()) => Ok(()),
-            Err(_) => Err(Memory),
-        }
+    if members.has(&event.key.to) {
+        push(queue, event)
     } else {
         match out.push(event) {
             Ok(()) => Ok(()),
             Err(_) => Err(Memory),
         }
     }
-}
-
-/// Whether the event is for one of these members.
-fn is_for(members: &BTreeMap<MemberId, Member>, event: &Event) -> bool
-    ensures { result ≡ contains_key (states_in members.now) event.now.key.to }
-{
-    members.contains_key(&event.key.to)
 }

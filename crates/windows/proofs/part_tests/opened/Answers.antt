@@ -1,11 +1,23 @@
-use Rattle.windows.proofs.Opened.{opened_consistent, one_member, one_event, absent_if_none}
+use Rattle.std.proofs.Common.{ap, ◌∙◌, sym, subst}
+use Rattle.std.specs.FinMap.{empty}
+use Rattle.base.specs.World.{World}
+use Rattle.member.specs.declared.content.Content.{Content}
+use Rattle.member.specs.State.{State}
+use Rattle.worker_queue.proofs.Contents.{contents_by-empty}
+use Rattle.windows.specs.Admitting.{with_member}
+use Rattle.windows.specs.View.{contents_in, content_of}
+use Rattle.windows.specs.Window.{IsConsistentPart}
+use Rattle.windows.proofs.Admitting.{with_pending}
+use Rattle.windows.proofs.Opened.{alone_consistent, none_from_below}
 use Rattle.windows.proofs.part_tests.opened.Goals as goal
 
-pub push-requires : goal.push-requires
-push-requires g c = absent_if_none (g.Q.EventQueue.set c.args.queue) _ c.requires.none
+pub admit-requires-clause-earlier : goal.admit-requires-clause-earlier
+admit-requires-clause-earlier g c =
+    none_from_below _ c.args.number (ap (λ (w : World State Content). w.pending) c.new-part.ensures.world ∙ ap contents_in c.requires.none ∙ contents_by-empty content_of)
 
 pub returns : goal.returns
 returns g c =
-    opened_consistent c.args.scenario.now c.args.number c.start.result c.requires.there _
-    (one_member c.new-members.result c.insert.new.self c.args.number c.in_ok-waiting.waiting _ c.new-members.ensures.empty c.in-Ok.ensures.updates.0 c.in_ok-waiting.ensures.state)
-    (one_event (g.Q.EventQueue.set c.args.queue) (g.Q.EventQueue.set c.push.new.self) _ c.requires.none c.in-Ok-push.ensures.ok)
+    let s = c.args.scenario.now in
+    subst (IsConsistentPart s)
+    (sym (c.in_ok-admit.ensures.world ∙ ap (with_member s c.args.number) (c.new-part.ensures.world ∙ with_pending empty _ _ (ap contents_in c.requires.none ∙ contents_by-empty content_of))))
+    (alone_consistent s c.args.number c.requires.there)

@@ -1,0 +1,99 @@
+ghost use Rattle.std.specs.Prelude.{◌≡◌, ◌<◌, Some, IfOk, OnOk, IsErrOf, vec_len};
+ghost use Rattle.std.specs.FinMap.{get, contains_key, insert, empty};
+ghost use Rattle.scenario.specs.Setup.{member_count};
+ghost use Rattle.member.specs.Here.{IsHere, HoldsMembers, NamesMembers};
+ghost use Rattle.member.specs.State.{State};
+ghost use Rattle.member.specs.View.{state_of};
+ghost use Rattle.windows.specs.View.{states_in};
+ghost use Rattle.windows.specs.Handling.{Handles, WearsReceiver};
+
+use crate::setting::Setting;
+use base::{MemberId, Memory};
+use member::{Effects, Event, Member, StepError};
+use std::alloc::Global;
+
+/// The members of a part, each at the place of its number, so that an event's receiver is found at once.
+#[derive(Drop)]
+pub struct OwnMembers {
+    slots: Vec<Option<Member>>,
+}
+
+impl OwnMembers {
+    /// Nobody. It takes no memory.
+    pub(crate) fn new(alloc: Global) -> Self
+        ensures { states_in result ≡ empty }
+    {
+        OwnMembers {
+            slots: Vec::new(alloc),
+        }
+    }
+
+    /// Whether the part has a member of that number.
+    pub(crate) fn has(&self, number: &MemberId) -> bool
+        ensures { result ≡ contains_key (states_in self.now) number.now }
+    {
+        let place = number.index();
+        place < self.slots.len() && self.slots[place].is_some()
+    }
+
+    /// Takes in a member under its number.
+    pub(crate) fn insert(&mut self, number: MemberId, member: Member) -> Result<(), Memory>
+        ensures { OnOk result (states_in self.new ≡ insert (states_in self.old) number (state_of member)) }
+    {
+        self.reach(number)?;
+        let place = number.index();
+        self.slots[place] = Some(member);
+        Ok(())
+    }
+
+    /// Has a place for that number.
+    fn reach(&mut self, number: MemberId) -> Result<(), Memory>
+        ensures same { OnOk result (states_in self.new ≡ states_in self.old) }
+        ensures place { OnOk result (number < vec_len self.new.slots) }
+    {
+        while self.slots.len() <= number.index() {
+            match self.slots.push(None) {
+                Ok(()) => {}
+                Err(_) => return Err(Memory),
+            }
+        }
+        Ok(())
+    }
+
+    /// What the event's receiver makes of it: nothing where that is none of these members.
+    pub(crate) fn handle(
+        &mut self,
+        alloc: Global,
+        event: Event,
+        setting: &Setting,
+    ) -> Result<Effects, StepError>
+        requires here { IsHere setting.now.scenario.now setting.now.links.now event.key }
+        requires known { (t : State) → get (states_in self.old) event.key.to ≡ Some t → HoldsMembers setting.now.scenario.now event.key.to t }
+        requires names { NamesMembers (member_count setting.now.scenario.now) event.content }
+        ensures ok { IfOk result (Handles setting.now.scenario.now event (states_in self.old) (states_in self.new)) }
+        ensures worn { IsErrOf result StepError.Worn → WearsReceiver setting.now.scenario.now event (states_in self.old) }
+    {
+        let mut made = Effects {
+            events: Vec::new(alloc),
+            rows: Vec::new(alloc),
+        };
+        let receiver = receiver_of(&event);
+        if self.slots.len() <= receiver {
+            return Ok(made);
+        }
+        let Some(member) = &mut self.slots[receiver] else {
+            return Ok(made);
+        };
+        match member.step(alloc, event, setting.scenario, setting.links, &mut made) {
+            Ok(()) => Ok(made),
+            Err(error) => Err(error),
+        }
+    }
+}
+
+/// The place of the member that the event is for.
+fn receiver_of(event: &Event) -> usize
+    ensures { result ≡ event.now.key.to }
+{
+    event.key.to.index()
+}
