@@ -27,6 +27,7 @@ mod Reach
 mod PartWindows
 mod Plays
 mod PlayChoices
+mod PlayEnds
 mod PlayRows
 mod PlaySafe
 mod PlayWorlds

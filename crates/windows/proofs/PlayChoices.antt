@@ -1,5 +1,5 @@
 -- A choice of a member in a cluster to which choices have led.
-use Rattle.std.proofs.Common.{◌≡◌, ◌++◌, ℕ, ◌+◌, ◌≤◌, Bool, true, false, cond, List, [], ◌∷◌, length, Option, Some, None, append-nil, ap, ◌∙◌, sym, subst, refl, inl, inr, arith}
+use Rattle.std.proofs.Common.{◌≡◌, ◌++◌, ℕ, ◌+◌, ◌≤◌, Bool, true, false, cond, List, [], ◌∷◌, length, Option, Some, None, append-nil, length-append, ap, ◌∙◌, sym, subst, refl, inl, inr, arith}
 use Rattle.std.specs.Option.{is_some, option_map}
 use Rattle.std.specs.List.{AllByRecursion}
 use Rattle.std.specs.FinMap.{get, contains_key, remove, get-insert}
@@ -16,6 +16,7 @@ use Rattle.links.specs.Arrival.{AreLinksOf}
 use Rattle.trace.specs.declared.row.Row.{Row}
 use Rattle.member.specs.declared.content.Content.{Content}
 use Rattle.member.specs.declared.event.Event.{Event}
+use Rattle.member.specs.declared.event.Effects.{Effects}
 use Rattle.member.specs.Here.{IsHere, HoldsMembers, NamesMembers}
 use Rattle.member.specs.Opening.{opening}
 use Rattle.member.specs.State.{State}
@@ -29,7 +30,7 @@ use Rattle.windows.specs.Schedule.{TestedStep}
 use Rattle.windows.specs.Cluster.{UsesUpTo, IsLeastDelay, SafeStep}
 use Rattle.windows.specs.Parts.{for_own}
 use Rattle.windows.specs.Window.{is_own}
-use Rattle.windows.specs.Handling.{WearsReceiver, made_of, members_after}
+use Rattle.windows.specs.Handling.{HandlesTaken, WearsReceiver, made_of, members_after}
 use Rattle.windows.specs.Play.{NonePasses, Chooses, Plays}
 use Rattle.windows.specs.Choosing.{IsPlayed, HasChosen, HasPlayed}
 use Rattle.windows.proofs.Consistent.{event_here, holds_members}
@@ -118,3 +119,50 @@ module _ (s : Setup) (sound : IsSound s) (d : Option ℕ) (least : IsLeastDelay 
       ap (λ m. get (settled w event.key m).members event.key.to) made ∙ get-insert nat_cmp_total w.members event.key.to o.state event.key.to
       ∙ ap (λ r. cond (is_eq r) (Some o.state) (get w.members event.key.to)) (tied_itself nat_cmp_total event.key.to) in
       worn_there s d _ _ _ v sound least all event.key.to o.state (record { keys = []; rows = []; world = v; run = (refl, refl); there = there }) wears.worn
+
+  -- ---- the event was taken out first
+
+  module _ (p : Cluster) (members : p.members ≡ w.members) (pending : p.pending ≡ remove w.pending event.key) where
+    pub holds_taken : (t : State) → get p.members event.key.to ≡ Some t → HoldsMembers s event.key.to t
+    holds_taken t at = holds_there t (ap (λ m. get m event.key.to) (sym members) ∙ at)
+
+    pub new_taken : AreNew p.pending (events_of (made_of s p.members event))
+    new_taken = subst (λ m. AreNew p.pending (events_of (made_of s m event))) (sym members) (subst (λ m. AreNew m (events_of (made_of s w.members event))) (sym pending) new_there)
+
+    pub taken_wears_out : WearsReceiver s event p.members → WearsOut s
+    taken_wears_out wears = event_wears_out (subst (WearsReceiver s event) members wears)
+
+    pub taken_handled_here : (m : ℕ) (v : Cluster) (before after : Effects) → event.key.to ≡ m → HandlesTaken s event p v before after → HasChosen s d m true w v before.rows.items after.rows.items
+    taken_handled_here m v before after own handles =
+        let taken : Cluster = record { members = w.members; pending = remove w.pending event.key } in
+        let same : p ≡ taken = λ i. record { members = members i; pending = pending i } in
+        let there = subst (λ u. HandlesTaken s event u v before after) same handles in
+        one_handled m v before.rows.items after.rows.items own there.members there.pending there.rows
+
+-- ---- choices so far
+
+pub at_most_one : (went : Bool) → cond went 1 0 ≤ 1
+at_most_one true = omega arith
+at_most_one false = omega arith
+
+-- before the first choice
+pub none_played : (s : Setup) (d : Option ℕ) (w : Cluster) (rows : List Row) → w ≡ opening s → rows ≡ [] → HasPlayed s d [] 0 rows w
+none_played s d w rows opened none = record { keys = []; plays = (opened, refl, none); counted = refl }
+
+count_more : (n m more : ℕ) (went : Bool) → n ≡ m → more ≡ cond went 1 0 → n + cond went 1 0 ≡ m + more
+count_more n m more went counted one = omega (arith, counted, one)
+
+-- one choice more
+pub one_played_more : (s : Setup) (d : Option ℕ) (choices : List ℕ) (m handled : ℕ) (went : Bool) (rows after : List Row) (w v : Cluster) → HasPlayed s d choices handled rows w → HasChosen s d m went w v rows after
+    → HasPlayed s d (choices ++ m ∷ []) (handled + cond went 1 0) after v
+one_played_more s d choices m handled went rows after w v so_far chosen = record {
+  keys = so_far.keys ++ chosen.keys;
+  plays =
+      subst (λ l. Plays s d (opening s) (choices ++ m ∷ []) (so_far.keys ++ chosen.keys) l v) (sym chosen.rows)
+      (one_chosen_more (step s) (IsSafe s.end d) choices m (opening s) w v so_far.keys chosen.keys rows chosen.made so_far.plays chosen.chosen);
+  counted = count_more handled (length so_far.keys) (length chosen.keys) went so_far.counted chosen.counted ∙ sym (length-append so_far.keys chosen.keys);
+}
+
+-- choices have led there
+pub played_there : (s : Setup) (d : Option ℕ) (choices : List ℕ) (handled : ℕ) (rows : List Row) (w : Cluster) → HasPlayed s d choices handled rows w → IsPlayed s d w
+played_there s d choices handled rows w so_far = (choices, so_far.keys, rows, so_far.plays)

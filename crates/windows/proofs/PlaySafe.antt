@@ -1,6 +1,6 @@
 -- Which events lie before the moment up to which all next events are safe.
-use Rattle.std.proofs.Common.{◌≡◌, ℕ, ◌+◌, ◌<◌, ◌≤◌, true, Option, Some, None, ap, ◌∙◌, sym, arith}
-use Rattle.std.specs.Option.{is_some}
+use Rattle.std.proofs.Common.{◌≡◌, ℕ, ◌+◌, ◌<◌, ◌≤◌, true, Option, Some, None, IfSome, ap, ◌∙◌, sym, arith}
+use Rattle.std.specs.Option.{is_some, IfNone}
 use Rattle.std.specs.FinMap.{FinMap, empty, get, contains_key, get-empty}
 use Rattle.std.proofs.lemmas.Bool.{false≢true}
 use Rattle.base.specs.declared.key.Key.{Key}
@@ -10,6 +10,15 @@ use Rattle.worker_queue.specs.Queue.{IsLeastKey, IsLeastKeyFor, NoneIsBelowFor}
 use Rattle.windows.specs.Safe.{IsFirstOf, IsSafe}
 use Rattle.windows.specs.Play.{NonePasses}
 use Rattle.windows.specs.Choosing.{safe_bound}
+
+-- what two facts of a value give, and what the fact of a missing one does
+pub of_both : {A : Type 0} (o : Option A) (P Q R : A → Type 0) → ((x : A) → P x → Q x → R x) → IfSome o P → IfSome o Q → IfSome o R
+of_both None P Q R gives first second = tt
+of_both (Some x) P Q R gives first second = gives x first second
+
+pub of_none : {A : Type 0} (o : Option A) (P Q : Type 0) → (P → Q) → IfNone o P → IfNone o Q
+of_none None P Q gives none = gives none
+of_none (Some x) P Q gives none = tt
 
 module _ {S C : Type 0} (end : ℕ) (w : World S C) where
   first_of : (m : ℕ) (k : Key) → IsLeastKeyFor w.pending m k → IsFirstOf w k

@@ -11,7 +11,7 @@ use Rattle.member_laws.specs.Runs.{Cluster}
 use Rattle.windows.specs.Safe.{IsSafe}
 use Rattle.windows.specs.Schedule.{TestedStep}
 use Rattle.windows.specs.Cluster.{IsLeastDelay}
-use Rattle.windows.specs.declared.play.Played.{Played}
+use Rattle.windows.specs.declared.choices.Played.{Played}
 
 -- no event for this member passes the test
 abbrev pub NonePasses : {S C : Type 0} → (World S C → Key → Type 0) → World S C → ℕ → Type 0

@@ -6,7 +6,7 @@
 mod laws;
 mod own_members;
 mod part;
-mod play;
+mod choices;
 #[cfg(test)]
 mod part_tests;
 mod setting;
@@ -20,4 +20,4 @@ pub use laws::{
     windows_are_safe_steps, windows_write_the_next_rows,
 };
 pub use part::{Done, Part};
-pub use play::{Played, a_play_is_a_schedule};
+pub use choices::{Played, a_play_is_a_schedule, play};
