@@ -8,6 +8,8 @@ mod own_members;
 mod part;
 mod choices;
 #[cfg(test)]
+mod choices_tests;
+#[cfg(test)]
 mod part_tests;
 mod setting;
 mod steps;
