@@ -25,6 +25,13 @@ pub mod Consistent
 mod Advancing
 mod Reach
 mod PartWindows
+mod Plays
+mod PlayChoices
+mod PlayEnds
+mod PlayRows
+mod PlaySafe
+mod PlayWorlds
+mod Playing
 mod Opened
 pub mod Fresh
 pub mod Exchanged

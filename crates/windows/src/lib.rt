@@ -6,6 +6,9 @@
 mod laws;
 mod own_members;
 mod part;
+mod choices;
+#[cfg(test)]
+mod choices_tests;
 #[cfg(test)]
 mod part_tests;
 mod setting;
@@ -19,3 +22,4 @@ pub use laws::{
     windows_are_safe_steps, windows_write_the_next_rows,
 };
 pub use part::{Done, Part};
+pub use choices::{Played, a_play_is_a_schedule, play};
