@@ -30,13 +30,25 @@ module _ {S C R : Type 0} (step : Machine S C R) (Test : World S C → Key → T
   -- one choice more
   pub one_chosen_more : (ms : List ℕ) (m : ℕ) (w u v : World S C) (keys more_keys : List Key) (rows more : List R) → ChoosesAll step Test w ms keys rows u → Chooses step Test u m more_keys more v
       → ChoosesAll step Test w (ms ++ m ∷ []) (keys ++ more_keys) (rows ++ more) v
-  one_chosen_more [] m w u v keys more_keys rows more is chosen =
-      (
-        v, more_keys, [], more, [], subst (λ x. Chooses step Test x m more_keys more v) is.0 chosen, none_chosen v,
-        ap (λ ks. ks ++ more_keys) is.1 ∙ sym (append-nil more_keys), ap (λ made. made ++ more) is.2 ∙ sym (append-nil more),
-      )
-  one_chosen_more (l ∷ ms) m w u v keys more_keys rows more is chosen =
-      (
-        is.0, is.1, is.2 ++ more_keys, is.3, is.4 ++ more, is.5, one_chosen_more ms m is.0 u v is.2 more_keys is.4 more is.6 chosen,
-        ap (λ ks. ks ++ more_keys) is.7 ∙ append_assoc is.1 is.2 more_keys, ap (λ made. made ++ more) is.8 ∙ append_assoc is.3 is.4 more,
-      )
+  one_chosen_more [] m w u v keys more_keys rows more is chosen = (
+    v,
+    more_keys,
+    [],
+    more,
+    [],
+    subst (λ x. Chooses step Test x m more_keys more v) is.0 chosen,
+    none_chosen v,
+    ap (λ ks. ks ++ more_keys) is.1 ∙ sym (append-nil more_keys),
+    ap (λ made. made ++ more) is.2 ∙ sym (append-nil more),
+  )
+  one_chosen_more (l ∷ ms) m w u v keys more_keys rows more is chosen = (
+    is.0,
+    is.1,
+    is.2 ++ more_keys,
+    is.3,
+    is.4 ++ more,
+    is.5,
+    one_chosen_more ms m is.0 u v is.2 more_keys is.4 more is.6 chosen,
+    ap (λ ks. ks ++ more_keys) is.7 ∙ append_assoc is.1 is.2 more_keys,
+    ap (λ made. made ++ more) is.8 ∙ append_assoc is.3 is.4 more,
+  )

@@ -219,9 +219,5 @@ fn left_up_to(part: &Part<TreeQueue<Event>>, end: Moment) -> Option<Moment>
     };
     let moment = least.at.ticks();
     let last = end.ticks();
-    if moment <= last {
-        Some(least.at)
-    } else {
-        None
-    }
+    if moment <= last { Some(least.at) } else { None }
 }

@@ -125,7 +125,8 @@ const CASES: [Case; 9] = [
 
 fn scenario_for(rt: &impl Abort, alloc: Global, case: &Case) -> Scenario {
     let (members, delay, end) = (case.members, case.delay, case.end);
-    let text = format!(in alloc; "version = 1
+    let text = format!(in alloc;
+        "version = 1
 seed = 7
 end = {end}
 [swim]
@@ -137,7 +138,8 @@ delay = {delay}
 [[group]]
 name = \"n\"
 count = {members}
-");
+"
+    );
     match text {
         Ok(text) => scenario_of(rt, alloc, text.as_str()),
         Err(_) => panic!(rt; "want of memory"),
@@ -185,7 +187,11 @@ fn choices_handle_what_is_safe(rt: HostRuntime) -> Result<(), Fail> {
 #[test]
 fn refused_memory_is_told(rt: HostRuntime) -> Result<(), Fail> {
     let scenario = scenario_for(&rt, rt.alloc(), &FAST);
-    if let Err(fault) = play(rt.alloc(), &scenario, &[MemberId(0), MemberId(1), MemberId(0)]) {
+    if let Err(fault) = play(
+        rt.alloc(),
+        &scenario,
+        &[MemberId(0), MemberId(1), MemberId(0)],
+    ) {
         assert_eq!(rt; fault, Fault::Memory);
     }
     Ok(())

@@ -121,7 +121,12 @@ pub(crate) fn assert_rows(rt: &impl Abort, rows: &[Row], wanted: &[(u64, u16, Wh
 }
 
 /// How many events pend, and the moment of the least.
-fn assert_pending<Q: EventQueue<Event> + Drop>(rt: &impl Abort, part: &Part<Q>, count: usize, least: u64) {
+fn assert_pending<Q: EventQueue<Event> + Drop>(
+    rt: &impl Abort,
+    part: &Part<Q>,
+    count: usize,
+    least: u64,
+) {
     assert_eq!(rt; part.queue.len(), count);
     match part.least() {
         Some(key) => assert_eq!(rt; key.at.ticks(), least),
