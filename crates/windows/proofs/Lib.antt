@@ -27,7 +27,7 @@ mod Reach
 mod PartWindows
 mod Plays
 mod PlayChoices
-mod PlayEnds
+pub mod PlayEnds
 mod PlayRows
 mod PlaySafe
 mod PlayWorlds
