@@ -97,15 +97,6 @@ not_yet set s deal parts sound stand = record {
 
 -- ---- the next turn
 
-is_least : (s : Setup) (d : Option ℕ) → IfSome d (IsReached (λ i j. (link_between s i j).delay) (member_count s)) → IfSome d (IsNoGreater (λ i j. (link_between s i j).delay) (member_count s))
-    → (d ≡ None → member_count s ≡ 1) → IsLeastDelay s d
-is_least s None reached least alone = alone refl
-is_least s (Some d) reached least alone = (reached, least)
-
-pub least_of_links : (s : Setup) (d : Option ℕ) → IfSome d (IsReached (λ i j. (link_between s i j).delay) (member_count s))
-    → IfSome d (IsNoGreater (λ i j. (link_between s i j).delay) (member_count s)) → (d ≡ None ↔ member_count s ≡ 1) → IsLeastDelay s d
-least_of_links s d reached least alone = is_least s d reached least alone.0
-
 some_delay : (s : Setup) (d : Option ℕ) → IsSound s → IsLeastDelay s d → IfSome d (λ d. 0 < d)
 some_delay s None sound least = tt
 some_delay s (Some d) sound least =

@@ -114,7 +114,11 @@ fn the_trace_is_flushed(rt: HostRuntime) {
 
 /// Runs the scenario of `JOIN`, and asserts that the sinks have what the answer says, or a beginning of
 /// that.
-fn assert_beginning(rt: &(impl Abort + AllocGlobal + Threads + Sync), parts: u8, scenario: &Scenario) {
+fn assert_beginning(
+    rt: &(impl Abort + AllocGlobal + Threads + Sync),
+    parts: u8,
+    scenario: &Scenario,
+) {
     let mut trace = MemorySink::new(rt.alloc());
     let mut report = MemorySink::new(rt.alloc());
     let outcome = run_by(rt, parts, scenario, &mut trace, &mut report);

@@ -125,7 +125,11 @@ fn each_byte_of_the_report_may_have_no_room(rt: HostRuntime) {
 fn the_report_is_flushed(rt: HostRuntime) {
     for parts in WAYS {
         let sink = MemorySink::new(rt.alloc()).failing_at_flush();
-        assert_part(&rt, &report_into(&rt, parts, sink), TWO_MEMBERS.report.len());
+        assert_part(
+            &rt,
+            &report_into(&rt, parts, sink),
+            TWO_MEMBERS.report.len(),
+        );
     }
 }
 

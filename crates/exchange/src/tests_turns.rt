@@ -77,7 +77,11 @@ fn assert_same(rt: &(impl Abort + AllocGlobal + Threads + Sync), text: &str) -> 
             &mut report_of_parts,
         );
         assert_eq!(rt; by_parts, outcome);
-        assert_eq!(rt; trace_of_parts.bytes(), trace.bytes(), "{parts} parts: {text}");
+        assert_eq!(rt;
+            trace_of_parts.bytes(),
+            trace.bytes(),
+            "{parts} parts: {text}"
+        );
         assert_eq!(rt; report_of_parts.bytes(), report.bytes());
     }
     Ok(())

@@ -25,7 +25,15 @@ pub mod Consistent
 mod Advancing
 mod Reach
 mod PartWindows
+mod Plays
+mod PlayChoices
+pub mod PlayEnds
+mod PlayRows
+mod PlaySafe
+mod PlayWorlds
+mod Playing
 mod Opened
 pub mod Fresh
 pub mod Exchanged
 pub mod Wholes
+pub mod RowOrders

@@ -78,7 +78,7 @@ module _ {S C R : Type 0} (step : Machine S C R) (later : MakesLater step) (plac
         (all_append _ run.1 run.2 (of_key (λ q. bound ≤ q.at) k run.1 _ first next.made (keyed_here w k next.content)) (rows_from bound ks run.0 v run.2 from_mid run.5))
 
     module _ (cmp : R → R → Ordering) (total : IsTotalOrder cmp) (agrees : (a b : R) → IsPlaceBefore (place a) (place b) → cmp a b ≡ Less) where
-      trace_rises : (Q : R → R → Type 0) → ((a b : R) → cmp a b ≡ Less → Q a b) → (w : World S C) → IsRising Q (trace step later end w)
+      pub trace_rises : (Q : R → R → Type 0) → ((a b : R) → cmp a b ≡ Less → Q a b) → (w : World S C) → IsRising Q (trace step later end w)
       trace_rises Q gives w =
           let whole = run-exists step later end w in
           rising_mapped place IsPlaceBefore Q (λ a b before. gives a b (agrees a b before)) (trace step later end w)

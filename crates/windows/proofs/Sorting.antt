@@ -69,7 +69,7 @@ module _ {A : Type 0} (cmp : A → A → Ordering) (total : IsTotalOrder cmp) wh
   -- ---- one order
 
   -- items that tie with one of these are it
-  abbrev Tells : List A → A → Type 0
+  abbrev pub Tells : List A → A → Type 0
   Tells xs y = AllByRecursion (λ x. cmp y x ≡ Equal → y ≡ x) xs
 
   apart : (x y : A) → IsLess cmp x y → (cmp x y ≡ Equal → x ≡ y) × (cmp y x ≡ Equal → y ≡ x)
@@ -79,12 +79,12 @@ module _ {A : Type 0} (cmp : A → A → Ordering) (total : IsTotalOrder cmp) wh
   tells_more x xs [] less all = tt
   tells_more x xs (y ∷ ys) less all = (((apart x y less.0).1, all.0), tells_more x xs ys less.1 all.1)
 
-  tells_itself : (xs : List A) → IsRising (IsLess cmp) xs → AllByRecursion (Tells xs) xs
+  pub tells_itself : (xs : List A) → IsRising (IsLess cmp) xs → AllByRecursion (Tells xs) xs
   tells_itself [] up = tt
   tells_itself (x ∷ xs) up = ((λ e. refl, all_weaker _ (λ y. cmp x y ≡ Equal → x ≡ y) (λ y less. (apart x y less).0) xs up.0), tells_more x xs xs up.0 (tells_itself xs up.1))
 
   -- each item as often in the one as in the other
-  abbrev SameItems : List A → List A → Type 0
+  abbrev pub SameItems : List A → List A → Type 0
   SameItems xs ys = (f : A → ℕ) → sum_by f ys ≡ sum_by f xs
 
   before_one : A → A → ℕ
@@ -135,7 +135,7 @@ module _ {A : Type 0} (cmp : A → A → Ordering) (total : IsTotalOrder cmp) wh
       let more = rest (rest_same x y xs ys first same) in
       λ i. first i ∷ more i
 
-  same_order : (xs ys : List A) → IsRising (IsLess cmp) xs → IsRising (IsAtMost cmp) ys → SameItems xs ys → AllByRecursion (Tells xs) ys → ys ≡ xs
+  pub same_order : (xs ys : List A) → IsRising (IsLess cmp) xs → IsRising (IsAtMost cmp) ys → SameItems xs ys → AllByRecursion (Tells xs) ys → ys ≡ xs
   same_order [] [] strict up same tells = refl
   same_order [] (y ∷ ys) strict up same tells = absurd (lengths_differ y ys (same (λ z. 1)))
   same_order (x ∷ xs) [] strict up same tells = absurd (lengths_differ x xs (sym (same (λ z. 1))))

@@ -2,6 +2,8 @@ pub mod Delays
 pub mod Safe
 pub mod Schedule
 pub mod Parts
+pub mod Play
+pub mod Choosing
 pub mod Cluster
 pub mod Horizon
 pub mod View

@@ -33,7 +33,7 @@ name = \"n\"
 count = 2
 ";
 
-fn scenario_of(rt: &impl Abort, alloc: Global, text: &str) -> Scenario {
+pub(crate) fn scenario_of(rt: &impl Abort, alloc: Global, text: &str) -> Scenario {
     match read(alloc, text.as_bytes()) {
         Ok(scenario) => scenario,
         Err(_) => panic!(rt; "the text is no scenario"),
@@ -111,7 +111,7 @@ fn window<Q: EventQueue<Event> + Drop>(
 }
 
 /// What the window has written: moments, members, and what each row tells of.
-fn assert_rows(rt: &impl Abort, rows: &[Row], wanted: &[(u64, u16, What)]) {
+pub(crate) fn assert_rows(rt: &impl Abort, rows: &[Row], wanted: &[(u64, u16, What)]) {
     assert_eq!(rt; rows.len(), wanted.len());
     for (row, wanted) in rows.iter().zip(wanted) {
         assert_eq!(rt; row.at.ticks(), wanted.0);
@@ -121,7 +121,12 @@ fn assert_rows(rt: &impl Abort, rows: &[Row], wanted: &[(u64, u16, What)]) {
 }
 
 /// How many events pend, and the moment of the least.
-fn assert_pending<Q: EventQueue<Event> + Drop>(rt: &impl Abort, part: &Part<Q>, count: usize, least: u64) {
+fn assert_pending<Q: EventQueue<Event> + Drop>(
+    rt: &impl Abort,
+    part: &Part<Q>,
+    count: usize,
+    least: u64,
+) {
     assert_eq!(rt; part.queue.len(), count);
     match part.least() {
         Some(key) => assert_eq!(rt; key.at.ticks(), least),

@@ -66,6 +66,14 @@ impl<Q: EventQueue<Note>> Numbered<Q> {
     }
 }
 
+/// Takes the least event for a receiver, and answers its number.
+fn take_for(notes: &mut Numbered<TreeQueue<Note>>, receiver: u16, bound: u64) -> Option<u64> {
+    match notes.queue.take_for(MemberId(receiver), Moment(bound)) {
+        Some(note) => Some(note.key.number),
+        None => None,
+    }
+}
+
 fn tree(rt: HostRuntime) -> Numbered<TreeQueue<Note>> {
     Numbered {
         queue: TreeQueue::new(rt.alloc()),
@@ -139,6 +147,38 @@ fn events_of_one_sender_leave_by_moment_then_number(rt: HostRuntime) -> Result<(
     assert_eq!(rt; notes.least(), Some(2000));
     notes.push(1, 4, 2)?;
     assert_eq!(rt; notes.pop_below(2000), Some(6));
+    Ok(())
+}
+
+#[test]
+fn the_least_event_of_a_receiver_leaves(rt: HostRuntime) -> Result<(), Fail> {
+    let mut notes = tree(rt);
+    for (at, to, from) in [
+        (7, 2, 0),
+        (7, 1, 9),
+        (3, 9, 1),
+        (7, 1, 0),
+        (9, 1, 0),
+        (8, 2, 1),
+    ] {
+        notes.push(at, to, from)?;
+    }
+    for (receiver, bound, number) in [
+        (1, 7, None),
+        (1, 10, Some(4)),
+        (1, 10, Some(2)),
+        (2, 8, Some(1)),
+        (2, 8, None),
+        (9, 3, None),
+        (9, 4, Some(3)),
+        (1, 9, None),
+        (1, 10, Some(5)),
+        (5, 100, None),
+    ] {
+        assert_eq!(rt; take_for(&mut notes, receiver, bound), number);
+    }
+    assert_eq!(rt; notes.queue.len(), 1);
+    assert_eq!(rt; notes.pop_below(100), Some(6));
     Ok(())
 }
 

@@ -2,7 +2,8 @@ use Rattle.std.proofs.Common.{◌≡◌, ◌+◌, ◌<◌, Err, ap, sym, subst, 
 use Rattle.member.specs.declared.turn.StepError.TheVariants.{Worn}
 use Rattle.exchange.specs.Parts.{NonePendsBefore}
 use Rattle.exchange.specs.Bounds.{IsNextBound}
-use Rattle.exchange.proofs.Goes.{IsUnderWay, not_yet, least_of_links, may_turn, further, goes_on, one_wears, run_is, run_names, run_lasts, past_end}
+use Rattle.windows.proofs.PlayEnds.{least_of_links}
+use Rattle.exchange.proofs.Goes.{IsUnderWay, not_yet, may_turn, further, goes_on, one_wears, run_is, run_names, run_lasts, past_end}
 use Rattle.exchange.proofs.turns.run_turns.Goals as goal
 
 pub loop-from-init : goal.loop-from-init

@@ -28,13 +28,13 @@ pub loop-part-preserved : goal.loop-part-preserved
 loop-part-preserved g c =
     let in_time : min c.args.bound (c.args.setting.now.scenario.now.end + 1) ≡ c.args.bound = omega (arith, c.requires.in_time) in
     record {
-  left =
-      append_assoc c.loop-part.yielded (c.in-Some.part ∷ []) c.next.new.self.rest.items
-      ∙ ap (λ ps. c.loop-part.yielded ++ ps) (sym c.in-Some.ensures.steps.0) ∙ c.loop-part.invariant.left;
-  windows =
-      subst (HadWindows g.Q.EventQueue.set c.args.setting.now.scenario.now c.args.bound (c.loop-part.yielded ++ c.in-Some.part ∷ [])) (sym c.in-Ok-push.ensures.items)
-      (one_window_more g.Q.EventQueue.set c.args.setting.now.scenario.now c.args.bound c.loop-part.yielded c.loop-part.all.items c.in-Some.part c.in-Ok.done c.loop-part.invariant.windows
-      (subst (λ b. IsWindow c.args.setting.now.scenario.now b (world_of g.Q.EventQueue.set c.in-Some.part) c.in-Ok.done.out.items c.in-Ok.done.rows.items (world_of g.Q.EventQueue.set c.in-Ok.done.part)) in_time c.in-Ok.ensures.ok));
-  consistent =
-      (subst (AllByRecursion (λ part. IsConsistentPart c.args.setting.now.scenario.now (world_of g.Q.EventQueue.set part))) c.in-Some.ensures.steps.0 c.loop-part.invariant.consistent).1;
-}
+      left =
+          append_assoc c.loop-part.yielded (c.in-Some.part ∷ []) c.next.new.self.rest.items
+          ∙ ap (λ ps. c.loop-part.yielded ++ ps) (sym c.in-Some.ensures.steps.0) ∙ c.loop-part.invariant.left;
+      windows =
+          subst (HadWindows g.Q.EventQueue.set c.args.setting.now.scenario.now c.args.bound (c.loop-part.yielded ++ c.in-Some.part ∷ [])) (sym c.in-Ok-push.ensures.items)
+          (one_window_more g.Q.EventQueue.set c.args.setting.now.scenario.now c.args.bound c.loop-part.yielded c.loop-part.all.items c.in-Some.part c.in-Ok.done c.loop-part.invariant.windows
+          (subst (λ b. IsWindow c.args.setting.now.scenario.now b (world_of g.Q.EventQueue.set c.in-Some.part) c.in-Ok.done.out.items c.in-Ok.done.rows.items (world_of g.Q.EventQueue.set c.in-Ok.done.part)) in_time c.in-Ok.ensures.ok));
+      consistent =
+          (subst (AllByRecursion (λ part. IsConsistentPart c.args.setting.now.scenario.now (world_of g.Q.EventQueue.set part))) c.in-Some.ensures.steps.0 c.loop-part.invariant.consistent).1;
+    }

@@ -1,0 +1,138 @@
+#!/usr/bin/env python3
+"""Runs the gate, `rt ci`, and tells what each crate cost of it.
+
+    bench/gate.py
+
+The gate's output is passed on as it comes, and its status is this command's. At the end stand the processor minutes of
+each crate: its proof; its tests, with the second proof of the crate that they take; and its must-fail edits, how many
+there are and what one cost on average, the first check of the crate over nothing included. Linux only.
+
+Each command that the gate starts is looked at several times a second. What it used since the last look is known once it
+has ended, by what the gate's own process then has of ended children, so nothing is lost: of commands that end between
+the same two looks the rest is dealt out in equal parts, and what is too short for a look goes to the next that ends.
+`other` is the gate itself.
+"""
+
+import os
+import re
+import subprocess
+import sys
+import time
+from collections import Counter
+from pathlib import Path
+
+TOP = Path(__file__).resolve().parent.parent
+SECONDS_BETWEEN_LOOKS = 0.2
+TICKS_A_MINUTE = 60 * os.sysconf('SC_CLK_TCK')
+OTHER = ('other', 'proof')
+
+
+def times_of(process):
+    """The processor time of a process, and that of its children that have ended, in clock ticks."""
+    fields = Path(f'/proc/{process}/stat').read_text().rpartition(')')[2].split()
+    user, system, ended_user, ended_system = map(int, fields[11:15])
+    return user + system, ended_user + ended_system
+
+
+def children_of(process):
+    """The children that have not ended, of all threads of a process."""
+    found = set()
+    for thread in Path(f'/proc/{process}/task').iterdir():
+        try:
+            found.update((thread / 'children').read_text().split())
+        except OSError:
+            pass
+    return found
+
+
+def purpose_of(process):
+    """The crate for which a command of the gate was started, and whether for its proof, its tests or its edits."""
+    words = Path(f'/proc/{process}/cmdline').read_text().split('\0')
+    folder = os.readlink(f'/proc/{process}/cwd')
+    line = ' '.join(words)
+    crate = (re.search(r'--crate-name (\w+)', line) or re.search(r'/crates/(\w+)', f'{line} {folder}')
+             or re.search(r'/rt-run-\w+/bin/(\w+?)(?:_tests)?(?: |$)', line))
+    if '/rt-edit-' in folder:
+        kind = 'edits'
+    elif '--test' in words or any(word.endswith('_tests') for word in words):
+        kind = 'tests'
+    else:
+        kind = 'proof'
+    return (crate[1], kind) if crate else OTHER
+
+
+class Account:
+    """What the commands of the gate have used so far, by crate and purpose, in clock ticks."""
+
+    def __init__(self, gate):
+        self.gate = gate
+        self.used = Counter()
+        # of each command that runs: its purpose and its time at the last look
+        self.running = {}
+        self.dealt = 0
+
+    def look(self):
+        """Sees which commands run, and books those that have ended."""
+        present = children_of(self.gate)
+        # read after the children, so that it has the time of each that is missing there
+        ended = times_of(self.gate)[1]
+        gone = [self.running.pop(it) for it in list(self.running) if it not in present]
+        rest = ended - self.dealt - sum(seen for _, seen in gone)
+        for purpose, seen in gone:
+            self.used[purpose] += seen + rest / len(gone)
+        if gone:
+            self.dealt = ended
+        for process in present:
+            try:
+                self.running[process] = purpose_of(process), sum(times_of(process))
+            except OSError:
+                pass
+
+    def close(self, usage):
+        """Books what is left of all that the gate has used."""
+        self.used[OTHER] += (usage.ru_utime + usage.ru_stime) * TICKS_A_MINUTE / 60 - sum(self.used.values())
+
+
+def run_gate():
+    """Runs the gate to its end, and returns its status and its account."""
+    gate = subprocess.Popen(['rt', 'ci'], cwd=TOP)
+    account = Account(gate.pid)
+    while True:
+        process, status, usage = os.wait4(gate.pid, os.WNOHANG)
+        if process:
+            account.close(usage)
+            return os.waitstatus_to_exitcode(status), account.used
+        try:
+            account.look()
+        except OSError:
+            pass
+        time.sleep(SECONDS_BETWEEN_LOOKS)
+
+
+def print_table(used, seconds):
+    """Prints the minutes of each crate, those of the costliest first, and the sums."""
+    kinds = ('proof', 'tests', 'edits')
+    print(f'\n{"processor minutes":<20}{"proof":>8}{"tests":>8}{"edits":>8}{"sum":>8}   edits')
+    crates = {crate for crate, _ in used}
+    sums = {crate: sum(used[crate, kind] for kind in kinds) for crate in crates}
+    for crate in sorted(crates, key=lambda it: (it == OTHER[0], -sums[it])):
+        line = ''.join(f'{used[crate, kind] / TICKS_A_MINUTE:>8.1f}' for kind in kinds)
+        edits = len(list((TOP / 'crates' / crate / 'must-fail').glob('*.edit')))
+        each = f'   {edits:>3}, {60 * used[crate, "edits"] / TICKS_A_MINUTE / edits:.0f} s each' if edits else ''
+        print(f'{crate:<20}{line}{sums[crate] / TICKS_A_MINUTE:>8.1f}{each}')
+    whole = [sum(used[crate, kind] for crate in crates) for kind in kinds]
+    line = ''.join(f'{it / TICKS_A_MINUTE:>8.1f}' for it in [*whole, sum(whole)])
+    edits = len(list(TOP.glob('crates/*/must-fail/*.edit')))
+    print(f'{"all":<20}{line}   {edits:>3}')
+    print(f'{seconds / 60:.1f} minutes by the clock, with {os.cpu_count()} processors')
+
+
+def main():
+    begin = time.monotonic()
+    status, used = run_gate()
+    print_table(used, time.monotonic() - begin)
+    sys.exit(status)
+
+
+if __name__ == '__main__':
+    main()

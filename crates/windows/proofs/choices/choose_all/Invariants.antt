@@ -1,0 +1,11 @@
+use Rattle.std.proofs.Common.{◌≤◌, take}
+use Rattle.worker_queue.specs.View.{set_of}
+use Rattle.windows.specs.View.{world_of}
+use Rattle.windows.specs.Choosing.{HasPlayed}
+use Rattle.windows.proofs.choices.choose_all.Given as goal
+
+abbrev pub invariant-loop-member : goal.invariant-loop-member
+invariant-loop-member l = record {
+  so_far : HasPlayed l.setting.scenario.now l.least_delay (take l.member-index l.choices) l.handled l.made.rows.items (world_of set_of l.part);
+  few : l.handled ≤ l.member-index;
+}

@@ -1,0 +1,23 @@
+use Rattle.std.proofs.Common.{refl}
+use Rattle.trace.specs.contracts.row.RowOrd.TheImpl.Laws.{total-law}
+use Rattle.windows.specs.declared.choices.Played.{Played}
+use Rattle.windows.proofs.Order.{by_place}
+use Rattle.windows.proofs.PlayEnds.{play_sorted, ordered_by, each_member, whole_run}
+use Rattle.windows.proofs.choices.play.Goals as goal
+
+pub returns-in-Ok-sort-clause-played : goal.returns-in-Ok-sort-clause-played
+returns-in-Ok-sort-clause-played c = play_sorted c.args.scenario.now c.args.choices.now c.in-Ok.played _ c.in-Ok.ensures.played c.in-Ok-sort.ensures.permutation refl refl refl
+
+pub returns-in-Ok-sort-clause-of_each_member : goal.returns-in-Ok-sort-clause-of_each_member
+returns-in-Ok-sort-clause-of_each_member c =
+    let s = c.args.scenario.now in
+    let after : Played = record { rows = c.sort.new.self; handled = c.in-Ok.played.handled; skipped = c.in-Ok.played.skipped; left = c.in-Ok.played.left } in
+    each_member s c.in-Ok.ensures.sound c.args.choices.now after (play_sorted s c.args.choices.now c.in-Ok.played after c.in-Ok.ensures.played c.in-Ok-sort.ensures.permutation refl refl refl) _
+    (ordered_by total-law (λ a b before. by_place a b _ before)) c.in-Ok-sort.ensures.sorted
+
+pub returns-in-Ok-sort-clause-whole : goal.returns-in-Ok-sort-clause-whole
+returns-in-Ok-sort-clause-whole c =
+    let s = c.args.scenario.now in
+    let after : Played = record { rows = c.sort.new.self; handled = c.in-Ok.played.handled; skipped = c.in-Ok.played.skipped; left = c.in-Ok.played.left } in
+    whole_run s c.in-Ok.ensures.sound c.args.choices.now after (play_sorted s c.args.choices.now c.in-Ok.played after c.in-Ok.ensures.played c.in-Ok-sort.ensures.permutation refl refl refl) _
+    (ordered_by total-law (λ a b before. by_place a b _ before)) c.in-Ok-sort.ensures.sorted

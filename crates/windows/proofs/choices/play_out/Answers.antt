@@ -1,0 +1,19 @@
+use Rattle.std.proofs.Common.{subst, refl, arith}
+use Rattle.member.proofs.Fair.{steps_later}
+use Rattle.worker_queue.specs.View.{set_of}
+use Rattle.windows.specs.Play.{IsLeastLeft}
+use Rattle.windows.specs.View.{world_of}
+use Rattle.windows.proofs.PlayEnds.{play_of, least_of_links}
+use Rattle.windows.proofs.choices.play_out.Goals as goal
+
+pub invariant_of-setting : goal.invariant_of-setting
+invariant_of-setting c = record { later = steps_later c.args.scenario.now c.end-end.ensures.sound }
+
+pub returns-clause-played : goal.returns-clause-played
+returns-clause-played c =
+    let s = c.args.scenario.now in
+    let d = c.least_delay-least_delay in
+    let least = least_of_links s d.result (d.ensures.reached s c.in-Ok.ensures) (d.ensures.least s c.in-Ok.ensures) (d.ensures.alone s c.in-Ok.ensures) in
+    let w = world_of set_of c.choose_all.new.part in
+    play_of s d.result c.args.choices.now c.in-Ok-choose_all.handled c.choose_all.new.made.rows.items w _ least c.in-Ok-choose_all.ensures.ok refl refl (omega (arith, c.in-Ok-choose_all.ensures.few))
+    (subst (λ end. IsLeastLeft end w c.left_up_to.result) c.end-end.ensures.value c.left_up_to.ensures)
