@@ -1,11 +1,9 @@
 -- A schedule of safe steps leads to where the run ends, and keeps a cluster whole.
-use Rattle.std.proofs.Common.{◌≡◌, ℕ, ◌<◌, ◌≤◌, true, List, [], ◌∷◌, ◌++◌, Option, Some, None, append_assoc, ap, ◌∙◌, sym, subst, refl, arith, inl, inr}
+use Rattle.std.proofs.Common.{◌≡◌, ℕ, ◌<◌, ◌≤◌, List, [], ◌∷◌, ◌++◌, Option, Some, None, append_assoc, ap, ◌∙◌, sym, subst, refl, arith}
 use Rattle.std.specs.Option.{is_some, option_map}
-use Rattle.std.specs.List.{filter}
 use Rattle.std.specs.FinMap.{get, contains_key}
-use Rattle.std.proofs.lemmas.Bool.{false≢true}
 use Rattle.base.specs.declared.key.Key.{Key}
-use Rattle.base.specs.World.{Machine, World, Outcome, IsPending, IsOver, Run, NextStep, settled, outcome, events_of}
+use Rattle.base.specs.World.{Machine, World, IsOver, Run, NextStep, settled}
 use Rattle.base.specs.Run.{MakesLater, handled, trace, run-exists, one_step, run_more}
 use Rattle.scenario.specs.Setup.{Setup, IsSound}
 use Rattle.trace.specs.declared.row.Row.{Row}

@@ -1,28 +1,26 @@
 -- How the run in turn goes on: what the loop that makes it keeps.
-use Rattle.std.proofs.Common.{◌≡◌, ◌↔◌, All, ℕ, zero, suc, ◌+◌, ◌<◌, ◌≤◌, Bool, true, false, cond, nat_lt, eqb, List, [], ◌∷◌, ◌++◌, map, length, Option, Some, None, append-nil, ap, ◌∙◌, sym, subst, refl, arith}
-use Rattle.std.specs.Option.{IfSome, is_some, option_map}
-use Rattle.std.specs.List.{AllByRecursion, slice_get, range_with_len}
-use Rattle.std.specs.Cmp.{nat_cmp_total, unsigned_tied}
-use Rattle.std.specs.Ordering.{nat_cmp, eq_by_cmp}
-use Rattle.std.specs.FinMap.{FinMap, get, find, entries, from_entries, get-insert, contains_key, nat_cmp-IsAntisymmetric, get-from_entries}
-use Rattle.std.proofs.lemmas.Bool.{false≢true, eqb-true, eq-eqb, ltb-true, ltb-false}
+use Rattle.std.proofs.Common.{◌≡◌, All, ℕ, zero, suc, ◌+◌, ◌<◌, ◌≤◌, true, cond, List, [], ◌∷◌, ◌++◌, length, Option, Some, None, append-nil, ap, ◌∙◌, sym, subst, refl, arith}
+use Rattle.std.specs.Option.{IfSome, is_some}
+use Rattle.std.specs.List.{AllByRecursion, slice_get}
+use Rattle.std.specs.Cmp.{nat_cmp_total}
+use Rattle.std.specs.FinMap.{FinMap, get, contains_key, nat_cmp-IsAntisymmetric}
+use Rattle.std.proofs.lemmas.Bool.{false≢true, eq-eqb, ltb-true}
 use Rattle.std.proofs.lemmas.Option.{same_Some, slice_get_within}
 use Rattle.base.specs.declared.key.Key.{Key}
 use Rattle.base.specs.Order.{key_cmp, key_total, key_exact}
 use Rattle.base.specs.World.{IsPending, IsOver, Run}
-use Rattle.scenario.specs.Setup.{Setup, IsSound, member_count, link_between}
+use Rattle.scenario.specs.Setup.{Setup, IsSound, member_count}
 use Rattle.scenario.specs.Division.{Deal}
 use Rattle.trace.specs.declared.row.Row.{Row}
 use Rattle.member.specs.declared.content.Content.{Content}
 use Rattle.member.specs.declared.event.Event.{Event}
 use Rattle.member.specs.State.{State}
 use Rattle.member.specs.Step.{step}
-use Rattle.member.specs.Opening.{opening, opening_state, numbers}
-use Rattle.member_laws.specs.Runs.{Cluster, IsSoundCluster}
+use Rattle.member.specs.Opening.{opening}
+use Rattle.member_laws.specs.Runs.{Cluster}
 use Rattle.member_laws.proofs.Reached.{rows_named}
 use Rattle.worker_queue.specs.Queue.{NoneIsBelow}
 use Rattle.windows.specs.declared.part.Part.{Part}
-use Rattle.links.specs.Least.{IsReached, IsNoGreater}
 use Rattle.trace.specs.Text.{NamesMembers}
 use Rattle.windows.specs.Window.{is_own}
 use Rattle.windows.proofs.Members.{met_in_part}

@@ -1,15 +1,13 @@
 -- The windows of all parts against the windows of the world that they stand for.
-use Rattle.std.proofs.Common.{◌≡◌, ◌≢◌, ◌⊎◌, ℕ, zero, suc, ◌+◌, ◌<◌, ◌≤◌, Bool, true, false, cond, eqb, nat_lt, unwrap_or, List, [], ◌∷◌, ◌++◌, map, length, Option, Some, None, ap, ◌∙◌, sym, subst, refl, arith, inl, inr}
+use Rattle.std.proofs.Common.{◌≡◌, ◌≢◌, ◌⊎◌, ℕ, zero, suc, ◌+◌, ◌<◌, ◌≤◌, Bool, true, false, eqb, nat_lt, unwrap_or, List, [], ◌∷◌, ◌++◌, map, length, Some, ap, ◌∙◌, sym, subst, refl, arith, inl, inr}
 use Rattle.std.specs.Option.{option_map, is_some}
 use Rattle.std.specs.List.{AllByRecursion, slice_get, flat_map}
-use Rattle.std.specs.Cmp.{nat_cmp_total}
-use Rattle.std.specs.FinMap.{FinMap, get, nat_cmp-IsAntisymmetric}
+use Rattle.std.specs.FinMap.{FinMap}
 use Rattle.std.proofs.lemmas.Bool.{false≢true, eqb-true, eqb-false, ltb-true, ltb-false}
 use Rattle.std.proofs.lemmas.Option.{same_Some, slice_get_within, slice_get_past}
 use Rattle.std.proofs.lemmas.List.{map-append}
 use Rattle.base.specs.declared.key.Key.{Key}
-use Rattle.base.specs.Order.{key_cmp, key_total, key_exact}
-use Rattle.base.specs.World.{IsPending}
+use Rattle.base.specs.Order.{key_cmp}
 use Rattle.base.specs.Rising.{IsRising}
 use Rattle.scenario.specs.Setup.{Setup, member_count}
 use Rattle.scenario.specs.Division.{Deal}

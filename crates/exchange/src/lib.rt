@@ -1,4 +1,5 @@
-//! The run of a scenario: every event in the order of the keys, its rows in the order made.
+//! The run of a scenario, as one or by windows of the parts of a division, and what it writes: its trace,
+//! and the report on that.
 #![tactic(auto)]
 
 mod in_turn;

@@ -1,4 +1,4 @@
-use Rattle.std.proofs.Common.{◌≡◌, ◌<◌, below_more, subst, arith}
+use Rattle.std.proofs.Common.{◌≡◌, below_more, subst, arith}
 use Rattle.scenario.specs.Setup.{member_count}
 use Rattle.windows.specs.Admitting.{opened_below}
 use Rattle.exchange.specs.Parts.{StandFor}

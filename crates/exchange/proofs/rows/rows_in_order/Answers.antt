@@ -1,4 +1,4 @@
-use Rattle.std.proofs.Common.{length, take, ap, ◌∙◌, sym, subst, arith}
+use Rattle.std.proofs.Common.{◌∙◌, sym, subst, arith}
 use Rattle.std.specs.List.Sorted.{IsPermutation, IsSorted}
 use Rattle.trace.specs.contracts.row.RowOrd.TheImpl.{ghosts}
 use Rattle.trace.specs.contracts.row.RowOrd.TheImpl.Laws.{total-law}
