@@ -36,3 +36,4 @@ mod Opened
 pub mod Fresh
 pub mod Exchanged
 pub mod Wholes
+pub mod RowOrders

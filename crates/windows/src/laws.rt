@@ -1,17 +1,18 @@
 //! What holds of every schedule of safe steps and of all windows, stated over the definitions alone.
 
-ghost use Rattle.std.specs.Prelude.{◌≡◌, ◌+◌, ◌<◌, ◌≤◌, ◌++◌, ℕ, Bool, true, List, Option, Some, All};
+ghost use Rattle.std.specs.Prelude.{◌≡◌, ◌+◌, ◌<◌, ◌≤◌, ◌++◌, ℕ, Bool, true, List, Option, Some, All, map};
 ghost use Rattle.std.specs.List.Sorted.{IsPermutation, IsSorted};
 ghost use Rattle.std.specs.FinMap.{get, remove};
 ghost use Rattle.std.specs.declared.cmp.Ordering.{Ordering};
 ghost use Rattle.base.specs.declared.key.Key.{Key};
 ghost use Rattle.base.specs.World.{IsPending, IsOver, Run, events_of, outcome};
-ghost use Rattle.base.specs.Rising.{AreNew};
+ghost use Rattle.base.specs.Rising.{IsRising, IsPlaceBefore, AreNew};
 ghost use Rattle.scenario.specs.Setup.{Setup, IsSound, member_count};
 ghost use Rattle.trace.specs.declared.row.Row.{Row};
 ghost use Rattle.member.specs.declared.content.Content.{Content};
 ghost use Rattle.member.specs.State.{State};
 ghost use Rattle.member.specs.Opening.{opening};
+ghost use Rattle.member.specs.Places.{place_of};
 ghost use Rattle.member.specs.Step.{step};
 ghost use Rattle.member_laws.specs.Runs.{Cluster, IsSoundCluster};
 ghost use Rattle.windows.specs.Schedule.{TestedStep, Schedule, CatchesUp, MeetsState, rows_by};
@@ -174,4 +175,10 @@ pub fn a_part_owns_the_members_of_its_number()
         → IsWholeCluster s w → ((m : ℕ) → division m ≡ part → m < member_count s)
         → PartWindow (step s) (is_own (part_of (is_in division part) w)) bound (part_of (is_in division part) w) keys out rows after
         → PartWindow (step s) (is_in division part) bound (part_of (is_in division part) w) keys out rows after }
+{}
+
+/// The rows of a part's steps stand in row order as they are: by their places, of which no two agree.
+pub fn a_part_writes_in_row_order()
+    ensures { (s : Setup) (owns : ℕ → Bool) (bound : ℕ) (p after : Cluster) (keys : List Key) (out : List (Key × Content)) (rows : List Row)
+        → IsSound s → PartRun (step s) owns bound p keys out rows after → IsRising IsPlaceBefore (map place_of rows) }
 {}
