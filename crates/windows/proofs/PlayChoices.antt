@@ -1,13 +1,13 @@
 -- A choice of a member in a cluster to which choices have led.
 use Rattle.std.proofs.Common.{◌≡◌, ◌++◌, ℕ, ◌+◌, ◌≤◌, Bool, true, false, cond, List, [], ◌∷◌, length, Option, Some, None, append-nil, length-append, ap, ◌∙◌, sym, subst, refl, inl, inr, arith}
-use Rattle.std.specs.Option.{is_some, option_map}
+use Rattle.std.specs.Option.{option_map}
 use Rattle.std.specs.List.{AllByRecursion}
 use Rattle.std.specs.FinMap.{get, contains_key, remove, get-insert}
 use Rattle.std.specs.Ordering.{is_eq}
 use Rattle.std.specs.Cmp.{nat_cmp_total, tied_itself}
 use Rattle.std.proofs.lemmas.List.Elements.{recursion_from_All}
 use Rattle.base.specs.declared.key.Key.{Key}
-use Rattle.base.specs.World.{World, Outcome, with_events, settled, rows_of, events_of, outcome}
+use Rattle.base.specs.World.{Outcome, with_events, settled, rows_of, events_of}
 use Rattle.base.specs.Rising.{AreNew}
 use Rattle.base.proofs.Rising.{all_weaker, new_step}
 use Rattle.scenario.specs.Setup.{Setup, IsSound, member_count}
@@ -22,12 +22,11 @@ use Rattle.member.specs.Opening.{opening}
 use Rattle.member.specs.State.{State}
 use Rattle.member.specs.Step.{step}
 use Rattle.member.proofs.Fair.{steps_numbered}
-use Rattle.member_laws.specs.Words.{IsConsistent, IsAmongMembers}
+use Rattle.member_laws.specs.Words.{IsAmongMembers}
 use Rattle.member_laws.specs.Runs.{Cluster, IsSoundCluster, WearsOut}
 use Rattle.member_laws.proofs.Reached.{step_among}
 use Rattle.windows.specs.Safe.{IsSafe}
-use Rattle.windows.specs.Schedule.{TestedStep}
-use Rattle.windows.specs.Cluster.{UsesUpTo, IsLeastDelay, SafeStep}
+use Rattle.windows.specs.Cluster.{IsLeastDelay, SafeStep}
 use Rattle.windows.specs.Parts.{for_own}
 use Rattle.windows.specs.Window.{is_own}
 use Rattle.windows.specs.Handling.{HandlesTaken, WearsReceiver, made_of, members_after}

@@ -1,5 +1,5 @@
 -- What is promised of choices at their end.
-use Rattle.std.proofs.Common.{◌≡◌, ◌↔◌, ℕ, ◌+◌, ◌<◌, ◌≤◌, true, List, length, Option, Some, None, IfSome, ap, ◌∙◌, sym, subst, refl, arith}
+use Rattle.std.proofs.Common.{◌≡◌, ◌↔◌, ℕ, ◌+◌, ◌<◌, ◌≤◌, List, length, Option, Some, None, IfSome, ap, ◌∙◌, sym, subst, refl, arith}
 use Rattle.std.specs.Option.{is_some, IfNone}
 use Rattle.std.specs.List.Sorted.{IsPermutation, IsSorted}
 use Rattle.std.specs.FinMap.{empty, contains_key, get-empty}
@@ -10,13 +10,13 @@ use Rattle.std.proofs.lemmas.Bool.{false≢true}
 use Rattle.std.proofs.lemmas.List.Sorted.{IsPermutation-refl, IsPermutation-trans}
 use Rattle.base.specs.declared.key.Key.{Key}
 use Rattle.base.specs.Order.{key_cmp, moments-from_not_before}
-use Rattle.base.specs.World.{World, IsPending, IsOver}
+use Rattle.base.specs.World.{World}
 use Rattle.base.specs.Rising.{IsPlaceBefore}
 use Rattle.scenario.specs.Setup.{Setup, IsSound, member_count, link_between}
 use Rattle.links.specs.Least.{IsReached, IsNoGreater}
 use Rattle.trace.specs.declared.row.Row.{Row}
 use Rattle.member.specs.Places.{place_of}
-use Rattle.member_laws.specs.Runs.{Cluster, IsRunOf, WearsOut}
+use Rattle.member_laws.specs.Runs.{Cluster, IsRunOf}
 use Rattle.worker_queue.specs.Queue.{IsLeastKey}
 use Rattle.windows.specs.declared.choices.Played.{Played}
 use Rattle.windows.specs.Schedule.{rows_by}

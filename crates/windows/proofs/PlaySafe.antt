@@ -1,7 +1,7 @@
 -- Which events lie before the moment up to which all next events are safe.
-use Rattle.std.proofs.Common.{◌≡◌, ℕ, ◌+◌, ◌<◌, ◌≤◌, true, Option, Some, None, IfSome, ap, ◌∙◌, sym, arith}
+use Rattle.std.proofs.Common.{◌≡◌, ℕ, ◌<◌, ◌≤◌, Option, Some, None, IfSome, ap, ◌∙◌, sym, arith}
 use Rattle.std.specs.Option.{is_some, IfNone}
-use Rattle.std.specs.FinMap.{FinMap, empty, get, contains_key, get-empty}
+use Rattle.std.specs.FinMap.{empty, contains_key, get-empty}
 use Rattle.std.proofs.lemmas.Bool.{false≢true}
 use Rattle.base.specs.declared.key.Key.{Key}
 use Rattle.base.specs.Order.{key_cmp, moments-from_not_before}

@@ -1,11 +1,10 @@
 -- Who has a state keeps having one, whichever events are handled.
-use Rattle.std.proofs.Common.{◌≡◌, ℕ, true, Bool, List, [], ◌∷◌, Option, Some, None, ap, ◌∙◌, refl}
+use Rattle.std.proofs.Common.{◌≡◌, ℕ, List, [], ◌∷◌, Option, Some, None, ap, ◌∙◌, refl}
 use Rattle.std.specs.Option.{option_map}
 use Rattle.std.specs.FinMap.{get, contains_key}
 use Rattle.base.specs.declared.key.Key.{Key}
 use Rattle.base.specs.World.{Machine, World, settled}
 use Rattle.windows.specs.Schedule.{Schedule}
-use Rattle.windows.specs.Parts.{for_own, for_others}
 use Rattle.windows.proofs.PartRuns.{same_own}
 
 module _ {S C R : Type 0} (step : Machine S C R) where

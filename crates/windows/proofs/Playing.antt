@@ -1,12 +1,11 @@
 -- What choices of members come to from the beginning of a scenario, against its run.
-use Rattle.std.proofs.Common.{◌≡◌, ◌++◌, ℕ, ◌<◌, ◌≤◌, true, List, [], ◌∷◌, Option, Some, ap, ◌∙◌, sym, subst, refl, inl}
+use Rattle.std.proofs.Common.{◌≡◌, ◌++◌, ℕ, ◌<◌, true, List, Option, ap, ◌∙◌, sym, subst}
 use Rattle.std.specs.Option.{is_some}
-use Rattle.std.specs.List.{filter}
 use Rattle.std.specs.List.Sorted.{IsPermutation, IsSorted}
-use Rattle.std.specs.FinMap.{get, contains_key}
+use Rattle.std.specs.FinMap.{contains_key}
 use Rattle.std.specs.declared.cmp.Ordering.{Ordering}
 use Rattle.base.specs.declared.key.Key.{Key}
-use Rattle.base.specs.World.{IsPending, IsOver}
+use Rattle.base.specs.World.{IsOver}
 use Rattle.base.specs.Run.{handled, trace, run-exists, trace-run}
 use Rattle.base.specs.Rising.{IsRising}
 use Rattle.scenario.specs.Setup.{Setup, IsSound, member_count}

@@ -1,9 +1,9 @@
 -- Choices of members as a schedule, over any machine and any test.
-use Rattle.std.proofs.Common.{◌≡◌, ◌⊎◌, ℕ, List, [], ◌∷◌, ◌++◌, append_assoc, append-nil, ap, ◌∙◌, sym, subst, refl, inl, inr}
+use Rattle.std.proofs.Common.{ℕ, List, [], ◌∷◌, ◌++◌, append_assoc, append-nil, ap, ◌∙◌, sym, subst, refl, inl, inr}
 use Rattle.base.specs.declared.key.Key.{Key}
 use Rattle.base.specs.World.{Machine, World}
-use Rattle.windows.specs.Schedule.{TestedStep, Schedule}
-use Rattle.windows.specs.Play.{Chooses, ChoosesAll, NonePasses}
+use Rattle.windows.specs.Schedule.{Schedule}
+use Rattle.windows.specs.Play.{Chooses, ChoosesAll}
 
 module _ {S C R : Type 0} (step : Machine S C R) (Test : World S C → Key → Type 0) where
   -- a choice goes before a schedule
