@@ -1,5 +1,5 @@
 -- A part of one member, and an event that comes to it from elsewhere: what the tests keep.
-use Rattle.std.proofs.Common.{◌≡◌, ℕ, ◌<◌, Bool, true, false, cond, [], Option, Some, None, Result, Ok, Err, OnOk, ap, ◌∙◌, sym, subst, refl, arith}
+use Rattle.std.proofs.Common.{◌≡◌, ℕ, ◌<◌, Bool, true, false, cond, Option, Some, None, Result, Ok, Err, OnOk, ap, ◌∙◌, sym, subst, refl, arith}
 use Rattle.std.specs.Option.{is_some, option_map_or}
 use Rattle.std.specs.List.{AllByRecursion}
 use Rattle.std.specs.Ordering.{nat_cmp, eq_by_cmp, is_lt}

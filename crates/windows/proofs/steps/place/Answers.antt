@@ -1,6 +1,4 @@
-use Rattle.std.specs.FinMap.{contains_key}
 use Rattle.std.proofs.Common.{sym}
-use Rattle.windows.specs.View.{states_in, contents_in}
 use Rattle.windows.proofs.Deliveries.{kept_if_own}
 use Rattle.windows.proofs.steps.place.Goals as goal
 

@@ -1,12 +1,10 @@
-use Rattle.std.proofs.Common.{◌≡◌, ◌<◌, ◌++◌, length, map, Some, Err, ap, ◌∙◌, sym, refl, arith}
+use Rattle.std.proofs.Common.{◌≡◌, ◌<◌, ◌++◌, length, map, Err, ap, ◌∙◌, refl, arith}
 use Rattle.std.specs.Option.{option_map}
-use Rattle.std.specs.List.{slice_get}
 use Rattle.std.specs.FinMap.{insert}
 use Rattle.std.proofs.lemmas.Option.{slice_get_read}
 use Rattle.member.specs.declared.turn.StepError.TheVariants.{Worn}
 use Rattle.member.specs.Step.{step}
 use Rattle.member.specs.View.{state_of, pair_of}
-use Rattle.windows.specs.View.{states_in}
 use Rattle.windows.proofs.Slots.{by_place, nobody_past, receiver_at, put_at, put_back}
 use Rattle.windows.proofs.Deliveries.{handled_by, handled_by_none}
 use Rattle.windows.proofs.own_members.OwnMembers.handle.Goals as goal

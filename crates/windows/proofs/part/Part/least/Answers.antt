@@ -1,5 +1,3 @@
-use Rattle.std.proofs.Common.{ap, ◌∙◌}
-use Rattle.windows.specs.View.{contents_in, content_of}
 use Rattle.windows.proofs.Admitting.{least_asked, none_asked}
 use Rattle.windows.proofs.part.Part.least.Goals as goal
 
