@@ -23,7 +23,7 @@ use Rattle.worker_queue.specs.Queue.{NoneIsBelow}
 use Rattle.windows.specs.declared.part.Part.{Part}
 use Rattle.trace.specs.Text.{NamesMembers}
 use Rattle.windows.specs.Window.{is_own}
-use Rattle.windows.proofs.Members.{met_in_part}
+use Rattle.windows.proofs.Members.{met_in_part, some_delay}
 use Rattle.member.specs.Worn.{IsWorn}
 use Rattle.windows.specs.Parts.{PartRun, part_of, is_in}
 use Rattle.windows.specs.Schedule.{MeetsState}
@@ -31,14 +31,15 @@ use Rattle.windows.specs.Cluster.{IsLeastDelay, IsWholeCluster}
 use Rattle.windows.specs.View.{world_of}
 use Rattle.windows.proofs.Cuts.{get_retained}
 use Rattle.member_laws.specs.Runs.{IsRunOf, WearsOut}
-use Rattle.exchange.specs.Parts.{part_number, NonePendsBefore, OneWears, StandFor, MayTurn, HaveTurned}
+use Rattle.windows.specs.Several.{OneWears}
+use Rattle.exchange.specs.Parts.{part_number, NonePendsBefore, StandFor, MayTurn, HaveTurned}
 use Rattle.exchange.specs.Bounds.{IsNextBound}
 use Rattle.exchange.proofs.Coming.{behind}
 use Rattle.exchange.proofs.Turning.{all_places, world_at, own_by_part}
 use Rattle.exchange.proofs.Lasting.{wears_nothing}
 use Rattle.windows.proofs.Wholes.{pending_kept}
 use Rattle.windows.proofs.Slots.{part_unworn}
-use Rattle.exchange.proofs.Whole.{opening_whole}
+use Rattle.windows.proofs.WholeOpening.{opening_whole}
 use Rattle.exchange.proofs.Turned.{led, stand_after, whole_led, none_led, run_led, met_led}
 
 -- ---- what pends in the parts pends in their world
@@ -95,13 +96,6 @@ not_yet set s deal parts sound stand = record {
 
 -- ---- the next turn
 
-some_delay : (s : Setup) (d : Option ℕ) → IsSound s → IsLeastDelay s d → IfSome d (λ d. 0 < d)
-some_delay s None sound least = tt
-some_delay s (Some d) sound least =
-    let reached = least.0 in
-    let long = (sound.between reached.0 reached.1).delay in
-    omega (arith, long, reached.3)
-
 module _ {Q : Type 0} (set : Q → FinMap key_cmp Event) (s : Setup) (sound : IsSound s) (deal : Deal) (divides : length deal.part_of ≡ member_count s)
     (below : (m : ℕ) → m < member_count s → part_number deal m < deal.parts) (parts : List (Part Q)) (rows : List Row) (from : ℕ) (so_far : IsUnderWay set s deal from parts rows) where
   receiver_below : (q : Key) → IsPending so_far.world q → q.to < member_count s
@@ -130,7 +124,7 @@ module _ {Q : Type 0} (set : Q → FinMap key_cmp Event) (s : Setup) (sound : Is
     }
 
     pub further : (from < bound) × (bound ≤ s.end + 1)
-    further = (let past = next.past (some_delay s d sound least) in let low = next.some from so_far.none in omega arith, next.in_time)
+    further = (let past = next.past (some_delay s sound d least) in let low = next.some from so_far.none in omega arith, next.in_time)
 
     pub goes_on : (after : List (Part Q)) (rows_after : List Row) → HaveTurned set s deal bound parts after rows rows_after → IsUnderWay set s deal bound after rows_after
     goes_on after rows_after turned =

@@ -21,7 +21,8 @@ use Rattle.windows.specs.declared.part.Done.{Done}
 use Rattle.windows.specs.View.{world_of}
 use Rattle.windows.specs.Window.{is_own}
 use Rattle.windows.proofs.RowOrders.{part_rows_rise, sorted_by_places}
-use Rattle.exchange.specs.Parts.{RowsRise, HadWindows}
+use Rattle.windows.specs.Several.{HadWindows}
+use Rattle.exchange.specs.Parts.{RowsRise}
 
 module _ {Q : Type 0} (set : Q → FinMap key_cmp Event) (s : Setup) (sound : IsSound s) (bound : ℕ) where
   -- so does each window

@@ -32,8 +32,9 @@ use Rattle.windows.proofs.Wholes.{pending_kept}
 use Rattle.windows.proofs.Members.{sent_new, windows_here, sound_after, none_left_here, windows_rows, met_here}
 use Rattle.windows.specs.View.{world_of}
 use Rattle.windows.specs.Window.{is_own}
+use Rattle.windows.specs.Several.{HadWindows}
 use Rattle.windows.proofs.PartRuns.{own_run}
-use Rattle.exchange.specs.Parts.{part_number, HaveTheirMembers, StandFor, MayTurn, HadWindows, HaveCome, AddsSorted}
+use Rattle.exchange.specs.Parts.{part_number, HaveTheirMembers, StandFor, MayTurn, HaveCome, AddsSorted}
 use Rattle.exchange.proofs.Coming.{behind}
 use Rattle.exchange.proofs.Turning.{windows_from, rows_same, has_window, out_same, same_count, are_windows, fact_by_number, own_by_part}
 use Rattle.exchange.proofs.Ends.{schedule_end, whole_after}

@@ -25,7 +25,8 @@ use Rattle.windows.specs.View.{world_of}
 use Rattle.windows.specs.Window.{is_own, IsConsistentPart, IsWindow}
 use Rattle.windows.specs.Cluster.{IsWholeCluster}
 use Rattle.windows.proofs.Wholes.{part_consistent, own_here, window_by_number}
-use Rattle.exchange.specs.Parts.{part_number, StandFor, HadWindows}
+use Rattle.windows.specs.Several.{HadWindows}
+use Rattle.exchange.specs.Parts.{part_number, StandFor}
 
 pub all_places : {A : Type 0} (P : A → Type 0) (xs : List A) → ((i : ℕ) (x : A) → slice_get xs i ≡ Some x → P x) → AllByRecursion P xs
 all_places P [] each = tt

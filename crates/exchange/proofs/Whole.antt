@@ -34,31 +34,6 @@ use Rattle.windows.proofs.Wholes.{part_consistent}
 use Rattle.windows.proofs.Members.{sound_stays, sound_opening}
 use Rattle.exchange.proofs.Lasting.{wears_nothing}
 
--- ---- the opening world
-
-pub opening_whole : (s : Setup) → IsSound s → IsWholeCluster s (opening s)
-opening_whole s sound = record {
-  sound = sound_opening s sound;
-  numbered = opening_numbered s;
-  peopled = λ m. by_test m (nat_lt m (member_count s)) refl;
-}
-  where
-    by_test : (m : ℕ) (b : Bool) → nat_lt m (member_count s) ≡ b → contains_key (opening s).members m ≡ b
-    by_test m true h = ap is_some (member_there s m (ltb-true m (member_count s) h))
-    by_test m false h =
-        let past = ltb-false m (member_count s) h in
-        ap is_some (get-from_entries nat_cmp_total (map (λ i. (i, opening_state s i)) (numbers s)) m ∙ find_none s m 0 (member_count s) (omega arith))
-
--- the part of a world that owns every member
-all_of : (w : Cluster) → part_of (λ m. true) w ≡ w
-all_of w =
-    let members = same_map nat_cmp_total nat_cmp-IsAntisymmetric _ _ (get_retained nat_cmp_total nat_cmp-IsAntisymmetric (λ m. true) w.members) in
-    let pending = same_map key_total key_exact _ _ (get_retained key_total key_exact (λ k. true) w.pending) in
-    λ i. record { members = members i; pending = pending i }
-
-pub opening_consistent : (s : Setup) → IsSound s → IsConsistentPart s (opening s)
-opening_consistent s sound = subst (IsConsistentPart s) (all_of (opening s)) (part_consistent s (opening s) (opening_whole s sound) (λ m. true))
-
 -- ---- the window
 
 module _ (s : Setup) (sound : IsSound s) where

@@ -22,8 +22,8 @@ use Rattle.windows.specs.declared.part.Done.{Done}
 use Rattle.windows.specs.Parts.{IsCommonBound, part_of, is_in, for_own, joined}
 use Rattle.windows.specs.Cluster.{IsLeastDelay, IsRowOrder, IsWholeCluster}
 use Rattle.windows.specs.View.{world_of}
-use Rattle.windows.specs.Window.{is_own, IsWindow}
-use Rattle.windows.specs.Wears.{WearsInWindow}
+use Rattle.windows.specs.Window.{is_own}
+use Rattle.windows.specs.Several.{HadWindows}
 
 -- the part of a member, and for whoever is none a number that no part has
 abbrev pub part_number : Deal → ℕ → ℕ
@@ -73,20 +73,6 @@ module _ {Q : Type 0} (set : Q → FinMap key_cmp Event) where
     pub least_delay : Option ℕ
     pub least : IsLeastDelay s least_delay
     pub common : IsCommonBound s.end least_delay world bound
-
-  -- each of these parts had its window
-  abbrev pub HadWindows : Setup → ℕ → List (Part Q) → List (Done Q) → Type 0
-  HadWindows s bound [] [] = Unit {0}
-  HadWindows s bound (p ∷ ps) (d ∷ ds) = IsWindow s bound (world_of set p) d.out.items d.rows.items (world_of set d.part) × HadWindows s bound ps ds
-  HadWindows s bound _ _ = ⊥
-
-  -- one of these parts wears a counter out within its window
-  pub record OneWears (s : Setup) (bound : ℕ) (parts : List (Part Q)) : Type 0 where
-    pub before : List (Part Q)
-    pub part : Part Q
-    pub after : List (Part Q)
-    pub there : parts ≡ before ++ part ∷ after
-    pub wears : WearsInWindow s bound (world_of set part)
 
   -- these events have come to the parts of their receivers
   pub record HaveCome (division : ℕ → ℕ) (before after : List (Part Q)) (events : List (Key × Content)) : Type 0 where

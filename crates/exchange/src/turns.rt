@@ -9,7 +9,8 @@ ghost use Rattle.windows.specs.declared.part.Done.{Done as ADone};
 ghost use Rattle.windows.specs.View.{world_of};
 ghost use Rattle.windows.specs.Window.{IsConsistentPart};
 ghost use Rattle.member_laws.specs.Runs.{IsRunOf, WearsOut};
-ghost use Rattle.exchange.specs.Parts.{part_number, NonePendsBefore, StandFor, MayTurn, HadWindows, OneWears, HaveTurned};
+ghost use Rattle.windows.specs.Several.{HadWindows, OneWears};
+ghost use Rattle.exchange.specs.Parts.{part_number, NonePendsBefore, StandFor, MayTurn, HaveTurned};
 ghost use Rattle.exchange.specs.Bounds.{IsNextBound};
 
 use crate::parts::{deliver, least_moment};

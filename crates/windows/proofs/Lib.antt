@@ -37,3 +37,4 @@ pub mod Fresh
 pub mod Exchanged
 pub mod Wholes
 pub mod RowOrders
+pub mod WholeOpening

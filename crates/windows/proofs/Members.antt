@@ -149,7 +149,7 @@ pub sent_late : (s : Setup) (owns : ℕ → Bool) (bound from : ℕ) (p after : 
 sent_late s owns bound from p after keys out rows sound all run =
     All-from_recursion (λ (e : Key × Content). from + link_delay s e.0.from e.0.to ≤ e.0.at) out (out_late (link_delay s) (step s) (keeps_delays s sound) owns bound from keys p after out rows all run)
 
-some_delay : (s : Setup) → IsSound s → (least_delay : Option ℕ) → IsLeastDelay s least_delay → IfSome least_delay (λ d. 0 < d)
+pub some_delay : (s : Setup) → IsSound s → (least_delay : Option ℕ) → IsLeastDelay s least_delay → IfSome least_delay (λ d. 0 < d)
 some_delay s sound None alone = tt
 some_delay s sound (Some d) is = let link = (sound.between is.0.0 is.0.1).delay.0 in subst (λ n. 0 < n) is.0.3 link
 

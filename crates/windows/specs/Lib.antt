@@ -8,6 +8,7 @@ pub mod Cluster
 pub mod Horizon
 pub mod View
 pub mod Wears
+pub mod Several
 pub mod Window
 pub mod Admitting
 pub mod Handling

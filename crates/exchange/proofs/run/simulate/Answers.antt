@@ -4,7 +4,8 @@ use Rattle.windows.specs.View.{world_of}
 use Rattle.windows.specs.Window.{IsConsistentPart}
 use Rattle.windows.proofs.Slots.{part_unworn}
 use Rattle.worker_queue.specs.View.{set_of}
-use Rattle.exchange.proofs.Whole.{opening_consistent, window_is_run, window_names, window_lasts, window_wears}
+use Rattle.windows.proofs.WholeOpening.{opening_consistent}
+use Rattle.exchange.proofs.Whole.{window_is_run, window_names, window_lasts, window_wears}
 use Rattle.exchange.proofs.run.simulate.Goals as goal
 
 pub run-requires-clause-consistent : goal.run-requires-clause-consistent

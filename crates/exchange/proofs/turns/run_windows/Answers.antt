@@ -4,7 +4,7 @@ use Rattle.member.specs.declared.turn.StepError.TheVariants.{Worn}
 use Rattle.windows.specs.View.{world_of}
 use Rattle.windows.specs.Window.{IsConsistentPart, IsWindow}
 use Rattle.windows.specs.Wears.{WearsInWindow}
-use Rattle.exchange.specs.Parts.{HadWindows}
+use Rattle.windows.specs.Several.{HadWindows}
 use Rattle.exchange.proofs.Turning.{one_window_more}
 use Rattle.exchange.proofs.turns.run_windows.Goals as goal
 

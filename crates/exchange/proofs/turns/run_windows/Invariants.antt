@@ -2,7 +2,7 @@ use Rattle.std.proofs.Common.{◌≡◌, ◌++◌}
 use Rattle.std.specs.List.{AllByRecursion}
 use Rattle.windows.specs.View.{world_of}
 use Rattle.windows.specs.Window.{IsConsistentPart}
-use Rattle.exchange.specs.Parts.{HadWindows}
+use Rattle.windows.specs.Several.{HadWindows}
 use Rattle.exchange.proofs.turns.run_windows.Given as goal
 
 abbrev pub invariant-loop-part : goal.invariant-loop-part
