@@ -1,14 +1,17 @@
 -- How the run in turn goes on: what the loop that makes it keeps.
-use Rattle.std.proofs.Common.{◌≡◌, All, ℕ, zero, suc, ◌+◌, ◌<◌, ◌≤◌, true, cond, List, [], ◌∷◌, ◌++◌, length, Option, Some, None, append-nil, ap, ◌∙◌, sym, subst, refl, arith}
+use Rattle.std.proofs.Common.{◌≡◌, All, ℕ, zero, suc, ◌+◌, ◌<◌, ◌≤◌, true, cond, List, [], ◌∷◌, ◌++◌, length, Option, Some, None, append_assoc, append-nil, ap, ◌∙◌, sym, subst, refl, arith}
 use Rattle.std.specs.Option.{IfSome, is_some}
 use Rattle.std.specs.List.{AllByRecursion, slice_get}
 use Rattle.std.specs.Cmp.{nat_cmp_total}
 use Rattle.std.specs.FinMap.{FinMap, get, contains_key, nat_cmp-IsAntisymmetric}
 use Rattle.std.proofs.lemmas.Bool.{false≢true, eq-eqb, ltb-true}
 use Rattle.std.proofs.lemmas.Option.{same_Some, slice_get_within}
+use Rattle.std.proofs.lemmas.List.Elements.{recursion_from_All, All-from_recursion}
 use Rattle.base.specs.declared.key.Key.{Key}
 use Rattle.base.specs.Order.{key_cmp, key_total, key_exact}
 use Rattle.base.specs.World.{IsPending, IsOver, Run}
+use Rattle.base.specs.Run.{handled, trace, run-exists}
+use Rattle.member.proofs.Fair.{steps_later}
 use Rattle.scenario.specs.Setup.{Setup, IsSound, member_count}
 use Rattle.scenario.specs.Division.{Deal}
 use Rattle.trace.specs.declared.row.Row.{Row}
@@ -34,6 +37,7 @@ use Rattle.member_laws.specs.Runs.{IsRunOf, WearsOut}
 use Rattle.windows.specs.Several.{OneWears}
 use Rattle.exchange.specs.Parts.{part_number, NonePendsBefore, StandFor, MayTurn, HaveTurned}
 use Rattle.exchange.specs.Bounds.{IsNextBound}
+use Rattle.exchange.specs.Promise.{IsBeginning, BeginsRun}
 use Rattle.exchange.proofs.Coming.{behind}
 use Rattle.exchange.proofs.Turning.{all_places, world_at, own_by_part}
 use Rattle.exchange.proofs.Lasting.{wears_nothing}
@@ -126,8 +130,8 @@ module _ {Q : Type 0} (set : Q → FinMap key_cmp Event) (s : Setup) (sound : Is
     pub further : (from < bound) × (bound ≤ s.end + 1)
     further = (let past = next.past (some_delay s sound d least) in let low = next.some from so_far.none in omega arith, next.in_time)
 
-    pub goes_on : (after : List (Part Q)) (rows_after : List Row) → HaveTurned set s deal bound parts after rows rows_after → IsUnderWay set s deal bound after rows_after
-    goes_on after rows_after turned =
+    pub goes_on : (after : List (Part Q)) (made : List Row) → HaveTurned set s deal bound parts after made → IsUnderWay set s deal bound after (rows ++ made)
+    goes_on after made turned =
         let v = (led set s sound deal bound parts turned.done divides may_turn turned.windows).0 in
         let stand = stand_after set s sound deal bound parts turned.done divides may_turn turned.windows after turned.come in
         record {
@@ -136,9 +140,9 @@ module _ {Q : Type 0} (set : Q → FinMap key_cmp Event) (s : Setup) (sound : Is
           whole = whole_led set s sound deal bound parts turned.done divides may_turn turned.windows;
           none = none_of_parts set deal after v stand bound (none_led set s sound deal bound parts turned.done divides may_turn turned.windows below);
           follows = λ keys left last run over.
-              let before = run_led set s sound deal bound parts turned.done divides may_turn turned.windows below rows rows_after left keys last turned.rows run over in
+              let before = run_led set s sound deal bound parts turned.done divides may_turn turned.windows below made left keys last turned.rows run over in
               let all = so_far.follows before.0 before.1 last before.2 over in
-              (all.0, subst (λ l. Run (step s) s.end (opening s) all.0 l last) before.3 all.1);
+              (all.0, subst (λ l. Run (step s) s.end (opening s) all.0 l last) (ap (λ l. rows ++ l) before.3 ∙ sym (append_assoc rows made left)) all.1);
           met = λ m t met. so_far.met m t (met_led set s sound deal bound parts turned.done divides may_turn turned.windows m t met);
         }
 
@@ -162,6 +166,14 @@ module _ {Q : Type 0} (set : Q → FinMap key_cmp Event) (s : Setup) (sound : Is
         after_front [] x ys = refl
         after_front (y ∷ xs) x ys = after_front xs x ys
 
+  -- the rows so far are the first of the run
+  pub begins : BeginsRun s rows
+  begins =
+      let later = steps_later s sound in
+      let left = run-exists (step s) later s.end so_far.world in
+      let all = so_far.follows (handled (step s) later s.end so_far.world) (trace (step s) later s.end so_far.world) left.last left.run left.over in
+      (rows ++ trace (step s) later s.end so_far.world, (all.0, record { last = left.last; run = all.1; over = left.over }), (trace (step s) later s.end so_far.world, refl))
+
   -- where nothing is left up to the end, the run is whole
   pub is_over : NonePendsBefore set parts (s.end + 1) → IsOver s.end so_far.world
   is_over none q here = let low = none_of_it (s.end + 1) none q here in omega arith
@@ -179,6 +191,31 @@ module _ {Q : Type 0} (set : Q → FinMap key_cmp Event) (s : Setup) (sound : Is
 
   pub past_end : s.end < from → NonePendsBefore set parts (s.end + 1)
   past_end past = none_of_parts set deal parts so_far.world so_far.stand (s.end + 1) (λ q here. let low = none_of_it from so_far.none q here in omega arith)
+
+-- ---- the first rows of a run
+
+first_ones : {A : Type 0} (P : A → Type 0) (xs ys : List A) → AllByRecursion P (xs ++ ys) → AllByRecursion P xs
+first_ones P [] ys all = tt
+first_ones P (x ∷ xs) ys all = (all.0, first_ones P xs ys all.1)
+
+later_ones : {A : Type 0} (P : A → Type 0) (xs ys : List A) → AllByRecursion P (xs ++ ys) → AllByRecursion P ys
+later_ones P [] ys all = all
+later_ones P (x ∷ xs) ys all = later_ones P xs ys all.1
+
+module _ (s : Setup) (sound : IsSound s) where
+  names_first : (rows : List Row) → BeginsRun s rows → AllByRecursion (NamesMembers s) rows
+  names_first rows begun =
+      let run = begun.1 in
+      first_ones (NamesMembers s) rows begun.2.0
+      (recursion_from_All (NamesMembers s) (rows ++ begun.2.0) (subst (All (NamesMembers s)) begun.2.1 (rows_named s sound run.0 begun.0 run.1.last run.1.run)))
+
+  -- they name members of the scenario
+  pub names_next : (before made : List Row) → BeginsRun s (before ++ made) → All (NamesMembers s) made
+  names_next before made begun = All-from_recursion (NamesMembers s) made (later_ones (NamesMembers s) before made (names_first (before ++ made) begun))
+
+  pub begins_with : (front rows : List Row) → IsBeginning front rows → BeginsRun s rows → BeginsRun s front
+  begins_with front rows front_of begun =
+      (begun.0, begun.1, (front_of.0 ++ begun.2.0, begun.2.1 ∙ ap (λ l. l ++ begun.2.0) front_of.1 ∙ append_assoc front front_of.0 begun.2.0))
 
 -- ---- a run that comes to its end in parts in memory wore nothing out
 

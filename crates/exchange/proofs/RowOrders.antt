@@ -22,7 +22,7 @@ use Rattle.windows.specs.View.{world_of}
 use Rattle.windows.specs.Window.{is_own}
 use Rattle.windows.proofs.RowOrders.{part_rows_rise, sorted_by_places}
 use Rattle.windows.specs.Several.{HadWindows}
-use Rattle.exchange.specs.Parts.{RowsRise}
+use Rattle.exchange.specs.Parts.{RowsRise, IsInRowOrder}
 
 module _ {Q : Type 0} (set : Q → FinMap key_cmp Event) (s : Setup) (sound : IsSound s) (bound : ℕ) where
   -- so does each window
@@ -37,50 +37,51 @@ module _ {Q : Type 0} (set : Q → FinMap key_cmp Event) (s : Setup) (sound : Is
 
 -- ---- where one part alone wrote rows
 
-module _ (cmp : Row → Row → Ordering) (total : IsTotalOrder cmp) (agrees : (a b : Row) → IsPlaceBefore (place_of a) (place_of b) → cmp a b ≡ Less) where
-  module _ {Q : Type 0} where
-    abbrev wrote : Done Q → Bool
-    wrote d = not (eqb (vec_len d.rows) 0)
+module _ {Q : Type 0} where
+  abbrev wrote : Done Q → Bool
+  wrote d = not (eqb (vec_len d.rows) 0)
 
-    no_rows : (d : Done Q) → wrote d ≡ false → d.rows.items ≡ []
-    no_rows d none = empty_list d.rows.items (by_test (eqb (vec_len d.rows) 0) refl none)
-      where
-        empty_list : (rows : List Row) → length rows ≡ 0 → rows ≡ []
-        empty_list [] e = refl
-        empty_list (row ∷ rows) e = absurd (omega arith)
+  no_rows : (d : Done Q) → wrote d ≡ false → d.rows.items ≡ []
+  no_rows d none = empty_list d.rows.items (by_test (eqb (vec_len d.rows) 0) refl none)
+    where
+      empty_list : (rows : List Row) → length rows ≡ 0 → rows ≡ []
+      empty_list [] e = refl
+      empty_list (row ∷ rows) e = absurd (omega arith)
 
-        by_test : (b : Bool) → eqb (vec_len d.rows) 0 ≡ b → not b ≡ false → length d.rows.items ≡ 0
-        by_test true e h = let many = eqb-true (vec_len d.rows) 0 e in omega (arith, d.rows.ok.0)
-        by_test false e h = absurd (true≢false h)
+      by_test : (b : Bool) → eqb (vec_len d.rows) 0 ≡ b → not b ≡ false → length d.rows.items ≡ 0
+      by_test true e h = let many = eqb-true (vec_len d.rows) 0 e in omega (arith, d.rows.ok.0)
+      by_test false e h = absurd (true≢false h)
 
-    none_or_more : (d : Done Q) (rest : List Row) (n : ℕ) (b : Bool) → wrote d ≡ b → cond b 1 0 + n ≡ 0 → (n ≡ 0 → rest ≡ []) → d.rows.items ++ rest ≡ []
-    none_or_more d rest n true is none later = absurd (omega arith)
-    none_or_more d rest n false is none later = ap (λ l. l ++ rest) (no_rows d is) ∙ later (omega arith)
+  none_or_more : (d : Done Q) (rest : List Row) (n : ℕ) (b : Bool) → wrote d ≡ b → cond b 1 0 + n ≡ 0 → (n ≡ 0 → rest ≡ []) → d.rows.items ++ rest ≡ []
+  none_or_more d rest n true is none later = absurd (omega arith)
+  none_or_more d rest n false is none later = ap (λ l. l ++ rest) (no_rows d is) ∙ later (omega arith)
 
-    none_wrote : (ds : List (Done Q)) → count_by wrote ds ≡ 0 → flat_map (λ d. d.rows.items) ds ≡ []
-    none_wrote [] none = refl
-    none_wrote (d ∷ ds) none =
-        let more = sum_by-cons (λ (d : Done Q). cond (wrote d) 1 0) d ds in
-        none_or_more d (flat_map (λ d. d.rows.items) ds) (count_by wrote ds) (wrote d) refl (omega arith) (none_wrote ds)
+  none_wrote : (ds : List (Done Q)) → count_by wrote ds ≡ 0 → flat_map (λ d. d.rows.items) ds ≡ []
+  none_wrote [] none = refl
+  none_wrote (d ∷ ds) none =
+      let more = sum_by-cons (λ (d : Done Q). cond (wrote d) 1 0) d ds in
+      none_or_more d (flat_map (λ d. d.rows.items) ds) (count_by wrote ds) (wrote d) refl (omega arith) (none_wrote ds)
 
-    one_or_more : (d : Done Q) (rest : List Row) (n : ℕ) (b : Bool) → wrote d ≡ b → cond b 1 0 + n < 2 → IsRising IsPlaceBefore (map place_of d.rows.items) → (n ≡ 0 → rest ≡ [])
-        → (n < 2 → IsRising IsPlaceBefore (map place_of rest)) → IsRising IsPlaceBefore (map place_of (d.rows.items ++ rest))
-    one_or_more d rest n true is few up none later =
-        subst (λ l. IsRising IsPlaceBefore (map place_of l)) (sym (ap (λ l. d.rows.items ++ l) (none (omega arith)) ∙ append-nil d.rows.items)) up
-    one_or_more d rest n false is few up none later = subst (λ l. IsRising IsPlaceBefore (map place_of (l ++ rest))) (sym (no_rows d is)) (later (omega arith))
+  one_or_more : (d : Done Q) (rest : List Row) (n : ℕ) (b : Bool) → wrote d ≡ b → cond b 1 0 + n < 2 → IsRising IsPlaceBefore (map place_of d.rows.items) → (n ≡ 0 → rest ≡ [])
+      → (n < 2 → IsRising IsPlaceBefore (map place_of rest)) → IsRising IsPlaceBefore (map place_of (d.rows.items ++ rest))
+  one_or_more d rest n true is few up none later =
+      subst (λ l. IsRising IsPlaceBefore (map place_of l)) (sym (ap (λ l. d.rows.items ++ l) (none (omega arith)) ∙ append-nil d.rows.items)) up
+  one_or_more d rest n false is few up none later = subst (λ l. IsRising IsPlaceBefore (map place_of (l ++ rest))) (sym (no_rows d is)) (later (omega arith))
 
-    one_alone : (ds : List (Done Q)) → count_by wrote ds < 2 → RowsRise ds → IsRising IsPlaceBefore (map place_of (flat_map (λ d. d.rows.items) ds))
-    one_alone [] few up = tt
-    one_alone (d ∷ ds) few up =
-        let more = sum_by-cons (λ (d : Done Q). cond (wrote d) 1 0) d ds in
-        one_or_more d (flat_map (λ d. d.rows.items) ds) (count_by wrote ds) (wrote d) refl (omega arith) up.0 (none_wrote ds) (λ low. one_alone ds low up.1)
+  pub one_alone : (ds : List (Done Q)) → count_by wrote ds < 2 → RowsRise ds → IsRising IsPlaceBefore (map place_of (flat_map (λ d. d.rows.items) ds))
+  one_alone [] few up = tt
+  one_alone (d ∷ ds) few up =
+      let more = sum_by-cons (λ (d : Done Q). cond (wrote d) 1 0) d ds in
+      one_or_more d (flat_map (λ d. d.rows.items) ds) (count_by wrote ds) (wrote d) refl (omega arith) up.0 (none_wrote ds) (λ low. one_alone ds low up.1)
 
-    pub one_wrote : (ds : List (Done Q)) → count_by wrote ds < 2 → RowsRise ds → IsSorted cmp (flat_map (λ d. d.rows.items) ds)
-    one_wrote ds few up = sorted_by_places cmp total agrees (flat_map (λ d. d.rows.items) ds) (one_alone ds few up)
-
-pub as_it_is : {A : Type 0} (xs ys : List A) → ys ≡ xs → IsPermutation xs ys
+as_it_is : {A : Type 0} (xs ys : List A) → ys ≡ xs → IsPermutation xs ys
 as_it_is xs ys same = record { moves = []; below = tt; is = same }
 
 -- what a sort has written over the whole list
 pub all_written : {A : Type 0} (n : ℕ) (xs ys : List A) → length xs ≡ n → take n (xs ++ ys) ≡ xs
 all_written n xs ys many = subst (λ k. take k (xs ++ ys) ≡ xs) many (take-append_seam xs ys)
+
+-- rows that stand in the order of their places are in row order
+pub in_order_already : (cmp : Row → Row → Ordering) → IsTotalOrder cmp → ((a b : Row) → IsPlaceBefore (place_of a) (place_of b) → cmp a b ≡ Less) → (rows : List Row)
+    → IsRising IsPlaceBefore (map place_of rows) → IsInRowOrder rows rows
+in_order_already cmp total agrees rows up = (cmp, record { total = total; agrees = agrees }, as_it_is rows rows refl, sorted_by_places cmp total agrees rows up)

@@ -34,7 +34,7 @@ use Rattle.windows.specs.View.{world_of}
 use Rattle.windows.specs.Window.{is_own}
 use Rattle.windows.specs.Several.{HadWindows}
 use Rattle.windows.proofs.PartRuns.{own_run}
-use Rattle.exchange.specs.Parts.{part_number, HaveTheirMembers, StandFor, MayTurn, HaveCome, AddsSorted}
+use Rattle.exchange.specs.Parts.{part_number, HaveTheirMembers, StandFor, MayTurn, HaveCome, IsInRowOrder}
 use Rattle.exchange.proofs.Coming.{behind}
 use Rattle.exchange.proofs.Turning.{windows_from, rows_same, has_window, out_same, same_count, are_windows, fact_by_number, own_by_part}
 use Rattle.exchange.proofs.Ends.{schedule_end, whole_after}
@@ -206,16 +206,16 @@ module _ {Q : Type 0} (set : Q → FinMap key_cmp Event) (s : Setup) (sound : Is
   none_led below = none_left_here s ready.least_delay (part_number deal) bound ready.world led.0 windows sound ready.least ready.whole.sound ready.common are (are_whole below) led.2
 
   -- the rows of all windows, sorted, are those of the run before it comes to where it goes on from there
-  pub run_led : ((m : ℕ) → m < member_count s → part_number deal m < deal.parts) → (before after left : List Row) (keys : List Key) (last : Cluster)
-      → AddsSorted (flat_map (λ (d : Done Q). d.rows.items) ds) before after → Run (step s) s.end led.0 keys left last → IsOver s.end last
-      → (ks : List Key) × (run : List Row) × Run (step s) s.end ready.world ks run last × (before ++ run ≡ after ++ left)
-  run_led below before after left keys last adds run over =
+  pub run_led : ((m : ℕ) → m < member_count s → part_number deal m < deal.parts) → (sorted left : List Row) (keys : List Key) (last : Cluster)
+      → IsInRowOrder (flat_map (λ (d : Done Q). d.rows.items) ds) sorted → Run (step s) s.end led.0 keys left last → IsOver s.end last
+      → (ks : List Key) × (run : List Row) × Run (step s) s.end ready.world ks run last × (run ≡ sorted ++ left)
+  run_led below sorted left keys last order run over =
       let ends = schedule_end s sound ready.least_delay ready.least (all_keys windows) ready.world led.0 last (all_rows windows) ready.whole.sound led.1
       (record { keys = keys; rows = left; run = run; over = over }) in
-      let rows = windows_rows s ready.least_delay (part_number deal) bound ready.world led.0 windows ends.keys keys adds.1 ends.rows left adds.0 sound ready.least ready.whole.sound adds.2 ready.common are
+      let rows = windows_rows s ready.least_delay (part_number deal) bound ready.world led.0 windows ends.keys keys sorted ends.rows left order.0 sound ready.least ready.whole.sound order.1 ready.common are
       (are_whole below) led.2 (record { last = last; run = ends.run; over = ends.over }) (record { last = last; run = run; over = over })
-      (subst (λ l. IsPermutation l adds.1) (sym (rows_same set s bound 0 ps ds had)) adds.3) adds.4 in
-      (ends.keys, ends.rows, ends.run, ap (λ l. before ++ l) rows ∙ sym (append_assoc before adds.1 left) ∙ ap (λ l. l ++ left) (sym adds.5))
+      (subst (λ l. IsPermutation l sorted) (sym (rows_same set s bound 0 ps ds had)) order.2) order.3 in
+      (ends.keys, ends.rows, ends.run, rows)
 
   pub met_led : (m : ℕ) (t : State) → MeetsState (step s) s.end led.0 m t → MeetsState (step s) s.end ready.world m t
   met_led m t = met_here s ready.least_delay ready.world led.0 (all_keys windows) (all_rows windows) m t sound ready.least ready.whole.sound led.1

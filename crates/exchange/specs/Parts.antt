@@ -38,10 +38,9 @@ abbrev pub IsUpTo : Option ℕ → ℕ → Type 0
 IsUpTo None t = Unit {0}
 IsUpTo (Some at) t = t ≤ at
 
--- some rows, sorted by an order that agrees with the trace's, follow those before
-abbrev pub AddsSorted : List Row → List Row → List Row → Type 0
-AddsSorted made before after =
-    (cmp : Row → Row → Ordering) × (sorted : List Row) × IsRowOrder cmp × IsPermutation made sorted × IsSorted cmp sorted × (after ≡ before ++ sorted)
+-- the same rows, sorted by an order that agrees with the trace's
+abbrev pub IsInRowOrder : List Row → List Row → Type 0
+IsInRowOrder made sorted = (cmp : Row → Row → Ordering) × IsRowOrder cmp × IsPermutation made sorted × IsSorted cmp sorted
 
 -- the rows of each of these windows stand in the order of their places, and no two of them have one place
 abbrev pub RowsRise : {Q : Type 0} → List (Done Q) → Type 0
@@ -79,10 +78,10 @@ module _ {Q : Type 0} (set : Q → FinMap key_cmp Event) where
     pub count : length after ≡ length before
     pub worlds : (i : ℕ) → option_map (world_of set) (slice_get after i) ≡ option_map (λ p. joined (world_of set p) (for_own (is_in division i) events)) (slice_get before i)
 
-  -- All parts have had their windows, the events that went out have come to their parts, and the rows of all, sorted,
-  -- follow those before.
-  pub record HaveTurned (s : Setup) (deal : Deal) (bound : ℕ) (before after : List (Part Q)) (rows_before rows_after : List Row) : Type 0 where
+  -- All parts have had their windows, the events that went out have come to their parts, and these are the rows of all,
+  -- in row order.
+  pub record HaveTurned (s : Setup) (deal : Deal) (bound : ℕ) (before after : List (Part Q)) (rows : List Row) : Type 0 where
     pub done : List (Done Q)
     pub windows : HadWindows s bound before done
     pub come : HaveCome (part_number deal) (map (λ d. d.part) done) after (map pair_of (flat_map (λ d. d.out.items) done))
-    pub rows : AddsSorted (flat_map (λ d. d.rows.items) done) rows_before rows_after
+    pub rows : IsInRowOrder (flat_map (λ d. d.rows.items) done) rows

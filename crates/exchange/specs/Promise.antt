@@ -1,5 +1,5 @@
--- What a run writes.
-use Rattle.std.specs.Prelude.{◌≡◌, ℕ, ◌⊎◌, List, Option, length}
+-- What a run writes, and how far it has come.
+use Rattle.std.specs.Prelude.{◌≡◌, ℕ, ◌⊎◌, List, ◌++◌, Option, length}
 use Rattle.std.specs.Io.KnownBytes.{Appends, Keeps}
 use Rattle.scenario.specs.Setup.{Setup}
 use Rattle.trace.specs.declared.row.Row.{Row}
@@ -22,3 +22,11 @@ pub record WritesBeginning (s : Setup) (trace_old trace_new report_old report_ne
   pub run : IsRunOf s rows
   pub written : (AppendsBeginning trace_old trace_new (trace_text s rows) × Keeps report_old report_new)
       ⊎ (Appends trace_old trace_new (trace_text s rows) × AppendsBeginning report_old report_new (report_text s rows))
+
+-- these rows are the first of those
+abbrev pub IsBeginning : List Row → List Row → Type 0
+IsBeginning front rows = (rest : List Row) × (rows ≡ front ++ rest)
+
+-- these rows are the first of the scenario's run
+abbrev pub BeginsRun : Setup → List Row → Type 0
+BeginsRun s front = (rows : List Row) × IsRunOf s rows × IsBeginning front rows

@@ -6,11 +6,12 @@ ghost use Rattle.exchange.specs.Promise.{WritesRun, WritesBeginning};
 
 use crate::opening::open_parts;
 use crate::run::{Summary, write_run};
+use crate::row_taker::RowList;
 use crate::setting::Setting;
-use crate::turns::run_turns;
+use crate::turns::{Course, run_turns};
+use crate::window_runner::InTurn;
 use base::{Fault, Memory};
 use links::Links;
-use member::StepError;
 use scenario::{Division, Scenario};
 use std::alloc::Global;
 use std::marker::Sync;
@@ -68,23 +69,36 @@ fn simulate_in_turn(
     alloc: Global,
     scenario: &Scenario,
     division: &Division,
-) -> Result<Vec<Row>, StepError>
+) -> Result<Vec<Row>, Fault>
     requires divides { length division.now.part_of ≡ member_count scenario.now }
     ensures run { IfOk result (λ rows. IsRunOf scenario.now rows.items) }
     ensures named { IfOk result (λ rows. All (NamesMembers scenario.now) rows.items) }
-    ensures worn { IsErrOf result StepError.Worn → WearsOut scenario.now }
+    ensures worn { IsErrOf result Fault.Worn → WearsOut scenario.now }
+    ensures few { IfErr result (λ fault. (fault ≢ Fault.Write) × (fault ≢ Fault.Relay)) }
     ensures lasts { OnOk result (¬ (WearsOut scenario.now)) }
     ensures sound { IsSound scenario.now }
 {
-    let end = scenario.end();
     let links = match Links::of(alloc, scenario) {
         Ok(links) => links,
-        Err(Memory) => return Err(StepError::Memory),
+        Err(Memory) => return Err(Fault::Memory),
     };
-    let setting = Setting { scenario, links };
     let parts = match open_parts(alloc, scenario, division) {
         Ok(parts) => parts,
-        Err(Memory) => return Err(StepError::Memory),
+        Err(Memory) => return Err(Fault::Memory),
     };
-    run_turns(rt, alloc, parts, &setting, division, end)
+    let course = Course {
+        division,
+        end: scenario.end(),
+        least_delay: links.least_delay(),
+    };
+    let setting = Setting { scenario, links };
+    let mut runner = InTurn { setting };
+    let mut list = RowList {
+        scenario,
+        rows: Vec::new(alloc),
+    };
+    match run_turns(rt, alloc, parts, &mut runner, &mut list, &course) {
+        Ok(()) => Ok(list.rows),
+        Err(fault) => Err(fault),
+    }
 }

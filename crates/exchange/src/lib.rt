@@ -6,6 +6,7 @@ mod in_turn;
 mod laws;
 mod opening;
 mod parts;
+mod row_taker;
 mod rows;
 mod run;
 mod setting;
@@ -21,6 +22,7 @@ mod tests_seeds;
 #[cfg(test)]
 mod tests_turns;
 mod turns;
+mod window_runner;
 
 pub use in_turn::run_in_turn;
 pub use laws::{

@@ -67,14 +67,15 @@ pub fn run_one<A: Sink, B: Sink>(
 /// Writes what came of a run: its trace, and then its report, as `run_one` says.
 pub(crate) fn write_run<A: Sink, B: Sink>(
     alloc: Global,
-    outcome: Result<Vec<Row>, StepError>,
+    outcome: Result<Vec<Row>, Fault>,
     scenario: &Scenario,
     trace: &mut A,
     report: &mut B,
 ) -> Result<Summary, Fault>
     requires run { IfOk outcome (λ rows. IsRunOf scenario.now rows.items) }
     requires named { IfOk outcome (λ rows. All (NamesMembers scenario.now) rows.items) }
-    requires worn { IsErrOf outcome StepError.Worn → WearsOut scenario.now }
+    requires worn { IsErrOf outcome Fault.Worn → WearsOut scenario.now }
+    requires no_writes { IfErr outcome (λ fault. (fault ≢ Fault.Write) × (fault ≢ Fault.Relay)) }
     requires lasts { OnOk outcome (¬ (WearsOut scenario.now)) }
     requires sound { IsSound scenario.now }
     requires few { A.failed trace.old < 2 ^ 63 }
@@ -104,8 +105,7 @@ pub(crate) fn write_run<A: Sink, B: Sink>(
 {
     let rows = match outcome {
         Ok(rows) => rows,
-        Err(StepError::Memory) => return Err(Fault::Memory),
-        Err(StepError::Worn) => return Err(Fault::Worn),
+        Err(fault) => return Err(fault),
     };
     match write_trace(alloc, &rows, scenario, trace) {
         Ok(()) => {}
@@ -192,21 +192,22 @@ fn flush<S: Sink>(sink: &mut S) -> Result<(), WriteError>
 
 /// All rows of the scenario's run, in the order made: those of the window of one part, which owns every
 /// member, up to the end.
-pub(crate) fn simulate(alloc: Global, scenario: &Scenario) -> Result<Vec<Row>, StepError>
+pub(crate) fn simulate(alloc: Global, scenario: &Scenario) -> Result<Vec<Row>, Fault>
     ensures run { IfOk result (λ rows. IsRunOf scenario.now rows.items) }
     ensures named { IfOk result (λ rows. All (NamesMembers scenario.now) rows.items) }
-    ensures worn { IsErrOf result StepError.Worn → WearsOut scenario.now }
+    ensures worn { IsErrOf result Fault.Worn → WearsOut scenario.now }
+    ensures few { IfErr result (λ fault. (fault ≢ Fault.Write) × (fault ≢ Fault.Relay)) }
     ensures lasts { OnOk result (¬ (WearsOut scenario.now)) }
     ensures sound { IsSound scenario.now }
 {
     let past_the_end = Moment(scenario.end().ticks() + 1);
     let links = match Links::of(alloc, scenario) {
         Ok(links) => links,
-        Err(Memory) => return Err(StepError::Memory),
+        Err(Memory) => return Err(Fault::Memory),
     };
     let part = match Part::whole(alloc, scenario, TreeQueue::new(alloc)) {
         Ok(part) => part,
-        Err(Memory) => return Err(StepError::Memory),
+        Err(Memory) => return Err(Fault::Memory),
     };
     match part.run(alloc, past_the_end, scenario, &links) {
         Ok(done) => {
@@ -217,6 +218,7 @@ pub(crate) fn simulate(alloc: Global, scenario: &Scenario) -> Result<Vec<Row>, S
             } = done;
             Ok(rows)
         }
-        Err(error) => Err(error),
+        Err(StepError::Memory) => Err(Fault::Memory),
+        Err(StepError::Worn) => Err(Fault::Worn),
     }
 }

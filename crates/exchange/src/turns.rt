@@ -1,23 +1,22 @@
-ghost use Rattle.std.specs.Prelude.{◌≡◌, ◌+◌, ◌<◌, ◌≤◌, ◌^◌, map, flat_map, length, IfOk, OnOk, IfSome, IfNone, All, IsErrOf};
-ghost use Rattle.std.specs.List.{AllByRecursion};
+ghost use Rattle.std.specs.Prelude.{◌≡◌, ◌≢◌, ◌⊎◌, ◌+◌, ◌<◌, ◌≤◌, ◌^◌, [], true, map, flat_map, length, IfOk, OnOk, OnErr, IfErr, IfSome, IfNone, All, IsErrOf};
 ghost use Rattle.scenario.specs.Setup.{IsSound, member_count};
-ghost use Rattle.links.specs.Arrival.{AreLinksOf};
 ghost use Rattle.member.specs.Opening.{opening};
 ghost use Rattle.trace.specs.Text.{NamesMembers};
 ghost use Rattle.windows.specs.declared.part.Part.{Part as APart};
 ghost use Rattle.windows.specs.declared.part.Done.{Done as ADone};
-ghost use Rattle.windows.specs.View.{world_of};
-ghost use Rattle.windows.specs.Window.{IsConsistentPart};
-ghost use Rattle.member_laws.specs.Runs.{IsRunOf, WearsOut};
+ghost use Rattle.windows.specs.Cluster.{IsLeastDelay};
 ghost use Rattle.windows.specs.Several.{HadWindows, OneWears};
+ghost use Rattle.member_laws.specs.Runs.{IsRunOf, WearsOut};
 ghost use Rattle.exchange.specs.Parts.{part_number, NonePendsBefore, StandFor, MayTurn, HaveTurned};
 ghost use Rattle.exchange.specs.Bounds.{IsNextBound};
+ghost use Rattle.exchange.specs.Promise.{BeginsRun};
 
 use crate::parts::{deliver, least_moment};
-use crate::rows::add_rows;
-use crate::setting::Setting;
-use base::{Memory, Moment};
-use member::{Event, StepError};
+use crate::row_taker::RowTaker;
+use crate::rows::{in_row_order, join, writers};
+use crate::window_runner::WindowRunner;
+use base::{Fault, Memory, Moment};
+use member::Event;
 use scenario::Division;
 use std::alloc::Global;
 use std::marker::Sync;
@@ -26,41 +25,57 @@ use trace::Row;
 use windows::{Done, Part};
 use worker_queue::EventQueue;
 
-/// All rows of the run that begins in these parts.
-pub(crate) fn run_turns<Q: EventQueue<Event> + Drop>(
+/// How the cluster of a run is divided, and how long it runs.
+#[derive(Drop)]
+pub(crate) struct Course<'a> {
+    pub(crate) division: &'a Division,
+    pub(crate) end: Moment,
+    pub(crate) least_delay: Option<u64>,
+}
+
+/// Runs the parts in which a run begins, turn after turn, and hands on the rows of each turn.
+pub(crate) fn run_turns<Q: EventQueue<Event> + Drop, W: WindowRunner<Q>, T: RowTaker>(
     rt: &(impl Threads + Sync),
     alloc: Global,
     mut parts: Vec<Part<Q>>,
-    setting: &Setting,
-    division: &Division,
-    end: Moment,
-) -> Result<Vec<Row>, StepError>
-    requires end { end ≡ setting.now.scenario.now.end }
-    requires sound { IsSound setting.now.scenario.now }
-    requires fits { AreLinksOf setting.now.links setting.now.scenario.now }
-    requires divides { length division.now.part_of ≡ member_count setting.now.scenario.now }
-    requires below { (m : _) → m < member_count setting.now.scenario.now → part_number division.now m < division.now.parts }
-    requires opened { StandFor Q.set division.now parts.items (opening setting.now.scenario.now) }
-    ensures run { IfOk result (λ rows. IsRunOf setting.now.scenario.now rows.items) }
-    ensures named { IfOk result (λ rows. All (NamesMembers setting.now.scenario.now) rows.items) }
-    ensures worn { IsErrOf result StepError.Worn → WearsOut setting.now.scenario.now }
-    ensures lasts { OnOk result (¬ (WearsOut setting.now.scenario.now)) }
+    runner: &mut W,
+    taker: &mut T,
+    course: &Course,
+) -> Result<(), Fault>
+    requires one { T.setup taker.old ≡ W.setup runner.old }
+    requires end { course.now.end ≡ (W.setup runner.old).end }
+    requires least { IsLeastDelay (W.setup runner.old) course.now.least_delay }
+    requires sound { IsSound (W.setup runner.old) }
+    requires divides { length course.now.division.now.part_of ≡ member_count (W.setup runner.old) }
+    requires below { (m : _) → m < member_count (W.setup runner.old) → part_number course.now.division.now m < course.now.division.now.parts }
+    requires opened { StandFor Q.set course.now.division.now parts.items (opening (W.setup runner.old)) }
+    requires none_yet { T.taken taker.old ≡ [] }
+    ensures run { OnOk result (IsRunOf (W.setup runner.old) (T.taken taker.new)) }
+    ensures beginning { OnErr result (BeginsRun (W.setup runner.old) (T.taken taker.new)) }
+    ensures lasts { OnOk result (¬ (WearsOut (W.setup runner.old))) }
+    ensures worn { IsErrOf result Fault.Worn → WearsOut (W.setup runner.old) }
+    ensures write { IfErr result (λ fault. fault ≢ Fault.Write) }
+    ensures relay { IsErrOf result Fault.Relay → (W.relays runner.old ≡ true) ⊎ (T.relays taker.old ≡ true) }
 {
-    let least_delay = setting.links.least_delay();
-    let mut rows = Vec::new(alloc);
-    let last = end.ticks();
+    let last = course.end.ticks();
     let mut from = 0;
     while from <= last {
-        let Some(bound) = next_bound(&parts, end, least_delay) else {
-            return Ok(rows);
+        let Some(bound) = next_bound(&parts, course.end, course.least_delay) else {
+            return Ok(());
         };
-        parts = match turn(rt, alloc, parts, bound, setting, division, &mut rows) {
-            Ok(parts) => parts,
-            Err(error) => return Err(error),
+        let turned = match turn(rt, alloc, parts, bound, runner, course.division) {
+            Ok(turned) => turned,
+            Err(fault) => return Err(fault),
         };
+        let Turned { parts: after, rows } = turned;
+        match taker.take(rows) {
+            Ok(()) => {}
+            Err(fault) => return Err(fault),
+        }
+        parts = after;
         from = bound.ticks();
     }
-    Ok(rows)
+    Ok(())
 }
 
 /// The bound of the next windows: None where nothing pends up to the end. The windows may reach past
@@ -105,94 +120,89 @@ fn bound_after(least: u64, last: u64, least_delay: Option<u64>) -> u64
     }
 }
 
-/// Runs the windows of all parts below the bound, one after another, and lets the events that go out
-/// pend in the parts of their receivers. The rows of all follow, sorted.
-fn turn<Q: EventQueue<Event> + Drop>(
+/// What a turn gives.
+#[derive(Drop)]
+struct Turned<Q: EventQueue<Event>> {
+    /// The parts, once what went out has come to them.
+    parts: Vec<Part<Q>>,
+    /// The rows of all, in row order.
+    rows: Vec<Row>,
+}
+
+/// Runs the windows of all parts below the bound, and lets the events that go out pend in the parts of
+/// their receivers.
+fn turn<Q: EventQueue<Event> + Drop, W: WindowRunner<Q>>(
     rt: &(impl Threads + Sync),
     alloc: Global,
     parts: Vec<Part<Q>>,
     bound: Moment,
-    setting: &Setting,
+    runner: &mut W,
     division: &Division,
-    rows: &mut Vec<Row>,
-) -> Result<Vec<Part<Q>>, StepError>
-    requires sound { IsSound setting.now.scenario.now }
-    requires fits { AreLinksOf setting.now.links setting.now.scenario.now }
-    requires divides { length division.now.part_of ≡ member_count setting.now.scenario.now }
-    requires ready { MayTurn Q.set setting.now.scenario.now division.now bound parts.items }
-    ensures ok { IfOk result (λ after. HaveTurned Q.set setting.now.scenario.now division.now bound parts.items after.items rows.old.items rows.new.items) }
-    ensures worn { IsErrOf result StepError.Worn → OneWears Q.set setting.now.scenario.now bound parts.items }
+) -> Result<Turned<Q>, Fault>
+    requires sound { IsSound (W.setup runner.old) }
+    requires divides { length division.now.part_of ≡ member_count (W.setup runner.old) }
+    requires ready { MayTurn Q.set (W.setup runner.old) division.now bound parts.items }
+    ensures ok { IfOk result (λ turned. HaveTurned Q.set (W.setup runner.old) division.now bound parts.items turned.parts.items turned.rows.items) }
+    ensures worn { IsErrOf result Fault.Worn → OneWears Q.set (W.setup runner.old) bound parts.items }
+    ensures write { IfErr result (λ fault. fault ≢ Fault.Write) }
+    ensures relay { IsErrOf result Fault.Relay → W.relays runner.old ≡ true }
+    ensures same { W.setup runner.new ≡ W.setup runner.old }
+    ensures as_before { W.relays runner.new ≡ W.relays runner.old }
 {
-    let done = match run_windows(alloc, parts, bound, setting) {
+    let done = match runner.run_windows(alloc, parts, bound) {
         Ok(done) => done,
-        Err(error) => return Err(error),
+        Err(fault) => return Err(fault),
     };
-    match add_rows(rt, alloc, &done, rows) {
-        Ok(()) => {}
-        Err(Memory) => return Err(StepError::Memory),
-    }
-    let (mut parts, out) = match take_apart(alloc, done) {
-        Ok(pair) => pair,
-        Err(Memory) => return Err(StepError::Memory),
+    let wrote = writers(&done);
+    let gathered = match gather(alloc, done) {
+        Ok(gathered) => gathered,
+        Err(Memory) => return Err(Fault::Memory),
+    };
+    let Gathered {
+        mut parts,
+        out,
+        rows,
+    } = gathered;
+    let rows = match in_row_order(rt, alloc, rows, wrote) {
+        Ok(rows) => rows,
+        Err(Memory) => return Err(Fault::Memory),
     };
     match deliver(&mut parts, out, division) {
-        Ok(()) => Ok(parts),
-        Err(Memory) => Err(StepError::Memory),
+        Ok(()) => Ok(Turned { parts, rows }),
+        Err(Memory) => Err(Fault::Memory),
     }
 }
 
-/// Runs the window of each part below the bound, one after another.
-fn run_windows<Q: EventQueue<Event> + Drop>(
-    alloc: Global,
+/// What the windows of all parts gave, each kind for itself.
+#[derive(Drop)]
+struct Gathered<Q: EventQueue<Event>> {
+    /// The parts after their windows.
     parts: Vec<Part<Q>>,
-    bound: Moment,
-    setting: &Setting,
-) -> Result<Vec<Done<Q>>, StepError>
-    requires sound { IsSound setting.now.scenario.now }
-    requires fits { AreLinksOf setting.now.links setting.now.scenario.now }
-    requires in_time { bound ≤ setting.now.scenario.now.end + 1 }
-    requires consistent { AllByRecursion (λ (part : APart Q). IsConsistentPart setting.now.scenario.now (world_of Q.set part)) parts.items }
-    ensures ok { IfOk result (λ done. HadWindows Q.set setting.now.scenario.now bound parts.items done.items) }
-    ensures worn { IsErrOf result StepError.Worn → OneWears Q.set setting.now.scenario.now bound parts.items }
-{
-    let mut all = Vec::new(alloc);
-    for part in parts {
-        let done = match part.run(alloc, bound, setting.scenario, &setting.links) {
-            Ok(done) => done,
-            Err(error) => return Err(error),
-        };
-        match all.push(done) {
-            Ok(()) => {}
-            Err(_) => return Err(StepError::Memory),
-        }
-    }
-    Ok(all)
+    /// The events for members of other parts.
+    out: Vec<Event>,
+    /// The rows, one window's after another's.
+    rows: Vec<Row>,
 }
 
-/// The parts after their windows, and the events that went out.
-fn take_apart<Q: EventQueue<Event> + Drop>(
+/// Gathers what the windows gave.
+fn gather<Q: EventQueue<Event> + Drop>(
     alloc: Global,
     done: Vec<Done<Q>>,
-) -> Result<(Vec<Part<Q>>, Vec<Event>), Memory>
-    ensures parts { IfOk result (λ apart. apart.0.items ≡ map (λ (d : ADone Q). d.part) done.items) }
-    ensures out { IfOk result (λ apart. apart.1.items ≡ flat_map (λ (d : ADone Q). d.out.items) done.items) }
+) -> Result<Gathered<Q>, Memory>
+    ensures parts { IfOk result (λ all. all.parts.items ≡ map (λ (d : ADone Q). d.part) done.items) }
+    ensures out { IfOk result (λ all. all.out.items ≡ flat_map (λ (d : ADone Q). d.out.items) done.items) }
+    ensures rows { IfOk result (λ all. all.rows.items ≡ flat_map (λ (d : ADone Q). d.rows.items) done.items) }
 {
     let mut parts = Vec::new(alloc);
-    let mut all_out = Vec::new(alloc);
+    let mut out = Vec::new(alloc);
+    let mut rows = Vec::new(alloc);
     for one in done {
-        let Done {
-            part,
-            mut out,
-            rows: _,
-        } = one;
-        match parts.push(part) {
+        match parts.push(one.part) {
             Ok(()) => {}
             Err(_) => return Err(Memory),
         }
-        match all_out.append(&mut out) {
-            Ok(()) => {}
-            Err(_) => return Err(Memory),
-        }
+        join(&mut out, one.out)?;
+        join(&mut rows, one.rows)?;
     }
-    Ok((parts, all_out))
+    Ok(Gathered { parts, out, rows })
 }

@@ -3,7 +3,7 @@ use Rattle.std.specs.List.{AllByRecursion}
 use Rattle.windows.specs.View.{world_of}
 use Rattle.windows.specs.Window.{IsConsistentPart}
 use Rattle.windows.specs.Several.{HadWindows}
-use Rattle.exchange.proofs.turns.run_windows.Given as goal
+use Rattle.exchange.proofs.window_runner.windows_in_turn.Given as goal
 
 abbrev pub invariant-loop-part : goal.invariant-loop-part
 invariant-loop-part g l = record {

@@ -6,7 +6,7 @@ use Rattle.windows.specs.Window.{IsConsistentPart, IsWindow}
 use Rattle.windows.specs.Wears.{WearsInWindow}
 use Rattle.windows.specs.Several.{HadWindows}
 use Rattle.exchange.proofs.Turning.{one_window_more}
-use Rattle.exchange.proofs.turns.run_windows.Goals as goal
+use Rattle.exchange.proofs.window_runner.windows_in_turn.Goals as goal
 
 pub run-requires-clause-consistent : goal.run-requires-clause-consistent
 run-requires-clause-consistent g c =
