@@ -1,7 +1,7 @@
 -- The rows of windows in row order.
 use Rattle.std.proofs.Common.{◌≡◌, ℕ, ◌+◌, ◌<◌, Bool, true, false, cond, not, eqb, List, [], ◌∷◌, ◌++◌, map, length, take, vec_len, append-nil, count_by, ap, ◌∙◌, sym, subst, refl, arith}
 use Rattle.std.specs.List.{flat_map}
-use Rattle.std.specs.List.Sorted.{IsPermutation, IsSorted}
+use Rattle.std.specs.List.Sorted.{IsPermutation}
 use Rattle.std.specs.declared.cmp.Ordering.{Ordering}
 use Rattle.std.specs.declared.cmp.Ordering.TheVariants.{Less}
 use Rattle.std.specs.FinMap.{FinMap}
@@ -38,7 +38,7 @@ module _ {Q : Type 0} (set : Q → FinMap key_cmp Event) (s : Setup) (sound : Is
 -- ---- where one part alone wrote rows
 
 module _ {Q : Type 0} where
-  abbrev wrote : Done Q → Bool
+  abbrev pub wrote : Done Q → Bool
   wrote d = not (eqb (vec_len d.rows) 0)
 
   no_rows : (d : Done Q) → wrote d ≡ false → d.rows.items ≡ []

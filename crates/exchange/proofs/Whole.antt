@@ -1,13 +1,10 @@
 -- The window of the part that owns every member, up to the end, is the run.
-use Rattle.std.proofs.Common.{◌≡◌, ℕ, ◌+◌, ◌<◌, ◌≤◌, Bool, true, false, cond, min, nat_lt, List, [], ◌∷◌, All, map, Option, Some, None, ap, ◌∙◌, sym, subst, refl, arith}
+use Rattle.std.proofs.Common.{◌≡◌, ℕ, ◌+◌, ◌<◌, ◌≤◌, Bool, cond, min, List, [], ◌∷◌, All, map, Option, Some, None, ap, ◌∙◌, sym, subst, refl, arith}
 use Rattle.std.specs.Option.{is_some, option_map}
 use Rattle.std.specs.List.{AllByRecursion}
-use Rattle.std.specs.Cmp.{nat_cmp_total}
-use Rattle.std.specs.FinMap.{get, contains_key, nat_cmp-IsAntisymmetric, get-from_entries, same_map}
-use Rattle.std.proofs.lemmas.Bool.{ltb-true, ltb-false}
+use Rattle.std.specs.FinMap.{get}
 use Rattle.std.proofs.lemmas.List.Elements.{recursion_from_All}
 use Rattle.base.specs.declared.key.Key.{Key}
-use Rattle.base.specs.Order.{key_total, key_exact}
 use Rattle.base.specs.World.{Outcome, IsOver, NextStep, Run, SequentialRun, settled, outcome, events_of}
 use Rattle.base.proofs.Rising.{all_weaker}
 use Rattle.scenario.specs.Setup.{Setup, IsSound, member_count}
@@ -17,20 +14,16 @@ use Rattle.member.specs.declared.content.Content.{Content}
 use Rattle.member.specs.declared.event.Event.{Event}
 use Rattle.member.specs.State.{State}
 use Rattle.member.specs.Step.{step}
-use Rattle.member.specs.Opening.{opening, opening_state, numbers}
+use Rattle.member.specs.Opening.{opening}
 use Rattle.member.specs.View.{pair_of}
 use Rattle.member.specs.Worn.{IsWorn}
 use Rattle.member_laws.specs.Words.{IsAmongMembers}
 use Rattle.member_laws.specs.Runs.{Cluster, IsSoundCluster, IsRunOf, WearsOut}
-use Rattle.member_laws.proofs.Opened.{member_there, opening_numbered}
+use Rattle.member_laws.proofs.Opened.{member_there}
 use Rattle.member_laws.proofs.Reached.{step_among, rows_named}
-use Rattle.windows.specs.Parts.{PartStep, PartRun, PartWindow, kept_by, for_own, part_of}
-use Rattle.windows.specs.Cluster.{IsWholeCluster}
-use Rattle.windows.specs.Window.{is_own, IsConsistentPart, IsWindow}
+use Rattle.windows.specs.Parts.{PartStep, PartRun, PartWindow, kept_by, for_own}
+use Rattle.windows.specs.Window.{is_own, IsWindow}
 use Rattle.windows.specs.Wears.{WearsInWindow}
-use Rattle.windows.proofs.Admitting.{find_none}
-use Rattle.windows.proofs.Cuts.{get_retained}
-use Rattle.windows.proofs.Wholes.{part_consistent}
 use Rattle.windows.proofs.Members.{sound_stays, sound_opening}
 use Rattle.exchange.proofs.Lasting.{wears_nothing}
 

@@ -1,5 +1,5 @@
 -- A cluster that is divided into parts, and what the windows of all parts make of it.
-use Rattle.std.specs.Prelude.{◌≡◌, ◌↔◌, ℕ, ◌<◌, ◌≤◌, true, List, [], ◌∷◌, ◌++◌, map, length, unwrap_or, Option, Some, None}
+use Rattle.std.specs.Prelude.{◌≡◌, ◌↔◌, ℕ, ◌<◌, ◌≤◌, true, List, map, length, unwrap_or, Option, Some, None}
 use Rattle.std.specs.List.{AllByRecursion, slice_get, flat_map}
 use Rattle.std.specs.List.Sorted.{IsPermutation, IsSorted}
 use Rattle.std.specs.Option.{option_map}
@@ -80,8 +80,8 @@ module _ {Q : Type 0} (set : Q → FinMap key_cmp Event) where
 
   -- All parts have had their windows, the events that went out have come to their parts, and these are the rows of all,
   -- in row order.
-  pub record HaveTurned (s : Setup) (deal : Deal) (bound : ℕ) (before after : List (Part Q)) (rows : List Row) : Type 0 where
+  pub record HaveTurned (s : Setup) (deal : Deal) (bound : ℕ) (before after : List (Part Q)) (made : List Row) : Type 0 where
     pub done : List (Done Q)
-    pub windows : HadWindows s bound before done
+    pub windows : HadWindows set s bound before done
     pub come : HaveCome (part_number deal) (map (λ d. d.part) done) after (map pair_of (flat_map (λ d. d.out.items) done))
-    pub rows : IsInRowOrder (flat_map (λ d. d.rows.items) done) rows
+    pub rows : IsInRowOrder (flat_map (λ d. d.rows.items) done) made

@@ -5,8 +5,8 @@ ghost use Rattle.member_laws.specs.Runs.{IsRunOf, WearsOut};
 ghost use Rattle.exchange.specs.Promise.{WritesRun, WritesBeginning};
 
 use crate::opening::open_parts;
-use crate::run::{Summary, write_run};
 use crate::row_taker::RowList;
+use crate::run::{Summary, write_run};
 use crate::setting::Setting;
 use crate::turns::{Course, run_turns};
 use crate::window_runner::InTurn;
@@ -78,6 +78,7 @@ fn simulate_in_turn(
     ensures lasts { OnOk result (¬ (WearsOut scenario.now)) }
     ensures sound { IsSound scenario.now }
 {
+    let end = scenario.end();
     let links = match Links::of(alloc, scenario) {
         Ok(links) => links,
         Err(Memory) => return Err(Fault::Memory),
@@ -88,7 +89,7 @@ fn simulate_in_turn(
     };
     let course = Course {
         division,
-        end: scenario.end(),
+        end,
         least_delay: links.least_delay(),
     };
     let setting = Setting { scenario, links };

@@ -13,7 +13,9 @@ use trace::Row;
 pub(crate) trait RowTaker {
     // the scenario that they are of, the rows so far, and whether any can be lost on the way to whoever writes them
     ghost setup: { Self → Setup };
+
     ghost taken: { Self → List ARow };
+
     ghost relays: { Self → Bool };
 
     /// Takes the rows of the next turn.
@@ -36,7 +38,9 @@ pub(crate) struct RowList<'a> {
 
 impl<'a> RowTaker for RowList<'a> {
     ghost setup = { λ list. list.scenario.now };
+
     ghost taken = { λ list. list.rows.items };
+
     ghost relays = { λ list. false };
 
     fn take(&mut self, rows: Vec<Row>) -> Result<(), Fault> {

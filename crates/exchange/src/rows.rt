@@ -39,11 +39,7 @@ pub(crate) fn in_row_order(
 }
 
 /// Sorts rows into row order.
-fn sort(
-    rt: &(impl Threads + Sync),
-    alloc: Global,
-    rows: &mut Vec<Row>,
-) -> Result<(), AllocError>
+fn sort(rt: &(impl Threads + Sync), alloc: Global, rows: &mut Vec<Row>) -> Result<(), AllocError>
     ensures same { IsPermutation rows.old.items rows.new.items }
     ensures sorted { OnOk result (IsSorted ⟦<Row as Ord>⟧.cmp rows.new.items) }
 {

@@ -1,6 +1,3 @@
-ghost use Rattle.scenario.specs.Setup.{IsSound};
-ghost use Rattle.links.specs.Arrival.{AreLinksOf};
-
 use links::Links;
 use scenario::Scenario;
 
@@ -9,6 +6,4 @@ use scenario::Scenario;
 pub(crate) struct Setting<'a> {
     pub(crate) scenario: &'a Scenario,
     pub(crate) links: Links,
-    ghost sound: { IsSound scenario.now },
-    ghost fits: { AreLinksOf links scenario.now },
 }

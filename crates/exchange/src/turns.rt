@@ -42,6 +42,7 @@ pub(crate) fn run_turns<Q: EventQueue<Event> + Drop, W: WindowRunner<Q>, T: RowT
     taker: &mut T,
     course: &Course,
 ) -> Result<(), Fault>
+    requires runs { W.ready runner.old }
     requires one { T.setup taker.old ≡ W.setup runner.old }
     requires end { course.now.end ≡ (W.setup runner.old).end }
     requires least { IsLeastDelay (W.setup runner.old) course.now.least_delay }
@@ -139,6 +140,7 @@ fn turn<Q: EventQueue<Event> + Drop, W: WindowRunner<Q>>(
     runner: &mut W,
     division: &Division,
 ) -> Result<Turned<Q>, Fault>
+    requires runs { W.ready runner.old }
     requires sound { IsSound (W.setup runner.old) }
     requires divides { length division.now.part_of ≡ member_count (W.setup runner.old) }
     requires ready { MayTurn Q.set (W.setup runner.old) division.now bound parts.items }
@@ -147,6 +149,7 @@ fn turn<Q: EventQueue<Event> + Drop, W: WindowRunner<Q>>(
     ensures write { IfErr result (λ fault. fault ≢ Fault.Write) }
     ensures relay { IsErrOf result Fault.Relay → W.relays runner.old ≡ true }
     ensures same { W.setup runner.new ≡ W.setup runner.old }
+    ensures runs { W.ready runner.new }
     ensures as_before { W.relays runner.new ≡ W.relays runner.old }
 {
     let done = match runner.run_windows(alloc, parts, bound) {

@@ -1,5 +1,4 @@
-use Rattle.std.proofs.Common.{◌≡◌, ◌+◌, Err, ap, sym, subst, arith}
-use Rattle.member.specs.declared.turn.StepError.TheVariants.{Worn}
+use Rattle.std.proofs.Common.{◌+◌, sym, subst, arith}
 use Rattle.windows.specs.View.{world_of}
 use Rattle.windows.specs.Window.{IsConsistentPart}
 use Rattle.windows.proofs.Slots.{part_unworn}
@@ -29,6 +28,5 @@ returns-in-Ok-run-clause-lasts c =
 
 pub returns-clause-worn : goal.returns-clause-worn
 returns-clause-worn c = λ h.
-    let same : c.in-Err-run.error ≡ Worn = cc in
     window_wears c.args.scenario.now c.end.ensures.sound (world_of set_of c.in-Ok-whole.part) (c.ticks.result + 1) c.in-Ok-whole.ensures (omega (arith, c.ticks.ensures, c.end.ensures.value))
-    (c.in-Err-run.ensures.worn (ap Err same))
+    (c.run.ensures.worn cc)

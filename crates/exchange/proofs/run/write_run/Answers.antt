@@ -4,14 +4,8 @@ use Rattle.member_laws.specs.Runs.{IsRunOf}
 use Rattle.exchange.proofs.Runs.{writes_nothing}
 use Rattle.exchange.proofs.run.write_run.Goals as goal
 
-pub returns-in-Err-Memory-clause-beginning : goal.returns-in-Err-Memory-clause-beginning
-returns-in-Err-Memory-clause-beginning g c = writes_nothing c.args.scenario.now _ _ c.requires.sound
-
-pub returns-in-Err-Memory-clause-worn : goal.returns-in-Err-Memory-clause-worn
-returns-in-Err-Memory-clause-worn g c h = cc
-
-pub returns-in-Err-Worn-clause-beginning : goal.returns-in-Err-Worn-clause-beginning
-returns-in-Err-Worn-clause-beginning g c = writes_nothing c.args.scenario.now _ _ c.requires.sound
+pub returns-in-Err-clause-beginning : goal.returns-in-Err-clause-beginning
+returns-in-Err-clause-beginning g c = writes_nothing c.args.scenario.now _ _ c.requires.sound
 
 pub returns-in-Ok-write_report-clause-written : goal.returns-in-Ok-write_report-clause-written
 returns-in-Ok-write_report-clause-written g c = record {

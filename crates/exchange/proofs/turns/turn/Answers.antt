@@ -1,44 +1,46 @@
-use Rattle.std.proofs.Common.{◌<◌, length, map, All, ap, ◌∙◌, sym, subst}
+use Rattle.std.proofs.Common.{◌<◌, length, map, All, count_by, ap, ◌∙◌, sym, subst}
 use Rattle.std.specs.List.{slice_get}
 use Rattle.std.proofs.lemmas.List.Elements.{All-from_recursion}
-use Rattle.base.specs.Rising.{AreNew}
+use Rattle.base.specs.Rising.{IsRising, IsPlaceBefore, AreNew}
+use Rattle.member.specs.Places.{place_of}
 use Rattle.member.specs.declared.event.Event.{Event}
 use Rattle.member.specs.View.{pair_of}
 use Rattle.windows.specs.Parts.{for_own, is_in}
 use Rattle.windows.specs.View.{world_of}
-use Rattle.exchange.specs.Parts.{part_number, RowsRise, HaveTheirMembers}
-use Rattle.exchange.proofs.RowOrders.{windows_rise}
+use Rattle.exchange.specs.Parts.{part_number, HaveTheirMembers}
+use Rattle.exchange.proofs.RowOrders.{wrote, one_alone, windows_rise}
 use Rattle.exchange.proofs.Turning.{parts_consistent}
 use Rattle.exchange.proofs.Turned.{new_to_parts, members_after, named_out, count_after}
 use Rattle.exchange.proofs.turns.turn.Goals as goal
 
 pub run_windows-requires-clause-consistent : goal.run_windows-requires-clause-consistent
 run_windows-requires-clause-consistent g c =
-    parts_consistent g.Q.EventQueue.set c.args.division.now c.args.parts.items c.requires.ready.world c.requires.ready.stand c.args.setting.now.scenario.now c.requires.ready.whole
+    parts_consistent g.Q.EventQueue.set c.args.division.now c.args.parts.items c.requires.ready.world c.requires.ready.stand (g.W.WindowRunner.setup c.args.runner.now) c.requires.ready.whole
 
-pub add_rows-requires-clause-rise : goal.add_rows-requires-clause-rise
-add_rows-requires-clause-rise g c = λ loans lives.
-    subst RowsRise (sym c.deref.ensures.value)
-    (windows_rise g.Q.EventQueue.set c.args.setting.now.scenario.now c.requires.sound c.args.bound c.args.parts.items c.in-Ok.done.items c.in-Ok.ensures.ok)
+pub in_row_order-requires-clause-alone : goal.in_row_order-requires-clause-alone
+in_row_order-requires-clause-alone g c = λ loans lives few.
+    subst (λ l. IsRising IsPlaceBefore (map place_of l)) (sym c.in-Ok-gather.ensures.rows)
+    (one_alone c.in-Ok.done.items (subst (λ n. n < 2) (c.writers-wrote.ensures ∙ ap (count_by wrote) c.deref.ensures.value) few)
+    (windows_rise g.Q.EventQueue.set (g.W.WindowRunner.setup c.args.runner.now) c.requires.sound c.args.bound c.args.parts.items c.in-Ok.done.items c.in-Ok.ensures.ok))
 
 pub deliver-requires-clause-count : goal.deliver-requires-clause-count
 deliver-requires-clause-count g c =
-    ap length c.in-Ok-take_apart.ensures.parts
-    ∙ count_after g.Q.EventQueue.set c.args.setting.now.scenario.now c.requires.sound c.args.division.now c.args.bound c.args.parts.items c.in-Ok.done.items c.requires.divides c.requires.ready c.in-Ok.ensures.ok
+    ap length c.in-Ok-gather.ensures.parts
+    ∙ count_after g.Q.EventQueue.set (g.W.WindowRunner.setup c.args.runner.now) c.requires.sound c.args.division.now c.args.bound c.args.parts.items c.in-Ok.done.items c.requires.divides c.requires.ready c.in-Ok.ensures.ok
 
 pub deliver-requires-clause-named : goal.deliver-requires-clause-named
 deliver-requires-clause-named g c =
-    subst (All (λ (e : Event). e.key.to < length c.args.division.now.part_of)) (sym c.in-Ok-take_apart.ensures.out)
+    subst (All (λ (e : Event). e.key.to < length c.args.division.now.part_of)) (sym c.in-Ok-gather.ensures.out)
     (All-from_recursion (λ (e : Event). e.key.to < length c.args.division.now.part_of) _
-    (named_out g.Q.EventQueue.set c.args.setting.now.scenario.now c.requires.sound c.args.division.now c.args.bound c.args.parts.items c.in-Ok.done.items c.requires.divides c.requires.ready c.in-Ok.ensures.ok))
+    (named_out g.Q.EventQueue.set (g.W.WindowRunner.setup c.args.runner.now) c.requires.sound c.args.division.now c.args.bound c.args.parts.items c.in-Ok.done.items c.requires.divides c.requires.ready c.in-Ok.ensures.ok))
 
 pub deliver-requires-clause-members : goal.deliver-requires-clause-members
 deliver-requires-clause-members g c =
-    subst (HaveTheirMembers g.Q.EventQueue.set c.args.division.now) (sym c.in-Ok-take_apart.ensures.parts)
-    (members_after g.Q.EventQueue.set c.args.setting.now.scenario.now c.requires.sound c.args.division.now c.args.bound c.args.parts.items c.in-Ok.done.items c.requires.divides c.requires.ready c.in-Ok.ensures.ok)
+    subst (HaveTheirMembers g.Q.EventQueue.set c.args.division.now) (sym c.in-Ok-gather.ensures.parts)
+    (members_after g.Q.EventQueue.set (g.W.WindowRunner.setup c.args.runner.now) c.requires.sound c.args.division.now c.args.bound c.args.parts.items c.in-Ok.done.items c.requires.divides c.requires.ready c.in-Ok.ensures.ok)
 
 pub deliver-requires-clause-new : goal.deliver-requires-clause-new
 deliver-requires-clause-new g c = λ i part here.
-    subst (λ l. AreNew (world_of g.Q.EventQueue.set part).pending (for_own (is_in (part_number c.args.division.now) i) (map pair_of l))) (sym c.in-Ok-take_apart.ensures.out)
-    (new_to_parts g.Q.EventQueue.set c.args.setting.now.scenario.now c.requires.sound c.args.division.now c.args.bound c.args.parts.items c.in-Ok.done.items c.requires.divides c.requires.ready c.in-Ok.ensures.ok
-    i part (ap (λ l. slice_get l i) (sym c.in-Ok-take_apart.ensures.parts) ∙ here))
+    subst (λ l. AreNew (world_of g.Q.EventQueue.set part).pending (for_own (is_in (part_number c.args.division.now) i) (map pair_of l))) (sym c.in-Ok-gather.ensures.out)
+    (new_to_parts g.Q.EventQueue.set (g.W.WindowRunner.setup c.args.runner.now) c.requires.sound c.args.division.now c.args.bound c.args.parts.items c.in-Ok.done.items c.requires.divides c.requires.ready c.in-Ok.ensures.ok
+    i part (ap (λ l. slice_get l i) (sym c.in-Ok-gather.ensures.parts) ∙ here))

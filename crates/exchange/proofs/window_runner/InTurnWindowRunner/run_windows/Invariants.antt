@@ -3,11 +3,11 @@ use Rattle.std.specs.List.{AllByRecursion}
 use Rattle.windows.specs.View.{world_of}
 use Rattle.windows.specs.Window.{IsConsistentPart}
 use Rattle.windows.specs.Several.{HadWindows}
-use Rattle.exchange.proofs.window_runner.windows_in_turn.Given as goal
+use Rattle.exchange.proofs.window_runner.InTurnWindowRunner.run_windows.Given as goal
 
 abbrev pub invariant-loop-part : goal.invariant-loop-part
 invariant-loop-part g l = record {
   left : l.yielded ++ l.part-iterator.rest.items ≡ l.fn.parts.items;
-  windows : HadWindows g.Q.EventQueue.set l.setting.scenario.now l.bound l.yielded l.all.items;
-  consistent : AllByRecursion (λ part. IsConsistentPart l.setting.scenario.now (world_of g.Q.EventQueue.set part)) l.part-iterator.rest.items;
+  windows : HadWindows g.Q.EventQueue.set l.self.setting.scenario.now l.bound l.yielded l.all.items;
+  consistent : AllByRecursion (λ part. IsConsistentPart l.self.setting.scenario.now (world_of g.Q.EventQueue.set part)) l.part-iterator.rest.items;
 }

@@ -1,0 +1,18 @@
+use Rattle.std.proofs.Common.{rules}
+use Rattle.trace.specs.contracts.row.RowOrd.TheImpl.Laws.{total-law}
+use Rattle.trace.specs.contracts.row.RowOrd.TheImpl.{ghosts}
+use Rattle.windows.proofs.Order.{by_place}
+use Rattle.exchange.proofs.RowOrders.{in_order_already}
+use Rattle.exchange.proofs.rows.in_row_order.Goals as goal
+
+pub returns-then-writers-lt2 : goal.returns-then-writers-lt2
+returns-then-writers-lt2 g c =
+    in_order_already ghosts.cmp total-law (λ a b before. by_place a b _ before) c.args.rows.items (search rules)
+
+pub returns-in-Ok : goal.returns-in-Ok
+returns-in-Ok g c = (
+  ghosts.cmp,
+  record { total = total-law; agrees = λ a b before. by_place a b _ before },
+  c.sort.ensures.same,
+  c.in-Ok.ensures.sorted,
+)
