@@ -2,9 +2,9 @@
 
 use crate::tests_fixture::Asks::{PeriodTimer, Ping, Start};
 use crate::tests_fixture::{
-    Case, GROWING, GROWING_UNAWARE, Input, ROWS, SILENT, Setting, assert_cases, outcome_of,
+    Case, GROWING, GROWING_UNAWARE, Input, ROWS, SILENT, Setting, assert_cases, assert_lines,
+    outcome_of,
 };
-use incarnation::Claim;
 use incarnation::Claim::{Alive, Confirm, Suspect};
 use std::process::Abort;
 use std::test::Fail;
@@ -12,73 +12,232 @@ use std::test::Fail;
 /// Member 0 starts.
 const START: Input = (0, 0, 0, Start);
 
-/// A claim about member 1 that is held at number 3, the one that comes, its number, and the row where it
-/// is news.
-type Claims = (Claim, Claim, u64, Option<&'static str>);
+/// Of member 1 it is held, at number 3, that it is alive.
+const HELD_ALIVE: Input = (5, 2, 3, Ping(2, 9, &[(1, Alive, 3, 3)]));
+
+/// Or suspected.
+const HELD_SUSPECT: Input = (5, 2, 3, Ping(2, 9, &[(1, Suspect, 3, 3)]));
+
+/// Or confirmed.
+const HELD_CONFIRM: Input = (5, 2, 3, Ping(2, 9, &[(1, Confirm, 3, 3)]));
+
+/// The claim that comes, at 2, 3 or 4.
+const ALIVE_2: Input = (6, 2, 4, Ping(2, 10, &[(1, Alive, 2, 4)]));
+
+const ALIVE_3: Input = (6, 2, 4, Ping(2, 10, &[(1, Alive, 3, 4)]));
+
+const ALIVE_4: Input = (6, 2, 4, Ping(2, 10, &[(1, Alive, 4, 4)]));
+
+const SUSPECT_2: Input = (6, 2, 4, Ping(2, 10, &[(1, Suspect, 2, 4)]));
+
+const SUSPECT_3: Input = (6, 2, 4, Ping(2, 10, &[(1, Suspect, 3, 4)]));
+
+const SUSPECT_4: Input = (6, 2, 4, Ping(2, 10, &[(1, Suspect, 4, 4)]));
+
+const CONFIRM_2: Input = (6, 2, 4, Ping(2, 10, &[(1, Confirm, 2, 4)]));
+
+const CONFIRM_3: Input = (6, 2, 4, Ping(2, 10, &[(1, Confirm, 3, 4)]));
+
+const CONFIRM_4: Input = (6, 2, 4, Ping(2, 10, &[(1, Confirm, 4, 4)]));
+
+/// What a claim about member 1 makes on another that is held. What is news takes the place of what was
+/// passed on.
+struct Claims<'a> {
+    name: &'a str,
+    steps: &'a [Input<'a>],
+    rows: &'a [&'a str],
+    /// The end of the ack: whose claim is passed on.
+    end: &'a str,
+}
+
+/// A claim that is no news.
+const OLD: Claims = Claims {
+    name: "",
+    steps: &[],
+    rows: &["ack 2 10"],
+    end: " by 3\n",
+};
+
+/// A claim that is news.
+const NEW: Claims = Claims {
+    end: " by 4\n",
+    ..OLD
+};
 
 /// Each claim on each other, at 2, 3 and 4. Of two members none more may accuse.
 const CLAIMS: &[Claims] = &[
-    (Alive, Alive, 2, None),
-    (Alive, Alive, 3, None),
-    (Alive, Alive, 4, Some("alive 1 4")),
-    (Alive, Suspect, 2, None),
-    (Alive, Suspect, 3, Some("suspect 1 3")),
-    (Alive, Suspect, 4, Some("suspect 1 4")),
-    (Alive, Confirm, 2, Some("confirm 1 2")),
-    (Alive, Confirm, 3, Some("confirm 1 3")),
-    (Alive, Confirm, 4, Some("confirm 1 4")),
-    (Suspect, Alive, 2, None),
-    (Suspect, Alive, 3, None),
-    (Suspect, Alive, 4, Some("alive 1 4")),
-    (Suspect, Suspect, 2, None),
-    (Suspect, Suspect, 3, None),
-    (Suspect, Suspect, 4, Some("suspect 1 4")),
-    (Suspect, Confirm, 2, Some("confirm 1 2")),
-    (Suspect, Confirm, 3, Some("confirm 1 3")),
-    (Suspect, Confirm, 4, Some("confirm 1 4")),
-    (Confirm, Alive, 2, None),
-    (Confirm, Alive, 3, None),
-    (Confirm, Alive, 4, None),
-    (Confirm, Suspect, 2, None),
-    (Confirm, Suspect, 3, None),
-    (Confirm, Suspect, 4, None),
-    (Confirm, Confirm, 2, None),
-    (Confirm, Confirm, 3, None),
-    (Confirm, Confirm, 4, None),
+    Claims {
+        name: "Alive at 2 on Alive at 3",
+        steps: &[START, HELD_ALIVE, ALIVE_2],
+        ..OLD
+    },
+    Claims {
+        name: "Alive at 3 on Alive at 3",
+        steps: &[START, HELD_ALIVE, ALIVE_3],
+        ..OLD
+    },
+    Claims {
+        name: "Alive at 4 on Alive at 3",
+        steps: &[START, HELD_ALIVE, ALIVE_4],
+        rows: &["alive 1 4", "ack 2 10"],
+        ..NEW
+    },
+    Claims {
+        name: "Suspect at 2 on Alive at 3",
+        steps: &[START, HELD_ALIVE, SUSPECT_2],
+        ..OLD
+    },
+    Claims {
+        name: "Suspect at 3 on Alive at 3",
+        steps: &[START, HELD_ALIVE, SUSPECT_3],
+        rows: &["suspect 1 3", "ack 2 10"],
+        ..NEW
+    },
+    Claims {
+        name: "Suspect at 4 on Alive at 3",
+        steps: &[START, HELD_ALIVE, SUSPECT_4],
+        rows: &["suspect 1 4", "ack 2 10"],
+        ..NEW
+    },
+    Claims {
+        name: "Confirm at 2 on Alive at 3",
+        steps: &[START, HELD_ALIVE, CONFIRM_2],
+        rows: &["confirm 1 2", "ack 2 10"],
+        ..NEW
+    },
+    Claims {
+        name: "Confirm at 3 on Alive at 3",
+        steps: &[START, HELD_ALIVE, CONFIRM_3],
+        rows: &["confirm 1 3", "ack 2 10"],
+        ..NEW
+    },
+    Claims {
+        name: "Confirm at 4 on Alive at 3",
+        steps: &[START, HELD_ALIVE, CONFIRM_4],
+        rows: &["confirm 1 4", "ack 2 10"],
+        ..NEW
+    },
+    Claims {
+        name: "Alive at 2 on Suspect at 3",
+        steps: &[START, HELD_SUSPECT, ALIVE_2],
+        ..OLD
+    },
+    Claims {
+        name: "Alive at 3 on Suspect at 3",
+        steps: &[START, HELD_SUSPECT, ALIVE_3],
+        ..OLD
+    },
+    Claims {
+        name: "Alive at 4 on Suspect at 3",
+        steps: &[START, HELD_SUSPECT, ALIVE_4],
+        rows: &["alive 1 4", "ack 2 10"],
+        ..NEW
+    },
+    Claims {
+        name: "Suspect at 2 on Suspect at 3",
+        steps: &[START, HELD_SUSPECT, SUSPECT_2],
+        ..OLD
+    },
+    Claims {
+        name: "Suspect at 3 on Suspect at 3",
+        steps: &[START, HELD_SUSPECT, SUSPECT_3],
+        ..OLD
+    },
+    Claims {
+        name: "Suspect at 4 on Suspect at 3",
+        steps: &[START, HELD_SUSPECT, SUSPECT_4],
+        rows: &["suspect 1 4", "ack 2 10"],
+        ..NEW
+    },
+    Claims {
+        name: "Confirm at 2 on Suspect at 3",
+        steps: &[START, HELD_SUSPECT, CONFIRM_2],
+        rows: &["confirm 1 2", "ack 2 10"],
+        ..NEW
+    },
+    Claims {
+        name: "Confirm at 3 on Suspect at 3",
+        steps: &[START, HELD_SUSPECT, CONFIRM_3],
+        rows: &["confirm 1 3", "ack 2 10"],
+        ..NEW
+    },
+    Claims {
+        name: "Confirm at 4 on Suspect at 3",
+        steps: &[START, HELD_SUSPECT, CONFIRM_4],
+        rows: &["confirm 1 4", "ack 2 10"],
+        ..NEW
+    },
+    Claims {
+        name: "Alive at 2 on Confirm at 3",
+        steps: &[START, HELD_CONFIRM, ALIVE_2],
+        ..OLD
+    },
+    Claims {
+        name: "Alive at 3 on Confirm at 3",
+        steps: &[START, HELD_CONFIRM, ALIVE_3],
+        ..OLD
+    },
+    Claims {
+        name: "Alive at 4 on Confirm at 3",
+        steps: &[START, HELD_CONFIRM, ALIVE_4],
+        ..OLD
+    },
+    Claims {
+        name: "Suspect at 2 on Confirm at 3",
+        steps: &[START, HELD_CONFIRM, SUSPECT_2],
+        ..OLD
+    },
+    Claims {
+        name: "Suspect at 3 on Confirm at 3",
+        steps: &[START, HELD_CONFIRM, SUSPECT_3],
+        ..OLD
+    },
+    Claims {
+        name: "Suspect at 4 on Confirm at 3",
+        steps: &[START, HELD_CONFIRM, SUSPECT_4],
+        ..OLD
+    },
+    Claims {
+        name: "Confirm at 2 on Confirm at 3",
+        steps: &[START, HELD_CONFIRM, CONFIRM_2],
+        ..OLD
+    },
+    Claims {
+        name: "Confirm at 3 on Confirm at 3",
+        steps: &[START, HELD_CONFIRM, CONFIRM_3],
+        ..OLD
+    },
+    Claims {
+        name: "Confirm at 4 on Confirm at 3",
+        steps: &[START, HELD_CONFIRM, CONFIRM_4],
+        ..OLD
+    },
 ];
 
-/// Asserts what the second of two claims about member 1 makes. What is news takes the place of what was
-/// passed on.
-fn assert_claims(rt: &(impl Abort + AllocGlobal), claims: Claims) -> Result<(), Fail> {
-    let (held, claim, inc, row) = claims;
-    let steps = &[
-        START,
-        (5, 2, 3, Ping(2, 9, &[(1, held, 3, 3)])),
-        (6, 2, 4, Ping(2, 10, &[(1, claim, inc, 4)])),
-    ];
-    let outcome = outcome_of(rt, GROWING, 0, steps, None)?;
-    let (rows, end) = match row {
-        Some(row) => (format!(in rt.alloc(); "{row}\nack 2 10\n")?, " by 4\n"),
-        None => (format!(in rt.alloc(); "ack 2 10\n")?, " by 3\n"),
-    };
-    assert_eq!(rt;
-        outcome.rows.as_str(),
-        rows.as_str(),
-        "{claim:?} {inc} on {held:?}"
-    );
-    assert!(rt;
-        outcome.events.ends_with(end),
-        "{claim:?} {inc} on {held:?}"
-    );
+/// Asserts that a text ends so.
+fn assert_end(rt: &impl Abort, name: &str, text: &str, end: &str) {
+    assert!(rt; text.ends_with(end), "{name}");
+}
+
+/// Asserts what the second of two claims about member 1 makes.
+fn assert_claims(rt: &(impl Abort + AllocGlobal), claims: &Claims) -> Result<(), Fail> {
+    let outcome = outcome_of(rt, GROWING, 0, claims.steps, None)?;
+    assert_lines(rt, claims.name, outcome.rows.as_str(), claims.rows)?;
+    assert_end(rt, claims.name, outcome.events.as_str(), claims.end);
+    Ok(())
+}
+
+/// Asserts it of each case.
+fn assert_all_claims(rt: &(impl Abort + AllocGlobal), cases: &[Claims]) -> Result<(), Fail> {
+    for claims in cases {
+        assert_claims(rt, claims)?;
+    }
     Ok(())
 }
 
 #[test]
 fn each_claim_on_each_other(rt: HostRuntime) -> Result<(), Fail> {
-    for claims in CLAIMS {
-        assert_claims(&rt, *claims)?;
-    }
-    Ok(())
+    assert_all_claims(&rt, CLAIMS)
 }
 
 /// The first period of member 0 begins late.

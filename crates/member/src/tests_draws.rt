@@ -4,9 +4,10 @@ use crate::tests_fixture::Asks::{
     Ack, Crash, Join, JoinTimer, Nack, NackTimer, PeriodTimer, Ping, PingReq, Start,
     SuspicionTimer, TimeoutTimer, Welcome,
 };
-use crate::tests_fixture::{GROWING, Input, Setting, TIMES, outcome_of};
+use crate::tests_fixture::{GROWING, Input, Outcome, Setting, TIMES, assert_text, outcome_of};
 use base::MemberId;
 use incarnation::Claim::{Alive, Confirm, Suspect};
+use std::alloc::AllocError;
 use std::process::Abort;
 use std::test::Fail;
 use streams::Stream;
@@ -243,17 +244,19 @@ fn stream_after(rt: &impl Abort, member: u16, bounds: &[u32]) -> Stream {
     stream
 }
 
+/// Asserts that the next draws of two streams agree.
+fn assert_same(rt: &impl Abort, name: &str, drawn: &mut Stream, wanted: &mut Stream) {
+    let drawn = drawn.below(1_000_000);
+    let wanted = wanted.below(1_000_000);
+    assert_eq!(rt; drawn, wanted, "{name}");
+}
+
 /// Asserts that a member drew what a case says, and no more: the next draws agree.
 fn assert_drawn(rt: &(impl Abort + AllocGlobal), drawn: &Drawn) -> Result<(), Fail> {
-    let name = drawn.name;
     let outcome = outcome_of(rt, drawn.setting, drawn.member, drawn.steps, None)?;
     let mut member = outcome.member;
     let mut wanted = stream_after(rt, drawn.member, drawn.bounds);
-    assert_eq!(rt;
-        member.stream.below(1_000_000),
-        wanted.below(1_000_000),
-        "{name}"
-    );
+    assert_same(rt, drawn.name, &mut member.stream, &mut wanted);
     Ok(())
 }
 
@@ -393,18 +396,32 @@ const LATER: &[Late] = &[
     },
 ];
 
-/// Asserts when the first event comes that the last step makes.
-fn assert_late(rt: &(impl Abort + AllocGlobal), late: &Late) -> Result<(), Fail> {
-    let name = late.name;
-    let outcome = outcome_of(rt, late.setting, late.member, late.steps, None)?;
+/// When the event comes.
+fn moment_of(rt: &impl Abort, late: &Late) -> u64 {
     let mut stream = stream_after(rt, late.member, late.bounds);
     assert!(rt; late.moments >= 1);
     assert!(rt; late.at <= 1 << 40);
-    let at = late.at + u64::from(stream.below(late.moments));
+    late.at + u64::from(stream.below(late.moments))
+}
+
+/// Appends the line of the event, which comes then.
+fn push_late(text: &mut String, late: &Late, at: u64) -> Result<(), AllocError> {
     let number = late.number;
     let told = late.told;
-    let event = format!(in rt.alloc(); "{number} at {at} {told}\n")?;
-    assert!(rt; outcome.events.starts_with(event.as_str()), "{name}");
+    writeln!(text, "{number} at {at} {told}")
+}
+
+/// Asserts that a text begins so.
+fn assert_beginning(rt: &impl Abort, name: &str, text: &str, beginning: &str) {
+    assert!(rt; text.starts_with(beginning), "{name}");
+}
+
+/// Asserts when the first event comes that the last step makes.
+fn assert_late(rt: &(impl Abort + AllocGlobal), late: &Late) -> Result<(), Fail> {
+    let mut event = String::new(rt.alloc());
+    push_late(&mut event, late, moment_of(rt, late))?;
+    let outcome = outcome_of(rt, late.setting, late.member, late.steps, None)?;
+    assert_beginning(rt, late.name, outcome.events.as_str(), event.as_str());
     Ok(())
 }
 
@@ -428,73 +445,156 @@ const THREE: Setting = Setting {
     groups: "[[group]]\nname = \"n\"\ncount = 3\n",
 };
 
-#[test]
-fn rota_is_shuffled_before_the_arrival(rt: HostRuntime) -> Result<(), Fail> {
-    let outcome = outcome_of(&rt, THREE, 0, &[START, FIRST], None)?;
-    let mut stream = stream_after(&rt, 0, &[]);
+/// It starts and begins its first period.
+const PERIOD: &[Input] = &[START, FIRST];
+
+/// The first target of member 0, and when its ping arrives.
+fn drawn_target(rt: &impl Abort) -> (u16, u32) {
+    let mut stream = stream_after(rt, 0, &[]);
     let mut order = [MemberId(1), MemberId(2)];
     stream.shuffle(&mut order);
     let [target, _] = order;
-    let target = target.0;
-    let at = 11 + stream.below(6);
-    let events = format!(in rt.alloc();
-        "2 at {at} to {target} ping 0 1\n3 at 301 to 0 timeout 1\n4 at 1001 to 0 period\n"
-    )?;
-    assert_eq!(rt; outcome.events.as_str(), events.as_str());
+    (target.0, 11 + stream.below(6))
+}
+
+/// Appends the events of the first period, of which the ping arrives then.
+fn push_period(text: &mut String, target: u16, at: u32) -> Result<(), AllocError> {
+    writeln!(text, "2 at {at} to {target} ping 0 1")?;
+    text.push_str("3 at 301 to 0 timeout 1\n4 at 1001 to 0 period\n")
+}
+
+#[test]
+fn rota_is_shuffled_before_the_arrival(rt: HostRuntime) -> Result<(), Fail> {
+    let (target, at) = drawn_target(&rt);
+    let mut events = String::new(rt.alloc());
+    push_period(&mut events, target, at)?;
+    let outcome = outcome_of(&rt, THREE, 0, PERIOD, None)?;
+    assert_text(
+        &rt,
+        "the first period",
+        outcome.events.as_str(),
+        events.as_str(),
+    );
+    Ok(())
+}
+
+/// It hears of two members, and then the time of its probe is up.
+const ASKS: &[Input] = &[START, FIRST, NEWS, (301, 0, 3, TimeoutTimer(1))];
+
+/// Two helpers in the order in which they're asked, and when each request arrives.
+#[derive(Drop)]
+struct Requests {
+    first: u16,
+    soon: u32,
+    second: u16,
+    late: u32,
+}
+
+/// The requests that member 0 draws after the ping, the places of two members, and the ack.
+fn drawn_requests(rt: &impl Abort) -> Requests {
+    let mut stream = stream_after(rt, 0, &[6, 2, 3, 6]);
+    let mut order = [MemberId(2), MemberId(3)];
+    stream.shuffle(&mut order);
+    let [first, second] = order;
+    Requests {
+        first: first.0,
+        second: second.0,
+        soon: 311 + stream.below(6),
+        late: 311 + stream.below(6),
+    }
+}
+
+/// Appends the row of a request.
+fn push_asked(text: &mut String, helper: u16) -> Result<(), AllocError> {
+    writeln!(text, "ping-req {helper} 1")
+}
+
+/// Appends the line of a request.
+fn push_request(text: &mut String, number: u64, at: u32, to: u16) -> Result<(), AllocError> {
+    write!(text, "{number} at {at} to {to} ping-req 1 1")?;
+    text.push_str(", 2 alive 0 by 2, 3 alive 0 by 3\n")
+}
+
+/// Asserts the rows of the requests.
+fn assert_asked(
+    rt: &(impl Abort + AllocGlobal),
+    rows: &str,
+    requests: &Requests,
+) -> Result<(), AllocError> {
+    let mut wanted = String::new(rt.alloc());
+    push_asked(&mut wanted, requests.first)?;
+    push_asked(&mut wanted, requests.second)?;
+    assert_text(rt, "the rows", rows, wanted.as_str());
+    Ok(())
+}
+
+/// Asserts the events of the requests.
+fn assert_requests(
+    rt: &(impl Abort + AllocGlobal),
+    events: &str,
+    requests: &Requests,
+) -> Result<(), AllocError> {
+    let mut wanted = String::new(rt.alloc());
+    push_request(&mut wanted, 6, requests.soon, requests.first)?;
+    push_request(&mut wanted, 7, requests.late, requests.second)?;
+    assert_text(rt, "the events", events, wanted.as_str());
     Ok(())
 }
 
 #[test]
 fn helpers_are_drawn_before_the_arrivals(rt: HostRuntime) -> Result<(), Fail> {
-    let steps = &[START, FIRST, NEWS, (301, 0, 3, TimeoutTimer(1))];
-    let outcome = outcome_of(&rt, JITTER, 0, steps, None)?;
-    // The ping, the places of two members, and the ack.
-    let mut stream = stream_after(&rt, 0, &[6, 2, 3, 6]);
-    let mut order = [MemberId(2), MemberId(3)];
-    stream.shuffle(&mut order);
-    let [first, second] = order;
-    let first = first.0;
-    let second = second.0;
-    let soon = 311 + stream.below(6);
-    let late = 311 + stream.below(6);
-    let rows = format!(in rt.alloc(); "ping-req {first} 1\nping-req {second} 1\n")?;
-    assert_eq!(rt; outcome.rows.as_str(), rows.as_str());
-    let updates = ", 2 alive 0 by 2, 3 alive 0 by 3";
-    let events = format!(in rt.alloc();
-        "6 at {soon} to {first} ping-req 1 1{updates}\n7 at {late} to {second} ping-req 1 1{updates}\n"
-    )?;
-    assert_eq!(rt; outcome.events.as_str(), events.as_str());
+    let requests = drawn_requests(&rt);
+    let outcome = outcome_of(&rt, JITTER, 0, ASKS, None)?;
+    assert_asked(&rt, outcome.rows.as_str(), &requests)?;
+    assert_requests(&rt, outcome.events.as_str(), &requests)?;
     Ok(())
 }
 
-/// The first period of member 0 with this loss: its rows, its first event or nothing, and how many values
-/// the jitter was drawn from, if it was.
-fn assert_loss(rt: &(impl Abort + AllocGlobal), loss: u32, is_lost: bool) -> Result<(), Fail> {
-    let rest = format!(in rt.alloc(); "jitter = 5\nloss = {loss}")?;
+/// The first period of member 0 with this loss.
+fn period_with_loss(rt: &(impl Abort + AllocGlobal), loss: u32) -> Result<Outcome, Fail> {
+    let mut rest = String::new(rt.alloc());
+    write!(rest, "jitter = 5\nloss = {loss}")?;
     let setting = Setting {
         rest: rest.as_str(),
         ..GROWING
     };
-    let outcome = outcome_of(rt, setting, 0, &[START, FIRST], None)?;
-    let mut stream = stream_after(rt, 0, &[1_000_000]);
-    if is_lost {
-        assert_eq!(rt; outcome.rows.as_str(), "ping 1 1 lost\n");
-        assert!(rt; outcome.events.starts_with("3 at 301 to 0 timeout 1\n"));
-    } else {
-        let at = 11 + stream.below(6);
-        let event = format!(in rt.alloc(); "2 at {at} to 1 ping 0 1\n")?;
-        assert_eq!(rt; outcome.rows.as_str(), "ping 1 1\n");
-        assert!(rt; outcome.events.starts_with(event.as_str()));
-    }
+    outcome_of(rt, setting, 0, PERIOD, None)
+}
+
+/// Asserts that the ping of the first period is lost with this loss: nothing more is drawn.
+fn assert_lost(rt: &(impl Abort + AllocGlobal), loss: u32) -> Result<(), Fail> {
+    let outcome = period_with_loss(rt, loss)?;
+    assert_text(rt, "a loss", outcome.rows.as_str(), "ping 1 1 lost\n");
+    let beginning = "3 at 301 to 0 timeout 1\n";
+    assert_beginning(rt, "a loss", outcome.events.as_str(), beginning);
     let mut member = outcome.member;
-    assert_eq!(rt; member.stream.below(1_000_000), stream.below(1_000_000));
+    let mut wanted = stream_after(rt, 0, &[1_000_000]);
+    assert_same(rt, "a loss", &mut member.stream, &mut wanted);
+    Ok(())
+}
+
+/// Appends the line of the ping of the first period.
+fn push_ping(text: &mut String, at: u32) -> Result<(), AllocError> {
+    writeln!(text, "2 at {at} to 1 ping 0 1")
+}
+
+/// Asserts that it arrives with this loss, and that its jitter is drawn after the loss.
+fn assert_sent(rt: &(impl Abort + AllocGlobal), loss: u32) -> Result<(), Fail> {
+    let mut wanted = stream_after(rt, 0, &[1_000_000]);
+    let mut event = String::new(rt.alloc());
+    push_ping(&mut event, 11 + wanted.below(6))?;
+    let outcome = period_with_loss(rt, loss)?;
+    assert_text(rt, "no loss", outcome.rows.as_str(), "ping 1 1\n");
+    assert_beginning(rt, "no loss", outcome.events.as_str(), event.as_str());
+    let mut member = outcome.member;
+    assert_same(rt, "no loss", &mut member.stream, &mut wanted);
     Ok(())
 }
 
 #[test]
 fn loss_is_drawn_before_the_jitter(rt: HostRuntime) -> Result<(), Fail> {
     let drawn = stream_after(&rt, 0, &[]).below(1_000_000);
-    assert_loss(&rt, drawn, false)?;
+    assert_sent(&rt, drawn)?;
     assert!(rt; drawn < 1_000_000);
-    assert_loss(&rt, drawn + 1, true)
+    assert_lost(&rt, drawn + 1)
 }

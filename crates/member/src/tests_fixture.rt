@@ -9,7 +9,7 @@ ghost use Rattle.member.specs.View.{state_of};
 use crate::content::Content;
 use crate::event::{Effects, Event};
 use crate::member::Member;
-use crate::tests_text::{events_text, rows_text, text_of};
+use crate::tests_text::{assert_events, assert_rows, push_events, push_lines, push_rows};
 use crate::turn::StepError;
 use crate::updates::Updates;
 use base::limits::COUNTER_LIMIT;
@@ -323,6 +323,65 @@ fn handle_all(
     Ok(())
 }
 
+/// Asserts that counters are within their limit.
+fn assert_within(rt: &impl Abort, counters: &Counters)
+    ensures next_number { counters.now.next_number ≤ 2 ^ 63 }
+    ensures sequence { counters.now.sequence ≤ 2 ^ 63 }
+    ensures incarnation { counters.now.incarnation ≤ 2 ^ 63 }
+{
+    assert!(rt; counters.next_number <= COUNTER_LIMIT);
+    assert!(rt; counters.sequence <= COUNTER_LIMIT);
+    assert!(rt; counters.incarnation <= COUNTER_LIMIT);
+}
+
+/// What a member's last event made, as lines.
+fn told(
+    rt: &(impl Abort + AllocGlobal),
+    effects: &Effects,
+    step: Input,
+    oneself: MemberId,
+) -> Result<(String, String), AllocError> {
+    assert_rows(rt, &effects.rows, step, oneself);
+    assert_events(rt, &effects.events, step, oneself);
+    let mut rows = String::new(rt.alloc());
+    push_rows(&mut rows, &effects.rows)?;
+    let mut events = String::new(rt.alloc());
+    push_events(&mut events, &effects.events)?;
+    Ok((rows, events))
+}
+
+/// A member handles an event, and is handed back with what it made of it. The counters, if given, are
+/// set before.
+fn outcome_from(
+    rt: &(impl Abort + AllocGlobal),
+    mut member: Member,
+    counters: Option<Counters>,
+    step: Input,
+    oneself: MemberId,
+    scenario: &Scenario,
+    links: &Links,
+) -> Result<Outcome, AllocError>
+    requires links { AreLinksOf links.now scenario.now }
+    requires oneself { oneself < member_count scenario.now }
+    requires known { HoldsMembers scenario.now oneself (state_of member) }
+{
+    if let Some(counters) = counters {
+        assert_within(rt, &counters);
+        member.next_number = counters.next_number;
+        member.sequence = counters.sequence;
+        member.incarnation = counters.incarnation;
+    }
+    let mut out = nothing(rt.alloc());
+    let answer = handle(rt, &mut member, step, oneself, scenario, links, &mut out)?;
+    let (rows, events) = told(rt, &out, step, oneself)?;
+    Ok(Outcome {
+        rows,
+        events,
+        answer,
+        member,
+    })
+}
+
 /// A member of the setting handles events one after another, each but the last without refusal. The
 /// counters, if given, are set before the last.
 pub(crate) fn outcome_of(
@@ -342,22 +401,8 @@ pub(crate) fn outcome_of(
     };
     let mut member = Member::of(alloc, &scenario, oneself)?;
     handle_all(rt, &mut member, earlier, oneself, &scenario, &links)?;
-    if let Some(counters) = counters {
-        assert!(rt; counters.next_number <= COUNTER_LIMIT);
-        assert!(rt; counters.sequence <= COUNTER_LIMIT);
-        assert!(rt; counters.incarnation <= COUNTER_LIMIT);
-        member.next_number = counters.next_number;
-        member.sequence = counters.sequence;
-        member.incarnation = counters.incarnation;
-    }
-    let mut out = nothing(alloc);
-    let answer = handle(rt, &mut member, *last, oneself, &scenario, &links, &mut out)?;
-    Ok(Outcome {
-        rows: rows_text(rt, &out.rows, *last, oneself)?,
-        events: events_text(rt, &out.events, *last, oneself)?,
-        answer,
-        member,
-    })
+    let outcome = outcome_from(rt, member, counters, *last, oneself, &scenario, &links)?;
+    Ok(outcome)
 }
 
 /// No effects.
@@ -368,18 +413,47 @@ fn nothing(alloc: Global) -> Effects {
     }
 }
 
+/// Asserts that a text is these lines.
+pub(crate) fn assert_lines(
+    rt: &(impl Abort + AllocGlobal),
+    name: &str,
+    text: &str,
+    lines: &[&str],
+) -> Result<(), AllocError> {
+    let mut wanted = String::new(rt.alloc());
+    push_lines(&mut wanted, lines)?;
+    assert_text(rt, name, text, wanted.as_str());
+    Ok(())
+}
+
+/// Asserts that a text is the one that is wanted.
+pub(crate) fn assert_text(rt: &impl Abort, name: &str, text: &str, wanted: &str) {
+    assert_eq!(rt; text, wanted, "{name}");
+}
+
+/// Asserts that the last event was not refused.
+pub(crate) fn assert_heard(rt: &impl Abort, name: &str, outcome: &Outcome) {
+    assert_eq!(rt; outcome.answer, Ok(()), "{name}");
+}
+
+/// Asserts that an outcome is as a case says.
+fn assert_outcome(
+    rt: &(impl Abort + AllocGlobal),
+    case: &Case,
+    outcome: &Outcome,
+) -> Result<(), AllocError> {
+    assert_heard(rt, case.name, outcome);
+    assert_lines(rt, case.name, outcome.rows.as_str(), case.rows)?;
+    match case.events {
+        None => Ok(()),
+        Some(events) => assert_lines(rt, case.name, outcome.events.as_str(), events),
+    }
+}
+
 /// Asserts that a case comes out as it says.
 fn assert_case(rt: &(impl Abort + AllocGlobal), case: &Case) -> Result<(), Fail> {
-    let name = case.name;
     let outcome = outcome_of(rt, case.setting, case.member, case.steps, None)?;
-    assert_eq!(rt; outcome.answer, Ok(()), "{name}");
-    let rows = text_of(rt.alloc(), case.rows)?;
-    assert_eq!(rt; outcome.rows.as_str(), rows.as_str(), "{name}");
-    if let Some(events) = case.events {
-        let events = text_of(rt.alloc(), events)?;
-        assert_eq!(rt; outcome.events.as_str(), events.as_str(), "{name}");
-    }
-    Ok(())
+    Ok(assert_outcome(rt, case, &outcome)?)
 }
 
 /// Asserts that each case comes out as it says.

@@ -4,8 +4,8 @@ use crate::tests_fixture::Asks::{
     Ack, Nack, NackTimer, PeriodTimer, Ping, PingReq, Start, TimeoutTimer,
 };
 use crate::tests_fixture::{
-    Case, GROWING, GROWING_LOST, GROWING_UNAWARE, Input, PAIR, ROWS, SILENT, Setting, Told,
-    assert_cases, outcome_of,
+    Case, GROWING, GROWING_LOST, GROWING_UNAWARE, Input, Outcome, PAIR, ROWS, SILENT, Setting,
+    Told, assert_cases, outcome_of,
 };
 use base::MemberId;
 use incarnation::Claim::{Alive, Confirm, Suspect};
@@ -194,17 +194,28 @@ const ASKS: &[Input] = &[
     TIMEOUT,
 ];
 
-/// Asserts how many are asked.
-fn assert_asked(rt: &(impl Abort + AllocGlobal), case: &Asked) -> Result<(), Fail> {
+/// Asserts how many requests are among the rows.
+fn assert_requests(rt: &impl Abort, case: &Asked, outcome: &Outcome) {
     let Setting { swim, rest, .. } = case.setting;
-    let outcome = outcome_of(rt, case.setting, 0, ASKS, None)?;
     let asked = outcome.rows.matches("ping-req").count();
     assert_eq!(rt; asked, case.asked, "{swim} {rest}");
+}
+
+/// Asserts that the probe that is under way is this.
+fn assert_probe(rt: &impl Abort, setting: Setting, outcome: &Outcome, wanted: Probe) {
+    let Setting { swim, rest, .. } = setting;
+    assert_eq!(rt; outcome.member.probe, Some(wanted), "{swim} {rest}");
+}
+
+/// Asserts how many are asked.
+fn assert_asked(rt: &(impl Abort + AllocGlobal), case: &Asked) -> Result<(), Fail> {
+    let outcome = outcome_of(rt, case.setting, 0, ASKS, None)?;
+    assert_requests(rt, case, &outcome);
     let probe = Probe {
         expected: case.expected,
         ..Probe::new(1, MemberId(1))
     };
-    assert_eq!(rt; outcome.member.probe, Some(probe), "{swim} {rest}");
+    assert_probe(rt, case.setting, &outcome, probe);
     Ok(())
 }
 
@@ -594,7 +605,7 @@ fn assert_nacks(rt: &(impl Abort + AllocGlobal), steps: &[Input], nacks: u8) -> 
         nacks,
         ..Probe::new(1, MemberId(1))
     };
-    assert_eq!(rt; outcome.member.probe, Some(wanted), "{nacks}");
+    assert_probe(rt, PAIR, &outcome, wanted);
     Ok(())
 }
 

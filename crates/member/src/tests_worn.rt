@@ -4,9 +4,9 @@ use crate::tests_fixture::Asks::{
     Ack, Crash, Join, Nack, NackTimer, PeriodTimer, Ping, PingReq, Start, SuspicionTimer,
 };
 use crate::tests_fixture::{
-    ALONE, Counters, GROWING, GROWING_LOST, Input, PAIR, Setting, outcome_of,
+    ALONE, Counters, GROWING, GROWING_LOST, Input, Outcome, PAIR, Setting, assert_heard,
+    assert_lines, assert_text, outcome_of,
 };
-use crate::tests_text::text_of;
 use crate::turn::StepError;
 use base::limits::COUNTER_LIMIT;
 use incarnation::Claim::{Alive, Suspect};
@@ -255,23 +255,22 @@ const UNCOUNTED_EVENTS: &[Limited] = &[
     },
 ];
 
+/// Asserts that the last event was refused as worn.
+fn assert_worn(rt: &impl Abort, name: &str, outcome: &Outcome) {
+    assert_eq!(rt; outcome.answer, Err(StepError::Worn), "{name}");
+}
+
 /// Asserts that a case comes out as it says.
 fn assert_limited(rt: &(impl Abort + AllocGlobal), limited: &Limited) -> Result<(), Fail> {
-    let name = limited.name;
-    let outcome = outcome_of(
-        rt,
-        limited.setting,
-        0,
-        limited.steps,
-        Some(limited.counters),
-    )?;
-    let Some(rows) = limited.rows else {
-        assert_eq!(rt; outcome.answer, Err(StepError::Worn), "{name}");
-        return Ok(());
-    };
-    assert_eq!(rt; outcome.answer, Ok(()), "{name}");
-    let rows = text_of(rt.alloc(), rows)?;
-    assert_eq!(rt; outcome.rows.as_str(), rows.as_str(), "{name}");
+    let counters = Some(limited.counters);
+    let outcome = outcome_of(rt, limited.setting, 0, limited.steps, counters)?;
+    match limited.rows {
+        None => assert_worn(rt, limited.name, &outcome),
+        Some(rows) => {
+            assert_heard(rt, limited.name, &outcome);
+            assert_lines(rt, limited.name, outcome.rows.as_str(), rows)?;
+        }
+    }
     Ok(())
 }
 
@@ -288,13 +287,15 @@ fn senders_number_wears_out(rt: HostRuntime) -> Result<(), Fail> {
     assert_all_limited(&rt, NUMBERS)
 }
 
+/// It starts and probes.
+const PERIOD: &[Input] = &[START, FIRST];
+
 #[test]
 fn last_number_is_the_period_timers(rt: HostRuntime) -> Result<(), Fail> {
-    let outcome = outcome_of(&rt, ALONE, 0, &[START, FIRST], Some(ONE_NUMBER))?;
-    assert_eq!(rt;
-        outcome.events.as_str(),
-        "9223372036854775807 at 1001 to 0 period\n"
-    );
+    let outcome = outcome_of(&rt, ALONE, 0, PERIOD, Some(ONE_NUMBER))?;
+    let name = "the last number";
+    let wanted = "9223372036854775807 at 1001 to 0 period\n";
+    assert_text(&rt, name, outcome.events.as_str(), wanted);
     assert_eq!(rt; outcome.member.next_number, COUNTER_LIMIT);
     Ok(())
 }
