@@ -30,7 +30,7 @@ const FAULTS: [(usize, &[u8], DivisionFault); 11] = [
 ];
 
 /// Numbers of parts, and of the parts of the two members.
-const DIVISIONS: [(usize, &[u8]); 4] = [(1, &[0, 0]), (2, &[1, 0]), (3, &[0, 2]), (64, &[63, 7])];
+const DIVISIONS: [(usize, [u8; 2]); 4] = [(1, [0, 0]), (2, [1, 0]), (3, [0, 2]), (64, [63, 7])];
 
 /// The division of the two members by these part numbers.
 fn divide(
@@ -47,12 +47,11 @@ fn divide(
 }
 
 /// Asserts the parts of a division, and which of them each of the two members is in.
-fn assert_parts(rt: &impl Abort, division: &Division, parts: usize, numbers: &[u8]) {
+fn assert_parts(rt: &impl Abort, division: &Division, parts: usize, numbers: &[u8; 2]) {
     assert_eq!(rt; division.parts(), parts);
     assert_eq!(rt; division.members(), 2);
-    for (member, number) in [MemberId(0), MemberId(1)].iter().zip(numbers) {
-        assert_eq!(rt; division.part(*member), *number as usize, "{member:?}");
-    }
+    assert_eq!(rt; division.part(MemberId(0)), numbers[0] as usize);
+    assert_eq!(rt; division.part(MemberId(1)), numbers[1] as usize);
 }
 
 #[test]
@@ -66,10 +65,10 @@ fn the_first_fault_of_a_division_is_answered(rt: HostRuntime) {
 #[test]
 fn a_division_gives_each_member_its_part(rt: HostRuntime) {
     for (parts, numbers) in &DIVISIONS {
-        let division = divide(rt.alloc(), &rt, *parts, *numbers)
+        let division = divide(rt.alloc(), &rt, *parts, numbers.as_slice())
             .ok()
             .expect(&rt, "divided");
-        assert_parts(&rt, &division, *parts, *numbers);
+        assert_parts(&rt, &division, *parts, numbers);
     }
 }
 

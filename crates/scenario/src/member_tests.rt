@@ -21,7 +21,7 @@ count = 2
 ";
 
 /// When a member starts, whom it asks to join, and when it crashes.
-type Course = (u16, u64, Option<u16>, Option<u64>);
+type Course = (u16, Moment, Option<MemberId>, Option<Moment>);
 
 /// By how many ticks a member is slow at a moment.
 type Extra = (u16, u64, u64);
@@ -51,12 +51,12 @@ crash = [{ member = \"a-2\", at = 41 }, { member = \"b1-0\", at = 1 }]
 
 /// Its members' starts, contacts and crashes.
 const COURSES: [Course; 6] = [
-    (0, 40, Some(3), None),
-    (1, 40, Some(3), None),
-    (2, 40, Some(3), Some(41)),
-    (3, 0, None, Some(1)),
-    (4, 1 << 40, Some(3), None),
-    (5, 1 << 40, Some(3), None),
+    (0, Moment(40), Some(MemberId(3)), None),
+    (1, Moment(40), Some(MemberId(3)), None),
+    (2, Moment(40), Some(MemberId(3)), Some(Moment(41))),
+    (3, Moment(0), None, Some(Moment(1))),
+    (4, Moment(1 << 40), Some(MemberId(3)), None),
+    (5, Moment(1 << 40), Some(MemberId(3)), None),
 ];
 
 /// Members and the numbers of their groups.
@@ -78,12 +78,32 @@ const EXTRAS: [Extra; 12] = [
     (1, 0, 0),
 ];
 
-/// Its slow times: from when until when, by how much, and the member.
-const SLOWS: [(u64, u64, u64, u16); 4] = [
-    (20, 30, 16777216, 5),
-    (0, 5, 2, 2),
-    (30, 31, 4, 5),
-    (10, 20, 3, 5),
+/// Its slow times.
+const SLOWS: [Slow; 4] = [
+    Slow {
+        member: MemberId(5),
+        from: Moment(20),
+        until: Moment(30),
+        extra: 16777216,
+    },
+    Slow {
+        member: MemberId(2),
+        from: Moment(0),
+        until: Moment(5),
+        extra: 2,
+    },
+    Slow {
+        member: MemberId(5),
+        from: Moment(30),
+        until: Moment(31),
+        extra: 4,
+    },
+    Slow {
+        member: MemberId(5),
+        from: Moment(10),
+        until: Moment(20),
+        extra: 3,
+    },
 ];
 
 /// Its paths.
@@ -116,7 +136,7 @@ const QUIET: [&str; 3] = [
 ];
 
 /// The two members of group n then.
-const QUIET_COURSES: [Course; 2] = [(0, 0, None, None), (1, 0, None, None)];
+const QUIET_COURSES: [Course; 2] = [(0, Moment(0), None, None), (1, Moment(0), None, None)];
 
 /// By how much they are slow then.
 const QUIET_EXTRAS: [Extra; 2] = [(0, 3, 0), (1, 2, 0)];
@@ -354,11 +374,9 @@ fn assert_courses(rt: &impl Abort, scenario: &Scenario, courses: &[Course]) {
     for (number, start, contact, crash) in courses {
         assert!(rt; (*number as usize) < scenario.members());
         let member = MemberId(*number);
-        assert_eq!(rt; scenario.start(member).ticks(), *start, "{number}");
-        let asked = scenario.contact(member).map(|member| member.0);
-        assert_eq!(rt; asked, *contact, "{number}");
-        let crashed = scenario.crash(member).map(|at| at.ticks());
-        assert_eq!(rt; crashed, *crash, "{number}");
+        assert_eq!(rt; scenario.start(member), *start, "{number}");
+        assert_eq!(rt; scenario.contact(member), *contact, "{number}");
+        assert_eq!(rt; scenario.crash(member), *crash, "{number}");
     }
 }
 
@@ -383,20 +401,6 @@ fn assert_extras(rt: &impl Abort, scenario: &Scenario, extras: &[Extra]) {
     }
 }
 
-/// Asserts the slow times in the order of the text.
-fn assert_slows(rt: &impl Abort, slows: &[Slow]) {
-    assert_eq!(rt; slows.len(), SLOWS.len());
-    for (slow, (from, until, extra, member)) in slows.iter().zip(&SLOWS) {
-        let wanted = Slow {
-            member: MemberId(*member),
-            from: Moment(*from),
-            until: Moment(*until),
-            extra: *extra,
-        };
-        assert_eq!(rt; *slow, wanted);
-    }
-}
-
 #[test]
 fn all_of_the_format_is_read(rt: HostRuntime) {
     let scenario = accepted(rt.alloc(), &rt, &[WHOLE]);
@@ -409,7 +413,7 @@ fn all_of_the_format_is_read(rt: HostRuntime) {
 #[test]
 fn the_lists_are_in_the_order_of_the_text(rt: HostRuntime) {
     let scenario = accepted(rt.alloc(), &rt, &[WHOLE]);
-    assert_slows(&rt, scenario.slows());
+    assert_eq!(rt; scenario.slows(), &SLOWS[..]);
     assert_eq!(rt; scenario.paths(), &PATHS[..]);
 }
 
@@ -471,16 +475,16 @@ fn answer_to_slows(alloc: Global, rt: &impl Abort, slows: &[(&str, u64, u64)]) -
 
 #[test]
 fn slow_times_of_one_member_may_not_overlap(rt: HostRuntime) {
-    for (slows, rule, place) in &OVERLAPS {
+    for (case, (slows, rule, place)) in OVERLAPS.iter().enumerate() {
         let answer = answer_to_slows(rt.alloc(), &rt, *slows);
-        assert_eq!(rt; answer, (*rule, *place), "{slows:?}");
+        assert_eq!(rt; answer, (*rule, *place), "case {case}");
     }
 }
 
 #[test]
 fn the_least_of_several_rules_is_answered(rt: HostRuntime) {
-    for (first, second, third, rule, place) in &SEVERAL {
+    for (case, (first, second, third, rule, place)) in SEVERAL.iter().enumerate() {
         let answer = answer_to_parts(rt.alloc(), &rt, &[HEAD, *first, *second, *third]);
-        assert_eq!(rt; answer, (*rule, *place), "{first:?} {second:?} {third:?}");
+        assert_eq!(rt; answer, (*rule, *place), "case {case}");
     }
 }

@@ -14,35 +14,49 @@ link = { delay = 10, jitter = 3, loss = 5 }
 group = [{ name = \"a\", count = 2 }, { name = \"b\", count = 1 }, { name = \"c\", count = 3 }]
 ";
 
-/// Two members, and the delay, the jitter and the loss from the first to the second.
-type Linked = (u16, u16, u64, u64, u64);
+/// The link of all pairs.
+const PLAIN: Link = Link {
+    delay: 10,
+    jitter: 3,
+    loss: 5,
+};
+
+/// Two members, and the link from the first to the second.
+type Linked = (u16, u16, Link);
 
 /// Tables without a path.
 const NO_PATHS: [&str; 2] = ["", "path = []\n"];
 
 /// Links then.
-const NO_PATHS_LINKS: [Linked; 2] = [(0, 5, 10, 3, 5), (2, 0, 10, 3, 5)];
+const NO_PATHS_LINKS: [Linked; 2] = [(0, 5, PLAIN), (2, 0, PLAIN)];
 
 /// A path from one group to another.
 const ONE_WAY: &str = "[[path]]\nfrom = \"a\"\nto = \"c\"\ndelay = 1\njitter = 2\nloss = 4\n";
 
+/// Its link.
+const AWAY: Link = Link {
+    delay: 1,
+    jitter: 2,
+    loss: 4,
+};
+
 /// Links then.
 const ONE_WAY_LINKS: [Linked; 15] = [
-    (0, 3, 1, 2, 4),
-    (3, 0, 10, 3, 5),
-    (0, 4, 1, 2, 4),
-    (4, 0, 10, 3, 5),
-    (0, 5, 1, 2, 4),
-    (5, 0, 10, 3, 5),
-    (0, 2, 10, 3, 5),
-    (1, 3, 1, 2, 4),
-    (3, 1, 10, 3, 5),
-    (1, 4, 1, 2, 4),
-    (4, 1, 10, 3, 5),
-    (1, 5, 1, 2, 4),
-    (5, 1, 10, 3, 5),
-    (1, 2, 10, 3, 5),
-    (0, 1, 10, 3, 5),
+    (0, 3, AWAY),
+    (3, 0, PLAIN),
+    (0, 4, AWAY),
+    (4, 0, PLAIN),
+    (0, 5, AWAY),
+    (5, 0, PLAIN),
+    (0, 2, PLAIN),
+    (1, 3, AWAY),
+    (3, 1, PLAIN),
+    (1, 4, AWAY),
+    (4, 1, PLAIN),
+    (1, 5, AWAY),
+    (5, 1, PLAIN),
+    (1, 2, PLAIN),
+    (0, 1, PLAIN),
 ];
 
 /// Paths that leave numbers out.
@@ -53,11 +67,32 @@ const IN_PART: &str = "[[path]]\nfrom = \"a\"\nto = \"b\"\ndelay = 1048576
 
 /// Links then.
 const IN_PART_LINKS: [Linked; 5] = [
-    (1, 2, 1048576, 3, 5),
-    (1, 3, 10, 0, 5),
-    (3, 5, 10, 3, 1000000),
-    (5, 3, 10, 3, 1000000),
-    (2, 2, 10, 3, 5),
+    (
+        1,
+        2,
+        Link {
+            delay: 1048576,
+            ..PLAIN
+        },
+    ),
+    (1, 3, Link { jitter: 0, ..PLAIN }),
+    (
+        3,
+        5,
+        Link {
+            loss: 1000000,
+            ..PLAIN
+        },
+    ),
+    (
+        5,
+        3,
+        Link {
+            loss: 1000000,
+            ..PLAIN
+        },
+    ),
+    (2, 2, PLAIN),
 ];
 
 /// Two paths of the same groups, and one back.
@@ -66,7 +101,10 @@ const TWICE: &str = "[[path]]\nfrom = \"a\"\nto = \"b\"\ndelay = 1\nloss = 9
 [[path]]\nfrom = \"b\"\nto = \"a\"\ndelay = 3\n";
 
 /// Links then.
-const TWICE_LINKS: [Linked; 2] = [(0, 2, 2, 3, 5), (2, 0, 3, 3, 5)];
+const TWICE_LINKS: [Linked; 2] = [
+    (0, 2, Link { delay: 2, ..PLAIN }),
+    (2, 0, Link { delay: 3, ..PLAIN }),
+];
 
 /// Keys of a path.
 const FAULTS: [Part; 18] = [
@@ -113,23 +151,13 @@ const BESIDE_LOST: [(&str, &str, u8); 4] = [
     ("count = 3", "count = 1024", 7),
 ];
 
-/// Asserts the link from one member to another.
-fn assert_link(rt: &impl Abort, scenario: &Scenario, from: u16, to: u16, link: Link) {
-    assert!(rt; (from as usize) < scenario.members());
-    assert!(rt; (to as usize) < scenario.members());
-    let between = scenario.link_between(MemberId(from), MemberId(to));
-    assert_eq!(rt; between, link, "from {from} to {to}");
-}
-
 /// Asserts each of these links.
 fn assert_links(rt: &impl Abort, scenario: &Scenario, links: &[Linked]) {
-    for (from, to, delay, jitter, loss) in links {
-        let link = Link {
-            delay: *delay,
-            jitter: *jitter,
-            loss: *loss,
-        };
-        assert_link(rt, scenario, *from, *to, link);
+    for (from, to, link) in links {
+        assert!(rt; (*from as usize) < scenario.members());
+        assert!(rt; (*to as usize) < scenario.members());
+        let between = scenario.link_between(MemberId(*from), MemberId(*to));
+        assert_eq!(rt; between, *link, "from {from} to {to}");
     }
 }
 

@@ -1,8 +1,8 @@
 //! What no clause says: that texts are accepted, worked texts with their rules, and where a text
 //! breaks a rule.
 use crate::tests_fixture::{
-    Edit, Settings, accepted, answer_to, answer_to_edit, answer_to_parts, assert_names,
-    assert_rules, assert_settings, edited,
+    Edit, Settings, accepted, answer_to, answer_to_edit, assert_names, assert_rules, edited,
+    settings_of,
 };
 use crate::{Lifeguard, Link, Suspicion, Swim};
 use std::alloc::Global;
@@ -165,24 +165,24 @@ const THREE_GROUPS_NAMES: [(u16, &str); 7] = [
     (13, "n1-1"),
 ];
 
-/// Switches that are off, and Lifeguard's settings then.
+/// Tables in which a switch is off, and Lifeguard's settings then.
 const SWITCHES: [(&str, Lifeguard); 3] = [
     (
-        "probe",
+        "[lifeguard]\nprobe = false\n",
         Lifeguard {
             probe: false,
             ..LIFEGUARD
         },
     ),
     (
-        "suspicion",
+        "[lifeguard]\nsuspicion = false\n",
         Lifeguard {
             suspicion: false,
             ..LIFEGUARD
         },
     ),
     (
-        "buddy",
+        "[lifeguard]\nbuddy = false\n",
         Lifeguard {
             buddy: false,
             ..LIFEGUARD
@@ -318,7 +318,8 @@ const PLACES: [(&str, &str, u8, u32); 10] = [
 #[test]
 fn the_text_is_read_with_the_defaults(rt: HostRuntime) {
     let scenario = accepted(rt.alloc(), &rt, &[TEXT]);
-    assert_settings(&rt, &scenario, &DEFAULTS);
+    assert_eq!(rt; settings_of(&scenario), DEFAULTS);
+    assert_eq!(rt; scenario.period(), 1000);
     assert_eq!(rt; scenario.members(), 2);
     assert_names(&rt, &scenario, &[(0, "n-0"), (1, "n-1")]);
 }
@@ -334,15 +335,14 @@ fn members_are_numbered_in_the_order_of_groups(rt: HostRuntime) {
 #[test]
 fn every_setting_is_read(rt: HostRuntime) {
     let scenario = accepted(rt.alloc(), &rt, &[FULL]);
-    assert_settings(&rt, &scenario, &FULL_SETTINGS);
+    assert_eq!(rt; settings_of(&scenario), FULL_SETTINGS);
 }
 
 #[test]
 fn each_switch_is_on_by_default(rt: HostRuntime) {
-    for (switch, lifeguard) in &SWITCHES {
-        let text = [TEXT, "[lifeguard]\n", *switch, " = false\n"];
-        let read = accepted(rt.alloc(), &rt, &text).lifeguard();
-        assert_eq!(rt; read, *lifeguard, "{switch}");
+    for (table, lifeguard) in &SWITCHES {
+        let read = accepted(rt.alloc(), &rt, &[TEXT, *table]).lifeguard();
+        assert_eq!(rt; read, *lifeguard, "{table:?}");
     }
 }
 
@@ -377,7 +377,8 @@ fn each_byte_may_not_be_255(rt: HostRuntime) {
 #[test]
 fn settings_are_read(rt: HostRuntime) {
     let scenario = accepted(rt.alloc(), &rt, &[GREATEST]);
-    assert_settings(&rt, &scenario, &GREATEST_SETTINGS);
+    assert_eq!(rt; settings_of(&scenario), GREATEST_SETTINGS);
+    assert_eq!(rt; scenario.period(), 16777216);
     assert_eq!(rt; scenario.members(), 1024);
     assert_names(
         &rt,

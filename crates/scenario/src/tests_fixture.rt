@@ -1,6 +1,6 @@
 //! Texts with what `read` answers to them, and what an accepted text says.
 use crate::{Lifeguard, Link, Scenario, Suspicion, Swim, read};
-use base::{MemberId, Moment};
+use base::MemberId;
 use std::alloc::Global;
 use std::process::Abort;
 
@@ -12,7 +12,7 @@ pub(crate) type Edit<'a> = (&'a str, &'a str, u8);
 pub(crate) type Part<'a> = (&'a str, u8, u32);
 
 /// What a text sets for all members.
-#[derive(Clone, Copy)]
+#[derive(Clone, Copy, Debug, PartialEq, Eq)]
 pub(crate) struct Settings {
     pub(crate) seed: u64,
     pub(crate) end: u64,
@@ -33,9 +33,8 @@ pub(crate) fn joined(alloc: Global, rt: &impl Abort, parts: &[&str]) -> String {
 
 /// The text with what takes the place of what.
 pub(crate) fn edited(alloc: Global, rt: &impl Abort, text: &str, old: &str, new: &str) -> String {
-    let edited = text.replacen(alloc, old, new, 1).expect(rt, "memory");
-    assert!(rt; edited.as_str() != text, "no {old:?}");
-    edited
+    assert!(rt; text.contains(old), "no {old:?}");
+    text.replacen(alloc, old, new, 1).expect(rt, "memory")
 }
 
 /// The rule and the place by which a text is refused, 0 and 0 where it is accepted.
@@ -93,15 +92,16 @@ pub(crate) fn assert_parts(
     }
 }
 
-/// Asserts what a text sets for all members.
-pub(crate) fn assert_settings(rt: &impl Abort, scenario: &Scenario, settings: &Settings) {
-    assert_eq!(rt; scenario.seed(), settings.seed);
-    assert_eq!(rt; scenario.end(), Moment(settings.end));
-    assert_eq!(rt; scenario.period(), settings.swim.period);
-    assert_eq!(rt; scenario.swim(), settings.swim);
-    assert_eq!(rt; scenario.suspicion(), settings.suspicion);
-    assert_eq!(rt; scenario.lifeguard(), settings.lifeguard);
-    assert_eq!(rt; scenario.link(), settings.link);
+/// What a text sets for all members.
+pub(crate) fn settings_of(scenario: &Scenario) -> Settings {
+    Settings {
+        seed: scenario.seed(),
+        end: scenario.end().ticks(),
+        swim: scenario.swim(),
+        suspicion: scenario.suspicion(),
+        lifeguard: scenario.lifeguard(),
+        link: scenario.link(),
+    }
 }
 
 /// Asserts the names of these members.
