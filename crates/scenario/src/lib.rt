@@ -19,6 +19,8 @@ mod settings;
 mod tables;
 #[cfg(test)]
 mod tests;
+#[cfg(test)]
+mod tests_fixture;
 mod times;
 
 pub use division::{Division, DivisionFault, Workers};

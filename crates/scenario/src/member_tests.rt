@@ -1,5 +1,6 @@
 //! Starts, contacts, slow times and crashes: what is read of them, and the rules that they break.
-use crate::{Link, Path, Refusal, Scenario, Slow, read};
+use crate::tests_fixture::{Part, accepted, answer_to_parts, assert_parts};
+use crate::{Link, Path, Scenario, Slow};
 use base::{MemberId, Moment};
 use std::alloc::Global;
 use std::process::Abort;
@@ -19,63 +20,11 @@ name = \"n\"
 count = 2
 ";
 
-/// What `read` answers to the text with more tables.
-fn read_with(alloc: Global, rt: &impl Abort, tables: &str) -> Result<Scenario, Refusal> {
-    let text = format!(in alloc; "{HEAD}{tables}").expect(rt, "memory");
-    read(alloc, text.as_bytes())
-}
+/// When a member starts, whom it asks to join, and when it crashes.
+type Course = (u16, Moment, Option<MemberId>, Option<Moment>);
 
-/// Asserts the rule and the place by which the text with each of these tables is refused; rule 0
-/// stands for a text that is accepted.
-fn assert_refusals(alloc: Global, rt: &impl Abort, cases: &[(&str, u8, u32)]) {
-    for (tables, rule, place) in cases {
-        let refused = match read_with(alloc, rt, *tables) {
-            Ok(_) => (0, 0),
-            Err(refusal) => (refusal.rule, refusal.place),
-        };
-        assert_eq!(rt; refused, (*rule, *place), "{tables:?}");
-    }
-}
-
-/// Asserts when a member starts, whom it asks to join, and when it crashes.
-fn assert_member(
-    rt: &impl Abort,
-    scenario: &Scenario,
-    member: u16,
-    start: u64,
-    contact: Option<u16>,
-    crash: Option<u64>,
-) {
-    assert!(rt; (member as usize) < scenario.members());
-    let member = MemberId(member);
-    assert_eq!(rt; scenario.start(member), Moment(start), "{member:?}");
-    assert_eq!(rt;
-        scenario.contact(member),
-        contact.map(|member| MemberId(member)),
-        "{member:?}"
-    );
-    assert_eq!(rt;
-        scenario.crash(member),
-        crash.map(|at| Moment(at)),
-        "{member:?}"
-    );
-}
-
-/// Asserts the number of a member's group.
-fn assert_group(rt: &impl Abort, scenario: &Scenario, member: u16, group: usize) {
-    assert!(rt; (member as usize) < scenario.members());
-    assert_eq!(rt; scenario.group_number(MemberId(member)), group, "{member}");
-}
-
-/// Asserts by how much a member is slow at a moment.
-fn assert_extra(rt: &impl Abort, scenario: &Scenario, member: u16, at: u64, extra: u64) {
-    assert!(rt; (member as usize) < scenario.members());
-    assert_eq!(rt;
-        scenario.extra(MemberId(member), Moment(at)),
-        extra,
-        "{member} at {at}"
-    );
-}
+/// By how many ticks a member is slow at a moment.
+type Extra = (u16, u64, u64);
 
 /// A text that uses all of the format: members 0 to 2 of a, 3 of b1, 4 and 5 of c.
 const WHOLE: &str = "version = 1
@@ -100,338 +49,442 @@ slow = [
 crash = [{ member = \"a-2\", at = 41 }, { member = \"b1-0\", at = 1 }]
 ";
 
+/// Its members' starts, contacts and crashes.
+const COURSES: [Course; 6] = [
+    (0, Moment(40), Some(MemberId(3)), None),
+    (1, Moment(40), Some(MemberId(3)), None),
+    (2, Moment(40), Some(MemberId(3)), Some(Moment(41))),
+    (3, Moment(0), None, Some(Moment(1))),
+    (4, Moment(1 << 40), Some(MemberId(3)), None),
+    (5, Moment(1 << 40), Some(MemberId(3)), None),
+];
+
+/// Members and the numbers of their groups.
+const GROUPS: [(u16, usize); 5] = [(0, 0), (2, 0), (3, 1), (4, 2), (5, 2)];
+
+/// By how much its members are slow.
+const EXTRAS: [Extra; 12] = [
+    (5, 9, 0),
+    (5, 10, 3),
+    (5, 19, 3),
+    (5, 20, 16777216),
+    (5, 29, 16777216),
+    (5, 30, 4),
+    (5, 31, 0),
+    (4, 20, 0),
+    (2, 0, 2),
+    (2, 4, 2),
+    (2, 5, 0),
+    (1, 0, 0),
+];
+
+/// Its slow times.
+const SLOWS: [Slow; 4] = [
+    Slow {
+        member: MemberId(5),
+        from: Moment(20),
+        until: Moment(30),
+        extra: 16777216,
+    },
+    Slow {
+        member: MemberId(2),
+        from: Moment(0),
+        until: Moment(5),
+        extra: 2,
+    },
+    Slow {
+        member: MemberId(5),
+        from: Moment(30),
+        until: Moment(31),
+        extra: 4,
+    },
+    Slow {
+        member: MemberId(5),
+        from: Moment(10),
+        until: Moment(20),
+        extra: 3,
+    },
+];
+
+/// Its paths.
+const PATHS: [Path; 2] = [
+    Path {
+        from: 0,
+        to: 2,
+        link: Link {
+            delay: 8,
+            jitter: 6,
+            loss: 7,
+        },
+    },
+    Path {
+        from: 2,
+        to: 0,
+        link: Link {
+            delay: 5,
+            jitter: 6,
+            loss: 9,
+        },
+    },
+];
+
+/// Tables by which no member is late, slow at 2 or 3, or crashes.
+const QUIET: [&str; 3] = [
+    "",
+    "start = 0\n",
+    "[[slow]]\nmember = \"n-1\"\nfrom = 3\nuntil = 4\nextra = 1\n",
+];
+
+/// The two members of group n then.
+const QUIET_COURSES: [Course; 2] = [(0, Moment(0), None, None), (1, Moment(0), None, None)];
+
+/// By how much they are slow then.
+const QUIET_EXTRAS: [Extra; 2] = [(0, 3, 0), (1, 2, 0)];
+
+/// Faults of each rule on one table.
+const WORKED: [Part; 6] = [
+    ("[[group]]\nname = \"j\"\ncount = 1\nstart = 5\n", 2, 2),
+    (
+        "[[group]]\nname = \"j\"\ncount = 1\ncontact = \"n-0\"\n",
+        9,
+        2,
+    ),
+    ("[[crash]]\nmember = \"n-0\"\nat = 0\n", 9, 1),
+    ("[[path]]\nfrom = \"n\"\nto = \"x\"\n", 7, 1),
+    (
+        "[[crash]]\nmember = \"n-0\"\nat = 5\n[[crash]]\nmember = \"n-0\"\nat = 6\n",
+        8,
+        2,
+    ),
+    (
+        "[[slow]]\nmember = \"n-0\"\nfrom = 9\nuntil = 9\nextra = 1\n",
+        9,
+        1,
+    ),
+];
+
+/// The beginning of a group of two members j.
+const GROUP_J: &str = "[[group]]\nname = \"j\"\ncount = 2\n";
+
+/// Starts and contacts of its members.
+const STARTS: [Part; 17] = [
+    ("start = 1\n", 2, 2),
+    ("start = 1099511627777\n", 2, 2),
+    ("start = 9223372036854775807\n", 2, 2),
+    ("start = 0\n", 0, 0),
+    ("start = -1\n", 5, 2),
+    ("start = 5.0\n", 4, 2),
+    ("start = \"5\"\n", 4, 2),
+    ("start = 5\ncontact = 1\n", 4, 2),
+    ("start = 5\ncontact = [\"n-0\"]\n", 4, 2),
+    ("start = 1099511627777\ncontact = \"n-0\"\n", 5, 2),
+    ("start = 1099511627776\ncontact = \"n-0\"\n", 0, 0),
+    ("start = 1\ncontact = \"n-1\"\n", 0, 0),
+    ("start = 1\ncontact = \"n-2\"\n", 7, 2),
+    ("start = 1\ncontact = \"j-0\"\n", 9, 2),
+    ("start = 0\ncontact = \"n-0\"\n", 9, 2),
+    ("start = 0\ncontact = \"x-0\"\n", 7, 2),
+    ("contact = \"j-1\"\n", 9, 2),
+];
+
+/// A group beside n, and the beginning of a crash and of a slow time.
+const CRASH_OF: &str = "[[group]]\nname = \"n1\"\ncount = 12\n[[crash]]\nmember = \"";
+
+const SLOW_OF: &str = "[[group]]\nname = \"n1\"\ncount = 12\n[[slow]]\nmember = \"";
+
+/// Names of whom they are.
+const NAMES: [Part; 20] = [
+    ("n-0", 0, 0),
+    ("n-1", 0, 0),
+    ("n-2", 7, 1),
+    ("n1-0", 0, 0),
+    ("n1-11", 0, 0),
+    ("n1-12", 7, 1),
+    ("n1-011", 7, 1),
+    ("n1-00", 7, 1),
+    ("n1-+1", 7, 1),
+    ("n1--1", 7, 1),
+    ("n1-1-", 7, 1),
+    ("n1-1 ", 7, 1),
+    ("n1-", 7, 1),
+    ("n1", 7, 1),
+    ("-0", 7, 1),
+    ("", 7, 1),
+    ("N-0", 7, 1),
+    ("n2-0", 7, 1),
+    ("n-18446744073709551616", 7, 1),
+    ("n-18446744073709551617", 7, 1),
+];
+
+/// Keys of a slow time.
+const SLOW_FAULTS: [Part; 17] = [
+    ("from = 1\nuntil = 2\nextra = 1", 2, 1),
+    ("member = \"n-0\"\nuntil = 2\nextra = 1", 2, 1),
+    ("member = \"n-0\"\nfrom = 1\nextra = 1", 2, 1),
+    ("member = \"n-0\"\nfrom = 1\nuntil = 2", 2, 1),
+    (
+        "member = \"n-0\"\nfrom = 1\nuntil = 2\nextra = 1\nat = 1",
+        3,
+        1,
+    ),
+    ("member = 0\nfrom = 1\nuntil = 2\nextra = 1", 4, 1),
+    ("member = \"n-0\"\nfrom = true\nuntil = 2\nextra = 1", 4, 1),
+    ("member = \"n-0\"\nfrom = 1\nuntil = \"2\"\nextra = 1", 4, 1),
+    ("member = \"n-0\"\nfrom = 1\nuntil = 2\nextra = 1.5", 4, 1),
+    ("member = \"n-0\"\nfrom = -1\nuntil = 2\nextra = 1", 5, 1),
+    (
+        "member = \"n-0\"\nfrom = 1099511627777\nuntil = 2\nextra = 1",
+        5,
+        1,
+    ),
+    (
+        "member = \"n-0\"\nfrom = 1\nuntil = 1099511627777\nextra = 1",
+        5,
+        1,
+    ),
+    ("member = \"n-0\"\nfrom = 1\nuntil = 2\nextra = 0", 5, 1),
+    (
+        "member = \"n-0\"\nfrom = 1\nuntil = 2\nextra = 16777217",
+        5,
+        1,
+    ),
+    ("member = \"n-9\"\nfrom = 1\nuntil = 2\nextra = 1", 7, 1),
+    ("member = \"n-0\"\nfrom = 2\nuntil = 2\nextra = 1", 9, 1),
+    ("member = \"n-0\"\nfrom = 3\nuntil = 2\nextra = 1", 9, 1),
+];
+
+/// Slow times and crashes as whole tables.
+const TABLES: [Part; 4] = [
+    (
+        "[[slow]]\nmember = \"n-0\"\nfrom = 0\nuntil = 1099511627776\nextra = 16777216\n",
+        0,
+        0,
+    ),
+    ("[slow]\nmember = \"n-0\"\n", 4, 0),
+    ("[[crash]]\nmember = \"n-0\"\nat = 1\nextra = 1\n", 3, 1),
+    ("[crash]\nmember = \"n-0\"\nat = 1\n", 4, 0),
+];
+
+/// Keys of a crash.
+const CRASH_FAULTS: [Part; 9] = [
+    ("at = 1", 2, 1),
+    ("member = \"n-0\"", 2, 1),
+    ("member = \"n-0\"\nat = 1\nfrom = 1", 3, 1),
+    ("member = true\nat = 1", 4, 1),
+    ("member = \"n-0\"\nat = \"1\"", 4, 1),
+    ("member = \"n-0\"\nat = -1", 5, 1),
+    ("member = \"n-0\"\nat = 1099511627777", 5, 1),
+    ("member = \"j-0\"\nat = 1", 7, 1),
+    ("member = \"n-0\"\nat = 0", 9, 1),
+];
+
+/// A member that starts at 5, and the beginning of its crash.
+const LATE_CRASH: &str =
+    "[[group]]\nname = \"j\"\ncount = 1\nstart = 5\ncontact = \"n-0\"\n[[crash]]\nmember = \"j-0\"\nat = ";
+
+/// When it crashes.
+const LATE: [Part; 4] = [
+    ("4", 9, 1),
+    ("5", 9, 1),
+    ("6", 0, 0),
+    ("1099511627776", 0, 0),
+];
+
+/// Slow times, each with its member, its first moment and the first one past it.
+const OVERLAPS: [(&[(&str, u64, u64)], u8, u32); 15] = [
+    (&[("n-0", 1, 5), ("n-0", 5, 9)], 0, 0),
+    (&[("n-0", 5, 9), ("n-0", 1, 5)], 0, 0),
+    (&[("n-0", 1, 5), ("n-0", 4, 9)], 8, 2),
+    (&[("n-0", 4, 9), ("n-0", 1, 5)], 8, 1),
+    (&[("n-0", 1, 5), ("n-1", 4, 9)], 0, 0),
+    (&[("n-0", 1, 9), ("n-1", 2, 3), ("n-0", 3, 4)], 8, 3),
+    (&[("n-0", 1, 9), ("n-0", 9, 10), ("n-0", 3, 4)], 8, 3),
+    (
+        &[
+            ("n-0", 1, 9),
+            ("n-0", 10, 12),
+            ("n-0", 9, 10),
+            ("n-1", 1, 12),
+        ],
+        0,
+        0,
+    ),
+    (&[("n-0", 1, 2), ("n-0", 1, 2)], 8, 2),
+    (&[("n-0", 5, 5), ("n-0", 5, 5)], 9, 1),
+    (&[("n-0", 1, 9), ("n-0", 5, 5)], 8, 2),
+    (&[("n-0", 1, 9), ("n-0", 6, 3)], 8, 2),
+    (&[("n-0", 3, 5), ("n-0", 6, 1)], 9, 2),
+    (&[("n-0", 3, 5), ("n-0", 5, 5)], 9, 2),
+    (
+        &[("n-0", 1, 4), ("n-0", 2, 2), ("n-1", 0, 8), ("n-1", 3, 4)],
+        8,
+        2,
+    ),
+];
+
+/// A slow time that is over when it begins.
+const SLOW: &str = "[[slow]]\nmember = \"n-0\"\nfrom = 9\nuntil = 9\nextra = 1\n";
+
+/// A member that crashes twice, once at its start.
+const TWICE: &str = "[[crash]]\nmember = \"n-0\"\nat = 0\n[[crash]]\nmember = \"n-0\"\nat = 6\n";
+
+/// A slow time of nobody.
+const NOBODY: &str = "[[slow]]\nmember = \"x-0\"\nfrom = 9\nuntil = 9\nextra = 1\n";
+
+/// Too many members.
+const MANY: &str = "[[group]]\nname = \"m\"\ncount = 1024\n";
+
+/// Tables that break several rules, with the least of them.
+const SEVERAL: [(&str, &str, &str, u8, u32); 13] = [
+    (SLOW, TWICE, "", 8, 2),
+    (SLOW, "", "", 9, 1),
+    (TWICE, NOBODY, "", 7, 1),
+    (TWICE, NOBODY, "[[group]]\nname = \"n\"\ncount = 1\n", 6, 2),
+    (TWICE, NOBODY, "[[group]]\nname = \"N\"\ncount = 0\n", 5, 2),
+    (
+        NOBODY,
+        TWICE,
+        "[[group]]\nname = \"j\"\nstart = 1\ncount = true\n",
+        2,
+        2,
+    ),
+    (MANY, SLOW, "", 9, 1),
+    (MANY, "", "", 10, 0),
+    (MANY, TWICE, SLOW, 8, 2),
+    (MANY, "[[crash]]\nmember = \"m-1023\"\nat = 1\n", "", 10, 0),
+    (MANY, "[[crash]]\nmember = \"m-1024\"\nat = 1\n", "", 7, 1),
+    (
+        MANY,
+        "[[group]]\nname = \"j\"\ncount = 9\nstart = 5\ncontact = \"m-1023\"\n",
+        "",
+        10,
+        0,
+    ),
+    (
+        MANY,
+        "[[group]]\nname = \"j\"\ncount = 9\nstart = 5\ncontact = \"j-8\"\n",
+        "",
+        9,
+        3,
+    ),
+];
+
+/// Asserts when these members start, whom they ask to join, and when they crash.
+fn assert_courses(rt: &impl Abort, scenario: &Scenario, courses: &[Course]) {
+    for (number, start, contact, crash) in courses {
+        assert!(rt; (*number as usize) < scenario.members());
+        let member = MemberId(*number);
+        assert_eq!(rt; scenario.start(member), *start, "{number}");
+        assert_eq!(rt; scenario.contact(member), *contact, "{number}");
+        assert_eq!(rt; scenario.crash(member), *crash, "{number}");
+    }
+}
+
+/// Asserts the numbers of these members' groups.
+fn assert_groups(rt: &impl Abort, scenario: &Scenario, groups: &[(u16, usize)]) {
+    for (member, group) in groups {
+        assert!(rt; (*member as usize) < scenario.members());
+        assert_eq!(rt;
+            scenario.group_number(MemberId(*member)),
+            *group,
+            "{member}"
+        );
+    }
+}
+
+/// Asserts by how much these members are slow at these moments.
+fn assert_extras(rt: &impl Abort, scenario: &Scenario, extras: &[Extra]) {
+    for (member, at, extra) in extras {
+        assert!(rt; (*member as usize) < scenario.members());
+        let slow_by = scenario.extra(MemberId(*member), Moment(*at));
+        assert_eq!(rt; slow_by, *extra, "{member} at {at}");
+    }
+}
+
 #[test]
 fn all_of_the_format_is_read(rt: HostRuntime) {
-    let scenario = read(rt.alloc(), WHOLE.as_bytes())
-        .ok()
-        .expect(&rt, "accepted");
+    let scenario = accepted(rt.alloc(), &rt, &[WHOLE]);
     assert_eq!(rt; scenario.members(), 6);
-    for member in 0..3 {
-        let crash = if member == 2 { Some(41) } else { None };
-        assert_member(&rt, &scenario, member, 40, Some(3), crash);
-    }
-    assert_member(&rt, &scenario, 3, 0, None, Some(1));
-    assert_member(&rt, &scenario, 4, 1 << 40, Some(3), None);
-    assert_member(&rt, &scenario, 5, 1 << 40, Some(3), None);
-    for (member, group) in [(0, 0), (2, 0), (3, 1), (4, 2), (5, 2)] {
-        assert_group(&rt, &scenario, member, group);
-    }
-    for (member, at, extra) in [
-        (5, 9, 0),
-        (5, 10, 3),
-        (5, 19, 3),
-        (5, 20, 16777216),
-        (5, 29, 16777216),
-        (5, 30, 4),
-        (5, 31, 0),
-        (4, 20, 0),
-        (2, 0, 2),
-        (2, 4, 2),
-        (2, 5, 0),
-        (1, 0, 0),
-    ] {
-        assert_extra(&rt, &scenario, member, at, extra);
-    }
+    assert_courses(&rt, &scenario, &COURSES);
+    assert_groups(&rt, &scenario, &GROUPS);
+    assert_extras(&rt, &scenario, &EXTRAS);
 }
 
 #[test]
 fn the_lists_are_in_the_order_of_the_text(rt: HostRuntime) {
-    let scenario = read(rt.alloc(), WHOLE.as_bytes())
-        .ok()
-        .expect(&rt, "accepted");
-    let slow = |from: u64, until: u64, extra: u64, member: u16| Slow {
-        member: MemberId(member),
-        from: Moment(from),
-        until: Moment(until),
-        extra,
-    };
-    let slows = [
-        slow(20, 30, 16777216, 5),
-        slow(0, 5, 2, 2),
-        slow(30, 31, 4, 5),
-        slow(10, 20, 3, 5),
-    ];
-    assert_eq!(rt; scenario.slows(), &slows[..]);
-    let path = |from: usize, to: usize, delay: u64, loss: u64| Path {
-        from,
-        to,
-        link: Link {
-            delay,
-            jitter: 6,
-            loss,
-        },
-    };
-    assert_eq!(rt; scenario.paths(), &[path(0, 2, 8, 7), path(2, 0, 5, 9)][..]);
+    let scenario = accepted(rt.alloc(), &rt, &[WHOLE]);
+    assert_eq!(rt; scenario.slows(), &SLOWS[..]);
+    assert_eq!(rt; scenario.paths(), &PATHS[..]);
 }
 
 #[test]
 fn without_these_tables_nobody_is_late_slow_or_crashes(rt: HostRuntime) {
-    for tables in [
-        "",
-        "start = 0\n",
-        "[[slow]]\nmember = \"n-1\"\nfrom = 3\nuntil = 4\nextra = 1\n",
-    ] {
-        let scenario = read_with(rt.alloc(), &rt, tables)
-            .ok()
-            .expect(&rt, "accepted");
-        assert_member(&rt, &scenario, 0, 0, None, None);
-        assert_member(&rt, &scenario, 1, 0, None, None);
-        assert_extra(&rt, &scenario, 0, 3, 0);
-        assert_extra(&rt, &scenario, 1, 2, 0);
+    for tables in QUIET {
+        let scenario = accepted(rt.alloc(), &rt, &[HEAD, tables]);
+        assert_courses(&rt, &scenario, &QUIET_COURSES);
+        assert_extras(&rt, &scenario, &QUIET_EXTRAS);
     }
 }
 
 #[test]
 fn worked_texts_are_answered_by_their_rules(rt: HostRuntime) {
-    assert_refusals(
-        rt.alloc(),
-        &rt,
-        &[
-            ("[[group]]\nname = \"j\"\ncount = 1\nstart = 5\n", 2, 2),
-            (
-                "[[group]]\nname = \"j\"\ncount = 1\ncontact = \"n-0\"\n",
-                9,
-                2,
-            ),
-            ("[[crash]]\nmember = \"n-0\"\nat = 0\n", 9, 1),
-            ("[[path]]\nfrom = \"n\"\nto = \"x\"\n", 7, 1),
-            (
-                "[[crash]]\nmember = \"n-0\"\nat = 5\n[[crash]]\nmember = \"n-0\"\nat = 6\n",
-                8,
-                2,
-            ),
-            (
-                "[[slow]]\nmember = \"n-0\"\nfrom = 9\nuntil = 9\nextra = 1\n",
-                9,
-                1,
-            ),
-        ],
-    );
+    assert_parts(rt.alloc(), &rt, HEAD, "", "", &WORKED);
 }
 
 #[test]
 fn a_later_start_calls_for_a_contact(rt: HostRuntime) {
-    for (keys, rule, place) in [
-        ("start = 1\n", 2, 2),
-        ("start = 1099511627777\n", 2, 2),
-        ("start = 9223372036854775807\n", 2, 2),
-        ("start = 0\n", 0, 0),
-        ("start = -1\n", 5, 2),
-        ("start = 5.0\n", 4, 2),
-        ("start = \"5\"\n", 4, 2),
-        ("start = 5\ncontact = 1\n", 4, 2),
-        ("start = 5\ncontact = [\"n-0\"]\n", 4, 2),
-        ("start = 1099511627777\ncontact = \"n-0\"\n", 5, 2),
-        ("start = 1099511627776\ncontact = \"n-0\"\n", 0, 0),
-        ("start = 1\ncontact = \"n-1\"\n", 0, 0),
-        ("start = 1\ncontact = \"n-2\"\n", 7, 2),
-        ("start = 1\ncontact = \"j-0\"\n", 9, 2),
-        ("start = 0\ncontact = \"n-0\"\n", 9, 2),
-        ("start = 0\ncontact = \"x-0\"\n", 7, 2),
-        ("contact = \"j-1\"\n", 9, 2),
-    ] {
-        let tables = format!(in rt.alloc(); "[[group]]\nname = \"j\"\ncount = 2\n{keys}").expect(
-            &rt, "memory",
-        );
-        assert_refusals(rt.alloc(), &rt, &[(tables.as_str(), rule, place)]);
-    }
+    assert_parts(rt.alloc(), &rt, HEAD, GROUP_J, "", &STARTS);
 }
 
 #[test]
 fn names_of_members_are_exact(rt: HostRuntime) {
-    let groups = "[[group]]\nname = \"n1\"\ncount = 12\n";
-    for (name, rule) in [
-        ("n-0", 0),
-        ("n-1", 0),
-        ("n-2", 7),
-        ("n1-0", 0),
-        ("n1-11", 0),
-        ("n1-12", 7),
-        ("n1-011", 7),
-        ("n1-00", 7),
-        ("n1-+1", 7),
-        ("n1--1", 7),
-        ("n1-1-", 7),
-        ("n1-1 ", 7),
-        ("n1-", 7),
-        ("n1", 7),
-        ("-0", 7),
-        ("", 7),
-        ("N-0", 7),
-        ("n2-0", 7),
-        ("n-18446744073709551616", 7),
-        ("n-18446744073709551617", 7),
-    ] {
-        for (table, keys) in [
-            ("crash", "at = 1"),
-            ("slow", "from = 1\nuntil = 2\nextra = 1"),
-        ] {
-            let tables = format!(in rt.alloc();
-                "{groups}[[{table}]]\nmember = \"{name}\"\n{keys}\n"
-            ).expect(&rt, "memory");
-            let place = if rule == 0 { 0 } else { 1 };
-            assert_refusals(rt.alloc(), &rt, &[(tables.as_str(), rule, place)]);
-        }
-    }
+    assert_parts(rt.alloc(), &rt, HEAD, CRASH_OF, "\"\nat = 1\n", &NAMES);
+    let slow = "\"\nfrom = 1\nuntil = 2\nextra = 1\n";
+    assert_parts(rt.alloc(), &rt, HEAD, SLOW_OF, slow, &NAMES);
 }
 
 #[test]
 fn each_fault_of_a_slow_time_is_refused_by_its_rule(rt: HostRuntime) {
-    for (keys, rule) in [
-        ("from = 1\nuntil = 2\nextra = 1", 2),
-        ("member = \"n-0\"\nuntil = 2\nextra = 1", 2),
-        ("member = \"n-0\"\nfrom = 1\nextra = 1", 2),
-        ("member = \"n-0\"\nfrom = 1\nuntil = 2", 2),
-        (
-            "member = \"n-0\"\nfrom = 1\nuntil = 2\nextra = 1\nat = 1",
-            3,
-        ),
-        ("member = 0\nfrom = 1\nuntil = 2\nextra = 1", 4),
-        ("member = \"n-0\"\nfrom = true\nuntil = 2\nextra = 1", 4),
-        ("member = \"n-0\"\nfrom = 1\nuntil = \"2\"\nextra = 1", 4),
-        ("member = \"n-0\"\nfrom = 1\nuntil = 2\nextra = 1.5", 4),
-        ("member = \"n-0\"\nfrom = -1\nuntil = 2\nextra = 1", 5),
-        (
-            "member = \"n-0\"\nfrom = 1099511627777\nuntil = 2\nextra = 1",
-            5,
-        ),
-        (
-            "member = \"n-0\"\nfrom = 1\nuntil = 1099511627777\nextra = 1",
-            5,
-        ),
-        ("member = \"n-0\"\nfrom = 1\nuntil = 2\nextra = 0", 5),
-        ("member = \"n-0\"\nfrom = 1\nuntil = 2\nextra = 16777217", 5),
-        ("member = \"n-9\"\nfrom = 1\nuntil = 2\nextra = 1", 7),
-        ("member = \"n-0\"\nfrom = 2\nuntil = 2\nextra = 1", 9),
-        ("member = \"n-0\"\nfrom = 3\nuntil = 2\nextra = 1", 9),
-    ] {
-        let tables = format!(in rt.alloc(); "[[slow]]\n{keys}\n").expect(&rt, "memory");
-        assert_refusals(rt.alloc(), &rt, &[(tables.as_str(), rule, 1)]);
-    }
-    assert_refusals(
-        rt.alloc(),
-        &rt,
-        &[
-            (
-                "[[slow]]\nmember = \"n-0\"\nfrom = 0\nuntil = 1099511627776\nextra = 16777216\n",
-                0,
-                0,
-            ),
-            ("[slow]\nmember = \"n-0\"\n", 4, 0),
-            ("[[crash]]\nmember = \"n-0\"\nat = 1\nextra = 1\n", 3, 1),
-        ],
-    );
+    assert_parts(rt.alloc(), &rt, HEAD, "[[slow]]\n", "\n", &SLOW_FAULTS);
+    assert_parts(rt.alloc(), &rt, HEAD, "", "", &TABLES);
 }
 
 #[test]
 fn each_fault_of_a_crash_is_refused_by_its_rule(rt: HostRuntime) {
-    for (keys, rule) in [
-        ("at = 1", 2),
-        ("member = \"n-0\"", 2),
-        ("member = \"n-0\"\nat = 1\nfrom = 1", 3),
-        ("member = true\nat = 1", 4),
-        ("member = \"n-0\"\nat = \"1\"", 4),
-        ("member = \"n-0\"\nat = -1", 5),
-        ("member = \"n-0\"\nat = 1099511627777", 5),
-        ("member = \"j-0\"\nat = 1", 7),
-        ("member = \"n-0\"\nat = 0", 9),
-    ] {
-        let tables = format!(in rt.alloc(); "[[crash]]\n{keys}\n").expect(&rt, "memory");
-        assert_refusals(rt.alloc(), &rt, &[(tables.as_str(), rule, 1)]);
+    assert_parts(rt.alloc(), &rt, HEAD, "[[crash]]\n", "\n", &CRASH_FAULTS);
+    assert_parts(rt.alloc(), &rt, HEAD, LATE_CRASH, "\n", &LATE);
+}
+
+/// Puts a table for each of these slow times after the text.
+fn push_slows(rt: &impl Abort, text: &mut String, slows: &[(&str, u64, u64)]) {
+    for (member, from, until) in slows {
+        write!(
+            text,
+            "[[slow]]\nmember = \"{member}\"\nfrom = {from}\nuntil = {until}\nextra = 1\n"
+        )
+        .expect(rt, "memory");
     }
-    let late = "[[group]]\nname = \"j\"\ncount = 1\nstart = 5\ncontact = \"n-0\"\n";
-    for (at, rule, place) in [
-        ("4", 9, 1),
-        ("5", 9, 1),
-        ("6", 0, 0),
-        ("1099511627776", 0, 0),
-    ] {
-        let tables = format!(in rt.alloc();
-            "{late}[[crash]]\nmember = \"j-0\"\nat = {at}\n"
-        ).expect(&rt, "memory");
-        assert_refusals(rt.alloc(), &rt, &[(tables.as_str(), rule, place)]);
-    }
-    assert_refusals(
-        rt.alloc(),
-        &rt,
-        &[("[crash]\nmember = \"n-0\"\nat = 1\n", 4, 0)],
-    );
+}
+
+/// What `read` answers to the text with these slow times.
+fn answer_to_slows(alloc: Global, rt: &impl Abort, slows: &[(&str, u64, u64)]) -> (u8, u32) {
+    let mut text = String::new(alloc);
+    push_slows(rt, &mut text, slows);
+    answer_to_parts(alloc, rt, &[HEAD, text.as_str()])
 }
 
 #[test]
 fn slow_times_of_one_member_may_not_overlap(rt: HostRuntime) {
-    for (slows, rule, place) in [
-        ("n-0 1 5, n-0 5 9", 0, 0),
-        ("n-0 5 9, n-0 1 5", 0, 0),
-        ("n-0 1 5, n-0 4 9", 8, 2),
-        ("n-0 4 9, n-0 1 5", 8, 1),
-        ("n-0 1 5, n-1 4 9", 0, 0),
-        ("n-0 1 9, n-1 2 3, n-0 3 4", 8, 3),
-        ("n-0 1 9, n-0 9 10, n-0 3 4", 8, 3),
-        ("n-0 1 9, n-0 10 12, n-0 9 10, n-1 1 12", 0, 0),
-        ("n-0 1 2, n-0 1 2", 8, 2),
-        ("n-0 5 5, n-0 5 5", 9, 1),
-        ("n-0 1 9, n-0 5 5", 8, 2),
-        ("n-0 1 9, n-0 6 3", 8, 2),
-        ("n-0 3 5, n-0 6 1", 9, 2),
-        ("n-0 3 5, n-0 5 5", 9, 2),
-        ("n-0 1 4, n-0 2 2, n-1 0 8, n-1 3 4", 8, 2),
-    ] {
-        let mut tables = String::new(rt.alloc());
-        for slow in slows.split(", ") {
-            let mut words = slow.split(' ');
-            let member = words.next().unwrap_or("");
-            let from = words.next().unwrap_or("");
-            let until = words.next().unwrap_or("");
-            let table = format!(in rt.alloc();
-                "[[slow]]\nmember = \"{member}\"\nfrom = {from}\nuntil = {until}\nextra = 1\n"
-            ).expect(&rt, "memory");
-            tables.push_str(table.as_str()).expect(&rt, "memory");
-        }
-        assert_refusals(rt.alloc(), &rt, &[(tables.as_str(), rule, place)]);
+    for (case, (slows, rule, place)) in OVERLAPS.iter().enumerate() {
+        let answer = answer_to_slows(rt.alloc(), &rt, *slows);
+        assert_eq!(rt; answer, (*rule, *place), "case {case}");
     }
 }
 
 #[test]
 fn the_least_of_several_rules_is_answered(rt: HostRuntime) {
-    let slow = "[[slow]]\nmember = \"n-0\"\nfrom = 9\nuntil = 9\nextra = 1\n";
-    let twice = "[[crash]]\nmember = \"n-0\"\nat = 0\n[[crash]]\nmember = \"n-0\"\nat = 6\n";
-    let nobody = "[[slow]]\nmember = \"x-0\"\nfrom = 9\nuntil = 9\nextra = 1\n";
-    let many = "[[group]]\nname = \"m\"\ncount = 1024\n";
-    for (first, second, third, rule, place) in [
-        (slow, twice, "", 8, 2),
-        (slow, "", "", 9, 1),
-        (twice, nobody, "", 7, 1),
-        (twice, nobody, "[[group]]\nname = \"n\"\ncount = 1\n", 6, 2),
-        (twice, nobody, "[[group]]\nname = \"N\"\ncount = 0\n", 5, 2),
-        (
-            nobody,
-            twice,
-            "[[group]]\nname = \"j\"\nstart = 1\ncount = true\n",
-            2,
-            2,
-        ),
-        (many, slow, "", 9, 1),
-        (many, "", "", 10, 0),
-        (many, twice, slow, 8, 2),
-        (many, "[[crash]]\nmember = \"m-1023\"\nat = 1\n", "", 10, 0),
-        (many, "[[crash]]\nmember = \"m-1024\"\nat = 1\n", "", 7, 1),
-        (
-            many,
-            "[[group]]\nname = \"j\"\ncount = 9\nstart = 5\ncontact = \"m-1023\"\n",
-            "",
-            10,
-            0,
-        ),
-        (
-            many,
-            "[[group]]\nname = \"j\"\ncount = 9\nstart = 5\ncontact = \"j-8\"\n",
-            "",
-            9,
-            3,
-        ),
-    ] {
-        let tables = format!(in rt.alloc(); "{first}{second}{third}").expect(&rt, "memory");
-        assert_refusals(rt.alloc(), &rt, &[(tables.as_str(), rule, place)]);
+    for (case, (first, second, third, rule, place)) in SEVERAL.iter().enumerate() {
+        let answer = answer_to_parts(rt.alloc(), &rt, &[HEAD, *first, *second, *third]);
+        assert_eq!(rt; answer, (*rule, *place), "case {case}");
     }
 }
