@@ -1,3 +1,5 @@
 pub mod Maps
 pub mod Served
 pub mod Arrivals
+pub mod Pairs
+pub mod Search

@@ -1,32 +1,51 @@
-ghost use Rattle.std.specs.Prelude.{◌≡◌, length};
+ghost use Rattle.std.specs.Prelude.{◌≡◌, ◌<◌, length};
 ghost use Rattle.links.specs.Table.{link_at};
-ghost use Rattle.links.specs.Least.{IsLeast, IsLeastFrom, lesser_of};
+ghost use Rattle.links.specs.Least.{IsLeast, IsLeastFrom, lesser_of, is_third, is_other};
 
 use crate::table::Links;
 
-/// The least delay from a member to another one.
+/// The least delay from a member to another one. The delay of a pair is that of its groups, so of
+/// each group the first two members stand for all.
 pub(crate) fn least_delay(links: &Links) -> Option<u64>
-    ensures { let n = length links.now.groups.items in
-        IsLeast (λ i j. (link_at links.now i j).delay) n n result }
+    ensures { IsLeast (λ i j. (link_at links.now i j).delay) (length links.now.groups.items) result }
 {
     let mut least = None;
     for from in 0..links.groups.len() {
-        least = lesser(least, least_from(links, from));
+        if !is_third(links.groups.as_slice(), from) {
+            least = lesser(least, least_from(links, from));
+        }
     }
     least
 }
 
-/// The least delay from this member to another one.
+/// The least delay from this member to the first two others of each group.
 fn least_from(links: &Links, from: usize) -> Option<u64>
-    ensures { IsLeastFrom (λ i j. (link_at links.now i j).delay) from (length links.now.groups.items) result }
+    ensures { IsLeastFrom (is_other links.now.groups.items from) (λ to. (link_at links.now from to).delay)
+        (length links.now.groups.items) result }
 {
     let mut least = None;
     for to in 0..links.groups.len() {
-        if to != from {
+        if is_other(links.groups.as_slice(), from, to) {
             least = lesser(least, Some(links.link_between(from, to).delay));
         }
     }
     least
+}
+
+/// Whether it is another member than this one, and one of the first two of its group.
+fn is_other(groups: &[usize], from: usize, to: usize) -> bool
+    requires { to < length groups.now }
+    ensures { result ≡ is_other groups.now from to }
+{
+    to != from && !is_third(groups, to)
+}
+
+/// Whether both members before this one have its group.
+fn is_third(groups: &[usize], member: usize) -> bool
+    requires { member < length groups.now }
+    ensures { result ≡ is_third groups.now member }
+{
+    member >= 2 && groups[member - 1] == groups[member] && groups[member - 2] == groups[member]
 }
 
 /// The smaller of two, where there are both.

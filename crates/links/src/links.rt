@@ -56,7 +56,7 @@ impl Links {
     }
 
     /// The least delay of a link from a member to another one, in ticks; None where there is but one
-    /// member. It goes over all pairs of members.
+    /// member. It goes over the pairs of groups.
     pub fn least_delay(&self) -> Option<u64>
         ensures reached { (s : Setup) → AreLinksOf self.now s
             → IfSome result (IsReached (λ i j. (link_between s i j).delay) (member_count s)) }
