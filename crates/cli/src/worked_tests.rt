@@ -1,7 +1,7 @@
 //! The worked runs, by the words that ask for them: what the program prints, and the files that it leaves.
 
 use crate::tests::{Left, REPORTED, holds, left_by, older_files};
-use exchange::testing::{LOST_PATH, THREE_HELPERS, WORKED};
+use exchange::testing::{CRASH_DETECTED, JOIN, LOST_PATH, THREE_HELPERS, WORKED, Worked};
 use files::testing::Fails;
 use std::process::Abort;
 use std::test::Fail;
@@ -27,6 +27,46 @@ fn each_worked_run_leaves_its_trace_and_report(rt: HostRuntime) -> Result<(), Fa
         let left = run_of(&rt, run.scenario)?;
         assert_done(&rt, &left, run.rows, run.report);
         assert!(rt; holds(&left, "t.csv", run.trace));
+    }
+    Ok(())
+}
+
+/// Words that run a scenario by the parts of a division.
+struct Divided {
+    run: Worked,
+    words: &'static str,
+}
+
+const DIVIDED: [Divided; 5] = [
+    Divided {
+        run: CRASH_DETECTED,
+        words: "run two.toml --trace t.csv --report r.txt --division 0,1",
+    },
+    Divided {
+        run: CRASH_DETECTED,
+        words: "run two.toml --trace t.csv --report r.txt --division 63,0",
+    },
+    Divided {
+        run: JOIN,
+        words: "run two.toml --trace t.csv --report r.txt --division 0,1,0",
+    },
+    Divided {
+        run: JOIN,
+        words: "run two.toml --trace t.csv --report r.txt --division 2,1,0",
+    },
+    Divided {
+        run: JOIN,
+        words: "run two.toml --trace t.csv --report r.txt --parts 64 --workers 2",
+    },
+];
+
+#[test]
+fn each_division_leaves_the_trace_and_report_of_the_run(rt: HostRuntime) -> Result<(), Fail> {
+    for divided in DIVIDED {
+        let files = older_files(&rt, divided.run.scenario)?;
+        let left = left_by(&rt, divided.words, files, Fails::Never)?;
+        assert_done(&rt, &left, divided.run.rows, divided.run.report);
+        assert!(rt; holds(&left, "t.csv", divided.run.trace));
     }
     Ok(())
 }
