@@ -1,0 +1,15 @@
+use Rattle.std.proofs.Common.{ap}
+use Rattle.crossbeam_channel.specs.Claims.{view}
+use Rattle.relay.specs.declared.rule.Log.{Log}
+use Rattle.relay.proofs.Keeps.{merges, tells, received}
+use Rattle.relay.proofs.relay.closing.close.Goals as goal
+
+pub absorb-requires-clause-rule : goal.absorb-requires-clause-rule
+absorb-requires-clause-rule c = merges _ _ _ _ c.requires.sender.may c.requires.taker.may
+
+pub learn_as-requires-clause-rule : goal.learn_as-requires-clause-rule
+learn_as-requires-clause-rule c = let is = c.absorb.ensures.rule in tells _ _ (ap (λ (v : Log). v.sends) is) (ap (λ (v : Log). v.takes) is)
+
+pub returns-clause-whole : goal.returns-clause-whole
+returns-clause-whole c has = let is = c.absorb.ensures.rule in let told = c.learn_as.ensures.rule in
+    received (view c.absorb.new.pass) told.0 _ _ (ap (λ (v : Log). v.sent) is) (ap (λ (v : Log). v.taken) is) told.1 has
