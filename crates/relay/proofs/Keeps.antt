@@ -1,6 +1,7 @@
 -- Each step of a relay keeps its rule, and what the rule tells.
 use Rattle.std.proofs.Common.{◌≡◌, ◌≢◌, ◌⊎◌, ℕ, zero, suc, Bool, true, false, true≢false, ◌||◌, List, [], ◌∷◌, ◌++◌, length, map, set, All, Option, Some, None, IfSome, sym, refl, ap, ◌∙◌, subst, ⊎_elim, append_assoc, append-nil}
 use Rattle.std.proofs.lemmas.List.{map-append}
+use Rattle.std.proofs.lemmas.List.Concat.{flat_map-append}
 use Rattle.std.proofs.lemmas.List.Elements.{All-nil, All-head, All-tail, All-push, All-same}
 use mathlib.Core.Option.{some, some-injective, some-ne-none}
 use lib.ListN.{get_elem?}
@@ -9,7 +10,7 @@ use Rattle.scenario.specs.Setup.{Setup}
 use Rattle.relay.specs.declared.batch.Batch.{Batch}
 use Rattle.relay.specs.declared.batch.Lot.{Lot}
 use Rattle.relay.specs.declared.rule.Log.{Log}
-use Rattle.relay.specs.Lots.{lot_of, has_last, NoneAfterLast, BelongsTo}
+use Rattle.relay.specs.Lots.{lot_of, rows_of, has_last, NoneAfterLast, BelongsTo}
 use Rattle.relay.specs.Rule.{log, Fits, Relayed}
 use Rattle.relay.proofs.Passes.{Each, at_set, each_set, each_more}
 
@@ -135,8 +136,8 @@ forks pass v scenario a b none_sent none_taken items views h at =
       each = each_more (Fits h.sender (length vs) scenario h.sent h.taken) vs r
           (record { sends = λ p. absurd (true≢false (sym p)); takes = λ _. (refl, refl, taker.2) })
           (each_set (Fits h.sender (length vs) scenario h.sent h.taken) views pass l
-              (record { sends = λ _. (sender.0, refl, sender.2); takes = λ p. absurd (true≢false (sym p)) })
-              (λ j u other e. record { sends = λ p. absurd (other (((h.each j u e).sends p).0 ∙ sym sender.0)); takes = λ p. absurd (other (((h.each j u e).takes p).0 ∙ sym taker.0)) }));
+          (record { sends = λ _. (sender.0, refl, sender.2); takes = λ p. absurd (true≢false (sym p)) })
+          (λ j u other e. record { sends = λ p. absurd (other (((h.each j u e).sends p).0 ∙ sym sender.0)); takes = λ p. absurd (other (((h.each j u e).takes p).0 ∙ sym taker.0)) }));
     }
 
 pub merges : (pass : ℕ) (v : Log) (other : ℕ) (u : Log) → v.sends ≡ true → u.takes ≡ true
@@ -148,8 +149,8 @@ merges pass v other u a b items views h at two at' =
     let was : get_elem? views other ≡ some u = ⊎_elim (λ x. absurd (two x.0)) (λ x. x.1) (at_set views pass other both u at') in
     let taker = (h.each other u was).takes b in
     let now : Each (λ j y. j ≢ other → Fits h.sender pass h.scenario h.sent h.taken j y) vs = each_set (λ j y. j ≢ other → Fits h.sender pass h.scenario h.sent h.taken j y) views pass both
-          (λ _. record { sends = λ _. sender; takes = λ _. (refl, sender.1, taker.2) })
-          (λ j y _ e apart. record { sends = (h.each j y e).sends; takes = λ p. absurd (apart (((h.each j y e).takes p).0 ∙ sym taker.0)) }) in
+    (λ _. record { sends = λ _. sender; takes = λ _. (refl, sender.1, taker.2) })
+    (λ j y _ e apart. record { sends = (h.each j y e).sends; takes = λ p. absurd (apart (((h.each j y e).takes p).0 ∙ sym taker.0)) }) in
     record {
       sender = h.sender;
       taker = pass;
@@ -187,3 +188,8 @@ all_taken sent taken rest is one_end has = let empty : rest ≡ [] = none_more t
 pub received : (v : Log) (items : List Batch) (sent taken : List Lot) → v.sent ≡ sent → v.taken ≡ taken → (v.sent ≡ v.taken ++ map lot_of items) × NoneAfterLast v.sent
     → has_last taken ≡ true → taken ≡ sent
 received v items sent taken s t told has = all_taken sent taken (map lot_of items) (sym s ∙ told.0 ∙ ap (λ l. l ++ map lot_of items) t) (subst NoneAfterLast s told.1) has
+
+-- and that the rows of the one are a beginning of the rows of the other
+pub begun : (v : Log) (items : List Batch) (sent taken : List Lot) → v.sent ≡ sent → v.taken ≡ taken → (v.sent ≡ v.taken ++ map lot_of items) × NoneAfterLast v.sent
+    → rows_of sent ≡ rows_of taken ++ rows_of (map lot_of items)
+begun v items sent taken s t told = ap rows_of (sym s ∙ told.0 ∙ ap (λ l. l ++ map lot_of items) t) ∙ flat_map-append (λ (lot : Lot). lot.rows) taken (map lot_of items)

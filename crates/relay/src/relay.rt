@@ -3,12 +3,11 @@ ghost use Rattle.crossbeam_channel.specs.Ends.{sends_on, receives_on};
 
 mod closing;
 
-pub use closing::close;
-
 use crate::batch::Batch;
 use crate::roles::part;
 use crate::rule::{InOrder, Log, Sent, Taken};
 use base::Memory;
+pub use closing::close;
 use crossbeam_channel::{Pass, RuledReceiver, RuledSender, bounded_with};
 use scenario::Scenario;
 use std::alloc::Global;
@@ -55,10 +54,8 @@ impl Relay {
         ensures sent { IfOk result (λ r. sent_by r.1 ≡ []) }
         ensures taken { IfOk result (λ r. taken_by r.2 ≡ []) }
     {
-        let Ok((sender, taker, mut pass)) = bounded_with::<Batch, Log, InOrder, Global>(
-            alloc,
-            ROOM,
-        ) else {
+        let Ok((sender, taker, mut pass)) = bounded_with::<Batch, Log, InOrder, Global>(alloc, ROOM)
+        else {
             return Err(Memory);
         };
         let other = part::<Brand>(&sender, &mut pass, scenario);

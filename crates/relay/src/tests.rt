@@ -7,10 +7,11 @@ use crate::{Batch, Relay, SendSeat, TakeSeat, close};
 use base::{MemberId, Memory, Moment};
 use scenario::Scenario;
 use std::process::Abort;
+use std::snapshot::Snapshot;
 use std::sync::Wait;
 use std::test::Fail;
 use std::thread;
-use std::thread::Threads;
+use std::thread::{Promise, Threads};
 use trace::{Row, What};
 
 /// One member, `n-0`, and no event after its start.
@@ -48,7 +49,11 @@ fn row_at(at: u64) -> Row
 }
 
 /// A batch with one row, whose moment is the batch's number.
-fn batch_of<R: Abort + AllocGlobal>(rt: &R, scenario: &Scenario, number: u64) -> Result<Batch, Memory>
+fn batch_of<R: Abort + AllocGlobal>(
+    rt: &R,
+    scenario: &Scenario,
+    number: u64,
+) -> Result<Batch, Memory>
     ensures goes_on { IfOk result (λ batch. batch.last ≡ false) }
     ensures named { IfOk result (λ batch. All (NamesMembers scenario.now) batch.rows.items) }
 {
@@ -56,7 +61,11 @@ fn batch_of<R: Abort + AllocGlobal>(rt: &R, scenario: &Scenario, number: u64) ->
     let Ok(rows) = Vec::from_array(rt.alloc(), [row_at(number)]) else {
         return Err(Memory);
     };
-    Ok(Batch { number, rows, last: false })
+    Ok(Batch {
+        number,
+        rows,
+        last: false,
+    })
 }
 
 /// Sends so many batches: each has a row, but for the last.
@@ -127,25 +136,63 @@ fn eight_batches_come_in_order(rt: HostRuntime) -> Result<(), Fail> {
     Ok(())
 }
 
-/// Sends from one thread and receives in another.
+/// The thread that sends gives back the sending seat of this relay.
+#[derive(Drop)]
+struct SeatBack(Snapshot<Relay>);
+
+impl Promise<SendSeat> for SeatBack {
+    ghost use Rattle.relay.specs.Seats.{IsSender};
+
+    ghost kept_by = { λ promise seat. IsSender promise.0.value seat };
+}
+
+/// Sends from a thread of its own, and receives in the calling one.
+fn across<R: Threads + Wait + Abort + AllocGlobal + Sync>(
+    rt: &R,
+    relay: &Relay,
+    sender: SendSeat,
+    taker: TakeSeat,
+    scenario: &Scenario,
+    count: u64,
+) -> Result<(SendSeat, TakeSeat), Memory>
+    requires relay { scenario_of relay.now ≡ scenario.now }
+    requires sender { IsSender relay.now sender × (sent_by sender ≡ []) }
+    requires taker { IsTaker relay.now taker }
+    ensures sender { IfOk result (λ seats. IsSender relay.now seats.0) }
+    ensures taker { IfOk result (λ seats. IsTaker relay.now seats.1 × (has_last (taken_by seats.1) ≡ true)) }
+{
+    thread::scope(
+        thread::scope_env(),
+        rt,
+        move |scope| -> Result<(SendSeat, TakeSeat), Memory>
+            requires { (scenario_of relay.now ≡ scenario.now) × IsSender relay.now sender × (sent_by sender ≡ []) × IsTaker relay.now taker }
+            ensures { IfOk result (λ seats. IsSender relay.entry.now seats.0 × IsTaker relay.entry.now seats.1 × (has_last (taken_by seats.1) ≡ true)) }
+        {
+            let promise = SeatBack(Snapshot::of(relay));
+            let driver = scope.spawn_with(
+                promise,
+                move || -> SendSeat
+                    requires { (scenario_of relay.now ≡ scenario.now) × IsSender relay.now sender × (sent_by sender ≡ []) }
+                    ensures { IsSender relay.entry.now result }
+                { send_all(rt, relay, sender, scenario, count) },
+            );
+            let Ok(driver) = driver else {
+                return Err(Memory);
+            };
+            let taker = receive_all(rt, relay, taker, count);
+            Ok((driver.join(rt), taker))
+        },
+    )
+}
+
+/// Carries so many batches from one thread to another.
 fn carry<R: Threads + Wait + Abort + AllocGlobal + Sync>(
     rt: &R,
     scenario: &Scenario,
     count: u64,
 ) -> Result<(), Memory> {
     let (relay, sender, taker) = Relay::new(rt.alloc(), scenario)?;
-    let shared = &relay;
-    let (sender, taker) = thread::join(
-        rt,
-        move || -> SendSeat
-            requires { IsSender shared.now sender × (sent_by sender ≡ []) × (scenario_of shared.now ≡ scenario.now) }
-            ensures { IsSender shared.entry.now result }
-        { send_all(rt, shared, sender, scenario, count) },
-        move || -> TakeSeat
-            requires { IsTaker shared.now taker }
-            ensures { IsTaker shared.entry.now result × (has_last (taken_by result) ≡ true) }
-        { receive_all(rt, shared, taker, count) },
-    );
+    let (sender, taker) = across(rt, &relay, sender, taker, scenario, count)?;
     close_whole(relay, sender, taker);
     Ok(())
 }
