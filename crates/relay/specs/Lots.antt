@@ -1,5 +1,5 @@
 -- What batches stand for.
-use Rattle.std.specs.Prelude.{◌≡◌, ℕ, Bool, List, [], ◌∷◌, true, All, flat_map, ⊤}
+use Rattle.std.specs.Prelude.{◌≡◌, Bool, List, [], ◌∷◌, true, All, flat_map, ⊤}
 use Rattle.std.specs.List.{list_any}
 use Rattle.scenario.specs.Setup.{Setup}
 use Rattle.trace.specs.declared.row.Row.{Row}

@@ -6,7 +6,7 @@ use trace::Row;
 pub struct Batch {
     /// Its place among the batches of a run, from 1.
     pub number: u64,
-    /// Its rows, in order: none in the last batch.
+    /// Its rows, in order. A run's last batch is an empty one.
     pub rows: Vec<Row>,
     /// Whether no batch comes after it.
     pub last: bool,
