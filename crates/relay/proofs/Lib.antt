@@ -1,0 +1,3 @@
+pub mod Passes
+pub mod Keeps
+pub mod Sent
