@@ -1,0 +1,93 @@
+//! The rule of a board: what a seat knows, and what each step at it changes.
+ghost use Rattle.std.specs.Prelude.{◌≡◌, List, ◌∷◌, [], ◌++◌, map, IsTrue};
+
+use crossbeam_queue::protocol::{Join, Lesson, Outcome, Protocol, Split};
+use std::collections::LinkedList;
+use std::marker::PhantomData;
+
+/// What the pieces of a board are: what each stands for, and which belong to the board.
+pub trait Setting<T, V> {
+    ghost stands_for: { T → V };
+
+    ghost belongs: { T → Type 0 };
+}
+
+/// What a seat knows: its share of the right to see the whole, what was dealt from it and what it has taken. No value of it is made.
+pub struct Hand<V> {
+    pub share: u64,
+    pub dealt: LinkedList<V>,
+    pub taken: LinkedList<V>,
+}
+
+/// The rule that each piece dealt is taken once or lies on the board, and that what lies there belongs to it.
+pub struct Balanced<S> {
+    setting: PhantomData<S>,
+}
+
+impl<T, V, S: Setting<T, V>> Protocol<T, Hand<V>> for Balanced<S> {
+    ghost use Rattle.board.specs.Deal.{whole, hand, IsBalanced};
+
+    ghost holds = { IsBalanced S.stands_for S.belongs };
+
+    ghost first = { hand whole [] [] };
+}
+
+/// One part of a seat's share becomes the share of a new seat.
+pub struct Cut;
+
+impl<V> Split<Hand<V>> for Cut {
+    ghost use Rattle.std.specs.Prelude.{◌-◌, []};
+    ghost use Rattle.board.specs.Deal.{hand};
+
+    ghost left = { λ v. hand (v.share - 1) v.dealt v.taken };
+
+    ghost right = { λ v. hand 1 [] [] };
+}
+
+/// Two seats become one.
+pub struct Together;
+
+impl<V> Join<Hand<V>> for Together {
+    ghost use Rattle.std.specs.Prelude.{◌+◌, [], ◌++◌};
+    ghost use Rattle.board.specs.Deal.{hand};
+
+    ghost both = { λ v w. hand (v.share + w.share) (v.dealt ++ w.dealt) (v.taken ++ w.taken) };
+
+    ghost spent = { hand 0 [] [] };
+}
+
+/// A push adds to what was dealt.
+pub struct Deals<S> {
+    setting: PhantomData<S>,
+}
+
+impl<T, V, S: Setting<T, V>> Outcome<T, Hand<V>> for Deals<S> {
+    ghost use Rattle.std.specs.Prelude.{◌≡◌, ◌∷◌, [], ◌++◌};
+    ghost use Rattle.board.specs.Deal.{hand};
+
+    ghost then = { λ v x w. w ≡ hand v.share (v.dealt ++ S.stands_for x ∷ []) v.taken };
+}
+
+/// A pop adds to what was taken, and the piece belongs to the board.
+pub struct Takes<S> {
+    setting: PhantomData<S>,
+}
+
+impl<T, V, S: Setting<T, V>> Outcome<T, Hand<V>> for Takes<S> {
+    ghost use Rattle.std.specs.Prelude.{◌≡◌, ◌∷◌, [], ◌++◌};
+    ghost use Rattle.board.specs.Deal.{hand};
+
+    ghost then = { λ v x w. (w ≡ hand v.share v.dealt (v.taken ++ S.stands_for x ∷ [])) × S.belongs x };
+}
+
+impl<T, V, S: Setting<T, V>> Lesson<T, Hand<V>> for Deals<S> {
+    ghost use Rattle.board.specs.Deal.{Sees};
+
+    ghost fact = { Sees S.stands_for S.belongs };
+}
+
+impl<T, V, S: Setting<T, V>> Lesson<T, Hand<V>> for Takes<S> {
+    ghost use Rattle.board.specs.Deal.{Sees};
+
+    ghost fact = { Sees S.stands_for S.belongs };
+}

@@ -1,0 +1,90 @@
+//! A board, and its seats.
+ghost use Rattle.std.specs.Prelude.{◌≡◌, ◌≤◌, ℕ, List, [], ◌∷◌, ◌++◌, length, map, IfOk, IfNone, IfErr, OnOk, MatchOption, MatchResult};
+ghost use Rattle.std.specs.List.{All, flat_map};
+ghost use Rattle.board.specs.Deal.{DealBalance, hand, whole};
+ghost use Rattle.board.specs.Seats.{IsSeatOf, AreAllSeats, HasEmptyBags, record_of, room, dealt, taken, share};
+
+use crate::rule::{Balanced, Cut, Deals, Hand, Setting, Takes, Together};
+use base::Memory;
+use crossbeam_queue::{Pass, RuledArrayQueue};
+use std::alloc::Global;
+use std::sync::Wait;
+
+/// A shared object on which pieces lie until somebody takes them.
+#[derive(Drop)]
+pub struct Board<T, V, S: Setting<T, V>> {
+    queue: RuledArrayQueue<T, Hand<V>, Balanced<S>>,
+}
+
+/// A place at a board, for one thread. It keeps account of what was dealt from it and of what it has taken, in proofs alone.
+#[derive(Drop)]
+pub struct Seat<T, V> {
+    pass: Pass<T, Hand<V>>,
+}
+
+impl<T: Drop, V, S: Setting<T, V>> Board<T, V, S> {
+    /// A board on which nothing lies, with room for so many pieces (1 to 64), and as many seats as are asked for (1 to 65), all of them with empty bags.
+    pub fn new(
+        alloc: Global,
+        pieces: usize,
+        seats: usize,
+    ) -> Result<(Board<T, V, S>, Vec<Seat<T, V>>), Memory>
+        requires pieces { (1 ≤ pieces) × (pieces ≤ 64) }
+        requires seats { (1 ≤ seats) × (seats ≤ 65) }
+        ensures room { IfOk result (λ made. room made.0 ≡ pieces) }
+        ensures count { IfOk result (λ made. length made.1.items ≡ seats) }
+        ensures seats { IfOk result (λ made. AreAllSeats made.0 made.1.items × All HasEmptyBags made.1.items) }
+    {
+        let Ok((queue, pass)) = RuledArrayQueue::ruled(alloc, pieces) else {
+            return Err(Memory);
+        };
+        let board = Board { queue };
+        let seats = board.seats(alloc, Seat { pass }, seats)?;
+        Ok((board, seats))
+    }
+
+    // So many seats, made of one that has every share.
+    fn seats(
+        &self,
+        alloc: Global,
+        mut first: Seat<T, V>,
+        seats: usize,
+    ) -> Result<Vec<Seat<T, V>>, Memory>
+        requires first { IsSeatOf self.now first × (share first ≡ whole) × HasEmptyBags first }
+        requires seats { (1 ≤ seats) × (seats ≤ 65) }
+        ensures count { IfOk result (λ made. length made.items ≡ seats) }
+        ensures seats { IfOk result (λ made. AreAllSeats self.now made.items × All HasEmptyBags made.items) }
+    {
+        let mut made = Vec::new(alloc);
+        for _ in 1..seats {
+            let pass = self.queue.another::<Cut>(&mut first.pass);
+            match made.push(Seat { pass }) {
+                Ok(()) => {}
+                Err(_) => return Err(Memory),
+            }
+        }
+        match made.push(first) {
+            Ok(()) => Ok(made),
+            Err(_) => Err(Memory),
+        }
+    }
+
+    /// Puts the piece on the board. It comes back where the board is full.
+    pub fn deal<R: Wait>(&self, rt: &R, seat: &mut Seat<T, V>, piece: T) -> Result<(), T>
+        requires seat { IsSeatOf self.now seat.old }
+        requires belongs { S.belongs piece }
+        ensures seat { IsSeatOf self.now seat.new }
+        ensures piece { MatchResult result (λ _. record_of seat.new ≡ hand (share seat.old) (dealt seat.old ++ S.stands_for piece ∷ []) (taken seat.old)) (λ back. (back ≡ piece) × (record_of seat.new ≡ record_of seat.old)) }
+    {
+        self.queue.push_as::<Deals<S>, R>(rt, &mut seat.pass, piece)
+    }
+
+    /// Takes the piece that has lain there longest.
+    pub fn take<R: Wait>(&self, rt: &R, seat: &mut Seat<T, V>) -> Option<T>
+        requires seat { IsSeatOf self.now seat.old }
+        ensures seat { IsSeatOf self.now seat.new }
+        ensures piece { MatchOption result (record_of seat.new ≡ record_of seat.old) (λ piece. (record_of seat.new ≡ hand (share seat.old) (dealt seat.old) (taken seat.old ++ S.stands_for piece ∷ [])) × S.belongs piece) }
+    {
+        self.queue.pop_as::<Takes<S>, R>(rt, &mut seat.pass)
+    }
+}
