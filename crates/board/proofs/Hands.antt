@@ -3,6 +3,7 @@ use Rattle.std.proofs.Common.{◌≡◌, ◌≢◌, ℕ, zero, suc, ◌+◌, ◌
 use mathlib.Core.Option.{some, some-injective, some-ne-none}
 use lib.ListN.{get_elem?}
 use Rattle.std.specs.List.{sum_by, flat_map}
+use Rattle.std.proofs.lemmas.List.Concat.{flat_map-append}
 use Rattle.std.proofs.lemmas.List.Sums.{sum_by-cons, sum_by-append}
 
 module _ {A : Type 0} where
@@ -47,3 +48,19 @@ module _ {A B : Type 0} where
       ap (λ l. f x ++ l) (nothing f xs (λ j u e'. none (suc j) u (λ same. omega arith) e')) ∙ (append-nil (f x) ∙ ap f (some-injective x v e))
   alone f (x ∷ xs) (suc n) v e none =
       ap (λ l. l ++ flat_map f xs) (none 0 x (λ same. omega arith) refl) ∙ alone f xs n v e (λ j u apart e'. none (suc j) u (λ same. apart (omega arith)) e')
+
+  -- the last one's at the end
+  pub flat_last : (f : A → List B) (xs : List A) (x : A) → flat_map f (xs ++ x ∷ []) ≡ flat_map f xs ++ f x
+  flat_last f xs x = flat_map-append f xs (x ∷ []) ∙ ap (λ l. flat_map f xs ++ l) (append-nil (f x))
+
+  -- the last one's may go behind others
+  pub weight_moved : (h : B → ℕ) (f : A → List B) (xs : List A) (x : A) (ys : List B) → sum_by h (flat_map f xs ++ (ys ++ f x)) ≡ sum_by h (flat_map f (xs ++ x ∷ []) ++ ys)
+  weight_moved h f xs x ys =
+      omega (
+        arith,
+        sum_by-append h (flat_map f xs) (ys ++ f x),
+        sum_by-append h ys (f x),
+        sum_by-append h (flat_map f (xs ++ x ∷ [])) ys,
+        sum_by-append h (flat_map f xs) (f x),
+        ap (sum_by h) (flat_last f xs x),
+      )

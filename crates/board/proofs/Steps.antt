@@ -1,31 +1,29 @@
 -- Each step at a board keeps its rule.
-use Rattle.std.proofs.Common.{◌≡◌, ◌≢◌, ℕ, zero, suc, ◌+◌, ◌-◌, ◌<◌, List, [], ◌∷◌, ◌++◌, set, map, sym, refl, ap, ◌∙◌, subst, ⊎_elim, append-nil, arith}
+use Rattle.std.proofs.Common.{◌≡◌, ◌≢◌, ℕ, zero, suc, ◌+◌, ◌-◌, ◌<◌, List, [], ◌∷◌, ◌++◌, length, set, map, Result, Ok, Err, MatchResult, IfErr, sym, refl, ap, ◌∙◌, subst, ⊎_elim, append-nil, arith}
 use mathlib.Core.Option.{some, some-injective, some-ne-none}
 use lib.ListN.{get_elem?}
 use Rattle.std.specs.List.{sum_by, flat_map, All}
-use Rattle.std.proofs.lemmas.List.{map-append}
-use Rattle.std.proofs.lemmas.List.Concat.{flat_map-append}
+use Rattle.std.proofs.lemmas.List.{map-append, length-map}
 use Rattle.std.proofs.lemmas.List.Elements.{All-push, All-head, All-tail, All-nil}
 use Rattle.std.proofs.lemmas.List.Sums.{sum_by-cons, sum_by-append, sum_by_push}
-use Rattle.crossbeam_queue.specs.Fifo.{Pushes, Pops, Forks, Merges, Learns}
+use Rattle.crossbeam_queue.specs.Fifo.{Pushes, Pops, Forks, Merges, Learns, Held}
 use Rattle.crossbeam_queue.proofs.Lists.{at_set, at_snoc}
 use Rattle.board.specs.declared.rule.Hand.{Hand}
-use Rattle.board.specs.Deal.{DealBalance, whole, hand, IsBalanced, Sees}
-use Rattle.board.proofs.Hands.{total_set, weight_set, two_at_most, alone}
+use Rattle.board.specs.Deal.{SameBag, DealBalance, whole, hand, IsBalanced, Sees}
+use Rattle.board.proofs.Hands.{total_set, weight_set, two_at_most, alone, flat_last}
 
 -- who has no share has dealt and taken nothing
 abbrev Spent : {V : Type 0} → List (Hand V) → Type 0
 Spent {V} hands = (port : ℕ) (v : Hand V) → get_elem? hands port ≡ some v → v.share ≡ 0 → (v.dealt ≡ []) × (v.taken ≡ [])
+
+abbrev taken_by : {V : Type 0} → List (Hand V) → List V
+taken_by hands = flat_map (λ v. v.taken) hands
 
 spent_set : {V : Type 0} (hands : List (Hand V)) (port : ℕ) (w : Hand V) → (w.share ≡ 0 → (w.dealt ≡ []) × (w.taken ≡ [])) → Spent hands → Spent (set hands port w)
 spent_set {V} hands port w mine old j u e = ⊎_elim
     (λ (is : (j ≡ port) × (w ≡ u)). subst (λ (y : Hand V). y.share ≡ 0 → (y.dealt ≡ []) × (y.taken ≡ [])) is.1 mine)
     (λ (is : (j ≢ port) × (get_elem? hands j ≡ some u)). old j u is.1)
     (at_set hands port j w u e)
-
--- one more that has nothing
-one_more : {A B : Type 0} (f : A → List B) (xs : List A) (x : A) → f x ≡ [] → flat_map f (xs ++ x ∷ []) ≡ flat_map f xs
-one_more f xs x none = flat_map-append f xs (x ∷ []) ∙ (ap (λ l. flat_map f xs ++ (l ++ [])) none ∙ append-nil (flat_map f xs))
 
 only : {V : Type 0} → Spent (hand {V = V} whole [] [] ∷ [])
 only zero v e none = absurd (omega (arith, ap (λ (u : Hand _). u.share) (some-injective (hand whole [] []) v e)))
@@ -55,6 +53,8 @@ module _ {T V : Type 0} (stands_for : T → V) (belongs : T → Type 0) where
                 sum_by_push h v.dealt (stands_for x),
                 sum_by_push h (map stands_for items) (stands_for x),
                 ap (sum_by h) (map-append stands_for items (x ∷ [])),
+                sum_by-append h (taken_by hands) (map stands_for items),
+                sum_by-append h (taken_by (set hands port w)) (map stands_for (items ++ x ∷ [])),
               );
           spent = spent_set hands port w (λ none. absurd (omega arith)) rule.spent;
           belong = All-push belongs items x rule.belong mine;
@@ -76,6 +76,8 @@ module _ {T V : Type 0} (stands_for : T → V) (belongs : T → Type 0) where
                 weight_set h (λ (u : Hand V). u.taken) hands port v w at,
                 sum_by_push h v.taken (stands_for x),
                 sum_by-cons h (stands_for x) (map stands_for items),
+                sum_by-append h (taken_by hands) (map stands_for (x ∷ items)),
+                sum_by-append h (taken_by (set hands port w)) (map stands_for items),
               );
           spent = spent_set hands port w (λ none. absurd (omega arith)) rule.spent;
           belong = All-tail belongs x items rule.belong;
@@ -90,7 +92,15 @@ module _ {T V : Type 0} (stands_for : T → V) (belongs : T → Type 0) where
             λ j u apart e. rule.spent j u e (omega (arith, two_at_most (λ (y : Hand V). y.share) hands port j v u at e apart, rule.shares, all)) in
         let dealt = alone (λ (u : Hand V). u.dealt) hands port v at (λ j u apart e. (others j u apart e).0) in
         let taken = alone (λ (u : Hand V). u.taken) hands port v at (λ j u apart e. (others j u apart e).1) in
-        λ h. omega (arith, rule.balance h, ap (sum_by h) dealt, ap (sum_by h) taken)),
+        λ h.
+            omega (
+              arith,
+              rule.balance h,
+              ap (sum_by h) dealt,
+              ap (sum_by h) taken,
+              sum_by-append h (taken_by hands) (map stands_for items),
+              sum_by-append h v.taken (map stands_for items),
+            )),
     rule.belong,
   )
 
@@ -107,8 +117,10 @@ module _ {T V : Type 0} (stands_for : T → V) (belongs : T → Type 0) where
               rule.balance h,
               weight_set h (λ (u : Hand V). u.dealt) hands port v l at,
               weight_set h (λ (u : Hand V). u.taken) hands port v l at,
-              ap (sum_by h) (one_more (λ (u : Hand V). u.dealt) hands' r refl),
-              ap (sum_by h) (one_more (λ (u : Hand V). u.taken) hands' r refl),
+              ap (sum_by h) (flat_last (λ (u : Hand V). u.dealt) hands' r ∙ append-nil (flat_map (λ (u : Hand V). u.dealt) hands')),
+              ap (sum_by h) (flat_last (λ (u : Hand V). u.taken) hands' r ∙ append-nil (taken_by hands')),
+              sum_by-append h (taken_by hands) (map stands_for items),
+              sum_by-append h (taken_by (hands' ++ r ∷ [])) (map stands_for items),
             );
         spent = λ j u e.
             ⊎_elim (λ (was : get_elem? hands' j ≡ some u). spent_set hands port l (λ none. absurd (omega arith)) rule.spent j u was)
@@ -141,7 +153,31 @@ module _ {T V : Type 0} (stands_for : T → V) (belongs : T → Type 0) where
               weight_set h (λ (u : Hand V). u.taken) hands' other w none at',
               sum_by-append h v.dealt w.dealt,
               sum_by-append h v.taken w.taken,
+              sum_by-append h (taken_by hands) (map stands_for items),
+              sum_by-append h (taken_by (set hands' other none)) (map stands_for items),
             );
         spent = spent_set hands' other none (λ _. (refl, refl)) (spent_set hands port b (λ none. absurd (omega arith)) rule.spent);
         belong = rule.belong;
       }
+
+  -- a push that was refused found the board full
+  pub refused : {U : Type 0} (P : U → Type 0) (n : ℕ) (v w : Hand V) (piece : T) (r : Result U T)
+      → MatchResult r P (λ x. (x ≡ piece) × (w ≡ v) × Held n (Sees stands_for belongs v))
+      → IfErr r (λ _. v.share ≡ whole → (lying : List V) × (length lying ≡ n) × DealBalance v.dealt v.taken lying)
+  refused P n v w piece (Ok u) h = tt
+  refused P n v w piece (Err x) h = λ all. (map stands_for h.2.0, length-map h.2.0 stands_for ∙ h.2.1, h.2.2.0 all)
+
+  -- what is counted lies on the board
+  pub counted : (n : ℕ) (v : Hand V) (dealt taken : List V) → v.share ≡ whole → SameBag v.dealt dealt → SameBag v.taken taken → Held n (Sees stands_for belongs v)
+      → (lying : List V) × (length lying ≡ n) × DealBalance dealt taken lying
+  counted n v dealt taken all same same' held =
+      let lying = map stands_for held.0 in (
+        lying,
+        length-map held.0 stands_for ∙ held.1,
+        λ h. omega (arith, same h, same' h, held.2.0 all h, sum_by-append h v.taken lying, sum_by-append h taken lying),
+      )
+
+-- where nothing lies there, all was taken
+pub none_lie : {V : Type 0} (n : ℕ) (dealt taken : List V) → (lying : List V) × (length lying ≡ n) × DealBalance dealt taken lying → n ≡ 0 → SameBag dealt taken
+none_lie n dealt taken ([], l, balance) none = λ h. balance h ∙ ap (sum_by h) (append-nil taken)
+none_lie n dealt taken (x ∷ xs, l, balance) none = absurd (omega arith)

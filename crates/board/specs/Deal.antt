@@ -1,13 +1,17 @@
 -- What was dealt, what was taken and what lies on a board.
-use Rattle.std.specs.Prelude.{◌≡◌, ℕ, ◌+◌, List, [], map}
+use Rattle.std.specs.Prelude.{◌≡◌, ℕ, List, [], ◌++◌, map}
 use Rattle.std.specs.List.{sum_by, flat_map, All}
 use mathlib.Core.Option.{some}
 use lib.ListN.{get_elem?}
 use Rattle.board.specs.declared.rule.Hand.{Hand}
 
--- everything that was dealt was taken or lies on the board, each as often: however it is weighed, both sides weigh the same
+-- two lists hold each value as often: however values are weighed, both weigh the same
+abbrev pub SameBag : {V : Type 0} → List V → List V → Type 0
+SameBag {V} xs ys = (weight : V → ℕ) → sum_by weight xs ≡ sum_by weight ys
+
+-- each piece was dealt as often as it was taken or lies on the board
 abbrev pub DealBalance : {V : Type 0} → List V → List V → List V → Type 0
-DealBalance {V} dealt taken lying = (weight : V → ℕ) → sum_by weight dealt ≡ sum_by weight taken + sum_by weight lying
+DealBalance dealt taken lying = SameBag dealt (taken ++ lying)
 
 -- how many parts the right to see the whole of a board has: as many as a board has seats at most
 abbrev pub whole : ℕ

@@ -5,4 +5,4 @@ mod rule;
 mod seats;
 
 pub use rule::{Hand, Setting};
-pub use seats::{Board, Seat};
+pub use seats::{Board, Seat, settle};

@@ -1,7 +1,7 @@
 //! A board, and its seats.
 ghost use Rattle.std.specs.Prelude.{◌≡◌, ◌≤◌, ℕ, List, [], ◌∷◌, ◌++◌, length, map, IfOk, IfNone, IfErr, OnOk, MatchOption, MatchResult};
 ghost use Rattle.std.specs.List.{All, flat_map};
-ghost use Rattle.board.specs.Deal.{DealBalance, hand, whole};
+ghost use Rattle.board.specs.Deal.{DealBalance, SameBag, hand, whole};
 ghost use Rattle.board.specs.Seats.{IsSeatOf, AreAllSeats, HasEmptyBags, record_of, room, dealt, taken, share};
 
 use crate::rule::{Balanced, Cut, Deals, Hand, Setting, Takes, Together};
@@ -74,6 +74,7 @@ impl<T: Drop, V, S: Setting<T, V>> Board<T, V, S> {
         requires seat { IsSeatOf self.now seat.old }
         requires belongs { S.belongs piece }
         ensures seat { IsSeatOf self.now seat.new }
+        ensures full { IfErr result (λ _. share seat.old ≡ whole → (lying : List V) × (length lying ≡ room self.now) × DealBalance (dealt seat.old) (taken seat.old) lying) }
         ensures piece { MatchResult result (λ _. record_of seat.new ≡ hand (share seat.old) (dealt seat.old ++ S.stands_for piece ∷ []) (taken seat.old)) (λ back. (back ≡ piece) × (record_of seat.new ≡ record_of seat.old)) }
     {
         self.queue.push_as::<Deals<S>, R>(rt, &mut seat.pass, piece)
@@ -83,8 +84,45 @@ impl<T: Drop, V, S: Setting<T, V>> Board<T, V, S> {
     pub fn take<R: Wait>(&self, rt: &R, seat: &mut Seat<T, V>) -> Option<T>
         requires seat { IsSeatOf self.now seat.old }
         ensures seat { IsSeatOf self.now seat.new }
+        ensures empty { IfNone result (share seat.old ≡ whole → DealBalance (dealt seat.old) (taken seat.old) []) }
         ensures piece { MatchOption result (record_of seat.new ≡ record_of seat.old) (λ piece. (record_of seat.new ≡ hand (share seat.old) (dealt seat.old) (taken seat.old ++ S.stands_for piece ∷ [])) × S.belongs piece) }
     {
         self.queue.pop_as::<Takes<S>, R>(rt, &mut seat.pass)
     }
+}
+
+/// Settles a board with all its seats: how many pieces still lie there. With 0, each piece that was dealt was taken, as often, and no other.
+pub fn settle<T: Drop, V, S: Setting<T, V>, R: Wait>(
+    rt: &R,
+    board: Board<T, V, S>,
+    seats: Vec<Seat<T, V>>,
+) -> usize
+    requires { AreAllSeats board seats.items }
+    ensures balance { (lying : List V) × (length lying ≡ result) × DealBalance (flat_map dealt seats.items) (flat_map taken seats.items) lying }
+    ensures all_taken { result ≡ 0 → SameBag (flat_map dealt seats.items) (flat_map taken seats.items) }
+{
+    let mut gathered = gather(&board, seats);
+    board
+        .queue
+        .len_as::<Takes<S>, R>(rt, &mut gathered.pass)
+}
+
+// The seat that knows what all seats did.
+fn gather<T: Drop, V, S: Setting<T, V>>(
+    board: &Board<T, V, S>,
+    mut seats: Vec<Seat<T, V>>,
+) -> Seat<T, V>
+    requires { AreAllSeats board.now seats.items }
+    ensures seat { IsSeatOf board.now result × (share result ≡ whole) }
+    ensures dealt { SameBag (dealt result) (flat_map dealt seats.items) }
+    ensures taken { SameBag (taken result) (flat_map taken seats.items) }
+{
+    let Some(mut gathered) = seats.pop() else {
+        unreachable!()
+    };
+    while let Some(seat) = seats.pop() {
+        let Seat { pass } = seat;
+        board.queue.absorb::<Together>(&mut gathered.pass, pass);
+    }
+    gathered
 }
