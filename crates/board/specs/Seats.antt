@@ -27,11 +27,16 @@ module _ {T V : Type 0} where
   abbrev pub HasEmptyBags : Seat T V → Type 0
   HasEmptyBags seat = (dealt seat ≡ []) × (taken seat ≡ [])
 
+  -- a seat of the same board, with the same share
+  abbrev pub IsSameSeat : Seat T V → Seat T V → Type 0
+  IsSameSeat old new = IsSamePass old.pass new.pass × (share new ≡ share old)
+
 module _ {T V S : Type 0} where
   -- how many pieces can lie on the board
   abbrev pub room : Board T V S → ℕ
   room board = ruled_capacity board.queue
 
+  -- a seat of this board
   abbrev pub IsSeatOf : Board T V S → Seat T V → Type 0
   IsSeatOf board seat = IsPassOf board.queue seat.pass × (0 < share seat)
 

@@ -3,6 +3,8 @@
 
 mod rule;
 mod seats;
+#[cfg(test)]
+mod tests;
 
 pub use rule::{Hand, Setting};
 pub use seats::{Board, Seat, settle};

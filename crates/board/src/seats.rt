@@ -2,7 +2,7 @@
 ghost use Rattle.std.specs.Prelude.{◌≡◌, ◌≤◌, ℕ, List, [], ◌∷◌, ◌++◌, length, map, IfOk, IfNone, IfErr, OnOk, MatchOption, MatchResult};
 ghost use Rattle.std.specs.List.{All, flat_map};
 ghost use Rattle.board.specs.Deal.{DealBalance, SameBag, hand, whole};
-ghost use Rattle.board.specs.Seats.{IsSeatOf, AreAllSeats, HasEmptyBags, record_of, room, dealt, taken, share};
+ghost use Rattle.board.specs.Seats.{IsSeatOf, IsSameSeat, AreAllSeats, HasEmptyBags, record_of, room, dealt, taken, share};
 
 use crate::rule::{Balanced, Cut, Deals, Hand, Setting, Takes, Together};
 use base::Memory;
@@ -73,7 +73,7 @@ impl<T: Drop, V, S: Setting<T, V>> Board<T, V, S> {
     pub fn deal<R: Wait>(&self, rt: &R, seat: &mut Seat<T, V>, piece: T) -> Result<(), T>
         requires seat { IsSeatOf self.now seat.old }
         requires belongs { S.belongs piece }
-        ensures seat { IsSeatOf self.now seat.new }
+        ensures seat { IsSameSeat seat.old seat.new }
         ensures full { IfErr result (λ _. share seat.old ≡ whole → (lying : List V) × (length lying ≡ room self.now) × DealBalance (dealt seat.old) (taken seat.old) lying) }
         ensures piece { MatchResult result (λ _. record_of seat.new ≡ hand (share seat.old) (dealt seat.old ++ S.stands_for piece ∷ []) (taken seat.old)) (λ back. (back ≡ piece) × (record_of seat.new ≡ record_of seat.old)) }
     {
@@ -83,7 +83,7 @@ impl<T: Drop, V, S: Setting<T, V>> Board<T, V, S> {
     /// Takes the piece that has lain there longest.
     pub fn take<R: Wait>(&self, rt: &R, seat: &mut Seat<T, V>) -> Option<T>
         requires seat { IsSeatOf self.now seat.old }
-        ensures seat { IsSeatOf self.now seat.new }
+        ensures seat { IsSameSeat seat.old seat.new }
         ensures empty { IfNone result (share seat.old ≡ whole → DealBalance (dealt seat.old) (taken seat.old) []) }
         ensures piece { MatchOption result (record_of seat.new ≡ record_of seat.old) (λ piece. (record_of seat.new ≡ hand (share seat.old) (dealt seat.old) (taken seat.old ++ S.stands_for piece ∷ [])) × S.belongs piece) }
     {
