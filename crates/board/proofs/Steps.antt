@@ -89,18 +89,18 @@ module _ {T V : Type 0} (stands_for : T → V) (belongs : T → Type 0) where
   sees port v items hands rule at = (
     (λ all.
         let others : (j : ℕ) (u : Hand V) → j ≢ port → get_elem? hands j ≡ some u → (u.dealt ≡ []) × (u.taken ≡ []) =
-            λ j u apart e. rule.spent j u e (omega (arith, two_at_most (λ (y : Hand V). y.share) hands port j v u at e apart, rule.shares, all)) in
+        λ j u apart e. rule.spent j u e (omega (arith, two_at_most (λ (y : Hand V). y.share) hands port j v u at e apart, rule.shares, all)) in
         let dealt = alone (λ (u : Hand V). u.dealt) hands port v at (λ j u apart e. (others j u apart e).0) in
         let taken = alone (λ (u : Hand V). u.taken) hands port v at (λ j u apart e. (others j u apart e).1) in
         λ h.
-            omega (
-              arith,
-              rule.balance h,
-              ap (sum_by h) dealt,
-              ap (sum_by h) taken,
-              sum_by-append h (taken_by hands) (map stands_for items),
-              sum_by-append h v.taken (map stands_for items),
-            )),
+        omega (
+          arith,
+          rule.balance h,
+          ap (sum_by h) dealt,
+          ap (sum_by h) taken,
+          sum_by-append h (taken_by hands) (map stands_for items),
+          sum_by-append h v.taken (map stands_for items),
+        )),
     rule.belong,
   )
 
@@ -124,8 +124,8 @@ module _ {T V : Type 0} (stands_for : T → V) (belongs : T → Type 0) where
             );
         spent = λ j u e.
             ⊎_elim (λ (was : get_elem? hands' j ≡ some u). spent_set hands port l (λ none. absurd (omega arith)) rule.spent j u was)
-                (λ (is : r ≡ u). subst (λ (y : Hand V). y.share ≡ 0 → (y.dealt ≡ []) × (y.taken ≡ [])) is (λ none. absurd (omega arith)))
-                (at_snoc hands' r u j e);
+            (λ (is : r ≡ u). subst (λ (y : Hand V). y.share ≡ 0 → (y.dealt ≡ []) × (y.taken ≡ [])) is (λ none. absurd (omega arith)))
+            (at_snoc hands' r u j e);
         belong = rule.belong;
       }
 
@@ -137,12 +137,12 @@ module _ {T V : Type 0} (stands_for : T → V) (belongs : T → Type 0) where
       let hands' : List (Hand V) = set hands port b in
       record {
         shares =
-          omega (
-            arith,
-            total_set (λ (u : Hand V). u.share) hands port v b at,
-            total_set (λ (u : Hand V). u.share) hands' other w none at',
-            rule.shares,
-          );
+            omega (
+              arith,
+              total_set (λ (u : Hand V). u.share) hands port v b at,
+              total_set (λ (u : Hand V). u.share) hands' other w none at',
+              rule.shares,
+            );
         balance = λ h.
             omega (
               arith,

@@ -102,9 +102,7 @@ pub fn settle<T: Drop, V, S: Setting<T, V>, R: Wait>(
     ensures all_taken { result ≡ 0 → SameBag (flat_map dealt seats.items) (flat_map taken seats.items) }
 {
     let mut gathered = gather(&board, seats);
-    board
-        .queue
-        .len_as::<Takes<S>, R>(rt, &mut gathered.pass)
+    board.queue.len_as::<Takes<S>, R>(rt, &mut gathered.pass)
 }
 
 // The seat that knows what all seats did.

@@ -1,15 +1,18 @@
 //! A board of three pieces at one seat, and a board among threads.
-ghost use Rattle.std.specs.Prelude.{◌≡◌, ◌≤◌, ◌<◌, length};
-ghost use Rattle.board.specs.Seats.{IsSeatOf, IsSameSeat, AreAllSeats};
+ghost use Rattle.std.specs.Prelude.{◌≡◌, ◌<◌, IfSome};
+ghost use Rattle.board.specs.Seats.{IsSeatOf, IsSameSeat};
 
+use crate::place::Place;
+use crate::returning::SameSeat;
 use crate::rule::Setting;
 use crate::seats::{Board, Seat, settle};
 use std::process::Abort;
 use std::snapshot::Snapshot;
 use std::sync::Wait;
+use std::sync::atomic::{AtomicU64, Ordering};
 use std::test::Fail;
 use std::thread;
-use std::thread::{Promise, Threads};
+use std::thread::Threads;
 
 // Numbers below 100, each of which stands for itself.
 struct Small;
@@ -24,10 +27,8 @@ impl Setting<u64, u64> for Small {
 
 type Numbers = Board<u64, u64, Small>;
 
-type Place = Seat<u64, u64>;
-
 // Three pieces find room, and a fourth comes back.
-fn fill<R: Abort + Wait>(rt: &R, board: &Numbers, seat: &mut Place)
+fn fill<R: Abort + Wait>(rt: &R, board: &Numbers, seat: &mut Seat<u64, u64>)
     requires { IsSeatOf board.now seat.old }
     ensures { IsSameSeat seat.old seat.new }
 {
@@ -38,7 +39,7 @@ fn fill<R: Abort + Wait>(rt: &R, board: &Numbers, seat: &mut Place)
 }
 
 // The three leave, the first one first, and then nothing lies there.
-fn empty<R: Abort + Wait>(rt: &R, board: &Numbers, seat: &mut Place)
+fn empty<R: Abort + Wait>(rt: &R, board: &Numbers, seat: &mut Seat<u64, u64>)
     requires { IsSeatOf board.now seat.old }
     ensures { IsSameSeat seat.old seat.new }
 {
@@ -71,19 +72,13 @@ fn what_is_left_is_counted(rt: HostRuntime) -> Result<(), Fail> {
     Ok(())
 }
 
-// The promise of a thread: its seat comes back as a seat of the same board.
-#[derive(Drop)]
-struct SameSeat(Snapshot<Place>);
-
-impl Promise<(Place, u64)> for SameSeat {
-    ghost use Rattle.std.specs.Prelude.{◌≤◌};
-    ghost use Rattle.board.specs.Seats.{IsSameSeat};
-
-    ghost kept_by = { λ before came. IsSameSeat before.0.value came.0 × (came.1 ≤ 3000) };
-}
-
 // Deals the numbers from 1 up to this one.
-fn deal_up_to<R: Abort + Wait>(rt: &R, board: &Numbers, mut seat: Place, end: u64) -> Place
+fn deal_up_to<R: Abort + Wait>(
+    rt: &R,
+    board: &Numbers,
+    mut seat: Seat<u64, u64>,
+    end: u64,
+) -> Seat<u64, u64>
     requires seat { IsSeatOf board.now seat }
     requires end { end < 100 }
     ensures { IsSameSeat seat result }
@@ -94,20 +89,25 @@ fn deal_up_to<R: Abort + Wait>(rt: &R, board: &Numbers, mut seat: Place, end: u6
     seat
 }
 
-// Takes thirty pieces, each as soon as one lies there, and adds them up.
-fn take_thirty<R: Wait>(rt: &R, board: &Numbers, mut seat: Place) -> (Place, u64)
+// Takes thirty pieces, each as soon as one lies there, and adds them to the sum.
+fn take_thirty<R: Wait>(
+    rt: &R,
+    board: &Numbers,
+    mut seat: Seat<u64, u64>,
+    sum: &AtomicU64,
+) -> Seat<u64, u64>
     requires { IsSeatOf board.now seat }
-    ensures { IsSameSeat seat result.0 × (result.1 ≤ 3000) }
+    ensures { IsSameSeat seat result }
 {
-    let mut sum = 0;
-    for _ in 0..30u64 {
-        sum += take_one(rt, board, &mut seat);
+    for _ in 0..30 {
+        let piece = take_one(rt, board, &mut seat);
+        sum.fetch_add(piece, Ordering::SeqCst);
     }
-    (seat, sum)
+    seat
 }
 
 // Takes a piece as soon as one lies there.
-fn take_one<R: Wait>(rt: &R, board: &Numbers, seat: &mut Place) -> u64
+fn take_one<R: Wait>(rt: &R, board: &Numbers, seat: &mut Seat<u64, u64>) -> u64
     requires { IsSeatOf board.now seat.old }
     ensures seat { IsSameSeat seat.old seat.new }
     ensures below { result < 100 }
@@ -121,14 +121,15 @@ fn take_one<R: Wait>(rt: &R, board: &Numbers, seat: &mut Place) -> u64
     unreachable!()
 }
 
-// Two threads take sixty pieces that this one deals: the three seats, and what was taken, added up.
+// Two threads take sixty pieces that this one deals: the three seats.
 fn by_three<R: Abort + Threads + Wait + Sync>(
     rt: &R,
     board: &Numbers,
-    one: Place,
-    other: Place,
-    own: Place,
-) -> (Place, Place, Place, u64)
+    sum: &AtomicU64,
+    one: Seat<u64, u64>,
+    other: Seat<u64, u64>,
+    own: Seat<u64, u64>,
+) -> (Seat<u64, u64>, Seat<u64, u64>, Seat<u64, u64>)
     requires one { IsSeatOf board.now one }
     requires other { IsSeatOf board.now other }
     requires own { IsSeatOf board.now own }
@@ -137,34 +138,32 @@ fn by_three<R: Abort + Threads + Wait + Sync>(
     thread::scope(
         thread::scope_env(),
         rt,
-        move |scope| -> (Place, Place, Place, u64)
+        move |scope| -> (Seat<u64, u64>, Seat<u64, u64>, Seat<u64, u64>)
             requires { IsSeatOf board.now one × IsSeatOf board.now other × IsSeatOf board.now own }
             ensures { IsSameSeat one result.0 × IsSameSeat other result.1 × IsSameSeat own result.2 }
         {
             let promise = SameSeat(Snapshot::of(&one));
             let Ok(first) = scope.spawn_with(
                 promise,
-                move || -> (Place, u64)
+                move || -> Seat<u64, u64>
                     requires { IsSeatOf board.now one }
-                    ensures { IsSameSeat one result.0 × (result.1 ≤ 3000) }
-                { take_thirty(rt, board, one) },
+                    ensures { IsSameSeat one result }
+                { take_thirty(rt, board, one, sum) },
             ) else {
                 panic!(rt; "no thread");
             };
             let promise = SameSeat(Snapshot::of(&other));
             let Ok(second) = scope.spawn_with(
                 promise,
-                move || -> (Place, u64)
+                move || -> Seat<u64, u64>
                     requires { IsSeatOf board.now other }
-                    ensures { IsSameSeat other result.0 × (result.1 ≤ 3000) }
-                { take_thirty(rt, board, other) },
+                    ensures { IsSameSeat other result }
+                { take_thirty(rt, board, other, sum) },
             ) else {
                 panic!(rt; "no thread");
             };
             let own = deal_up_to(rt, board, own, 60);
-            let (one, sum) = first.join(rt);
-            let (other, more) = second.join(rt);
-            (one, other, own, sum + more)
+            (first.join(rt), second.join(rt), own)
         },
     )
 }
@@ -175,11 +174,70 @@ fn two_threads_take_what_a_third_deals(rt: HostRuntime) -> Result<(), Fail> {
     let (Some(one), Some(other), Some(own)) = (seats.pop(), seats.pop(), seats.pop()) else {
         panic!(&rt; "too few seats");
     };
-    let (one, other, own, sum) = by_three(&rt, &board, one, other, own);
+    let sum = AtomicU64::new(0);
+    let (one, other, own) = by_three(&rt, &board, &sum, one, other, own);
     seats.push(own)?;
     seats.push(other)?;
     seats.push(one)?;
-    assert_eq!(rt; sum, 1830);
+    assert_eq!(rt; sum.load(Ordering::SeqCst), 1830);
+    assert_eq!(rt; settle(&rt, board, seats), 0);
+    Ok(())
+}
+
+// A thread takes a piece of any kind: its seat, which comes back.
+fn taken_beside<'b, T, V, S, R>(rt: &R, place: Place<'b, T, V, S>) -> Option<Seat<T, V>>
+where
+    T: Drop + Send,
+    V: Send,
+    S: Setting<T, V> + Send + Sync,
+    R: Threads + Wait + Sync,
+    requires { IsSeatOf place.board.now place.seat }
+    ensures { IfSome result (λ seat. IsSameSeat place.entry.seat seat) }
+{
+    thread::scope(
+        thread::scope_env(),
+        rt,
+        move |scope| -> Option<Seat<T, V>>
+            requires { IsSeatOf place.board.now place.seat }
+            ensures { IfSome result (λ seat. IsSameSeat place.entry.seat seat) }
+        {
+            let promise = SameSeat(Snapshot::of(&place.seat));
+            let Ok(thread) = scope.spawn_with(
+                promise,
+                move || -> Seat<T, V>
+                    requires { IsSeatOf place.board.now place.seat }
+                    ensures { IsSameSeat place.entry.seat result }
+                { take_at(rt, place) },
+            ) else {
+                return None;
+            };
+            Some(thread.join(rt))
+        },
+    )
+}
+
+// Takes a piece, if one lies there, and lets it go.
+fn take_at<'b, T: Drop, V, S: Setting<T, V>, R: Wait>(
+    rt: &R,
+    place: Place<'b, T, V, S>,
+) -> Seat<T, V>
+    ensures { IsSameSeat place.entry.seat result }
+{
+    let Place { board, mut seat } = place;
+    let _ = board.take(rt, &mut seat);
+    seat
+}
+
+#[test]
+fn a_seat_goes_to_a_thread_and_comes_back(rt: HostRuntime) -> Result<(), Fail> {
+    let (board, mut seats) = Numbers::new(rt.alloc(), 1, 1)?;
+    let mut seat = seats.pop().ok_or("no seat")?;
+    assert_eq!(rt; board.deal(&rt, &mut seat, 7), Ok(()));
+    let place = Place {
+        board: &board,
+        seat,
+    };
+    seats.push(taken_beside(&rt, place).ok_or("no thread")?)?;
     assert_eq!(rt; settle(&rt, board, seats), 0);
     Ok(())
 }

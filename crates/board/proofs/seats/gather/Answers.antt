@@ -47,8 +47,8 @@ loop-seat-preserved g c =
       shares = omega (arith, was.shares, shares, ap (sum_by share) items, sum_by_push share rest seat);
       dealt = λ h.
           ap (λ l. sum_by h (flat_map dealt rest ++ l)) (ap (λ v. v.dealt) both)
-              ∙ (weight_moved h dealt rest seat (dealt c.loop-seat.gathered) ∙ (ap (λ l. sum_by h (flat_map dealt l ++ dealt c.loop-seat.gathered)) (sym items) ∙ was.dealt h));
+          ∙ (weight_moved h dealt rest seat (dealt c.loop-seat.gathered) ∙ (ap (λ l. sum_by h (flat_map dealt l ++ dealt c.loop-seat.gathered)) (sym items) ∙ was.dealt h));
       taken = λ h.
           ap (λ l. sum_by h (flat_map taken rest ++ l)) (ap (λ v. v.taken) both)
-              ∙ (weight_moved h taken rest seat (taken c.loop-seat.gathered) ∙ (ap (λ l. sum_by h (flat_map taken l ++ taken c.loop-seat.gathered)) (sym items) ∙ was.taken h));
+          ∙ (weight_moved h taken rest seat (taken c.loop-seat.gathered) ∙ (ap (λ l. sum_by h (flat_map taken l ++ taken c.loop-seat.gathered)) (sym items) ∙ was.taken h));
     }

@@ -11,7 +11,7 @@ whole_balance : goal.returns-clause-balance
 whole_balance g c =
     let all = c.gather-gathered.ensures in
     counted g.S.Setting.stands_for g.S.Setting.belongs c.len_as.result (record_of c.gather-gathered.result) (flat_map dealt c.args.seats.items) (flat_map taken c.args.seats.items)
-        all.seat.1 all.dealt all.taken c.len_as.ensures.rule.1
+    all.seat.1 all.dealt all.taken c.len_as.ensures.rule.1
 
 pub returns-clause-balance : goal.returns-clause-balance
 returns-clause-balance = whole_balance
