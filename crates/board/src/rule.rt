@@ -1,18 +1,21 @@
-//! The rule of a board: what a seat knows, and what each step at it changes.
-ghost use Rattle.std.specs.Prelude.{◌≡◌, List, ◌∷◌, [], ◌++◌, map, IsTrue};
+//! The rule of a board: what a seat knows, and what each step at it changes. These types are for proofs alone.
 
 use crossbeam_queue::protocol::{Join, Lesson, Outcome, Protocol, Split};
 use std::collections::LinkedList;
 use std::marker::PhantomData;
 
-/// What the pieces of a board are: what each stands for, and which belong to the board.
+/// What the pieces `T` of a board are: what each stands for, and which belong to the board. A type stands for it
+/// of which no value is made.
 pub trait Setting<T, V> {
+    /// What a piece stands for in the accounts of the seats.
     ghost stands_for: { T → V };
 
+    /// Whether a piece belongs to the board: asked of whoever deals one, and known to whoever takes one.
     ghost belongs: { T → Type 0 };
 }
 
-/// What a seat knows: its share of the right to see the whole, what was dealt from it and what it has taken. No value of it is made.
+/// What a seat knows: its share of the right to see the whole board, what was dealt from it and what it has
+/// taken.
 pub struct Hand<V> {
     pub share: u64,
     pub dealt: LinkedList<V>,
@@ -20,11 +23,12 @@ pub struct Hand<V> {
 }
 
 /// The rule that each piece dealt is taken once or lies on the board, and that what lies there belongs to it.
-pub struct Balanced<S> {
+pub(crate) struct Balanced<S> {
     setting: PhantomData<S>,
 }
 
 impl<T, V, S: Setting<T, V>> Protocol<T, Hand<V>> for Balanced<S> {
+    ghost use Rattle.std.specs.Prelude.{[]};
     ghost use Rattle.board.specs.Deal.{whole, hand, IsBalanced};
 
     ghost holds = { IsBalanced S.stands_for S.belongs };
@@ -33,7 +37,7 @@ impl<T, V, S: Setting<T, V>> Protocol<T, Hand<V>> for Balanced<S> {
 }
 
 /// One part of a seat's share becomes the share of a new seat.
-pub struct Cut;
+pub(crate) struct Cut;
 
 impl<V> Split<Hand<V>> for Cut {
     ghost use Rattle.std.specs.Prelude.{◌-◌, []};
@@ -45,7 +49,7 @@ impl<V> Split<Hand<V>> for Cut {
 }
 
 /// Two seats become one.
-pub struct Together;
+pub(crate) struct Together;
 
 impl<V> Join<Hand<V>> for Together {
     ghost use Rattle.std.specs.Prelude.{◌+◌, [], ◌++◌};
@@ -57,7 +61,7 @@ impl<V> Join<Hand<V>> for Together {
 }
 
 /// A push adds to what was dealt.
-pub struct Deals<S> {
+pub(crate) struct Deals<S> {
     setting: PhantomData<S>,
 }
 
@@ -69,7 +73,7 @@ impl<T, V, S: Setting<T, V>> Outcome<T, Hand<V>> for Deals<S> {
 }
 
 /// A pop adds to what was taken, and the piece belongs to the board.
-pub struct Takes<S> {
+pub(crate) struct Takes<S> {
     setting: PhantomData<S>,
 }
 

@@ -1,5 +1,5 @@
 //! A board, and its seats.
-ghost use Rattle.std.specs.Prelude.{◌≡◌, ◌≤◌, ℕ, List, [], ◌∷◌, ◌++◌, length, map, IfOk, IfNone, IfErr, OnOk, MatchOption, MatchResult};
+ghost use Rattle.std.specs.Prelude.{◌≡◌, ◌≤◌, List, [], ◌∷◌, ◌++◌, length, IfOk, IfNone, IfErr, MatchOption, MatchResult};
 ghost use Rattle.std.specs.List.{All, flat_map};
 ghost use Rattle.board.specs.Deal.{DealBalance, SameBag, hand, whole};
 ghost use Rattle.board.specs.Seats.{IsSeatOf, IsSameSeat, AreAllSeats, HasEmptyBags, record_of, room, dealt, taken, share};
@@ -10,20 +10,22 @@ use crossbeam_queue::{Pass, RuledArrayQueue};
 use std::alloc::Global;
 use std::sync::Wait;
 
-/// A shared object on which pieces lie until somebody takes them.
+/// A shared object on which pieces `T` lie until somebody takes them. Threads share it by reference.
 #[derive(Drop)]
 pub struct Board<T, V, S: Setting<T, V>> {
     queue: RuledArrayQueue<T, Hand<V>, Balanced<S>>,
 }
 
-/// A place at a board, for one thread. It keeps account of what was dealt from it and of what it has taken, in proofs alone.
+/// A seat at a board, for one thread. It keeps account, in proofs alone, of what was dealt from it and of what it
+/// has taken: two bags of what the pieces stand for (`dealt` and `taken`). It has no bytes.
 #[derive(Drop)]
 pub struct Seat<T, V> {
     pass: Pass<T, Hand<V>>,
 }
 
 impl<T: Drop, V, S: Setting<T, V>> Board<T, V, S> {
-    /// A board on which nothing lies, with room for so many pieces (1 to 64), and as many seats as are asked for (1 to 65), all of them with empty bags.
+    /// A board on which nothing lies, with room for so many pieces (1 to 64), and all its seats, as many as are
+    /// asked for (1 to 65), with empty bags. `Err` where memory is refused.
     pub fn new(
         alloc: Global,
         pieces: usize,
@@ -69,7 +71,9 @@ impl<T: Drop, V, S: Setting<T, V>> Board<T, V, S> {
         }
     }
 
-    /// Puts the piece on the board. It comes back where the board is full.
+    /// Puts a piece that belongs to the board there, behind all that lie there: `Ok` adds what it stands for to
+    /// what was dealt from the seat. `Err` hands that very piece back and changes nothing: the board was full at
+    /// one moment of the call, which is known for sure where the board has no other seat.
     pub fn deal<R: Wait>(&self, rt: &R, seat: &mut Seat<T, V>, piece: T) -> Result<(), T>
         requires seat { IsSeatOf self.now seat.old }
         requires belongs { S.belongs piece }
@@ -80,7 +84,9 @@ impl<T: Drop, V, S: Setting<T, V>> Board<T, V, S> {
         self.queue.push_as::<Deals<S>, R>(rt, &mut seat.pass, piece)
     }
 
-    /// Takes the piece that has lain there longest.
+    /// Takes the piece that has lain on the board longest: `Some` adds what it stands for to what the seat has
+    /// taken, and the piece belongs to the board. `None` changes nothing: nothing lay there at one moment of the
+    /// call, which is known for sure where the board has no other seat.
     pub fn take<R: Wait>(&self, rt: &R, seat: &mut Seat<T, V>) -> Option<T>
         requires seat { IsSeatOf self.now seat.old }
         ensures seat { IsSameSeat seat.old seat.new }
@@ -91,7 +97,9 @@ impl<T: Drop, V, S: Setting<T, V>> Board<T, V, S> {
     }
 }
 
-/// Settles a board with all its seats: how many pieces still lie there. With 0, each piece that was dealt was taken, as often, and no other.
+/// Settles a board, given all its seats: how many pieces still lie there, which go with the board. Over all seats
+/// each piece was dealt as often as it was taken or lies there (`DealBalance`): with 0, every piece that was dealt
+/// was taken, as often, and no other.
 pub fn settle<T: Drop, V, S: Setting<T, V>, R: Wait>(
     rt: &R,
     board: Board<T, V, S>,
