@@ -1,4 +1,7 @@
 pub mod Contents
+pub mod Marks
 pub mod Queue
+pub mod Slots
 pub mod Tree
 pub mod View
+pub mod Wheel
