@@ -6,4 +6,5 @@ mod Lists
 mod Numbers
 mod Receivers
 mod Turned
+mod Unions
 mod Wheels

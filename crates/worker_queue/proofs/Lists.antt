@@ -27,6 +27,12 @@ not_before_through a b c first second before = by_order (key_cmp b a) refl
     by_order Equal is = second (subst (λ k. IsBefore k c) (sym (key_exact b a is)) before)
     by_order Greater is = first (key_total.antisymm a b ∙ ap ordering_reverse is)
 
+pub before_itself : (k : Key) → ¬ (IsBefore k k)
+before_itself k before = cc (tied_itself key_total k)
+
+pub not_both : (a b : Key) → IsBefore a b → ¬ (IsBefore b a)
+not_both a b before after = cc (key_total.antisymm a b, before, after)
+
 nothing_below : (m : ℕ) (r o : Ordering) → MatchOrdering o (m < 0) (m ≡ 0) (0 < m) → ordering_then o r ≡ Less → r ≡ Less
 nothing_below m r Less h e = absurd (omega arith)
 nothing_below m r Equal h e = e

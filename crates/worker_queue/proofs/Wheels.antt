@@ -15,7 +15,7 @@ use Rattle.worker_queue.specs.Slots.{by_key, AreUnlike, IsOfOneMoment, NoneIsBef
 use Rattle.worker_queue.specs.Wheel.{slot_at, all_by_key, Spans, ArePlaced, AreMarked, turns, IsFirstPlace}
 use Rattle.worker_queue.proofs.Lists.{found, get-by_key, list_empty, some_key}
 
-abbrev or_else : {A : Type 0} → Option A → Option A → Option A
+abbrev pub or_else : {A : Type 0} → Option A → Option A → Option A
 or_else None o = o
 or_else (Some x) o = Some x
 

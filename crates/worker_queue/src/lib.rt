@@ -6,10 +6,13 @@ mod least;
 mod marks;
 mod queue;
 mod slot;
+mod stores;
 #[cfg(test)]
 mod tests;
 mod tree;
 mod wheel;
+mod wheel_queue;
 
 pub use queue::EventQueue;
 pub use tree::TreeQueue;
+pub use wheel_queue::WheelQueue;
