@@ -1,18 +1,18 @@
 -- What is last in a list of events.
-use Rattle.std.proofs.Common.{◌≡◌, IsTrue, ℕ, ◌+◌, ◌-◌, ◌<◌, ◌≤◌, Bool, true, false, List, [], ◌∷◌, ◌++◌, length, take, drop, get_or, Option, Some, None, IfSome, IfNone, Contains, Ok, Err, Result, ap, ◌∙◌, sym, subst, refl, arith}
+use Rattle.std.proofs.Common.{◌≡◌, ◌+◌, ◌-◌, ◌<◌, true, false, List, [], ◌∷◌, ◌++◌, length, take, drop, get_or, Option, Some, None, IfSome, Contains, Ok, Err, Result, ap, ◌∙◌, sym, subst, refl, arith}
 use Rattle.std.specs.Option.{is_some, option_to_list}
 use Rattle.std.specs.Result.{is_ok}
 use Rattle.std.specs.Bool.{if◌then◌else◌}
 use Rattle.std.specs.List.{slice_get}
-use Rattle.std.specs.FinMap.{contains_key, remove, empty, get, get-empty}
+use Rattle.std.specs.FinMap.{contains_key, remove, get, get-empty}
 use Rattle.std.proofs.lemmas.Bool.{false≢true}
-use Rattle.std.proofs.lemmas.List.{append-nil, take-append-drop, drop_more, drop_all, nil_from_length, length-append}
-use Rattle.std.proofs.lemmas.Option.{slice_get-get_or, slice_get_within, get_or_from_slice_get, same_Some}
+use Rattle.std.proofs.lemmas.List.{append-nil, take-append-drop, drop_more, drop_all}
+use Rattle.std.proofs.lemmas.Option.{slice_get-get_or, slice_get_within, get_or_from_slice_get}
 use Rattle.base.specs.declared.key.Key.{Key}
 use Rattle.base.specs.Order.{key_cmp, IsBefore}
 use Rattle.base.specs.Run.{IsFirst}
 use Rattle.worker_queue.specs.Slots.{by_key, AreUnlike, AreFalling, IsOfOneMoment, NoneIsBefore}
-use Rattle.worker_queue.proofs.Lists.{found, found_is, get-by_key, is_found, one_with, last_first, by_key-front, unlike_front, front_falls, unlike_push, not_before_last, not_before_through}
+use Rattle.worker_queue.proofs.Lists.{get-by_key, is_found, one_with, last_first, by_key-front, unlike_front, front_falls, unlike_push, not_before_last, not_before_through}
 
 module _ {E : Type 0} (key : E → Key) where
   pub no_last : (xs : List E) → None ≡ slice_get xs (length xs - 1) → xs ≡ []

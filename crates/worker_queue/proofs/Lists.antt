@@ -1,10 +1,10 @@
 -- Lists of events as sets.
-use Rattle.std.proofs.Common.{◌≡◌, IsTrue, ℕ, zero, suc, ◌+◌, ◌-◌, ◌<◌, ◌≤◌, ◌⊎◌, Bool, true, false, cond, List, [], ◌∷◌, ◌++◌, map, length, get_or, count_by, Option, Some, None, IfSome, IfNone, IsPermutation, All, Any, Contains, ap, ◌∙◌, sym, subst, refl, inl, inr, arith}
+use Rattle.std.proofs.Common.{◌≡◌, IsTrue, ℕ, zero, suc, ◌+◌, ◌<◌, ◌≤◌, ◌⊎◌, Bool, true, false, cond, List, [], ◌∷◌, ◌++◌, map, length, get_or, count_by, Option, Some, None, IfSome, IsPermutation, All, Any, Contains, ap, ◌∙◌, sym, subst, refl, inl, inr, arith}
 use Rattle.std.specs.Option.{is_some}
 use Rattle.std.specs.Ordering.{eq_by_cmp, is_lt, is_eq, nat_cmp, ordering_then, ordering_reverse, MatchOrdering}
 use Rattle.std.specs.declared.cmp.Ordering.{Ordering}
 use Rattle.std.specs.declared.cmp.Ordering.TheVariants.{Less, Equal, Greater}
-use Rattle.std.specs.Cmp.{IsStrictWeakOrder, tied_itself, ranks, nat_cmp_is}
+use Rattle.std.specs.Cmp.{IsStrictWeakOrder, tied_itself, ranks}
 use Rattle.std.specs.FinMap.{FinMap, from_entries, empty, get, contains_key, insert, remove, find, get-from_entries, get-insert, get-remove, get-empty, same_map, from_entries_push}
 use Rattle.std.proofs.lemmas.Bool.{false≢true, cases_order}
 use Rattle.std.proofs.lemmas.Option.{same_Some}
@@ -16,7 +16,7 @@ use Rattle.base.specs.declared.key.Key.{Key}
 use Rattle.base.specs.Order.{key_cmp, key_total, key_exact, IsBefore, moments-from_before}
 use Rattle.base.specs.Run.{IsFirst, tells}
 use Rattle.worker_queue.specs.Queue.{IsLeastKey}
-use Rattle.worker_queue.specs.Slots.{by_key, AreUnlike, AreFalling, IsOfOneMoment, NoneIsBefore}
+use Rattle.worker_queue.specs.Slots.{by_key, AreUnlike, AreFalling}
 
 -- Of three keys: the first isn't before the second, nor that before the third.
 pub not_before_through : (a b c : Key) → ¬ (IsBefore a b) → ¬ (IsBefore b c) → ¬ (IsBefore a c)

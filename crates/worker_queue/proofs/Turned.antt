@@ -1,13 +1,13 @@
 -- A wheel of which one slot has changed in memory.
-use Rattle.std.proofs.Common.{◌≡◌, ◌≢◌, ◌↔◌, IsTrue, OnErr, ℕ, zero, suc, ◌+◌, ◌%◌, ◌<◌, ◌≤◌, ◌⊎◌, Bool, true, false, cond, List, [], ◌∷◌, ◌++◌, map, length, set, get_or, Option, Some, None, IfSome, IfNone, Ok, Err, Result, ap, ◌∙◌, sym, subst, refl, inl, inr, arith}
+use Rattle.std.proofs.Common.{◌≡◌, ◌≢◌, ◌↔◌, IsTrue, OnErr, ℕ, zero, suc, ◌%◌, ◌<◌, ◌≤◌, ◌⊎◌, Bool, true, false, cond, List, [], ◌∷◌, ◌++◌, map, length, set, get_or, Option, Some, None, IfSome, IfNone, Ok, Err, Result, ap, ◌∙◌, sym, subst, refl, inl, inr, arith}
 use Rattle.std.specs.Option.{is_some}
 use Rattle.std.specs.Ordering.{is_eq}
 use Rattle.std.specs.Cmp.{tied_itself}
-use Rattle.std.specs.FinMap.{FinMap, empty, get, contains_key, insert, remove, get-empty, get-insert}
+use Rattle.std.specs.FinMap.{empty, get, contains_key, insert, remove, get-empty, get-insert}
 use Rattle.std.proofs.lemmas.Bool.{false≢true, cases_eq, cases_Bool}
 use Rattle.std.proofs.lemmas.List.{get_or-set_same, length-set}
 use Rattle.base.specs.declared.key.Key.{Key}
-use Rattle.base.specs.Order.{key_cmp, key_total, IsBefore}
+use Rattle.base.specs.Order.{key_cmp, key_total}
 use Rattle.base.specs.Run.{IsFirst}
 use Rattle.worker_queue.specs.Marks.{mark_at}
 use Rattle.worker_queue.specs.Queue.{IsLeastKey}
@@ -121,9 +121,10 @@ module _ {S E : Type 0} (key : E → Key) (f : S → List E) (slots : List S) (s
       all_kept same = wheels.all_same key base base lists after (wheels.as_many f slots sized) (wheels.still_as_many f slots place within s sized) placed (placed_kept same) (kept same)
 
       pub marked_kept : (words : List ℕ) → AreMarked words (map f slots) → by_key key (f s) ≡ by_key key (f old) → AreMarked words (map f (set slots place s))
-      marked_kept words marked same other there =
-          (λ unmarked. list_empty key (slot_at after other) (kept same other ∙ set_empty key (slot_at lists other) ((marked other there).0 unmarked)),
-           λ none. (marked other there).1 (list_empty key (slot_at lists other) (sym (kept same other) ∙ set_empty key (slot_at after other) none)))
+      marked_kept words marked same other there = (
+        λ unmarked. list_empty key (slot_at after other) (kept same other ∙ set_empty key (slot_at lists other) ((marked other there).0 unmarked)),
+        λ none. (marked other there).1 (list_empty key (slot_at lists other) (sym (kept same other) ∙ set_empty key (slot_at after other) none)),
+      )
 
       -- ---- an event more in it
 
@@ -145,8 +146,8 @@ module _ {S E : Type 0} (key : E → Key) (f : S → List E) (slots : List S) (s
         marked_pushed words words' marked one marks pushed =
             wheels.marked_set key base base lists after (wheels.as_many f slots sized) (wheels.still_as_many f slots place within s sized) words words' marked place others marks one
             (λ none. false≢true (
-                sym (ap is_some (get-empty key_cmp k)) ∙ sym (ap (λ m. contains_key m k) (set_empty key (f s) (sym here ∙ none))) ∙ ap (λ m. contains_key m k) pushed
-                ∙ ap is_some (get-insert key_total (by_key key (f old)) k e k) ∙ ap (λ b. is_some (cond b (Some e) (get (by_key key (f old)) k))) (ap is_eq (tied_itself key_total k))))
+            sym (ap is_some (get-empty key_cmp k)) ∙ sym (ap (λ m. contains_key m k) (set_empty key (f s) (sym here ∙ none))) ∙ ap (λ m. contains_key m k) pushed
+            ∙ ap is_some (get-insert key_total (by_key key (f old)) k e k) ∙ ap (λ b. is_some (cond b (Some e) (get (by_key key (f old)) k))) (ap is_eq (tied_itself key_total k))))
 
       -- ---- an event less in it
 

@@ -1,17 +1,17 @@
 -- Events in the slots of their moments as a set.
-use Rattle.std.proofs.Common.{◌≡◌, ◌≢◌, ◌↔◌, IsTrue, ℕ, zero, suc, ◌+◌, ◌-◌, ◌%◌, ◌<◌, ◌≤◌, ◌⊎◌, Bool, true, false, cond, List, [], ◌∷◌, ◌++◌, map, length, set, get_or, Option, Some, None, IfSome, IfNone, ap, ◌∙◌, sym, subst, refl, inl, inr, arith}
+use Rattle.std.proofs.Common.{◌≡◌, ◌≢◌, ◌↔◌, ℕ, zero, suc, ◌+◌, ◌%◌, ◌<◌, ◌≤◌, ◌⊎◌, Bool, true, false, cond, List, [], ◌∷◌, ◌++◌, map, length, set, get_or, Option, Some, None, ap, ◌∙◌, sym, subst, refl, inl, inr, arith}
 use Rattle.std.specs.Option.{is_some}
 use Rattle.std.specs.List.{flat_map}
 use Rattle.std.specs.Ordering.{eq_by_cmp}
-use Rattle.std.specs.FinMap.{FinMap, empty, get, contains_key, insert, remove, find, get-insert, get-remove, get-empty, same_map}
-use Rattle.std.proofs.lemmas.Bool.{false≢true, cases_eq, cases_lt}
+use Rattle.std.specs.FinMap.{empty, get, contains_key, insert, remove, get-insert, get-remove, get-empty, same_map}
+use Rattle.std.proofs.lemmas.Bool.{false≢true, cases_eq}
 use Rattle.std.proofs.lemmas.List.{map-set, length-map, length-set, get_or-map, get_or-set_same, get_or-set_other}
 use Rattle.base.specs.declared.key.Key.{Key}
 use Rattle.base.specs.Order.{key_cmp, key_total, key_exact, IsBefore, before-from_moments, moments-from_before, moments-from_not_before}
 use Rattle.base.specs.Run.{IsFirst, tells, holds-with_events, contains-remove}
 use Rattle.worker_queue.specs.Queue.{IsLeastKey}
 use Rattle.worker_queue.specs.Marks.{mark_at}
-use Rattle.worker_queue.specs.Slots.{by_key, AreUnlike, IsOfOneMoment, NoneIsBefore}
+use Rattle.worker_queue.specs.Slots.{by_key, IsOfOneMoment, NoneIsBefore}
 use Rattle.worker_queue.specs.Wheel.{slot_at, all_by_key, Spans, ArePlaced, AreMarked, turns, IsFirstPlace}
 use Rattle.worker_queue.proofs.Lists.{found, get-by_key, list_empty, some_key}
 
@@ -233,9 +233,10 @@ module _ {E : Type 0} (key : E → Key) where
         where
           by_place : (other ≡ place) ⊎ (other ≡ place → ⊥) → (mark_at words' other ≡ 0) ↔ (slot_at lists' other ≡ [])
           by_place (inl same) = subst (λ n. (mark_at words' n ≡ 0) ↔ (slot_at lists' n ≡ [])) (sym same) here
-          by_place (inr differs) =
-              (λ unmarked. others other differs ∙ (marked other below).0 (sym (marks other below differs) ∙ unmarked),
-               λ none. marks other below differs ∙ (marked other below).1 (sym (others other differs) ∙ none))
+          by_place (inr differs) = (
+            λ unmarked. others other differs ∙ (marked other below).0 (sym (marks other below differs) ∙ unmarked),
+            λ none. marks other below differs ∙ (marked other below).1 (sym (others other differs) ∙ none),
+          )
 
       pub marked_set : ((other : ℕ) → other < 1024 → other ≢ place → mark_at words' other ≡ mark_at words other) → mark_at words' place ≡ 1 → ¬ (slot_at lists' place ≡ []) → AreMarked words' lists'
       marked_set marks one some = marked_but marks (λ none. absurd (let h : 0 ≡ 1 = sym none ∙ one in omega arith), λ none. absurd (some none))

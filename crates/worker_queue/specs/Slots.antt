@@ -1,5 +1,5 @@
 -- Lists of events as sets.
-use Rattle.std.specs.Prelude.{◌≡◌, ℕ, ◌≤◌, Bool, true, List, map, count_by}
+use Rattle.std.specs.Prelude.{◌≡◌, ◌≤◌, true, List, map, count_by}
 use Rattle.std.specs.List.Sorted.{IsSortedBy}
 use Rattle.std.specs.Ordering.{is_lt, eq_by_cmp}
 use Rattle.std.specs.FinMap.{FinMap, from_entries, contains_key}

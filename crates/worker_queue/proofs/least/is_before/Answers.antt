@@ -1,6 +1,6 @@
-use Rattle.std.proofs.Common.{◌≡◌, IsTrue, true, ap, ◌∙◌, sym, subst}
+use Rattle.std.proofs.Common.{ap, ◌∙◌}
 use Rattle.std.specs.Ordering.{is_lt}
-use Rattle.base.specs.Order.{key_cmp, IsBefore}
+use Rattle.base.specs.Order.{key_cmp}
 use Rattle.worker_queue.proofs.Lists.{less_is}
 use Rattle.worker_queue.proofs.least.is_before.Goals as goal
 

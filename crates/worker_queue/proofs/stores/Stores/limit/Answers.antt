@@ -1,4 +1,4 @@
-use Rattle.std.proofs.Common.{◌≡◌, ◌∙◌, sym, subst}
+use Rattle.std.proofs.Common.{◌∙◌, sym, subst}
 use Rattle.std.proofs.lemmas.Bool.{false≢true}
 use Rattle.base.specs.Order.{IsBefore, key_total, same_key}
 use Rattle.worker_queue.proofs.Lists.{not_before_through}

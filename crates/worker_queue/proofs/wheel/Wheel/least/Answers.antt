@@ -1,4 +1,3 @@
-use Rattle.std.proofs.Common.{◌≡◌, ap, ◌∙◌, sym, subst}
 use Rattle.worker_queue.proofs.Events.{if_none}
 use Rattle.worker_queue.proofs.Turned.{nothing, least_of_all, some_least}
 use Rattle.worker_queue.proofs.wheel.Wheel.least.Goals as goal

@@ -1,6 +1,5 @@
-use Rattle.std.proofs.Common.{◌≡◌, ap, ◌∙◌, sym, subst, refl, IsTrue, ◌↔◌, []}
+use Rattle.std.proofs.Common.{◌≡◌, ap, ◌∙◌, subst, IsTrue, ◌↔◌, []}
 use Rattle.base.specs.declared.key.Key.{Key}
-use Rattle.base.specs.Run.{IsFirst}
 use Rattle.worker_queue.proofs.Events.{if_none}
 use Rattle.worker_queue.proofs.Turned.{sized_after, own_place, written, one_moment, first_of_all, none_of_all, placed_kept, all_kept, marked_kept, placed_popped, all_popped, marked_popped}
 use Rattle.worker_queue.proofs.wheel.Wheel.pop_at.Goals as goal

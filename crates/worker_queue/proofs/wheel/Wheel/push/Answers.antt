@@ -1,4 +1,4 @@
-use Rattle.std.proofs.Common.{◌≡◌, ◌%◌, ◌<◌, Ok, ap, ◌∙◌, sym, subst, arith}
+use Rattle.std.proofs.Common.{◌≡◌, ◌%◌, ◌<◌, ap, ◌∙◌, sym, arith}
 use Rattle.base.specs.declared.key.Key.{Key}
 use Rattle.worker_queue.proofs.Turned.{on_err, sized_after, new_in_slot, placed_kept, all_kept, marked_kept, placed_pushed, all_pushed, marked_pushed}
 use Rattle.worker_queue.proofs.wheel.Wheel.push.Goals as goal

@@ -1,4 +1,4 @@
-use Rattle.std.proofs.Common.{◌≤◌, subst, sym, arith}
+use Rattle.std.proofs.Common.{arith}
 use Rattle.worker_queue.proofs.Turned.{placed_risen}
 use Rattle.worker_queue.proofs.wheel.Wheel.rise.Goals as goal
 
