@@ -1,4 +1,10 @@
+mod Bits
 pub mod Contents
+mod Ends
 mod Events
+mod Lists
 mod Numbers
 mod Receivers
+mod Turned
+mod Unions
+mod Wheels

@@ -1,4 +1,10 @@
 pub mod Contents
+pub mod Marks
 pub mod Queue
+pub mod Slots
+pub mod Stores
 pub mod Tree
+pub mod Union
 pub mod View
+pub mod Wheel
+pub mod WheelView

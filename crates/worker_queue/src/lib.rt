@@ -1,10 +1,18 @@
 //! The events that pend at a worker: a set with unique keys, of which the least leaves first.
 #![tactic(auto)]
 
+mod falling;
+mod least;
+mod marks;
 mod queue;
+mod slot;
+mod stores;
 #[cfg(test)]
 mod tests;
 mod tree;
+mod wheel;
+mod wheel_queue;
 
 pub use queue::EventQueue;
 pub use tree::TreeQueue;
+pub use wheel_queue::WheelQueue;

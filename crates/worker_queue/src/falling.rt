@@ -1,0 +1,24 @@
+ghost use Rattle.std.specs.Prelude.{◌≡◌, [], false, All, Any, IfSome, IfNone, IsPermutation};
+ghost use Rattle.std.specs.Ordering.{is_lt};
+ghost use Rattle.base.specs.Order.{key_cmp};
+ghost use Rattle.worker_queue.specs.Slots.{AreFalling};
+
+use base::{Key, Keyed};
+
+/// Puts the event with the greatest key first, that with the least last. It takes no memory.
+pub(crate) fn sort_falling<E: Keyed>(events: &mut Vec<E>)
+    ensures permutation { IsPermutation events.old.items events.new.items }
+    ensures falling { AreFalling E.key events.new.items }
+{
+    events.sort_unstable_by(|a, b| b.key().cmp(&a.key()));
+}
+
+/// The least key of the events: `None` where there is none.
+#[tactic(auto, unfolding(base::specs::Order::key_cmp))]
+pub(crate) fn least_key<E: Keyed>(events: &[E]) -> Option<Key>
+    ensures here { IfSome result (λ k. Any (λ e. E.key e ≡ k) events.now) }
+    ensures least { IfSome result (λ k. All (λ e. is_lt (key_cmp (E.key e) k) ≡ false) events.now) }
+    ensures none { IfNone result (events.now ≡ []) }
+{
+    events.iter().map(|event| event.key()).min()
+}

@@ -1,0 +1,111 @@
+ghost use Rattle.std.specs.Prelude.{◌≡◌, ◌⊎◌, ◌<◌, false, Some, None, IfOk, IfSome, IfNone, IfErr, OnOk, OnErr};
+ghost use Rattle.std.specs.FinMap.{contains_key, insert, remove, empty};
+ghost use Rattle.base.specs.declared.key.Key.{Key as AKey};
+ghost use Rattle.base.specs.Order.{IsBefore};
+ghost use Rattle.base.specs.Run.{IsFirst};
+ghost use Rattle.worker_queue.specs.Queue.{IsLeastKey, NoneIsBelow};
+ghost use Rattle.worker_queue.specs.Slots.{NoneIsBefore};
+ghost use Rattle.worker_queue.specs.Union.{AreApart};
+ghost use Rattle.worker_queue.specs.View.{set_of};
+ghost use Rattle.worker_queue.specs.Wheel.{events_in};
+
+use crate::least::{first_key, is_before, lesser};
+use crate::queue::EventQueue;
+use crate::tree::TreeQueue;
+use crate::wheel::Wheel;
+use base::{Key, Keyed, Memory, Moment};
+use std::alloc::Global;
+
+/// Events in the slots of a wheel, and in an ordered tree those whose moment had no slot when they came.
+/// Nothing moves from the one to the other.
+#[derive(Drop)]
+pub(crate) struct Stores<E: Keyed> {
+    pub(crate) wheel: Wheel<E>,
+    pub(crate) late: TreeQueue<E>,
+    ghost apart: { AreApart (events_in E.key wheel.slots.items) (set_of late) },
+}
+
+impl<E: Keyed + Drop> Stores<E> {
+    ghost use Rattle.worker_queue.specs.Stores.{all_in};
+
+    /// No events. `Memory` where it was refused.
+    pub(crate) fn new(alloc: Global) -> Result<Self, Memory>
+        ensures { IfOk result (λ stores. all_in E.key stores ≡ empty) }
+    {
+        let wheel = Wheel::new(alloc)?;
+        Ok(Stores {
+            wheel,
+            late: TreeQueue::new(alloc),
+        })
+    }
+
+    /// Takes in an event with a new key. Where memory is refused, the event is handed back, and all stays
+    /// as it is.
+    pub(crate) fn push(&mut self, event: E) -> Result<(), E>
+        requires { contains_key (all_in E.key self.old) (E.key event) ≡ false }
+        ensures ok { OnOk result (all_in E.key self.new ≡ insert (all_in E.key self.old) (E.key event) event) }
+        ensures handed_back { IfErr result (λ refused. refused ≡ event) }
+        ensures unchanged { OnErr result (all_in E.key self.new ≡ all_in E.key self.old) }
+    {
+        if self.wheel.spans(event.key().at) {
+            self.wheel.push(event)
+        } else {
+            self.late.push(event)
+        }
+    }
+
+    /// The least key of the events: `None` where there is none.
+    pub(crate) fn least(&self) -> Option<Key>
+        ensures least { IfSome result (IsLeastKey (all_in E.key self.now)) }
+        ensures none { IfNone result (all_in E.key self.now ≡ empty) }
+    {
+        lesser(self.wheel.least(), self.late.least())
+    }
+
+    /// Takes out the event with the least key, if its moment is below the bound: `None` where no event's
+    /// is. It takes no memory.
+    pub(crate) fn pop_below(&mut self, bound: Moment) -> Option<E>
+        ensures first { IfSome result (λ event. IsFirst (all_in E.key self.old) (E.key event) event) }
+        ensures below { IfSome result (λ event. (E.key event).at < bound) }
+        ensures taken { IfSome result (λ event. all_in E.key self.new ≡ remove (all_in E.key self.old) (E.key event)) }
+        ensures none { IfNone result (NoneIsBelow (all_in E.key self.old) bound) }
+        ensures unchanged { IfNone result (all_in E.key self.new ≡ all_in E.key self.old) }
+    {
+        let limit = self.limit(bound);
+        match self.wheel.pop_before(&limit) {
+            Some(event) => Some(event),
+            None => self.pop_late(bound, &limit),
+        }
+    }
+
+    /// Takes out the first of the late events, if its moment is below the bound. No event in a slot comes
+    /// before the limit.
+    fn pop_late(&mut self, bound: Moment, limit: &Key) -> Option<E>
+        requires none { NoneIsBefore (events_in E.key self.old.wheel.slots.items) limit.now }
+        requires least { (k : AKey) → IsLeastKey (set_of self.old.late) k → k.at < bound → limit.now ≡ k }
+        requires free { NoneIsBelow (set_of self.old.late) bound → (q : AKey) → q.at < bound → IsBefore q limit.now }
+        ensures first { IfSome result (λ event. IsFirst (all_in E.key self.old) (E.key event) event) }
+        ensures below { IfSome result (λ event. (E.key event).at < bound) }
+        ensures taken { IfSome result (λ event. all_in E.key self.new ≡ remove (all_in E.key self.old) (E.key event)) }
+        ensures none { IfNone result (NoneIsBelow (all_in E.key self.old) bound) }
+        ensures unchanged { IfNone result (all_in E.key self.new ≡ all_in E.key self.old) }
+    {
+        let event = self.late.pop_below(bound)?;
+        self.wheel.rise(event.key().at);
+        Some(event)
+    }
+
+    /// The key that an event in a slot has to come before, to be the first of all and below the bound.
+    fn limit(&self, bound: Moment) -> Key
+        ensures late { NoneIsBefore (set_of self.now.late) result }
+        ensures below { (q : AKey) → IsBefore q result → q.at < bound }
+        ensures least { (k : AKey) → IsLeastKey (set_of self.now.late) k → k.at < bound → result ≡ k }
+        ensures free { NoneIsBelow (set_of self.now.late) bound → (q : AKey) → q.at < bound → IsBefore q result }
+    {
+        let first = first_key(bound);
+        let Some(key) = self.late.least() else {
+            return first;
+        };
+        if is_before(&key, &first) { key } else { first }
+    }
+}

@@ -1,0 +1,143 @@
+ghost use Rattle.std.specs.Prelude.{◌≡◌, ◌↔◌, ◌<◌, ◌≤◌, ◌%◌, ℕ, length, IsTrue, true, false, IfOk, IfSome, IfNone, IfErr, OnOk, OnErr, []};
+ghost use Rattle.std.specs.FinMap.{contains_key, insert, remove, empty};
+ghost use Rattle.base.specs.declared.key.Key.{Key as AKey};
+ghost use Rattle.base.specs.Order.{IsBefore};
+ghost use Rattle.base.specs.Run.{IsFirst};
+ghost use Rattle.worker_queue.specs.Queue.{IsLeastKey};
+ghost use Rattle.worker_queue.specs.Slots.{NoneIsBefore};
+ghost use Rattle.worker_queue.specs.Wheel.{lists_of, slot_at, events_in, Spans, ArePlaced, AreMarked, IsFirstPlace};
+
+use crate::marks::{Marks, PLACES};
+use crate::slot::Slot;
+use base::{Key, Keyed, Memory, Moment};
+use std::alloc::Global;
+
+/// Events of the 1,024 moments from a base on, each in the slot of its moment.
+#[derive(Drop)]
+pub(crate) struct Wheel<E: Keyed> {
+    pub(crate) slots: Vec<Slot<E>>,
+    marks: Marks,
+    pub(crate) base: u64,
+    ghost sized: { length slots.items ≡ 1024 },
+    ghost placed: { ArePlaced E.key base (lists_of slots.items) },
+    ghost marked: { AreMarked marks.words (lists_of slots.items) },
+}
+
+/// The place of the slot of a moment.
+fn place_of(at: Moment) -> usize
+    ensures { result ≡ at % 1024 }
+{
+    (at.ticks() % 1024) as usize
+}
+
+/// As many slots as there are places, with no events.
+fn empty_slots<E: Keyed + Drop>(alloc: Global) -> Result<Vec<Slot<E>>, Memory>
+    ensures sized { IfOk result (λ slots. length slots.items ≡ 1024) }
+    ensures empty { IfOk result (λ slots. (place : ℕ) → slot_at (lists_of slots.items) place ≡ []) }
+{
+    let mut slots = Vec::new(alloc);
+    for _ in 0..PLACES {
+        match slots.push(Slot::new(alloc)) {
+            Ok(()) => {}
+            Err(_) => return Err(Memory),
+        }
+    }
+    Ok(slots)
+}
+
+impl<E: Keyed + Drop> Wheel<E> {
+    /// A wheel with no events, from moment 0 on: `Memory` where it was refused.
+    pub(crate) fn new(alloc: Global) -> Result<Self, Memory>
+        ensures { IfOk result (λ wheel. events_in E.key wheel.slots.items ≡ empty) }
+    {
+        let slots = empty_slots(alloc)?;
+        Ok(Wheel {
+            slots,
+            marks: Marks::none(),
+            base: 0,
+        })
+    }
+
+    /// Whether it has a slot for that moment.
+    pub(crate) fn spans(&self, at: Moment) -> bool
+        ensures { IsTrue result ↔ Spans self.now.base at }
+    {
+        let ticks = at.ticks();
+        self.base <= ticks && ticks - self.base < 1024
+    }
+
+    /// Takes in an event with a new key, in the slot of its moment. Where memory is refused, the event is
+    /// handed back, and the wheel has the same events.
+    pub(crate) fn push(&mut self, event: E) -> Result<(), E>
+        requires spans { Spans self.old.base (E.key event).at }
+        requires new { contains_key (events_in E.key self.old.slots.items) (E.key event) ≡ false }
+        ensures ok { OnOk result (events_in E.key self.new.slots.items ≡ insert (events_in E.key self.old.slots.items) (E.key event) event) }
+        ensures handed_back { IfErr result (λ refused. refused ≡ event) }
+        ensures unchanged { OnErr result (events_in E.key self.new.slots.items ≡ events_in E.key self.old.slots.items) }
+    {
+        let place = place_of(event.key().at);
+        self.slots[place].push(event)?;
+        self.marks.set(place);
+        Ok(())
+    }
+
+    /// The least key of its events: `None` where there is none.
+    pub(crate) fn least(&self) -> Option<Key>
+        ensures least { IfSome result (IsLeastKey (events_in E.key self.now.slots.items)) }
+        ensures none { IfNone result (events_in E.key self.now.slots.items ≡ empty) }
+    {
+        let place = self.first_place()?;
+        self.slots[place].least()
+    }
+
+    /// Takes out the event with the least key, if that is before the limit: `None` where no event's is.
+    /// From then on the wheel spans the moments from that event's on.
+    pub(crate) fn pop_before(&mut self, limit: &Key) -> Option<E>
+        ensures first { IfSome result (λ event. IsFirst (events_in E.key self.old.slots.items) (E.key event) event) }
+        ensures before { IfSome result (λ event. IsBefore (E.key event) limit.now) }
+        ensures taken { IfSome result (λ event. events_in E.key self.new.slots.items ≡ remove (events_in E.key self.old.slots.items) (E.key event)) }
+        ensures none { IfNone result (NoneIsBefore (events_in E.key self.old.slots.items) limit.now) }
+        ensures unchanged { IfNone result (events_in E.key self.new.slots.items ≡ events_in E.key self.old.slots.items) }
+    {
+        let place = self.first_place()?;
+        self.pop_at(place, limit)
+    }
+
+    /// The same, from the slot with the least event.
+    fn pop_at(&mut self, place: usize, limit: &Key) -> Option<E>
+        requires { IsFirstPlace self.old.base (lists_of self.old.slots.items) place }
+        ensures first { IfSome result (λ event. IsFirst (events_in E.key self.old.slots.items) (E.key event) event) }
+        ensures before { IfSome result (λ event. IsBefore (E.key event) limit.now) }
+        ensures taken { IfSome result (λ event. events_in E.key self.new.slots.items ≡ remove (events_in E.key self.old.slots.items) (E.key event)) }
+        ensures none { IfNone result (NoneIsBefore (events_in E.key self.old.slots.items) limit.now) }
+        ensures unchanged { IfNone result (events_in E.key self.new.slots.items ≡ events_in E.key self.old.slots.items) }
+    {
+        let event = self.slots[place].pop_before(limit)?;
+        let is_empty = self.slots[place].is_empty();
+        self.marks.clear_if(place, is_empty);
+        self.base = event.key().at.ticks();
+        Some(event)
+    }
+
+    /// Spans the moments from this one on, unless it does so from a later one on. It has no earlier event.
+    pub(crate) fn rise(&mut self, at: Moment)
+        requires { (q : AKey) → contains_key (events_in E.key self.old.slots.items) q ≡ true → at ≤ q.at }
+        ensures { events_in E.key self.new.slots.items ≡ events_in E.key self.old.slots.items }
+    {
+        if self.base < at.ticks() {
+            self.base = at.ticks();
+        }
+    }
+
+    /// The place of the slot with the least event.
+    fn first_place(&self) -> Option<usize>
+        ensures first { IfSome result (IsFirstPlace self.now.base (lists_of self.now.slots.items)) }
+        ensures none { IfNone result ((place : ℕ) → place < 1024 → slot_at (lists_of self.now.slots.items) place ≡ []) }
+    {
+        let from = (self.base % 1024) as usize;
+        match self.marks.next(from) {
+            Some(place) => Some(place),
+            None => self.marks.next(0),
+        }
+    }
+}
