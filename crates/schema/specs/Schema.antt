@@ -66,8 +66,8 @@ or_else default k values = record { key = k; absence = Default default; kind = v
 abbrev optional : Key → Kind → Row
 optional k values = record { key = k; absence = Optional; kind = values }
 
--- The keys of a kind of table, each with its kind, its range and its default. The last moment is 2^40, the longest time in which nothing is sent
--- 2^24 and the longest way of a message 2^20 ticks; loss counts in millionths.
+-- The keys of a kind of table, each with its kind, its range and its default: moments go up to 2^40, lengths of time up to 2^24, delays and jitters up to
+-- 2^20 ticks, and a loss is in parts per million.
 unfoldable pub rows_of : Section → List Row
 rows_of section.Top =
     required key.Version (Whole 1 1)
