@@ -67,6 +67,16 @@ impl Links {
         least_delay(self)
     }
 
+    /// The delay of the link from one member to another, in ticks: the least time of a message on that
+    /// way, without what jitter adds.
+    pub fn delay(&self, from: MemberId, to: MemberId) -> u64
+        ensures value { (s : Setup) → AreLinksOf self.now s → from < member_count s → to < member_count s
+            → result ≡ (link_between s from to).delay }
+        ensures bounded { (0 < result) × (result ≤ 2 ^ 20) }
+    {
+        self.link_between(from.index(), to.index()).delay
+    }
+
     /// The link from one member to another.
     pub(crate) fn link_between(&self, from: usize, to: usize) -> Link
         ensures value { result ≡ link_at self.now from to }

@@ -93,6 +93,17 @@ fn last_path_of_two_groups_holds_one_way(rt: HostRuntime) -> Result<(), Fail> {
 }
 
 #[test]
+fn delay_is_that_of_the_way_without_jitter(rt: HostRuntime) -> Result<(), Fail> {
+    let path = "[[path]]\nfrom = \"a\"\nto = \"b\"\ndelay = 7\n";
+    let text = format!(in rt.alloc(); "{SINGLES}{path}")?;
+    let links = links_of(rt.alloc(), "delay = 10\njitter = 5", text.as_str())?;
+    assert!(rt; links.delay(FIRST, SECOND) == 7);
+    assert!(rt; links.delay(SECOND, FIRST) == 10);
+    assert!(rt; links.delay(SECOND, SECOND) == 10);
+    Ok(())
+}
+
+#[test]
 fn least_delay_is_over_different_members(rt: HostRuntime) -> Result<(), Fail> {
     let within = "[[path]]\nfrom = \"n\"\nto = \"n\"\ndelay = 5\n";
     let text = format!(in rt.alloc(); "{TWO}{within}")?;

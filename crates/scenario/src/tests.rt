@@ -146,9 +146,44 @@ const GREATEST_SETTINGS: Settings = Settings {
     },
 };
 
-/// A text without groups.
-const NO_GROUPS: &str =
-    "version = 1\nseed = 7\nend = 0\ngroup = []\n[swim]\nperiod = 1000\ntimeout = 300\nspread = 1\n[link]\ndelay = 10\n";
+/// An accepted text, with what it sets, how many members it has, and some of their names.
+struct Accepted {
+    text: &'static str,
+    settings: Settings,
+    members: usize,
+    names: &'static [(u16, &'static str)],
+}
+
+const PLAIN: Accepted = Accepted {
+    text: TEXT,
+    settings: DEFAULTS,
+    members: 2,
+    names: &[(0, "n-0"), (1, "n-1")],
+};
+
+const EVERY_KEY: Accepted = Accepted {
+    text: FULL,
+    settings: FULL_SETTINGS,
+    members: 2,
+    names: &[],
+};
+
+const OTHER_FORMS: Accepted = Accepted {
+    text: GREATEST,
+    settings: GREATEST_SETTINGS,
+    members: 1024,
+    names: &[(999, "abcdefghijklmn09-999"), (1023, "z-23")],
+};
+
+/// Texts of their own, the last with an empty list of groups.
+const WHOLE_TEXTS: [(&str, u8); 3] = [
+    ("", 2),
+    ("version = 1\nseed = \"7", 1),
+    (
+        "version = 1\nseed = 7\nend = 0\ngroup = []\n[swim]\nperiod = 1000\ntimeout = 300\nspread = 1\n[link]\ndelay = 10\n",
+        2,
+    ),
+];
 
 /// Three groups in the place of the one.
 const THREE_GROUPS: &str =
@@ -315,13 +350,18 @@ const PLACES: [(&str, &str, u8, u32); 10] = [
     ("count = 3", "count = 1024", 10, 0),
 ];
 
+/// Asserts what is read of an accepted text.
+fn assert_accepted(alloc: Global, rt: &impl Abort, wanted: &Accepted) {
+    let scenario = accepted(alloc, rt, &[wanted.text]);
+    assert!(rt; settings_of(&scenario) == wanted.settings);
+    assert!(rt; scenario.period() == wanted.settings.swim.period);
+    assert!(rt; scenario.members() == wanted.members);
+    assert_names(rt, &scenario, wanted.names);
+}
+
 #[test]
 fn the_text_is_read_with_the_defaults(rt: HostRuntime) {
-    let scenario = accepted(rt.alloc(), &rt, &[TEXT]);
-    assert_eq!(rt; settings_of(&scenario), DEFAULTS);
-    assert_eq!(rt; scenario.period(), 1000);
-    assert_eq!(rt; scenario.members(), 2);
-    assert_names(&rt, &scenario, &[(0, "n-0"), (1, "n-1")]);
+    assert_accepted(rt.alloc(), &rt, &PLAIN);
 }
 
 #[test]
@@ -334,15 +374,19 @@ fn members_are_numbered_in_the_order_of_groups(rt: HostRuntime) {
 
 #[test]
 fn every_setting_is_read(rt: HostRuntime) {
-    let scenario = accepted(rt.alloc(), &rt, &[FULL]);
-    assert_eq!(rt; settings_of(&scenario), FULL_SETTINGS);
+    assert_accepted(rt.alloc(), &rt, &EVERY_KEY);
+}
+
+/// Lifeguard's settings in the text with a table more.
+fn lifeguard_with(alloc: Global, rt: &impl Abort, table: &str) -> Lifeguard {
+    accepted(alloc, rt, &[TEXT, table]).lifeguard()
 }
 
 #[test]
 fn each_switch_is_on_by_default(rt: HostRuntime) {
     for (table, lifeguard) in &SWITCHES {
-        let read = accepted(rt.alloc(), &rt, &[TEXT, *table]).lifeguard();
-        assert_eq!(rt; read, *lifeguard, "{table:?}");
+        let read = lifeguard_with(rt.alloc(), &rt, *table);
+        assert!(rt; read == *lifeguard, "{table}");
     }
 }
 
@@ -376,15 +420,7 @@ fn each_byte_may_not_be_255(rt: HostRuntime) {
 
 #[test]
 fn settings_are_read(rt: HostRuntime) {
-    let scenario = accepted(rt.alloc(), &rt, &[GREATEST]);
-    assert_eq!(rt; settings_of(&scenario), GREATEST_SETTINGS);
-    assert_eq!(rt; scenario.period(), 16777216);
-    assert_eq!(rt; scenario.members(), 1024);
-    assert_names(
-        &rt,
-        &scenario,
-        &[(999, "abcdefghijklmn09-999"), (1023, "z-23")],
-    );
+    assert_accepted(rt.alloc(), &rt, &OTHER_FORMS);
 }
 
 #[test]
@@ -396,10 +432,11 @@ fn spread_is_1_by_default(rt: HostRuntime) {
 
 #[test]
 fn worked_texts_are_answered_by_their_rules(rt: HostRuntime) {
-    assert_eq!(rt; answer_to(rt.alloc(), b"").0, 2);
-    assert_eq!(rt; answer_to(rt.alloc(), b"version = 1\nseed = \"7").0, 1);
     assert_rules(rt.alloc(), &rt, TEXT, &WORKED);
-    assert_eq!(rt; answer_to(rt.alloc(), NO_GROUPS.as_bytes()).0, 2);
+    for (text, rule) in &WHOLE_TEXTS {
+        let answer = answer_to(rt.alloc(), text.as_bytes()).0;
+        assert!(rt; answer == *rule, "{text}");
+    }
 }
 
 #[test]

@@ -12,7 +12,7 @@ pub(crate) type Edit<'a> = (&'a str, &'a str, u8);
 pub(crate) type Part<'a> = (&'a str, u8, u32);
 
 /// What a text sets for all members.
-#[derive(Clone, Copy, Debug, PartialEq, Eq)]
+#[derive(Clone, Copy, PartialEq, Eq)]
 pub(crate) struct Settings {
     pub(crate) seed: u64,
     pub(crate) end: u64,
@@ -33,7 +33,7 @@ pub(crate) fn joined(alloc: Global, rt: &impl Abort, parts: &[&str]) -> String {
 
 /// The text with what takes the place of what.
 pub(crate) fn edited(alloc: Global, rt: &impl Abort, text: &str, old: &str, new: &str) -> String {
-    assert!(rt; text.contains(old), "no {old:?}");
+    assert!(rt; text.contains(old), "no {old}");
     text.replacen(alloc, old, new, 1).expect(rt, "memory")
 }
 
@@ -73,7 +73,7 @@ pub(crate) fn answer_to_edit(
 pub(crate) fn assert_rules(alloc: Global, rt: &impl Abort, text: &str, edits: &[Edit]) {
     for (old, new, rule) in edits {
         let answer = answer_to_edit(alloc, rt, text, *old, *new);
-        assert_eq!(rt; answer.0, *rule, "{new:?} for {old:?}");
+        assert!(rt; answer.0 == *rule, "{new} for {old}");
     }
 }
 
@@ -88,7 +88,7 @@ pub(crate) fn assert_parts(
 ) {
     for (part, rule, place) in parts {
         let answer = answer_to_parts(alloc, rt, &[text, before, *part, after]);
-        assert_eq!(rt; answer, (*rule, *place), "{part:?}");
+        assert!(rt; answer == (*rule, *place), "{part}");
     }
 }
 
@@ -108,6 +108,6 @@ pub(crate) fn settings_of(scenario: &Scenario) -> Settings {
 pub(crate) fn assert_names(rt: &impl Abort, scenario: &Scenario, names: &[(u16, &str)]) {
     for (number, name) in names {
         assert!(rt; (*number as usize) < scenario.members());
-        assert_eq!(rt; scenario.name(MemberId(*number)), *name);
+        assert!(rt; scenario.name(MemberId(*number)) == *name, "{name}");
     }
 }

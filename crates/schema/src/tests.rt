@@ -21,6 +21,23 @@ name = \"n\"
 count = 2
 ";
 
+/// Edits with the check that fails and the place.
+const FAULTS: [(&str, &str, Check, Place); 3] = [
+    ("seed = 7", "seed = true", Check::WrongKind, Place::Table),
+    (
+        "period = 1000",
+        "period = 1",
+        Check::OutOfRange,
+        Place::Table,
+    ),
+    (
+        "count = 2",
+        "count = 2\n[[group]]\nname = \"m\"",
+        Check::Missing,
+        Place::Item(1),
+    ),
+];
+
 /// The head of a text without its groups.
 const HEAD: &str =
     "version = 1\nseed = 7\nend = 0\nswim = { period = 2, timeout = 1 }\nlink = { delay = 1 }\ngroup = ";
@@ -93,59 +110,119 @@ const OF_ANOTHER_KIND: [(&str, &str, u8); 29] = [
     ("count = 2", "count = \"2\"", 4),
 ];
 
-/// Edits that put a number at the ends of its range, and past them.
-const RANGES: [(&str, &str, u8); 47] = [
-    ("version = 1", "version = 0", 5),
-    ("version = 1", "version = 2", 5),
+/// Edits that put the seed at the ends of its range, and empty tables.
+const ENDS: [(&str, &str, u8); 6] = [
     ("seed = 7", "seed = -9223372036854775808", 5),
+    ("seed = 7", "seed = -1", 5),
     ("seed = 7", "seed = 0", 0),
-    ("end = 0", "end = -1", 5),
-    ("end = 0", "end = 1099511627777", 5),
-    ("period = 1000\ntimeout = 300", "period = 1\ntimeout = 1", 5),
-    ("period = 1000\ntimeout = 300", "period = 2\ntimeout = 1", 0),
-    ("period = 1000", "period = 16777217", 5),
-    ("timeout = 300", "timeout = 0", 5),
-    (
-        "period = 1000\ntimeout = 300",
-        "period = 16777216\ntimeout = 16777217",
-        5,
-    ),
-    ("spread = 1", "spread = 0", 5),
-    ("spread = 1", "spread = 16777217", 5),
-    ("spread = 1", "helpers = 0", 0),
-    ("spread = 1", "helpers = 16", 0),
-    ("spread = 1", "helpers = 17", 5),
-    ("spread = 1", "helpers = -1", 5),
-    ("spread = 1", "carry = 0", 5),
-    ("spread = 1", "carry = 1", 0),
-    ("spread = 1", "carry = 64", 0),
-    ("spread = 1", "carry = 65", 5),
-    ("spread = 1", "lambda = 0", 5),
-    ("spread = 1", "lambda = 1", 0),
-    ("spread = 1", "lambda = 101", 5),
-    ("[link]", "[suspicion]\nalpha = 0\n[link]", 5),
-    ("[link]", "[suspicion]\nalpha = 1\n[link]", 0),
-    ("[link]", "[suspicion]\nalpha = 101\n[link]", 5),
-    ("[link]", "[suspicion]\nbeta = 0\n[link]", 5),
-    ("[link]", "[suspicion]\nbeta = 1\n[link]", 0),
-    ("[link]", "[suspicion]\nbeta = 101\n[link]", 5),
+    ("seed = 7", "seed = 9223372036854775807", 0),
     ("[link]", "[suspicion]\n[link]", 0),
     ("[link]", "[lifeguard]\n[link]", 0),
-    ("[link]", "[lifeguard]\nceiling = 0\n[link]", 0),
-    ("[link]", "[lifeguard]\nceiling = 17\n[link]", 5),
-    ("[link]", "[lifeguard]\nconfirmations = 0\n[link]", 0),
-    ("[link]", "[lifeguard]\nconfirmations = 10\n[link]", 5),
-    ("[link]", "[lifeguard]\nnack_percent = 0\n[link]", 5),
-    ("[link]", "[lifeguard]\nnack_percent = 1\n[link]", 0),
-    ("[link]", "[lifeguard]\nnack_percent = 101\n[link]", 5),
-    ("delay = 10", "delay = 10\njitter = -1", 5),
-    ("delay = 10", "delay = 10\njitter = 1048577", 5),
-    ("delay = 10", "delay = 10\nloss = 1000001", 5),
-    ("delay = 10", "delay = 1", 0),
-    ("delay = 10", "delay = 1048577", 5),
-    ("count = 2", "count = 0", 5),
-    ("count = 2", "count = 1", 0),
-    ("count = 2", "count = 1024", 0),
+];
+
+/// What is taken out of the text, what takes its place before a number, and the ends of that number's
+/// range.
+type Range<'a> = (&'a str, &'a str, i64, i64);
+
+/// All numbers of the format but the seed.
+const RANGES: [Range; 26] = [
+    ("version = 1", "version = ", 1, 1),
+    ("end = 0", "end = ", 0, 1099511627776),
+    ("period = 1000", "period = ", 2, 16777216),
+    ("timeout = 300", "timeout = ", 1, 16777216),
+    ("spread = 1", "helpers = ", 0, 16),
+    ("spread = 1", "carry = ", 1, 64),
+    ("spread = 1", "lambda = ", 1, 100),
+    ("spread = 1", "spread = ", 1, 16777216),
+    ("[link]", "[link]\njitter = ", 0, 1048576),
+    ("[link]", "[link]\nloss = ", 0, 1000000),
+    ("delay = 10", "delay = ", 1, 1048576),
+    ("delay = 10", "delay = 10\n[suspicion]\nalpha = ", 1, 100),
+    ("delay = 10", "delay = 10\n[suspicion]\nbeta = ", 1, 100),
+    ("delay = 10", "delay = 10\n[lifeguard]\nceiling = ", 0, 16),
+    (
+        "delay = 10",
+        "delay = 10\n[lifeguard]\nconfirmations = ",
+        0,
+        9,
+    ),
+    (
+        "delay = 10",
+        "delay = 10\n[lifeguard]\nnack_percent = ",
+        1,
+        100,
+    ),
+    ("count = 2", "count = ", 1, 1024),
+    (
+        "count = 2",
+        "count = 2\ncontact = \"m-0\"\nstart = ",
+        0,
+        1099511627776,
+    ),
+    (
+        "count = 2",
+        "count = 2\n[[path]]\nfrom = \"n\"\nto = \"n\"\ndelay = ",
+        1,
+        1048576,
+    ),
+    (
+        "count = 2",
+        "count = 2\n[[path]]\nfrom = \"n\"\nto = \"n\"\njitter = ",
+        0,
+        1048576,
+    ),
+    (
+        "count = 2",
+        "count = 2\n[[path]]\nfrom = \"n\"\nto = \"n\"\nloss = ",
+        0,
+        1000000,
+    ),
+    (
+        "count = 2",
+        "count = 2\n[[slow]]\nmember = \"n-0\"\nuntil = 1\nextra = 1\nfrom = ",
+        0,
+        1099511627776,
+    ),
+    (
+        "count = 2",
+        "count = 2\n[[slow]]\nmember = \"n-0\"\nfrom = 0\nextra = 1\nuntil = ",
+        0,
+        1099511627776,
+    ),
+    (
+        "count = 2",
+        "count = 2\n[[slow]]\nmember = \"n-0\"\nfrom = 0\nuntil = 1\nextra = ",
+        1,
+        16777216,
+    ),
+    (
+        "count = 2",
+        "count = 2\n[[crash]]\nmember = \"n-0\"\nat = ",
+        0,
+        1099511627776,
+    ),
+    (
+        "count = 2",
+        "count = 2\n[[group]]\nname = \"m\"\ncount = ",
+        1,
+        1024,
+    ),
+];
+
+/// The defaults of the format.
+const DEFAULTS: [(Section, Key, u64); 12] = [
+    (Section::Swim, Key::Helpers, 3),
+    (Section::Swim, Key::Carry, 6),
+    (Section::Swim, Key::Lambda, 3),
+    (Section::Swim, Key::Spread, 1),
+    (Section::Suspicion, Key::Alpha, 5),
+    (Section::Suspicion, Key::Beta, 6),
+    (Section::Lifeguard, Key::Ceiling, 8),
+    (Section::Lifeguard, Key::Confirmations, 3),
+    (Section::Lifeguard, Key::NackPercent, 80),
+    (Section::Link, Key::Jitter, 0),
+    (Section::Link, Key::Loss, 0),
+    (Section::Group, Key::Start, 0),
 ];
 
 /// Values where a table or a list of tables has to be.
@@ -185,28 +262,29 @@ fn document(alloc: Global, rt: &impl Abort, text: &str) -> Value {
 
 /// The text after an edit.
 fn edited(alloc: Global, rt: &impl Abort, old: &str, new: &str) -> String {
-    let text = TEXT.replacen(alloc, old, new, 1).expect(rt, "memory");
-    assert!(rt; text.as_str() != TEXT, "no {old:?}");
-    text
+    assert!(rt; TEXT.contains(old), "no {old:?}");
+    TEXT.replacen(alloc, old, new, 1).expect(rt, "memory")
 }
 
-/// The rule that the text's document breaks, 0 where it has the shape.
-fn rule_of(alloc: Global, rt: &impl Abort, text: &str) -> u8 {
-    match check_shape(&document(alloc, rt, text)) {
-        Ok(()) => 0,
-        Err(fault) => fault.check.rule(),
+/// What the document of the edited text breaks first.
+fn fault_of(alloc: Global, rt: &impl Abort, old: &str, new: &str) -> Option<Fault> {
+    let text = edited(alloc, rt, old, new);
+    check_shape(&document(alloc, rt, text.as_str())).err()
+}
+
+/// The rule that the document of the edited text breaks, 0 where it has the shape.
+fn rule_of_edit(alloc: Global, rt: &impl Abort, old: &str, new: &str) -> u8 {
+    match fault_of(alloc, rt, old, new) {
+        Some(fault) => fault.check.rule(),
+        None => 0,
     }
 }
 
 /// Asserts that the text, after each edit, breaks the rule, or none with rule 0.
 fn assert_rules(alloc: Global, rt: &impl Abort, edits: &[(&str, &str, u8)]) {
     for (old, new, rule) in edits {
-        let text = edited(alloc, rt, *old, *new);
-        assert_eq!(rt;
-            rule_of(alloc, rt, text.as_str()),
-            *rule,
-            "{new:?} for {old:?}"
-        );
+        let answer = rule_of_edit(alloc, rt, *old, *new);
+        assert!(rt; answer == *rule, "{new:?} for {old:?}");
     }
 }
 
@@ -225,80 +303,111 @@ fn each_key_of_another_kind_breaks_rule_4(rt: HostRuntime) {
     assert_rules(rt.alloc(), &rt, &OF_ANOTHER_KIND);
 }
 
+/// The rule that the text breaks with a number in the place of what, 0 where it has the shape.
+fn rule_of_number(alloc: Global, rt: &impl Abort, old: &str, before: &str, number: i64) -> u8 {
+    let new = format!(in alloc; "{before}{number}").expect(rt, "memory");
+    rule_of_edit(alloc, rt, old, new.as_str())
+}
+
 #[test]
 fn each_range_has_both_ends(rt: HostRuntime) {
-    assert_rules(rt.alloc(), &rt, &RANGES);
+    assert_rules(rt.alloc(), &rt, &ENDS);
+    for (old, before, least, most) in &RANGES {
+        for (number, rule) in [
+            (least.saturating_sub(1), 5),
+            (*least, 0),
+            (*most, 0),
+            (most.saturating_add(1), 5),
+        ] {
+            let answer = rule_of_number(rt.alloc(), &rt, *old, *before, number);
+            assert!(rt; answer == rule, "{before}{number}");
+        }
+    }
+}
+
+/// The rule that a text with these groups breaks, 0 where its document has the shape.
+fn rule_of_groups(alloc: Global, rt: &impl Abort, groups: &str) -> u8 {
+    let text = format!(in alloc; "{HEAD}{groups}").expect(rt, "memory");
+    match check_shape(&document(alloc, rt, text.as_str())) {
+        Ok(()) => 0,
+        Err(fault) => fault.check.rule(),
+    }
 }
 
 #[test]
 fn a_value_of_another_kind_counts_as_there_and_is_not_looked_into(rt: HostRuntime) {
     assert_rules(rt.alloc(), &rt, &NOT_LOOKED_INTO);
     for (groups, rule) in &GROUPS {
-        let text = format!(in rt.alloc(); "{HEAD}{groups}").expect(&rt, "memory");
-        assert_eq!(rt;
-            rule_of(rt.alloc(), &rt, text.as_str()),
-            *rule,
-            "group {groups}"
-        );
+        let answer = rule_of_groups(rt.alloc(), &rt, *groups);
+        assert!(rt; answer == *rule, "group {groups}");
     }
 }
 
 #[test]
 fn a_fault_says_where_and_what(rt: HostRuntime) {
-    for (old, new, check, place) in [
-        ("seed = 7", "seed = true", Check::WrongKind, Place::Table),
-        (
-            "period = 1000",
-            "period = 1",
-            Check::OutOfRange,
-            Place::Table,
-        ),
-        (
-            "count = 2",
-            "count = 2\n[[group]]\nname = \"m\"",
-            Check::Missing,
-            Place::Item(1),
-        ),
-    ] {
-        let text = edited(rt.alloc(), &rt, old, new);
-        let fault = check_shape(&document(rt.alloc(), &rt, text.as_str())).err();
-        assert_eq!(rt; fault, Some(Fault { check, place }), "{new:?}");
+    for (old, new, check, place) in &FAULTS {
+        let fault = fault_of(rt.alloc(), &rt, *old, *new);
+        let wanted = Fault {
+            check: *check,
+            place: *place,
+        };
+        assert!(rt; fault == Some(wanted), "{new:?}");
     }
+}
+
+#[test]
+fn a_fault_is_told_by_its_check(rt: HostRuntime) {
     let fault = Fault {
         check: Check::Unknown,
         place: Place::Table,
     };
     let told = format!(in rt.alloc(); "{fault}").expect(&rt, "memory");
-    assert_eq!(rt; told.as_str(), "a key is unknown");
+    assert!(rt; told.as_str() == "a key is unknown");
+}
+
+#[test]
+fn each_default_is_the_formats(rt: HostRuntime) {
+    for (section, key, default) in &DEFAULTS {
+        let answer = number(*section, *key, None);
+        assert!(rt; answer == *default, "{key:?}");
+    }
+}
+
+/// Asserts what is read of the text's tables.
+fn assert_tables(rt: &impl Abort, tree: &Value) {
+    let seed = number(Section::Top, Key::Seed, Some(tree));
+    let period = number(Section::Swim, Key::Period, tree.get("swim"));
+    let helpers = number(Section::Swim, Key::Helpers, tree.get("swim"));
+    let alpha = number(Section::Suspicion, Key::Alpha, tree.get("suspicion"));
+    assert!(rt; seed == 7 && period == 1000);
+    assert!(rt; helpers == 3 && alpha == 5);
+    assert!(rt; !switch(Key::Buddy, tree.get("lifeguard")));
+    assert!(rt; switch(Key::Probe, tree.get("lifeguard")));
+    assert!(rt; switch(Key::Probe, None));
+}
+
+/// Asserts what is read of the text's group.
+fn assert_group(rt: &impl Abort, group: &Value) {
+    assert!(rt; text_if(Key::Contact, group).is_none());
+    assert!(rt; text(Key::Name, group) == "n");
+    assert!(rt; whole_or(9, group.get("count")) == 2);
+    assert!(rt; whole_or(9, group.get("start")) == 9);
 }
 
 #[test]
 fn values_are_those_of_the_document_or_their_defaults(rt: HostRuntime) {
-    let edited = edited(
+    let text = edited(
         rt.alloc(),
         &rt,
         "[link]",
         "[lifeguard]\nbuddy = false\n[link]",
     );
-    let tree = document(rt.alloc(), &rt, edited.as_str());
-    assert_eq!(rt; number(Section::Top, Key::Seed, Some(&tree)), 7);
-    assert_eq!(rt; number(Section::Swim, Key::Period, tree.get("swim")), 1000);
-    assert_eq!(rt; number(Section::Swim, Key::Helpers, tree.get("swim")), 3);
-    assert_eq!(rt;
-        number(Section::Suspicion, Key::Alpha, tree.get("suspicion")),
-        5
-    );
-    assert!(rt; !switch(Key::Buddy, tree.get("lifeguard")));
-    assert!(rt; switch(Key::Probe, tree.get("lifeguard")));
-    assert!(rt; switch(Key::Probe, None));
+    let tree = document(rt.alloc(), &rt, text.as_str());
+    assert_tables(&rt, &tree);
     let groups = items_at(Key::Group, &tree);
-    assert_eq!(rt; groups.len(), 1);
-    assert_eq!(rt; items_at(Key::Path, &tree).len(), 0);
-    let group = groups.first().expect(&rt, "a group");
-    assert_eq!(rt; text_if(Key::Contact, group), None);
-    assert_eq!(rt; text(Key::Name, group), "n");
-    assert_eq!(rt; whole_or(9, group.get("count")), 2);
-    assert_eq!(rt; whole_or(9, group.get("start")), 9);
+    assert!(rt; groups.len() == 1);
+    assert!(rt; items_at(Key::Path, &tree).is_empty());
+    assert_group(&rt, groups.first().expect(&rt, "a group"));
 }
 
 #[test]
