@@ -1,8 +1,7 @@
 -- The conditions under which an event is handled.
 use Rattle.std.specs.Prelude.{◌≡◌, ◌≢◌, ℕ, ◌<◌, ◌≤◌, ◌^◌, true, false, All, Some, unwrap_or}
-use Rattle.std.proofs.Common.{sym, ap, ◌∙◌}
+use Rattle.std.proofs.Common.{sym, ap, subst, ◌∙◌}
 use Rattle.std.proofs.Props.{props}
-use mathlib.Core.HLevel.{Σ_prop_path}
 use Rattle.std.specs.FinMap.{contains_key}
 use Rattle.base.specs.declared.key.Key.{Key}
 use Rattle.scenario.specs.Setup.{Setup, IsSound, member_count, contact_of, start_of}
@@ -26,7 +25,8 @@ pub record IsHere (s : Setup) (l : Links) (k : Key) : Type 0 where
 pub contact-prop : (s : Setup) (m : ℕ) → IsProp ((c : ℕ) × (contact_of s m ≡ Some c) × (c < member_count s) × (start_of s c ≡ 0))
 contact-prop s m a b =
     let same : a.0 ≡ b.0 = ap (λ o. unwrap_or o 0) (sym a.1 ∙ b.1) in
-    ap (λ (p : (c : ℕ) × Rest c). (p.0, p.1.0, p.1.1, p.1.2)) (Σ_prop_path {B = Rest} rest-prop {u = (a.0, (a.1, a.2, a.3))} {v = (b.0, (b.1, b.2, b.3))} same)
+    subst (λ c. (rest : Rest c) → a ≡ (c, rest.0, rest.1, rest.2)) same
+    (λ rest. ap (λ (r : Rest a.0). (a.0, r.0, r.1, r.2)) (rest-prop a.0 (a.1, a.2, a.3) rest)) (b.1, b.2, b.3)
   where
     Rest : ℕ → Type 0
     Rest c = (contact_of s m ≡ Some c) × (c < member_count s) × (start_of s c ≡ 0)

@@ -105,7 +105,7 @@ impl Member {
         ensures { Makes here.now result self.old turn.old self.new turn.new (suspect_heard here.now.scenario.now loud here.now.key update.now) }
     {
         let members = self.live_members(here);
-        let started = self.suspicions.start(
+        let due = self.suspicions.start(
             update.subject,
             update.inc,
             update.accuser,
@@ -113,8 +113,7 @@ impl Member {
             here.key.at,
             self.next_number,
             here.scenario,
-        );
-        let due = started?;
+        )?;
         self.tell(turn, here, loud, What::Suspect, update.subject, update.inc)?;
         let timer = Content::SuspicionTimer {
             subject: update.subject,
@@ -223,7 +222,7 @@ impl Member {
             update.accuser,
             here.key.at,
             self.next_number,
-        );
-        self.count_accusation(turn, here, loud, update, accused?)
+        )?;
+        self.count_accusation(turn, here, loud, update, accused)
     }
 }
