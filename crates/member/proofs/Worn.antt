@@ -6,7 +6,12 @@ use Rattle.base.specs.declared.key.Key.{Key}
 use Rattle.scenario.specs.Setup.{Setup, contact_of}
 use Rattle.trace.specs.declared.row.What.{What}
 use Rattle.member.specs.declared.content.Content.{Content}
+use Rattle.member.specs.declared.here.Here.{Here}
 use Rattle.member.specs.declared.member.Member.{Member}
+use Rattle.member.specs.declared.turn.Turn.{Turn}
+use Rattle.member.specs.declared.turn.StepError.{StepError}
+use Rattle.member.specs.declared.turn.StepError.TheVariants.{Worn}
+use Rattle.member.specs.Makes.{Makes}
 use Rattle.member.specs.State.{State}
 use Rattle.member.specs.Turn.{Effect, on_state, with_row, with_number, with_event, with_timer}
 use Rattle.member.specs.Send.{sent, sent_off, ping_sent, ping_req_sent, ack_sent, join_sent, join_sent_to, welcome_sent}
@@ -20,7 +25,7 @@ use Rattle.member.specs.Apply.{with_put, passed_on, with_health, refuted, heard_
 use Rattle.lifeguard.specs.declared.probe.Probe.{Probe}
 use Rattle.lifeguard.specs.Probe.{fresh_probe}
 use Rattle.member.specs.Step.{all_asked, suspected, probe_failed, probe_ended, probe_begun, target_probed, next_probed, with_relay, ack_taken, first_period_set}
-use Rattle.member.specs.View.{state_of}
+use Rattle.member.specs.View.{state_of, effect_of}
 use Rattle.member.specs.Worn.{IsWorn}
 
 -- no member in memory has a counter past its limit
@@ -31,10 +36,16 @@ not_worn m worn =
     let incarnation = m.incarnation_within in
     elim worn [ inl h ↦ omega arith | inr more ↦ elim more [ inl h ↦ omega arith | inr h ↦ omega arith ] ]
 
--- a refusal that is handed on is the one that was met
-pub handed_on : {T U E : Type 0} (r : Result T E) (e x : E) → IsErrAnd r (λ y. y ≡ e) → IsErrOf r x → IsErrOf {T = U} (Err e) x
-handed_on (Ok t) e x gives is = absurd gives
-handed_on (Err y) e x gives is = let same : y ≡ x = cc in ap Err (sym gives ∙ same)
+-- a part whose refusal is handed on: what it wears is worn by the whole
+pub refused : {here : Here} {old new : Member} {before after : Turn} {change : Effect → Effect} (r : Result (Unit {0}) StepError) (e : StepError) → IsErrAnd r (λ y. y ≡ e)
+    → (IsErrOf {T = Unit {0}} (Err e) Worn → IsWorn (change (effect_of old before)).state) → Makes here r old before new after change
+refused (Ok t) e gives wears = absurd gives
+refused (Err y) e gives wears = record { ok = tt; worn = λ is. wears (let same : y ≡ Worn = cc in ap Err (sym gives ∙ same)); kept = tt }
+
+-- the counter stands at its limit, and would have to rise
+pub worn_out : {here : Here} {old new : Member} {before after : Turn} {change : Effect → Effect} → IsWorn (change (effect_of old before)).state
+    → Makes here (Err Worn) old before new after change
+worn_out worn = record { ok = tt; worn = λ _. worn; kept = tt }
 
 pub worn_number : (t : State) → 2 ^ 63 ≤ t.next_number → IsWorn (with_number t)
 unfolding with_number

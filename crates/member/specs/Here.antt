@@ -1,8 +1,10 @@
 -- The conditions under which an event is handled.
-use Rattle.std.specs.Prelude.{◌≡◌, ◌≢◌, ℕ, ◌<◌, ◌≤◌, ◌^◌, true, false, All}
+use Rattle.std.specs.Prelude.{◌≡◌, ◌≢◌, ℕ, ◌<◌, ◌≤◌, ◌^◌, true, false, All, Some, unwrap_or}
+use Rattle.std.proofs.Common.{sym, ap, subst, ◌∙◌}
+use Rattle.std.proofs.Props.{props}
 use Rattle.std.specs.FinMap.{contains_key}
 use Rattle.base.specs.declared.key.Key.{Key}
-use Rattle.scenario.specs.Setup.{Setup, IsSound, member_count}
+use Rattle.scenario.specs.Setup.{Setup, IsSound, member_count, contact_of, start_of}
 use Rattle.links.specs.declared.table.Links.{Links}
 use Rattle.links.specs.Arrival.{AreLinksOf}
 use Rattle.probing.specs.ProbeOrder.{ProbeOrder, count_of, IsSound as IsSoundRota}
@@ -18,6 +20,19 @@ pub record IsHere (s : Setup) (l : Links) (k : Key) : Type 0 where
   pub early : k.at ≤ 2 ^ 40
   pub receiver : k.to < member_count s
   pub sender : k.from < member_count s
+
+-- a member has one contact at most
+pub contact-prop : (s : Setup) (m : ℕ) → IsProp ((c : ℕ) × (contact_of s m ≡ Some c) × (c < member_count s) × (start_of s c ≡ 0))
+contact-prop s m a b =
+    let same : a.0 ≡ b.0 = ap (λ o. unwrap_or o 0) (sym a.1 ∙ b.1) in
+    subst (λ c. (rest : Rest c) → a ≡ (c, rest.0, rest.1, rest.2)) same
+    (λ rest. ap (λ (r : Rest a.0). (a.0, r.0, r.1, r.2)) (rest-prop a.0 (a.1, a.2, a.3) rest)) (b.1, b.2, b.3)
+  where
+    Rest : ℕ → Type 0
+    Rest c = (contact_of s m ≡ Some c) × (c < member_count s) × (start_of s c ≡ 0)
+
+    rest-prop : (c : ℕ) → IsProp (Rest c)
+    rest-prop c = hlevel props
 
 -- The table is of other members of the scenario, and the rota of members in the table.
 pub record HoldsOthers (s : Setup) (m : ℕ) (table : Known) (rota : ProbeOrder) : Type 0 where

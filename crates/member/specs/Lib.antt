@@ -7,6 +7,7 @@ pub mod Opening
 pub mod View
 pub mod Worn
 pub mod Here
+pub mod Makes
 pub mod Steps
 pub mod Places
 pub mod Fair

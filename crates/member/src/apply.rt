@@ -1,9 +1,7 @@
-ghost use Rattle.std.specs.Prelude.{◌≡◌, ◌≢◌, ◌<◌, All, OnOk, IfErr, IsErrOf};
-ghost use Rattle.scenario.specs.Setup.{member_count};
-ghost use Rattle.member.specs.Here.{IsHere, HoldsMembers};
+ghost use Rattle.std.specs.Prelude.{◌≡◌, ◌≢◌, ◌<◌, OnOk};
+ghost use Rattle.member.specs.Makes.{AreAboutMembers, IsMade, IsMember, KnowsMembers, Makes};
 ghost use Rattle.member.specs.Apply.{with_health, refuted, heard_dead, own_applied, other_applied, applied, all_applied, is_repeated};
-ghost use Rattle.member.specs.View.{effect_of, state_of};
-ghost use Rattle.member.specs.Worn.{IsWorn};
+ghost use Rattle.member.specs.View.{effect_of};
 
 use crate::here::Here;
 use crate::member::Member;
@@ -23,11 +21,9 @@ impl Member {
         here: &Here,
         health: Health,
     ) -> Result<(), StepError>
-        requires here { IsHere here.now.scenario.now here.now.links.now here.now.key }
-        requires known { HoldsMembers here.now.scenario.now here.now.key.to (state_of self.old) }
-        ensures ok { OnOk result (effect_of self.new turn.new ≡ with_health here.now.key health (effect_of self.old turn.old)) }
-        ensures err { IfErr result (λ e. e ≡ StepError.Memory) }
-        ensures kept { OnOk result (HoldsMembers here.now.scenario.now here.now.key.to (state_of self.new)) }
+        requires { KnowsMembers here.now self.old }
+        ensures made { IsMade result (effect_of self.new turn.new) (with_health here.now.key health (effect_of self.old turn.old)) }
+        ensures kept { OnOk result (KnowsMembers here.now self.new) }
     {
         let changed = health.counter() != self.health.counter();
         self.health = health;
@@ -43,11 +39,8 @@ impl Member {
     /// that number stands at its limit.
     #[tactic(auto, unfolding(crate::specs::Apply::refuted))]
     fn refute(&mut self, turn: &mut Turn, here: &Here) -> Result<(), StepError>
-        requires here { IsHere here.now.scenario.now here.now.links.now here.now.key }
-        requires known { HoldsMembers here.now.scenario.now here.now.key.to (state_of self.old) }
-        ensures ok { OnOk result (effect_of self.new turn.new ≡ refuted here.now.key (effect_of self.old turn.old)) }
-        ensures worn { IsErrOf result StepError.Worn → IsWorn (refuted here.now.key (effect_of self.old turn.old)).state }
-        ensures kept { OnOk result (HoldsMembers here.now.scenario.now here.now.key.to (state_of self.new)) }
+        requires { KnowsMembers here.now self.old }
+        ensures { Makes here.now result self.old turn.old self.new turn.new (refuted here.now.key) }
     {
         if self.incarnation >= COUNTER_LIMIT {
             return Err(StepError::Worn);
@@ -70,11 +63,8 @@ impl Member {
     /// Hears for the first time that one was confirmed to have failed.
     #[tactic(auto, unfolding(crate::specs::Apply::heard_dead))]
     fn hear_dead(&mut self, turn: &mut Turn, here: &Here, number: u64) -> Result<(), StepError>
-        requires here { IsHere here.now.scenario.now here.now.links.now here.now.key }
-        requires known { HoldsMembers here.now.scenario.now here.now.key.to (state_of self.old) }
-        ensures ok { OnOk result (effect_of self.new turn.new ≡ heard_dead here.now.key number (effect_of self.old turn.old)) }
-        ensures worn { IsErrOf result StepError.Worn → IsWorn (heard_dead here.now.key number (effect_of self.old turn.old)).state }
-        ensures kept { OnOk result (HoldsMembers here.now.scenario.now here.now.key.to (state_of self.new)) }
+        requires { KnowsMembers here.now self.old }
+        ensures { Makes here.now result self.old turn.old self.new turn.new (heard_dead here.now.key number) }
     {
         self.heard_dead = true;
         self.write_row(turn, here, What::Dead, Some(here.key.to), number, false)
@@ -88,11 +78,8 @@ impl Member {
         claim: Claim,
         number: u64,
     ) -> Result<(), StepError>
-        requires here { IsHere here.now.scenario.now here.now.links.now here.now.key }
-        requires known { HoldsMembers here.now.scenario.now here.now.key.to (state_of self.old) }
-        ensures ok { OnOk result (effect_of self.new turn.new ≡ own_applied here.now.key claim number (effect_of self.old turn.old)) }
-        ensures worn { IsErrOf result StepError.Worn → IsWorn (own_applied here.now.key claim number (effect_of self.old turn.old)).state }
-        ensures kept { OnOk result (HoldsMembers here.now.scenario.now here.now.key.to (state_of self.new)) }
+        requires { KnowsMembers here.now self.old }
+        ensures { Makes here.now result self.old turn.old self.new turn.new (own_applied here.now.key claim number) }
     {
         match claim {
             Claim::Alive => Ok(()),
@@ -122,13 +109,10 @@ impl Member {
         update: &Update,
         held: Option<(Claim, u64)>,
     ) -> Result<(), StepError>
-        requires here { IsHere here.now.scenario.now here.now.links.now here.now.key }
-        requires known { HoldsMembers here.now.scenario.now here.now.key.to (state_of self.old) }
-        requires member { update.now.subject < member_count here.now.scenario.now }
+        requires known { KnowsMembers here.now self.old }
+        requires member { IsMember here.now update.now.subject }
         requires other { update.now.subject ≢ here.now.key.to }
-        ensures ok { OnOk result (effect_of self.new turn.new ≡ other_applied here.now.scenario.now loud here.now.key update.now held (effect_of self.old turn.old)) }
-        ensures worn { IsErrOf result StepError.Worn → IsWorn (other_applied here.now.scenario.now loud here.now.key update.now held (effect_of self.old turn.old)).state }
-        ensures kept { OnOk result (HoldsMembers here.now.scenario.now here.now.key.to (state_of self.new)) }
+        ensures { Makes here.now result self.old turn.old self.new turn.new (other_applied here.now.scenario.now loud here.now.key update.now held) }
     {
         let Some(held) = held else {
             return self.hear_news(turn, here, loud, update);
@@ -151,12 +135,9 @@ impl Member {
         loud: bool,
         update: &Update,
     ) -> Result<(), StepError>
-        requires here { IsHere here.now.scenario.now here.now.links.now here.now.key }
-        requires known { HoldsMembers here.now.scenario.now here.now.key.to (state_of self.old) }
-        requires member { update.now.subject < member_count here.now.scenario.now }
-        ensures ok { OnOk result (effect_of self.new turn.new ≡ applied here.now.scenario.now loud here.now.key update.now (effect_of self.old turn.old)) }
-        ensures worn { IsErrOf result StepError.Worn → IsWorn (applied here.now.scenario.now loud here.now.key update.now (effect_of self.old turn.old)).state }
-        ensures kept { OnOk result (HoldsMembers here.now.scenario.now here.now.key.to (state_of self.new)) }
+        requires known { KnowsMembers here.now self.old }
+        requires member { IsMember here.now update.now.subject }
+        ensures { Makes here.now result self.old turn.old self.new turn.new (applied here.now.scenario.now loud here.now.key update.now) }
     {
         if update.subject == here.key.to {
             return self.apply_own(turn, here, update.claim, update.inc);
@@ -173,12 +154,9 @@ impl Member {
         loud: bool,
         updates: &[Update],
     ) -> Result<(), StepError>
-        requires here { IsHere here.now.scenario.now here.now.links.now here.now.key }
-        requires known { HoldsMembers here.now.scenario.now here.now.key.to (state_of self.old) }
-        requires members { All (λ u. u.subject < member_count here.now.scenario.now) updates.now }
-        ensures ok { OnOk result (effect_of self.new turn.new ≡ all_applied here.now.scenario.now loud here.now.key updates.now (effect_of self.old turn.old)) }
-        ensures worn { IsErrOf result StepError.Worn → IsWorn (all_applied here.now.scenario.now loud here.now.key updates.now (effect_of self.old turn.old)).state }
-        ensures kept { OnOk result (HoldsMembers here.now.scenario.now here.now.key.to (state_of self.new)) }
+        requires known { KnowsMembers here.now self.old }
+        requires members { AreAboutMembers here.now updates.now }
+        ensures { Makes here.now result self.old turn.old self.new turn.new (all_applied here.now.scenario.now loud here.now.key updates.now) }
     {
         for update in updates {
             self.apply(turn, here, loud, update)?;

@@ -1,11 +1,9 @@
-ghost use Rattle.std.specs.Prelude.{◌≡◌, ◌<◌, ◌≤◌, All, length, OnOk, IfOk, IfErr, IsErrOf};
-ghost use Rattle.scenario.specs.Setup.{member_count};
-ghost use Rattle.member.specs.Here.{IsHere, HoldsMembers};
+ghost use Rattle.std.specs.Prelude.{◌≡◌, ◌<◌, ◌≤◌, All, length, OnOk, IfOk, IfErr};
+ghost use Rattle.member.specs.Makes.{Draws, IsMember, KnowsMembers, Makes};
 ghost use Rattle.probing.specs.ProbeOrder.{helpers_of};
 ghost use Rattle.membership.specs.Table.{alive_but};
 ghost use Rattle.member.specs.Step.{all_asked, help_asked, timed_out};
-ghost use Rattle.member.specs.View.{effect_of, state_of};
-ghost use Rattle.member.specs.Worn.{IsWorn};
+ghost use Rattle.member.specs.View.{state_of};
 
 use crate::here::Here;
 use crate::member::Member;
@@ -17,16 +15,13 @@ use probing::helpers;
 impl Member {
     /// Whom to ask for help with a probe (SWIM, section 3.1).
     fn draw_helpers(&mut self, here: &Here, target: MemberId) -> Result<Vec<MemberId>, StepError>
-        requires here { IsHere here.now.scenario.now here.now.links.now here.now.key }
-        requires known { HoldsMembers here.now.scenario.now here.now.key.to (state_of self.old) }
-        ensures helpers { let drawn = helpers_of (state_of self.old).words here.now.scenario.now.swim.helpers (alive_but target (state_of self.old).table) in
-            IfOk result (λ helpers. helpers.items ≡ drawn.0) }
-        ensures state { let drawn = helpers_of (state_of self.old).words here.now.scenario.now.swim.helpers (alive_but target (state_of self.old).table) in
-            OnOk result (state_of self.new ≡ record (state_of self.old) { words = drawn.1 }) }
-        ensures members { IfOk result (λ helpers. All (λ q. q < member_count here.now.scenario.now) helpers.items) }
-        ensures few { IfOk result (λ helpers. length helpers.items ≤ 16) }
+        requires { KnowsMembers here.now self.old }
+        ensures drawn { IfOk result (λ helpers. Draws helpers.items self.old self.new
+            (helpers_of (state_of self.old).words here.now.scenario.now.swim.helpers (alive_but target (state_of self.old).table))) }
+        ensures members { IfOk result (λ helpers. All (IsMember here.now) helpers.items) }
+        ensures helpers_within { IfOk result (λ helpers. length helpers.items ≤ 16) }
         ensures err { IfErr result (λ e. e ≡ StepError.Memory) }
-        ensures kept { OnOk result (HoldsMembers here.now.scenario.now here.now.key.to (state_of self.new)) }
+        ensures kept { OnOk result (KnowsMembers here.now self.new) }
     {
         let candidates = self.table.alive_but(here.alloc, target)?;
         let count = here.scenario.swim().helpers as usize;
@@ -42,12 +37,9 @@ impl Member {
         seq: u64,
         helpers: &[MemberId],
     ) -> Result<(), StepError>
-        requires here { IsHere here.now.scenario.now here.now.links.now here.now.key }
-        requires known { HoldsMembers here.now.scenario.now here.now.key.to (state_of self.old) }
-        requires members { All (λ q. q < member_count here.now.scenario.now) helpers.now }
-        ensures ok { OnOk result (effect_of self.new turn.new ≡ all_asked here.now.scenario.now here.now.key target seq helpers.now (effect_of self.old turn.old)) }
-        ensures worn { IsErrOf result StepError.Worn → IsWorn (all_asked here.now.scenario.now here.now.key target seq helpers.now (effect_of self.old turn.old)).state }
-        ensures kept { OnOk result (HoldsMembers here.now.scenario.now here.now.key.to (state_of self.new)) }
+        requires known { KnowsMembers here.now self.old }
+        requires members { All (IsMember here.now) helpers.now }
+        ensures { Makes here.now result self.old turn.old self.new turn.new (all_asked here.now.scenario.now here.now.key target seq helpers.now) }
     {
         for helper in helpers {
             self.send_ping_req(turn, here, target, seq, *helper)?;
@@ -58,11 +50,8 @@ impl Member {
     /// Asks helpers to ping the target. With LHA-Probe the probe expects an answer of each.
     #[tactic(auto, unfolding(crate::specs::Step::help_asked))]
     fn ask_help(&mut self, turn: &mut Turn, here: &Here, probe: &Probe) -> Result<(), StepError>
-        requires here { IsHere here.now.scenario.now here.now.links.now here.now.key }
-        requires known { HoldsMembers here.now.scenario.now here.now.key.to (state_of self.old) }
-        ensures ok { OnOk result (effect_of self.new turn.new ≡ help_asked here.now.scenario.now here.now.key probe.now (effect_of self.old turn.old)) }
-        ensures worn { IsErrOf result StepError.Worn → IsWorn (help_asked here.now.scenario.now here.now.key probe.now (effect_of self.old turn.old)).state }
-        ensures kept { OnOk result (HoldsMembers here.now.scenario.now here.now.key.to (state_of self.new)) }
+        requires { KnowsMembers here.now self.old }
+        ensures { Makes here.now result self.old turn.old self.new turn.new (help_asked here.now.scenario.now here.now.key probe.now) }
     {
         let helpers = self.draw_helpers(here, probe.target)?;
         self.ask_all(turn, here, probe.target, probe.seq, &helpers)?;
@@ -82,11 +71,8 @@ impl Member {
         here: &Here,
         seq: u64,
     ) -> Result<(), StepError>
-        requires here { IsHere here.now.scenario.now here.now.links.now here.now.key }
-        requires known { HoldsMembers here.now.scenario.now here.now.key.to (state_of self.old) }
-        ensures ok { OnOk result (effect_of self.new turn.new ≡ timed_out here.now.scenario.now here.now.key seq (state_of self.old).probe (effect_of self.old turn.old)) }
-        ensures worn { IsErrOf result StepError.Worn → IsWorn (timed_out here.now.scenario.now here.now.key seq (state_of self.old).probe (effect_of self.old turn.old)).state }
-        ensures kept { OnOk result (HoldsMembers here.now.scenario.now here.now.key.to (state_of self.new)) }
+        requires { KnowsMembers here.now self.old }
+        ensures { Makes here.now result self.old turn.old self.new turn.new (timed_out here.now.scenario.now here.now.key seq (state_of self.old).probe) }
     {
         let Some(probe) = self.probe else {
             return Ok(());

@@ -1,3 +1,6 @@
+ghost use Rattle.std.proofs.Props.{props};
+ghost use Rattle.member.specs.Here.{IsHere, contact-prop};
+
 use base::Key;
 use links::Links;
 use scenario::Scenario;
@@ -12,4 +15,6 @@ pub(crate) struct Here<'a> {
     pub(crate) key: Key,
     pub(crate) scenario: &'a Scenario,
     pub(crate) links: &'a Links,
+    // The links are the scenario's, and the event is one of a run of it.
+    ghost setting: { IsHere scenario.now links.now key } by { Prim.hlevel (props, contact-prop) },
 }

@@ -1,10 +1,7 @@
-ghost use Rattle.std.specs.Prelude.{◌≡◌, ◌<◌, ◌∷◌, ◌++◌, [], if◌then◌else◌, All, length, OnOk, IfOk, IfErr, IsErrOf};
+ghost use Rattle.std.specs.Prelude.{◌≡◌, ◌<◌, ◌∷◌, ◌++◌, [], if◌then◌else◌, length, OnOk, IfOk, IfErr};
 ghost use Rattle.scenario.specs.Setup.{member_count};
-ghost use Rattle.member.specs.Here.{IsHere, HoldsMembers};
-ghost use Rattle.membership.specs.Table.{all_alive};
+ghost use Rattle.member.specs.Makes.{AreAboutMembers, KnowsMembers, Makes};
 ghost use Rattle.member.specs.Step.{first_period_set, is_first_other, first_others, began, join_asked, joining_begun, started, crashed, join_handled, about_others, joined};
-ghost use Rattle.member.specs.View.{effect_of, state_of};
-ghost use Rattle.member.specs.Worn.{IsWorn};
 
 use crate::content::Content;
 use crate::here::Here;
@@ -23,11 +20,8 @@ impl Member {
     /// The first period begins at a moment that chance decides.
     #[tactic(auto, unfolding(crate::specs::Step::first_period_set))]
     fn set_first_period(&mut self, turn: &mut Turn, here: &Here) -> Result<(), StepError>
-        requires here { IsHere here.now.scenario.now here.now.links.now here.now.key }
-        requires known { HoldsMembers here.now.scenario.now here.now.key.to (state_of self.old) }
-        ensures ok { OnOk result (effect_of self.new turn.new ≡ first_period_set here.now.scenario.now here.now.key (effect_of self.old turn.old)) }
-        ensures worn { IsErrOf result StepError.Worn → IsWorn (first_period_set here.now.scenario.now here.now.key (effect_of self.old turn.old)).state }
-        ensures kept { OnOk result (HoldsMembers here.now.scenario.now here.now.key.to (state_of self.new)) }
+        requires { KnowsMembers here.now self.old }
+        ensures { Makes here.now result self.old turn.old self.new turn.new (first_period_set here.now.scenario.now here.now.key) }
     {
         let spread = here.scenario.swim().spread as u32;
         let wait = self.stream.below(spread);
@@ -37,11 +31,8 @@ impl Member {
     /// A member that starts at moment 0 knows all others that do, and probes them.
     #[tactic(auto, unfolding(crate::specs::Step::began))]
     fn begin(&mut self, turn: &mut Turn, here: &Here) -> Result<(), StepError>
-        requires here { IsHere here.now.scenario.now here.now.links.now here.now.key }
-        requires known { HoldsMembers here.now.scenario.now here.now.key.to (state_of self.old) }
-        ensures ok { OnOk result (effect_of self.new turn.new ≡ began here.now.scenario.now here.now.key (effect_of self.old turn.old)) }
-        ensures worn { IsErrOf result StepError.Worn → IsWorn (began here.now.scenario.now here.now.key (effect_of self.old turn.old)).state }
-        ensures kept { OnOk result (HoldsMembers here.now.scenario.now here.now.key.to (state_of self.new)) }
+        requires { KnowsMembers here.now self.old }
+        ensures { Makes here.now result self.old turn.old self.new turn.new (began here.now.scenario.now here.now.key) }
     {
         let others = first_others(here.alloc, here.scenario, here.key.to)?;
         let table = Table::of_alive(here.alloc, &others)?;
@@ -56,11 +47,8 @@ impl Member {
     /// Asks the contact to let the member join, and again after a period.
     #[tactic(auto, unfolding(crate::specs::Step::join_asked))]
     pub(crate) fn ask_join(&mut self, turn: &mut Turn, here: &Here) -> Result<(), StepError>
-        requires here { IsHere here.now.scenario.now here.now.links.now here.now.key }
-        requires known { HoldsMembers here.now.scenario.now here.now.key.to (state_of self.old) }
-        ensures ok { OnOk result (effect_of self.new turn.new ≡ join_asked here.now.scenario.now here.now.key (effect_of self.old turn.old)) }
-        ensures worn { IsErrOf result StepError.Worn → IsWorn (join_asked here.now.scenario.now here.now.key (effect_of self.old turn.old)).state }
-        ensures kept { OnOk result (HoldsMembers here.now.scenario.now here.now.key.to (state_of self.new)) }
+        requires { KnowsMembers here.now self.old }
+        ensures { Makes here.now result self.old turn.old self.new turn.new (join_asked here.now.scenario.now here.now.key) }
     {
         self.send_join(turn, here)?;
         self.set_timer(turn, here, here.scenario.period(), Content::JoinTimer)
@@ -69,11 +57,8 @@ impl Member {
     /// A member that starts later knows nobody, and joins.
     #[tactic(auto, unfolding(crate::specs::Step::joining_begun))]
     fn begin_joining(&mut self, turn: &mut Turn, here: &Here) -> Result<(), StepError>
-        requires here { IsHere here.now.scenario.now here.now.links.now here.now.key }
-        requires known { HoldsMembers here.now.scenario.now here.now.key.to (state_of self.old) }
-        ensures ok { OnOk result (effect_of self.new turn.new ≡ joining_begun here.now.scenario.now here.now.key (effect_of self.old turn.old)) }
-        ensures worn { IsErrOf result StepError.Worn → IsWorn (joining_begun here.now.scenario.now here.now.key (effect_of self.old turn.old)).state }
-        ensures kept { OnOk result (HoldsMembers here.now.scenario.now here.now.key.to (state_of self.new)) }
+        requires { KnowsMembers here.now self.old }
+        ensures { Makes here.now result self.old turn.old self.new turn.new (joining_begun here.now.scenario.now here.now.key) }
     {
         let rota = empty_rota(here.alloc)?;
         self.phase = Phase::Joining;
@@ -85,11 +70,8 @@ impl Member {
     /// The member starts.
     #[tactic(auto, unfolding(crate::specs::Step::started))]
     pub(crate) fn start(&mut self, turn: &mut Turn, here: &Here) -> Result<(), StepError>
-        requires here { IsHere here.now.scenario.now here.now.links.now here.now.key }
-        requires known { HoldsMembers here.now.scenario.now here.now.key.to (state_of self.old) }
-        ensures ok { OnOk result (effect_of self.new turn.new ≡ started here.now.scenario.now here.now.key (effect_of self.old turn.old)) }
-        ensures worn { IsErrOf result StepError.Worn → IsWorn (started here.now.scenario.now here.now.key (effect_of self.old turn.old)).state }
-        ensures kept { OnOk result (HoldsMembers here.now.scenario.now here.now.key.to (state_of self.new)) }
+        requires { KnowsMembers here.now self.old }
+        ensures { Makes here.now result self.old turn.old self.new turn.new (started here.now.scenario.now here.now.key) }
     {
         self.write_row(turn, here, What::Start, None, 0, false)?;
         if here.scenario.start(here.key.to) == Moment(0) {
@@ -102,11 +84,8 @@ impl Member {
     /// The member crashes, for good.
     #[tactic(auto, unfolding(crate::specs::Step::crashed))]
     pub(crate) fn crash(&mut self, turn: &mut Turn, here: &Here) -> Result<(), StepError>
-        requires here { IsHere here.now.scenario.now here.now.links.now here.now.key }
-        requires known { HoldsMembers here.now.scenario.now here.now.key.to (state_of self.old) }
-        ensures ok { OnOk result (effect_of self.new turn.new ≡ crashed here.now.key (effect_of self.old turn.old)) }
-        ensures worn { IsErrOf result StepError.Worn → IsWorn (crashed here.now.key (effect_of self.old turn.old)).state }
-        ensures kept { OnOk result (HoldsMembers here.now.scenario.now here.now.key.to (state_of self.new)) }
+        requires { KnowsMembers here.now self.old }
+        ensures { Makes here.now result self.old turn.old self.new turn.new (crashed here.now.key) }
     {
         self.phase = Phase::Down;
         self.write_row(turn, here, What::Crash, None, 0, false)
@@ -115,11 +94,8 @@ impl Member {
     /// A member that asks to join is alive, and is told all that one knows.
     #[tactic(auto, unfolding(crate::specs::Step::join_handled))]
     pub(crate) fn hear_join(&mut self, turn: &mut Turn, here: &Here) -> Result<(), StepError>
-        requires here { IsHere here.now.scenario.now here.now.links.now here.now.key }
-        requires known { HoldsMembers here.now.scenario.now here.now.key.to (state_of self.old) }
-        ensures ok { OnOk result (effect_of self.new turn.new ≡ join_handled here.now.scenario.now here.now.key (effect_of self.old turn.old)) }
-        ensures worn { IsErrOf result StepError.Worn → IsWorn (join_handled here.now.scenario.now here.now.key (effect_of self.old turn.old)).state }
-        ensures kept { OnOk result (HoldsMembers here.now.scenario.now here.now.key.to (state_of self.new)) }
+        requires { KnowsMembers here.now self.old }
+        ensures { Makes here.now result self.old turn.old self.new turn.new (join_handled here.now.scenario.now here.now.key) }
     {
         let claim = Update {
             subject: here.key.from,
@@ -139,12 +115,9 @@ impl Member {
         here: &Here,
         entries: &[Update],
     ) -> Result<(), StepError>
-        requires here { IsHere here.now.scenario.now here.now.links.now here.now.key }
-        requires known { HoldsMembers here.now.scenario.now here.now.key.to (state_of self.old) }
-        requires entries { All (λ u. u.subject < member_count here.now.scenario.now) entries.now }
-        ensures ok { OnOk result (effect_of self.new turn.new ≡ joined here.now.scenario.now here.now.key entries.now (effect_of self.old turn.old)) }
-        ensures worn { IsErrOf result StepError.Worn → IsWorn (joined here.now.scenario.now here.now.key entries.now (effect_of self.old turn.old)).state }
-        ensures kept { OnOk result (HoldsMembers here.now.scenario.now here.now.key.to (state_of self.new)) }
+        requires known { KnowsMembers here.now self.old }
+        requires entries { AreAboutMembers here.now entries.now }
+        ensures { Makes here.now result self.old turn.old self.new turn.new (joined here.now.scenario.now here.now.key entries.now) }
     {
         self.phase = Phase::Running;
         let others = count_others(entries, here.key.to);

@@ -1,7 +1,9 @@
 //! What a member makes of an event: SWIM with Lifeguard, one event at a time.
 #![tactic(auto)]
 
+mod acks;
 mod apply;
+mod confirm;
 mod content;
 mod event;
 mod help;
@@ -12,7 +14,7 @@ mod member;
 mod news;
 mod opening;
 mod period;
-mod relay;
+mod pings;
 mod send;
 mod step;
 #[cfg(test)]

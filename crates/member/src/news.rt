@@ -1,9 +1,7 @@
-ghost use Rattle.std.specs.Prelude.{◌≡◌, ◌≢◌, ◌<◌, OnOk, IfErr, IsErrOf};
-ghost use Rattle.scenario.specs.Setup.{member_count};
-ghost use Rattle.member.specs.Here.{IsHere, HoldsMembers};
+ghost use Rattle.std.specs.Prelude.{◌≢◌, ◌<◌, OnOk};
+ghost use Rattle.member.specs.Makes.{IsMade, IsMember, KnowsMembers, Makes};
 ghost use Rattle.member.specs.Apply.{with_put, passed_on, with_told, claim_kept, alive_heard, suspect_heard, confirm_heard, claim_heard, news_heard, accusation_counted, accusation_heard};
 ghost use Rattle.member.specs.View.{effect_of, state_of};
-ghost use Rattle.member.specs.Worn.{IsWorn};
 
 use crate::content::Content;
 use crate::here::Here;
@@ -19,10 +17,9 @@ impl Member {
     /// Puts an update among those that are still to be sent.
     #[tactic(auto, unfolding(crate::specs::Apply::with_put))]
     pub(crate) fn put(&mut self, here: &Here, update: Update) -> Result<(), StepError>
-        requires known { HoldsMembers here.now.scenario.now here.now.key.to (state_of self.old) }
-        ensures ok { OnOk result (state_of self.new ≡ with_put update (state_of self.old)) }
-        ensures err { IfErr result (λ e. e ≡ StepError.Memory) }
-        ensures kept { OnOk result (HoldsMembers here.now.scenario.now here.now.key.to (state_of self.new)) }
+        requires { KnowsMembers here.now self.old }
+        ensures made { IsMade result (state_of self.new) (with_put update (state_of self.old)) }
+        ensures kept { OnOk result (KnowsMembers here.now self.new) }
     {
         self.buffer.put(update)?;
         Ok(())
@@ -31,10 +28,9 @@ impl Member {
     /// Passes an update on, unless the application is quiet.
     #[tactic(auto, unfolding(crate::specs::Apply::passed_on))]
     fn pass_on(&mut self, here: &Here, loud: bool, update: &Update) -> Result<(), StepError>
-        requires known { HoldsMembers here.now.scenario.now here.now.key.to (state_of self.old) }
-        ensures ok { OnOk result (state_of self.new ≡ passed_on loud update.now (state_of self.old)) }
-        ensures err { IfErr result (λ e. e ≡ StepError.Memory) }
-        ensures kept { OnOk result (HoldsMembers here.now.scenario.now here.now.key.to (state_of self.new)) }
+        requires { KnowsMembers here.now self.old }
+        ensures made { IsMade result (state_of self.new) (passed_on loud update.now (state_of self.old)) }
+        ensures kept { OnOk result (KnowsMembers here.now self.new) }
     {
         if loud {
             self.put(here, *update)
@@ -53,8 +49,7 @@ impl Member {
         subject: MemberId,
         value: u64,
     ) -> Result<(), StepError>
-        ensures ok { OnOk result (effect_of self.now turn.new ≡ with_told loud here.now.key what subject value (effect_of self.now turn.old)) }
-        ensures err { IfErr result (λ e. e ≡ StepError.Memory) }
+        ensures { IsMade result (effect_of self.now turn.new) (with_told loud here.now.key what subject value (effect_of self.now turn.old)) }
     {
         if loud {
             self.write_row(turn, here, what, Some(subject), value, false)
@@ -66,12 +61,11 @@ impl Member {
     /// Keeps a claim about another member, which is probed from now on where it wasn't known.
     #[tactic(auto, unfolding(crate::specs::Apply::claim_kept))]
     fn keep_claim(&mut self, here: &Here, update: &Update) -> Result<(), StepError>
-        requires known { HoldsMembers here.now.scenario.now here.now.key.to (state_of self.old) }
-        requires member { update.now.subject < member_count here.now.scenario.now }
+        requires known { KnowsMembers here.now self.old }
+        requires member { IsMember here.now update.now.subject }
         requires other { update.now.subject ≢ here.now.key.to }
-        ensures ok { OnOk result (state_of self.new ≡ claim_kept update.now (state_of self.old)) }
-        ensures err { IfErr result (λ e. e ≡ StepError.Memory) }
-        ensures kept { OnOk result (HoldsMembers here.now.scenario.now here.now.key.to (state_of self.new)) }
+        ensures made { IsMade result (state_of self.new) (claim_kept update.now (state_of self.old)) }
+        ensures kept { OnOk result (KnowsMembers here.now self.new) }
     {
         let held = self.table.get(update.subject);
         self.table.set(update.subject, (update.claim, update.inc))?;
@@ -91,11 +85,8 @@ impl Member {
         loud: bool,
         update: &Update,
     ) -> Result<(), StepError>
-        requires here { IsHere here.now.scenario.now here.now.links.now here.now.key }
-        requires known { HoldsMembers here.now.scenario.now here.now.key.to (state_of self.old) }
-        ensures ok { OnOk result (effect_of self.new turn.new ≡ alive_heard loud here.now.key update.now (effect_of self.old turn.old)) }
-        ensures worn { IsErrOf result StepError.Worn → IsWorn (alive_heard loud here.now.key update.now (effect_of self.old turn.old)).state }
-        ensures kept { OnOk result (HoldsMembers here.now.scenario.now here.now.key.to (state_of self.new)) }
+        requires { KnowsMembers here.now self.old }
+        ensures { Makes here.now result self.old turn.old self.new turn.new (alive_heard loud here.now.key update.now) }
     {
         self.suspicions.clear(update.subject);
         self.tell(turn, here, loud, What::Alive, update.subject, update.inc)
@@ -110,14 +101,11 @@ impl Member {
         loud: bool,
         update: &Update,
     ) -> Result<(), StepError>
-        requires here { IsHere here.now.scenario.now here.now.links.now here.now.key }
-        requires known { HoldsMembers here.now.scenario.now here.now.key.to (state_of self.old) }
-        ensures ok { OnOk result (effect_of self.new turn.new ≡ suspect_heard here.now.scenario.now loud here.now.key update.now (effect_of self.old turn.old)) }
-        ensures worn { IsErrOf result StepError.Worn → IsWorn (suspect_heard here.now.scenario.now loud here.now.key update.now (effect_of self.old turn.old)).state }
-        ensures kept { OnOk result (HoldsMembers here.now.scenario.now here.now.key.to (state_of self.new)) }
+        requires { KnowsMembers here.now self.old }
+        ensures { Makes here.now result self.old turn.old self.new turn.new (suspect_heard here.now.scenario.now loud here.now.key update.now) }
     {
         let members = self.live_members(here);
-        let started = self.suspicions.start(
+        let due = self.suspicions.start(
             update.subject,
             update.inc,
             update.accuser,
@@ -125,8 +113,7 @@ impl Member {
             here.key.at,
             self.next_number,
             here.scenario,
-        );
-        let due = started?;
+        )?;
         self.tell(turn, here, loud, What::Suspect, update.subject, update.inc)?;
         let timer = Content::SuspicionTimer {
             subject: update.subject,
@@ -143,11 +130,8 @@ impl Member {
         loud: bool,
         update: &Update,
     ) -> Result<(), StepError>
-        requires here { IsHere here.now.scenario.now here.now.links.now here.now.key }
-        requires known { HoldsMembers here.now.scenario.now here.now.key.to (state_of self.old) }
-        ensures ok { OnOk result (effect_of self.new turn.new ≡ confirm_heard loud here.now.key update.now (effect_of self.old turn.old)) }
-        ensures worn { IsErrOf result StepError.Worn → IsWorn (confirm_heard loud here.now.key update.now (effect_of self.old turn.old)).state }
-        ensures kept { OnOk result (HoldsMembers here.now.scenario.now here.now.key.to (state_of self.new)) }
+        requires { KnowsMembers here.now self.old }
+        ensures { Makes here.now result self.old turn.old self.new turn.new (confirm_heard loud here.now.key update.now) }
     {
         self.suspicions.clear(update.subject);
         self.rota.remove(update.subject);
@@ -162,11 +146,8 @@ impl Member {
         loud: bool,
         update: &Update,
     ) -> Result<(), StepError>
-        requires here { IsHere here.now.scenario.now here.now.links.now here.now.key }
-        requires known { HoldsMembers here.now.scenario.now here.now.key.to (state_of self.old) }
-        ensures ok { OnOk result (effect_of self.new turn.new ≡ claim_heard here.now.scenario.now loud here.now.key update.now update.now.claim (effect_of self.old turn.old)) }
-        ensures worn { IsErrOf result StepError.Worn → IsWorn (claim_heard here.now.scenario.now loud here.now.key update.now update.now.claim (effect_of self.old turn.old)).state }
-        ensures kept { OnOk result (HoldsMembers here.now.scenario.now here.now.key.to (state_of self.new)) }
+        requires { KnowsMembers here.now self.old }
+        ensures { Makes here.now result self.old turn.old self.new turn.new (claim_heard here.now.scenario.now loud here.now.key update.now update.now.claim) }
     {
         match update.claim {
             Claim::Alive => self.hear_alive(turn, here, loud, update),
@@ -184,13 +165,10 @@ impl Member {
         loud: bool,
         update: &Update,
     ) -> Result<(), StepError>
-        requires here { IsHere here.now.scenario.now here.now.links.now here.now.key }
-        requires known { HoldsMembers here.now.scenario.now here.now.key.to (state_of self.old) }
-        requires member { update.now.subject < member_count here.now.scenario.now }
+        requires known { KnowsMembers here.now self.old }
+        requires member { IsMember here.now update.now.subject }
         requires other { update.now.subject ≢ here.now.key.to }
-        ensures ok { OnOk result (effect_of self.new turn.new ≡ news_heard here.now.scenario.now loud here.now.key update.now (effect_of self.old turn.old)) }
-        ensures worn { IsErrOf result StepError.Worn → IsWorn (news_heard here.now.scenario.now loud here.now.key update.now (effect_of self.old turn.old)).state }
-        ensures kept { OnOk result (HoldsMembers here.now.scenario.now here.now.key.to (state_of self.new)) }
+        ensures { Makes here.now result self.old turn.old self.new turn.new (news_heard here.now.scenario.now loud here.now.key update.now) }
     {
         self.keep_claim(here, update)?;
         self.hear_claim(turn, here, loud, update)?;
@@ -206,11 +184,8 @@ impl Member {
         update: &Update,
         accused: Option<Accused>,
     ) -> Result<(), StepError>
-        requires here { IsHere here.now.scenario.now here.now.links.now here.now.key }
-        requires known { HoldsMembers here.now.scenario.now here.now.key.to (state_of self.old) }
-        ensures ok { OnOk result (effect_of self.new turn.new ≡ accusation_counted loud here.now.key update.now accused (effect_of self.old turn.old)) }
-        ensures worn { IsErrOf result StepError.Worn → IsWorn (accusation_counted loud here.now.key update.now accused (effect_of self.old turn.old)).state }
-        ensures kept { OnOk result (HoldsMembers here.now.scenario.now here.now.key.to (state_of self.new)) }
+        requires { KnowsMembers here.now self.old }
+        ensures { Makes here.now result self.old turn.old self.new turn.new (accusation_counted loud here.now.key update.now accused) }
     {
         let Some(accused) = accused else {
             return Ok(());
@@ -239,18 +214,15 @@ impl Member {
         loud: bool,
         update: &Update,
     ) -> Result<(), StepError>
-        requires here { IsHere here.now.scenario.now here.now.links.now here.now.key }
-        requires known { HoldsMembers here.now.scenario.now here.now.key.to (state_of self.old) }
-        ensures ok { OnOk result (effect_of self.new turn.new ≡ accusation_heard loud here.now.key update.now (effect_of self.old turn.old)) }
-        ensures worn { IsErrOf result StepError.Worn → IsWorn (accusation_heard loud here.now.key update.now (effect_of self.old turn.old)).state }
-        ensures kept { OnOk result (HoldsMembers here.now.scenario.now here.now.key.to (state_of self.new)) }
+        requires { KnowsMembers here.now self.old }
+        ensures { Makes here.now result self.old turn.old self.new turn.new (accusation_heard loud here.now.key update.now) }
     {
         let accused = self.suspicions.accuse(
             update.subject,
             update.accuser,
             here.key.at,
             self.next_number,
-        );
-        self.count_accusation(turn, here, loud, update, accused?)
+        )?;
+        self.count_accusation(turn, here, loud, update, accused)
     }
 }

@@ -1,4 +1,4 @@
-ghost use Rattle.std.specs.Prelude.{◌≡◌, ◌<◌, ◌≤◌, [], IfOk};
+ghost use Rattle.std.specs.Prelude.{◌≡◌, ◌<◌, [], IfOk};
 ghost use Rattle.scenario.specs.Setup.{member_count};
 ghost use Rattle.probing.specs.ProbeOrder.{round_over, IsSound};
 ghost use Rattle.member.specs.Here.{HoldsMembers};

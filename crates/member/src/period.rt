@@ -1,11 +1,9 @@
-ghost use Rattle.std.specs.Prelude.{◌≡◌, ◌<◌, OnOk, IfSome, IfErr, IsErrOf};
-ghost use Rattle.scenario.specs.Setup.{member_count};
-ghost use Rattle.member.specs.Here.{IsHere, HoldsMembers};
+ghost use Rattle.std.specs.Prelude.{◌≡◌, ◌<◌, IfSome};
+ghost use Rattle.member.specs.Makes.{IsMember, KnowsMembers, Makes};
 ghost use Rattle.std.specs.FinMap.{get};
 ghost use Rattle.probing.specs.ProbeOrder.{next_of};
 ghost use Rattle.member.specs.Step.{probe_ended, probe_failed, suspected, probe_begun, next_probed, period_begun};
-ghost use Rattle.member.specs.View.{effect_of, state_of};
-ghost use Rattle.member.specs.Worn.{IsWorn};
+ghost use Rattle.member.specs.View.{state_of};
 
 use crate::content::Content;
 use crate::here::Here;
@@ -22,11 +20,8 @@ impl Member {
     /// What the end of a period says of its probe, if there was one.
     #[tactic(auto, unfolding(crate::specs::Step::probe_ended))]
     fn end_probe(&mut self, turn: &mut Turn, here: &Here) -> Result<(), StepError>
-        requires here { IsHere here.now.scenario.now here.now.links.now here.now.key }
-        requires known { HoldsMembers here.now.scenario.now here.now.key.to (state_of self.old) }
-        ensures ok { OnOk result (effect_of self.new turn.new ≡ probe_ended here.now.scenario.now here.now.key (state_of self.old).probe (effect_of self.old turn.old)) }
-        ensures worn { IsErrOf result StepError.Worn → IsWorn (probe_ended here.now.scenario.now here.now.key (state_of self.old).probe (effect_of self.old turn.old)).state }
-        ensures kept { OnOk result (HoldsMembers here.now.scenario.now here.now.key.to (state_of self.new)) }
+        requires { KnowsMembers here.now self.old }
+        ensures { Makes here.now result self.old turn.old self.new turn.new (probe_ended here.now.scenario.now here.now.key (state_of self.old).probe) }
     {
         let Some(probe) = self.probe else {
             return Ok(());
@@ -42,11 +37,8 @@ impl Member {
     /// A probe without an ack has failed: the member may be slow, and the target may be down.
     #[tactic(auto, unfolding(crate::specs::Step::probe_failed))]
     fn fail_probe(&mut self, turn: &mut Turn, here: &Here, probe: &Probe) -> Result<(), StepError>
-        requires here { IsHere here.now.scenario.now here.now.links.now here.now.key }
-        requires known { HoldsMembers here.now.scenario.now here.now.key.to (state_of self.old) }
-        ensures ok { OnOk result (effect_of self.new turn.new ≡ probe_failed here.now.scenario.now here.now.key probe.now (effect_of self.old turn.old)) }
-        ensures worn { IsErrOf result StepError.Worn → IsWorn (probe_failed here.now.scenario.now here.now.key probe.now (effect_of self.old turn.old)).state }
-        ensures kept { OnOk result (HoldsMembers here.now.scenario.now here.now.key.to (state_of self.new)) }
+        requires { KnowsMembers here.now self.old }
+        ensures { Makes here.now result self.old turn.old self.new turn.new (probe_failed here.now.scenario.now here.now.key probe.now) }
     {
         self.write_row(turn, here, What::Fail, Some(probe.target), probe.seq, false)?;
         let mut health = self.health;
@@ -57,11 +49,8 @@ impl Member {
 
     /// Suspects the target of a failed probe, unless it is unknown or confirmed (SWIM, section 4.2).
     fn suspect(&mut self, turn: &mut Turn, here: &Here, target: MemberId) -> Result<(), StepError>
-        requires here { IsHere here.now.scenario.now here.now.links.now here.now.key }
-        requires known { HoldsMembers here.now.scenario.now here.now.key.to (state_of self.old) }
-        ensures ok { OnOk result (effect_of self.new turn.new ≡ suspected here.now.scenario.now here.now.key target (get (state_of self.old).table target) (effect_of self.old turn.old)) }
-        ensures worn { IsErrOf result StepError.Worn → IsWorn (suspected here.now.scenario.now here.now.key target (get (state_of self.old).table target) (effect_of self.old turn.old)).state }
-        ensures kept { OnOk result (HoldsMembers here.now.scenario.now here.now.key.to (state_of self.new)) }
+        requires { KnowsMembers here.now self.old }
+        ensures { Makes here.now result self.old turn.old self.new turn.new (suspected here.now.scenario.now here.now.key target (get (state_of self.old).table target)) }
     {
         let Some(held) = self.table.get(target) else {
             return Ok(());
@@ -80,12 +69,12 @@ impl Member {
 
     /// The next member to probe, in the turn of the rota.
     fn next_target(&mut self, here: &Here) -> Option<MemberId>
-        requires known { HoldsMembers here.now.scenario.now here.now.key.to (state_of self.old) }
+        requires { KnowsMembers here.now self.old }
         ensures target { result ≡ (next_of (state_of self.old).words (state_of self.old).rota).0 }
         ensures state { let next = next_of (state_of self.old).words (state_of self.old).rota in
             state_of self.new ≡ record (state_of self.old) { rota = next.1; words = next.2 } }
-        ensures member { IfSome result (λ target. target < member_count here.now.scenario.now) }
-        ensures kept { HoldsMembers here.now.scenario.now here.now.key.to (state_of self.new) }
+        ensures member { IfSome result (IsMember here.now) }
+        ensures kept { KnowsMembers here.now self.new }
     {
         self.rota.next(&mut self.stream)
     }
@@ -99,12 +88,9 @@ impl Member {
         here: &Here,
         target: MemberId,
     ) -> Result<(), StepError>
-        requires here { IsHere here.now.scenario.now here.now.links.now here.now.key }
-        requires known { HoldsMembers here.now.scenario.now here.now.key.to (state_of self.old) }
-        requires member { target < member_count here.now.scenario.now }
-        ensures ok { OnOk result (effect_of self.new turn.new ≡ probe_begun here.now.scenario.now here.now.key target (effect_of self.old turn.old)) }
-        ensures worn { IsErrOf result StepError.Worn → IsWorn (probe_begun here.now.scenario.now here.now.key target (effect_of self.old turn.old)).state }
-        ensures kept { OnOk result (HoldsMembers here.now.scenario.now here.now.key.to (state_of self.new)) }
+        requires known { KnowsMembers here.now self.old }
+        requires member { IsMember here.now target }
+        ensures { Makes here.now result self.old turn.old self.new turn.new (probe_begun here.now.scenario.now here.now.key target) }
     {
         if self.sequence >= COUNTER_LIMIT {
             return Err(StepError::Worn);
@@ -120,11 +106,8 @@ impl Member {
     /// Probes the next member, where there is one.
     #[tactic(auto, unfolding(crate::specs::Step::next_probed))]
     fn probe_next(&mut self, turn: &mut Turn, here: &Here) -> Result<(), StepError>
-        requires here { IsHere here.now.scenario.now here.now.links.now here.now.key }
-        requires known { HoldsMembers here.now.scenario.now here.now.key.to (state_of self.old) }
-        ensures ok { OnOk result (effect_of self.new turn.new ≡ next_probed here.now.scenario.now here.now.key (effect_of self.old turn.old)) }
-        ensures worn { IsErrOf result StepError.Worn → IsWorn (next_probed here.now.scenario.now here.now.key (effect_of self.old turn.old)).state }
-        ensures kept { OnOk result (HoldsMembers here.now.scenario.now here.now.key.to (state_of self.new)) }
+        requires { KnowsMembers here.now self.old }
+        ensures { Makes here.now result self.old turn.old self.new turn.new (next_probed here.now.scenario.now here.now.key) }
     {
         match self.next_target(here) {
             Some(target) => self.begin_probe(turn, here, target),
@@ -139,11 +122,8 @@ impl Member {
     /// which LHA-Probe scales.
     #[tactic(auto, unfolding(crate::specs::Step::period_begun))]
     pub(crate) fn begin_period(&mut self, turn: &mut Turn, here: &Here) -> Result<(), StepError>
-        requires here { IsHere here.now.scenario.now here.now.links.now here.now.key }
-        requires known { HoldsMembers here.now.scenario.now here.now.key.to (state_of self.old) }
-        ensures ok { OnOk result (effect_of self.new turn.new ≡ period_begun here.now.scenario.now here.now.key (effect_of self.old turn.old)) }
-        ensures worn { IsErrOf result StepError.Worn → IsWorn (period_begun here.now.scenario.now here.now.key (effect_of self.old turn.old)).state }
-        ensures kept { OnOk result (HoldsMembers here.now.scenario.now here.now.key.to (state_of self.new)) }
+        requires { KnowsMembers here.now self.old }
+        ensures { Makes here.now result self.old turn.old self.new turn.new (period_begun here.now.scenario.now here.now.key) }
     {
         self.end_probe(turn, here)?;
         self.probe_next(turn, here)?;

@@ -1,11 +1,9 @@
-ghost use Rattle.std.specs.Prelude.{◌≡◌, ◌<◌, ◌≤◌, OnOk, IfOk, IfErr, IsErrOf};
-ghost use Rattle.scenario.specs.Setup.{member_count};
+ghost use Rattle.std.specs.Prelude.{◌≡◌, ◌<◌, ◌≤◌, OnOk, IfOk};
 ghost use Rattle.links.specs.Arrival.{arrival_of};
-ghost use Rattle.member.specs.Here.{IsHere, HoldsMembers};
+ghost use Rattle.member.specs.Makes.{Draws, IsMade, IsMember, KnowsMembers, Makes};
 ghost use Rattle.membership.specs.Table.{live_count};
 ghost use Rattle.member.specs.Send.{whole_table, sent, sent_off, carried, with_picks, buddy_of, ping_sent, ping_req_sent, ack_sent, nack_sent, join_sent, welcome_sent};
-ghost use Rattle.member.specs.View.{effect_of, state_of};
-ghost use Rattle.member.specs.Worn.{IsWorn};
+ghost use Rattle.member.specs.View.{state_of};
 
 use crate::content::Content;
 use crate::here::Here;
@@ -20,13 +18,10 @@ use trace::What;
 impl Member {
     /// When a message to a member arrives, if it does.
     fn arrival(&mut self, here: &Here, to: MemberId) -> Option<Moment>
-        requires to { to < member_count here.now.scenario.now }
-        requires here { IsHere here.now.scenario.now here.now.links.now here.now.key }
-        requires known { HoldsMembers here.now.scenario.now here.now.key.to (state_of self.old) }
-        ensures at { let drawn = arrival_of here.now.scenario.now here.now.key.to to here.now.key.at (state_of self.old).words in result ≡ drawn.0 }
-        ensures rest { let drawn = arrival_of here.now.scenario.now here.now.key.to to here.now.key.at (state_of self.old).words in
-            state_of self.new ≡ record (state_of self.old) { words = drawn.1 } }
-        ensures kept { HoldsMembers here.now.scenario.now here.now.key.to (state_of self.new) }
+        requires to { IsMember here.now to }
+        requires known { KnowsMembers here.now self.old }
+        ensures drawn { Draws result self.old self.new (arrival_of here.now.scenario.now here.now.key.to to here.now.key.at (state_of self.old).words) }
+        ensures kept { KnowsMembers here.now self.new }
     {
         here.links
             .arrival(here.key.to, to, here.key.at, &mut self.stream)
@@ -41,11 +36,8 @@ impl Member {
         content: Content,
         arrival: Option<Moment>,
     ) -> Result<(), StepError>
-        requires here { IsHere here.now.scenario.now here.now.links.now here.now.key }
-        requires known { HoldsMembers here.now.scenario.now here.now.key.to (state_of self.old) }
-        ensures ok { OnOk result (effect_of self.new turn.new ≡ sent_off here.now.key to content arrival (effect_of self.old turn.old)) }
-        ensures worn { IsErrOf result StepError.Worn → IsWorn (sent_off here.now.key to content arrival (effect_of self.old turn.old)).state }
-        ensures kept { OnOk result (HoldsMembers here.now.scenario.now here.now.key.to (state_of self.new)) }
+        requires { KnowsMembers here.now self.old }
+        ensures { Makes here.now result self.old turn.old self.new turn.new (sent_off here.now.key to content arrival) }
     {
         match arrival {
             Some(at) => self.make_event(turn, here, at, to, content),
@@ -64,12 +56,9 @@ impl Member {
         value: u64,
         content: Content,
     ) -> Result<(), StepError>
-        requires to { to < member_count here.now.scenario.now }
-        requires here { IsHere here.now.scenario.now here.now.links.now here.now.key }
-        requires known { HoldsMembers here.now.scenario.now here.now.key.to (state_of self.old) }
-        ensures ok { OnOk result (effect_of self.new turn.new ≡ sent here.now.scenario.now here.now.key what to value content (effect_of self.old turn.old)) }
-        ensures worn { IsErrOf result StepError.Worn → IsWorn (sent here.now.scenario.now here.now.key what to value content (effect_of self.old turn.old)).state }
-        ensures kept { OnOk result (HoldsMembers here.now.scenario.now here.now.key.to (state_of self.new)) }
+        requires to { IsMember here.now to }
+        requires known { KnowsMembers here.now self.old }
+        ensures { Makes here.now result self.old turn.old self.new turn.new (sent here.now.scenario.now here.now.key what to value content) }
     {
         let arrival = self.arrival(here, to);
         self.write_row(turn, here, what, Some(to), value, arrival.is_none())?;
@@ -78,23 +67,20 @@ impl Member {
 
     /// How many members are not confirmed, oneself included.
     pub(crate) fn live_members(&self, here: &Here) -> u32
-        requires here { IsHere here.now.scenario.now here.now.links.now here.now.key }
-        requires known { HoldsMembers here.now.scenario.now here.now.key.to (state_of self.now) }
+        requires { KnowsMembers here.now self.now }
         ensures value { result ≡ live_count self.now.table }
         ensures some { 1 ≤ result }
-        ensures few { result ≤ 1024 }
+        ensures live_within { result ≤ 1024 }
     {
         self.table.live_count() as u32
     }
 
     /// The updates that a message takes along, the buddy first where there is one.
     fn pick(&mut self, here: &Here, buddy: Option<Update>) -> Result<Updates, StepError>
-        requires here { IsHere here.now.scenario.now here.now.links.now here.now.key }
-        requires known { HoldsMembers here.now.scenario.now here.now.key.to (state_of self.old) }
+        requires { KnowsMembers here.now self.old }
         ensures updates { IfOk result (λ updates. updates ≡ carried here.now.scenario.now buddy (state_of self.old)) }
-        ensures state { OnOk result (state_of self.new ≡ with_picks here.now.scenario.now buddy (state_of self.old)) }
-        ensures err { IfErr result (λ e. e ≡ StepError.Memory) }
-        ensures kept { OnOk result (HoldsMembers here.now.scenario.now here.now.key.to (state_of self.new)) }
+        ensures state { IsMade result (state_of self.new) (with_picks here.now.scenario.now buddy (state_of self.old)) }
+        ensures kept { OnOk result (KnowsMembers here.now self.new) }
     {
         let swim = here.scenario.swim();
         let limit = swim.lambda * u64::from(digits(self.live_members(here)));
@@ -133,12 +119,9 @@ impl Member {
         initiator: MemberId,
         seq: u64,
     ) -> Result<(), StepError>
-        requires to { to < member_count here.now.scenario.now }
-        requires here { IsHere here.now.scenario.now here.now.links.now here.now.key }
-        requires known { HoldsMembers here.now.scenario.now here.now.key.to (state_of self.old) }
-        ensures ok { OnOk result (effect_of self.new turn.new ≡ ping_sent here.now.scenario.now here.now.key to initiator seq (effect_of self.old turn.old)) }
-        ensures worn { IsErrOf result StepError.Worn → IsWorn (ping_sent here.now.scenario.now here.now.key to initiator seq (effect_of self.old turn.old)).state }
-        ensures kept { OnOk result (HoldsMembers here.now.scenario.now here.now.key.to (state_of self.new)) }
+        requires to { IsMember here.now to }
+        requires known { KnowsMembers here.now self.old }
+        ensures { Makes here.now result self.old turn.old self.new turn.new (ping_sent here.now.scenario.now here.now.key to initiator seq) }
     {
         let buddy = self.buddy(here, to);
         let updates = self.pick(here, buddy)?;
@@ -160,12 +143,9 @@ impl Member {
         seq: u64,
         to: MemberId,
     ) -> Result<(), StepError>
-        requires to { to < member_count here.now.scenario.now }
-        requires here { IsHere here.now.scenario.now here.now.links.now here.now.key }
-        requires known { HoldsMembers here.now.scenario.now here.now.key.to (state_of self.old) }
-        ensures ok { OnOk result (effect_of self.new turn.new ≡ ping_req_sent here.now.scenario.now here.now.key target seq to (effect_of self.old turn.old)) }
-        ensures worn { IsErrOf result StepError.Worn → IsWorn (ping_req_sent here.now.scenario.now here.now.key target seq to (effect_of self.old turn.old)).state }
-        ensures kept { OnOk result (HoldsMembers here.now.scenario.now here.now.key.to (state_of self.new)) }
+        requires to { IsMember here.now to }
+        requires known { KnowsMembers here.now self.old }
+        ensures { Makes here.now result self.old turn.old self.new turn.new (ping_req_sent here.now.scenario.now here.now.key target seq to) }
     {
         let updates = self.pick(here, None)?;
         let request = Content::PingReq {
@@ -186,12 +166,9 @@ impl Member {
         initiator: MemberId,
         seq: u64,
     ) -> Result<(), StepError>
-        requires to { to < member_count here.now.scenario.now }
-        requires here { IsHere here.now.scenario.now here.now.links.now here.now.key }
-        requires known { HoldsMembers here.now.scenario.now here.now.key.to (state_of self.old) }
-        ensures ok { OnOk result (effect_of self.new turn.new ≡ ack_sent here.now.scenario.now here.now.key to initiator seq (effect_of self.old turn.old)) }
-        ensures worn { IsErrOf result StepError.Worn → IsWorn (ack_sent here.now.scenario.now here.now.key to initiator seq (effect_of self.old turn.old)).state }
-        ensures kept { OnOk result (HoldsMembers here.now.scenario.now here.now.key.to (state_of self.new)) }
+        requires to { IsMember here.now to }
+        requires known { KnowsMembers here.now self.old }
+        ensures { Makes here.now result self.old turn.old self.new turn.new (ack_sent here.now.scenario.now here.now.key to initiator seq) }
     {
         let updates = self.pick(here, None)?;
         let ack = Content::Ack {
@@ -211,12 +188,9 @@ impl Member {
         to: MemberId,
         seq: u64,
     ) -> Result<(), StepError>
-        requires to { to < member_count here.now.scenario.now }
-        requires here { IsHere here.now.scenario.now here.now.links.now here.now.key }
-        requires known { HoldsMembers here.now.scenario.now here.now.key.to (state_of self.old) }
-        ensures ok { OnOk result (effect_of self.new turn.new ≡ nack_sent here.now.scenario.now here.now.key to seq (effect_of self.old turn.old)) }
-        ensures worn { IsErrOf result StepError.Worn → IsWorn (nack_sent here.now.scenario.now here.now.key to seq (effect_of self.old turn.old)).state }
-        ensures kept { OnOk result (HoldsMembers here.now.scenario.now here.now.key.to (state_of self.new)) }
+        requires to { IsMember here.now to }
+        requires known { KnowsMembers here.now self.old }
+        ensures { Makes here.now result self.old turn.old self.new turn.new (nack_sent here.now.scenario.now here.now.key to seq) }
     {
         self.send(turn, here, What::Nack, to, seq, Content::Nack { seq })
     }
@@ -224,11 +198,8 @@ impl Member {
     /// Asks the contact, where there is one, to let the member join.
     #[tactic(auto, unfolding(crate::specs::Send::join_sent))]
     pub(crate) fn send_join(&mut self, turn: &mut Turn, here: &Here) -> Result<(), StepError>
-        requires here { IsHere here.now.scenario.now here.now.links.now here.now.key }
-        requires known { HoldsMembers here.now.scenario.now here.now.key.to (state_of self.old) }
-        ensures ok { OnOk result (effect_of self.new turn.new ≡ join_sent here.now.scenario.now here.now.key (effect_of self.old turn.old)) }
-        ensures worn { IsErrOf result StepError.Worn → IsWorn (join_sent here.now.scenario.now here.now.key (effect_of self.old turn.old)).state }
-        ensures kept { OnOk result (HoldsMembers here.now.scenario.now here.now.key.to (state_of self.new)) }
+        requires { KnowsMembers here.now self.old }
+        ensures { Makes here.now result self.old turn.old self.new turn.new (join_sent here.now.scenario.now here.now.key) }
     {
         match here.scenario.contact(here.key.to) {
             None => Ok(()),
@@ -239,10 +210,9 @@ impl Member {
     /// The whole table and oneself. Oneself stands in the table meanwhile.
     #[tactic(auto, unfolding(crate::specs::Send::whole_table))]
     fn whole_table(&mut self, here: &Here) -> Result<Updates, StepError>
-        requires known { HoldsMembers here.now.scenario.now here.now.key.to (state_of self.old) }
+        requires { KnowsMembers here.now self.old }
         ensures entries { IfOk result (λ entries. entries ≡ whole_table here.now.key.to (state_of self.old).incarnation (state_of self.old).table) }
-        ensures state { OnOk result (state_of self.new ≡ state_of self.old) }
-        ensures err { IfErr result (λ e. e ≡ StepError.Memory) }
+        ensures state { IsMade result (state_of self.new) (state_of self.old) }
     {
         let oneself = (Claim::Alive, self.incarnation);
         self.table.set(here.key.to, oneself)?;
@@ -259,12 +229,9 @@ impl Member {
         here: &Here,
         to: MemberId,
     ) -> Result<(), StepError>
-        requires to { to < member_count here.now.scenario.now }
-        requires here { IsHere here.now.scenario.now here.now.links.now here.now.key }
-        requires known { HoldsMembers here.now.scenario.now here.now.key.to (state_of self.old) }
-        ensures ok { OnOk result (effect_of self.new turn.new ≡ welcome_sent here.now.scenario.now here.now.key to (effect_of self.old turn.old)) }
-        ensures worn { IsErrOf result StepError.Worn → IsWorn (welcome_sent here.now.scenario.now here.now.key to (effect_of self.old turn.old)).state }
-        ensures kept { OnOk result (HoldsMembers here.now.scenario.now here.now.key.to (state_of self.new)) }
+        requires to { IsMember here.now to }
+        requires known { KnowsMembers here.now self.old }
+        ensures { Makes here.now result self.old turn.old self.new turn.new (welcome_sent here.now.scenario.now here.now.key to) }
     {
         let entries = self.whole_table(here)?;
         self.send(

@@ -1,10 +1,11 @@
-ghost use Rattle.std.specs.Prelude.{◌≡◌, ◌++◌, map, OnOk, IfErr, IsErrOf};
+ghost use Rattle.std.specs.Prelude.{◌≡◌, ◌++◌, OnOk, IfErr, IsErrOf};
 ghost use Rattle.scenario.specs.Setup.{member_count};
 ghost use Rattle.member.specs.Here.{IsHere, HoldsMembers};
+ghost use Rattle.member.specs.Makes.{KnowsMembers, Makes};
 ghost use Rattle.member.specs.Here.{NamesMembers};
 ghost use Rattle.member.specs.Step.{step, handled, probing_handled};
 ghost use Rattle.member.specs.Steps.{Steps};
-ghost use Rattle.member.specs.View.{effect_of, state_of, pair_of};
+ghost use Rattle.member.specs.View.{state_of};
 ghost use Rattle.member.specs.Worn.{IsWorn};
 
 use crate::content::Content;
@@ -25,11 +26,8 @@ impl Member {
         here: &Here,
         content: &Content,
     ) -> Result<(), StepError>
-        requires here { IsHere here.now.scenario.now here.now.links.now here.now.key }
-        requires known { HoldsMembers here.now.scenario.now here.now.key.to (state_of self.old) }
-        ensures ok { OnOk result (effect_of self.new turn.new ≡ handled here.now.scenario.now here.now.key content.now Phase.Waiting (effect_of self.old turn.old)) }
-        ensures worn { IsErrOf result StepError.Worn → IsWorn (handled here.now.scenario.now here.now.key content.now Phase.Waiting (effect_of self.old turn.old)).state }
-        ensures kept { OnOk result (HoldsMembers here.now.scenario.now here.now.key.to (state_of self.new)) }
+        requires { KnowsMembers here.now self.old }
+        ensures { Makes here.now result self.old turn.old self.new turn.new (handled here.now.scenario.now here.now.key content.now Phase.Waiting) }
     {
         match content {
             Content::Start => self.start(turn, here),
@@ -45,12 +43,9 @@ impl Member {
         here: &Here,
         content: &Content,
     ) -> Result<(), StepError>
-        requires here { IsHere here.now.scenario.now here.now.links.now here.now.key }
-        requires known { HoldsMembers here.now.scenario.now here.now.key.to (state_of self.old) }
+        requires known { KnowsMembers here.now self.old }
         requires names { NamesMembers (member_count here.now.scenario.now) content.now }
-        ensures ok { OnOk result (effect_of self.new turn.new ≡ handled here.now.scenario.now here.now.key content.now Phase.Joining (effect_of self.old turn.old)) }
-        ensures worn { IsErrOf result StepError.Worn → IsWorn (handled here.now.scenario.now here.now.key content.now Phase.Joining (effect_of self.old turn.old)).state }
-        ensures kept { OnOk result (HoldsMembers here.now.scenario.now here.now.key.to (state_of self.new)) }
+        ensures { Makes here.now result self.old turn.old self.new turn.new (handled here.now.scenario.now here.now.key content.now Phase.Joining) }
     {
         match content {
             Content::Crash => self.crash(turn, here),
@@ -68,12 +63,9 @@ impl Member {
         here: &Here,
         content: &Content,
     ) -> Result<(), StepError>
-        requires here { IsHere here.now.scenario.now here.now.links.now here.now.key }
-        requires known { HoldsMembers here.now.scenario.now here.now.key.to (state_of self.old) }
+        requires known { KnowsMembers here.now self.old }
         requires names { NamesMembers (member_count here.now.scenario.now) content.now }
-        ensures ok { OnOk result (effect_of self.new turn.new ≡ handled here.now.scenario.now here.now.key content.now Phase.Running (effect_of self.old turn.old)) }
-        ensures worn { IsErrOf result StepError.Worn → IsWorn (handled here.now.scenario.now here.now.key content.now Phase.Running (effect_of self.old turn.old)).state }
-        ensures kept { OnOk result (HoldsMembers here.now.scenario.now here.now.key.to (state_of self.new)) }
+        ensures { Makes here.now result self.old turn.old self.new turn.new (handled here.now.scenario.now here.now.key content.now Phase.Running) }
     {
         match content {
             Content::Crash => self.crash(turn, here),
@@ -97,12 +89,9 @@ impl Member {
         here: &Here,
         content: &Content,
     ) -> Result<(), StepError>
-        requires here { IsHere here.now.scenario.now here.now.links.now here.now.key }
-        requires known { HoldsMembers here.now.scenario.now here.now.key.to (state_of self.old) }
+        requires known { KnowsMembers here.now self.old }
         requires names { NamesMembers (member_count here.now.scenario.now) content.now }
-        ensures ok { OnOk result (effect_of self.new turn.new ≡ probing_handled here.now.scenario.now here.now.key content.now (effect_of self.old turn.old)) }
-        ensures worn { IsErrOf result StepError.Worn → IsWorn (probing_handled here.now.scenario.now here.now.key content.now (effect_of self.old turn.old)).state }
-        ensures kept { OnOk result (HoldsMembers here.now.scenario.now here.now.key.to (state_of self.new)) }
+        ensures { Makes here.now result self.old turn.old self.new turn.new (probing_handled here.now.scenario.now here.now.key content.now) }
     {
         match content {
             Content::Ping {
@@ -127,12 +116,9 @@ impl Member {
     /// By the phase of the member.
     #[tactic(auto, unfolding(crate::specs::Step::handled))]
     fn handle(&mut self, turn: &mut Turn, here: &Here, content: &Content) -> Result<(), StepError>
-        requires here { IsHere here.now.scenario.now here.now.links.now here.now.key }
-        requires known { HoldsMembers here.now.scenario.now here.now.key.to (state_of self.old) }
+        requires known { KnowsMembers here.now self.old }
         requires names { NamesMembers (member_count here.now.scenario.now) content.now }
-        ensures ok { OnOk result (effect_of self.new turn.new ≡ handled here.now.scenario.now here.now.key content.now (state_of self.old).phase (effect_of self.old turn.old)) }
-        ensures worn { IsErrOf result StepError.Worn → IsWorn (handled here.now.scenario.now here.now.key content.now (state_of self.old).phase (effect_of self.old turn.old)).state }
-        ensures kept { OnOk result (HoldsMembers here.now.scenario.now here.now.key.to (state_of self.new)) }
+        ensures { Makes here.now result self.old turn.old self.new turn.new (handled here.now.scenario.now here.now.key content.now (state_of self.old).phase) }
     {
         match self.phase {
             Phase::Waiting => self.handle_waiting(turn, here, content),

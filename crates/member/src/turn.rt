@@ -1,5 +1,5 @@
-ghost use Rattle.std.specs.Prelude.{◌≡◌, ◌≤◌, ◌^◌, [], OnOk, IfErr, IsErrOf};
-ghost use Rattle.member.specs.Here.{IsHere, HoldsMembers};
+ghost use Rattle.std.specs.Prelude.{◌≡◌, ◌≤◌, ◌^◌, [], OnOk, IsErrOf};
+ghost use Rattle.member.specs.Makes.{IsMade, KnowsMembers, Makes};
 ghost use Rattle.member.specs.Turn.{with_row, with_event, with_number, with_timer};
 ghost use Rattle.member.specs.View.{effect_of, state_of};
 ghost use Rattle.member.specs.Worn.{IsWorn};
@@ -79,8 +79,7 @@ impl Member {
         value: u64,
         lost: bool,
     ) -> Result<(), StepError>
-        ensures ok { OnOk result (effect_of self.now turn.new ≡ with_row here.now.key what about value lost (effect_of self.now turn.old)) }
-        ensures err { IfErr result (λ e. e ≡ StepError.Memory) }
+        ensures { IsMade result (effect_of self.now turn.new) (with_row here.now.key what about value lost (effect_of self.now turn.old)) }
     {
         // So many rows of one event have no place in memory.
         let Ok(index) = u32::try_from(turn.rows.len()) else {
@@ -104,11 +103,10 @@ impl Member {
     /// Uses the next number for a message that is lost. Worn where the number stands at its limit.
     #[tactic(auto, using(crate::proofs::Worn::worn_number), unfolding(crate::specs::Turn::with_number))]
     pub(crate) fn use_number(&mut self, here: &Here) -> Result<(), StepError>
-        requires here { IsHere here.now.scenario.now here.now.links.now here.now.key }
-        requires known { HoldsMembers here.now.scenario.now here.now.key.to (state_of self.old) }
+        requires { KnowsMembers here.now self.old }
         ensures ok { OnOk result (state_of self.new ≡ with_number (state_of self.old)) }
         ensures worn { IsErrOf result StepError.Worn → IsWorn (with_number (state_of self.old)) }
-        ensures kept { OnOk result (HoldsMembers here.now.scenario.now here.now.key.to (state_of self.new)) }
+        ensures kept { OnOk result (KnowsMembers here.now self.new) }
     {
         if self.next_number >= COUNTER_LIMIT {
             return Err(StepError::Worn);
@@ -127,11 +125,8 @@ impl Member {
         to: MemberId,
         content: Content,
     ) -> Result<(), StepError>
-        requires here { IsHere here.now.scenario.now here.now.links.now here.now.key }
-        requires known { HoldsMembers here.now.scenario.now here.now.key.to (state_of self.old) }
-        ensures ok { OnOk result (effect_of self.new turn.new ≡ with_event here.now.key at to content (effect_of self.old turn.old)) }
-        ensures worn { IsErrOf result StepError.Worn → IsWorn (with_event here.now.key at to content (effect_of self.old turn.old)).state }
-        ensures kept { OnOk result (HoldsMembers here.now.scenario.now here.now.key.to (state_of self.new)) }
+        requires { KnowsMembers here.now self.old }
+        ensures { Makes here.now result self.old turn.old self.new turn.new (with_event here.now.key at to content) }
     {
         let number = self.next_number;
         if number >= COUNTER_LIMIT {
@@ -157,12 +152,9 @@ impl Member {
         ticks: u64,
         content: Content,
     ) -> Result<(), StepError>
-        requires few { ticks ≤ 2 ^ 41 }
-        requires here { IsHere here.now.scenario.now here.now.links.now here.now.key }
-        requires known { HoldsMembers here.now.scenario.now here.now.key.to (state_of self.old) }
-        ensures ok { OnOk result (effect_of self.new turn.new ≡ with_timer here.now.key ticks content (effect_of self.old turn.old)) }
-        ensures worn { IsErrOf result StepError.Worn → IsWorn (with_timer here.now.key ticks content (effect_of self.old turn.old)).state }
-        ensures kept { OnOk result (HoldsMembers here.now.scenario.now here.now.key.to (state_of self.new)) }
+        requires ticks_within { ticks ≤ 2 ^ 41 }
+        requires known { KnowsMembers here.now self.old }
+        ensures { Makes here.now result self.old turn.old self.new turn.new (with_timer here.now.key ticks content) }
     {
         let at = Moment(here.key.at.ticks() + ticks);
         self.make_event(turn, here, at, here.key.to, content)

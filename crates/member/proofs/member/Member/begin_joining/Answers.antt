@@ -1,6 +1,6 @@
 use Rattle.member.proofs.Openings.{holds_none}
 use Rattle.member.proofs.member.Member.begin_joining.Goals as goal
 
-pub ask_join-requires-clause-known : goal.ask_join-requires-clause-known
-ask_join-requires-clause-known c =
+pub ask_join-requires : goal.ask_join-requires
+ask_join-requires c =
     holds_none c.args.here.now.scenario.now c.args.here.now.key.to _ _ c.new.ensures c.in_ok-rota.ensures.members c.in_ok-rota.ensures.sound

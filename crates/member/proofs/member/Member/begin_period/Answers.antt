@@ -2,18 +2,18 @@ use Rattle.std.proofs.Common.{subst}
 use Rattle.member.specs.Turn.{Effect}
 use Rattle.member.specs.Step.{next_probed, period_begun}
 use Rattle.member.specs.Worn.{IsWorn}
-use Rattle.member.proofs.Worn.{kept_timer, kept_next, handed_on}
+use Rattle.member.proofs.Worn.{kept_timer, kept_next, refused}
 use Rattle.member.proofs.member.Member.begin_period.Goals as goal
 
-pub returns-in_err-end_probe-clause-worn : goal.returns-in_err-end_probe-clause-worn
+pub returns-in_err-end_probe : goal.returns-in_err-end_probe
 unfolding period_begun
-returns-in_err-end_probe-clause-worn c =
+returns-in_err-end_probe c =
     let k = c.args.here.now.key in
-    λ h. kept_timer k _ _ _ (kept_next c.args.here.now.scenario.now k _ (c.in_err-end_probe.ensures.worn (handed_on c.from_residual.result _ _ c.from_residual.ensures.1 h)))
+    refused _ _ c.from_residual.ensures.1 (λ h. kept_timer k _ _ _ (kept_next c.args.here.now.scenario.now k _ (c.in_err-end_probe.ensures.worn h)))
 
-pub returns-in_err-probe_next-clause-worn : goal.returns-in_err-probe_next-clause-worn
+pub returns-in_err-probe_next : goal.returns-in_err-probe_next
 unfolding period_begun
-returns-in_err-probe_next-clause-worn c =
+returns-in_err-probe_next c =
     let s = c.args.here.now.scenario.now in
     let k = c.args.here.now.key in
-    λ h. kept_timer k _ _ _ (subst (λ (p : Effect). IsWorn (next_probed s k p).state) c.in_ok-end_probe.ensures.ok (c.in_err-probe_next.ensures.worn (handed_on c.from_residual-in_err-probe_next.result _ _ c.from_residual-in_err-probe_next.ensures.1 h)))
+    refused _ _ c.from_residual-in_err-probe_next.ensures.1 (λ h. kept_timer k _ _ _ (subst (λ (p : Effect). IsWorn (next_probed s k p).state) c.in_ok-end_probe.ensures.ok (c.in_err-probe_next.ensures.worn h)))

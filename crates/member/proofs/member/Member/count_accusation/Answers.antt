@@ -5,14 +5,14 @@ use Rattle.member.specs.Turn.{Effect, with_event}
 use Rattle.member.specs.Apply.{accusation_counted}
 use Rattle.member.specs.View.{effect_of}
 use Rattle.member.specs.Worn.{IsWorn}
-use Rattle.member.proofs.Worn.{kept_passed_on, handed_on}
+use Rattle.member.proofs.Worn.{kept_passed_on, refused}
 use Rattle.member.proofs.member.Member.count_accusation.Goals as goal
 
-pub returns-in_err-make_event-clause-worn : goal.returns-in_err-make_event-clause-worn
-returns-in_err-make_event-clause-worn c =
+pub returns-in_err-make_event : goal.returns-in_err-make_event
+returns-in_err-make_event c =
     let k = c.args.here.now.key in
     let u = c.args.update.now in
     let due = c.in-Some.accused.due in
-    λ h. subst (λ (a : Option Accused). IsWorn (accusation_counted c.args.loud k u a (effect_of c.args.self.now c.args.turn.now)).state) (sym c.in-Some.is)
+    refused _ _ c.from_residual-in_err-make_event.ensures.1 (λ h. subst (λ (a : Option Accused). IsWorn (accusation_counted c.args.loud k u a (effect_of c.args.self.now c.args.turn.now)).state) (sym c.in-Some.is)
     (kept_passed_on c.args.loud u _
-    (subst (λ (o : Effect). IsWorn (with_event k due k.to (SuspicionTimer u.subject) o).state) c.in_ok-tell.ensures.ok (c.in_err-make_event.ensures.worn (handed_on c.from_residual-in_err-make_event.result _ _ c.from_residual-in_err-make_event.ensures.1 h))))
+    (subst (λ (o : Effect). IsWorn (with_event k due k.to (SuspicionTimer u.subject) o).state) c.in_ok-tell.ensures.ok (c.in_err-make_event.ensures.worn h))))

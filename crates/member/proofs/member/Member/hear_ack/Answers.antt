@@ -1,8 +1,8 @@
 use Rattle.member.specs.Step.{ack_heard}
-use Rattle.member.proofs.Worn.{kept_taken, handed_on}
+use Rattle.member.proofs.Worn.{kept_taken, refused}
 use Rattle.member.proofs.member.Member.hear_ack.Goals as goal
 
-pub returns-in_err-apply_all-clause-worn : goal.returns-in_err-apply_all-clause-worn
+pub returns-in_err-apply_all : goal.returns-in_err-apply_all
 unfolding ack_heard
-returns-in_err-apply_all-clause-worn c =
-    λ h. kept_taken c.args.here.now.scenario.now c.args.here.now.key c.args.initiator c.args.seq _ (c.in_err-apply_all.ensures.worn (handed_on c.from_residual.result _ _ c.from_residual.ensures.1 h))
+returns-in_err-apply_all c =
+    refused _ _ c.from_residual.ensures.1 (λ h. kept_taken c.args.here.now.scenario.now c.args.here.now.key c.args.initiator c.args.seq _ (c.in_err-apply_all.ensures.worn h))

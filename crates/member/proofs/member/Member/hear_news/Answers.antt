@@ -3,16 +3,16 @@ use Rattle.member.specs.State.{State}
 use Rattle.member.specs.Apply.{news_heard, claim_heard}
 use Rattle.member.specs.View.{pair_of}
 use Rattle.member.specs.Worn.{IsWorn}
-use Rattle.member.proofs.Worn.{kept_passed_on, handed_on}
+use Rattle.member.proofs.Worn.{kept_passed_on, refused}
 use Rattle.member.proofs.member.Member.hear_news.Goals as goal
 
-pub returns-in_err-hear_claim-clause-worn : goal.returns-in_err-hear_claim-clause-worn
+pub returns-in_err-hear_claim : goal.returns-in_err-hear_claim
 unfolding news_heard
-returns-in_err-hear_claim-clause-worn c =
+returns-in_err-hear_claim c =
     let s = c.args.here.now.scenario.now in
     let k = c.args.here.now.key in
     let u = c.args.update.now in
     let turn = c.args.turn.now in
-    λ h. kept_passed_on c.args.loud u _
+    refused _ _ c.from_residual-in_err-hear_claim.ensures.1 (λ h. kept_passed_on c.args.loud u _
     (subst (λ (t : State). IsWorn (claim_heard s c.args.loud k u u.claim (record { state = t; events = map pair_of turn.events.items; rows = turn.rows.items })).state)
-    c.in_ok-keep_claim.ensures.ok (c.in_err-hear_claim.ensures.worn (handed_on c.from_residual-in_err-hear_claim.result _ _ c.from_residual-in_err-hear_claim.ensures.1 h)))
+    c.in_ok-keep_claim.ensures.made.ok (c.in_err-hear_claim.ensures.worn h)))

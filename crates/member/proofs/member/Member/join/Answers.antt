@@ -6,15 +6,15 @@ use Rattle.member.specs.Apply.{all_applied}
 use Rattle.member.specs.Step.{joined}
 use Rattle.member.specs.View.{effect_of}
 use Rattle.member.specs.Worn.{IsWorn}
-use Rattle.member.proofs.Worn.{kept_first_period, handed_on}
+use Rattle.member.proofs.Worn.{kept_first_period, refused}
 use Rattle.member.proofs.member.Member.join.Goals as goal
 
-pub returns-in_err-apply_all-clause-worn : goal.returns-in_err-apply_all-clause-worn
+pub returns-in_err-apply_all : goal.returns-in_err-apply_all
 unfolding joined
-returns-in_err-apply_all-clause-worn c =
+returns-in_err-apply_all c =
     let s = c.args.here.now.scenario.now in
     let k = c.args.here.now.key in
     let running = effect_of (record c.args.self.now { phase = Running }) c.args.turn.now in
-    λ h. kept_first_period s k _
+    refused _ _ c.from_residual-in_err-apply_all.ensures.1 (λ h. kept_first_period s k _
     (subst (λ (n : ℕ). IsWorn (all_applied s false k c.args.entries.now (with_row k what.Joined (Some k.from) n false running)).state) c.count_others-others.ensures
-    (subst (λ (p : Effect). IsWorn (all_applied s false k c.args.entries.now p).state) c.in_ok-write_row.ensures.ok (c.in_err-apply_all.ensures.worn (handed_on c.from_residual-in_err-apply_all.result _ _ c.from_residual-in_err-apply_all.ensures.1 h))))
+    (subst (λ (p : Effect). IsWorn (all_applied s false k c.args.entries.now p).state) c.in_ok-write_row.ensures.ok (c.in_err-apply_all.ensures.worn h))))

@@ -4,13 +4,13 @@ use Rattle.member.proofs.member.Member.live_members.Goals as goal
 
 pub overflow_cast-result : goal.overflow_cast-result
 overflow_cast-result c =
-    let few = live_count-le _ _ c.args.self.now.table c.requires.here.receiver c.requires.known.others in
-    omega (arith, few, c.requires.here.sound.members.1, c.live_count.ensures)
+    let few = live_count-le _ _ c.args.self.now.table c.args.here.now.setting.receiver c.requires.others in
+    omega (arith, few, c.args.here.now.setting.sound.members.1, c.live_count.ensures)
 
 pub returns-clause-some : goal.returns-clause-some
 returns-clause-some c = omega (arith, live_count-positive c.args.self.now.table, c.live_count.ensures)
 
-pub returns-clause-few : goal.returns-clause-few
-returns-clause-few c =
-    let few = live_count-le _ _ c.args.self.now.table c.requires.here.receiver c.requires.known.others in
-    omega (arith, few, c.requires.here.sound.members.1, c.live_count.ensures)
+pub returns-clause-live_within : goal.returns-clause-live_within
+returns-clause-live_within c =
+    let few = live_count-le _ _ c.args.self.now.table c.args.here.now.setting.receiver c.requires.others in
+    omega (arith, few, c.args.here.now.setting.sound.members.1, c.live_count.ensures)

@@ -1,8 +1,8 @@
 use Rattle.member.specs.View.{effect_of}
-use Rattle.member.proofs.Worn.{worn_refuted}
+use Rattle.member.proofs.Worn.{worn_refuted, worn_out}
 use Rattle.member.proofs.member.Member.refute.Goals as goal
 
-pub returns-then-self-ge-COUNTER_LIMIT-clause-worn :
-    goal.returns-then-self-ge-COUNTER_LIMIT-clause-worn
-returns-then-self-ge-COUNTER_LIMIT-clause-worn c =
-    λ _. worn_refuted c.args.here.now.key (effect_of c.args.self.now c.args.turn.now) c.if-self-ge-COUNTER_LIMIT.true
+pub returns-then-self-ge-COUNTER_LIMIT :
+    goal.returns-then-self-ge-COUNTER_LIMIT
+returns-then-self-ge-COUNTER_LIMIT c =
+    worn_out (worn_refuted c.args.here.now.key (effect_of c.args.self.now c.args.turn.now) c.if-self-ge-COUNTER_LIMIT.true)

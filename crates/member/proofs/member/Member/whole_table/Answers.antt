@@ -7,6 +7,10 @@ use Rattle.member.proofs.member.Member.whole_table.Goals as goal
 
 pub returns-clause-state : goal.returns-clause-state
 returns-clause-state c =
-    let none = own_absent _ _ _ _ c.requires.known in
-    ap (λ (t : Known). record (state_of c.args.self.now) { table = t })
-    (c.remove.ensures ∙ ap (λ t. remove t c.args.here.now.key.to) c.in_ok-set.ensures.ok ∙ put_removed _ _ _ none)
+    let none = own_absent _ _ _ _ c.requires in
+    record {
+      ok =
+          ap (λ (t : Known). record (state_of c.args.self.now) { table = t })
+          (c.remove.ensures ∙ ap (λ t. remove t c.args.here.now.key.to) c.in_ok-set.ensures.ok ∙ put_removed _ _ _ none);
+      memory = tt;
+    }

@@ -1,0 +1,79 @@
+ghost use Rattle.std.specs.Prelude.{◌≡◌, ◌<◌};
+ghost use Rattle.member.specs.Makes.{AreAboutMembers, IsMember, KnowsMembers, Makes};
+ghost use Rattle.member.specs.Step.{answered, ack_taken, ack_heard, nack_heard};
+ghost use Rattle.member.specs.View.{effect_of, state_of};
+
+use crate::here::Here;
+use crate::member::Member;
+use crate::turn::{StepError, Turn};
+use base::MemberId;
+use incarnation::Update;
+
+impl Member {
+    /// An ack answers the probe that is under way, if it has its number.
+    fn answer(&mut self, here: &Here, seq: u64)
+        requires { KnowsMembers here.now self.old }
+        ensures state { state_of self.new ≡ record (state_of self.old) { probe = answered seq (state_of self.old).probe } }
+        ensures kept { KnowsMembers here.now self.new }
+    {
+        if let Some(probe) = &mut self.probe {
+            if probe.seq == seq {
+                probe.acked = true;
+            }
+        }
+    }
+
+    /// An ack reaches the initiator, or is passed on to it.
+    #[tactic(auto, unfolding(crate::specs::Step::ack_taken))]
+    fn take_ack(
+        &mut self,
+        turn: &mut Turn,
+        here: &Here,
+        initiator: MemberId,
+        seq: u64,
+    ) -> Result<(), StepError>
+        requires known { KnowsMembers here.now self.old }
+        requires initiator { IsMember here.now initiator }
+        ensures { Makes here.now result self.old turn.old self.new turn.new (ack_taken here.now.scenario.now here.now.key initiator seq) }
+    {
+        if initiator == here.key.to {
+            self.answer(here, seq);
+            return Ok(());
+        }
+        let _owed = self.relays.remove(initiator, seq);
+        self.send_ack(turn, here, initiator, initiator, seq)
+    }
+
+    /// An ack, after what rides on it is applied.
+    #[tactic(auto, unfolding(crate::specs::Step::ack_heard))]
+    pub(crate) fn hear_ack(
+        &mut self,
+        turn: &mut Turn,
+        here: &Here,
+        initiator: MemberId,
+        seq: u64,
+        updates: &[Update],
+    ) -> Result<(), StepError>
+        requires known { KnowsMembers here.now self.old }
+        requires initiator { IsMember here.now initiator }
+        requires updates { AreAboutMembers here.now updates.now }
+        ensures { Makes here.now result self.old turn.old self.new turn.new (ack_heard here.now.scenario.now here.now.key initiator seq updates.now) }
+    {
+        self.apply_all(turn, here, true, updates)?;
+        self.take_ack(turn, here, initiator, seq)
+    }
+
+    /// A nack of a helper counts for the probe that is under way, if it has its number.
+    #[tactic(auto, unfolding(crate::specs::Step::nack_heard))]
+    pub(crate) fn hear_nack(&mut self, turn: &Turn, here: &Here, seq: u64)
+        requires { KnowsMembers here.now self.old }
+        ensures state { effect_of self.new turn.now ≡ nack_heard seq (effect_of self.old turn.now) }
+        ensures kept { KnowsMembers here.now self.new }
+    {
+        if let Some(probe) = &mut self.probe {
+            if probe.seq == seq {
+                probe.nacked();
+            }
+        }
+    }
+}

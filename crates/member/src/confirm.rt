@@ -1,0 +1,47 @@
+ghost use Rattle.std.specs.FinMap.{get};
+ghost use Rattle.member.specs.Makes.{KnowsMembers, Makes};
+ghost use Rattle.member.specs.Step.{confirmed, suspicion_over};
+ghost use Rattle.member.specs.View.{state_of};
+
+use crate::here::Here;
+use crate::member::Member;
+use crate::turn::{StepError, Turn};
+use base::MemberId;
+use incarnation::{Claim, Update};
+
+impl Member {
+    /// Confirms a suspect at the number at which the table holds it.
+    fn confirm(&mut self, turn: &mut Turn, here: &Here, subject: MemberId) -> Result<(), StepError>
+        requires { KnowsMembers here.now self.old }
+        ensures { Makes here.now result self.old turn.old self.new turn.new (confirmed here.now.scenario.now here.now.key subject (get (state_of self.old).table subject)) }
+    {
+        let Some(held) = self.table.get(subject) else {
+            return Ok(());
+        };
+        let claim = Update {
+            subject,
+            claim: Claim::Confirm,
+            inc: held.1,
+            accuser: here.key.to,
+        };
+        self.apply(turn, here, true, &claim)
+    }
+
+    /// The time of a suspicion is over, unless the timer is an older one (SWIM, section 4.2).
+    #[tactic(auto, unfolding(crate::specs::Step::suspicion_over))]
+    pub(crate) fn end_suspicion(
+        &mut self,
+        turn: &mut Turn,
+        here: &Here,
+        subject: MemberId,
+    ) -> Result<(), StepError>
+        requires { KnowsMembers here.now self.old }
+        ensures { Makes here.now result self.old turn.old self.new turn.new (suspicion_over here.now.scenario.now here.now.key subject) }
+    {
+        if self.suspicions.due(subject, here.key.number) {
+            self.confirm(turn, here, subject)
+        } else {
+            Ok(())
+        }
+    }
+}

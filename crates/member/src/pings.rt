@@ -1,0 +1,90 @@
+ghost use Rattle.std.specs.Prelude.{◌<◌};
+ghost use Rattle.member.specs.Makes.{AreAboutMembers, IsMember, KnowsMembers, Makes};
+ghost use Rattle.member.specs.Step.{ping_heard, with_relay, ping_req_heard, nack_due};
+
+use crate::content::Content;
+use crate::here::Here;
+use crate::member::Member;
+use crate::turn::{StepError, Turn};
+use base::MemberId;
+use incarnation::Update;
+use lifeguard::nack_delay;
+
+impl Member {
+    /// A ping is answered by an ack, after what rides on it is applied.
+    #[tactic(auto, unfolding(crate::specs::Step::ping_heard))]
+    pub(crate) fn hear_ping(
+        &mut self,
+        turn: &mut Turn,
+        here: &Here,
+        initiator: MemberId,
+        seq: u64,
+        updates: &[Update],
+    ) -> Result<(), StepError>
+        requires known { KnowsMembers here.now self.old }
+        requires updates { AreAboutMembers here.now updates.now }
+        ensures { Makes here.now result self.old turn.old self.new turn.new (ping_heard here.now.scenario.now here.now.key initiator seq updates.now) }
+    {
+        self.apply_all(turn, here, true, updates)?;
+        self.send_ack(turn, here, here.key.from, initiator, seq)
+    }
+
+    /// Owes the initiator an answer, which comes before its time is up (LHA-Probe).
+    fn add_relay(&mut self, turn: &mut Turn, here: &Here, seq: u64) -> Result<(), StepError>
+        requires { KnowsMembers here.now self.old }
+        ensures { Makes here.now result self.old turn.old self.new turn.new (with_relay here.now.scenario.now here.now.key seq) }
+    {
+        self.relays.add(here.key.from, seq)?;
+        let percent = here.scenario.lifeguard().nack_percent as u32;
+        let ticks = nack_delay(percent, here.scenario.swim().timeout);
+        let timer = Content::NackTimer {
+            initiator: here.key.from,
+            seq,
+        };
+        self.set_timer(turn, here, ticks, timer)
+    }
+
+    /// A helper pings the target on behalf of the initiator (SWIM, section 3.1).
+    #[tactic(auto, unfolding(crate::specs::Step::ping_req_heard))]
+    pub(crate) fn hear_ping_req(
+        &mut self,
+        turn: &mut Turn,
+        here: &Here,
+        seq: u64,
+        target: MemberId,
+        updates: &[Update],
+    ) -> Result<(), StepError>
+        requires known { KnowsMembers here.now self.old }
+        requires target { IsMember here.now target }
+        requires updates { AreAboutMembers here.now updates.now }
+        ensures { Makes here.now result self.old turn.old self.new turn.new (ping_req_heard here.now.scenario.now here.now.key seq target updates.now) }
+    {
+        self.apply_all(turn, here, true, updates)?;
+        self.send_ping(turn, here, target, here.key.from, seq)?;
+        if here.scenario.lifeguard().probe {
+            self.add_relay(turn, here, seq)
+        } else {
+            Ok(())
+        }
+    }
+
+    /// Tells an initiator, if an answer is still owed, that the target has not answered in time (LHA-Probe).
+    #[tactic(auto, unfolding(crate::specs::Step::nack_due))]
+    pub(crate) fn end_relay(
+        &mut self,
+        turn: &mut Turn,
+        here: &Here,
+        initiator: MemberId,
+        seq: u64,
+    ) -> Result<(), StepError>
+        requires known { KnowsMembers here.now self.old }
+        requires initiator { IsMember here.now initiator }
+        ensures { Makes here.now result self.old turn.old self.new turn.new (nack_due here.now.scenario.now here.now.key initiator seq) }
+    {
+        if !self.relays.has(initiator, seq) {
+            return Ok(());
+        }
+        let _owed = self.relays.remove(initiator, seq);
+        self.send_nack(turn, here, initiator, seq)
+    }
+}
