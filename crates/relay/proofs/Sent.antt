@@ -1,26 +1,17 @@
--- The seats of a relay may go to other threads, and threads may share the relay.
+-- The seats of a relay may go to other threads, and threads may share the relay and its scenario. `search` finds it only where it is told of the parts inside.
 use denote.Param.Send.{IsSend, IsSync, sendable}
 use Rattle.std.proofs.Crossing.{crosses}
 use Rattle.atomic_table.proofs.badge.Badge.TheSendSync as badge
 use Rattle.atomic_table.proofs.shared.Seat.TheSendSync as seat
 use Rattle.atomic_table.proofs.shared.Shared.TheSendSync as shared
-use Rattle.atomic_table.proofs.owned.Table.TheSendSync as table
 use Rattle.atomic_table.proofs.send_lease.SendLease.TheSendSync as lease
 use Rattle.crossbeam_channel.proofs.flavors.array.Rows.TheSendSync as rows
-use Rattle.crossbeam_channel.proofs.bells.Bell.TheSendSync as bell
 use Rattle.crossbeam_channel.proofs.flavors.array.ruled.Both.TheSendSync as both
-use Rattle.crossbeam_channel.proofs.flavors.array.ruled.Sending.TheSendSync as sending
-use Rattle.crossbeam_channel.proofs.flavors.array.ruled.Receiving.TheSendSync as receiving
 use Rattle.scenario.specs.contracts.scenario.Scenario as scenario
-use Rattle.scenario.specs.contracts.settings.Swim as swim
-use Rattle.scenario.specs.contracts.settings.Suspicion as suspicion
-use Rattle.scenario.specs.contracts.settings.Lifeguard as lifeguard
-use Rattle.scenario.specs.contracts.settings.Link as link
 use Rattle.scenario.specs.contracts.settings.Group as group
 use Rattle.scenario.specs.contracts.settings.Path as path
 use Rattle.scenario.specs.contracts.settings.Slow as slow
 use Rattle.scenario.specs.contracts.settings.Crash as crash
-use Rattle.trace.specs.contracts.row.What as what
 use Rattle.trace.specs.contracts.row.Row as row
 use Rattle.relay.specs.contracts.batch.Batch as batch
 use Rattle.relay.specs.contracts.relay.Relay as relay
@@ -33,29 +24,14 @@ send_seat_send = search (seat.the_send, badge.the_send, crosses, sendable) depth
 pub take_seat_send : IsSend take_seat.the_row
 take_seat_send = search (seat.the_send, badge.the_send, crosses, sendable) depth 60
 
-what_send : IsSend what.the_row
-what_send = search (crosses, sendable) depth 60
-
 row_send : IsSend row.the_row
-row_send = search (what_send, crosses, sendable) depth 60
+row_send = search (crosses, sendable) depth 60
 
-batch_send : IsSend batch.the_row
+pub batch_send : IsSend batch.the_row
 batch_send = search (row_send, crosses, sendable) depth 60
 
 pub relay_sync : IsSync relay.the_row
-relay_sync = search (sending.the_sync, receiving.the_sync, both.the_send, both.the_sync, rows.the_send, rows.the_sync, table.the_send, table.the_sync, lease.the_send, lease.the_sync, bell.the_send, bell.the_sync, shared.the_send, shared.the_sync, badge.the_send, batch_send, crosses, sendable) depth 60
-
-swim_sync : IsSync swim.the_row
-swim_sync = search (crosses, sendable) depth 60
-
-suspicion_sync : IsSync suspicion.the_row
-suspicion_sync = search (crosses, sendable) depth 60
-
-lifeguard_sync : IsSync lifeguard.the_row
-lifeguard_sync = search (crosses, sendable) depth 60
-
-link_sync : IsSync link.the_row
-link_sync = search (crosses, sendable) depth 60
+relay_sync = search (both.the_send, both.the_sync, rows.the_send, rows.the_sync, lease.the_send, lease.the_sync, shared.the_send, shared.the_sync, badge.the_send, batch_send, crosses, sendable) depth 60
 
 group_sync : IsSync group.the_row
 group_sync = search (crosses, sendable) depth 60
@@ -70,4 +46,4 @@ crash_sync : IsSync crash.the_row
 crash_sync = search (crosses, sendable) depth 60
 
 pub scenario_sync : IsSync scenario.the_row
-scenario_sync = search (swim_sync, suspicion_sync, lifeguard_sync, link_sync, group_sync, path_sync, slow_sync, crash_sync, crosses, sendable) depth 60
+scenario_sync = search (group_sync, path_sync, slow_sync, crash_sync, crosses, sendable) depth 60
