@@ -32,6 +32,7 @@ fn each_worked_run_leaves_its_trace_and_report(rt: HostRuntime) -> Result<(), Fa
 }
 
 /// Words that run a scenario by the parts of a division.
+#[derive(Clone, Copy)]
 struct Divided {
     run: Worked,
     words: &'static str,
