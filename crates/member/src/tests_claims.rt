@@ -64,8 +64,8 @@ const NEW: Claims = Claims {
     ..OLD
 };
 
-/// Each claim on each other, at 2, 3 and 4. Of two members none more may accuse.
-const CLAIMS: &[Claims] = &[
+/// Each claim at 2, 3 and 4 on one that the member is alive. Of two members none more may accuse.
+const ON_ALIVE: &[Claims] = &[
     Claims {
         name: "Alive at 2 on Alive at 3",
         steps: &[START, HELD_ALIVE, ALIVE_2],
@@ -117,6 +117,10 @@ const CLAIMS: &[Claims] = &[
         rows: &["confirm 1 4", "ack 2 10"],
         ..NEW
     },
+];
+
+/// Each on one that it is suspected.
+const ON_SUSPECT: &[Claims] = &[
     Claims {
         name: "Alive at 2 on Suspect at 3",
         steps: &[START, HELD_SUSPECT, ALIVE_2],
@@ -167,6 +171,10 @@ const CLAIMS: &[Claims] = &[
         rows: &["confirm 1 4", "ack 2 10"],
         ..NEW
     },
+];
+
+/// Each on one that it is confirmed.
+const ON_CONFIRM: &[Claims] = &[
     Claims {
         name: "Alive at 2 on Confirm at 3",
         steps: &[START, HELD_CONFIRM, ALIVE_2],
@@ -222,9 +230,8 @@ fn assert_end(rt: &impl Abort, name: &str, text: &str, end: &str) {
 /// Asserts what the second of two claims about member 1 makes.
 fn assert_claims(rt: &(impl Abort + AllocGlobal), claims: &Claims) -> Result<(), Fail> {
     let outcome = outcome_of(rt, GROWING, 0, claims.steps, None)?;
-    assert_lines(rt, claims.name, outcome.rows.as_str(), claims.rows)?;
     assert_end(rt, claims.name, outcome.events.as_str(), claims.end);
-    Ok(())
+    assert_lines(rt, claims.name, outcome.rows.as_str(), claims.rows)
 }
 
 /// Asserts it of each case.
@@ -236,8 +243,18 @@ fn assert_all_claims(rt: &(impl Abort + AllocGlobal), cases: &[Claims]) -> Resul
 }
 
 #[test]
-fn each_claim_on_each_other(rt: HostRuntime) -> Result<(), Fail> {
-    assert_all_claims(&rt, CLAIMS)
+fn each_claim_on_one_that_is_alive(rt: HostRuntime) -> Result<(), Fail> {
+    assert_all_claims(&rt, ON_ALIVE)
+}
+
+#[test]
+fn each_claim_on_one_that_is_suspected(rt: HostRuntime) -> Result<(), Fail> {
+    assert_all_claims(&rt, ON_SUSPECT)
+}
+
+#[test]
+fn each_claim_on_one_that_is_confirmed(rt: HostRuntime) -> Result<(), Fail> {
+    assert_all_claims(&rt, ON_CONFIRM)
 }
 
 /// The first period of member 0 begins late.

@@ -4,7 +4,9 @@ use crate::tests_fixture::Asks::{
     Ack, Crash, Join, JoinTimer, Nack, NackTimer, PeriodTimer, Ping, PingReq, Start,
     SuspicionTimer, TimeoutTimer, Welcome,
 };
-use crate::tests_fixture::{GROWING, Input, Outcome, Setting, TIMES, assert_text, outcome_of};
+use crate::tests_fixture::{
+    BOUND, GROWING, Input, Outcome, Setting, TIMES, assert_text, outcome_of,
+};
 use base::MemberId;
 use incarnation::Claim::{Alive, Confirm, Suspect};
 use std::alloc::AllocError;
@@ -244,19 +246,17 @@ fn stream_after(rt: &impl Abort, member: u16, bounds: &[u32]) -> Stream {
     stream
 }
 
-/// Asserts that the next draws of two streams agree.
-fn assert_same(rt: &impl Abort, name: &str, drawn: &mut Stream, wanted: &mut Stream) {
-    let drawn = drawn.below(1_000_000);
-    let wanted = wanted.below(1_000_000);
-    assert_eq!(rt; drawn, wanted, "{name}");
+/// Asserts that a member drew as much as a stream, and no more: the next draws agree.
+fn assert_next(rt: &impl Abort, name: &str, outcome: &Outcome, wanted: &mut Stream) {
+    let next = wanted.below(BOUND);
+    assert_eq!(rt; outcome.next_draw, next, "{name}");
 }
 
-/// Asserts that a member drew what a case says, and no more: the next draws agree.
+/// Asserts that a member drew what a case says.
 fn assert_drawn(rt: &(impl Abort + AllocGlobal), drawn: &Drawn) -> Result<(), Fail> {
     let outcome = outcome_of(rt, drawn.setting, drawn.member, drawn.steps, None)?;
-    let mut member = outcome.member;
     let mut wanted = stream_after(rt, drawn.member, drawn.bounds);
-    assert_same(rt, drawn.name, &mut member.stream, &mut wanted);
+    assert_next(rt, drawn.name, &outcome, &mut wanted);
     Ok(())
 }
 
@@ -416,13 +416,18 @@ fn assert_beginning(rt: &impl Abort, name: &str, text: &str, beginning: &str) {
     assert!(rt; text.starts_with(beginning), "{name}");
 }
 
-/// Asserts when the first event comes that the last step makes.
-fn assert_late(rt: &(impl Abort + AllocGlobal), late: &Late) -> Result<(), Fail> {
+/// Asserts that the first of these events is the one of a case.
+fn assert_first(rt: &(impl Abort + AllocGlobal), late: &Late, events: &str) -> Result<(), Fail> {
     let mut event = String::new(rt.alloc());
     push_late(&mut event, late, moment_of(rt, late))?;
-    let outcome = outcome_of(rt, late.setting, late.member, late.steps, None)?;
-    assert_beginning(rt, late.name, outcome.events.as_str(), event.as_str());
+    assert_beginning(rt, late.name, events, event.as_str());
     Ok(())
+}
+
+/// Asserts when the first event comes that the last step makes.
+fn assert_late(rt: &(impl Abort + AllocGlobal), late: &Late) -> Result<(), Fail> {
+    let outcome = outcome_of(rt, late.setting, late.member, late.steps, None)?;
+    assert_first(rt, late, outcome.events.as_str())
 }
 
 /// Asserts it of each case.
@@ -463,19 +468,19 @@ fn push_period(text: &mut String, target: u16, at: u32) -> Result<(), AllocError
     text.push_str("3 at 301 to 0 timeout 1\n4 at 1001 to 0 period\n")
 }
 
+/// Asserts that these are the events of the first period.
+fn assert_period(rt: &(impl Abort + AllocGlobal), events: &str) -> Result<(), Fail> {
+    let (target, at) = drawn_target(rt);
+    let mut wanted = String::new(rt.alloc());
+    push_period(&mut wanted, target, at)?;
+    assert_text(rt, "the first period", events, wanted.as_str());
+    Ok(())
+}
+
 #[test]
 fn rota_is_shuffled_before_the_arrival(rt: HostRuntime) -> Result<(), Fail> {
-    let (target, at) = drawn_target(&rt);
-    let mut events = String::new(rt.alloc());
-    push_period(&mut events, target, at)?;
     let outcome = outcome_of(&rt, THREE, 0, PERIOD, None)?;
-    assert_text(
-        &rt,
-        "the first period",
-        outcome.events.as_str(),
-        events.as_str(),
-    );
-    Ok(())
+    assert_period(&rt, outcome.events.as_str())
 }
 
 /// It hears of two members, and then the time of its probe is up.
@@ -520,7 +525,7 @@ fn assert_asked(
     rt: &(impl Abort + AllocGlobal),
     rows: &str,
     requests: &Requests,
-) -> Result<(), AllocError> {
+) -> Result<(), Fail> {
     let mut wanted = String::new(rt.alloc());
     push_asked(&mut wanted, requests.first)?;
     push_asked(&mut wanted, requests.second)?;
@@ -533,7 +538,7 @@ fn assert_requests(
     rt: &(impl Abort + AllocGlobal),
     events: &str,
     requests: &Requests,
-) -> Result<(), AllocError> {
+) -> Result<(), Fail> {
     let mut wanted = String::new(rt.alloc());
     push_request(&mut wanted, 6, requests.soon, requests.first)?;
     push_request(&mut wanted, 7, requests.late, requests.second)?;
@@ -541,13 +546,17 @@ fn assert_requests(
     Ok(())
 }
 
+/// Asserts that the helpers were asked, and when the requests arrive.
+fn assert_helpers(rt: &(impl Abort + AllocGlobal), outcome: &Outcome) -> Result<(), Fail> {
+    let requests = drawn_requests(rt);
+    assert_asked(rt, outcome.rows.as_str(), &requests)?;
+    assert_requests(rt, outcome.events.as_str(), &requests)
+}
+
 #[test]
 fn helpers_are_drawn_before_the_arrivals(rt: HostRuntime) -> Result<(), Fail> {
-    let requests = drawn_requests(&rt);
     let outcome = outcome_of(&rt, JITTER, 0, ASKS, None)?;
-    assert_asked(&rt, outcome.rows.as_str(), &requests)?;
-    assert_requests(&rt, outcome.events.as_str(), &requests)?;
-    Ok(())
+    assert_helpers(&rt, &outcome)
 }
 
 /// The first period of member 0 with this loss.
@@ -567,9 +576,8 @@ fn assert_lost(rt: &(impl Abort + AllocGlobal), loss: u32) -> Result<(), Fail> {
     assert_text(rt, "a loss", outcome.rows.as_str(), "ping 1 1 lost\n");
     let beginning = "3 at 301 to 0 timeout 1\n";
     assert_beginning(rt, "a loss", outcome.events.as_str(), beginning);
-    let mut member = outcome.member;
-    let mut wanted = stream_after(rt, 0, &[1_000_000]);
-    assert_same(rt, "a loss", &mut member.stream, &mut wanted);
+    let mut wanted = stream_after(rt, 0, &[BOUND]);
+    assert_next(rt, "a loss", &outcome, &mut wanted);
     Ok(())
 }
 
@@ -578,23 +586,27 @@ fn push_ping(text: &mut String, at: u32) -> Result<(), AllocError> {
     writeln!(text, "2 at {at} to 1 ping 0 1")
 }
 
-/// Asserts that it arrives with this loss, and that its jitter is drawn after the loss.
-fn assert_sent(rt: &(impl Abort + AllocGlobal), loss: u32) -> Result<(), Fail> {
-    let mut wanted = stream_after(rt, 0, &[1_000_000]);
+/// Asserts that a ping was drawn to arrive, its jitter after its loss.
+fn assert_arrival(rt: &(impl Abort + AllocGlobal), outcome: &Outcome) -> Result<(), Fail> {
+    let mut wanted = stream_after(rt, 0, &[BOUND]);
     let mut event = String::new(rt.alloc());
     push_ping(&mut event, 11 + wanted.below(6))?;
+    assert_beginning(rt, "no loss", outcome.events.as_str(), event.as_str());
+    assert_next(rt, "no loss", outcome, &mut wanted);
+    Ok(())
+}
+
+/// Asserts that the ping arrives with this loss.
+fn assert_sent(rt: &(impl Abort + AllocGlobal), loss: u32) -> Result<(), Fail> {
     let outcome = period_with_loss(rt, loss)?;
     assert_text(rt, "no loss", outcome.rows.as_str(), "ping 1 1\n");
-    assert_beginning(rt, "no loss", outcome.events.as_str(), event.as_str());
-    let mut member = outcome.member;
-    assert_same(rt, "no loss", &mut member.stream, &mut wanted);
-    Ok(())
+    assert_arrival(rt, &outcome)
 }
 
 #[test]
 fn loss_is_drawn_before_the_jitter(rt: HostRuntime) -> Result<(), Fail> {
-    let drawn = stream_after(&rt, 0, &[]).below(1_000_000);
+    let drawn = stream_after(&rt, 0, &[]).below(BOUND);
     assert_sent(&rt, drawn)?;
-    assert!(rt; drawn < 1_000_000);
+    assert!(rt; drawn < BOUND);
     assert_lost(&rt, drawn + 1)
 }

@@ -15,11 +15,13 @@ use crate::updates::Updates;
 use base::limits::COUNTER_LIMIT;
 use base::{Key, MemberId, Moment};
 use incarnation::{Claim, Update};
+use lifeguard::Probe;
 use links::Links;
 use scenario::Scenario;
 use std::alloc::{AllocError, Global};
 use std::process::Abort;
 use std::test::Fail;
+use trace::Row;
 
 /// A scenario: what it says beside its seed, its end and the link's delay of 10.
 #[derive(Clone, Copy)]
@@ -144,14 +146,20 @@ pub(crate) const ROWS: Case = Case {
     ..SILENT
 };
 
-/// What the last event made, whether it was refused, and the member after it.
+/// What the last event made, whether it was refused, and of the member after it what a test looks at.
 #[derive(Drop)]
 pub(crate) struct Outcome {
     pub(crate) rows: String,
     pub(crate) events: String,
     pub(crate) answer: Result<(), StepError>,
-    pub(crate) member: Member,
+    pub(crate) next_number: u64,
+    pub(crate) probe: Option<Probe>,
+    /// What it would draw next below `BOUND`.
+    pub(crate) next_draw: u32,
 }
+
+/// So many values have the draws by which streams are compared.
+pub(crate) const BOUND: u32 = 1_000_000;
 
 /// The updates of an event in short form.
 fn updates_of(alloc: Global, told: &[Told]) -> Result<Updates, AllocError> {
@@ -334,27 +342,55 @@ fn assert_within(rt: &impl Abort, counters: &Counters)
     assert!(rt; counters.incarnation <= COUNTER_LIMIT);
 }
 
-/// What a member's last event made, as lines.
-fn told(
+/// The rows of a step as lines.
+fn rows_told(
     rt: &(impl Abort + AllocGlobal),
-    effects: &Effects,
+    rows: &[Row],
     step: Input,
     oneself: MemberId,
-) -> Result<(String, String), AllocError> {
-    assert_rows(rt, &effects.rows, step, oneself);
-    assert_events(rt, &effects.events, step, oneself);
-    let mut rows = String::new(rt.alloc());
-    push_rows(&mut rows, &effects.rows)?;
-    let mut events = String::new(rt.alloc());
-    push_events(&mut events, &effects.events)?;
-    Ok((rows, events))
+) -> Result<String, AllocError> {
+    assert_rows(rt, rows, step, oneself);
+    let mut text = String::new(rt.alloc());
+    push_rows(&mut text, rows)?;
+    Ok(text)
 }
 
-/// A member handles an event, and is handed back with what it made of it. The counters, if given, are
-/// set before.
+/// The events that a step made as lines.
+fn events_told(
+    rt: &(impl Abort + AllocGlobal),
+    events: &[Event],
+    step: Input,
+    oneself: MemberId,
+) -> Result<String, AllocError> {
+    assert_events(rt, events, step, oneself);
+    let mut text = String::new(rt.alloc());
+    push_events(&mut text, events)?;
+    Ok(text)
+}
+
+/// What a step came to, by its answer, what it made and the member after it.
 fn outcome_from(
     rt: &(impl Abort + AllocGlobal),
-    mut member: Member,
+    answer: Result<(), StepError>,
+    effects: &Effects,
+    member: &mut Member,
+    step: Input,
+    oneself: MemberId,
+) -> Result<Outcome, AllocError> {
+    Ok(Outcome {
+        rows: rows_told(rt, &effects.rows, step, oneself)?,
+        events: events_told(rt, &effects.events, step, oneself)?,
+        answer,
+        next_number: member.next_number,
+        probe: member.probe,
+        next_draw: member.stream.below(BOUND),
+    })
+}
+
+/// A member handles its last event, before which the counters, if given, are set.
+fn handle_last(
+    rt: &(impl Abort + AllocGlobal),
+    member: &mut Member,
     counters: Option<Counters>,
     step: Input,
     oneself: MemberId,
@@ -363,7 +399,7 @@ fn outcome_from(
 ) -> Result<Outcome, AllocError>
     requires links { AreLinksOf links.now scenario.now }
     requires oneself { oneself < member_count scenario.now }
-    requires known { HoldsMembers scenario.now oneself (state_of member) }
+    requires known { HoldsMembers scenario.now oneself (state_of member.old) }
 {
     if let Some(counters) = counters {
         assert_within(rt, &counters);
@@ -372,14 +408,29 @@ fn outcome_from(
         member.incarnation = counters.incarnation;
     }
     let mut out = nothing(rt.alloc());
-    let answer = handle(rt, &mut member, step, oneself, scenario, links, &mut out)?;
-    let (rows, events) = told(rt, &out, step, oneself)?;
-    Ok(Outcome {
-        rows,
-        events,
-        answer,
-        member,
-    })
+    let answer = handle(rt, member, step, oneself, scenario, links, &mut out)?;
+    outcome_from(rt, answer, &out, member, step, oneself)
+}
+
+/// A member of the scenario handles the events, each but the last without refusal.
+fn outcome_in(
+    rt: &(impl Abort + AllocGlobal),
+    scenario: &Scenario,
+    links: &Links,
+    oneself: MemberId,
+    steps: &[Input],
+    counters: Option<Counters>,
+) -> Result<Outcome, Fail>
+    requires links { AreLinksOf links.now scenario.now }
+    requires oneself { oneself < member_count scenario.now }
+{
+    let Some((last, earlier)) = steps.split_last() else {
+        panic!(rt; "no event");
+    };
+    let mut member = Member::of(rt.alloc(), scenario, oneself)?;
+    handle_all(rt, &mut member, earlier, oneself, scenario, links)?;
+    let outcome = handle_last(rt, &mut member, counters, *last, oneself, scenario, links)?;
+    Ok(outcome)
 }
 
 /// A member of the setting handles events one after another, each but the last without refusal. The
@@ -391,18 +442,11 @@ pub(crate) fn outcome_of(
     steps: &[Input],
     counters: Option<Counters>,
 ) -> Result<Outcome, Fail> {
-    let alloc = rt.alloc();
-    let scenario = scenario_of(alloc, setting)?;
-    let links = Links::of(alloc, &scenario)?;
+    let scenario = scenario_of(rt.alloc(), setting)?;
+    let links = Links::of(rt.alloc(), &scenario)?;
     let oneself = MemberId(number);
     assert!(rt; oneself.index() < scenario.members());
-    let Some((last, earlier)) = steps.split_last() else {
-        panic!(rt; "no event");
-    };
-    let mut member = Member::of(alloc, &scenario, oneself)?;
-    handle_all(rt, &mut member, earlier, oneself, &scenario, &links)?;
-    let outcome = outcome_from(rt, member, counters, *last, oneself, &scenario, &links)?;
-    Ok(outcome)
+    outcome_in(rt, &scenario, &links, oneself, steps, counters)
 }
 
 /// No effects.
@@ -419,7 +463,7 @@ pub(crate) fn assert_lines(
     name: &str,
     text: &str,
     lines: &[&str],
-) -> Result<(), AllocError> {
+) -> Result<(), Fail> {
     let mut wanted = String::new(rt.alloc());
     push_lines(&mut wanted, lines)?;
     assert_text(rt, name, text, wanted.as_str());
@@ -441,7 +485,7 @@ fn assert_outcome(
     rt: &(impl Abort + AllocGlobal),
     case: &Case,
     outcome: &Outcome,
-) -> Result<(), AllocError> {
+) -> Result<(), Fail> {
     assert_heard(rt, case.name, outcome);
     assert_lines(rt, case.name, outcome.rows.as_str(), case.rows)?;
     match case.events {
@@ -453,7 +497,7 @@ fn assert_outcome(
 /// Asserts that a case comes out as it says.
 fn assert_case(rt: &(impl Abort + AllocGlobal), case: &Case) -> Result<(), Fail> {
     let outcome = outcome_of(rt, case.setting, case.member, case.steps, None)?;
-    Ok(assert_outcome(rt, case, &outcome)?)
+    assert_outcome(rt, case, &outcome)
 }
 
 /// Asserts that each case comes out as it says.

@@ -204,7 +204,7 @@ fn assert_requests(rt: &impl Abort, case: &Asked, outcome: &Outcome) {
 /// Asserts that the probe that is under way is this.
 fn assert_probe(rt: &impl Abort, setting: Setting, outcome: &Outcome, wanted: Probe) {
     let Setting { swim, rest, .. } = setting;
-    assert_eq!(rt; outcome.member.probe, Some(wanted), "{swim} {rest}");
+    assert_eq!(rt; outcome.probe, Some(wanted), "{swim} {rest}");
 }
 
 /// Asserts how many are asked.

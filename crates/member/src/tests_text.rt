@@ -4,7 +4,7 @@ use crate::content::Content;
 use crate::event::Event;
 use crate::tests_fixture::Input;
 use crate::updates::Updates;
-use base::{MemberId, Moment};
+use base::{Key, MemberId, Moment};
 use incarnation::{Claim, Update};
 use std::alloc::AllocError;
 use std::process::Abort;
@@ -12,10 +12,19 @@ use trace::Row;
 
 /// Asserts that a row has the key of its event, and its place among the rows.
 fn assert_row(rt: &impl Abort, row: &Row, index: usize, step: Input, oneself: MemberId) {
-    assert_eq!(rt; row.at, Moment(step.0));
-    assert_eq!(rt; row.member, oneself);
-    assert_eq!(rt; row.from, MemberId(step.1));
-    assert_eq!(rt; row.number, step.2);
+    let key = Key {
+        at: row.at,
+        to: row.member,
+        from: row.from,
+        number: row.number,
+    };
+    let wanted = Key {
+        at: Moment(step.0),
+        to: oneself,
+        from: MemberId(step.1),
+        number: step.2,
+    };
+    assert_eq!(rt; key, wanted);
     assert_eq!(rt; row.index as usize, index);
 }
 

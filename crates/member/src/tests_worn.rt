@@ -260,18 +260,25 @@ fn assert_worn(rt: &impl Abort, name: &str, outcome: &Outcome) {
     assert_eq!(rt; outcome.answer, Err(StepError::Worn), "{name}");
 }
 
+/// Asserts that an outcome is as a case says.
+fn assert_outcome(
+    rt: &(impl Abort + AllocGlobal),
+    limited: &Limited,
+    outcome: &Outcome,
+) -> Result<(), Fail> {
+    let Some(rows) = limited.rows else {
+        assert_worn(rt, limited.name, outcome);
+        return Ok(());
+    };
+    assert_heard(rt, limited.name, outcome);
+    assert_lines(rt, limited.name, outcome.rows.as_str(), rows)
+}
+
 /// Asserts that a case comes out as it says.
 fn assert_limited(rt: &(impl Abort + AllocGlobal), limited: &Limited) -> Result<(), Fail> {
     let counters = Some(limited.counters);
     let outcome = outcome_of(rt, limited.setting, 0, limited.steps, counters)?;
-    match limited.rows {
-        None => assert_worn(rt, limited.name, &outcome),
-        Some(rows) => {
-            assert_heard(rt, limited.name, &outcome);
-            assert_lines(rt, limited.name, outcome.rows.as_str(), rows)?;
-        }
-    }
-    Ok(())
+    assert_outcome(rt, limited, &outcome)
 }
 
 /// Asserts that each case comes out as it says.
@@ -296,7 +303,7 @@ fn last_number_is_the_period_timers(rt: HostRuntime) -> Result<(), Fail> {
     let name = "the last number";
     let wanted = "9223372036854775807 at 1001 to 0 period\n";
     assert_text(&rt, name, outcome.events.as_str(), wanted);
-    assert_eq!(rt; outcome.member.next_number, COUNTER_LIMIT);
+    assert_eq!(rt; outcome.next_number, COUNTER_LIMIT);
     Ok(())
 }
 
