@@ -1,4 +1,4 @@
 pub mod Alive
-pub mod Few
+mod Columns
 mod Entries
-mod Counts
+pub mod Few

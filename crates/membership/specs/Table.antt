@@ -1,6 +1,5 @@
 -- What a member holds of others (SWIM, section 4.2), and what is read from it.
-use Rattle.std.specs.Prelude.{ℕ, ◌+◌, ◌&&◌, ◌||◌, Bool, true, false, not, nat_lt, nat_eq, if◌then◌else◌, List, map, filter, count_by, sum_by}
-use Rattle.std.specs.Map.{values_of}
+use Rattle.std.specs.Prelude.{ℕ, ◌+◌, ◌&&◌, ◌||◌, Bool, true, false, not, nat_lt, nat_eq, List, map, filter, count_by}
 use Rattle.std.specs.Ordering.{nat_cmp}
 use Rattle.std.specs.FinMap.{FinMap, entries, from_entries}
 use Rattle.incarnation.specs.declared.Claim.{Claim}
@@ -34,14 +33,6 @@ is_confirm Confirm = true
 abbrev pub does_override : Claim × ℕ → Claim × ℕ → Bool
 does_override new old =
     not (is_confirm old.0) && (is_confirm new.0 || nat_lt old.1 new.1 || (is_suspect new.0 && is_alive old.0 && nat_eq new.1 old.1))
-
--- 1 for a member that is not confirmed
-abbrev pub live_weight : Claim × ℕ → ℕ
-live_weight held = if not (is_confirm held.0) then 1 else 0
-
--- how many of these entries are not confirmed
-abbrev pub live_among : List (ℕ × (Claim × ℕ)) → ℕ
-live_among es = sum_by live_weight (values_of es)
 
 -- n, the members that are not confirmed, oneself included
 unfoldable pub live_count : Known → ℕ

@@ -1,22 +1,23 @@
-ghost use Rattle.std.specs.Prelude.{◌≡◌, ◌+◌, ◌^◌, ◌<◌, ◌&&◌, not, nat_eq, map, filter, OnOk, OnErr, IfOk};
+ghost use Rattle.std.specs.Prelude.{List, max, ◌≡◌, ◌+◌, ◌^◌, ◌<◌, ◌≤◌, ◌&&◌, ℕ, true, not, nat_eq, map, filter, length, vec_len, sum_by, slice_index, OnOk, OnErr, IfOk};
 ghost use Rattle.std.specs.Option.{option_map_or};
-ghost use Rattle.std.specs.Ordering.{nat_cmp};
-ghost use Rattle.std.specs.BTreeMap.{IsOrdered};
 ghost use Rattle.std.specs.FinMap.{empty, get, insert, remove};
-ghost use Rattle.membership.specs.Table.{known_of, all_alive, is_alive, live_weight, live_among, live_count, alive_but, update_by, updates_by};
+ghost use Rattle.membership.specs.Table.{all_alive, is_alive, live_count, alive_but, update_by, updates_by};
+ghost use Rattle.membership.specs.Columns.{entries_from, claim_at, claim_weight};
 
 use crate::claims::{is_alive, is_confirm};
 use base::{MemberId, Memory};
 use incarnation::{Claim, Update};
-use std::alloc::{AllocError, Global};
-use std::collections::BTreeMap;
+use std::alloc::Global;
 use std::marker::Model;
 
 /// What a member holds of others: for each that it knows, the claim that it believes, with the
 /// incarnation number that the claim speaks of.
 #[derive(Drop)]
 pub struct Table {
-    known: BTreeMap<MemberId, (Claim, u64)>,
+    /// The claims, by the numbers of the members they are about: every member of a cluster has a table of
+    /// nearly all others, so both columns are dense.
+    claims: Vec<Option<Claim>>,
+    incs: Vec<u64>,
     /// How many members are not confirmed, oneself included. Each message asks for it.
     live: usize,
 }
@@ -26,15 +27,15 @@ impl Model for Table {
     ghost use Rattle.std.specs.FinMap.{code};
     ghost use Rattle.incarnation.specs.contracts.Claim as claim;
     ghost use Rattle.membership.specs.Table.{Known, known_of};
-    ghost use Rattle.membership.specs.Counted.{IsCounted};
+    ghost use Rattle.membership.specs.Columns.{entries_from, IsCounted};
 
     ghost Value = { Known };
 
     ghost coded = { code coded_ℕ (coded× claim.the_row.coded coded_ℕ) };
 
-    ghost view = { λ table. known_of table.known.entries };
+    ghost view = { λ table. known_of (entries_from 0 table.claims.items table.incs.items) };
 
-    ghost invariant = { λ table. IsCounted table.known table.live };
+    ghost invariant = { λ table. IsCounted table.claims.items table.incs.items table.live };
 }
 
 impl Table {
@@ -43,7 +44,8 @@ impl Table {
         ensures { result ≡ empty }
     {
         Table {
-            known: BTreeMap::new(alloc),
+            claims: Vec::new(alloc),
+            incs: Vec::new(alloc),
             live: 1,
         }
     }
@@ -65,7 +67,12 @@ impl Table {
     pub fn get(&self, member: MemberId) -> Option<(Claim, u64)>
         ensures { result ≡ get self.now member }
     {
-        self.known.get(&member).copied()
+        let place = member.index();
+        if self.claims.len() <= place {
+            return None;
+        }
+        let claim = self.claims[place]?;
+        Some((claim, self.incs[place]))
     }
 
     /// Holds this of a member from now on. A refusal leaves the table as it was.
@@ -73,8 +80,13 @@ impl Table {
         ensures ok { OnOk result (self.new ≡ insert self.old member held) }
         ensures err { OnErr result (self.new ≡ self.old) }
     {
-        let old = put(&mut self.known, member, held)?;
-        self.live = self.live + live_weight(Some(held)) - live_weight(old);
+        let place = usize::from(member.0);
+        reach_number(&mut self.incs, place)?;
+        reach_claim(&mut self.claims, place)?;
+        let old = weight(self.claims[place]);
+        self.claims[place] = Some(held.0);
+        self.incs[place] = held.1;
+        self.live = self.live + weight(Some(held.0)) - old;
         Ok(())
     }
 
@@ -82,8 +94,11 @@ impl Table {
     pub fn remove(&mut self, member: MemberId)
         ensures { self.new ≡ remove self.old member }
     {
-        let old = self.known.remove(&member);
-        self.live -= live_weight(old);
+        let place = member.index();
+        if place < self.claims.len() {
+            self.live -= weight(self.claims[place]);
+            self.claims[place] = None;
+        }
     }
 
     /// How many members are not confirmed, oneself included: the members of the cluster as far as this one
@@ -99,10 +114,7 @@ impl Table {
     pub fn alive_but(&self, alloc: Global, member: MemberId) -> Result<Vec<MemberId>, Memory>
         ensures { IfOk result (λ members. members.items ≡ alive_but member self.now) }
     {
-        match list_alive_but(alloc, &self.known, member) {
-            Ok(members) => Ok(members),
-            Err(_) => Err(Memory),
-        }
+        list_alive_but(alloc, &self.claims, member)
     }
 
     /// All that is held, in the order of the members' numbers, as updates of one accuser. `Memory` where
@@ -110,76 +122,106 @@ impl Table {
     pub fn updates_by(&self, alloc: Global, accuser: MemberId) -> Result<Vec<Update>, Memory>
         ensures { IfOk result (λ updates. updates.items ≡ updates_by accuser self.now) }
     {
-        match list_updates(alloc, &self.known, accuser) {
-            Ok(updates) => Ok(updates),
-            Err(_) => Err(Memory),
+        list_updates(alloc, &self.claims, &self.incs, accuser)
+    }
+}
+
+// Has a place for a claim, with nothing held where there was none.
+fn reach_claim(claims: &mut Vec<Option<Claim>>, place: usize) -> Result<(), Memory>
+    requires { place < 2 ^ 16 }
+    ensures place { OnOk result (place < vec_len claims.new) }
+    ensures same { (k : ℕ) → claim_at claims.new.items k ≡ claim_at claims.old.items k }
+    ensures weight { sum_by claim_weight claims.new.items ≡ sum_by claim_weight claims.old.items }
+    ensures bound { length claims.new.items ≤ max (length claims.old.items) (place + 1) }
+{
+    while claims.len() <= place {
+        match claims.push(None) {
+            Ok(()) => {}
+            Err(_) => return Err(Memory),
         }
     }
+    Ok(())
 }
 
-// Puts what is held of a member in the place of what was, and returns that.
-fn put(
-    known: &mut BTreeMap<MemberId, (Claim, u64)>,
-    member: MemberId,
-    held: (Claim, u64),
-) -> Result<Option<(Claim, u64)>, Memory>
-    ensures ok { OnOk result (known_of known.new.entries ≡ insert (known_of known.old.entries) member held) }
-    ensures counted { IfOk result (λ old. live_among known.new.entries + option_map_or live_weight old 0 ≡ live_among known.old.entries + live_weight held) }
-    ensures ordered { OnOk result (IsOrdered nat_cmp known.new) }
-    ensures few { OnOk result (live_among known.new.entries < 2 ^ 63) }
-    ensures err { OnErr result (known.new.entries ≡ known.old.entries) }
+// Has a place for a number, with 0 where there was none.
+fn reach_number(incs: &mut Vec<u64>, place: usize) -> Result<(), Memory>
+    ensures place { OnOk result (place < vec_len incs.new) }
+    ensures same { (k : ℕ) → slice_index incs.new.items k ≡ slice_index incs.old.items k }
+    ensures long { length incs.old.items ≤ length incs.new.items }
 {
-    let Ok(old) = known.insert(member, held) else {
-        return Err(Memory);
-    };
-    // (the clause on the length bounds the count)
-    let _length = known.len();
-    Ok(old)
+    while incs.len() <= place {
+        match incs.push(0) {
+            Ok(()) => {}
+            Err(_) => return Err(Memory),
+        }
+    }
+    Ok(())
 }
 
-// What a member of whom this is held adds to the count of those who are not confirmed.
-fn live_weight(held: Option<(Claim, u64)>) -> usize
-    ensures { result ≡ option_map_or live_weight held 0 }
+// What a claim adds to the count of those who are not confirmed.
+fn weight(claim: Option<Claim>) -> usize
+    ensures { result ≡ claim_weight claim }
 {
-    match held {
-        Some((claim, _)) => usize::from(!is_confirm(claim)),
+    match claim {
+        Some(claim) => usize::from(!is_confirm(claim)),
         None => 0,
     }
+}
+
+// Whether a claim holds a member to be up, and it is not that one.
+fn helps(claim: Claim, number: usize, member: MemberId) -> bool
+    ensures { result ≡ (is_alive claim && not (nat_eq number member)) }
+{
+    is_alive(claim) && number != member.index()
 }
 
 // Those that are held to be up, but one.
 fn list_alive_but(
     alloc: Global,
-    known: &BTreeMap<MemberId, (Claim, u64)>,
+    claims: &[Option<Claim>],
     member: MemberId,
-) -> Result<Vec<MemberId>, AllocError>
-    ensures list { IfOk result (λ members. members.items
-        ≡ map (λ e. e.0) (filter (λ e. is_alive e.1.0 && not (nat_eq e.0 member)) known.now.entries)) }
-    ensures ordered { IsOrdered nat_cmp known.now }
+) -> Result<Vec<MemberId>, Memory>
+    requires { length claims.now ≤ 2 ^ 16 }
+    ensures { IfOk result (λ members. (incs : List ℕ) → members.items
+        ≡ map (λ e. e.0) (filter (λ e. is_alive e.1.0 && not (nat_eq e.0 member)) (entries_from 0 claims.now incs))) }
 {
-    known
-        .iter()
-        .filter(|(other, held)| is_alive(held.0) && **other != member)
-        .map(|(other, _)| *other)
-        .collect(alloc)
+    let mut members = Vec::new(alloc);
+    for (number, claim) in claims.iter().enumerate() {
+        let Some(claim) = claim else { continue };
+        if helps(*claim, number, member) {
+            match members.push(MemberId(number as u16)) {
+                Ok(()) => {}
+                Err(_) => return Err(Memory),
+            }
+        }
+    }
+    Ok(members)
 }
 
 // Each entry as an update of one accuser.
 fn list_updates(
     alloc: Global,
-    known: &BTreeMap<MemberId, (Claim, u64)>,
+    claims: &[Option<Claim>],
+    incs: &[u64],
     accuser: MemberId,
-) -> Result<Vec<Update>, AllocError>
-    ensures list { IfOk result (λ updates. updates.items ≡ map (update_by accuser) known.now.entries) }
-    ensures ordered { IsOrdered nat_cmp known.now }
+) -> Result<Vec<Update>, Memory>
+    requires few { length claims.now ≤ 2 ^ 16 }
+    requires covered { length claims.now ≤ length incs.now }
+    ensures { IfOk result (λ updates. updates.items ≡ map (update_by accuser) (entries_from 0 claims.now incs.now)) }
 {
-    known
-        .iter()
-        .map(|(subject, held)| Update {
-            subject: *subject,
-            claim: held.0,
-            inc: held.1,
+    let mut updates = Vec::new(alloc);
+    for (number, claim) in claims.iter().enumerate() {
+        let Some(claim) = claim else { continue };
+        let update = Update {
+            subject: MemberId(number as u16),
+            claim: *claim,
+            inc: incs[number],
             accuser,
-        })
-        .collect(alloc)
+        };
+        match updates.push(update) {
+            Ok(()) => {}
+            Err(_) => return Err(Memory),
+        }
+    }
+    Ok(updates)
 }

@@ -1,24 +1,16 @@
-use Rattle.std.proofs.Common.{ap, ◌∙◌, arith}
-use Rattle.std.specs.Cmp.{nat_cmp_total}
-use Rattle.std.specs.FinMap.{remove, nat_cmp-IsAntisymmetric}
-use Rattle.base.proofs.Trees.{map-remove}
-use Rattle.membership.proofs.Counts.{counted-removed}
+use Rattle.std.proofs.Common.{◌<◌, ◌≤◌, length, ap, ◌∙◌, sym, arith}
+use Rattle.std.specs.FinMap.{remove}
+use Rattle.membership.specs.Columns.{entries_from}
+use Rattle.membership.specs.Table.{known_of}
+use Rattle.membership.proofs.Columns.{table_removed, table_unremoved}
 use Rattle.membership.proofs.table.Table.remove.Goals as goal
 
-pub overflow_sub-self : goal.overflow_sub-self
-overflow_sub-self c =
-    omega (arith, c.live_weight.ensures, c.self.invariant.counted, counted-removed c.self.inside.known.entries _ _ _ c.remove-old.ensures.value c.remove-old.ensures.entries)
+pub returns-then-place-len : goal.returns-then-place-len
+returns-then-place-len c =
+    let within : c.index-place.result < length c.self.inside.claims.items = omega (arith, c.if-place-len.true, c.len.ensures) in
+    table_removed c.self.inside.claims.items c.self.inside.incs.items c.index-place.result within ∙ ap (remove (known_of (entries_from 0 c.self.inside.claims.items c.self.inside.incs.items))) c.index-place.ensures ∙ ap (λ t. remove t c.args.member) c.self.view_is
 
-pub invariant_of-self : goal.invariant_of-self
-invariant_of-self c =
-    let fewer = counted-removed c.self.inside.known.entries _ _ _ c.remove-old.ensures.value c.remove-old.ensures.entries in
-    record {
-      ordered = c.remove-old.ensures.ordered;
-      counted = omega (arith, c.live_weight.ensures, c.self.invariant.counted, fewer);
-      few = omega (arith, c.self.invariant.few);
-    }
-
-pub returns : goal.returns
-returns c =
-    map-remove nat_cmp_total nat_cmp-IsAntisymmetric c.self.inside.known.entries _ _ c.remove-old.ensures.updates.0
-    ∙ ap (λ t. remove t c.args.member) c.self.view_is
+pub returns-else-place-len : goal.returns-else-place-len
+returns-else-place-len c =
+    let past : length c.self.inside.claims.items ≤ c.args.member = omega (arith, c.if-place-len.false, c.len.ensures, c.index-place.ensures) in
+    sym c.self.view_is ∙ table_unremoved c.self.inside.claims.items c.self.inside.incs.items c.args.member past ∙ ap (λ t. remove t c.args.member) c.self.view_is

@@ -1,8 +1,13 @@
-use Rattle.std.proofs.Common.{ap, ◌∙◌, sym}
-use Rattle.membership.specs.Table.{updates_by}
+use Rattle.std.proofs.Common.{map, ap, ◌∙◌, sym}
+use Rattle.membership.specs.Columns.{entries_from}
+use Rattle.membership.specs.Table.{updates_by, update_by}
+use Rattle.membership.proofs.Columns.{if_ok, entries_rise}
 use Rattle.membership.proofs.Entries.{updates_by-entries}
 use Rattle.membership.proofs.table.Table.updates_by.Goals as goal
 
-pub returns-in-Ok : goal.returns-in-Ok
-returns-in-Ok c =
-    c.in-Ok.ensures.list ∙ sym (updates_by-entries c.args.accuser c.self.inside.known.entries c.in-Ok.ensures.ordered) ∙ ap (updates_by c.args.accuser) c.self.view_is
+pub returns : goal.returns
+returns c =
+    if_ok c.list_updates.result c.list_updates.ensures (λ updates given.
+    given ∙ ap (λ l. map (update_by c.args.accuser) (entries_from 0 l c.deref-2.result.now)) c.deref.ensures.value
+    ∙ ap (λ l. map (update_by c.args.accuser) (entries_from 0 c.self.inside.claims.items l)) c.deref-2.ensures.value
+    ∙ sym (updates_by-entries c.args.accuser (entries_from 0 c.self.inside.claims.items c.self.inside.incs.items) (entries_rise c.self.inside.incs.items c.self.inside.claims.items 0)) ∙ ap (updates_by c.args.accuser) c.self.view_is)

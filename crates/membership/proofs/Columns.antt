@@ -1,0 +1,239 @@
+-- Columns of claims and numbers as a table.
+use Rattle.std.proofs.Common.{◌≡◌, ℕ, zero, suc, ◌+◌, ◌<◌, ◌≤◌, Bool, true, false, cond, not, eqb, nat_eq, ◌&&◌, List, [], ◌∷◌, ◌++◌, map, filter, length, set, get_or, take, Option, Some, None, Result, Ok, Err, IfOk, OnErr, count_by, sum_by, slice_index, ap, ◌∙◌, sym, refl, arith}
+use Rattle.std.specs.Option.{option_map}
+use Rattle.std.specs.List.{AllByRecursion}
+use Rattle.std.specs.List.Sorted.{IsStrictlySortedBy}
+use Rattle.std.specs.Map.{keys_of}
+use Rattle.std.specs.Ordering.{nat_cmp, eq_by_cmp}
+use Rattle.std.specs.Cmp.{nat_cmp_total, unsigned_tied, nat_cmp_is}
+use Rattle.std.specs.declared.cmp.Ordering.TheVariants.{Less}
+use Rattle.std.specs.FinMap.{get, insert, remove, find, get-from_entries, get-insert, get-remove, same_map, nat_cmp-IsAntisymmetric}
+use Rattle.std.proofs.lemmas.Bool.{eqb-true, eqb-false, eq-eqb, ne_eqb}
+use Rattle.std.proofs.lemmas.List.{get_or-set_same, get_or-set_other, get_or_past, append-nil, map-append, take_more, length-take-le, get_or_read}
+use Rattle.std.proofs.lemmas.List.Elements.{filter-append}
+use Rattle.std.proofs.lemmas.List.Sums.{sum_by-cons, sum_by_push}
+use Rattle.incarnation.specs.declared.Claim.{Claim}
+use Rattle.incarnation.specs.declared.Update.{Update}
+use Rattle.membership.specs.Table.{known_of, is_alive, is_confirm, live_count, update_by}
+use Rattle.membership.proofs.Entries.{live_count-entries}
+use Rattle.membership.specs.Columns.{entries_from, claim_at, held_at, claim_weight}
+
+abbrev pub Entry : Type 0
+Entry = ℕ × (Claim × ℕ)
+
+-- ---- what is looked up
+
+untied : (a b : ℕ) → ¬ (a ≡ b) → eq_by_cmp nat_cmp a b ≡ false
+untied a b other = unsigned_tied a b ∙ ne_eqb a b other
+
+tied : (a b : ℕ) → a ≡ b → eq_by_cmp nat_cmp a b ≡ true
+tied a b same = unsigned_tied a b ∙ eq-eqb a b same
+
+module _ (incs : List ℕ) where
+  none_before : (claims : List (Option Claim)) (a q : ℕ) → q < a → find nat_cmp q (entries_from a claims incs) ≡ None
+  none_before [] a q below = refl
+  none_before (None ∷ claims) a q below = none_before claims (a + 1) q (omega arith)
+  none_before (Some c ∷ claims) a q below =
+      ap (λ b. cond b (Some (c, slice_index incs a)) (find nat_cmp q (entries_from (a + 1) claims incs))) (untied q a (λ same. omega arith)) ∙ none_before claims (a + 1) q (omega arith)
+
+  -- what is found at a place
+  abbrev held_from : ℕ → Option Claim → Option (Claim × ℕ)
+  held_from n claim = option_map (λ c. (c, slice_index incs n)) claim
+
+  find_held : (claims : List (Option Claim)) (a i q : ℕ) → q ≡ a + i → find nat_cmp q (entries_from a claims incs) ≡ held_from q (claim_at claims i)
+  find_held [] a i q is = refl
+  find_held (None ∷ claims) a zero q is = none_before claims (a + 1) q (omega arith)
+  find_held (None ∷ claims) a (suc i) q is = find_held claims (a + 1) i q (omega arith)
+  find_held (Some c ∷ claims) a zero q is =
+      let same : q ≡ a = omega arith in
+      ap (λ b. cond b (Some (c, slice_index incs a)) (find nat_cmp q (entries_from (a + 1) claims incs))) (tied q a same) ∙ ap (λ n. Some (c, slice_index incs n)) (sym same)
+  find_held (Some c ∷ claims) a (suc i) q is =
+      ap (λ b. cond b (Some (c, slice_index incs a)) (find nat_cmp q (entries_from (a + 1) claims incs))) (untied q a (λ same. omega arith)) ∙ find_held claims (a + 1) i q (omega arith)
+
+  -- what is held of a member
+  pub get_held : (claims : List (Option Claim)) (q : ℕ) → get (known_of (entries_from 0 claims incs)) q ≡ held_at claims incs q
+  get_held claims q = get-from_entries nat_cmp_total (entries_from 0 claims incs) q ∙ find_held claims 0 q q (omega arith)
+
+-- ---- tables that hold the same, and changes at one place
+
+same_table : (claims' claims : List (Option Claim)) (incs' incs : List ℕ) → ((q : ℕ) → held_at claims' incs' q ≡ held_at claims incs q) → known_of (entries_from 0 claims' incs') ≡ known_of (entries_from 0 claims incs)
+same_table claims' claims incs' incs same =
+    same_map nat_cmp_total nat_cmp-IsAntisymmetric _ _ (λ q. get_held incs' claims' q ∙ same q ∙ sym (get_held incs claims q))
+
+-- columns that were made longer
+pub table_grown : (claims' claims : List (Option Claim)) (incs' incs : List ℕ) → ((k : ℕ) → claim_at claims' k ≡ claim_at claims k) → ((k : ℕ) → slice_index incs' k ≡ slice_index incs k)
+    → known_of (entries_from 0 claims' incs') ≡ known_of (entries_from 0 claims incs)
+table_grown claims' claims incs' incs same same_too =
+    same_table claims' claims incs' incs (λ q. ap (option_map (λ c. (c, slice_index incs' q))) (same q) ∙ ap (λ n. option_map (λ c. (c, n)) (claim_at claims q)) (same_too q))
+
+module _ (claims : List (Option Claim)) (incs : List ℕ) (place : ℕ) where
+  -- a claim with its number written
+  pub table_set : (c : Claim) (i : ℕ) → place < length claims → place < length incs
+      → known_of (entries_from 0 (set claims place (Some c)) (set incs place i)) ≡ insert (known_of (entries_from 0 claims incs)) place (c, i)
+  table_set c i within inside =
+      same_map nat_cmp_total nat_cmp-IsAntisymmetric _ _ (λ q.
+      get_held (set incs place i) (set claims place (Some c)) q ∙ at q (eqb q place) refl
+      ∙ sym (get-insert nat_cmp_total (known_of (entries_from 0 claims incs)) place (c, i) q ∙ ap (λ b. cond b (Some (c, i)) (get (known_of (entries_from 0 claims incs)) q)) (unsigned_tied q place)
+      ∙ ap (cond (eqb q place) (Some (c, i))) (get_held incs claims q)))
+    where
+      at : (q : ℕ) (b : Bool) → eqb q place ≡ b → held_at (set claims place (Some c)) (set incs place i) q ≡ cond b (Some (c, i)) (held_at claims incs q)
+      at q true is =
+          ap (held_at (set claims place (Some c)) (set incs place i)) (eqb-true q place is)
+          ∙ ap (option_map (λ x. (x, slice_index (set incs place i) place))) (get_or-set_same claims place (Some c) None within) ∙ ap (λ n. Some (c, n)) (get_or-set_same incs place i 0 inside)
+      at q false is =
+          ap (option_map (λ x. (x, slice_index (set incs place i) q))) (get_or-set_other claims place q (Some c) None (eqb-false q place is))
+          ∙ ap (λ n. option_map (λ x. (x, n)) (claim_at claims q)) (get_or-set_other incs place q i 0 (eqb-false q place is))
+
+  -- a claim taken away
+  pub table_removed : place < length claims → known_of (entries_from 0 (set claims place None) incs) ≡ remove (known_of (entries_from 0 claims incs)) place
+  table_removed within =
+      same_map nat_cmp_total nat_cmp-IsAntisymmetric _ _ (λ q.
+      get_held incs (set claims place None) q ∙ at q (eqb q place) refl
+      ∙ sym (get-remove nat_cmp_total (known_of (entries_from 0 claims incs)) place q ∙ ap (λ b. cond b None (get (known_of (entries_from 0 claims incs)) q)) (unsigned_tied q place)
+      ∙ ap (cond (eqb q place) None) (get_held incs claims q)))
+    where
+      at : (q : ℕ) (b : Bool) → eqb q place ≡ b → held_at (set claims place None) incs q ≡ cond b None (held_at claims incs q)
+      at q true is = ap (held_at (set claims place None) incs) (eqb-true q place is) ∙ ap (option_map (λ x. (x, slice_index incs place))) (get_or-set_same claims place None None within)
+      at q false is = ap (option_map (λ x. (x, slice_index incs q))) (get_or-set_other claims place q None None (eqb-false q place is))
+
+  -- nothing is held of a member past the end
+  pub none_past : length claims ≤ place → get (known_of (entries_from 0 claims incs)) place ≡ None
+  none_past past = get_held incs claims place ∙ ap (option_map (λ x. (x, slice_index incs place))) (get_or_past claims place None past)
+
+  pub table_unremoved : length claims ≤ place → known_of (entries_from 0 claims incs) ≡ remove (known_of (entries_from 0 claims incs)) place
+  table_unremoved past =
+      same_map nat_cmp_total nat_cmp-IsAntisymmetric _ _ (λ q.
+      at q (eqb q place) refl ∙ sym (get-remove nat_cmp_total (known_of (entries_from 0 claims incs)) place q ∙ ap (λ b. cond b None (get (known_of (entries_from 0 claims incs)) q)) (unsigned_tied q place)))
+    where
+      at : (q : ℕ) (b : Bool) → eqb q place ≡ b → get (known_of (entries_from 0 claims incs)) q ≡ cond b None (get (known_of (entries_from 0 claims incs)) q)
+      at q true is = ap (get (known_of (entries_from 0 claims incs))) (eqb-true q place is) ∙ none_past past
+      at q false is = refl
+
+-- ---- longer columns
+
+pub claim_more : (claims : List (Option Claim)) (k : ℕ) → claim_at (claims ++ None ∷ []) k ≡ claim_at claims k
+claim_more [] zero = refl
+claim_more [] (suc k) = refl
+claim_more (c ∷ claims) zero = refl
+claim_more (c ∷ claims) (suc k) = claim_more claims k
+
+pub number_more : (incs : List ℕ) (k : ℕ) → slice_index (incs ++ 0 ∷ []) k ≡ slice_index incs k
+number_more [] zero = refl
+number_more [] (suc k) = refl
+number_more (i ∷ incs) zero = refl
+number_more (i ∷ incs) (suc k) = number_more incs k
+
+pub weight_more : (claims : List (Option Claim)) → sum_by claim_weight (claims ++ None ∷ []) ≡ sum_by claim_weight claims
+weight_more claims = let more = sum_by_push claim_weight claims None in omega arith
+
+-- ---- the count
+
+weight_small : (c : Option Claim) → claim_weight c ≤ 1
+weight_small None = omega arith
+weight_small (Some c) = of_test (not (is_confirm c))
+  where
+    of_test : (b : Bool) → cond b 1 0 ≤ 1
+    of_test true = omega arith
+    of_test false = omega arith
+
+-- there are no more to count than claims
+pub weight_few : (claims : List (Option Claim)) → sum_by claim_weight claims ≤ length claims
+weight_few [] = omega arith
+weight_few (c ∷ claims) = let more = sum_by-cons claim_weight c claims in let small = weight_small c in let rest = weight_few claims in omega arith
+
+-- ---- the entries in order
+
+module _ (incs : List ℕ) where
+  above : (claims : List (Option Claim)) (k n : ℕ) → k < n → AllByRecursion (λ y. nat_cmp k y ≡ Less) (keys_of (entries_from n claims incs))
+  above [] k n low = tt
+  above (None ∷ claims) k n low = above claims k (n + 1) (omega arith)
+  above (Some c ∷ claims) k n low = (sym (nat_cmp_is k n Less low), above claims k (n + 1) (omega arith))
+
+  pub entries_rise : (claims : List (Option Claim)) (n : ℕ) → IsStrictlySortedBy nat_cmp (keys_of (entries_from n claims incs))
+  unfolding IsStrictlySortedBy
+  entries_rise [] n = tt
+  entries_rise (None ∷ claims) n = entries_rise claims (n + 1)
+  entries_rise (Some c ∷ claims) n = (above claims n (n + 1) (omega arith), entries_rise claims (n + 1))
+
+  pub counted_entries : (claims : List (Option Claim)) (n : ℕ) → count_by (λ (e : Entry). not (is_confirm e.1.0)) (entries_from n claims incs) ≡ sum_by claim_weight claims
+  counted_entries [] n = refl
+  counted_entries (None ∷ claims) n = let more = sum_by-cons claim_weight None claims in let rest = counted_entries claims (n + 1) in omega arith
+  counted_entries (Some c ∷ claims) n =
+      sum_by-cons (λ (e : Entry). cond (not (is_confirm e.1.0)) 1 0) (n, (c, slice_index incs n)) (entries_from (n + 1) claims incs) ∙ ap (λ m. claim_weight (Some c) + m) (counted_entries claims (n + 1))
+      ∙ sym (sum_by-cons claim_weight (Some c) claims)
+
+  -- ---- one claim more
+
+  -- the entry of a claim, if there is one
+  abbrev pub entry_at : ℕ → Option Claim → List (ℕ × (Claim × ℕ))
+  entry_at n None = []
+  entry_at n (Some c) = (n, (c, slice_index incs n)) ∷ []
+
+  entries_push : (claims : List (Option Claim)) (n m : ℕ) (x : Option Claim) → m ≡ n + length claims → entries_from n (claims ++ x ∷ []) incs ≡ entries_from n claims incs ++ entry_at m x
+  entries_push [] n m None is = refl
+  entries_push [] n m (Some c) is = let same : n ≡ m = omega arith in ap (λ k. (k, (c, slice_index incs k)) ∷ []) same
+  entries_push (None ∷ claims) n m x is = entries_push claims (n + 1) m x (omega arith)
+  entries_push (Some c ∷ claims) n m x is = ap (λ l. (n, (c, slice_index incs n)) ∷ l) (entries_push claims (n + 1) m x (omega arith))
+
+  pub entries_more : (claims : List (Option Claim)) (n : ℕ) (x : Option Claim) → n < length claims → get_or claims n None ≡ x → entries_from 0 (take (n + 1) claims) incs ≡ entries_from 0 (take n claims) incs ++ entry_at n x
+  entries_more claims n x within is =
+      let long : length (take n claims) ≡ n = length-take-le n claims (omega arith) in
+      ap (λ l. entries_from 0 l incs) (take_more claims n None within) ∙ entries_push (take n claims) 0 n (get_or claims n None) (omega arith) ∙ ap (λ c. entries_from 0 (take n claims) incs ++ entry_at n c) is
+
+-- a claim that was read, with its number
+pub get_read : (claims : List (Option Claim)) (incs : List ℕ) (place : ℕ) (x : Option Claim) → place < length claims → x ≡ get_or claims place x
+    → get (known_of (entries_from 0 claims incs)) place ≡ option_map (λ c. (c, slice_index incs place)) x
+get_read claims incs place x within is = get_held incs claims place ∙ ap (option_map (λ c. (c, slice_index incs place))) (sym (get_or_read claims place x within is None))
+
+-- the count
+pub live_is : (claims : List (Option Claim)) (incs : List ℕ) (live : ℕ) → live ≡ sum_by claim_weight claims + 1 → live ≡ live_count (known_of (entries_from 0 claims incs))
+live_is claims incs live counted =
+    let all = counted_entries incs claims 0 in
+    let h : live ≡ 1 + count_by (λ (e : Entry). not (is_confirm e.1.0)) (entries_from 0 claims incs) = omega arith in
+    h ∙ sym (live_count-entries (entries_from 0 claims incs) (entries_rise incs claims 0))
+
+pub little_weight : (c : Option Claim) → claim_weight c ≤ 1
+little_weight c = weight_small c
+
+-- ---- the lists so far
+
+-- the members that are held to be up, but one
+abbrev pub up_in : ℕ → List (Option Claim) → List ℕ → List ℕ
+up_in member claims incs = map (λ (e : Entry). e.0) (filter (λ (e : Entry). is_alive e.1.0 && not (nat_eq e.0 member)) (entries_from 0 claims incs))
+
+pub none_more : (incs : List ℕ) (claims : List (Option Claim)) (n : ℕ) → n < length claims → get_or claims n None ≡ None → entries_from 0 (take (n + 1) claims) incs ≡ entries_from 0 (take n claims) incs
+none_more incs claims n within is = entries_more incs claims n None within is ∙ append-nil (entries_from 0 (take n claims) incs)
+
+pub up_more : (member : ℕ) (claims : List (Option Claim)) (incs : List ℕ) (n : ℕ) (c : Claim) → n < length claims → get_or claims n None ≡ Some c → (before after : List ℕ) (b : Bool)
+    → b ≡ (is_alive c && not (nat_eq n member)) → before ≡ up_in member (take n claims) incs → after ≡ cond b (before ++ n ∷ []) before → after ≡ up_in member (take (n + 1) claims) incs
+up_more member claims incs n c within is before after b test so_far more =
+    more ∙ ap (λ l. cond b (l ++ n ∷ []) l) so_far ∙ by_test b test ∙ sym all
+  where
+    all : up_in member (take (n + 1) claims) incs ≡ up_in member (take n claims) incs ++ map (λ (e : Entry). e.0) (filter (λ (e : Entry). is_alive e.1.0 && not (nat_eq e.0 member)) ((n, (c, slice_index incs n)) ∷ []))
+    all =
+        ap (λ l. map (λ (e : Entry). e.0) (filter (λ (e : Entry). is_alive e.1.0 && not (nat_eq e.0 member)) l)) (entries_more incs claims n (Some c) within is)
+        ∙ ap (map (λ (e : Entry). e.0)) (filter-append (λ (e : Entry). is_alive e.1.0 && not (nat_eq e.0 member)) (entries_from 0 (take n claims) incs) ((n, (c, slice_index incs n)) ∷ []))
+        ∙ map-append (λ (e : Entry). e.0) (filter (λ (e : Entry). is_alive e.1.0 && not (nat_eq e.0 member)) (entries_from 0 (take n claims) incs))
+        (filter (λ (e : Entry). is_alive e.1.0 && not (nat_eq e.0 member)) ((n, (c, slice_index incs n)) ∷ []))
+
+    by_test : (b : Bool) → b ≡ (is_alive c && not (nat_eq n member)) → cond b (up_in member (take n claims) incs ++ n ∷ []) (up_in member (take n claims) incs)
+        ≡ up_in member (take n claims) incs ++ map (λ (e : Entry). e.0) (filter (λ (e : Entry). is_alive e.1.0 && not (nat_eq e.0 member)) ((n, (c, slice_index incs n)) ∷ []))
+    by_test true h = ap (λ t. up_in member (take n claims) incs ++ map (λ (e : Entry). e.0) (cond t ((n, (c, slice_index incs n)) ∷ []) [])) h
+    by_test false h = sym (append-nil (up_in member (take n claims) incs)) ∙ ap (λ t. up_in member (take n claims) incs ++ map (λ (e : Entry). e.0) (cond t ((n, (c, slice_index incs n)) ∷ []) [])) h
+
+pub updates_more : (accuser : ℕ) (claims : List (Option Claim)) (incs : List ℕ) (n : ℕ) (c : Claim) → n < length claims → get_or claims n None ≡ Some c → (before after : List Update)
+    → before ≡ map (update_by accuser) (entries_from 0 (take n claims) incs) → after ≡ before ++ update_by accuser (n, (c, slice_index incs n)) ∷ []
+    → after ≡ map (update_by accuser) (entries_from 0 (take (n + 1) claims) incs)
+updates_more accuser claims incs n c within is before after so_far more =
+    more ∙ ap (λ l. l ++ update_by accuser (n, (c, slice_index incs n)) ∷ []) so_far
+    ∙ sym (ap (map (update_by accuser)) (entries_more incs claims n (Some c) within is) ∙ map-append (update_by accuser) (entries_from 0 (take n claims) incs) ((n, (c, slice_index incs n)) ∷ []))
+
+-- ---- what is stated of a result
+
+pub if_ok : {A F : Type 0} (result : Result A F) {P Q : A → Type 0} → IfOk result P → ((x : A) → P x → Q x) → IfOk result Q
+if_ok (Ok x) given turned = turned x given
+if_ok (Err e) given turned = tt
+
+pub on_err : {A F : Type 0} (result : Result A F) (P : Type 0) → P → OnErr result P
+on_err (Ok x) P given = tt
+on_err (Err e) P given = given
