@@ -12,12 +12,15 @@ use crate::slot::Slot;
 use base::{Key, Keyed, Memory, Moment};
 use std::alloc::Global;
 
+/// How many moments have slots.
+const SPAN: u64 = 1024;
+
 /// Events of the 1,024 moments from a base on, each in the slot of its moment.
 #[derive(Drop)]
 pub(crate) struct Wheel<E: Keyed> {
     pub(crate) slots: Vec<Slot<E>>,
     marks: Marks,
-    pub(crate) base: u64,
+    base: u64,
     ghost sized: { length slots.items ≡ 1024 },
     ghost placed: { ArePlaced E.key base (lists_of slots.items) },
     ghost marked: { AreMarked marks.words (lists_of slots.items) },
@@ -27,7 +30,7 @@ pub(crate) struct Wheel<E: Keyed> {
 fn place_of(at: Moment) -> usize
     ensures { result ≡ at % 1024 }
 {
-    (at.ticks() % 1024) as usize
+    (at.ticks() % SPAN) as usize
 }
 
 /// As many slots as there are places, with no events.
@@ -63,7 +66,7 @@ impl<E: Keyed + Drop> Wheel<E> {
         ensures { IsTrue result ↔ Spans self.now.base at }
     {
         let ticks = at.ticks();
-        self.base <= ticks && ticks - self.base < 1024
+        self.base <= ticks && ticks - self.base < SPAN
     }
 
     /// Takes in an event with a new key, in the slot of its moment. Where memory is refused, the event is
@@ -134,7 +137,7 @@ impl<E: Keyed + Drop> Wheel<E> {
         ensures first { IfSome result (IsFirstPlace self.now.base (lists_of self.now.slots.items)) }
         ensures none { IfNone result ((place : ℕ) → place < 1024 → slot_at (lists_of self.now.slots.items) place ≡ []) }
     {
-        let from = (self.base % 1024) as usize;
+        let from = (self.base % SPAN) as usize;
         match self.marks.next(from) {
             Some(place) => Some(place),
             None => self.marks.next(0),

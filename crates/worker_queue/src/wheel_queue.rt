@@ -7,9 +7,8 @@ use crate::stores::Stores;
 use base::{Key, Keyed, Memory, Moment};
 use std::alloc::Global;
 
-/// A queue that keeps the events of the next 1,024 moments in slots, one for each moment, and all others
-/// in an ordered tree. The moments with slots begin at that of the event that was last popped, or of one
-/// before it that was later.
+/// A queue that keeps the events of 1,024 moments in slots, one for each moment, and all others in an
+/// ordered tree. The moments with slots begin at the latest moment of an event that was popped.
 #[derive(Drop)]
 pub struct WheelQueue<E: Keyed> {
     stores: Stores<E>,
