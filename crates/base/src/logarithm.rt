@@ -17,7 +17,7 @@ fn decimals_of(n: u32) -> Decimals
     ensures following { result.following ≡ digit_count n - 1 }
     ensures nonzero { 1 ≤ result.leading }
     ensures single { result.leading ≤ 9 }
-    ensures few { result.following ≤ 9 }
+    ensures at_most_9 { result.following ≤ 9 }
 {
     let mut leading = n;
     let mut following = 0;

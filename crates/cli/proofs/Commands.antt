@@ -5,7 +5,7 @@ use Rattle.std.specs.Result.{OnOk}
 use Rattle.std.specs.Io.KnownBytes.{Appends}
 use Rattle.clap.specs.Words.{Text}
 use Rattle.scenario.specs.Setup.{Setup}
-use Rattle.cli.specs.Outcomes.{Shelf, ScenarioFails, FileFails, RunFails, RefusesFile, Empties, EmptiesTrace, RunsAll, Done, report_word, Fails}
+use Rattle.cli.specs.Outcomes.{Shelf, ScenarioFails, FileFails, RunFails, RefusesFile, Empties, EmptiesTrace, RunsAll, HasDone, report_word, Fails}
 use Rattle.command_line.specs.Printed.{rows_line}
 use Rattle.command_line.specs.Words.{Answers, AsksForRun, AsksForCheck, IsCommand}
 use Rattle.command_line.specs.declared.words.Asked.{Asked}
@@ -99,7 +99,7 @@ asked_run_fails words before after makes answer run failure is h fails =
 -- a run that the words ask for was done, and the number of its rows printed
 pub asked_run_done : {E : Type 0} (words : List Text) (before after : Shelf) (old new : Option (List ℕ)) (answer : Asked) (run : RunWords) (count : ℕ)
     (printed : Result (Unit {0}) E) → answer ≡ asked.Run run → Answers words answer → RunsAll before after run count
-    → OnOk printed (Appends old new (rows_line count)) → OnOk printed (Done words before after old new)
+    → OnOk printed (Appends old new (rows_line count)) → OnOk printed (HasDone words before after old new)
 asked_run_done words before after old new answer run count printed is h ran told =
     let asks : Answers words (asked.Run run) = subst (Answers words) is h in
     on_ok_weaker printed (λ appended. inl (count, (run, asks.1, ran), appended)) told

@@ -4,11 +4,11 @@ use Rattle.std.specs.Io.KnownBytes.{Appends, Keeps}
 use Rattle.clap.specs.Words.{Text}
 use Rattle.trace.specs.Sinks.{AppendsBeginning}
 use Rattle.trace.proofs.Beginnings.{Appends-none}
-use Rattle.files.specs.Files.{Known, HoldsNow, ClosesAs, KeepsOthers}
+use Rattle.files.specs.Files.{KnownFile, HoldsNow, ClosesAs, KeepsOthers}
 use Rattle.cli.specs.Outcomes.{Shelf, HoldsBeginning, HoldsReport, BeginsReport, KeepsRest}
 
 -- an empty file, closed after a text was written to it, holds the text
-pub holds_text : (before made after : Known) (old new : Option (List ℕ)) (text : List ℕ) → HoldsNow before made []
+pub holds_text : (before made after : KnownFile) (old new : Option (List ℕ)) (text : List ℕ) → HoldsNow before made []
     → IfSome before (λ _. old ≡ Some []) → Appends old new text → ClosesAs made after new → HoldsNow before after text
 holds_text None made after old new text empty fresh written closed = tt
 holds_text (Some held) made after old None text empty fresh written closed =
@@ -19,7 +19,7 @@ holds_text (Some held) made after old (Some bytes) text empty fresh written clos
     now ∙ ap (λ b. Some (Some b)) same
 
 -- the same of a beginning of a text
-pub holds_beginning : (before made after : Known) (old new : Option (List ℕ)) (text : List ℕ) → HoldsNow before made []
+pub holds_beginning : (before made after : KnownFile) (old new : Option (List ℕ)) (text : List ℕ) → HoldsNow before made []
     → IfSome before (λ _. old ≡ Some []) → AppendsBeginning old new text → ClosesAs made after new → HoldsBeginning before after text
 holds_beginning before made after old new text empty fresh written closed = record {
   front = written.front;
@@ -29,7 +29,7 @@ holds_beginning before made after old new text empty fresh written closed = reco
 }
 
 -- the same of nothing
-pub holds_nothing : (before made after : Known) (old new : Option (List ℕ)) → HoldsNow before made []
+pub holds_nothing : (before made after : KnownFile) (old new : Option (List ℕ)) → HoldsNow before made []
     → IfSome before (λ _. old ≡ Some []) → Keeps old new → ClosesAs made after new → HoldsNow before after []
 holds_nothing before made after old new empty fresh kept closed =
     holds_text before made after old new [] empty fresh (Appends-none old new kept) closed

@@ -11,7 +11,7 @@ use Rattle.trace.specs.declared.row.Row.{Row}
 use Rattle.reports.specs.Text.{report_text}
 use Rattle.exchange.specs.Runs.{IsRunOf, WearsOut}
 use Rattle.clap.specs.Words.{Text}
-use Rattle.files.specs.Files.{Known, Holds, HoldsNow, IsAbsent, KeepsOthers}
+use Rattle.files.specs.Files.{KnownFile, Holds, HoldsNow, IsAbsent, KeepsOthers}
 use Rattle.command_line.specs.Words.{AsksForRun, AsksForCheck, AsksForHelp, IsNoCommand}
 use Rattle.command_line.specs.Division.{AsksForWorkers, Divides}
 use Rattle.command_line.specs.Printed.{rows_line, members_line}
@@ -23,10 +23,10 @@ use Rattle.command_line.specs.declared.failure.Failure.TheVariants.{File, Usage,
 
 -- what each name stands for, as far as it is known
 abbrev pub Shelf : Type 0
-Shelf = Text → Known
+Shelf = Text → KnownFile
 
 -- a scenario's text that the file holds has this verdict
-abbrev pub HasVerdict : Known → Result Setup ℕ → Type 0
+abbrev pub HasVerdict : KnownFile → Result Setup ℕ → Type 0
 HasVerdict known answer = (bytes : List ℕ) × Holds known bytes × (verdict bytes ≡ answer)
 
 -- the word that names a number of workers, if there is one
@@ -76,7 +76,7 @@ pub record RunsAll (before after : Shelf) (run : RunWords) (count : ℕ) : Type 
   pub done : RunsFile before after workers run count
 
 -- the file holds a scenario of so many members
-pub record HoldsScenario (known : Known) (members : ℕ) : Type 0 where
+pub record HoldsScenario (known : KnownFile) (members : ℕ) : Type 0 where
   pub scenario : Setup
   pub accepted : HasVerdict known (Ok scenario)
   pub counted : members ≡ member_count scenario
@@ -94,8 +94,8 @@ DoesHelp words before after = AsksForHelp words × (after ≡ before)
 
 -- what the words ask for was done: a run, and the number of its rows printed; a check, and the number of members
 -- printed; or help was printed
-abbrev pub Done : List Text → Shelf → Shelf → Option (List ℕ) → Option (List ℕ) → Type 0
-Done words before after old new = ((count : ℕ) × DoesRun words before after count × Appends old new (rows_line count))
+abbrev pub HasDone : List Text → Shelf → Shelf → Option (List ℕ) → Option (List ℕ) → Type 0
+HasDone words before after old new = ((count : ℕ) × DoesRun words before after count × Appends old new (rows_line count))
     ⊎ (((members : ℕ) × DoesCheck words before after members × Appends old new (members_line members))
     ⊎ DoesHelp words before after)
 
@@ -107,7 +107,7 @@ DoneUnprinted words before after = ((count : ℕ) × DoesRun words before after 
 -- ---- what was not done
 
 -- the file holds a beginning of the text now
-pub record HoldsBeginning (old new : Known) (text : List ℕ) : Type 0 where
+pub record HoldsBeginning (old new : KnownFile) (text : List ℕ) : Type 0 where
   pub front : List ℕ
   pub rest : List ℕ
   pub whole : front ++ rest ≡ text
@@ -164,7 +164,7 @@ ScenarioFails s before after makes workers run failure = RefusesSplit s before a
     ⊎ RefusesStore s before after makes workers run failure
 
 -- no scenario was read from the file of this name: it can't be read, its text breaks a rule, or memory was refused
-abbrev pub LoadFails : Known → Text → Failure → Type 0
+abbrev pub LoadFails : KnownFile → Text → Failure → Type 0
 LoadFails known file (File name) = (name.now ≡ file) × IsAbsent known
 LoadFails known file (Rule rule) = HasVerdict known (Err rule)
 LoadFails known file Memory = Unit {0}

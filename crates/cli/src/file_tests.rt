@@ -3,7 +3,7 @@
 
 use crate::tests::{REPORTED, RUN, expect_refusal, files_with, holds, left_by, older_files};
 use exchange::testing::TWO_MEMBERS;
-use files::testing::Fails;
+use files::testing::Failing;
 use std::test::Fail;
 
 /// Words, a name of which no file can be made, and what is told and left as the trace. A trace is made before
@@ -33,7 +33,7 @@ const UNMADE: [(&str, &str, &str, &str); 3] = [
 fn files_that_cannot_be_made_are_told(rt: HostRuntime) -> Result<(), Fail> {
     for (line, locked, told, trace) in UNMADE {
         let files = older_files(&rt, TWO_MEMBERS.scenario)?.refusing_to_make(locked);
-        let left = left_by(&rt, line, files, Fails::Never)?;
+        let left = left_by(&rt, line, files, Failing::Never)?;
         expect_refusal(&rt, &left, 1, told);
         assert!(rt; holds(&left, "t.csv", trace));
         assert!(rt; holds(&left, "r.txt", "an older report"));
@@ -46,8 +46,8 @@ fn files_that_cannot_be_made_are_told(rt: HostRuntime) -> Result<(), Fail> {
 fn each_byte_of_the_report_may_have_no_room(rt: HostRuntime) -> Result<(), Fail> {
     assert!(rt; TWO_MEMBERS.trace.len() < TWO_MEMBERS.report.len());
     for bytes in TWO_MEMBERS.trace.len()..TWO_MEMBERS.report.len() {
-        let files = files_with(&rt, TWO_MEMBERS.scenario)?.failing(Fails::After(bytes));
-        let left = left_by(&rt, REPORTED, files, Fails::Never)?;
+        let files = files_with(&rt, TWO_MEMBERS.scenario)?.failing(Failing::After(bytes));
+        let left = left_by(&rt, REPORTED, files, Failing::Never)?;
         expect_refusal(&rt, &left, 5, "swimsim: run F3\n");
         assert!(rt; holds(&left, "t.csv", TWO_MEMBERS.trace));
         let report = left.files.bytes("r.txt").ok_or("no report")?;
@@ -61,12 +61,12 @@ fn each_byte_of_the_report_may_have_no_room(rt: HostRuntime) -> Result<(), Fail>
 #[test]
 fn no_report_follows_half_a_trace(rt: HostRuntime) -> Result<(), Fail> {
     for (fails, trace) in [
-        (Fails::AtWrite(1), ""),
-        (Fails::After(40), "moment,member,from,number,what,about,val"),
-        (Fails::AtFlush, TWO_MEMBERS.trace),
+        (Failing::AtWrite(1), ""),
+        (Failing::After(40), "moment,member,from,number,what,about,val"),
+        (Failing::AtFlush, TWO_MEMBERS.trace),
     ] {
         let files = older_files(&rt, TWO_MEMBERS.scenario)?.failing(fails);
-        let left = left_by(&rt, REPORTED, files, Fails::Never)?;
+        let left = left_by(&rt, REPORTED, files, Failing::Never)?;
         expect_refusal(&rt, &left, 5, "swimsim: run F3\n");
         assert!(rt; holds(&left, "t.csv", trace));
         assert!(rt; holds(&left, "r.txt", ""));
@@ -78,8 +78,8 @@ fn no_report_follows_half_a_trace(rt: HostRuntime) -> Result<(), Fail> {
 fn each_write_of_the_trace_may_fail(rt: HostRuntime) -> Result<(), Fail> {
     let mut failed = 0u64;
     for number in 1..=64 {
-        let files = files_with(&rt, TWO_MEMBERS.scenario)?.failing(Fails::AtWrite(number));
-        let left = left_by(&rt, RUN, files, Fails::Never)?;
+        let files = files_with(&rt, TWO_MEMBERS.scenario)?.failing(Failing::AtWrite(number));
+        let left = left_by(&rt, RUN, files, Failing::Never)?;
         if left.status == 0 {
             assert!(rt; holds(&left, "t.csv", TWO_MEMBERS.trace));
             break;

@@ -2,7 +2,7 @@
 ghost use Rattle.std.specs.Prelude.{◌≡◌, ◌≢◌, ◌⊎◌, ◌≤◌, map, Ok, Some, None, IfOk, IfErr, OnOk, IsErrOf, length};
 ghost use Rattle.scenario.specs.Setup.{member_count};
 ghost use Rattle.command_line.specs.Words.{IsCommand, IsNoCommand};
-ghost use Rattle.cli.specs.Outcomes.{Done, Fails, Ends, RunsAll, RunFails, RunsFile, FileFails, RunsScenario, ScenarioFails, StoresRun, StoreFails, report_word, HasVerdict, LoadFails};
+ghost use Rattle.cli.specs.Outcomes.{HasDone, Fails, Ends, RunsAll, RunFails, RunsFile, FileFails, RunsScenario, ScenarioFails, StoresRun, StoreFails, report_word, HasVerdict, LoadFails};
 
 use crate::simulation::{check, simulate};
 use command_line::{
@@ -35,7 +35,7 @@ pub fn command<S: AsStr, F: Files, O: Write, E: Write>(
     // Status 0: what the words ask for was done. A run has left its trace in the file of that name, and its
     // report where one is asked for, and told standard output the number of its rows; a check, the number
     // of members.
-    ensures done { result ≡ 0 → Done (map S.text words.now) (F.known files.old) (F.known files.new)
+    ensures done { result ≡ 0 → HasDone (map S.text words.now) (F.known files.old) (F.known files.new)
         (O.contents out.old) (O.contents out.new) }
 
     // Any other status has its cause, which the files and the words bear out.
@@ -65,7 +65,7 @@ fn perform<'a, S: AsStr, F: Files, O: Write>(
     files: &mut F,
     out: &mut O,
 ) -> Result<(), Failure<'a>>
-    ensures done { OnOk result (Done (map S.text words.entry.now) (F.known files.old) (F.known files.new)
+    ensures done { OnOk result (HasDone (map S.text words.entry.now) (F.known files.old) (F.known files.new)
         (O.contents out.old) (O.contents out.new)) }
     ensures failed { IfErr result
         (Fails (map S.text words.entry.now) (F.known files.old) (F.known files.new) (F.makes files.old)) }

@@ -1,7 +1,7 @@
 use crate::{Failure, command, refuse};
 use base::Fault;
 use exchange::testing::TWO_MEMBERS;
-use files::testing::{Fails, MemoryFiles, MemoryWriter};
+use files::testing::{Failing, MemoryFiles, MemoryWriter};
 use scenario::DivisionFault;
 use std::process::Abort;
 use std::test::Fail;
@@ -43,12 +43,12 @@ pub(crate) fn left_by(
     rt: &(impl Threads + Sync + AllocGlobal),
     line: &str,
     files: MemoryFiles,
-    fails: Fails,
+    fails: Failing,
 ) -> Result<Left, Fail> {
     let words: Vec<&str> = line.split_whitespace().collect(rt.alloc())?;
     let mut files = files;
     let mut out = MemoryWriter::new(rt.alloc(), fails);
-    let mut err = MemoryWriter::new(rt.alloc(), Fails::Never);
+    let mut err = MemoryWriter::new(rt.alloc(), Failing::Never);
     let status = command(
         rt,
         rt.alloc(),
@@ -220,7 +220,7 @@ fn expect_outcome(rt: &impl Abort, left: &Left, line: &str, (status, out, err): 
 fn each_outcome_has_its_status_and_line(rt: HostRuntime) -> Result<(), Fail> {
     for (status, out, err, lines) in OUTCOMES {
         for line in lines {
-            let left = left_by(&rt, line, three_files(&rt)?, Fails::Never)?;
+            let left = left_by(&rt, line, three_files(&rt)?, Failing::Never)?;
             expect_outcome(&rt, &left, line, (status, out, err));
         }
     }
@@ -281,7 +281,7 @@ const FIRST: [(&str, u8, &str); 10] = [
 fn the_first_check_that_fails_is_told(rt: HostRuntime) -> Result<(), Fail> {
     for (line, status, err) in FIRST {
         let locked = three_files(&rt)?.refusing_to_make("t.csv");
-        let left = left_by(&rt, line, locked, Fails::Never)?;
+        let left = left_by(&rt, line, locked, Failing::Never)?;
         expect_refusal(&rt, &left, status, err);
     }
     Ok(())
@@ -303,7 +303,7 @@ const HELP: [(&str, &str); 5] = [
 fn help_is_printed(rt: HostRuntime) -> Result<(), Fail> {
     for (line, usage) in HELP {
         let files = files_with(&rt, TWO_MEMBERS.scenario)?;
-        let left = left_by(&rt, line, files, Fails::Never)?;
+        let left = left_by(&rt, line, files, Failing::Never)?;
         assert_eq!(rt; left.status, 0);
         assert_eq!(rt; left.err.bytes().len(), 0);
         let text = str::from_utf8(left.out.bytes()).ok().ok_or("no text")?;
@@ -340,7 +340,7 @@ const BROKEN: [(&str, &str, &str); 8] = [
 fn scenarios_are_refused_by_their_rule(rt: HostRuntime) -> Result<(), Fail> {
     for (old, new, line) in BROKEN {
         let text = TWO_MEMBERS.scenario.replace(rt.alloc(), old, new)?;
-        let left = left_by(&rt, RUN, files_with(&rt, text.as_str())?, Fails::Never)?;
+        let left = left_by(&rt, RUN, files_with(&rt, text.as_str())?, Failing::Never)?;
         expect_refusal(&rt, &left, 3, line);
         assert_eq!(rt; left.files.bytes("t.csv"), None);
     }
@@ -350,7 +350,7 @@ fn scenarios_are_refused_by_their_rule(rt: HostRuntime) -> Result<(), Fail> {
 #[test]
 fn standard_output_that_fails_ends_with_no_line(rt: HostRuntime) -> Result<(), Fail> {
     for line in [RUN, "--help", "check two.toml"] {
-        for fails in [Fails::AtWrite(1), Fails::After(3), Fails::AtFlush] {
+        for fails in [Failing::AtWrite(1), Failing::After(3), Failing::AtFlush] {
             let left = left_by(&rt, line, files_with(&rt, TWO_MEMBERS.scenario)?, fails)?;
             assert_eq!(rt; left.status, 1);
             assert_eq!(rt; left.err.bytes().len(), 0);
@@ -364,7 +364,7 @@ fn standard_output_that_fails_ends_with_no_line(rt: HostRuntime) -> Result<(), F
 #[test]
 fn want_of_memory_is_no_success(rt: HostRuntime) -> Result<(), Fail> {
     let files = files_with(&rt, TWO_MEMBERS.scenario)?;
-    let left = left_by(&rt, RUN, files, Fails::Never)?;
+    let left = left_by(&rt, RUN, files, Failing::Never)?;
     match left.status {
         0 => {
             assert_eq!(rt; left.out.bytes(), b"rows 6\n".as_slice());
@@ -408,10 +408,10 @@ fn each_failure_has_its_line_and_status(rt: HostRuntime) {
         (Failure::Memory, "swimsim: memory\n", 5),
         (Failure::Output, "", 1),
     ] {
-        let mut err = MemoryWriter::new(rt.alloc(), Fails::Never);
+        let mut err = MemoryWriter::new(rt.alloc(), Failing::Never);
         assert_eq!(rt; refuse(&failure, &mut err), status);
         assert_eq!(rt; err.bytes(), line.as_bytes());
-        let mut closed = MemoryWriter::new(rt.alloc(), Fails::AtWrite(1));
+        let mut closed = MemoryWriter::new(rt.alloc(), Failing::AtWrite(1));
         assert_eq!(rt; refuse(&failure, &mut closed), status);
     }
 }

@@ -2,14 +2,14 @@
 
 use crate::tests::{Left, REPORTED, holds, left_by, older_files};
 use exchange::testing::{CRASH_DETECTED, JOIN, LOST_PATH, THREE_HELPERS, WORKED, Worked};
-use files::testing::Fails;
+use files::testing::Failing;
 use std::process::Abort;
 use std::test::Fail;
 use std::thread::Threads;
 
 /// What the command leaves that runs this text, where an older trace and an older report stand.
 fn run_of(rt: &(impl Threads + Sync + AllocGlobal), text: &str) -> Result<Left, Fail> {
-    left_by(rt, REPORTED, older_files(rt, text)?, Fails::Never)
+    left_by(rt, REPORTED, older_files(rt, text)?, Failing::Never)
 }
 
 /// Asserts that the command succeeded, printed so many rows, and left this report.
@@ -65,7 +65,7 @@ const DIVIDED: [Divided; 5] = [
 fn each_division_leaves_the_trace_and_report_of_the_run(rt: HostRuntime) -> Result<(), Fail> {
     for divided in DIVIDED {
         let files = older_files(&rt, divided.run.scenario)?;
-        let left = left_by(&rt, divided.words, files, Fails::Never)?;
+        let left = left_by(&rt, divided.words, files, Failing::Never)?;
         assert_done(&rt, &left, divided.run.rows, divided.run.report);
         assert!(rt; holds(&left, "t.csv", divided.run.trace));
     }

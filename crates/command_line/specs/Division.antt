@@ -34,8 +34,8 @@ abbrev pub in_turn : ℕ → ℕ → Deal
 in_turn members parts = record { parts = parts; part_of = map (λ m. m % parts) (range_with_len 0 members) }
 
 -- what stands between the commas of a list
-abbrev pub items_of : Text → List Text
-items_of list = slice_split (λ byte. byte == 44) list
+abbrev pub list_items : Text → List Text
+list_items list = slice_split (λ byte. byte == 44) list
 
 -- the items are the numbers of parts, which are at most 63
 pub record AreParts (items : List Text) (numbers : List ℕ) : Type 0 where
@@ -62,10 +62,10 @@ ListFails members items fault.Parts = ⊥
 abbrev pub Divides : ℕ → ℕ → Split → Deal → Type 0
 Divides members workers split.Workers deal = deal ≡ in_turn members workers
 Divides members workers (split.Parts word) deal = (parts : ℕ) × IsCount word.now parts × (deal ≡ in_turn members parts)
-Divides members workers (split.List list) deal = DividesByList members (items_of list.now) deal
+Divides members workers (split.List list) deal = DividesByList members (list_items list.now) deal
 
 -- why there is no division as the words say
 abbrev pub DivisionFails : ℕ → Split → DivisionFault → Type 0
 DivisionFails members split.Workers cause = ⊥
 DivisionFails members (split.Parts word) cause = (cause ≡ fault.Parts) × ((parts : ℕ) → ¬ (IsCount word.now parts))
-DivisionFails members (split.List list) cause = ListFails members (items_of list.now) cause
+DivisionFails members (split.List list) cause = ListFails members (list_items list.now) cause

@@ -49,9 +49,9 @@ message_of Memory = codes "memory"
 message_of Output = codes "output"
 
 -- the line on standard error, with its line feed; there is none where standard output failed
-abbrev pub line_of : Failure → List ℕ
-line_of Output = []
-line_of failure = codes "swimsim: " ++ message_of failure ++ 10 ∷ []
+abbrev pub failure_line : Failure → List ℕ
+failure_line Output = []
+failure_line failure = codes "swimsim: " ++ message_of failure ++ 10 ∷ []
 
 -- what a scenario's text may be refused by: a rule, which is its verdict, or want of memory
 abbrev pub RefusesText : List ℕ → Failure → Type 0

@@ -3,7 +3,7 @@ ghost use Rattle.std.specs.Prelude.{◌≡◌, ◌≢◌, ℕ, ◌+◌, ◌<◌,
 ghost use Rattle.std.specs.List.{range_with_len};
 ghost use Rattle.scenario.specs.Setup.{member_count};
 ghost use Rattle.scenario.specs.Division.{divided};
-ghost use Rattle.command_line.specs.Division.{AreParts, AsksForWorkers, Divides, DividesByList, IsCount, IsNumber, has_prefix, in_turn, items_of, past_greatest};
+ghost use Rattle.command_line.specs.Division.{AreParts, AsksForWorkers, Divides, DividesByList, IsCount, IsNumber, has_prefix, in_turn, list_items, past_greatest};
 ghost use Rattle.command_line.specs.Failures.{IsFaultOf, RefusesDivision, RefusesItems, RefusesList, RefusesWorkers};
 
 use crate::failure::Failure;
@@ -33,7 +33,7 @@ pub fn workers_asked(word: Option<&str>) -> Result<Workers, Failure<'static>>
 /// So many workers.
 fn some_workers(count: usize) -> Result<Workers, Failure<'static>>
     requires some { 1 ≤ count }
-    requires few { count ≤ 64 }
+    requires at_most_64 { count ≤ 64 }
     ensures { result ≡ Ok count }
 {
     match Workers::new(count) {
@@ -81,7 +81,7 @@ fn count_asked(word: &str) -> Option<usize>
 /// Deals the members to so many parts in turn.
 fn deal(alloc: Global, scenario: &Scenario, parts: usize) -> Result<Division, Failure<'static>>
     requires some { 1 ≤ parts }
-    requires few { parts ≤ 64 }
+    requires at_most_64 { parts ≤ 64 }
     ensures divided { IfOk result (λ division. division ≡ in_turn (member_count scenario.now) parts) }
     ensures refused { IfErr result (λ failure. failure ≡ Failure.Memory) }
 {
@@ -95,7 +95,7 @@ fn deal(alloc: Global, scenario: &Scenario, parts: usize) -> Result<Division, Fa
 /// The part of each of so many members, where they are dealt to so many parts in turn.
 fn parts_in_turn(alloc: Global, members: usize, parts: usize) -> Result<Vec<u8>, AllocError>
     requires some { 1 ≤ parts }
-    requires few { parts ≤ 64 }
+    requires at_most_64 { parts ≤ 64 }
     ensures { IfOk result (λ part_of. part_of.items ≡ map (λ m. m % parts) (range_with_len 0 members)) }
 {
     (0..members)
@@ -109,8 +109,8 @@ fn deal_by_list(
     scenario: &Scenario,
     list: &str,
 ) -> Result<Division, Failure<'static>>
-    ensures divided { IfOk result (DividesByList (member_count scenario.now) (items_of list.now)) }
-    ensures refused { IfErr result (RefusesList (member_count scenario.now) (items_of list.now)) }
+    ensures divided { IfOk result (DividesByList (member_count scenario.now) (list_items list.now)) }
+    ensures refused { IfErr result (RefusesList (member_count scenario.now) (list_items list.now)) }
 {
     if item_count(list) != scenario.members() {
         return Err(Failure::Division(DivisionFault::Length));
@@ -135,15 +135,15 @@ fn past_greatest(numbers: &[u8]) -> usize
 
 /// How many items a list has.
 fn item_count(list: &str) -> usize
-    ensures { result ≡ length (items_of list.now) }
+    ensures { result ≡ length (list_items list.now) }
 {
     list.split(',').count()
 }
 
 /// The numbers that the items of a list name, each 0 to 63.
 fn part_numbers(alloc: Global, list: &str) -> Result<Vec<u8>, Failure<'static>>
-    ensures numbers { IfOk result (λ numbers. AreParts (items_of list.now) numbers.items) }
-    ensures refused { IfErr result (RefusesItems (items_of list.now)) }
+    ensures numbers { IfOk result (λ numbers. AreParts (list_items list.now) numbers.items) }
+    ensures refused { IfErr result (RefusesItems (list_items list.now)) }
 {
     let mut numbers = Vec::new(alloc);
     for item in list.split(',') {

@@ -1,7 +1,7 @@
 //! Why a command ends without doing what it was asked for, and what the user then sees.
 ghost use Rattle.std.specs.Prelude.{◌≡◌, ◌≤◌, Some, OnOk};
 ghost use Rattle.std.specs.Io.KnownBytes.{Appends};
-ghost use Rattle.command_line.specs.Failures.{status_of, message_of, line_of, fault_number, division_number};
+ghost use Rattle.command_line.specs.Failures.{status_of, message_of, failure_line, fault_number, division_number};
 
 use base::Fault;
 use scenario::DivisionFault;
@@ -93,7 +93,7 @@ impl fmt::Display for Failure<'_> {
 
 /// Writes the line that tells users of a failure. There is none for standard output that failed.
 fn tell<E: Write>(failure: &Failure<'_>, err: &mut E) -> io::Result<()>
-    ensures { OnOk result (Appends (E.contents err.old) (E.contents err.new) (line_of failure.now)) }
+    ensures { OnOk result (Appends (E.contents err.old) (E.contents err.new) (failure_line failure.now)) }
 {
     match failure {
         Failure::Output => Ok(()),

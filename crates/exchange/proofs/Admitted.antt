@@ -20,7 +20,7 @@ use Rattle.member.specs.State.{State}
 use Rattle.member_laws.specs.Runs.{Cluster}
 use Rattle.windows.specs.declared.part.Part.{Part}
 use Rattle.windows.specs.Parts.{part_of, is_in, for_own}
-use Rattle.windows.specs.View.{world_of}
+use Rattle.windows.specs.WorldOf.{world_of}
 use Rattle.windows.proofs.Cuts.{get_retained, retain_insert, retain_insert_other}
 use Rattle.windows.specs.Admitting.{AreFromBelow, with_member, opened_below}
 use Rattle.windows.proofs.Admitting.{scripts_from_below, one_more_opened}

@@ -10,7 +10,7 @@ use Rattle.base.proofs.Rising.{all_append}
 use Rattle.links.specs.Least.{lesser_of}
 use Rattle.member.specs.declared.event.Event.{Event}
 use Rattle.windows.specs.declared.part.Part.{Part}
-use Rattle.windows.specs.View.{world_of}
+use Rattle.windows.specs.WorldOf.{world_of}
 use Rattle.worker_queue.specs.Queue.{IsLeastKey, NoneIsBelow}
 use Rattle.exchange.specs.Parts.{IsUpTo, NonePendsBefore, IsLeastMoment}
 

@@ -14,11 +14,11 @@ use Rattle.base.specs.Run.{holds-with_events}
 use Rattle.base.specs.Rising.{AreNew}
 use Rattle.member.specs.declared.content.Content.{Content}
 use Rattle.member.specs.declared.event.Event.{Event}
-use Rattle.member.specs.View.{pair_of}
+use Rattle.member.specs.StateOf.{pair_of}
 use Rattle.member_laws.specs.Runs.{Cluster}
 use Rattle.windows.specs.declared.part.Part.{Part}
-use Rattle.windows.specs.Parts.{is_in, for_own, joined}
-use Rattle.windows.specs.View.{world_of}
+use Rattle.windows.specs.Parts.{is_in, for_own, with_arrivals}
+use Rattle.windows.specs.WorldOf.{world_of}
 use Rattle.windows.proofs.Admitting.{absent}
 use Rattle.windows.proofs.Deliveries.{all_at, all_before}
 use Rattle.windows.proofs.Cuts.{joined_joined}
@@ -72,33 +72,33 @@ module _ {Q : Type 0} (set : Q → FinMap key_cmp Event) (division : ℕ → ℕ
     worlds = λ i.
         let own = for_own (is_in division i) in
         second.worlds i
-        ∙ sym (twice (world_of set) (λ w. joined w (own fs)) (slice_get b i))
-        ∙ ap (option_map (λ w. joined w (own fs))) (first.worlds i)
-        ∙ twice (λ p. joined (world_of set p) (own es)) (λ w. joined w (own fs)) (slice_get a i)
-        ∙ same_map _ (λ p. joined (world_of set p) (own (es ++ fs))) (slice_get a i)
-        (λ p. joined_joined (world_of set p) (own es) (own fs) ∙ ap (joined (world_of set p)) (sym (filter-append (λ e. is_in division i e.0.to) es fs)));
+        ∙ sym (twice (world_of set) (λ w. with_arrivals w (own fs)) (slice_get b i))
+        ∙ ap (option_map (λ w. with_arrivals w (own fs))) (first.worlds i)
+        ∙ twice (λ p. with_arrivals (world_of set p) (own es)) (λ w. with_arrivals w (own fs)) (slice_get a i)
+        ∙ same_map _ (λ p. with_arrivals (world_of set p) (own (es ++ fs))) (slice_get a i)
+        (λ p. joined_joined (world_of set p) (own es) (own fs) ∙ ap (with_arrivals (world_of set p)) (sym (filter-append (λ e. is_in division i e.0.to) es fs)));
   }
 
   -- one event comes to its part
   module _ (parts : List (Part Q)) (place : ℕ) (part after : Part Q) (event : Event) (own : division event.key.to ≡ place) (here : slice_get parts place ≡ Some part)
-      (took : world_of set after ≡ joined (world_of set part) (pair_of event ∷ [])) (within : place < length parts) where
-    world_after : (b : Bool) → is_in division place event.key.to ≡ b → world_of set after ≡ joined (world_of set part) (cond b (pair_of event ∷ []) [])
+      (took : world_of set after ≡ with_arrivals (world_of set part) (pair_of event ∷ [])) (within : place < length parts) where
+    world_after : (b : Bool) → is_in division place event.key.to ≡ b → world_of set after ≡ with_arrivals (world_of set part) (cond b (pair_of event ∷ []) [])
     world_after true mine = took
     world_after false other = absurd (false≢true (sym other ∙ eq-eqb (division event.key.to) place own))
 
     at : (i : ℕ) (b : Bool) → eqb i place ≡ b
-        → option_map (world_of set) (slice_get (slice_set parts place after) i) ≡ option_map (λ p. joined (world_of set p) (for_own (is_in division i) (pair_of event ∷ []))) (slice_get parts i)
+        → option_map (world_of set) (slice_get (slice_set parts place after) i) ≡ option_map (λ p. with_arrivals (world_of set p) (for_own (is_in division i) (pair_of event ∷ []))) (slice_get parts i)
     at i true e =
         let same : i ≡ place = eqb-true i place e in
-        subst (λ j. option_map (world_of set) (slice_get (slice_set parts place after) j) ≡ option_map (λ p. joined (world_of set p) (for_own (is_in division j) (pair_of event ∷ []))) (slice_get parts j)) (sym same)
+        subst (λ j. option_map (world_of set) (slice_get (slice_set parts place after) j) ≡ option_map (λ p. with_arrivals (world_of set p) (for_own (is_in division j) (pair_of event ∷ []))) (slice_get parts j)) (sym same)
         (ap (option_map (world_of set)) (at_place parts place after within)
         ∙ ap Some (world_after (is_in division place event.key.to) refl)
-        ∙ ap (option_map (λ p. joined (world_of set p) (for_own (is_in division place) (pair_of event ∷ [])))) (sym here))
+        ∙ ap (option_map (λ p. with_arrivals (world_of set p) (for_own (is_in division place) (pair_of event ∷ [])))) (sym here))
     at i false e =
         let apart : is_in division i event.key.to ≡ false = ap (λ n. nat_eq n i) own ∙ other_place i (eqb place i) refl (eqb-false i place e) in
         ap (option_map (world_of set)) (elsewhere parts place i after (eqb-false i place e))
-        ∙ same_map _ (λ p. joined (world_of set p) (for_own (is_in division i) (pair_of event ∷ []))) (slice_get parts i)
-        (λ p. ap (λ b. joined (world_of set p) (cond b (pair_of event ∷ []) [])) (sym apart))
+        ∙ same_map _ (λ p. with_arrivals (world_of set p) (for_own (is_in division i) (pair_of event ∷ []))) (slice_get parts i)
+        (λ p. ap (λ b. with_arrivals (world_of set p) (cond b (pair_of event ∷ []) [])) (sym apart))
       where
         other_place : (i : ℕ) (b : Bool) → eqb place i ≡ b → ¬ (i ≡ place) → nat_eq place i ≡ false
         other_place i true e other = absurd (other (sym (eqb-true place i e)))
@@ -122,7 +122,7 @@ module _ {Q : Type 0} (set : Q → FinMap key_cmp Event) (division : ℕ → ℕ
       → HaveCome set division before now (map pair_of yielded)
       → (i : ℕ) (part : Part Q) → slice_get now i ≡ Some part → AreNew (world_of set part).pending (for_own (is_in division i) (pair_of event ∷ []))
   new_in_turn before now yielded rest all event items new so_far i part here =
-      let was = behind (λ p. joined (world_of set p) (for_own (is_in division i) (map pair_of yielded))) (slice_get before i) (world_of set part)
+      let was = behind (λ p. with_arrivals (world_of set p) (for_own (is_in division i) (map pair_of yielded))) (slice_get before i) (world_of set part)
       (sym (so_far.worlds i) ∙ ap (option_map (world_of set)) here) in
       let own = for_own (is_in division i) in
       let parts : map pair_of all ≡ map pair_of yielded ++ pair_of event ∷ map pair_of rest = ap (map pair_of) (sym items) ∙ map-append pair_of yielded (event ∷ rest) in
@@ -146,6 +146,6 @@ module _ {Q : Type 0} (set : Q → FinMap key_cmp Event) (division : ℕ → ℕ
   pub members_stay : (before now : List (Part Q)) (es : List (Key × Content)) → HaveCome set division before now es → (i : ℕ) (part : Part Q) → slice_get now i ≡ Some part
       → (old : Part Q) × (slice_get before i ≡ Some old) × ((world_of set part).members ≡ (world_of set old).members)
   members_stay before now es come i part here =
-      let was = behind (λ p. joined (world_of set p) (for_own (is_in division i) es)) (slice_get before i) (world_of set part)
+      let was = behind (λ p. with_arrivals (world_of set p) (for_own (is_in division i) es)) (slice_get before i) (world_of set part)
       (sym (come.worlds i) ∙ ap (option_map (world_of set)) here) in
       (was.0, was.1, ap (λ (w : Cluster). w.members) (sym was.2))

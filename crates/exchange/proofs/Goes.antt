@@ -31,7 +31,7 @@ use Rattle.member.specs.Worn.{IsWorn}
 use Rattle.windows.specs.Parts.{PartRun, part_of, is_in}
 use Rattle.windows.specs.Schedule.{MeetsState}
 use Rattle.windows.specs.Cluster.{IsLeastDelay, IsWholeCluster}
-use Rattle.windows.specs.View.{world_of}
+use Rattle.windows.specs.WorldOf.{world_of}
 use Rattle.windows.proofs.Cuts.{get_retained}
 use Rattle.member_laws.specs.Runs.{IsRunOf, WearsOut}
 use Rattle.windows.specs.Several.{OneWears}

@@ -15,18 +15,18 @@ use Rattle.scenario.specs.Setup.{Setup, IsSound}
 use Rattle.trace.specs.declared.row.Row.{Row}
 use Rattle.member.specs.declared.event.Event.{Event}
 use Rattle.member.specs.Places.{place_of}
-use Rattle.member.specs.View.{pair_of}
+use Rattle.member.specs.StateOf.{pair_of}
 use Rattle.windows.specs.declared.part.Part.{Part}
 use Rattle.windows.specs.declared.part.Done.{Done}
-use Rattle.windows.specs.View.{world_of}
+use Rattle.windows.specs.WorldOf.{world_of}
 use Rattle.windows.specs.Window.{is_own}
 use Rattle.windows.proofs.RowOrders.{part_rows_rise, sorted_by_places}
-use Rattle.windows.specs.Several.{HadWindows}
+use Rattle.windows.specs.Several.{RanWindows}
 use Rattle.exchange.specs.Parts.{RowsRise, IsInRowOrder}
 
 module _ {Q : Type 0} (set : Q → FinMap key_cmp Event) (s : Setup) (sound : IsSound s) (bound : ℕ) where
   -- so does each window
-  pub windows_rise : (ps : List (Part Q)) (ds : List (Done Q)) → HadWindows set s bound ps ds → RowsRise ds
+  pub windows_rise : (ps : List (Part Q)) (ds : List (Done Q)) → RanWindows set s bound ps ds → RowsRise ds
   windows_rise [] [] had = tt
   windows_rise [] (d ∷ ds) had = absurd had
   windows_rise (p ∷ ps) [] had = absurd had

@@ -21,18 +21,18 @@ use Rattle.member.specs.declared.content.Content.{Content}
 use Rattle.member.specs.declared.event.Event.{Event}
 use Rattle.member.specs.State.{State}
 use Rattle.member.specs.Step.{step}
-use Rattle.member.specs.View.{pair_of}
+use Rattle.member.specs.StateOf.{pair_of}
 use Rattle.member_laws.specs.Runs.{Cluster, IsSoundCluster}
 use Rattle.windows.specs.declared.part.Part.{Part}
 use Rattle.windows.specs.declared.part.Done.{Done}
-use Rattle.windows.specs.Parts.{Window, IsWindowOf, part_of, is_in, for_own, joined, all_keys, all_rows, all_out, HasWindow, AreWindows, StandsAfter}
+use Rattle.windows.specs.Parts.{Window, IsWindowOf, part_of, is_in, for_own, with_arrivals, all_keys, all_rows, all_out, HasWindow, AreWindows, StandsAfter}
 use Rattle.windows.specs.Cluster.{SafeSchedule, IsWhole, IsWholeCluster}
 use Rattle.windows.specs.Schedule.{MeetsState}
 use Rattle.windows.proofs.Wholes.{pending_kept}
 use Rattle.windows.proofs.Members.{sent_new, windows_here, sound_after, none_left_here, windows_rows, met_here}
-use Rattle.windows.specs.View.{world_of}
+use Rattle.windows.specs.WorldOf.{world_of}
 use Rattle.windows.specs.Window.{is_own}
-use Rattle.windows.specs.Several.{HadWindows}
+use Rattle.windows.specs.Several.{RanWindows}
 use Rattle.windows.proofs.PartRuns.{own_run}
 use Rattle.exchange.specs.Parts.{part_number, HaveTheirMembers, StandFor, MayTurn, HaveCome, IsInRowOrder}
 use Rattle.exchange.proofs.Coming.{behind}
@@ -72,7 +72,7 @@ of_events P [] all = tt
 of_events P (e ∷ es) all = (all.0, of_events P es all.1)
 
 module _ {Q : Type 0} (set : Q → FinMap key_cmp Event) (s : Setup) (sound : IsSound s) (deal : Deal) (bound : ℕ) (ps : List (Part Q)) (ds : List (Done Q)) (divides : length deal.part_of ≡ member_count s)
-    (ready : MayTurn set s deal bound ps) (had : HadWindows set s bound ps ds) where
+    (ready : MayTurn set s deal bound ps) (had : RanWindows set s bound ps ds) where
   abbrev windows : List (Window State Content Row)
   windows = windows_from set s bound 0 ps ds had
 
@@ -128,7 +128,7 @@ module _ {Q : Type 0} (set : Q → FinMap key_cmp Event) (s : Setup) (sound : Is
   pub sound_led : IsSoundCluster s led.0
   sound_led = sound_after s ready.least_delay ready.world led.0 (all_keys windows) (all_rows windows) sound ready.least ready.whole.sound led.1
 
-  no_window : (a i : ℕ) (ps : List (Part Q)) (ds : List (Done Q)) (had : HadWindows set s bound ps ds) → HasWindow (windows_from set s bound a ps ds had) i → i < a + length ps
+  no_window : (a i : ℕ) (ps : List (Part Q)) (ds : List (Done Q)) (had : RanWindows set s bound ps ds) → HasWindow (windows_from set s bound a ps ds had) i → i < a + length ps
   no_window a i [] [] had has = absurd has
   no_window a i [] (d ∷ ds) had has = absurd had
   no_window a i (p ∷ ps) [] had has = absurd had
@@ -178,13 +178,13 @@ module _ {Q : Type 0} (set : Q → FinMap key_cmp Event) (s : Setup) (sound : Is
     count = come.count ∙ count_after;
     worlds = λ i low.
         let done = there ds i (omega (arith, low, many)) in
-        let world = fact_by_number set s bound deal divides ready.world ready.whole (λ n x. part_of (is_in (part_number deal) n) led.0 ≡ joined x (for_own (is_in (part_number deal) n) (all_out windows)))
+        let world = fact_by_number set s bound deal divides ready.world ready.whole (λ n x. part_of (is_in (part_number deal) n) led.0 ≡ with_arrivals x (for_own (is_in (part_number deal) n) (all_out windows)))
         0 ps ds had led.2.parts i done.0 done.1 in
         let same : 0 + i ≡ i = omega arith in
         come.worlds i
-        ∙ ap (option_map (λ (p : Part Q). joined (world_of set p) (for_own (is_in (part_number deal) i) outs))) (slice_get-map (λ (d : Done Q). d.part) ds i ∙ ap (option_map (λ (d : Done Q). d.part)) done.1)
-        ∙ ap (λ l. Some (joined (world_of set done.0.part) (for_own (is_in (part_number deal) i) l))) (sym (out_same set s bound 0 ps ds had))
-        ∙ ap Some (sym (subst (λ n. part_of (is_in (part_number deal) n) led.0 ≡ joined (world_of set done.0.part) (for_own (is_in (part_number deal) n) (all_out windows))) same world));
+        ∙ ap (option_map (λ (p : Part Q). with_arrivals (world_of set p) (for_own (is_in (part_number deal) i) outs))) (slice_get-map (λ (d : Done Q). d.part) ds i ∙ ap (option_map (λ (d : Done Q). d.part)) done.1)
+        ∙ ap (λ l. Some (with_arrivals (world_of set done.0.part) (for_own (is_in (part_number deal) i) l))) (sym (out_same set s bound 0 ps ds had))
+        ∙ ap Some (sym (subst (λ n. part_of (is_in (part_number deal) n) led.0 ≡ with_arrivals (world_of set done.0.part) (for_own (is_in (part_number deal) n) (all_out windows))) same world));
   }
     where
       many : length ds ≡ deal.parts

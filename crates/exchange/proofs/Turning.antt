@@ -16,16 +16,16 @@ use Rattle.member.specs.declared.content.Content.{Content}
 use Rattle.member.specs.declared.event.Event.{Event}
 use Rattle.member.specs.State.{State}
 use Rattle.member.specs.Step.{step}
-use Rattle.member.specs.View.{pair_of}
+use Rattle.member.specs.StateOf.{pair_of}
 use Rattle.member_laws.specs.Runs.{Cluster}
 use Rattle.windows.specs.declared.part.Part.{Part}
 use Rattle.windows.specs.declared.part.Done.{Done}
 use Rattle.windows.specs.Parts.{PartWindow, Window, IsWindowOf, HasWindow, AreWindows, part_of, is_in, all_rows, all_out}
-use Rattle.windows.specs.View.{world_of}
-use Rattle.windows.specs.Window.{is_own, IsConsistentPart, IsWindow}
+use Rattle.windows.specs.WorldOf.{world_of}
+use Rattle.windows.specs.Window.{is_own, IsConsistentPart, RunsWindow}
 use Rattle.windows.specs.Cluster.{IsWholeCluster}
 use Rattle.windows.proofs.Wholes.{part_consistent, own_here, window_by_number}
-use Rattle.windows.specs.Several.{HadWindows}
+use Rattle.windows.specs.Several.{RanWindows}
 use Rattle.exchange.specs.Parts.{part_number, StandFor}
 
 pub all_places : {A : Type 0} (P : A → Type 0) (xs : List A) → ((i : ℕ) (x : A) → slice_get xs i ≡ Some x → P x) → AllByRecursion P xs
@@ -66,54 +66,54 @@ own_by_part s deal w i divides whole low =
 -- ---- windows of all parts
 
 module _ {Q : Type 0} (set : Q → FinMap key_cmp Event) (s : Setup) (bound : ℕ) where
-  pub one_window_more : (parts : List (Part Q)) (done : List (Done Q)) (part : Part Q) (last : Done Q) → HadWindows set s bound parts done
-      → IsWindow s bound (world_of set part) last.out.items last.rows.items (world_of set last.part) → HadWindows set s bound (parts ++ part ∷ []) (done ++ last ∷ [])
+  pub one_window_more : (parts : List (Part Q)) (done : List (Done Q)) (part : Part Q) (last : Done Q) → RanWindows set s bound parts done
+      → RunsWindow s bound (world_of set part) last.out.items last.rows.items (world_of set last.part) → RanWindows set s bound (parts ++ part ∷ []) (done ++ last ∷ [])
   one_window_more [] [] part last had one = (one, tt)
   one_window_more [] (d ∷ done) part last had one = absurd had
   one_window_more (p ∷ parts) [] part last had one = absurd had
   one_window_more (p ∷ parts) (d ∷ done) part last had one = (had.0, one_window_more parts done part last had.1 one)
 
-  pub same_count : (ps : List (Part Q)) (ds : List (Done Q)) → HadWindows set s bound ps ds → length ds ≡ length ps
+  pub same_count : (ps : List (Part Q)) (ds : List (Done Q)) → RanWindows set s bound ps ds → length ds ≡ length ps
   same_count [] [] had = refl
   same_count [] (d ∷ ds) had = absurd had
   same_count (p ∷ ps) [] had = absurd had
   same_count (p ∷ ps) (d ∷ ds) had = ap suc (same_count ps ds had.1)
 
   -- the windows of the parts, numbered from a on
-  abbrev pub windows_from : (a : ℕ) (ps : List (Part Q)) (ds : List (Done Q)) → HadWindows set s bound ps ds → List (Window State Content Row)
+  abbrev pub windows_from : (a : ℕ) (ps : List (Part Q)) (ds : List (Done Q)) → RanWindows set s bound ps ds → List (Window State Content Row)
   windows_from a [] [] had = []
   windows_from a [] (d ∷ ds) had = absurd had
   windows_from a (p ∷ ps) [] had = absurd had
   windows_from a (p ∷ ps) (d ∷ ds) had =
       record { part = a; keys = had.0.0; out = map pair_of d.out.items; rows = d.rows.items; after = world_of set d.part } ∷ windows_from (a + 1) ps ds had.1
 
-  pub rows_same : (a : ℕ) (ps : List (Part Q)) (ds : List (Done Q)) (had : HadWindows set s bound ps ds) → all_rows (windows_from a ps ds had) ≡ flat_map (λ d. d.rows.items) ds
+  pub rows_same : (a : ℕ) (ps : List (Part Q)) (ds : List (Done Q)) (had : RanWindows set s bound ps ds) → all_rows (windows_from a ps ds had) ≡ flat_map (λ d. d.rows.items) ds
   rows_same a [] [] had = refl
   rows_same a [] (d ∷ ds) had = absurd had
   rows_same a (p ∷ ps) [] had = absurd had
   rows_same a (p ∷ ps) (d ∷ ds) had = ap (λ l. d.rows.items ++ l) (rows_same (a + 1) ps ds had.1)
 
-  pub out_same : (a : ℕ) (ps : List (Part Q)) (ds : List (Done Q)) (had : HadWindows set s bound ps ds) → all_out (windows_from a ps ds had) ≡ map pair_of (flat_map (λ d. d.out.items) ds)
+  pub out_same : (a : ℕ) (ps : List (Part Q)) (ds : List (Done Q)) (had : RanWindows set s bound ps ds) → all_out (windows_from a ps ds had) ≡ map pair_of (flat_map (λ d. d.out.items) ds)
   out_same a [] [] had = refl
   out_same a [] (d ∷ ds) had = absurd had
   out_same a (p ∷ ps) [] had = absurd had
   out_same a (p ∷ ps) (d ∷ ds) had =
       ap (λ l. map pair_of d.out.items ++ l) (out_same (a + 1) ps ds had.1) ∙ sym (map-append pair_of d.out.items (flat_map (λ d. d.out.items) ds))
 
-  numbers_past : (a b : ℕ) (ps : List (Part Q)) (ds : List (Done Q)) (had : HadWindows set s bound ps ds) → a < b → AllByRecursion (λ (e : Window State Content Row). a ≢ e.part) (windows_from b ps ds had)
+  numbers_past : (a b : ℕ) (ps : List (Part Q)) (ds : List (Done Q)) (had : RanWindows set s bound ps ds) → a < b → AllByRecursion (λ (e : Window State Content Row). a ≢ e.part) (windows_from b ps ds had)
   numbers_past a b [] [] had past = tt
   numbers_past a b [] (d ∷ ds) had past = absurd had
   numbers_past a b (p ∷ ps) [] had past = absurd had
   numbers_past a b (p ∷ ps) (d ∷ ds) had past = (λ same. omega arith, numbers_past a (b + 1) ps ds had.1 (omega arith))
 
-  all_different : (a : ℕ) (ps : List (Part Q)) (ds : List (Done Q)) (had : HadWindows set s bound ps ds)
+  all_different : (a : ℕ) (ps : List (Part Q)) (ds : List (Done Q)) (had : RanWindows set s bound ps ds)
       → IsRising (λ (d e : Window State Content Row). d.part ≢ e.part) (windows_from a ps ds had)
   all_different a [] [] had = tt
   all_different a [] (d ∷ ds) had = absurd had
   all_different a (p ∷ ps) [] had = absurd had
   all_different a (p ∷ ps) (d ∷ ds) had = (numbers_past a (a + 1) ps ds had.1 (omega arith), all_different (a + 1) ps ds had.1)
 
-  pub has_window : (a i : ℕ) (ps : List (Part Q)) (ds : List (Done Q)) (had : HadWindows set s bound ps ds) → a ≤ i → i < a + length ps → HasWindow (windows_from a ps ds had) i
+  pub has_window : (a i : ℕ) (ps : List (Part Q)) (ds : List (Done Q)) (had : RanWindows set s bound ps ds) → a ≤ i → i < a + length ps → HasWindow (windows_from a ps ds had) i
   has_window a i [] [] had from below = absurd (omega arith)
   has_window a i [] (d ∷ ds) had from below = absurd had
   has_window a i (p ∷ ps) [] had from below = absurd had
@@ -147,7 +147,7 @@ module _ {Q : Type 0} (set : Q → FinMap key_cmp Event) (s : Setup) (bound : �
         window_by_number s (part_number deal) a bound w after keys out rows whole (λ m mine. let below = low_by_part deal m a (omega arith) mine in omega (arith, below, divides))
         (subst (λ x. PartWindow (step s) (is_own x) bound x keys out rows after) here is)
 
-    all_windows : (a : ℕ) (ps : List (Part Q)) (ds : List (Done Q)) (had : HadWindows set s bound ps ds) → Follow a ps
+    all_windows : (a : ℕ) (ps : List (Part Q)) (ds : List (Done Q)) (had : RanWindows set s bound ps ds) → Follow a ps
         → AllByRecursion (IsWindowOf (step s) (part_number deal) (λ part. bound) w) (windows_from a ps ds had)
     all_windows a [] [] had follow = tt
     all_windows a [] (d ∷ ds) had follow = absurd had
@@ -158,12 +158,12 @@ module _ {Q : Type 0} (set : Q → FinMap key_cmp Event) (s : Setup) (bound : �
     pub follow_all : (ps : List (Part Q)) → StandFor set deal ps w → Follow 0 ps
     follow_all ps stand i p here = (let within = slice_get_within ps i p here in omega (arith, stand.count, within), world_at set deal ps w stand i p here ∙ ap (λ n. part_of (owns n) w) (let same : i ≡ 0 + i = omega arith in same))
 
-    pub are_windows : (ps : List (Part Q)) (ds : List (Done Q)) (had : HadWindows set s bound ps ds) → StandFor set deal ps w
+    pub are_windows : (ps : List (Part Q)) (ds : List (Done Q)) (had : RanWindows set s bound ps ds) → StandFor set deal ps w
         → AreWindows (step s) (part_number deal) (λ part. bound) w (windows_from 0 ps ds had)
     are_windows ps ds had stand = record { windows = all_windows 0 ps ds had (follow_all ps stand); different = all_different 0 ps ds had }
 
     -- what is known of each window by its part's number is known of each part
-    pub fact_by_number : (P : ℕ → Cluster → Type 0) (a : ℕ) (ps : List (Part Q)) (ds : List (Done Q)) (had : HadWindows set s bound ps ds)
+    pub fact_by_number : (P : ℕ → Cluster → Type 0) (a : ℕ) (ps : List (Part Q)) (ds : List (Done Q)) (had : RanWindows set s bound ps ds)
         → AllByRecursion (λ (d : Window State Content Row). P d.part d.after) (windows_from a ps ds had)
         → (i : ℕ) (d : Done Q) → slice_get ds i ≡ Some d → P (a + i) (world_of set d.part)
     fact_by_number P a [] [] had all i d here = absurd (false≢true (ap is_some here))

@@ -15,14 +15,14 @@ use Rattle.member.specs.declared.event.Event.{Event}
 use Rattle.member.specs.State.{State}
 use Rattle.member.specs.Step.{step}
 use Rattle.member.specs.Opening.{opening}
-use Rattle.member.specs.View.{pair_of}
+use Rattle.member.specs.StateOf.{pair_of}
 use Rattle.member.specs.Worn.{IsWorn}
 use Rattle.member_laws.specs.Words.{IsAmongMembers}
 use Rattle.member_laws.specs.Runs.{Cluster, IsSoundCluster, IsRunOf, WearsOut}
 use Rattle.member_laws.proofs.Opened.{member_there}
 use Rattle.member_laws.proofs.Reached.{step_among, rows_named}
 use Rattle.windows.specs.Parts.{PartStep, PartRun, PartWindow, kept_by, for_own}
-use Rattle.windows.specs.Window.{is_own, IsWindow}
+use Rattle.windows.specs.Window.{is_own, RunsWindow}
 use Rattle.windows.specs.Wears.{WearsInWindow}
 use Rattle.windows.proofs.Members.{sound_stays, sound_opening}
 use Rattle.exchange.proofs.Lasting.{wears_nothing}
@@ -84,9 +84,9 @@ module _ (s : Setup) (sound : IsSound s) where
     at_end : min bound (s.end + 1) ≡ s.end + 1
     at_end = omega arith
 
-    module _ (out : List Event) (rows : List Row) (after : Cluster) (is : IsWindow s (min bound (s.end + 1)) p out rows after) where
-      abbrev window : IsWindow s (s.end + 1) (opening s) out rows after
-      window = subst (λ w. IsWindow s (s.end + 1) w out rows after) opened (subst (λ b. IsWindow s b p out rows after) at_end is)
+    module _ (out : List Event) (rows : List Row) (after : Cluster) (is : RunsWindow s (min bound (s.end + 1)) p out rows after) where
+      abbrev window : RunsWindow s (s.end + 1) (opening s) out rows after
+      window = subst (λ w. RunsWindow s (s.end + 1) w out rows after) opened (subst (λ b. RunsWindow s b p out rows after) at_end is)
 
       run : Run (step s) s.end (opening s) window.0 rows after
       run = whole_run window.0 (opening s) after (map pair_of out) rows window.1.run (sound_opening s sound)

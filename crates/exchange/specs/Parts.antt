@@ -15,15 +15,15 @@ use Rattle.worker_queue.specs.Queue.{NoneIsBelow}
 use Rattle.member.specs.declared.content.Content.{Content}
 use Rattle.member.specs.declared.event.Event.{Event}
 use Rattle.member.specs.Places.{place_of}
-use Rattle.member.specs.View.{pair_of}
+use Rattle.member.specs.StateOf.{pair_of}
 use Rattle.member_laws.specs.Runs.{Cluster}
 use Rattle.windows.specs.declared.part.Part.{Part}
 use Rattle.windows.specs.declared.part.Done.{Done}
-use Rattle.windows.specs.Parts.{IsCommonBound, part_of, is_in, for_own, joined}
+use Rattle.windows.specs.Parts.{IsCommonBound, part_of, is_in, for_own, with_arrivals}
 use Rattle.windows.specs.Cluster.{IsLeastDelay, IsRowOrder, IsWholeCluster}
-use Rattle.windows.specs.View.{world_of}
+use Rattle.windows.specs.WorldOf.{world_of}
 use Rattle.windows.specs.Window.{is_own}
-use Rattle.windows.specs.Several.{HadWindows}
+use Rattle.windows.specs.Several.{RanWindows}
 
 -- the part of a member, and for whoever is none a number that no part has
 abbrev pub part_number : Deal → ℕ → ℕ
@@ -76,12 +76,12 @@ module _ {Q : Type 0} (set : Q → FinMap key_cmp Event) where
   -- these events have come to the parts of their receivers
   pub record HaveCome (division : ℕ → ℕ) (before after : List (Part Q)) (events : List (Key × Content)) : Type 0 where
     pub count : length after ≡ length before
-    pub worlds : (i : ℕ) → option_map (world_of set) (slice_get after i) ≡ option_map (λ p. joined (world_of set p) (for_own (is_in division i) events)) (slice_get before i)
+    pub worlds : (i : ℕ) → option_map (world_of set) (slice_get after i) ≡ option_map (λ p. with_arrivals (world_of set p) (for_own (is_in division i) events)) (slice_get before i)
 
   -- All parts have had their windows, the events that went out have come to their parts, and these are the rows of all,
   -- in row order.
   pub record HaveTurned (s : Setup) (deal : Deal) (bound : ℕ) (before after : List (Part Q)) (made : List Row) : Type 0 where
     pub done : List (Done Q)
-    pub windows : HadWindows set s bound before done
+    pub windows : RanWindows set s bound before done
     pub come : HaveCome (part_number deal) (map (λ d. d.part) done) after (map pair_of (flat_map (λ d. d.out.items) done))
     pub rows : IsInRowOrder (flat_map (λ d. d.rows.items) done) made

@@ -34,8 +34,8 @@ pub fn run_in_turn<A: Sink, B: Sink>(
     report: &mut B,
 ) -> Result<Summary, Fault>
     requires divides { length division.now.part_of ≡ member_count scenario.now }
-    requires few { A.failed trace.old < 2 ^ 63 }
-    requires few_of_report { B.failed report.old < 2 ^ 63 }
+    requires countable { A.failed trace.old < 2 ^ 63 }
+    requires countable_report { B.failed report.old < 2 ^ 63 }
 
     // The sinks get exactly the trace of the scenario's run, and the report on it.
     ensures written { IfOk result (λ summary. WritesRun scenario.now (A.held trace.old) (A.held trace.new)
@@ -59,12 +59,12 @@ pub fn run_in_turn<A: Sink, B: Sink>(
     ensures others_report { IfErr result (λ fault. fault ≢ Fault.Write → B.failed report.new ≡ B.failed report.old) }
     ensures relay { IfErr result (λ fault. fault ≢ Fault.Relay) }
 {
-    let outcome = simulate_in_turn(rt, alloc, scenario, division);
+    let outcome = rows_in_turn(rt, alloc, scenario, division);
     write_run(alloc, outcome, scenario, trace, report)
 }
 
 /// All rows of the scenario's run, in the order made.
-fn simulate_in_turn(
+fn rows_in_turn(
     rt: &(impl Threads + Sync),
     alloc: Global,
     scenario: &Scenario,
@@ -74,7 +74,7 @@ fn simulate_in_turn(
     ensures run { IfOk result (λ rows. IsRunOf scenario.now rows.items) }
     ensures named { IfOk result (λ rows. All (NamesMembers scenario.now) rows.items) }
     ensures worn { IsErrOf result Fault.Worn → WearsOut scenario.now }
-    ensures few { IfErr result (λ fault. (fault ≢ Fault.Write) × (fault ≢ Fault.Relay)) }
+    ensures causes { IfErr result (λ fault. (fault ≢ Fault.Write) × (fault ≢ Fault.Relay)) }
     ensures lasts { OnOk result (¬ (WearsOut scenario.now)) }
     ensures sound { IsSound scenario.now }
 {

@@ -2,8 +2,8 @@ ghost use Rattle.std.specs.Prelude.{◌≡◌, ◌+◌, ◌<◌, length, IfOk, O
 ghost use Rattle.std.specs.List.{AllByRecursion};
 ghost use Rattle.scenario.specs.Setup.{member_count};
 ghost use Rattle.member.specs.Opening.{opening};
-ghost use Rattle.worker_queue.specs.View.{set_of};
-ghost use Rattle.windows.specs.View.{world_of};
+ghost use Rattle.worker_queue.specs.SetOf.{set_of};
+ghost use Rattle.windows.specs.WorldOf.{world_of};
 ghost use Rattle.windows.specs.Admitting.{opened_below};
 ghost use Rattle.exchange.specs.Parts.{nobody, part_number, StandFor};
 

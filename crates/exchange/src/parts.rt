@@ -2,10 +2,10 @@ ghost use Rattle.std.specs.Prelude.{◌≡◌, ◌<◌, [], ◌∷◌, map, leng
 ghost use Rattle.std.specs.List.{slice_get};
 ghost use Rattle.base.specs.Rising.{AreNew};
 ghost use Rattle.member.specs.declared.event.Event.{Event as AnEvent};
-ghost use Rattle.member.specs.View.{pair_of};
+ghost use Rattle.member.specs.StateOf.{pair_of};
 ghost use Rattle.windows.specs.declared.part.Part.{Part as APart};
 ghost use Rattle.windows.specs.Parts.{for_own, is_in};
-ghost use Rattle.windows.specs.View.{world_of};
+ghost use Rattle.windows.specs.WorldOf.{world_of};
 ghost use Rattle.std.specs.Option.{option_map};
 ghost use Rattle.links.specs.Least.{lesser_of};
 ghost use Rattle.exchange.specs.Parts.{part_number, IsLeastMoment, HaveTheirMembers, HaveCome};

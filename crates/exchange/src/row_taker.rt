@@ -23,7 +23,7 @@ pub(crate) trait RowTaker {
         requires named { All (NamesMembers (setup self.old)) rows.items }
         ensures ok { OnOk result (taken self.new ≡ taken self.old ++ rows.items) }
         ensures beginning { OnErr result (IsBeginning (taken self.new) (taken self.old ++ rows.items)) }
-        ensures few { IfErr result (λ fault. (fault ≢ Fault.Worn) × (fault ≢ Fault.Write)) }
+        ensures causes { IfErr result (λ fault. (fault ≢ Fault.Worn) × (fault ≢ Fault.Write)) }
         ensures relay { IsErrOf result Fault.Relay → relays self.old ≡ true }
         ensures same { setup self.new ≡ setup self.old }
         ensures as_before { relays self.new ≡ relays self.old };

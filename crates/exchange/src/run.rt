@@ -35,8 +35,8 @@ pub fn run_one<A: Sink, B: Sink>(
     trace: &mut A,
     report: &mut B,
 ) -> Result<Summary, Fault>
-    requires few { A.failed trace.old < 2 ^ 63 }
-    requires few_of_report { B.failed report.old < 2 ^ 63 }
+    requires countable { A.failed trace.old < 2 ^ 63 }
+    requires countable_report { B.failed report.old < 2 ^ 63 }
 
     // The sinks get exactly the trace of the scenario's run, and the report on it.
     ensures written { IfOk result (λ summary. WritesRun scenario.now (A.held trace.old) (A.held trace.new)
@@ -60,7 +60,7 @@ pub fn run_one<A: Sink, B: Sink>(
     ensures others_report { IfErr result (λ fault. fault ≢ Fault.Write → B.failed report.new ≡ B.failed report.old) }
     ensures relay { IfErr result (λ fault. fault ≢ Fault.Relay) }
 {
-    let outcome = simulate(alloc, scenario);
+    let outcome = rows_of_whole(alloc, scenario);
     write_run(alloc, outcome, scenario, trace, report)
 }
 
@@ -78,8 +78,8 @@ pub(crate) fn write_run<A: Sink, B: Sink>(
     requires no_writes { IfErr outcome (λ fault. (fault ≢ Fault.Write) × (fault ≢ Fault.Relay)) }
     requires lasts { OnOk outcome (¬ (WearsOut scenario.now)) }
     requires sound { IsSound scenario.now }
-    requires few { A.failed trace.old < 2 ^ 63 }
-    requires few_of_report { B.failed report.old < 2 ^ 63 }
+    requires countable { A.failed trace.old < 2 ^ 63 }
+    requires countable_report { B.failed report.old < 2 ^ 63 }
 
     // The sinks get exactly the trace of the scenario's run, and the report on it.
     ensures written { IfOk result (λ summary. WritesRun scenario.now (A.held trace.old) (A.held trace.new)
@@ -138,7 +138,7 @@ fn write_trace<A: Sink>(
     trace: &mut A,
 ) -> Result<(), WriteError>
     requires named { All (NamesMembers scenario.now) rows.now }
-    requires few { A.failed trace.old < 2 ^ 63 }
+    requires countable { A.failed trace.old < 2 ^ 63 }
     ensures whole { OnOk result (Appends (A.held trace.old) (A.held trace.new) (trace_text scenario.now rows.now)) }
     ensures part { OnErr result (AppendsBeginning (A.held trace.old) (A.held trace.new) (trace_text scenario.now rows.now)) }
     ensures failures { A.failed trace.new ≡ A.failed trace.old + failures_of_write result }
@@ -162,7 +162,7 @@ fn write_report<B: Sink>(
     report: &mut B,
 ) -> Result<(), WriteError>
     requires named { All (NamesMembers scenario.now) rows.now }
-    requires few { B.failed report.old < 2 ^ 63 }
+    requires countable { B.failed report.old < 2 ^ 63 }
     ensures whole { OnOk result (Appends (B.held report.old) (B.held report.new) (report_text scenario.now rows.now)) }
     ensures part { OnErr result (AppendsBeginning (B.held report.old) (B.held report.new) (report_text scenario.now rows.now)) }
     ensures failures { B.failed report.new ≡ B.failed report.old + failures_of_write result }
@@ -180,7 +180,7 @@ fn write_report<B: Sink>(
 
 /// Has a sink hand on what it took.
 fn flush<S: Sink>(sink: &mut S) -> Result<(), WriteError>
-    requires few { S.failed sink.old < 2 ^ 63 }
+    requires countable { S.failed sink.old < 2 ^ 63 }
     ensures same { Keeps (S.held sink.old) (S.held sink.new) }
     ensures failures { S.failed sink.new ≡ S.failed sink.old + failures_of_write result }
 {
@@ -192,11 +192,11 @@ fn flush<S: Sink>(sink: &mut S) -> Result<(), WriteError>
 
 /// All rows of the scenario's run, in the order made: those of the window of one part, which owns every
 /// member, up to the end.
-pub(crate) fn simulate(alloc: Global, scenario: &Scenario) -> Result<Vec<Row>, Fault>
+pub(crate) fn rows_of_whole(alloc: Global, scenario: &Scenario) -> Result<Vec<Row>, Fault>
     ensures run { IfOk result (λ rows. IsRunOf scenario.now rows.items) }
     ensures named { IfOk result (λ rows. All (NamesMembers scenario.now) rows.items) }
     ensures worn { IsErrOf result Fault.Worn → WearsOut scenario.now }
-    ensures few { IfErr result (λ fault. (fault ≢ Fault.Write) × (fault ≢ Fault.Relay)) }
+    ensures causes { IfErr result (λ fault. (fault ≢ Fault.Write) × (fault ≢ Fault.Relay)) }
     ensures lasts { OnOk result (¬ (WearsOut scenario.now)) }
     ensures sound { IsSound scenario.now }
 {

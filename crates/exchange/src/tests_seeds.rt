@@ -1,6 +1,6 @@
 //! What holds of a run under every seed.
 
-use crate::run::{Summary, run_one, simulate};
+use crate::run::{Summary, run_one, rows_of_whole};
 use crate::testing::{LOST_PATH, SLOW_MEMBER, THREE_HELPERS};
 use base::{MemberId, Moment};
 use scenario::{Scenario, read};
@@ -57,7 +57,7 @@ fn seeded(rt: &impl Abort, alloc: Global, seed: u64, text: &str, more: &str) -> 
 /// The rows of its run.
 fn rows_of(rt: &impl Abort, alloc: Global, seed: u64, text: &str, more: &str) -> Vec<Row> {
     let scenario = seeded(rt, alloc, seed, text, more);
-    match simulate(alloc, &scenario) {
+    match rows_of_whole(alloc, &scenario) {
         Ok(rows) => rows,
         Err(_) => panic!(rt; "the run was refused"),
     }

@@ -5,7 +5,7 @@ ghost use Rattle.trace.specs.Text.{NamesMembers};
 ghost use Rattle.windows.specs.declared.part.Part.{Part as APart};
 ghost use Rattle.windows.specs.declared.part.Done.{Done as ADone};
 ghost use Rattle.windows.specs.Cluster.{IsLeastDelay};
-ghost use Rattle.windows.specs.Several.{HadWindows, OneWears};
+ghost use Rattle.windows.specs.Several.{RanWindows, OneWears};
 ghost use Rattle.member_laws.specs.Runs.{IsRunOf, WearsOut};
 ghost use Rattle.exchange.specs.Parts.{part_number, NonePendsBefore, StandFor, MayTurn, HaveTurned};
 ghost use Rattle.exchange.specs.Bounds.{IsNextBound};

@@ -3,9 +3,9 @@ ghost use Rattle.std.specs.List.{AllByRecursion};
 ghost use Rattle.scenario.specs.Setup.{Setup, IsSound};
 ghost use Rattle.links.specs.Arrival.{AreLinksOf};
 ghost use Rattle.windows.specs.declared.part.Part.{Part as APart};
-ghost use Rattle.windows.specs.View.{world_of};
+ghost use Rattle.windows.specs.WorldOf.{world_of};
 ghost use Rattle.windows.specs.Window.{IsConsistentPart};
-ghost use Rattle.windows.specs.Several.{HadWindows, OneWears};
+ghost use Rattle.windows.specs.Several.{RanWindows, OneWears};
 
 use crate::setting::Setting;
 use base::{Fault, Moment};
@@ -33,7 +33,7 @@ pub(crate) trait WindowRunner<Q: EventQueue<Event>> {
         requires ready { ready self.old }
         requires in_time { bound ≤ (setup self.old).end + 1 }
         requires consistent { AllByRecursion (λ (part : APart Q). IsConsistentPart (setup self.old) (world_of Q.set part)) parts.items }
-        ensures ok { IfOk result (λ done. HadWindows Q.set (setup self.old) bound parts.items done.items) }
+        ensures ok { IfOk result (λ done. RanWindows Q.set (setup self.old) bound parts.items done.items) }
         ensures worn { IsErrOf result Fault.Worn → OneWears Q.set (setup self.old) bound parts.items }
         ensures write { IfErr result (λ fault. fault ≢ Fault.Write) }
         ensures relay { IsErrOf result Fault.Relay → relays self.old ≡ true }
@@ -64,7 +64,7 @@ impl<'a, Q: EventQueue<Event> + Drop> WindowRunner<Q> for InTurn<'a> {
         requires ready { IsSound self.old.setting.scenario.now × AreLinksOf self.old.setting.links self.old.setting.scenario.now }
         requires in_time { bound ≤ self.old.setting.scenario.now.end + 1 }
         requires consistent { AllByRecursion (λ (part : APart Q). IsConsistentPart self.old.setting.scenario.now (world_of Q.set part)) parts.items }
-        ensures ok { IfOk result (λ done. HadWindows Q.set self.old.setting.scenario.now bound parts.items done.items) }
+        ensures ok { IfOk result (λ done. RanWindows Q.set self.old.setting.scenario.now bound parts.items done.items) }
         ensures worn { IsErrOf result Fault.Worn → OneWears Q.set self.old.setting.scenario.now bound parts.items }
         ensures write { IfErr result (λ fault. fault ≢ Fault.Write) }
         ensures relay { IsErrOf result Fault.Relay → false ≡ true }

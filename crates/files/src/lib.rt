@@ -3,7 +3,7 @@
 #![tactic(auto)]
 
 ghost use Rattle.std.specs.Prelude.{◌≡◌, ℕ, List, [], Bool, Option, Some, false, IfOk, IfSome, IsErrOf, OnOk, OnErr};
-ghost use Rattle.files.specs.Files.{Known, Holds, HoldsNow, IsAbsent, ClosesAs, KeepsOthers};
+ghost use Rattle.files.specs.Files.{KnownFile, Holds, HoldsNow, IsAbsent, ClosesAs, KeepsOthers};
 
 pub mod system;
 pub mod testing;
@@ -26,7 +26,7 @@ pub trait Files {
     type Made: Write + Drop;
 
     // what is known of each name
-    ghost known: { Self → List ℕ → Known };
+    ghost known: { Self → List ℕ → KnownFile };
 
     // whether a file of the name can be made, where that is known; else it is false
     ghost makes: { Self → List ℕ → Bool };

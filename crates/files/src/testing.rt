@@ -10,7 +10,7 @@ use std::io::Write;
 
 /// Where a writer over memory fails.
 #[derive(Clone, Copy, Debug, PartialEq, Eq)]
-pub enum Fails {
+pub enum Failing {
     /// Nowhere.
     Never,
     /// At the write of this number, counted from 1.
@@ -26,12 +26,12 @@ pub enum Fails {
 pub struct MemoryWriter {
     bytes: Vec<u8>,
     writes: u64,
-    fails: Fails,
+    fails: Failing,
 }
 
 impl MemoryWriter {
     /// A writer with no bytes yet.
-    pub fn new(alloc: Global, fails: Fails) -> MemoryWriter
+    pub fn new(alloc: Global, fails: Failing) -> MemoryWriter
         ensures empty { written_by result ≡ [] }
         ensures fails { writer_fails result ≡ fails }
     {
@@ -54,8 +54,8 @@ impl MemoryWriter {
         ensures { IfSome result (λ taken. taken ≤ length) }
     {
         match self.fails {
-            Fails::AtWrite(number) if number == self.writes => None,
-            Fails::After(most) => match most.saturating_sub(self.bytes.len()) {
+            Failing::AtWrite(number) if number == self.writes => None,
+            Failing::After(most) => match most.saturating_sub(self.bytes.len()) {
                 0 => None,
                 room => Some(length.min(room)),
             },
@@ -80,7 +80,7 @@ impl Write for MemoryWriter {
 
     fn flush(&mut self) -> io::Result<()> {
         match self.fails {
-            Fails::AtFlush => Err(io::Error::from(io::ErrorKind::StorageFull)),
+            Failing::AtFlush => Err(io::Error::from(io::ErrorKind::StorageFull)),
             _ => Ok(()),
         }
     }
@@ -99,7 +99,7 @@ pub struct MemoryFiles {
     alloc: Global,
     kept: Vec<Kept>,
     locked: Option<&'static str>,
-    fails: Fails,
+    fails: Failing,
 }
 
 impl MemoryFiles {
@@ -107,13 +107,13 @@ impl MemoryFiles {
     pub fn new(alloc: Global) -> MemoryFiles
         ensures empty { (name : List ℕ) → kept_bytes result name ≡ None }
         ensures makes { (name : List ℕ) → can_make result name ≡ true }
-        ensures fails { made_fail result ≡ Fails.Never }
+        ensures fails { made_fail result ≡ Failing.Never }
     {
         MemoryFiles {
             alloc,
             kept: Vec::new(alloc),
             locked: None,
-            fails: Fails::Never,
+            fails: Failing::Never,
         }
     }
 
@@ -136,7 +136,7 @@ impl MemoryFiles {
     }
 
     /// The same files, where those that are made fail in this way.
-    pub fn failing(mut self, fails: Fails) -> MemoryFiles
+    pub fn failing(mut self, fails: Failing) -> MemoryFiles
         ensures { result ≡ with_fails self fails }
     {
         self.fails = fails;

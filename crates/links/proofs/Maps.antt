@@ -16,7 +16,7 @@ use Rattle.scenario.specs.declared.settings.Path.{Path}
 use Rattle.scenario.specs.declared.settings.Slow.{Slow}
 use Rattle.scenario.proofs.Between.{last_more}
 use Rattle.links.specs.Entries.{pair_cmp, route, slow_spans, spans_in, span_of, covers, extra_in}
-use Rattle.links.specs.declared.spans.Span.{Span}
+use Rattle.links.specs.declared.spans.SlowSpan.{SlowSpan}
 
 both_eq : (o r : Ordering) → is_eq (ordering_then o r) ≡ (is_eq o && is_eq r)
 both_eq Less r = refl
@@ -52,29 +52,29 @@ routes_more old new ps i d link from to within put_in before =
     ∙ ap (λ l. if leads from to p then p.link else l) before
     ∙ sym (last_more link (leads from to) ps i d (leads from to p) within refl)
 
-first_time : (old new : List (ℕ × Vec Span Global)) (k m : ℕ) (v : Vec Span Global) (span : Span) (b : Bool) → nat_eq k m ≡ b → None ≡ lookup (is_at (nat_cmp k)) old → v.items ≡ span ∷ []
+first_time : (old new : List (ℕ × Vec SlowSpan Global)) (k m : ℕ) (v : Vec SlowSpan Global) (span : SlowSpan) (b : Bool) → nat_eq k m ≡ b → None ≡ lookup (is_at (nat_cmp k)) old → v.items ≡ span ∷ []
     → lookup (is_at (nat_cmp m)) new ≡ cond b (Some v) (lookup (is_at (nat_cmp m)) old)
     → spans_in new m ≡ spans_in old m ++ cond b (span ∷ []) []
 first_time old new k m v span true same none only put_in =
     let here : k ≡ m = eqb-true k m same in
-    let before : spans_in old m ≡ [] = ap (spans_in old) (sym here) ∙ ap (λ o. option_map_or (λ (w : Vec Span Global). w.items) o []) (sym none) in
-    ap (λ o. option_map_or (λ (w : Vec Span Global). w.items) o []) put_in ∙ only ∙ ap (λ xs. xs ++ span ∷ []) (sym before)
+    let before : spans_in old m ≡ [] = ap (spans_in old) (sym here) ∙ ap (λ o. option_map_or (λ (w : Vec SlowSpan Global). w.items) o []) (sym none) in
+    ap (λ o. option_map_or (λ (w : Vec SlowSpan Global). w.items) o []) put_in ∙ only ∙ ap (λ xs. xs ++ span ∷ []) (sym before)
 first_time old new k m v span false same none only put_in =
-    ap (λ o. option_map_or (λ (w : Vec Span Global). w.items) o []) put_in ∙ sym (append-nil (spans_in old m))
+    ap (λ o. option_map_or (λ (w : Vec SlowSpan Global). w.items) o []) put_in ∙ sym (append-nil (spans_in old m))
 
 -- the first time of a member
-pub spans_first : (old same new : List (ℕ × Vec Span Global)) (k : ℕ) (v : Vec Span Global) (span : Span) → same ≡ old → None ≡ lookup (is_at (nat_cmp k)) old → v.items ≡ span ∷ []
+pub spans_first : (old same new : List (ℕ × Vec SlowSpan Global)) (k : ℕ) (v : Vec SlowSpan Global) (span : SlowSpan) → same ≡ old → None ≡ lookup (is_at (nat_cmp k)) old → v.items ≡ span ∷ []
     → ((q : ℕ) → lookup (is_at (nat_cmp q)) new ≡ cond (is_at (nat_cmp k) q) (Some v) (lookup (is_at (nat_cmp q)) same))
     → (m : ℕ) → spans_in new m ≡ spans_in old m ++ cond (nat_eq k m) (span ∷ []) []
 spans_first old same new k v span kept none only put_in m =
     first_time old new k m v span (nat_eq k m) refl none only
     (put_in m ∙ ap (λ b. cond b (Some v) (lookup (is_at (nat_cmp m)) same)) (same_number k m) ∙ ap (λ es. cond (nat_eq k m) (Some v) (lookup (is_at (nat_cmp m)) es)) kept)
 
-extra_now : (a b : Bool) (t : ℕ) (e : Slow) (rest : List Span) (o : Option Slow) → covers t (span_of e) ≡ b → extra_in rest t ≡ option_map_or (λ (f : Slow). f.extra) o 0
+extra_now : (a b : Bool) (t : ℕ) (e : Slow) (rest : List SlowSpan) (o : Option Slow) → covers t (span_of e) ≡ b → extra_in rest t ≡ option_map_or (λ (f : Slow). f.extra) o 0
     → extra_in (cond a (span_of e ∷ rest) rest) t ≡ option_map_or (λ (f : Slow). f.extra) (cond (a && b) (Some e) o) 0
 extra_now false b t e rest o is same = same
-extra_now true true t e rest o is same = ap (λ v. option_map_or (λ (f : Span). f.extra) (cond v (Some (span_of e)) (find (covers t) rest)) 0) is
-extra_now true false t e rest o is same = ap (λ v. option_map_or (λ (f : Span). f.extra) (cond v (Some (span_of e)) (find (covers t) rest)) 0) is ∙ same
+extra_now true true t e rest o is same = ap (λ v. option_map_or (λ (f : SlowSpan). f.extra) (cond v (Some (span_of e)) (find (covers t) rest)) 0) is
+extra_now true false t e rest o is same = ap (λ v. option_map_or (λ (f : SlowSpan). f.extra) (cond v (Some (span_of e)) (find (covers t) rest)) 0) is ∙ same
 
 map-cond : (b : Bool) (e : Slow) (es : List Slow) → map span_of (cond b (e ∷ es) es) ≡ cond b (span_of e ∷ map span_of es) (map span_of es)
 map-cond true e es = refl

@@ -5,8 +5,8 @@ use Rattle.std.specs.List.{slice_get}
 use Rattle.std.proofs.lemmas.Bool.{and_parts, eqb-true, eq-eqb, ne_eqb, leb-true, cases_eq, false≢true}
 use Rattle.std.proofs.lemmas.Option.{slice_get-get_or}
 use Rattle.scenario.specs.declared.settings.Link.{Link}
-use Rattle.links.specs.Entries.{route, link_in}
-use Rattle.links.specs.Least.{AreApart, IsReached, IsLeast, IsLeastBelow, is_third, is_other}
+use Rattle.links.specs.Entries.{route, link_of_pair}
+use Rattle.links.specs.Least.{AreOrderedPair, IsDelayOfAPair, IsLeast, IsLeastBelow, is_third, is_other}
 
 same_group : (groups : List ℕ) (a b : ℕ) → a < length groups → b < length groups → get_or groups a 0 ≡ get_or groups b 0 → slice_get groups a ≡ slice_get groups b
 same_group groups a b i j same = slice_get-get_or groups a 0 i ∙ ap Some same ∙ sym (slice_get-get_or groups b 0 j)
@@ -30,13 +30,13 @@ follows_two groups m within third =
 
 module _ (groups : List ℕ) (link : Link) (routes : List ((ℕ × ℕ) × Link)) where
   abbrev delay : ℕ → ℕ → ℕ
-  delay i j = (link_in groups link routes i j).delay
+  delay i j = (link_of_pair groups link routes i j).delay
 
   -- a pair of members that aren't passed over, with the delay of this one
   record StandsFor (i j : ℕ) : Type 0 where
     sender : ℕ
     receiver : ℕ
-    apart : AreApart (length groups) sender receiver
+    apart : AreOrderedPair (length groups) sender receiver
     sender_kept : is_third groups sender ≡ false
     receiver_kept : is_third groups receiver ≡ false
     same : delay sender receiver ≡ delay i j
@@ -72,23 +72,23 @@ module _ (groups : List ℕ) (link : Link) (routes : List ((ℕ × ℕ) × Link)
   earlier m other two = earlier_by m other two (cases_eq (m - 1) other)
 
   -- each pair has the delay of one whose members aren't passed over, where each earlier pair has
-  stands_by : (t i j : ℕ) → i + j < suc t → AreApart (length groups) i j → ((k l : ℕ) → k + l < t → AreApart (length groups) k l → StandsFor k l)
+  stands_by : (t i j : ℕ) → i + j < suc t → AreOrderedPair (length groups) i j → ((k l : ℕ) → k + l < t → AreOrderedPair (length groups) k l → StandsFor k l)
       → (a b : Bool) → is_third groups i ≡ a → is_third groups j ≡ b → StandsFor i j
   stands_by t i j below apart before false false first second = record { sender = i; receiver = j; apart = apart; sender_kept = first; receiver_kept = second; same = refl }
   stands_by t i j below apart before true b first second =
       let e = earlier i j (follows_two groups i apart.sender first) in
-      let there : AreApart (length groups) e.at j = record { sender = omega (arith, e.before, apart.sender); receiver = apart.receiver; different = e.different } in
+      let there : AreOrderedPair (length groups) e.at j = record { sender = omega (arith, e.before, apart.sender); receiver = apart.receiver; different = e.different } in
       carried i j e.at j (of_sender i e.at j e.same) (before e.at j (omega (arith, e.before, below)) there)
   stands_by t i j below apart before false true first second =
       let e = earlier j i (follows_two groups j apart.receiver second) in
-      let there : AreApart (length groups) i e.at = record { sender = apart.sender; receiver = omega (arith, e.before, apart.receiver); different = λ same. e.different (sym same) } in
+      let there : AreOrderedPair (length groups) i e.at = record { sender = apart.sender; receiver = omega (arith, e.before, apart.receiver); different = λ same. e.different (sym same) } in
       carried i j i e.at (of_receiver i j e.at e.same) (before i e.at (omega (arith, e.before, below)) there)
 
-  stands : (t i j : ℕ) → i + j < t → AreApart (length groups) i j → StandsFor i j
+  stands : (t i j : ℕ) → i + j < t → AreOrderedPair (length groups) i j → StandsFor i j
   stands zero i j below apart = absurd (omega (arith, below))
   stands (suc t) i j below apart = stands_by t i j below apart (stands t) (is_third groups i) (is_third groups j) refl refl
 
-  other_taken : (i j : ℕ) → AreApart (length groups) i j → is_third groups j ≡ false → is_other groups i j ≡ true
+  other_taken : (i j : ℕ) → AreOrderedPair (length groups) i j → is_third groups j ≡ false → is_other groups i j ≡ true
   other_taken i j apart kept = rw (ne_eqb j i (λ same. apart.different (sym same)), kept)
 
   taken_differs : (i j : ℕ) → is_other groups i j ≡ true → ¬ (i ≡ j)

@@ -9,8 +9,8 @@ use Rattle.scenario.specs.Setup.{Setup, Group, group_at, member_count, leads, la
 use Rattle.scenario.specs.declared.settings.Link.{Link}
 use Rattle.scenario.specs.declared.settings.Path.{Path}
 use Rattle.scenario.specs.declared.settings.Slow.{Slow}
-use Rattle.links.specs.Entries.{route, link_in, spans_in, slow_spans, extra_in}
-use Rattle.links.specs.declared.spans.Span.{Span}
+use Rattle.links.specs.Entries.{route, link_of_pair, spans_in, slow_spans, extra_in}
+use Rattle.links.specs.declared.spans.SlowSpan.{SlowSpan}
 use Rattle.links.proofs.Maps.{extra_is}
 
 -- the numbers of the groups of the first members
@@ -44,15 +44,15 @@ pub routes_of_all : (s : Setup) (ps : List Path) (routes : List ((ℕ × ℕ) ×
     → (l : Link) (from to : ℕ) → unwrap_or (route routes from to) l ≡ last_link l (map (λ p. p.link) (filter (leads from to) s.paths))
 routes_of_all s ps routes same last l from to = last l from to ∙ ap (λ (qs : List Path). last_link l (map (λ (p : Path). p.link) (filter (leads from to) qs))) same
 
-pub spans_of_all : (s : Setup) (es : List Slow) (spans : List (ℕ × Vec Span Global)) → es ≡ s.slows → ((m : ℕ) → spans_in spans m ≡ slow_spans m es)
+pub spans_of_all : (s : Setup) (es : List Slow) (spans : List (ℕ × Vec SlowSpan Global)) → es ≡ s.slows → ((m : ℕ) → spans_in spans m ≡ slow_spans m es)
     → (m : ℕ) → spans_in spans m ≡ slow_spans m s.slows
 spans_of_all s es spans same kept m = kept m ∙ ap (slow_spans m) same
 
 module _ (s : Setup) (groups : List ℕ) (link : Link) (routes : List ((ℕ × ℕ) × Link)) (grouped : groups ≡ groups_below s.groups (member_count s)) (all : link ≡ s.link)
     (last : (l : Link) (from to : ℕ) → unwrap_or (route routes from to) l ≡ last_link l (map (λ p. p.link) (filter (leads from to) s.paths))) where
-  pub links_are : (i j : ℕ) → i < member_count s → j < member_count s → link_in groups link routes i j ≡ link_between s i j
+  pub links_are : (i j : ℕ) → i < member_count s → j < member_count s → link_of_pair groups link routes i j ≡ link_between s i j
   links_are i j sender receiver =
-      ap (λ gs. link_in gs link routes i j) grouped
+      ap (λ gs. link_of_pair gs link routes i j) grouped
       ∙ ap (λ o. by_groups routes link o (slice_get (groups_below s.groups (member_count s)) j)) (group_within s.groups (member_count s) i sender)
       ∙ ap (λ o. by_groups routes link (Some (group_at s.groups i)) o) (group_within s.groups (member_count s) j receiver)
       ∙ ap (λ l. unwrap_or (route routes (group_at s.groups i) (group_at s.groups j)) l) all
@@ -61,23 +61,23 @@ module _ (s : Setup) (groups : List ℕ) (link : Link) (routes : List ((ℕ × �
   others_sound : IsSound s → IsSoundLink link
   others_sound sound = subst IsSoundLink (sym all) (record { delay = sound.delay; jitter = sound.jitter; loss = sound.loss })
 
-  no_receiver : (i j : ℕ) → member_count s ≤ j → link_in groups link routes i j ≡ link
+  no_receiver : (i j : ℕ) → member_count s ≤ j → link_of_pair groups link routes i j ≡ link
   no_receiver i j past =
       ap (λ o. by_groups routes link (slice_get groups i) o) (ap (λ gs. slice_get gs j) grouped ∙ group_past s.groups (member_count s) j past)
       ∙ nobody routes link (slice_get groups i)
 
-  no_sender : (i j : ℕ) → member_count s ≤ i → link_in groups link routes i j ≡ link
+  no_sender : (i j : ℕ) → member_count s ≤ i → link_of_pair groups link routes i j ≡ link
   no_sender i j past = ap (λ o. by_groups routes link o (slice_get groups j)) (ap (λ gs. slice_get gs i) grouped ∙ group_past s.groups (member_count s) i past)
 
-  sound_by : IsSound s → (i j : ℕ) → (i < member_count s) ⊎ (member_count s ≤ i) → (j < member_count s) ⊎ (member_count s ≤ j) → IsSoundLink (link_in groups link routes i j)
+  sound_by : IsSound s → (i j : ℕ) → (i < member_count s) ⊎ (member_count s ≤ i) → (j < member_count s) ⊎ (member_count s ≤ j) → IsSoundLink (link_of_pair groups link routes i j)
   sound_by sound i j (inl a) (inl b) = subst IsSoundLink (sym (links_are i j a b)) (sound.between i j)
   sound_by sound i j (inl a) (inr b) = subst IsSoundLink (sym (no_receiver i j b)) (others_sound sound)
   sound_by sound i j (inr a) b = subst IsSoundLink (sym (no_sender i j a)) (others_sound sound)
 
-  pub links_sound : IsSound s → (i j : ℕ) → IsSoundLink (link_in groups link routes i j)
+  pub links_sound : IsSound s → (i j : ℕ) → IsSoundLink (link_of_pair groups link routes i j)
   links_sound sound i j = sound_by sound i j (cases_lt i (member_count s)) (cases_lt j (member_count s))
 
-module _ (s : Setup) (spans : List (ℕ × Vec Span Global)) (kept : (m : ℕ) → spans_in spans m ≡ slow_spans m s.slows) where
+module _ (s : Setup) (spans : List (ℕ × Vec SlowSpan Global)) (kept : (m : ℕ) → spans_in spans m ≡ slow_spans m s.slows) where
   pub extras_are : (m t : ℕ) → extra_in (spans_in spans m) t ≡ extra_of s m t
   extras_are m t = ap (λ xs. extra_in xs t) (kept m) ∙ extra_is m t s.slows
 

@@ -9,7 +9,7 @@ use Rattle.std.specs.BTreeMap.{is_at}
 use Rattle.std.specs.declared.alloc.Global.{Global}
 use Rattle.scenario.specs.declared.settings.Link.{Link}
 use Rattle.scenario.specs.declared.settings.Slow.{Slow}
-use Rattle.links.specs.declared.spans.Span.{Span}
+use Rattle.links.specs.declared.spans.SlowSpan.{SlowSpan}
 
 -- pairs of groups are in order of the sender's, then of the receiver's
 abbrev pub pair_cmp : ℕ × ℕ → ℕ × ℕ → Ordering
@@ -20,24 +20,24 @@ abbrev pub route : List ((ℕ × ℕ) × Link) → ℕ → ℕ → Option Link
 route routes from to = lookup (is_at (pair_cmp (from, to))) routes
 
 -- the link from one member to another, by the numbers of their groups, else the link of all pairs
-abbrev pub link_in : List ℕ → Link → List ((ℕ × ℕ) × Link) → ℕ → ℕ → Link
-link_in groups link routes i j = unwrap_or (option_and_then (λ from. option_and_then (λ to. route routes from to) (slice_get groups j)) (slice_get groups i)) link
+abbrev pub link_of_pair : List ℕ → Link → List ((ℕ × ℕ) × Link) → ℕ → ℕ → Link
+link_of_pair groups link routes i j = unwrap_or (option_and_then (λ from. option_and_then (λ to. route routes from to) (slice_get groups j)) (slice_get groups i)) link
 
 -- when and by how much an entry says that its member is slow
-abbrev pub span_of : Slow → Span
+abbrev pub span_of : Slow → SlowSpan
 span_of e = record { from = e.from; until = e.until; extra = e.extra }
 
 -- the times of one member among all entries
-abbrev pub slow_spans : ℕ → List Slow → List Span
+abbrev pub slow_spans : ℕ → List Slow → List SlowSpan
 slow_spans m es = map span_of (filter (λ e. nat_eq e.member m) es)
 
 -- the times of a member in the table
-abbrev pub spans_in : List (ℕ × Vec Span Global) → ℕ → List Span
+abbrev pub spans_in : List (ℕ × Vec SlowSpan Global) → ℕ → List SlowSpan
 spans_in table m = option_map_or (λ v. v.items) (lookup (is_at (nat_cmp m)) table) []
 
-abbrev pub covers : ℕ → Span → Bool
+abbrev pub covers : ℕ → SlowSpan → Bool
 covers t span = nat_le span.from t && nat_lt t span.until
 
 -- by how many ticks the first of these times that covers a moment makes slow
-abbrev pub extra_in : List Span → ℕ → ℕ
+abbrev pub extra_in : List SlowSpan → ℕ → ℕ
 extra_in spans t = option_map_or (λ span. span.extra) (find (covers t) spans) 0

@@ -2,23 +2,23 @@
 use Rattle.std.specs.Prelude.{◌≡◌, ◌-◌, ◌<◌, ◌≤◌, ℕ, Bool, true, false, not, ◌&&◌, nat_le, nat_eq, List, get_or, min, Option, Some, None}
 
 -- an ordered pair of different members, among so many
-pub record AreApart (n i j : ℕ) : Type 0 where
+pub record AreOrderedPair (n i j : ℕ) : Type 0 where
   pub sender : i < n
   pub receiver : j < n
   pub different : ¬ (i ≡ j)
 
 -- the delay from some member to another one
-abbrev pub IsReached : (ℕ → ℕ → ℕ) → ℕ → ℕ → Type 0
-IsReached delay n d = (i : ℕ) × (j : ℕ) × AreApart n i j × (delay i j ≡ d)
+abbrev pub IsDelayOfAPair : (ℕ → ℕ → ℕ) → ℕ → ℕ → Type 0
+IsDelayOfAPair delay n d = (i : ℕ) × (j : ℕ) × AreOrderedPair n i j × (delay i j ≡ d)
 
 -- no delay from a member to another one is less
 abbrev pub IsNoGreater : (ℕ → ℕ → ℕ) → ℕ → ℕ → Type 0
-IsNoGreater delay n d = (i j : ℕ) → AreApart n i j → d ≤ delay i j
+IsNoGreater delay n d = (i j : ℕ) → AreOrderedPair n i j → d ≤ delay i j
 
 -- the least delay from one of so many members to another one, where there are two
 abbrev pub IsLeast : (ℕ → ℕ → ℕ) → ℕ → Option ℕ → Type 0
-IsLeast delay n None = (i j : ℕ) → ¬ (AreApart n i j)
-IsLeast delay n (Some d) = IsReached delay n d × IsNoGreater delay n d
+IsLeast delay n None = (i j : ℕ) → ¬ (AreOrderedPair n i j)
+IsLeast delay n (Some d) = IsDelayOfAPair delay n d × IsNoGreater delay n d
 
 -- the smaller of two, where there are both
 abbrev pub lesser_of : Option ℕ → Option ℕ → Option ℕ

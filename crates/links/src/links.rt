@@ -4,9 +4,9 @@ ghost use Rattle.std.specs.List.{range_with_len};
 ghost use Rattle.streams.specs.Draw.{words_of};
 ghost use Rattle.scenario.specs.Setup.{Setup, member_count, group_at, link_between, IsSoundLink};
 ghost use Rattle.links.specs.Arrival.{arrival_of, AreLinksOf};
-ghost use Rattle.links.specs.Entries.{link_in};
+ghost use Rattle.links.specs.Entries.{link_of_pair};
 ghost use Rattle.links.specs.Table.{link_at, extra_at};
-ghost use Rattle.links.specs.Least.{IsReached, IsNoGreater};
+ghost use Rattle.links.specs.Least.{IsDelayOfAPair, IsNoGreater};
 
 use crate::least::least_delay;
 use crate::routes::routes_of;
@@ -59,7 +59,7 @@ impl Links {
     /// member. It goes over the pairs of groups.
     pub fn least_delay(&self) -> Option<u64>
         ensures reached { (s : Setup) → AreLinksOf self.now s
-            → IfSome result (IsReached (λ i j. (link_between s i j).delay) (member_count s)) }
+            → IfSome result (IsDelayOfAPair (λ i j. (link_between s i j).delay) (member_count s)) }
         ensures least { (s : Setup) → AreLinksOf self.now s
             → IfSome result (IsNoGreater (λ i j. (link_between s i j).delay) (member_count s)) }
         ensures alone { (s : Setup) → AreLinksOf self.now s → (result ≡ None ↔ member_count s ≡ 1) }
@@ -90,7 +90,7 @@ impl Links {
 
     /// The link of the last path from one member's group to the other's.
     fn route(&self, from: usize, to: usize) -> Option<&Link>
-        ensures { (link : _) → unwrap_or (option_copied result) link ≡ link_in self.now.groups.items link self.now.routes.entries from to }
+        ensures { (link : _) → unwrap_or (option_copied result) link ≡ link_of_pair self.now.groups.items link self.now.routes.entries from to }
     {
         let from = self.groups.get(from)?;
         let to = self.groups.get(to)?;
@@ -100,7 +100,7 @@ impl Links {
     /// By how many ticks a member is slow at a moment.
     fn extra(&self, member: MemberId, at: u64) -> u64
         ensures value { result ≡ extra_at self.now member at }
-        ensures few { result ≤ 2 ^ 24 }
+        ensures extra_fits { result ≤ 2 ^ 24 }
     {
         match self.spans.get(&member) {
             Some(spans) => extra_in(spans.as_slice(), at),

@@ -10,18 +10,18 @@ use std::collections::BTreeMap;
 
 /// A time in which a member is slow, in ticks: from its first moment on, until before its last.
 #[derive(Clone, Copy)]
-pub(crate) struct Span {
+pub(crate) struct SlowSpan {
     pub(crate) from: u64,
     pub(crate) until: u64,
     /// By how many ticks the member is slow.
     pub(crate) extra: u64,
 }
 
-impl Span {
+impl SlowSpan {
     fn of(slow: &Slow) -> Self
         ensures { result ≡ span_of slow.now }
     {
-        Span {
+        SlowSpan {
             from: slow.from.ticks(),
             until: slow.until.ticks(),
             extra: slow.extra,
@@ -39,12 +39,12 @@ impl Span {
 pub(crate) fn spans_of(
     alloc: Global,
     slows: &[Slow],
-) -> Result<BTreeMap<MemberId, Vec<Span>>, Memory>
+) -> Result<BTreeMap<MemberId, Vec<SlowSpan>>, Memory>
     ensures { IfOk result (λ spans. (member : ℕ) → spans_in spans.entries member ≡ slow_spans member slows.now) }
 {
     let mut spans = BTreeMap::new(alloc);
     for slow in slows {
-        match append(alloc, &mut spans, slow.member, Span::of(slow)) {
+        match append(alloc, &mut spans, slow.member, SlowSpan::of(slow)) {
             Ok(()) => {}
             Err(_) => return Err(Memory),
         }
@@ -55,9 +55,9 @@ pub(crate) fn spans_of(
 /// Puts a time after the others of its member.
 fn append(
     alloc: Global,
-    spans: &mut BTreeMap<MemberId, Vec<Span>>,
+    spans: &mut BTreeMap<MemberId, Vec<SlowSpan>>,
     member: MemberId,
-    span: Span,
+    span: SlowSpan,
 ) -> Result<(), Memory>
     ensures { OnOk result ((m : ℕ) → spans_in spans.new.entries m
         ≡ spans_in spans.old.entries m ++ cond (nat_eq member m) (span ∷ []) []) }
@@ -80,7 +80,7 @@ fn append(
 }
 
 /// By how many ticks these times make slow at a moment: by the first one's that covers it.
-pub(crate) fn extra_in(spans: &[Span], at: u64) -> u64
+pub(crate) fn extra_in(spans: &[SlowSpan], at: u64) -> u64
     ensures { result ≡ extra_in spans.now at }
 {
     match covering(spans, at) {
@@ -90,7 +90,7 @@ pub(crate) fn extra_in(spans: &[Span], at: u64) -> u64
 }
 
 /// The first of these times that covers a moment.
-fn covering(spans: &[Span], at: u64) -> Option<&Span>
+fn covering(spans: &[SlowSpan], at: u64) -> Option<&SlowSpan>
     ensures { option_copied result ≡ find (covers at) spans.now }
 {
     spans.iter().find(|span| span.covers(at))

@@ -1,8 +1,8 @@
 ghost use Rattle.std.specs.Prelude.{ℕ, ◌≤◌, ◌^◌};
 ghost use Rattle.scenario.specs.Setup.{IsSoundLink};
-ghost use Rattle.links.specs.Entries.{link_in, spans_in, extra_in};
+ghost use Rattle.links.specs.Entries.{link_of_pair, spans_in, extra_in};
 
-use crate::spans::Span;
+use crate::spans::SlowSpan;
 use base::MemberId;
 use scenario::Link;
 use std::collections::BTreeMap;
@@ -18,7 +18,7 @@ pub struct Links {
     /// The link from one group to another, by the last path that names them.
     pub(crate) routes: BTreeMap<(usize, usize), Link>,
     /// The times in which members are slow.
-    pub(crate) spans: BTreeMap<MemberId, Vec<Span>>,
-    ghost links_sound: { (i j : ℕ) → IsSoundLink (link_in groups.items link routes.entries i j) },
+    pub(crate) spans: BTreeMap<MemberId, Vec<SlowSpan>>,
+    ghost links_sound: { (i j : ℕ) → IsSoundLink (link_of_pair groups.items link routes.entries i j) },
     ghost extras_sound: { (m t : ℕ) → extra_in (spans_in spans.entries m) t ≤ 2 ^ 24 },
 }

@@ -22,7 +22,7 @@ use Rattle.lifeguard.specs.declared.probe.Probe.{Probe}
 use Rattle.lifeguard.specs.Health.{LocalHealth}
 use Rattle.suspicion.specs.Ranges.{AreSound}
 use Rattle.suspicion.specs.Settings.{terms_of}
-use Rattle.suspicion.specs.Suspicions.{Suspicion, accused_of, answer_of, is_due}
+use Rattle.suspicion.specs.Suspicions.{HeldSuspicion, accused_of, answer_of, is_due}
 use Rattle.probing.specs.ProbeOrder.{next_of}
 use Rattle.suspicion.proofs.Timeouts.{min-le-timeout}
 use Rattle.member.specs.declared.member.Phase.{Phase}
@@ -36,7 +36,7 @@ use Rattle.member.specs.Send.{sent, sent_off, ping_sent, ping_req_sent, ack_sent
 use Rattle.member.specs.Apply.{with_put, passed_on, with_health, refuted, heard_dead, own_applied, with_told, with_place, placed_unless_known, with_claim, claim_kept, alive_heard, suspect_heard, confirm_heard, claim_heard, news_heard, accusation_counted, accusation_heard, is_repeated, other_applied, applied, all_applied}
 use Rattle.member.specs.Step.{first_period_set, began, join_asked, joining_begun, started, crashed, join_handled, joined, suspected, probe_failed, probe_ended, probe_begun, target_probed, next_probed, period_begun, all_asked, help_asked, timed_out, nack_heard, ping_heard, ping_req_heard, ack_taken, ack_heard, nack_due, confirmed, suspicion_over, handled, step}
 use Rattle.member.specs.Places.{place_of}
-use Rattle.member.specs.Fair.{IsFair}
+use Rattle.member.specs.Fair.{IsWellMade}
 
 arrives_later : (b : Bool) (rest last : Words) (at d : ℕ) → d ≤ at → IfSome (cond {A = Option ℕ × Words} b (None, rest) (Some at, last)).0 (λ a. d ≤ a)
 arrives_later true rest last at d h = tt
@@ -53,18 +53,18 @@ arrival_later s from to now words =
     arrives_later lost.0 lost.1 jitter.1 (coming + extra_of s to coming) (now + link.delay) (omega arith)
 
 terms_sound : (s : Setup) → IsSound s → AreSound (terms_of s)
-terms_sound s sound = record { period = sound.period; alpha = sound.alpha.1; beta = sound.beta; confirmations = sound.confirmations }
+terms_sound s sound = record { period = sound.period; alpha = sound.alpha.1; beta = sound.beta; accusers_wanted = sound.confirmations }
 
 length_more : (rows : List Row) (row : Row) → length (rows ++ row ∷ []) ≡ length rows + 1
 length_more [] row = refl
 length_more (r ∷ rows) row = ap suc (length_more rows row) ∙ omega arith
 
 module _ (s : Setup) (sound : IsSound s) (k : Key) (n : ℕ) where
-  fair_begin : (t : State) → t.next_number ≡ n → IsFair s k n (unchanged t)
+  fair_begin : (t : State) → t.next_number ≡ n → IsWellMade s k n (unchanged t)
   fair_begin t same = record { later = tt; linked = tt; made = tt; apart = tt; grows = omega (arith, same); counts = refl }
 
   -- a change of the state that keeps the next number
-  fair_state : (t : State) (o : Effect) → t.next_number ≡ o.state.next_number → IsFair s k n o → IsFair s k n (record { state = t; events = o.events; rows = o.rows })
+  fair_state : (t : State) (o : Effect) → t.next_number ≡ o.state.next_number → IsWellMade s k n o → IsWellMade s k n (record { state = t; events = o.events; rows = o.rows })
   fair_state t o same fair = record {
     later = fair.later;
     linked = fair.linked;
@@ -74,7 +74,7 @@ module _ (s : Setup) (sound : IsSound s) (k : Key) (n : ℕ) where
     counts = fair.counts;
   }
 
-  fair_number : (o : Effect) → IsFair s k n o → IsFair s k n (on_state with_number o)
+  fair_number : (o : Effect) → IsWellMade s k n o → IsWellMade s k n (on_state with_number o)
   unfolding with_number
   fair_number o fair = record {
     later = fair.later;
@@ -87,7 +87,7 @@ module _ (s : Setup) (sound : IsSound s) (k : Key) (n : ℕ) where
     counts = fair.counts;
   }
 
-  fair_event : (at to : ℕ) (content : Content) (o : Effect) → k.at < at → (to ≢ k.to → k.at + (link_between s k.to to).delay ≤ at) → IsFair s k n o → IsFair s k n (with_event k at to content o)
+  fair_event : (at to : ℕ) (content : Content) (o : Effect) → k.at < at → (to ≢ k.to → k.at + (link_between s k.to to).delay ≤ at) → IsWellMade s k n o → IsWellMade s k n (with_event k at to content o)
   unfolding with_event
   fair_event at to content o h linked fair =
       let last : Key = record { at = at; to = to; from = k.to; number = o.state.next_number } in
@@ -103,14 +103,14 @@ module _ (s : Setup) (sound : IsSound s) (k : Key) (n : ℕ) where
         counts = fair.counts;
       }
 
-  fair_own : (at : ℕ) (content : Content) (o : Effect) → k.at < at → IsFair s k n o → IsFair s k n (with_event k at k.to content o)
+  fair_own : (at : ℕ) (content : Content) (o : Effect) → k.at < at → IsWellMade s k n o → IsWellMade s k n (with_event k at k.to content o)
   fair_own at content o h fair = fair_event at k.to content o h (λ other. absurd (other refl)) fair
 
-  fair_timer : (ticks : ℕ) (content : Content) (o : Effect) → 0 < ticks → IsFair s k n o → IsFair s k n (with_timer k ticks content o)
+  fair_timer : (ticks : ℕ) (content : Content) (o : Effect) → 0 < ticks → IsWellMade s k n o → IsWellMade s k n (with_timer k ticks content o)
   unfolding with_timer
   fair_timer ticks content o h fair = fair_own (k.at + ticks) content o (omega arith) fair
 
-  fair_row : (tells : What) (about : Option ℕ) (value : ℕ) (lost : Bool) (o : Effect) → IsFair s k n o → IsFair s k n (with_row k tells about value lost o)
+  fair_row : (tells : What) (about : Option ℕ) (value : ℕ) (lost : Bool) (o : Effect) → IsWellMade s k n o → IsWellMade s k n (with_row k tells about value lost o)
   unfolding with_row
   fair_row tells about value lost o fair = record {
     later = fair.later;
@@ -124,46 +124,46 @@ module _ (s : Setup) (sound : IsSound s) (k : Key) (n : ℕ) where
         ∙ ap (λ l. map (λ i. (k, i)) (range_with_len 0 l)) (sym (length_more o.rows _));
   }
 
-  fair_choice : (b : Bool) (o p : Effect) → IsFair s k n o → IsFair s k n p → IsFair s k n (cond b o p)
+  fair_choice : (b : Bool) (o p : Effect) → IsWellMade s k n o → IsWellMade s k n p → IsWellMade s k n (cond b o p)
   fair_choice true o p a b = a
   fair_choice false o p a b = b
 
   -- ---- messages
 
-  fair_sent_off : (to : ℕ) (content : Content) (arrival : Option ℕ) (o : Effect) → IfSome arrival (λ at. k.at + (link_between s k.to to).delay ≤ at) → IsFair s k n o → IsFair s k n (sent_off k to content arrival o)
+  fair_sent_off : (to : ℕ) (content : Content) (arrival : Option ℕ) (o : Effect) → IfSome arrival (λ at. k.at + (link_between s k.to to).delay ≤ at) → IsWellMade s k n o → IsWellMade s k n (sent_off k to content arrival o)
   fair_sent_off to content None o h fair = fair_number o fair
   fair_sent_off to content (Some at) o h fair = fair_event at to content o (let d = (sound.between k.to to).delay.0 in omega arith) (λ _. h) fair
 
-  fair_sent : (tells : What) (to value : ℕ) (content : Content) (o : Effect) → IsFair s k n o → IsFair s k n (sent s k tells to value content o)
+  fair_sent : (tells : What) (to value : ℕ) (content : Content) (o : Effect) → IsWellMade s k n o → IsWellMade s k n (sent s k tells to value content o)
   unfolding sent
   fair_sent tells to value content o fair =
       fair_sent_off to content _ _ (arrival_later s k.to to k.at o.state.words) (fair_row tells _ _ _ _ (fair_state _ o refl fair))
 
-  fair_ping : (to initiator seq : ℕ) (o : Effect) → IsFair s k n o → IsFair s k n (ping_sent s k to initiator seq o)
+  fair_ping : (to initiator seq : ℕ) (o : Effect) → IsWellMade s k n o → IsWellMade s k n (ping_sent s k to initiator seq o)
   unfolding ping_sent
   fair_ping to initiator seq o fair = fair_sent _ to seq _ _ (fair_state _ o refl fair)
 
-  fair_ping_req : (target seq to : ℕ) (o : Effect) → IsFair s k n o → IsFair s k n (ping_req_sent s k target seq to o)
+  fair_ping_req : (target seq to : ℕ) (o : Effect) → IsWellMade s k n o → IsWellMade s k n (ping_req_sent s k target seq to o)
   unfolding ping_req_sent
   fair_ping_req target seq to o fair = fair_sent _ to seq _ _ (fair_state _ o refl fair)
 
-  fair_ack : (to initiator seq : ℕ) (o : Effect) → IsFair s k n o → IsFair s k n (ack_sent s k to initiator seq o)
+  fair_ack : (to initiator seq : ℕ) (o : Effect) → IsWellMade s k n o → IsWellMade s k n (ack_sent s k to initiator seq o)
   unfolding ack_sent
   fair_ack to initiator seq o fair = fair_sent _ to seq _ _ (fair_state _ o refl fair)
 
-  fair_nack : (to seq : ℕ) (o : Effect) → IsFair s k n o → IsFair s k n (nack_sent s k to seq o)
+  fair_nack : (to seq : ℕ) (o : Effect) → IsWellMade s k n o → IsWellMade s k n (nack_sent s k to seq o)
   unfolding nack_sent
   fair_nack to seq o fair = fair_sent _ to seq _ o fair
 
-  fair_join_to : (contact : Option ℕ) (o : Effect) → IsFair s k n o → IsFair s k n (join_sent_to s k contact o)
+  fair_join_to : (contact : Option ℕ) (o : Effect) → IsWellMade s k n o → IsWellMade s k n (join_sent_to s k contact o)
   fair_join_to None o fair = fair
   fair_join_to (Some contact) o fair = fair_sent _ contact 0 _ o fair
 
-  fair_join : (o : Effect) → IsFair s k n o → IsFair s k n (join_sent s k o)
+  fair_join : (o : Effect) → IsWellMade s k n o → IsWellMade s k n (join_sent s k o)
   unfolding join_sent
   fair_join o fair = fair_join_to (contact_of s k.to) o fair
 
-  fair_welcome : (to : ℕ) (o : Effect) → IsFair s k n o → IsFair s k n (welcome_sent s k to o)
+  fair_welcome : (to : ℕ) (o : Effect) → IsWellMade s k n o → IsWellMade s k n (welcome_sent s k to o)
   unfolding welcome_sent
   fair_welcome to o fair = fair_sent _ to 0 _ o fair
 
@@ -174,29 +174,29 @@ module _ (s : Setup) (sound : IsSound s) (k : Key) (n : ℕ) where
   same_passed_on true u t = refl
   same_passed_on false u t = refl
 
-  fair_passed_on : (loud : Bool) (u : Update) (o : Effect) → IsFair s k n o → IsFair s k n (on_state (passed_on loud u) o)
+  fair_passed_on : (loud : Bool) (u : Update) (o : Effect) → IsWellMade s k n o → IsWellMade s k n (on_state (passed_on loud u) o)
   fair_passed_on loud u o fair = fair_state (passed_on loud u o.state) o (same_passed_on loud u o.state) fair
 
-  fair_health : (h : LocalHealth) (o : Effect) → IsFair s k n o → IsFair s k n (with_health k h o)
+  fair_health : (h : LocalHealth) (o : Effect) → IsWellMade s k n o → IsWellMade s k n (with_health k h o)
   unfolding with_health
   fair_health h o fair =
-      let after : IsFair s k n (on_state (λ t. record t { health = h }) o) = fair_state _ o refl fair in
+      let after : IsWellMade s k n (on_state (λ t. record t { health = h }) o) = fair_state _ o refl fair in
       fair_choice (nat_eq h.counter o.state.health.counter) _ _ after (fair_row _ _ _ _ _ after)
 
-  fair_refuted : (o : Effect) → IsFair s k n o → IsFair s k n (refuted k o)
+  fair_refuted : (o : Effect) → IsWellMade s k n o → IsWellMade s k n (refuted k o)
   unfolding refuted with_put
   fair_refuted o fair = fair_state _ _ refl (fair_health _ _ (fair_row _ _ _ _ _ (fair_state _ o refl fair)))
 
-  fair_dead : (number : ℕ) (o : Effect) → IsFair s k n o → IsFair s k n (heard_dead k number o)
+  fair_dead : (number : ℕ) (o : Effect) → IsWellMade s k n o → IsWellMade s k n (heard_dead k number o)
   unfolding heard_dead
   fair_dead number o fair = fair_row _ _ _ _ _ (fair_state _ o refl fair)
 
-  fair_own_applied : (claim : Claim) (number : ℕ) (o : Effect) → IsFair s k n o → IsFair s k n (own_applied k claim number o)
+  fair_own_applied : (claim : Claim) (number : ℕ) (o : Effect) → IsWellMade s k n o → IsWellMade s k n (own_applied k claim number o)
   fair_own_applied Alive number o fair = fair
   fair_own_applied Suspect number o fair = fair_choice (nat_eq number o.state.incarnation) _ _ (fair_refuted o fair) fair
   fair_own_applied Confirm number o fair = fair_choice o.state.heard_dead _ _ fair (fair_dead number o fair)
 
-  fair_told : (loud : Bool) (tells : What) (subject value : ℕ) (o : Effect) → IsFair s k n o → IsFair s k n (with_told loud k tells subject value o)
+  fair_told : (loud : Bool) (tells : What) (subject value : ℕ) (o : Effect) → IsWellMade s k n o → IsWellMade s k n (with_told loud k tells subject value o)
   fair_told loud tells subject value o fair = fair_choice loud _ _ (fair_row _ _ _ _ o fair) fair
 
   same_placed : (held : Option (Claim × ℕ)) (u : Update) (t : State) → (placed_unless_known held u t).next_number ≡ t.next_number
@@ -207,157 +207,157 @@ module _ (s : Setup) (sound : IsSound s) (k : Key) (n : ℕ) where
       placed true = refl
       placed false = refl
 
-  fair_kept : (u : Update) (o : Effect) → IsFair s k n o → IsFair s k n (on_state (claim_kept u) o)
+  fair_kept : (u : Update) (o : Effect) → IsWellMade s k n o → IsWellMade s k n (on_state (claim_kept u) o)
   unfolding claim_kept
   fair_kept u o fair = fair_state (claim_kept u o.state) o (same_placed (get o.state.table u.subject) u (with_claim u o.state)) fair
 
-  fair_claim : (loud : Bool) (u : Update) (claim : Claim) (o : Effect) → IsFair s k n o → IsFair s k n (claim_heard s loud k u claim o)
+  fair_claim : (loud : Bool) (u : Update) (claim : Claim) (o : Effect) → IsWellMade s k n o → IsWellMade s k n (claim_heard s loud k u claim o)
   unfolding alive_heard suspect_heard confirm_heard
   fair_claim loud u Alive o fair = fair_told loud _ _ _ _ (fair_state _ o refl fair)
   fair_claim loud u Suspect o fair =
       fair_own _ _ _ (omega (arith, min-le-timeout (terms_of s) (live_count o.state.table) 0 (terms_sound s sound))) (fair_told loud _ _ _ _ (fair_state _ o refl fair))
   fair_claim loud u Confirm o fair = fair_told loud _ _ _ _ (fair_state _ o refl fair)
 
-  fair_news : (loud : Bool) (u : Update) (o : Effect) → IsFair s k n o → IsFair s k n (news_heard s loud k u o)
+  fair_news : (loud : Bool) (u : Update) (o : Effect) → IsWellMade s k n o → IsWellMade s k n (news_heard s loud k u o)
   unfolding news_heard
   fair_news loud u o fair = fair_passed_on loud u _ (fair_claim loud u u.claim _ (fair_kept u o fair))
 
-  fair_counted : (loud : Bool) (u : Update) (found : Option Suspicion) (o : Effect) → IsFair s k n o → IsFair s k n (accusation_counted loud k u (option_map (answer_of k.at) found) o)
+  fair_counted : (loud : Bool) (u : Update) (found : Option HeldSuspicion) (o : Effect) → IsWellMade s k n o → IsWellMade s k n (accusation_counted loud k u (option_map (answer_of k.at) found) o)
   fair_counted loud u None o fair = fair
   fair_counted loud u (Some suspicion) o fair = fair_passed_on loud u _ (fair_own _ _ _ (omega arith) (fair_told loud _ _ _ o fair))
 
-  fair_accusation : (loud : Bool) (u : Update) (o : Effect) → IsFair s k n o → IsFair s k n (accusation_heard loud k u o)
+  fair_accusation : (loud : Bool) (u : Update) (o : Effect) → IsWellMade s k n o → IsWellMade s k n (accusation_heard loud k u o)
   unfolding accusation_heard
   fair_accusation loud u o fair =
       fair_counted loud u (accused_of o.state.suspicions u.subject u.accuser o.state.next_number) _ (fair_state _ o refl fair)
 
-  fair_other : (loud : Bool) (u : Update) (held : Option (Claim × ℕ)) (o : Effect) → IsFair s k n o → IsFair s k n (other_applied s loud k u held o)
+  fair_other : (loud : Bool) (u : Update) (held : Option (Claim × ℕ)) (o : Effect) → IsWellMade s k n o → IsWellMade s k n (other_applied s loud k u held o)
   fair_other loud u None o fair = fair_news loud u o fair
   fair_other loud u (Some held) o fair =
       fair_choice (does_override (u.claim, u.inc) held) _ _ (fair_news loud u o fair) (fair_choice (is_repeated u held) _ _ (fair_accusation loud u o fair) fair)
 
-  fair_applied : (loud : Bool) (u : Update) (o : Effect) → IsFair s k n o → IsFair s k n (applied s loud k u o)
+  fair_applied : (loud : Bool) (u : Update) (o : Effect) → IsWellMade s k n o → IsWellMade s k n (applied s loud k u o)
   unfolding applied
   fair_applied loud u o fair =
       fair_choice (nat_eq u.subject k.to) _ _ (fair_own_applied u.claim u.inc o fair) (fair_other loud u (get o.state.table u.subject) o fair)
 
-  fair_all : (loud : Bool) (us : List Update) (o : Effect) → IsFair s k n o → IsFair s k n (all_applied s loud k us o)
+  fair_all : (loud : Bool) (us : List Update) (o : Effect) → IsWellMade s k n o → IsWellMade s k n (all_applied s loud k us o)
   unfolding all_applied
   fair_all loud [] o fair = fair
   fair_all loud (u ∷ us) o fair = fair_all loud us _ (fair_applied loud u o fair)
 
   -- ---- joins
 
-  fair_first_period : (o : Effect) → IsFair s k n o → IsFair s k n (first_period_set s k o)
+  fair_first_period : (o : Effect) → IsWellMade s k n o → IsWellMade s k n (first_period_set s k o)
   unfolding first_period_set
   fair_first_period o fair = fair_timer _ _ _ (omega arith) (fair_state _ o refl fair)
 
-  fair_asked_join : (o : Effect) → IsFair s k n o → IsFair s k n (join_asked s k o)
+  fair_asked_join : (o : Effect) → IsWellMade s k n o → IsWellMade s k n (join_asked s k o)
   unfolding join_asked
   fair_asked_join o fair = fair_timer _ _ _ (omega (arith, sound.timeout.0, sound.timeout.1)) (fair_join o fair)
 
-  fair_started : (o : Effect) → IsFair s k n o → IsFair s k n (started s k o)
+  fair_started : (o : Effect) → IsWellMade s k n o → IsWellMade s k n (started s k o)
   unfolding started began joining_begun
   fair_started o fair =
       let told = fair_row _ _ _ _ o fair in
       fair_choice (nat_eq (start_of s k.to) 0) _ _ (fair_first_period _ (fair_state _ _ refl told)) (fair_asked_join _ (fair_state _ _ refl told))
 
-  fair_crashed : (o : Effect) → IsFair s k n o → IsFair s k n (crashed k o)
+  fair_crashed : (o : Effect) → IsWellMade s k n o → IsWellMade s k n (crashed k o)
   unfolding crashed
   fair_crashed o fair = fair_row _ _ _ _ _ (fair_state _ o refl fair)
 
-  fair_join_handled : (o : Effect) → IsFair s k n o → IsFair s k n (join_handled s k o)
+  fair_join_handled : (o : Effect) → IsWellMade s k n o → IsWellMade s k n (join_handled s k o)
   unfolding join_handled
   fair_join_handled o fair = fair_welcome k.from _ (fair_applied true _ o fair)
 
-  fair_joined : (entries : List Update) (o : Effect) → IsFair s k n o → IsFair s k n (joined s k entries o)
+  fair_joined : (entries : List Update) (o : Effect) → IsWellMade s k n o → IsWellMade s k n (joined s k entries o)
   unfolding joined
   fair_joined entries o fair = fair_first_period _ (fair_all false entries _ (fair_row _ _ _ _ _ (fair_state _ o refl fair)))
 
   -- ---- probes
 
-  fair_suspected : (target : ℕ) (held : Option (Claim × ℕ)) (o : Effect) → IsFair s k n o → IsFair s k n (suspected s k target held o)
+  fair_suspected : (target : ℕ) (held : Option (Claim × ℕ)) (o : Effect) → IsWellMade s k n o → IsWellMade s k n (suspected s k target held o)
   fair_suspected target None o fair = fair
   fair_suspected target (Some held) o fair = fair_choice (is_confirm held.0) _ _ fair (fair_applied true _ o fair)
 
-  fair_failed : (probe : Probe) (o : Effect) → IsFair s k n o → IsFair s k n (probe_failed s k probe o)
+  fair_failed : (probe : Probe) (o : Effect) → IsWellMade s k n o → IsWellMade s k n (probe_failed s k probe o)
   unfolding probe_failed
   fair_failed probe o fair = fair_suspected probe.target _ _ (fair_health _ _ (fair_row _ _ _ _ o fair))
 
-  fair_ended : (probe : Option Probe) (o : Effect) → IsFair s k n o → IsFair s k n (probe_ended s k probe o)
+  fair_ended : (probe : Option Probe) (o : Effect) → IsWellMade s k n o → IsWellMade s k n (probe_ended s k probe o)
   unfolding probe_ended
   fair_ended None o fair = fair
   fair_ended (Some probe) o fair = fair_choice probe.acked _ _ (fair_health _ o fair) (fair_failed probe o fair)
 
-  fair_begun : (target : ℕ) (o : Effect) → IsFair s k n o → IsFair s k n (probe_begun s k target o)
+  fair_begun : (target : ℕ) (o : Effect) → IsWellMade s k n o → IsWellMade s k n (probe_begun s k target o)
   unfolding probe_begun
   fair_begun target o fair = fair_timer _ _ _ (omega (arith, sound.timeout.0)) (fair_ping target k.to _ _ (fair_state _ o refl fair))
 
-  fair_target : (target : Option ℕ) (o : Effect) → IsFair s k n o → IsFair s k n (target_probed s k target o)
+  fair_target : (target : Option ℕ) (o : Effect) → IsWellMade s k n o → IsWellMade s k n (target_probed s k target o)
   fair_target None o fair = fair_state _ o refl fair
   fair_target (Some target) o fair = fair_begun target o fair
 
-  fair_next : (o : Effect) → IsFair s k n o → IsFair s k n (next_probed s k o)
+  fair_next : (o : Effect) → IsWellMade s k n o → IsWellMade s k n (next_probed s k o)
   unfolding next_probed
   fair_next o fair = fair_target (next_of o.state.words o.state.rota).0 _ (fair_state _ o refl fair)
 
-  fair_period : (o : Effect) → IsFair s k n o → IsFair s k n (period_begun s k o)
+  fair_period : (o : Effect) → IsWellMade s k n o → IsWellMade s k n (period_begun s k o)
   unfolding period_begun
   fair_period o fair = fair_timer _ _ _ (omega (arith, sound.timeout.0, sound.timeout.1)) (fair_next _ (fair_ended o.state.probe o fair))
 
-  fair_asked : (target seq : ℕ) (helpers : List ℕ) (o : Effect) → IsFair s k n o → IsFair s k n (all_asked s k target seq helpers o)
+  fair_asked : (target seq : ℕ) (helpers : List ℕ) (o : Effect) → IsWellMade s k n o → IsWellMade s k n (all_asked s k target seq helpers o)
   unfolding all_asked
   fair_asked target seq [] o fair = fair
   fair_asked target seq (helper ∷ helpers) o fair = fair_asked target seq helpers _ (fair_ping_req target seq helper o fair)
 
-  fair_help : (probe : Probe) (o : Effect) → IsFair s k n o → IsFair s k n (help_asked s k probe o)
+  fair_help : (probe : Probe) (o : Effect) → IsWellMade s k n o → IsWellMade s k n (help_asked s k probe o)
   unfolding help_asked
   fair_help probe o fair =
       let asked = fair_asked probe.target probe.seq _ _ (fair_state _ o refl fair) in
       fair_choice s.lifeguard.probe _ _ (fair_state _ _ refl asked) asked
 
-  fair_timed_out : (seq : ℕ) (probe : Option Probe) (o : Effect) → IsFair s k n o → IsFair s k n (timed_out s k seq probe o)
+  fair_timed_out : (seq : ℕ) (probe : Option Probe) (o : Effect) → IsWellMade s k n o → IsWellMade s k n (timed_out s k seq probe o)
   unfolding timed_out
   fair_timed_out seq None o fair = fair
   fair_timed_out seq (Some probe) o fair = fair_choice (nat_eq probe.seq seq && not probe.acked && nat_lt 0 s.swim.helpers) _ _ (fair_help probe o fair) fair
 
-  fair_ping_heard : (initiator seq : ℕ) (us : List Update) (o : Effect) → IsFair s k n o → IsFair s k n (ping_heard s k initiator seq us o)
+  fair_ping_heard : (initiator seq : ℕ) (us : List Update) (o : Effect) → IsWellMade s k n o → IsWellMade s k n (ping_heard s k initiator seq us o)
   unfolding ping_heard
   fair_ping_heard initiator seq us o fair = fair_ack k.from initiator seq _ (fair_all true us o fair)
 
-  fair_ping_req_heard : (seq target : ℕ) (us : List Update) (o : Effect) → IsFair s k n o → IsFair s k n (ping_req_heard s k seq target us o)
+  fair_ping_req_heard : (seq target : ℕ) (us : List Update) (o : Effect) → IsWellMade s k n o → IsWellMade s k n (ping_req_heard s k seq target us o)
   unfolding ping_req_heard
   fair_ping_req_heard seq target us o fair =
       let pinged = fair_ping target k.from seq _ (fair_all true us o fair) in
       fair_choice s.lifeguard.probe _ _ (fair_timer _ _ _ (omega arith) (fair_state _ _ refl pinged)) pinged
 
-  fair_taken : (initiator seq : ℕ) (o : Effect) → IsFair s k n o → IsFair s k n (ack_taken s k initiator seq o)
+  fair_taken : (initiator seq : ℕ) (o : Effect) → IsWellMade s k n o → IsWellMade s k n (ack_taken s k initiator seq o)
   unfolding ack_taken
   fair_taken initiator seq o fair = fair_choice (nat_eq initiator k.to) _ _ (fair_state _ o refl fair) (fair_ack initiator initiator seq _ (fair_state _ o refl fair))
 
-  fair_ack_heard : (initiator seq : ℕ) (us : List Update) (o : Effect) → IsFair s k n o → IsFair s k n (ack_heard s k initiator seq us o)
+  fair_ack_heard : (initiator seq : ℕ) (us : List Update) (o : Effect) → IsWellMade s k n o → IsWellMade s k n (ack_heard s k initiator seq us o)
   unfolding ack_heard
   fair_ack_heard initiator seq us o fair = fair_taken initiator seq _ (fair_all true us o fair)
 
-  fair_nack_due : (initiator seq : ℕ) (o : Effect) → IsFair s k n o → IsFair s k n (nack_due s k initiator seq o)
+  fair_nack_due : (initiator seq : ℕ) (o : Effect) → IsWellMade s k n o → IsWellMade s k n (nack_due s k initiator seq o)
   unfolding nack_due
   fair_nack_due initiator seq o fair =
       fair_choice (set.contains o.state.relays (initiator, seq)) _ _ (fair_nack initiator seq _ (fair_state _ o refl fair)) fair
 
-  fair_nack_heard : (seq : ℕ) (o : Effect) → IsFair s k n o → IsFair s k n (nack_heard seq o)
+  fair_nack_heard : (seq : ℕ) (o : Effect) → IsWellMade s k n o → IsWellMade s k n (nack_heard seq o)
   unfolding nack_heard
   fair_nack_heard seq o fair = fair_state _ o refl fair
 
-  fair_confirmed : (subject : ℕ) (held : Option (Claim × ℕ)) (o : Effect) → IsFair s k n o → IsFair s k n (confirmed s k subject held o)
+  fair_confirmed : (subject : ℕ) (held : Option (Claim × ℕ)) (o : Effect) → IsWellMade s k n o → IsWellMade s k n (confirmed s k subject held o)
   fair_confirmed subject None o fair = fair
   fair_confirmed subject (Some held) o fair = fair_applied true _ o fair
 
-  fair_over : (subject : ℕ) (o : Effect) → IsFair s k n o → IsFair s k n (suspicion_over s k subject o)
+  fair_over : (subject : ℕ) (o : Effect) → IsWellMade s k n o → IsWellMade s k n (suspicion_over s k subject o)
   unfolding suspicion_over
   fair_over subject o fair =
       fair_choice (is_due o.state.suspicions subject k.number) _ _ (fair_confirmed subject (get o.state.table subject) o fair) fair
 
-  fair_handled : (content : Content) (phase : Phase) (o : Effect) → IsFair s k n o → IsFair s k n (handled s k content phase o)
+  fair_handled : (content : Content) (phase : Phase) (o : Effect) → IsWellMade s k n o → IsWellMade s k n (handled s k content phase o)
   unfolding handled
   fair_handled Start Waiting o fair = fair_started o fair
   fair_handled Crash Joining o fair = fair_crashed o fair
@@ -375,7 +375,7 @@ module _ (s : Setup) (sound : IsSound s) (k : Key) (n : ℕ) where
   fair_handled (SuspicionTimer subject) Running o fair = fair_over subject o fair
   fair_handled _ _ o fair = fair
 
-pub fair_step : (s : Setup) → IsSound s → (k : Key) (c : Content) (t : State) → IsFair s k t.next_number (step s k c t)
+pub fair_step : (s : Setup) → IsSound s → (k : Key) (c : Content) (t : State) → IsWellMade s k t.next_number (step s k c t)
 unfolding step
 fair_step s sound k c t = fair_handled s sound k t.next_number c t.phase (unchanged t) (fair_begin s sound k t.next_number t refl)
 

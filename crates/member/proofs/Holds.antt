@@ -9,7 +9,7 @@ use Rattle.std.proofs.lemmas.List.Sums.{sum_by-insert}
 use Rattle.std.proofs.lemmas.List.Sorted.{sum_by-IsPermutation}
 use Rattle.scenario.specs.Setup.{Setup, member_count}
 use Rattle.streams.specs.Draw.{Words, AreWords, below_of}
-use Rattle.probing.specs.ProbeOrder.{ProbeOrder, IsSound, count_of, next_of, insert_of, remove_of}
+use Rattle.probing.specs.ProbeOrder.{ProbeOrder, IsSoundOrder, times_in, next_of, insert_of, remove_of}
 use Rattle.probing.proofs.SoundLemmas.{one_if, one_if-other}
 use Rattle.probing.proofs.RoundLemmas.{is_probe, next_sound}
 use Rattle.probing.proofs.OthersLemmas.{removed_absent, others_counted, remove_sound}
@@ -34,8 +34,8 @@ others_cases s m table k q v true e low apart old there =
     let same : q ≡ k = eqb-true q k e in subst (λ r. (r < member_count s) × (r ≢ m)) (sym same) (low, apart)
 others_cases s m table k q v false e low apart old there = old there
 
-listed_cases : (table : Known) (rota : ProbeOrder) (k q : ℕ) (v : Held) (b : Bool) → (contains_key table q ≡ false → count_of rota.members q ≡ 0)
-    → is_some (cond b (Some v) (get table q)) ≡ false → count_of rota.members q ≡ 0
+listed_cases : (table : Known) (rota : ProbeOrder) (k q : ℕ) (v : Held) (b : Bool) → (contains_key table q ≡ false → times_in rota.members q ≡ 0)
+    → is_some (cond b (Some v) (get table q)) ≡ false → times_in rota.members q ≡ 0
 listed_cases table rota k q v true old none = absurd (false≢true (sym none))
 listed_cases table rota k q v false old none = old none
 
@@ -50,7 +50,7 @@ holds_put s m table rota k v low apart holds = record {
 
 -- and into the rota
 pub holds_place : (s : Setup) (m : ℕ) (table : Known) (rota : ProbeOrder) (words : Words) (k : ℕ) → contains_key table k ≡ true
-    → IsSound (insert_of words k rota).0 → HoldsOthers s m table rota → HoldsOthers s m table (insert_of words k rota).0
+    → IsSoundOrder (insert_of words k rota).0 → HoldsOthers s m table rota → HoldsOthers s m table (insert_of words k rota).0
 unfolding insert_of
 holds_place s m table rota words k there sound holds = record {
   others = holds.others;
@@ -67,7 +67,7 @@ holds_remove s m table rota k holds = record {
   others = holds.others;
   listed = λ q none.
       elim (cases_Bool (eqb k q)) [
-        | inl e ↦ subst (λ r. count_of (remove_of k rota).members r ≡ 0) (eqb-true k q e) (removed_absent k rota holds.sound)
+        | inl e ↦ subst (λ r. times_in (remove_of k rota).members r ≡ 0) (eqb-true k q e) (removed_absent k rota holds.sound)
         | inr e ↦ others_counted k q rota holds.sound (eqb-false k q e) ∙ holds.listed q none
       ];
   sound = remove_sound k rota holds.sound;

@@ -8,8 +8,8 @@ use Rattle.std.specs.FinMap.{empty, get, find, get-empty}
 use Rattle.std.proofs.lemmas.Bool.{false≢true, eqb-true, eqb-false, cases_Bool, cond_both, and_parts}
 use Rattle.std.proofs.lemmas.List.FromFn.{filter_of_map_range_with_len_more}
 use Rattle.scenario.specs.Setup.{Setup, member_count}
-use Rattle.probing.specs.ProbeOrder.{ProbeOrder, NoRepeats, IsSound, count_of}
-use Rattle.probing.proofs.SoundLemmas.{count_of-cons, one_if-same, one_if-other}
+use Rattle.probing.specs.ProbeOrder.{ProbeOrder, NoRepeats, IsSoundOrder, times_in}
+use Rattle.probing.proofs.SoundLemmas.{times_in-cons, one_if-same, one_if-other}
 use Rattle.incarnation.specs.declared.Claim.{Claim}
 use Rattle.incarnation.specs.declared.Claim.TheVariants.{Alive}
 use Rattle.membership.specs.Table.{Known, all_alive}
@@ -18,10 +18,10 @@ use Rattle.member.specs.Here.{HoldsOthers}
 use Rattle.member.specs.Step.{is_first_other, first_others}
 
 -- a member that knows nobody
-pub holds_none : (s : Setup) (m : ℕ) (table : Known) (rota : ProbeOrder) → table ≡ empty → rota.members ≡ [] → IsSound rota → HoldsOthers s m table rota
+pub holds_none : (s : Setup) (m : ℕ) (table : Known) (rota : ProbeOrder) → table ≡ empty → rota.members ≡ [] → IsSoundOrder rota → HoldsOthers s m table rota
 holds_none s m table rota nobody none sound = record {
   others = λ q there. absurd (false≢true (sym (ap is_some (ap (λ (t : Known). get t q) nobody ∙ get-empty nat_cmp q)) ∙ there));
-  listed = λ q _. ap (λ l. count_of l q) none;
+  listed = λ q _. ap (λ l. times_in l q) none;
   sound = sound;
 }
 
@@ -40,40 +40,40 @@ others_next p i old new b so_far is more =
     ∙ sym (filter_of_map_range_with_len_more p (λ x. x) 0 i i (omega arith))
     ∙ ap (filter p) (map_same (range_with_len 0 (i + 1)))
 
-no_number : (a n q : ℕ) → q < a → count_of (range_with_len a n) q ≡ 0
+no_number : (a n q : ℕ) → q < a → times_in (range_with_len a n) q ≡ 0
 no_number a zero q h = refl
 no_number a (suc n) q h =
-    let rest : count_of (range_with_len (a + 1) n) q ≡ 0 = no_number (a + 1) n q (omega arith) in
+    let rest : times_in (range_with_len (a + 1) n) q ≡ 0 = no_number (a + 1) n q (omega arith) in
     let other : a ≢ q = λ same. omega arith in
-    omega (arith, count_of-cons a (range_with_len (a + 1) n) q, one_if-other a q other, rest)
+    omega (arith, times_in-cons a (range_with_len (a + 1) n) q, one_if-other a q other, rest)
 
-one_number : (a n q : ℕ) → count_of (range_with_len a n) q ≤ 1
+one_number : (a n q : ℕ) → times_in (range_with_len a n) q ≤ 1
 one_number a zero q = omega arith
 one_number a (suc n) q =
     elim (cases_Bool (eqb a q)) [
       | inl e ↦
           let same : a ≡ q = eqb-true a q e in
-          let rest : count_of (range_with_len (a + 1) n) q ≡ 0 = no_number (a + 1) n q (omega arith) in
-          omega (arith, count_of-cons a (range_with_len (a + 1) n) q, one_if-same a q same, rest)
+          let rest : times_in (range_with_len (a + 1) n) q ≡ 0 = no_number (a + 1) n q (omega arith) in
+          omega (arith, times_in-cons a (range_with_len (a + 1) n) q, one_if-same a q same, rest)
       | inr e ↦
-          let rest : count_of (range_with_len (a + 1) n) q ≤ 1 = one_number (a + 1) n q in
-          omega (arith, count_of-cons a (range_with_len (a + 1) n) q, one_if-other a q (eqb-false a q e), rest)
+          let rest : times_in (range_with_len (a + 1) n) q ≤ 1 = one_number (a + 1) n q in
+          omega (arith, times_in-cons a (range_with_len (a + 1) n) q, one_if-other a q (eqb-false a q e), rest)
     ]
 
-fewer : (p : ℕ → Bool) (xs : List ℕ) (q : ℕ) → count_of (filter p xs) q ≤ count_of xs q
+fewer : (p : ℕ → Bool) (xs : List ℕ) (q : ℕ) → times_in (filter p xs) q ≤ times_in xs q
 fewer p [] q = omega arith
 fewer p (x ∷ xs) q =
-    cond_both (p x) (x ∷ filter p xs) (filter p xs) (λ l. count_of l q ≤ count_of (x ∷ xs) q)
-    (λ _. omega (arith, count_of-cons x (filter p xs) q, count_of-cons x xs q, fewer p xs q))
-    (λ _. omega (arith, count_of-cons x xs q, fewer p xs q))
+    cond_both (p x) (x ∷ filter p xs) (filter p xs) (λ l. times_in l q ≤ times_in (x ∷ xs) q)
+    (λ _. omega (arith, times_in-cons x (filter p xs) q, times_in-cons x xs q, fewer p xs q))
+    (λ _. omega (arith, times_in-cons x xs q, fewer p xs q))
 
 -- no member is twice among them
 pub first_distinct : (s : Setup) (m : ℕ) (xs : List ℕ) → xs ≡ first_others s m → NoRepeats xs
 unfolding first_others
 first_distinct s m xs is q =
-    let few : count_of (filter (is_first_other s m) (range_with_len 0 (member_count s))) q ≤ 1 =
+    let few : times_in (filter (is_first_other s m) (range_with_len 0 (member_count s))) q ≤ 1 =
     omega (arith, fewer (is_first_other s m) (range_with_len 0 (member_count s)) q, one_number 0 (member_count s) q) in
-    subst (λ l. count_of l q ≤ 1) (sym is) few
+    subst (λ l. times_in l q ≤ 1) (sym is) few
 
 apart : (a m : ℕ) (b : Bool) → eqb a m ≡ b → not b ≡ true → a ≢ m
 apart a m true e h = absurd (false≢true h)
@@ -100,21 +100,21 @@ alive_holds P (x ∷ xs) all q there =
     holds_cases P x q (find nat_cmp q (put_all xs)) (eqb q x) refl all.0 (alive_holds P xs all.1 q)
     (subst (λ b. is_some (cond b (Some (Alive, 0)) (find nat_cmp q (put_all xs))) ≡ true) (unsigned_tied q x) there)
 
-none_cases : (x : ℕ) (xs : List ℕ) (q : ℕ) (o : Option (Claim × ℕ)) (b : Bool) → eqb q x ≡ b → (is_some o ≡ false → count_of xs q ≡ 0)
-    → is_some (cond b (Some (Alive, 0)) o) ≡ false → count_of (x ∷ xs) q ≡ 0
+none_cases : (x : ℕ) (xs : List ℕ) (q : ℕ) (o : Option (Claim × ℕ)) (b : Bool) → eqb q x ≡ b → (is_some o ≡ false → times_in xs q ≡ 0)
+    → is_some (cond b (Some (Alive, 0)) o) ≡ false → times_in (x ∷ xs) q ≡ 0
 none_cases x xs q o true e rest none = absurd (false≢true (sym none))
 none_cases x xs q o false e rest none =
     let other : x ≢ q = λ same. eqb-false q x e (sym same) in
-    omega (arith, count_of-cons x xs q, one_if-other x q other, rest none)
+    omega (arith, times_in-cons x xs q, one_if-other x q other, rest none)
 
-alive_none : (xs : List ℕ) (q : ℕ) → is_some (find nat_cmp q (put_all xs)) ≡ false → count_of xs q ≡ 0
+alive_none : (xs : List ℕ) (q : ℕ) → is_some (find nat_cmp q (put_all xs)) ≡ false → times_in xs q ≡ 0
 alive_none [] q none = refl
 alive_none (x ∷ xs) q none =
     none_cases x xs q (find nat_cmp q (put_all xs)) (eqb q x) refl (alive_none xs q)
     (subst (λ b. is_some (cond b (Some (Alive, 0)) (find nat_cmp q (put_all xs))) ≡ false) (unsigned_tied q x) none)
 
 -- a member that starts at moment 0 holds others of the scenario, and probes those that it holds
-pub holds_first : (s : Setup) (m : ℕ) (table : Known) (rota : ProbeOrder) (xs : List ℕ) → xs ≡ first_others s m → table ≡ all_alive xs → rota.members ≡ xs → IsSound rota
+pub holds_first : (s : Setup) (m : ℕ) (table : Known) (rota : ProbeOrder) (xs : List ℕ) → xs ≡ first_others s m → table ≡ all_alive xs → rota.members ≡ xs → IsSoundOrder rota
     → HoldsOthers s m table rota
 unfolding first_others
 holds_first s m table rota xs is alive listed sound =
@@ -124,7 +124,7 @@ holds_first s m table rota xs is alive listed sound =
     let here : (q : ℕ) → get table q ≡ find nat_cmp q (put_all xs) = λ q. ap (λ (t : Known). get t q) alive ∙ get-alive xs q in
     record {
       others = λ q there. alive_holds (λ r. (r < member_count s) × (r ≢ m)) xs all q (sym (ap is_some (here q)) ∙ there);
-      listed = λ q none. ap (λ l. count_of l q) listed ∙ alive_none xs q (sym (ap is_some (here q)) ∙ none);
+      listed = λ q none. ap (λ l. times_in l q) listed ∙ alive_none xs q (sym (ap is_some (here q)) ∙ none);
       sound = sound;
     }
 

@@ -25,7 +25,7 @@ use Rattle.member.specs.Apply.{with_put, passed_on, with_health, refuted, heard_
 use Rattle.lifeguard.specs.declared.probe.Probe.{Probe}
 use Rattle.lifeguard.specs.Probe.{fresh_probe}
 use Rattle.member.specs.Step.{all_asked, suspected, probe_failed, probe_ended, probe_begun, target_probed, next_probed, with_relay, ack_taken, first_period_set}
-use Rattle.member.specs.View.{state_of, effect_of}
+use Rattle.member.specs.StateOf.{state_of, effect_of}
 use Rattle.member.specs.Worn.{IsWorn}
 
 -- no member in memory has a counter past its limit

@@ -13,7 +13,7 @@ use Rattle.incarnation.specs.declared.Update.{Update}
 use Rattle.lifeguard.specs.Health.{LocalHealth, raised}
 use Rattle.probing.specs.ProbeOrder.{insert_of, remove_of}
 use Rattle.suspicion.specs.Settings.{terms_of}
-use Rattle.suspicion.specs.Suspicions.{Suspicion, started_of, accused_of, after_accusation, answer_of}
+use Rattle.suspicion.specs.Suspicions.{HeldSuspicion, started_of, accused_of, after_accusation, answer_of}
 use Rattle.suspicion.specs.declared.suspicions.Accused.{Accused}
 use Rattle.suspicion.specs.Times.{timeout}
 use Rattle.member.specs.declared.content.Content.TheVariants.{SuspicionTimer}
@@ -92,7 +92,7 @@ unfoldable pub alive_heard : Bool → Key → Update → Effect → Effect
 alive_heard loud k u o = with_told loud k what.Alive u.subject u.inc (on_state (without_suspicion u.subject) o)
 
 -- a suspicion that starts now, with this accuser alone, among those whom the table does not hold as confirmed
-abbrev pub suspicion_begun : Setup → Key → Update → State → Suspicion
+abbrev pub suspicion_begun : Setup → Key → Update → State → HeldSuspicion
 suspicion_begun s k u t = started_of (terms_of s) u.accuser (live_count t.table) k.at t.next_number
 
 -- Suspect starts a suspicion anew, and sets its timer. The timer's number tells it from older ones.

@@ -8,7 +8,7 @@ use Rattle.member.specs.Turn.{Effect}
 use Rattle.member.specs.Places.{place_of}
 
 -- n is the member's next number at the beginning
-pub record IsFair (s : Setup) (k : Key) (n : ℕ) (o : Effect) : Type 0 where
+pub record IsWellMade (s : Setup) (k : Key) (n : ℕ) (o : Effect) : Type 0 where
   -- each event comes later than now
   pub later : AllByRecursion (λ e. k.at < e.0.at) o.events
   -- and one for another member no earlier than the pair's link lets it

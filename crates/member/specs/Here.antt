@@ -7,14 +7,14 @@ use Rattle.base.specs.declared.key.Key.{Key}
 use Rattle.scenario.specs.Setup.{Setup, IsSound, member_count, contact_of, start_of}
 use Rattle.links.specs.declared.table.Links.{Links}
 use Rattle.links.specs.Arrival.{AreLinksOf}
-use Rattle.probing.specs.ProbeOrder.{ProbeOrder, count_of, IsSound as IsSoundRota}
+use Rattle.probing.specs.ProbeOrder.{ProbeOrder, times_in, IsSoundOrder as IsSoundRota}
 use Rattle.member.specs.declared.content.Content.{Content}
 use Rattle.member.specs.declared.content.Content.TheVariants.{NackTimer, Welcome, Ping, PingReq, Ack}
 use Rattle.membership.specs.Table.{Known}
 use Rattle.member.specs.State.{State}
 
 -- the links are the scenario's, the event is one of a run of it, and its receiver and its sender are members
-pub record IsHere (s : Setup) (l : Links) (k : Key) : Type 0 where
+pub record IsSoundSetting (s : Setup) (l : Links) (k : Key) : Type 0 where
   pub sound : IsSound s
   pub links : AreLinksOf l s
   pub early : k.at ≤ 2 ^ 40
@@ -37,7 +37,7 @@ contact-prop s m a b =
 -- The table is of other members of the scenario, and the rota of members in the table.
 pub record HoldsOthers (s : Setup) (m : ℕ) (table : Known) (rota : ProbeOrder) : Type 0 where
   pub others : (q : ℕ) → contains_key table q ≡ true → (q < member_count s) × (q ≢ m)
-  pub listed : (q : ℕ) → contains_key table q ≡ false → count_of rota.members q ≡ 0
+  pub listed : (q : ℕ) → contains_key table q ≡ false → times_in rota.members q ≡ 0
   pub sound : IsSoundRota rota
 
 -- what a member of a scenario keeps of its state
@@ -45,10 +45,10 @@ abbrev pub HoldsMembers : Setup → ℕ → State → Type 0
 HoldsMembers s m t = HoldsOthers s m t.table t.rota
 
 -- the members that a content names are among the first n
-abbrev pub NamesMembers : ℕ → Content → Type 0
-NamesMembers n (Welcome entries) = All (λ u. u.subject < n) entries
-NamesMembers n (Ping initiator seq updates) = (initiator < n) × All (λ u. u.subject < n) updates
-NamesMembers n (PingReq seq target updates) = (target < n) × All (λ u. u.subject < n) updates
-NamesMembers n (Ack initiator seq updates) = (initiator < n) × All (λ u. u.subject < n) updates
-NamesMembers n (NackTimer initiator seq) = initiator < n
-NamesMembers n _ = Unit {0}
+abbrev pub MentionsMembers : ℕ → Content → Type 0
+MentionsMembers n (Welcome entries) = All (λ u. u.subject < n) entries
+MentionsMembers n (Ping initiator seq updates) = (initiator < n) × All (λ u. u.subject < n) updates
+MentionsMembers n (PingReq seq target updates) = (target < n) × All (λ u. u.subject < n) updates
+MentionsMembers n (Ack initiator seq updates) = (initiator < n) × All (λ u. u.subject < n) updates
+MentionsMembers n (NackTimer initiator seq) = initiator < n
+MentionsMembers n _ = Unit {0}

@@ -4,7 +4,7 @@ pub mod Send
 pub mod Apply
 pub mod Step
 pub mod Opening
-pub mod View
+pub mod StateOf
 pub mod Worn
 pub mod Here
 pub mod Makes

@@ -10,7 +10,7 @@ use Rattle.member.specs.declared.turn.StepError.{StepError}
 use Rattle.member.specs.declared.turn.StepError.TheVariants.{Memory, Worn}
 use Rattle.member.specs.Here.{HoldsMembers}
 use Rattle.member.specs.Turn.{Effect}
-use Rattle.member.specs.View.{state_of, effect_of}
+use Rattle.member.specs.StateOf.{state_of, effect_of}
 use Rattle.member.specs.Worn.{IsWorn}
 
 -- a member of the scenario

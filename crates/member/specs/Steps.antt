@@ -5,7 +5,7 @@ use Rattle.member.specs.declared.event.Event.{Event}
 use Rattle.member.specs.declared.event.Effects.{Effects}
 use Rattle.member.specs.declared.member.Member.{Member}
 use Rattle.member.specs.Step.{step}
-use Rattle.member.specs.View.{state_of, pair_of}
+use Rattle.member.specs.StateOf.{state_of, pair_of}
 
 -- the member's state is that after the step, and what the step makes is appended
 pub record Steps (s : Setup) (event : Event) (old new : Member) (before after : Effects) : Type 0 where

@@ -1,7 +1,7 @@
 ghost use Rattle.std.specs.Prelude.{◌≡◌, ◌<◌};
 ghost use Rattle.member.specs.Makes.{AreAboutMembers, IsMember, KnowsMembers, Makes};
 ghost use Rattle.member.specs.Step.{answered, ack_taken, ack_heard, nack_heard};
-ghost use Rattle.member.specs.View.{effect_of, state_of};
+ghost use Rattle.member.specs.StateOf.{effect_of, state_of};
 
 use crate::here::Here;
 use crate::member::Member;

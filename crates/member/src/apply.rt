@@ -1,7 +1,7 @@
 ghost use Rattle.std.specs.Prelude.{◌≡◌, ◌≢◌, ◌<◌, OnOk};
 ghost use Rattle.member.specs.Makes.{AreAboutMembers, IsMade, IsMember, KnowsMembers, Makes};
 ghost use Rattle.member.specs.Apply.{with_health, refuted, heard_dead, own_applied, other_applied, applied, all_applied, is_repeated};
-ghost use Rattle.member.specs.View.{effect_of};
+ghost use Rattle.member.specs.StateOf.{effect_of};
 
 use crate::here::Here;
 use crate::member::Member;

@@ -1,7 +1,7 @@
 ghost use Rattle.std.specs.FinMap.{get};
 ghost use Rattle.member.specs.Makes.{KnowsMembers, Makes};
 ghost use Rattle.member.specs.Step.{confirmed, suspicion_over};
-ghost use Rattle.member.specs.View.{state_of};
+ghost use Rattle.member.specs.StateOf.{state_of};
 
 use crate::here::Here;
 use crate::member::Member;

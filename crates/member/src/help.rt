@@ -3,7 +3,7 @@ ghost use Rattle.member.specs.Makes.{Draws, IsMember, KnowsMembers, Makes};
 ghost use Rattle.probing.specs.ProbeOrder.{helpers_of};
 ghost use Rattle.membership.specs.Table.{alive_but};
 ghost use Rattle.member.specs.Step.{all_asked, help_asked, timed_out};
-ghost use Rattle.member.specs.View.{state_of};
+ghost use Rattle.member.specs.StateOf.{state_of};
 
 use crate::here::Here;
 use crate::member::Member;

@@ -1,5 +1,5 @@
 ghost use Rattle.std.proofs.Props.{props};
-ghost use Rattle.member.specs.Here.{IsHere, contact-prop};
+ghost use Rattle.member.specs.Here.{IsSoundSetting, contact-prop};
 
 use base::Key;
 use links::Links;
@@ -16,5 +16,5 @@ pub(crate) struct Here<'a> {
     pub(crate) scenario: &'a Scenario,
     pub(crate) links: &'a Links,
     // The links are the scenario's, and the event is one of a run of it.
-    ghost setting: { IsHere scenario.now links.now key } by { Prim.hlevel (props, contact-prop) },
+    ghost setting: { IsSoundSetting scenario.now links.now key } by { Prim.hlevel (props, contact-prop) },
 }

@@ -1,7 +1,7 @@
 ghost use Rattle.std.specs.Prelude.{◌≢◌, ◌<◌, OnOk};
 ghost use Rattle.member.specs.Makes.{IsMade, IsMember, KnowsMembers, Makes};
 ghost use Rattle.member.specs.Apply.{with_put, passed_on, with_told, claim_kept, alive_heard, suspect_heard, confirm_heard, claim_heard, news_heard, accusation_counted, accusation_heard};
-ghost use Rattle.member.specs.View.{effect_of, state_of};
+ghost use Rattle.member.specs.StateOf.{effect_of, state_of};
 
 use crate::content::Content;
 use crate::here::Here;

@@ -1,9 +1,9 @@
 ghost use Rattle.std.specs.Prelude.{◌≡◌, ◌<◌, [], IfOk};
 ghost use Rattle.scenario.specs.Setup.{member_count};
-ghost use Rattle.probing.specs.ProbeOrder.{round_over, IsSound};
+ghost use Rattle.probing.specs.ProbeOrder.{round_over, IsSoundOrder};
 ghost use Rattle.member.specs.Here.{HoldsMembers};
 ghost use Rattle.member.specs.Opening.{opening_state, opening_health, first_number};
-ghost use Rattle.member.specs.View.{state_of};
+ghost use Rattle.member.specs.StateOf.{state_of};
 ghost use Rattle.member.specs.Worn.{IsWorn};
 
 use crate::member::{Member, Phase};
@@ -44,7 +44,7 @@ fn first_number(scenario: &Scenario, member: MemberId) -> u64
 pub(crate) fn empty_rota(alloc: Global) -> Result<Rota, Memory>
     ensures members { IfOk result (λ rota. rota.members ≡ []) }
     ensures value { IfOk result (λ rota. rota ≡ round_over []) }
-    ensures sound { IfOk result IsSound }
+    ensures sound { IfOk result IsSoundOrder }
 {
     Rota::of(Vec::new(alloc))
 }

@@ -3,7 +3,7 @@ ghost use Rattle.member.specs.Makes.{IsMember, KnowsMembers, Makes};
 ghost use Rattle.std.specs.FinMap.{get};
 ghost use Rattle.probing.specs.ProbeOrder.{next_of};
 ghost use Rattle.member.specs.Step.{probe_ended, probe_failed, suspected, probe_begun, next_probed, period_begun};
-ghost use Rattle.member.specs.View.{state_of};
+ghost use Rattle.member.specs.StateOf.{state_of};
 
 use crate::content::Content;
 use crate::here::Here;

@@ -3,7 +3,7 @@ ghost use Rattle.links.specs.Arrival.{arrival_of};
 ghost use Rattle.member.specs.Makes.{Draws, IsMade, IsMember, KnowsMembers, Makes};
 ghost use Rattle.membership.specs.Table.{live_count};
 ghost use Rattle.member.specs.Send.{whole_table, sent, sent_off, carried, with_picks, buddy_of, ping_sent, ping_req_sent, ack_sent, nack_sent, join_sent, welcome_sent};
-ghost use Rattle.member.specs.View.{state_of};
+ghost use Rattle.member.specs.StateOf.{state_of};
 
 use crate::content::Content;
 use crate::here::Here;

@@ -1,11 +1,11 @@
 ghost use Rattle.std.specs.Prelude.{◌≡◌, ◌++◌, OnOk, IfErr, IsErrOf};
 ghost use Rattle.scenario.specs.Setup.{member_count};
-ghost use Rattle.member.specs.Here.{IsHere, HoldsMembers};
+ghost use Rattle.member.specs.Here.{IsSoundSetting, HoldsMembers};
 ghost use Rattle.member.specs.Makes.{KnowsMembers, Makes};
-ghost use Rattle.member.specs.Here.{NamesMembers};
+ghost use Rattle.member.specs.Here.{MentionsMembers};
 ghost use Rattle.member.specs.Step.{step, handled, probing_handled};
 ghost use Rattle.member.specs.Steps.{Steps};
-ghost use Rattle.member.specs.View.{state_of};
+ghost use Rattle.member.specs.StateOf.{state_of};
 ghost use Rattle.member.specs.Worn.{IsWorn};
 
 use crate::content::Content;
@@ -44,7 +44,7 @@ impl Member {
         content: &Content,
     ) -> Result<(), StepError>
         requires known { KnowsMembers here.now self.old }
-        requires names { NamesMembers (member_count here.now.scenario.now) content.now }
+        requires names { MentionsMembers (member_count here.now.scenario.now) content.now }
         ensures { Makes here.now result self.old turn.old self.new turn.new (handled here.now.scenario.now here.now.key content.now Phase.Joining) }
     {
         match content {
@@ -64,7 +64,7 @@ impl Member {
         content: &Content,
     ) -> Result<(), StepError>
         requires known { KnowsMembers here.now self.old }
-        requires names { NamesMembers (member_count here.now.scenario.now) content.now }
+        requires names { MentionsMembers (member_count here.now.scenario.now) content.now }
         ensures { Makes here.now result self.old turn.old self.new turn.new (handled here.now.scenario.now here.now.key content.now Phase.Running) }
     {
         match content {
@@ -90,7 +90,7 @@ impl Member {
         content: &Content,
     ) -> Result<(), StepError>
         requires known { KnowsMembers here.now self.old }
-        requires names { NamesMembers (member_count here.now.scenario.now) content.now }
+        requires names { MentionsMembers (member_count here.now.scenario.now) content.now }
         ensures { Makes here.now result self.old turn.old self.new turn.new (probing_handled here.now.scenario.now here.now.key content.now) }
     {
         match content {
@@ -117,7 +117,7 @@ impl Member {
     #[tactic(auto, unfolding(crate::specs::Step::handled))]
     fn handle(&mut self, turn: &mut Turn, here: &Here, content: &Content) -> Result<(), StepError>
         requires known { KnowsMembers here.now self.old }
-        requires names { NamesMembers (member_count here.now.scenario.now) content.now }
+        requires names { MentionsMembers (member_count here.now.scenario.now) content.now }
         ensures { Makes here.now result self.old turn.old self.new turn.new (handled here.now.scenario.now here.now.key content.now (state_of self.old).phase) }
     {
         match self.phase {
@@ -142,9 +142,9 @@ impl Member {
         links: &Links,
         out: &mut Effects,
     ) -> Result<(), StepError>
-        requires here { IsHere scenario.now links.now event.key }
+        requires here { IsSoundSetting scenario.now links.now event.key }
         requires known { HoldsMembers scenario.now event.key.to (state_of self.old) }
-        requires names { NamesMembers (member_count scenario.now) event.content }
+        requires names { MentionsMembers (member_count scenario.now) event.content }
         ensures ok { OnOk result (Steps scenario.now event self.old self.new out.old out.new) }
         ensures worn { IsErrOf result StepError.Worn → IsWorn (step scenario.now event.key event.content (state_of self.old)).state }
         ensures within { OnOk result (¬ (IsWorn (state_of self.new))) }

@@ -3,8 +3,8 @@
 ghost use Rattle.std.specs.Prelude.{◌≡◌, ◌<◌, ◌≤◌, ◌^◌, All, IsTrue, OnOk, IfOk};
 ghost use Rattle.scenario.specs.Setup.{member_count};
 ghost use Rattle.links.specs.Arrival.{AreLinksOf};
-ghost use Rattle.member.specs.Here.{HoldsMembers, NamesMembers};
-ghost use Rattle.member.specs.View.{state_of};
+ghost use Rattle.member.specs.Here.{HoldsMembers, MentionsMembers};
+ghost use Rattle.member.specs.StateOf.{state_of};
 
 use crate::content::Content;
 use crate::event::{Effects, Event};
@@ -226,7 +226,7 @@ fn are_about(updates: &Updates, members: usize) -> bool
 
 /// Whether a content names the first so many members alone.
 fn names_members(content: &Content, members: usize) -> bool
-    ensures { IsTrue result → NamesMembers members content.now }
+    ensures { IsTrue result → MentionsMembers members content.now }
 {
     match content {
         Content::Welcome { entries } => are_about(entries, members),

@@ -1,7 +1,7 @@
 ghost use Rattle.std.specs.Prelude.{◌≡◌, ◌≤◌, ◌^◌, [], OnOk, IsErrOf};
 ghost use Rattle.member.specs.Makes.{IsMade, KnowsMembers, Makes};
 ghost use Rattle.member.specs.Turn.{with_row, with_event, with_number, with_timer};
-ghost use Rattle.member.specs.View.{effect_of, state_of};
+ghost use Rattle.member.specs.StateOf.{effect_of, state_of};
 ghost use Rattle.member.specs.Worn.{IsWorn};
 ghost use Rattle.member.specs.declared.turn.StepError.TheVariants as step_error;
 

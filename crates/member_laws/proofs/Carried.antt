@@ -12,7 +12,7 @@ use Rattle.base.proofs.Rising.{all_append}
 use Rattle.incarnation.specs.declared.Claim.{Claim}
 use Rattle.incarnation.specs.declared.Claim.TheVariants.{Alive}
 use Rattle.incarnation.specs.declared.Update.{Update}
-use Rattle.piggyback.specs.Picked.{Counted, Held, counted_with, count_before, in_order, is_candidate, picked, left_by_pick}
+use Rattle.piggyback.specs.Picked.{Counted, HeldUpdates, counted_with, count_before, in_order, is_candidate, picked, left_by_pick}
 use Rattle.piggyback.proofs.Counts.{find_below_all, kept, get-left_after}
 use Rattle.piggyback.proofs.Holding.{true_from_T}
 use Rattle.membership.specs.Table.{Known, update_by, updates_by}
@@ -77,7 +77,7 @@ module _ (N : ℕ → Type 0) where
       let parts = and_parts (by.below_all nat_cmp e.0 es) (by.is_sorted nat_cmp es) sorted in
       (h e.0 e.1 (find_at_first e es), all_found es parts.1 (λ q it there. h q it (later q it e es (eq_by_cmp nat_cmp q e.0) refl parts.0 there)))
 
-  pub all_values : (held : Held) → ((q : ℕ) (it : Counted) → get held q ≡ Some it → About it) → AllByRecursion About (values held)
+  pub all_values : (held : HeldUpdates) → ((q : ℕ) (it : Counted) → get held q ≡ Some it → About it) → AllByRecursion About (values held)
   all_values held h =
       all_map About (λ (e : ℕ × Counted). e.1) (entries held)
       (all_found (entries held) (true_from_T _ (entries_sorted held)) (λ q it there. h q it (get-entries held q ∙ there)))
@@ -89,7 +89,7 @@ module _ (N : ℕ → Type 0) where
   all_buddy None h = tt
   all_buddy (Some u) h = (h u refl, tt)
 
-  pub all_picked : (held : Held) (carry limit : ℕ) (buddy : Option Update) → ((q : ℕ) (it : Counted) → get held q ≡ Some it → About it)
+  pub all_picked : (held : HeldUpdates) (carry limit : ℕ) (buddy : Option Update) → ((q : ℕ) (it : Counted) → get held q ≡ Some it → About it)
       → ((u : Update) → buddy ≡ Some u → N u.subject) → AllByRecursion (λ u. N u.subject) (picked held carry limit buddy)
   all_picked held carry limit buddy h g =
       let candidates = filter (is_candidate limit buddy) (values held) in
@@ -103,7 +103,7 @@ module _ (N : ℕ → Type 0) where
   left_kept updates limit None it h is = absurd (false≢true (ap is_some is))
   left_kept updates limit (Some x) it h is = found_either About _ (counted_with updates x) it None (h x refl) (λ e. absurd (false≢true (ap is_some e))) is
 
-  pub all_left : (held : Held) (carry limit : ℕ) (buddy : Option Update) → ((q : ℕ) (it : Counted) → get held q ≡ Some it → About it)
+  pub all_left : (held : HeldUpdates) (carry limit : ℕ) (buddy : Option Update) → ((q : ℕ) (it : Counted) → get held q ≡ Some it → About it)
       → (q : ℕ) (it : Counted) → get (left_by_pick held carry limit buddy) q ≡ Some it → About it
   all_left held carry limit buddy h q it here =
       left_kept (picked held carry limit buddy) limit (get held q) it (h q) (sym (get-left_after (picked held carry limit buddy) limit held q) ∙ here)
@@ -111,7 +111,7 @@ module _ (N : ℕ → Type 0) where
   put_either : (b : Bool) (v it : Counted) (rest : Option Counted) → About v → (rest ≡ Some it → About it) → cond b (Some v) rest ≡ Some it → About it
   put_either b v it rest own later is = found_either About b v it rest own later is
 
-  pub all_put : (held : Held) (u : Update) → N u.subject → ((q : ℕ) (it : Counted) → get held q ≡ Some it → About it)
+  pub all_put : (held : HeldUpdates) (u : Update) → N u.subject → ((q : ℕ) (it : Counted) → get held q ≡ Some it → About it)
       → (q : ℕ) (it : Counted) → get (insert held u.subject (u, 0)) q ≡ Some it → About it
   all_put held u own h q it here = put_either (eqb q u.subject) (u, 0) it (get held q) own (h q it) (sym (get_put held u.subject q (u, 0)) ∙ here)
 

@@ -2,7 +2,7 @@
 use Rattle.member.specs.declared.content.Content.TheVariants.{Start, Crash, JoinTimer, PeriodTimer, TimeoutTimer, NackTimer, SuspicionTimer, Join, Welcome, Ping, PingReq, Ack, Nack}
 use Rattle.std.proofs.lemmas.List.Elements.{All-from_recursion, recursion_from_All}
 use Rattle.std.specs.List.{AllByRecursion}
-use Rattle.member.specs.Here.{NamesMembers}
+use Rattle.member.specs.Here.{MentionsMembers}
 use Rattle.std.proofs.Common.{◌≡◌, ℕ, ◌+◌, ◌<◌, ◌≤◌, Bool, true, false, cond, ◌&&◌, length, Option, Some, None, refl, sym, ap, subst, ◌∙◌, arith, All, List}
 use Rattle.std.specs.Option.{is_some, option_map_or}
 use Rattle.std.specs.Ordering.{nat_cmp}
@@ -23,10 +23,10 @@ use Rattle.lifeguard.specs.Health.{LocalHealth, lowered, raised}
 use Rattle.lifeguard.specs.Probe.{failures_of, after_probe}
 use Rattle.lifeguard.specs.Relays.{relay_cmp}
 use Rattle.lifeguard.proofs.RelaySets.{relays_total}
-use Rattle.probing.specs.ProbeOrder.{ProbeOrder, insert_of, next_of, remove_of, IsSound as IsSoundOrder}
+use Rattle.probing.specs.ProbeOrder.{ProbeOrder, insert_of, next_of, remove_of, IsSoundOrder as IsSoundOrder}
 use Rattle.probing.proofs.RoundLemmas.{is_probe}
 use Rattle.suspicion.specs.Settings.{terms_of}
-use Rattle.suspicion.specs.Suspicions.{Suspicion}
+use Rattle.suspicion.specs.Suspicions.{HeldSuspicion}
 use Rattle.member.specs.declared.content.Content.{Content}
 use Rattle.member.specs.declared.member.Phase.TheVariants.{Waiting}
 use Rattle.member.specs.State.{State}
@@ -145,7 +145,7 @@ module _ (s : Setup) (sound : IsSound s) (k : Key) where
       (λ fit probes. record { up = h.up; others = put_others t u named says h; suspects = suspects; probes = probes; health = h.health; relays = h.relays; words = fit; buffer = h.buffer; target = h.target })
       (λ fit probes. record { up = h.up; others = put_others t u named says h; suspects = suspects; probes = probes; health = h.health; relays = h.relays; words = fit; buffer = h.buffer; target = h.target })
 
-  put_suspect : (t : State) (u : Update) (x : Suspicion) → Named u.subject → IsNews k.to t u → u.claim ≡ Suspect → Begins s k (claim_kept u t) x → Keeps s k.to t
+  put_suspect : (t : State) (u : Update) (x : HeldSuspicion) → Named u.subject → IsNews k.to t u → u.claim ≡ Suspect → Begins s k (claim_kept u t) x → Keeps s k.to t
       → Keeps s k.to (record (claim_kept u t) { suspicions = insert (claim_kept u t).suspicions u.subject x })
   put_suspect t u x named says e begins h =
       let suspects = suspected t.table t.suspicions (terms_of s) u.subject (u.claim, u.inc) x (ap is_suspect e) begins.terms h.suspects in
@@ -347,7 +347,7 @@ consistent s m t h = record {
 all_named : (n : ℕ) (us : List Update) → All (λ (u : Update). u.subject < n) us → AllByRecursion (λ (u : Update). u.subject < n) us
 all_named n us h = recursion_from_All (λ (u : Update). u.subject < n) us h
 
-pub names_only : (n : ℕ) (c : Content) → NamesMembers n c → NamesOnly (λ q. q < n) c
+pub names_only : (n : ℕ) (c : Content) → MentionsMembers n c → NamesOnly (λ q. q < n) c
 names_only n Start h = tt
 names_only n Crash h = tt
 names_only n JoinTimer h = tt
@@ -362,7 +362,7 @@ names_only n (PingReq seq target updates) h = (h.0, all_named n updates h.1)
 names_only n (Ack initiator seq updates) h = (h.0, all_named n updates h.1)
 names_only n (Nack seq) h = tt
 
-pub names_members : (n : ℕ) (c : Content) → NamesOnly (λ q. q < n) c → NamesMembers n c
+pub names_members : (n : ℕ) (c : Content) → NamesOnly (λ q. q < n) c → MentionsMembers n c
 names_members n Start h = tt
 names_members n Crash h = tt
 names_members n JoinTimer h = tt

@@ -21,7 +21,7 @@ use Rattle.lifeguard.specs.Probe.{after_probe, fresh_probe}
 use Rattle.lifeguard.specs.NackDelay.{nack_delay_of}
 use Rattle.probing.specs.ProbeOrder.{next_of, helpers_of}
 use Rattle.suspicion.specs.Settings.{terms_of}
-use Rattle.suspicion.specs.Suspicions.{Suspicion, accused_of, answer_of, due_of, is_due}
+use Rattle.suspicion.specs.Suspicions.{HeldSuspicion, accused_of, answer_of, due_of, is_due}
 use Rattle.suspicion.specs.Times.{timeout}
 use Rattle.member.specs.declared.member.Phase.{Phase}
 use Rattle.member.specs.declared.member.Phase.TheVariants.{Waiting, Joining, Running, Down}
@@ -49,7 +49,7 @@ IsPlain _ = Unit {0}
 pub record MayTell (R : State → Type 0) (Tells : What → Type 0) : Type 0 where
   pub plain : (tells : What) → IsPlain tells → Tells tells
   pub nacks : (t : State) (relay : ℕ × ℕ) → R t → set.contains t.relays relay ≡ true → Tells what.Nack
-  pub accuses : (t : State) (u : Update) (x : Suspicion) → R t → accused_of t.suspicions u.subject u.accuser t.next_number ≡ Some x → Tells what.Accuse
+  pub accuses : (t : State) (u : Update) (x : HeldSuspicion) → R t → accused_of t.suspicions u.subject u.accuser t.next_number ≡ Some x → Tells what.Accuse
   pub healths : (t : State) (h : LocalHealth) → R t → R (record t { health = h }) → nat_eq h.counter t.health.counter ≡ false → Tells what.Health
 
 -- the updates that messages take along are about those who are named, in such states
@@ -69,7 +69,7 @@ pub record Times (s : Setup) (k : Key) (Timed : ℕ → Type 0) (R : State → T
   pub timeout_timer : (t : State) → R t → Timed (k.at + scaled t.health s.swim.timeout)
   pub nack_timer : Timed (k.at + nack_delay_of s.lifeguard.nack_percent s.swim.timeout)
   pub suspicion_timer : (t : State) → R t → Timed (k.at + timeout (terms_of s) (live_count t.table) 0)
-  pub accusation_timer : (t : State) (u : Update) (x : Suspicion) → R t → accused_of t.suspicions u.subject u.accuser t.next_number ≡ Some x → Timed (due_of x k.at)
+  pub accusation_timer : (t : State) (u : Update) (x : HeldSuspicion) → R t → accused_of t.suspicions u.subject u.accuser t.next_number ≡ Some x → Timed (due_of x k.at)
 
 -- no moment is left out
 abbrev pub AnyTime : ℕ → Type 0
@@ -221,7 +221,7 @@ module _ (s : Setup) (k : Key) (Named : ℕ → Type 0) (R : State → Type 0) (
   unfolding news_heard
   by_news loud u o named says r h = by_passed loud u _ (by_claim loud u u.claim o named says refl r h)
 
-  by_counted : (loud : Bool) (u : Update) (accused : Option Suspicion) (o : Effect) → ((x : Suspicion) → accused ≡ Some x → Tells what.Accuse) → ((x : Suspicion) → accused ≡ Some x → Timed (due_of x k.at)) → Named u.subject → P o
+  by_counted : (loud : Bool) (u : Update) (accused : Option HeldSuspicion) (o : Effect) → ((x : HeldSuspicion) → accused ≡ Some x → Tells what.Accuse) → ((x : HeldSuspicion) → accused ≡ Some x → Timed (due_of x k.at)) → Named u.subject → P o
       → P (accusation_counted loud k u (option_map (answer_of k.at) accused) o)
   by_counted loud u None o told timed named h = h
   by_counted loud u (Some x) o told timed named h = by_passed loud u _ (makes.event _ k.to (SuspicionTimer u.subject) _ (timed x refl) moves.own tt (by_told loud _ u.subject _ o (told x refl) named h))

@@ -22,7 +22,7 @@ use Rattle.lifeguard.specs.NackDelay.{nack_delay_of}
 use Rattle.suspicion.specs.declared.terms.Terms.{Terms}
 use Rattle.suspicion.specs.Ranges.{AreSound}
 use Rattle.suspicion.specs.Settings.{terms_of}
-use Rattle.suspicion.specs.Suspicions.{Suspicion, count_of, accused_of, due_of}
+use Rattle.suspicion.specs.Suspicions.{HeldSuspicion, accusers_counted, accused_of, due_of}
 use Rattle.suspicion.specs.Times.{min_timeout, timeout}
 use Rattle.suspicion.proofs.Tables.{log_of-le}
 use Rattle.suspicion.proofs.Timeouts.{min_timeout-lt, max_timeout-le, timeout-le-max}
@@ -69,7 +69,7 @@ arrives_soon false rest last coming at h is = subst Soon (same_Some coming at is
 -- ---- a step, up to the end
 
 -- a suspicion that began up to the end, among some members
-abbrev Began : Setup → Suspicion → Type 0
+abbrev Began : Setup → HeldSuspicion → Type 0
 Began s x = (x.since ≤ s.end) × (1 ≤ x.members) × (x.members ≤ member_count s)
 
 -- what holds of a member once it has started, its suspicions too
@@ -101,17 +101,17 @@ module _ (s : Setup) (sound : IsSound s) (k : Key) (here : k.to < member_count s
       omega (arith, in_time, sound.end, part)
 
   terms_sound : AreSound (terms_of s)
-  terms_sound = record { period = sound.period; alpha = sound.alpha.1; beta = sound.beta; confirmations = sound.confirmations }
+  terms_sound = record { period = sound.period; alpha = sound.alpha.1; beta = sound.beta; accusers_wanted = sound.confirmations }
 
   few : (t : State) → Keeps s k.to t → live_count t.table ≤ member_count s
   few t r = live_count-le (member_count s) k.to t.table here r.others.others
 
-  accused_soon : (t : State) (u : Update) (x : Suspicion) → InTime s k.to t → accused_of t.suspicions u.subject u.accuser t.next_number ≡ Some x → Soon (due_of x k.at)
+  accused_soon : (t : State) (u : Update) (x : HeldSuspicion) → InTime s k.to t → accused_of t.suspicions u.subject u.accuser t.next_number ≡ Some x → Soon (due_of x k.at)
   accused_soon t u x r is =
       let began : Began s x = of_confirmed (Began s) (λ x accuser g h. h) (get t.suspicions u.subject) u.accuser t.next_number (r.1 u.subject) x is in
       let settled : x.terms ≡ terms_of s =
       of_confirmed (λ x. x.terms ≡ terms_of s) (λ x accuser g h. h) (get t.suspicions u.subject) u.accuser t.next_number (r.0.suspects.settled u.subject) x is in
-      let lasts = timeout-le x.terms x.members (count_of x) (subst AreSound (sym settled) terms_sound) (omega (arith, began.2, sound.members.1)) in
+      let lasts = timeout-le x.terms x.members (accusers_counted x) (subst AreSound (sym settled) terms_sound) (omega (arith, began.2, sound.members.1)) in
       omega (arith, in_time, sound.end, began.0, lasts)
 
   times : Times s k Soon (InTime s k.to)
@@ -148,7 +148,7 @@ module _ (s : Setup) (sound : IsSound s) (k : Key) (here : k.to < member_count s
       ended : (t : State) (u : Update) → IsTimely s t → OfAll (Began s) (remove (claim_kept u t).suspicions u.subject)
       ended t u h = kept_either (λ v. OfAll (Began s) (remove v.suspicions u.subject)) u t (of_left (Began s) t.suspicions u.subject h) (of_left (Began s) t.suspicions u.subject h)
 
-      begun : (t : State) (u : Update) (x : Suspicion) → Began s x → IsTimely s t → OfAll (Began s) (insert (claim_kept u t).suspicions u.subject x)
+      begun : (t : State) (u : Update) (x : HeldSuspicion) → Began s x → IsTimely s t → OfAll (Began s) (insert (claim_kept u t).suspicions u.subject x)
       begun t u x own h =
           kept_either (λ v. OfAll (Began s) (insert v.suspicions u.subject x)) u t (of_put (Began s) t.suspicions u.subject x own h) (of_put (Began s) t.suspicions u.subject x own h)
 

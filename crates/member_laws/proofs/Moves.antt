@@ -13,7 +13,7 @@ use Rattle.lifeguard.specs.Health.{raised}
 use Rattle.lifeguard.specs.Probe.{after_probe}
 use Rattle.probing.specs.ProbeOrder.{round_over, next_of, remove_of}
 use Rattle.suspicion.specs.Settings.{terms_of}
-use Rattle.suspicion.specs.Suspicions.{Suspicion, after_accusation}
+use Rattle.suspicion.specs.Suspicions.{HeldSuspicion, after_accusation}
 use Rattle.member.specs.declared.member.Phase.TheVariants.{Waiting, Joining, Running, Down}
 use Rattle.member.specs.State.{State}
 use Rattle.membership.specs.Table.{is_confirm, does_override, live_count, all_alive}
@@ -32,7 +32,7 @@ pub record IsNews (me : ℕ) (t : State) (u : Update) : Type 0 where
   pub news : is_news (u.claim, u.inc) (get t.table u.subject) ≡ true
 
 -- a suspicion that starts at the event, in the state that the claim leaves
-pub record Begins (s : Setup) (k : Key) (t : State) (x : Suspicion) : Type 0 where
+pub record Begins (s : Setup) (k : Key) (t : State) (x : HeldSuspicion) : Type 0 where
   pub terms : x.terms ≡ terms_of s
   pub since : x.since ≡ k.at
   pub members : x.members ≡ live_count t.table
@@ -43,7 +43,7 @@ pub record NewsMoves (s : Setup) (k : Key) (Named : ℕ → Type 0) (R : State �
   pub put : (t : State) (u : Update) → Named u.subject → R t → R (record t { buffer = insert t.buffer u.subject (u, 0) })
   pub alive : (t : State) (u : Update) → Named u.subject → IsNews k.to t u → u.claim ≡ Alive → R t
       → R (record (claim_kept u t) { suspicions = remove (claim_kept u t).suspicions u.subject })
-  pub suspect : (t : State) (u : Update) (x : Suspicion) → Named u.subject → IsNews k.to t u → u.claim ≡ Suspect → Begins s k (claim_kept u t) x → R t
+  pub suspect : (t : State) (u : Update) (x : HeldSuspicion) → Named u.subject → IsNews k.to t u → u.claim ≡ Suspect → Begins s k (claim_kept u t) x → R t
       → R (record (claim_kept u t) { suspicions = insert (claim_kept u t).suspicions u.subject x })
   pub confirm : (t : State) (u : Update) → Named u.subject → IsNews k.to t u → u.claim ≡ Confirm → R t
       → R (record (claim_kept u t) { suspicions = remove (claim_kept u t).suspicions u.subject; rota = remove_of u.subject (claim_kept u t).rota })

@@ -19,7 +19,7 @@ use Rattle.lifeguard.proofs.RelaySets.{relays_total}
 use Rattle.probing.specs.ProbeOrder.{remove_of}
 use Rattle.suspicion.specs.declared.terms.Terms.{Terms}
 use Rattle.suspicion.specs.Settings.{terms_of}
-use Rattle.suspicion.specs.Suspicions.{Suspicion, Held, counts, confirmed_by, confirmed}
+use Rattle.suspicion.specs.Suspicions.{HeldSuspicion, HeldSuspicions, counts, with_accuser, accused}
 use Rattle.member.specs.declared.content.Content.{Content}
 use Rattle.member.specs.State.{State}
 use Rattle.member.specs.Turn.{Effect, with_row, with_event}
@@ -42,7 +42,7 @@ record IsSet (s : Setup) (t : State) : Type 0 where
   relays : OwesNoneWithout s t
   health : IsHealthy (opening_health s).ceiling t.health
 
-abbrev Settled : Held → Terms → Type 0
+abbrev Settled : HeldSuspicions → Terms → Type 0
 Settled suspicions terms = OfAll (λ x. x.terms ≡ terms) suspicions
 
 module _ (s : Setup) (k : Key) where
@@ -74,10 +74,10 @@ module _ (s : Setup) (k : Key) where
           kept_either (λ v. IsSet s (record v { suspicions = remove v.suspicions u.subject; rota = remove_of u.subject v.rota })) u t
           (record { terms = left t u h; relays = h.relays; health = h.health }) (record { terms = left t u h; relays = h.relays; health = h.health })
 
-      more : (t : State) (u : Update) (x : Suspicion) → x.terms ≡ terms_of s → IsSet s t → Settled (insert t.suspicions u.subject x) (terms_of s)
+      more : (t : State) (u : Update) (x : HeldSuspicion) → x.terms ≡ terms_of s → IsSet s t → Settled (insert t.suspicions u.subject x) (terms_of s)
       more t u x own h = of_put (λ x. x.terms ≡ terms_of s) t.suspicions u.subject x own h.terms
 
-      begun : (t : State) (u : Update) (x : Suspicion) → x.terms ≡ terms_of s → IsSet s t
+      begun : (t : State) (u : Update) (x : HeldSuspicion) → x.terms ≡ terms_of s → IsSet s t
           → IsSet s (record (claim_kept u t) { suspicions = insert (claim_kept u t).suspicions u.subject x })
       begun t u x own h =
           kept_either (λ v. IsSet s (record v { suspicions = insert v.suspicions u.subject x })) u t
@@ -125,12 +125,12 @@ counts_shortens : (a b c : Bool) → (a && b && c) ≡ true → a ≡ true
 counts_shortens true b c h = refl
 counts_shortens false b c h = h
 
-confirmed_counts : (y x : Suspicion) (accuser g : ℕ) (b : Bool) → cond b (Some (confirmed_by y accuser g)) None ≡ Some x → b ≡ true
+confirmed_counts : (y x : HeldSuspicion) (accuser g : ℕ) (b : Bool) → cond b (Some (with_accuser y accuser g)) None ≡ Some x → b ≡ true
 confirmed_counts y x accuser g true is = refl
 confirmed_counts y x accuser g false is = absurd (false≢true (ap is_some is))
 
-on_accuse : (s : Setup) (t : State) (k accuser g : ℕ) (x : Suspicion) (o : Option Suspicion) → IsSet s t → get t.suspicions k ≡ o
-    → option_and_then (λ y. confirmed y accuser g) o ≡ Some x → s.lifeguard.suspicion ≡ true
+on_accuse : (s : Setup) (t : State) (k accuser g : ℕ) (x : HeldSuspicion) (o : Option HeldSuspicion) → IsSet s t → get t.suspicions k ≡ o
+    → option_and_then (λ y. accused y accuser g) o ≡ Some x → s.lifeguard.suspicion ≡ true
 on_accuse s t k accuser g x None h here is = absurd (false≢true (ap is_some is))
 on_accuse s t k accuser g x (Some y) h here is =
     ap (λ (terms : Terms). terms.shortens) (sym (h.terms k y here))

@@ -16,12 +16,12 @@ use Rattle.streams.specs.Draw.{Words, AreWords, below_of}
 use Rattle.streams.proofs.RangeLemmas.{below_fits}
 use Rattle.incarnation.specs.declared.Claim.{Claim}
 use Rattle.incarnation.specs.declared.Claim.TheVariants.{Alive}
-use Rattle.probing.specs.ProbeOrder.{ProbeOrder, IsSound, count_of, round_over, next_of, insert_of, remove_of}
-use Rattle.probing.proofs.SoundLemmas.{one_if, one_if-same, one_if-other, count_of-cons, are_members-insert, members_bounded}
+use Rattle.probing.specs.ProbeOrder.{ProbeOrder, IsSoundOrder, times_in, round_over, next_of, insert_of, remove_of}
+use Rattle.probing.proofs.SoundLemmas.{one_if, one_if-same, one_if-other, times_in-cons, are_members-insert, members_bounded}
 use Rattle.probing.proofs.RoundLemmas.{is_probe, next_sound}
 use Rattle.probing.proofs.OthersLemmas.{removed_absent, others_counted, remove_sound}
 use Rattle.suspicion.specs.declared.terms.Terms.{Terms}
-use Rattle.suspicion.specs.Suspicions.{Suspicion, Held, counts, confirmed_by, confirmed, accused_of, after_accusation}
+use Rattle.suspicion.specs.Suspicions.{HeldSuspicion, HeldSuspicions, counts, with_accuser, accused, accused_of, after_accusation}
 use Rattle.membership.specs.Table.{Known, is_suspect, all_alive}
 use Rattle.member.specs.Step.{first_others}
 use Rattle.member_laws.specs.Words.{holds, is_live}
@@ -80,43 +80,43 @@ others_put n m table k v low apart h = record {
 -- ---- suspicions
 
 -- a fact of each suspicion that stands
-module _ (P : Suspicion → Type 0) where
-  abbrev pub OfAll : Held → Type 0
-  OfAll held = (q : ℕ) (x : Suspicion) → get held q ≡ Some x → P x
+module _ (P : HeldSuspicion → Type 0) where
+  abbrev pub OfAll : HeldSuspicions → Type 0
+  OfAll held = (q : ℕ) (x : HeldSuspicion) → get held q ≡ Some x → P x
 
-  put_either : (b : Bool) (v x : Suspicion) (old : Option Suspicion) → P v → (old ≡ Some x → P x) → cond b (Some v) old ≡ Some x → P x
+  put_either : (b : Bool) (v x : HeldSuspicion) (old : Option HeldSuspicion) → P v → (old ≡ Some x → P x) → cond b (Some v) old ≡ Some x → P x
   put_either true v x old own later is = subst P (same_Some v x is) own
   put_either false v x old own later is = later is
 
-  left_either : (b : Bool) (x : Suspicion) (old : Option Suspicion) → (old ≡ Some x → P x) → cond b None old ≡ Some x → P x
+  left_either : (b : Bool) (x : HeldSuspicion) (old : Option HeldSuspicion) → (old ≡ Some x → P x) → cond b None old ≡ Some x → P x
   left_either true x old later is = absurd (false≢true (ap is_some is))
   left_either false x old later is = later is
 
-  pub of_put : (held : Held) (k : ℕ) (v : Suspicion) → P v → OfAll held → OfAll (insert held k v)
+  pub of_put : (held : HeldSuspicions) (k : ℕ) (v : HeldSuspicion) → P v → OfAll held → OfAll (insert held k v)
   of_put held k v own h q x here = put_either _ v x (get held q) own (h q x) (sym (get_put held k q v) ∙ here)
 
-  pub of_left : (held : Held) (k : ℕ) → OfAll held → OfAll (remove held k)
+  pub of_left : (held : HeldSuspicions) (k : ℕ) → OfAll held → OfAll (remove held k)
   of_left held k h q x here = left_either _ x (get held q) (h q x) (sym (get_left held k q) ∙ here)
 
   -- that one more accuser leaves so
-  module _ (stays : (x : Suspicion) (accuser g : ℕ) → P x → P (confirmed_by x accuser g)) where
-    pub of_confirmed : (o : Option Suspicion) (accuser g : ℕ) → ((x : Suspicion) → o ≡ Some x → P x) → (y : Suspicion) → option_and_then (λ x. confirmed x accuser g) o ≡ Some y → P y
+  module _ (stays : (x : HeldSuspicion) (accuser g : ℕ) → P x → P (with_accuser x accuser g)) where
+    pub of_confirmed : (o : Option HeldSuspicion) (accuser g : ℕ) → ((x : HeldSuspicion) → o ≡ Some x → P x) → (y : HeldSuspicion) → option_and_then (λ x. accused x accuser g) o ≡ Some y → P y
     of_confirmed None accuser g h y is = absurd (false≢true (ap is_some is))
-    of_confirmed (Some x) accuser g h y is = put_either (counts x accuser) (confirmed_by x accuser g) y None (stays x accuser g (h x refl)) (λ none. absurd (false≢true (ap is_some none))) is
+    of_confirmed (Some x) accuser g h y is = put_either (counts x accuser) (with_accuser x accuser g) y None (stays x accuser g (h x refl)) (λ none. absurd (false≢true (ap is_some none))) is
 
-    pub of_accused : (held : Held) (k accuser g : ℕ) → OfAll held → OfAll (after_accusation held k accuser g)
+    pub of_accused : (held : HeldSuspicions) (k accuser g : ℕ) → OfAll held → OfAll (after_accusation held k accuser g)
     of_accused held k accuser g h = either (accused_of held k accuser g) (of_confirmed (get held k) accuser g (h k))
       where
-        either : (o : Option Suspicion) → ((y : Suspicion) → o ≡ Some y → P y) → OfAll (option_map_or (insert held k) o held)
+        either : (o : Option HeldSuspicion) → ((y : HeldSuspicion) → o ≡ Some y → P y) → OfAll (option_map_or (insert held k) o held)
         either None own = h
         either (Some y) own = of_put held k y (own y refl) h
 
-pub record SuspectsAlike (table : Known) (suspicions : Held) (terms : Terms) : Type 0 where
+pub record SuspectsAlike (table : Known) (suspicions : HeldSuspicions) (terms : Terms) : Type 0 where
   pub alike : (q : ℕ) → contains_key suspicions q ≡ holds is_suspect table q
-  pub settled : (q : ℕ) (x : Suspicion) → get suspicions q ≡ Some x → x.terms ≡ terms
+  pub settled : (q : ℕ) (x : HeldSuspicion) → get suspicions q ≡ Some x → x.terms ≡ terms
 
 -- a suspicion that starts
-pub suspected : (table : Known) (suspicions : Held) (terms : Terms) (k : ℕ) (v : Claim × ℕ) (x : Suspicion) → is_suspect v.0 ≡ true → x.terms ≡ terms
+pub suspected : (table : Known) (suspicions : HeldSuspicions) (terms : Terms) (k : ℕ) (v : Claim × ℕ) (x : HeldSuspicion) → is_suspect v.0 ≡ true → x.terms ≡ terms
     → SuspectsAlike table suspicions terms → SuspectsAlike (insert table k v) (insert suspicions k x) terms
 suspected table suspicions terms k v x is own h = record {
   alike = λ q.
@@ -126,7 +126,7 @@ suspected table suspicions terms k v x is own h = record {
 }
 
 -- one that ends
-pub cleared : (table : Known) (suspicions : Held) (terms : Terms) (k : ℕ) (v : Claim × ℕ) → is_suspect v.0 ≡ false
+pub cleared : (table : Known) (suspicions : HeldSuspicions) (terms : Terms) (k : ℕ) (v : Claim × ℕ) → is_suspect v.0 ≡ false
     → SuspectsAlike table suspicions terms → SuspectsAlike (insert table k v) (remove suspicions k) terms
 cleared table suspicions terms k v is h = record {
   alike = λ q.
@@ -140,20 +140,20 @@ same_keys : (b c : Bool) → c ≡ true → cond b true c ≡ c
 same_keys true c is = sym is
 same_keys false c is = refl
 
-module _ (table : Known) (suspicions : Held) (terms : Terms) (k : ℕ) (h : SuspectsAlike table suspicions terms) where
-  put_again : (y : Suspicion) → contains_key suspicions k ≡ true → (q : ℕ) → contains_key (insert suspicions k y) q ≡ holds is_suspect table q
+module _ (table : Known) (suspicions : HeldSuspicions) (terms : Terms) (k : ℕ) (h : SuspectsAlike table suspicions terms) where
+  put_again : (y : HeldSuspicion) → contains_key suspicions k ≡ true → (q : ℕ) → contains_key (insert suspicions k y) q ≡ holds is_suspect table q
   put_again y here q = has_put suspicions k q y ∙ there (eqb q k) refl ∙ h.alike q
     where
       there : (b : Bool) → eqb q k ≡ b → cond b true (contains_key suspicions q) ≡ contains_key suspicions q
       there true e = sym (ap (contains_key suspicions) (eqb-true q k e) ∙ here)
       there false e = refl
 
-  after_held : (x : Option Suspicion) (accuser g : ℕ) → is_some x ≡ contains_key suspicions k → (q : ℕ)
-      → contains_key (option_map_or (insert suspicions k) (option_and_then (λ x. confirmed x accuser g) x) suspicions) q ≡ holds is_suspect table q
+  after_held : (x : Option HeldSuspicion) (accuser g : ℕ) → is_some x ≡ contains_key suspicions k → (q : ℕ)
+      → contains_key (option_map_or (insert suspicions k) (option_and_then (λ x. accused x accuser g) x) suspicions) q ≡ holds is_suspect table q
   after_held None accuser g here = h.alike
-  after_held (Some x) accuser g here = either (confirmed x accuser g)
+  after_held (Some x) accuser g here = either (accused x accuser g)
     where
-      either : (o : Option Suspicion) → (q : ℕ) → contains_key (option_map_or (insert suspicions k) o suspicions) q ≡ holds is_suspect table q
+      either : (o : Option HeldSuspicion) → (q : ℕ) → contains_key (option_map_or (insert suspicions k) o suspicions) q ≡ holds is_suspect table q
       either None = h.alike
       either (Some y) = put_again y (sym here)
 
@@ -166,8 +166,8 @@ module _ (table : Known) (suspicions : Held) (terms : Terms) (k : ℕ) (h : Susp
 -- ---- the rota
 
 pub record ProbesAlike (table : Known) (rota : ProbeOrder) : Type 0 where
-  pub probes : (q : ℕ) → count_of rota.members q ≡ cond (holds is_live table q) 1 0
-  pub sound : IsSound rota
+  pub probes : (q : ℕ) → times_in rota.members q ≡ cond (holds is_live table q) 1 0
+  pub sound : IsSoundOrder rota
 
 pub next_probes : (table : Known) (rota : ProbeOrder) (words : Words) → AreWords words → ProbesAlike table rota → ProbesAlike table (next_of words rota).1
 next_probes table rota words fit h = record {
@@ -175,8 +175,8 @@ next_probes table rota words fit h = record {
   sound = next_sound words rota fit h.sound;
 }
 
-insert_sound : (words : Words) (member : ℕ) (order : ProbeOrder) → AreWords words → IsSound order → member < 2 ^ 16 → count_of order.members member ≡ 0
-    → IsSound (insert_of words member order).0
+insert_sound : (words : Words) (member : ℕ) (order : ProbeOrder) → AreWords words → IsSoundOrder order → member < 2 ^ 16 → times_in order.members member ≡ 0
+    → IsSoundOrder (insert_of words member order).0
 unfolding insert_of
 insert_sound words member order fit sound low absent =
     let size = length order.members in
@@ -189,7 +189,7 @@ insert_sound words member order fit sound low absent =
       within = grind (arith, nat_tests, more, sound.within);
     }
 
-insert_counted : (words : Words) (member q : ℕ) (order : ProbeOrder) → count_of (insert_of words member order).0.members q ≡ count_of order.members q + one_if (member == q)
+insert_counted : (words : Words) (member q : ℕ) (order : ProbeOrder) → times_in (insert_of words member order).0.members q ≡ times_in order.members q + one_if (member == q)
 unfolding insert_of
 insert_counted words member q order = sum_by-insert (λ (it : ℕ). one_if (it == q)) order.members (below_of words (length order.members + 1)).0 member
 
@@ -200,16 +200,16 @@ unheld test o none = ap (λ o. option_map_or (λ (held : Claim × ℕ). test hel
 pub placed : (table : Known) (rota : ProbeOrder) (words : Words) (k : ℕ) (v : Claim × ℕ) → AreWords words → k < 2 ^ 16 → get table k ≡ None → is_live v.0 ≡ true
     → ProbesAlike table rota → ProbesAlike (insert table k v) (insert_of words k rota).0
 placed table rota words k v fit low none is h =
-    let absent : count_of rota.members k ≡ 0 = h.probes k ∙ ap (λ b. cond b 1 0) (unheld is_live (get table k) none) in
+    let absent : times_in rota.members k ≡ 0 = h.probes k ∙ ap (λ b. cond b 1 0) (unheld is_live (get table k) none) in
     record {
       probes = λ q. insert_counted words k q rota ∙ counted q (eqb q k) refl absent ∙ ap (λ b. cond b 1 0) (sym (holds_put is_live table k q v));
       sound = insert_sound words k rota fit h.sound low absent;
     }
   where
-    counted : (q : ℕ) (b : Bool) → eqb q k ≡ b → count_of rota.members k ≡ 0 → count_of rota.members q + one_if (k == q) ≡ cond (cond b (is_live v.0) (holds is_live table q)) 1 0
+    counted : (q : ℕ) (b : Bool) → eqb q k ≡ b → times_in rota.members k ≡ 0 → times_in rota.members q + one_if (k == q) ≡ cond (cond b (is_live v.0) (holds is_live table q)) 1 0
     counted q true e absent =
         let same : q ≡ k = eqb-true q k e in
-        omega (arith, ap (count_of rota.members) same, absent, one_if-same k q (sym same)) ∙ ap (λ b. cond b 1 0) (sym is)
+        omega (arith, ap (times_in rota.members) same, absent, one_if-same k q (sym same)) ∙ ap (λ b. cond b 1 0) (sym is)
     counted q false e absent = omega (arith, one_if-other k q (λ same. eqb-false q k e (sym same))) ∙ h.probes q
 
 -- one that is known, and not as confirmed, is there
@@ -231,8 +231,8 @@ taken_out table rota k v is h = record {
   sound = remove_sound k rota h.sound;
 }
   where
-    counted : (q : ℕ) (b : Bool) → eqb q k ≡ b → count_of (remove_of k rota).members q ≡ cond (cond b (is_live v.0) (holds is_live table q)) 1 0
-    counted q true e = ap (count_of (remove_of k rota).members) (eqb-true q k e) ∙ removed_absent k rota h.sound ∙ ap (λ b. cond b 1 0) (sym is)
+    counted : (q : ℕ) (b : Bool) → eqb q k ≡ b → times_in (remove_of k rota).members q ≡ cond (cond b (is_live v.0) (holds is_live table q)) 1 0
+    counted q true e = ap (times_in (remove_of k rota).members) (eqb-true q k e) ∙ removed_absent k rota h.sound ∙ ap (λ b. cond b 1 0) (sym is)
     counted q false e = others_counted k q rota h.sound (λ same. eqb-false q k e (sym same)) ∙ h.probes q
 
 -- ---- the table of the first members
@@ -264,28 +264,28 @@ none_suspected (x ∷ xs) q =
     holds_put is_suspect (firsts xs) x q (Alive, 0) ∙ ap (cond (eqb q x) false) (none_suspected xs q) ∙ both_false (eqb q x)
 
 module _ (p : ℕ → Bool) where
-  low_either : (b : Bool) (a q : ℕ) (xs : List ℕ) → q < a → count_of xs q ≡ 0 → count_of (cond b (a ∷ xs) xs) q ≡ 0
-  low_either true a q xs low none = omega (arith, count_of-cons a xs q, one_if-other a q (λ same. omega arith))
+  low_either : (b : Bool) (a q : ℕ) (xs : List ℕ) → q < a → times_in xs q ≡ 0 → times_in (cond b (a ∷ xs) xs) q ≡ 0
+  low_either true a q xs low none = omega (arith, times_in-cons a xs q, one_if-other a q (λ same. omega arith))
   low_either false a q xs low none = none
 
-  lower : (a n q : ℕ) → q < a → count_of (filter p (range_with_len a n)) q ≡ 0
+  lower : (a n q : ℕ) → q < a → times_in (filter p (range_with_len a n)) q ≡ 0
   lower a zero q low = refl
   lower a (suc n) q low = low_either (p a) a q (filter p (range_with_len (a + 1) n)) low (lower (a + 1) n q (omega arith))
 
-  one_cases : (a q : ℕ) (xs : List ℕ) (b : Bool) → eqb q a ≡ b → (q < a + 1 → count_of xs q ≡ 0) → count_of xs q ≡ cond (contains_key (firsts xs) q) 1 0
-      → one_if (a == q) + count_of xs q ≡ cond (cond b true (contains_key (firsts xs) q)) 1 0
+  one_cases : (a q : ℕ) (xs : List ℕ) (b : Bool) → eqb q a ≡ b → (q < a + 1 → times_in xs q ≡ 0) → times_in xs q ≡ cond (contains_key (firsts xs) q) 1 0
+      → one_if (a == q) + times_in xs q ≡ cond (cond b true (contains_key (firsts xs) q)) 1 0
   one_cases a q xs true e low old =
       let same : q ≡ a = eqb-true q a e in
       omega (arith, one_if-same a q (sym same), low (omega arith))
   one_cases a q xs false e low old = omega (arith, one_if-other a q (λ same. eqb-false q a e (sym same))) ∙ old
 
-  count_either : (b : Bool) (a q : ℕ) (xs : List ℕ) → (q < a + 1 → count_of xs q ≡ 0) → count_of xs q ≡ cond (contains_key (firsts xs) q) 1 0
-      → count_of (cond b (a ∷ xs) xs) q ≡ cond (contains_key (firsts (cond b (a ∷ xs) xs)) q) 1 0
+  count_either : (b : Bool) (a q : ℕ) (xs : List ℕ) → (q < a + 1 → times_in xs q ≡ 0) → times_in xs q ≡ cond (contains_key (firsts xs) q) 1 0
+      → times_in (cond b (a ∷ xs) xs) q ≡ cond (contains_key (firsts (cond b (a ∷ xs) xs)) q) 1 0
   count_either true a q xs low old =
-      count_of-cons a xs q ∙ one_cases a q xs (eqb q a) refl low old ∙ ap (λ b. cond b 1 0) (sym (has_put (firsts xs) a q (Alive, 0)))
+      times_in-cons a xs q ∙ one_cases a q xs (eqb q a) refl low old ∙ ap (λ b. cond b 1 0) (sym (has_put (firsts xs) a q (Alive, 0)))
   count_either false a q xs low old = old
 
-  counted_firsts : (a n q : ℕ) → count_of (filter p (range_with_len a n)) q ≡ cond (contains_key (firsts (filter p (range_with_len a n))) q) 1 0
+  counted_firsts : (a n q : ℕ) → times_in (filter p (range_with_len a n)) q ≡ cond (contains_key (firsts (filter p (range_with_len a n))) q) 1 0
   counted_firsts a zero q = ap (λ b. cond b 1 0) (sym (ap is_some (get-empty nat_cmp q)))
   counted_firsts a (suc n) q =
       count_either (p a) a q (filter p (range_with_len (a + 1) n)) (λ low. lower (a + 1) n q low) (counted_firsts (a + 1) n q)
@@ -326,7 +326,7 @@ module _ (s : Setup) (m : ℕ) where
     settled = λ q x here. absurd (false≢true (sym (ap is_some (get-empty nat_cmp q)) ∙ ap is_some here));
   }
 
-  first_counted : (q : ℕ) → count_of (first_others s m) q ≡ cond (contains_key (all_alive (first_others s m)) q) 1 0
+  first_counted : (q : ℕ) → times_in (first_others s m) q ≡ cond (contains_key (all_alive (first_others s m)) q) 1 0
   unfolding all_alive first_others is_first
   first_counted q = counted_firsts is_first 0 (member_count s) q
 

@@ -12,14 +12,14 @@ use Rattle.incarnation.specs.declared.Update.{Update}
 use Rattle.lifeguard.specs.Health.{LocalHealth}
 use Rattle.lifeguard.specs.declared.probe.Probe.{Probe}
 use Rattle.piggyback.specs.Picked.{Counted}
-use Rattle.probing.specs.ProbeOrder.{count_of, IsSound as IsSoundOrder}
+use Rattle.probing.specs.ProbeOrder.{times_in, IsSoundOrder as IsSoundOrder}
 use Rattle.suspicion.specs.Settings.{terms_of}
-use Rattle.suspicion.specs.Suspicions.{Suspicion}
+use Rattle.suspicion.specs.Suspicions.{HeldSuspicion}
 use Rattle.member.specs.declared.member.Phase.TheVariants.{Waiting}
 use Rattle.member.specs.declared.content.Content.{Content}
 use Rattle.membership.specs.Table.{Known, is_suspect, is_confirm}
 use Rattle.member.specs.State.{State}
-use Rattle.member.specs.Here.{NamesMembers}
+use Rattle.member.specs.Here.{MentionsMembers}
 use Rattle.member.specs.Opening.{opening_state, opening_health}
 
 -- the update says that the member itself is suspected, at its present incarnation number (SWIM, section 4.2)
@@ -53,11 +53,11 @@ SuspectsByTable t = (q : ℕ) → contains_key t.suspicions q ≡ holds is_suspe
 
 -- just those whom the table holds, and not as confirmed, are probed, each once a round
 abbrev pub ProbesTheLiving : State → Type 0
-ProbesTheLiving t = (q : ℕ) → count_of t.rota.members q ≡ (if holds is_live t.table q then 1 else 0)
+ProbesTheLiving t = (q : ℕ) → times_in t.rota.members q ≡ (if holds is_live t.table q then 1 else 0)
 
 -- each suspicion runs under the scenario's settings
 abbrev pub HasTerms : Setup → State → Type 0
-HasTerms s t = (q : ℕ) (x : Suspicion) → get t.suspicions q ≡ Some x → x.terms ≡ terms_of s
+HasTerms s t = (q : ℕ) (x : HeldSuspicion) → get t.suspicions q ≡ Some x → x.terms ≡ terms_of s
 
 -- without LHA-Probe no answer is owed to another's probe
 abbrev pub OwesNoneWithout : Setup → State → Type 0
@@ -73,7 +73,7 @@ ProbesAMember s t = (probe : Probe) → t.probe ≡ Some probe → probe.target 
 
 -- each suspicion that stands began at a moment no later than the end, among at least one and at most all members
 abbrev pub IsTimely : Setup → State → Type 0
-IsTimely s t = (q : ℕ) (x : Suspicion) → get t.suspicions q ≡ Some x → (x.since ≤ s.end) × (1 ≤ x.members) × (x.members ≤ member_count s)
+IsTimely s t = (q : ℕ) (x : HeldSuspicion) → get t.suspicions q ≡ Some x → (x.since ≤ s.end) × (1 ≤ x.members) × (x.members ≤ member_count s)
 
 -- What holds of a member's state wherever a run has come.
 pub record IsConsistent (s : Setup) (m : ℕ) (t : State) : Type 0 where
@@ -94,4 +94,4 @@ pub record IsConsistent (s : Setup) (m : ℕ) (t : State) : Type 0 where
 pub record IsAmongMembers (s : Setup) (k : Key) (c : Content) : Type 0 where
   pub receiver : k.to < member_count s
   pub sender : k.from < member_count s
-  pub names : NamesMembers (member_count s) c
+  pub names : MentionsMembers (member_count s) c

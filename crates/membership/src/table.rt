@@ -205,7 +205,7 @@ fn list_updates(
     incs: &[u64],
     accuser: MemberId,
 ) -> Result<Vec<Update>, Memory>
-    requires few { length claims.now ≤ 2 ^ 16 }
+    requires numbered { length claims.now ≤ 2 ^ 16 }
     requires covered { length claims.now ≤ length incs.now }
     ensures { IfOk result (λ updates. updates.items ≡ map (update_by accuser) (entries_from 0 claims.now incs.now)) }
 {

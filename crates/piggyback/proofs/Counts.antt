@@ -8,7 +8,7 @@ use Rattle.std.specs.FinMap.Entries as by
 use Rattle.std.proofs.lemmas.Bool.{and_parts, cond_both, cases_Bool, cases_eq, ltb-true}
 use Rattle.std.proofs.lemmas.Bool.Decides.{nat_tests}
 use Rattle.incarnation.specs.declared.Update.{Update}
-use Rattle.piggyback.specs.Picked.{Counted, Held, counted_with, left_after}
+use Rattle.piggyback.specs.Picked.{Counted, HeldUpdates, counted_with, left_after}
 use Rattle.piggyback.proofs.Holding.{true_from_T}
 
 pub tied : (m n : ℕ) → m ≡ n → eq_by_cmp nat_cmp m n ≡ true
@@ -55,7 +55,7 @@ module _ (updates : List Update) (limit : ℕ) where
       ]
 
   -- a look-up after a message is that before it, counted, if it is left
-  pub get-left_after : (held : Held) (subject : ℕ) → get (left_after held updates limit) subject ≡ option_and_then kept (get held subject)
+  pub get-left_after : (held : HeldUpdates) (subject : ℕ) → get (left_after held updates limit) subject ≡ option_and_then kept (get held subject)
   get-left_after held subject =
       get-from_entries nat_cmp_total (left (entries held)) subject
       ∙ find-left subject (entries held) (true_from_T _ (entries_sorted held))

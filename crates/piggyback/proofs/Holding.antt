@@ -9,14 +9,14 @@ use Rattle.std.proofs.lemmas.Bool.{and_parts, and_from, cond_both, cases_Bool}
 use Rattle.std.proofs.lemmas.List.{take-map, take-take}
 use Rattle.std.proofs.lemmas.Float.{T_from_true}
 use Rattle.incarnation.specs.declared.Update.{Update}
-use Rattle.piggyback.specs.Picked.{Counted, Held, counted_with, left_after, is_candidate, in_order, picked}
+use Rattle.piggyback.specs.Picked.{Counted, HeldUpdates, counted_with, left_after, is_candidate, in_order, picked}
 use Rattle.piggyback.specs.Keyed.{keyed, is_rising}
 
 -- the map of entries in order has just these entries
 pub entries-from_entries : (es : List (ℕ × Counted)) → by.is_sorted nat_cmp es ≡ true → entries (from_entries {R = nat_cmp} es) ≡ es
 entries-from_entries es sorted =
     let t = T_from_true _ sorted in
-    let same : ◌≡◌ {A = Held} (from_entries es) (from_sorted es) = same_map nat_cmp_total nat_cmp-IsAntisymmetric _ _ (λ q. get-from_entries nat_cmp_total es q ∙ sym (get-from_sorted nat_cmp es q t)) in
+    let same : ◌≡◌ {A = HeldUpdates} (from_entries es) (from_sorted es) = same_map nat_cmp_total nat_cmp-IsAntisymmetric _ _ (λ q. get-from_entries nat_cmp_total es q ∙ sym (get-from_sorted nat_cmp es q t)) in
     ap entries same ∙ entries-from_sorted nat_cmp es t
 
 values-keyed : (these : List Counted) → map (λ e. e.1) (keyed these) ≡ these
@@ -40,7 +40,7 @@ rising-put old new subject v is rising =
     ap (by.is_sorted nat_cmp) is ∙ true_from_T _ (by.is_sorted-put nat_cmp nat_cmp_total subject v (keyed old) (T_from_true _ rising))
 
 -- and stand for the map with it
-pub held-put : (old new : List Counted) (subject : ℕ) (v : Counted) → keyed new ≡ by.put nat_cmp subject v (keyed old) → ◌≡◌ {A = Held} (from_entries (keyed new)) (insert (from_entries (keyed old)) subject v)
+pub held-put : (old new : List Counted) (subject : ℕ) (v : Counted) → keyed new ≡ by.put nat_cmp subject v (keyed old) → ◌≡◌ {A = HeldUpdates} (from_entries (keyed new)) (insert (from_entries (keyed old)) subject v)
 held-put old new subject v is =
     same_map nat_cmp_total nat_cmp-IsAntisymmetric _ _ (λ q.
     get-keyed new q
@@ -54,7 +54,7 @@ pub rising-after : {A E : Type 0} (r : Result A E) (old new : List Counted) (sub
 rising-after (Ok x) old new subject v ok err rising = rising-put old new subject v ok rising
 rising-after (Err e) old new subject v ok err rising = ap is_rising err ∙ rising
 
-pub held-after : {A E : Type 0} (r : Result A E) (old new : List Counted) (subject : ℕ) (v : Counted) → OnOk r (keyed new ≡ by.put nat_cmp subject v (keyed old)) → OnOk r (◌≡◌ {A = Held} (from_entries (keyed new)) (insert (from_entries (keyed old)) subject v))
+pub held-after : {A E : Type 0} (r : Result A E) (old new : List Counted) (subject : ℕ) (v : Counted) → OnOk r (keyed new ≡ by.put nat_cmp subject v (keyed old)) → OnOk r (◌≡◌ {A = HeldUpdates} (from_entries (keyed new)) (insert (from_entries (keyed old)) subject v))
 held-after (Ok x) old new subject v ok = held-put old new subject v ok
 held-after (Err e) old new subject v ok = tt
 
@@ -71,7 +71,7 @@ keyed-filter limit (it ∷ these) =
     ]
 
 -- what is left of the entries stands for what is left of the map
-pub held-left : (these : List Counted) (updates : List Update) (limit : ℕ) → is_rising these ≡ true → ◌≡◌ {A = Held} (from_entries (keyed (filter (λ it. ltb it.1 limit) (map (counted_with updates) these)))) (left_after (from_entries (keyed these)) updates limit)
+pub held-left : (these : List Counted) (updates : List Update) (limit : ℕ) → is_rising these ≡ true → ◌≡◌ {A = HeldUpdates} (from_entries (keyed (filter (λ it. ltb it.1 limit) (map (counted_with updates) these)))) (left_after (from_entries (keyed these)) updates limit)
 held-left these updates limit rising =
     ap (λ (es : List (ℕ × Counted)). from_entries {R = nat_cmp} es)
     (sym (ap (λ es. filter (λ (e : ℕ × Counted). ltb e.1.1 limit) (map (λ e. (e.0, counted_with updates e.1)) es)) (entries-from_entries (keyed these) rising)

@@ -7,7 +7,7 @@ use Rattle.std.specs.FinMap.{empty, get, insert, entries, entries_sorted, values
 use Rattle.std.specs.FinMap.Entries as by
 use Rattle.std.proofs.lemmas.Bool.{and_parts, cases_eq, cond_both}
 use Rattle.incarnation.specs.declared.Update.{Update}
-use Rattle.piggyback.specs.Picked.{Counted, Held, IsOwn, AreDistinct, counted_with, picked, left_by_pick}
+use Rattle.piggyback.specs.Picked.{Counted, HeldUpdates, IsOwn, AreDistinct, counted_with, picked, left_by_pick}
 use Rattle.piggyback.specs.Keyed.{keyed}
 use Rattle.piggyback.proofs.Rising.{rises}
 use Rattle.piggyback.proofs.Holding.{true_from_T}
@@ -21,7 +21,7 @@ Own subject o = IfSome o (λ it. it.0.subject ≡ subject)
 pub own-empty : IsOwn empty
 own-empty subject = subst (Own subject) (sym (get-empty nat_cmp subject)) tt
 
-pub own-insert : (held : Held) (update : Update) → IsOwn held → IsOwn (insert held update.subject (update, 0))
+pub own-insert : (held : HeldUpdates) (update : Update) → IsOwn held → IsOwn (insert held update.subject (update, 0))
 own-insert held update own subject =
     subst (Own subject) (sym (get-insert nat_cmp_total held update.subject (update, 0) subject))
     (elim (cases_eq subject update.subject) [
@@ -34,7 +34,7 @@ own-kept updates limit subject None own = tt
 own-kept updates limit subject (Some it) own =
     cond_both (ltb (counted_with updates it).1 limit) (Some (counted_with updates it)) None (Own subject) (λ _. own) (λ _. tt)
 
-pub own-left : (held : Held) (carry limit : ℕ) (buddy : Option Update) → IsOwn held → IsOwn (left_by_pick held carry limit buddy)
+pub own-left : (held : HeldUpdates) (carry limit : ℕ) (buddy : Option Update) → IsOwn held → IsOwn (left_by_pick held carry limit buddy)
 own-left held carry limit buddy own subject =
     let carried = picked held carry limit buddy in
     subst (Own subject) (sym (get-left_after carried limit held subject)) (own-kept carried limit subject (get held subject) (own subject))
@@ -52,7 +52,7 @@ keyed-values (e ∷ es) sorted own =
     ap (λ k. (k, e.1) ∷ keyed (map (λ x. x.1) es)) here ∙ ap (λ l. e ∷ l) rest
 
 -- so their subjects rise
-pub distinct-values : (held : Held) → IsOwn held → (test : Counted → Bool) → AreDistinct (filter test (values held))
+pub distinct-values : (held : HeldUpdates) → IsOwn held → (test : Counted → Bool) → AreDistinct (filter test (values held))
 distinct-values held own test =
     let sorted = true_from_T _ (entries_sorted held) in
     let same = keyed-values (entries held) sorted (λ subject. subst (Own subject) (get-entries held subject) (own subject)) in

@@ -4,7 +4,7 @@ use Rattle.std.specs.List.{prefix_len}
 use Rattle.std.specs.Ordering.{nat_cmp}
 use Rattle.std.specs.FinMap.{is_sorted}
 use Rattle.incarnation.specs.declared.Update.{Update}
-use Rattle.piggyback.specs.Picked.{Counted, is_about}
+use Rattle.piggyback.specs.Picked.{Counted, is_of_subject}
 
 -- each under its subject
 abbrev pub keyed : List Counted → List (ℕ × Counted)
@@ -34,4 +34,4 @@ pub record IsGap (subject : ℕ) (these : List Counted) (at : ℕ) : Type 0 wher
 
 -- an entry after a message that carried these updates, with its count as far as the machine counts
 abbrev pub counted_within : List Update → Counted → Counted
-counted_within carried it = (it.0, (if is_about it.0.subject carried then min (it.1 + 1) (2 ^ 64 - 1) else it.1))
+counted_within carried it = (it.0, (if is_of_subject it.0.subject carried then min (it.1 + 1) (2 ^ 64 - 1) else it.1))

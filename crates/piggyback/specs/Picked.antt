@@ -11,11 +11,11 @@ abbrev pub Counted : Type 0
 Counted = Update × ℕ
 
 -- what a buffer holds: for each subject at most one update
-abbrev pub Held : Type 0
-Held = FinMap nat_cmp Counted
+abbrev pub HeldUpdates : Type 0
+HeldUpdates = FinMap nat_cmp Counted
 
 -- each update stands under its own subject
-abbrev pub IsOwn : Held → Type 0
+abbrev pub IsOwn : HeldUpdates → Type 0
 IsOwn held = (subject : ℕ) → IfSome (get held subject) (λ it. it.0.subject ≡ subject)
 
 -- one that was sent fewer times goes first; of two sent as often, the one of the smaller subject
@@ -35,27 +35,27 @@ abbrev pub in_order : List Counted → List Counted
 in_order these = filter_map (λ place. find (λ it. count_before these it == place) these) (range_with_len 0 (length these))
 
 -- whether one of these updates is about the subject
-abbrev pub is_about : ℕ → List Update → Bool
-is_about subject updates = list_any (λ update. update.subject == subject) updates
+abbrev pub is_of_subject : ℕ → List Update → Bool
+is_of_subject subject updates = list_any (λ update. update.subject == subject) updates
 
 -- whether it may still be sent: below the limit, and not about the buddy's subject
 abbrev pub is_candidate : ℕ → Option Update → Counted → Bool
-is_candidate limit buddy it = nat_lt it.1 limit && not (is_about it.0.subject (option_to_list buddy))
+is_candidate limit buddy it = nat_lt it.1 limit && not (is_of_subject it.0.subject (option_to_list buddy))
 
 -- the updates that a message carries: the buddy, then the candidates in order, carry of them at most
-abbrev pub picked : Held → ℕ → ℕ → Option Update → List Update
+abbrev pub picked : HeldUpdates → ℕ → ℕ → Option Update → List Update
 picked held carry limit buddy =
     take carry (option_to_list buddy ++ map (λ it. it.0) (in_order (filter (is_candidate limit buddy) (values held))))
 
 -- it after a message that carried these updates: sent once more if one of them is about its subject
 abbrev pub counted_with : List Update → Counted → Counted
-counted_with carried it = (it.0, it.1 + (if is_about it.0.subject carried then 1 else 0))
+counted_with carried it = (it.0, it.1 + (if is_of_subject it.0.subject carried then 1 else 0))
 
 -- what is left after a message carried these: without what was then sent limit times
-abbrev pub left_after : Held → List Update → ℕ → Held
+abbrev pub left_after : HeldUpdates → List Update → ℕ → HeldUpdates
 left_after held carried limit =
     from_entries (filter (λ entry. nat_lt entry.1.1 limit) (map (λ entry. (entry.0, counted_with carried entry.1)) (entries held)))
 
 -- what a pick leaves
-abbrev pub left_by_pick : Held → ℕ → ℕ → Option Update → Held
+abbrev pub left_by_pick : HeldUpdates → ℕ → ℕ → Option Update → HeldUpdates
 left_by_pick held carry limit buddy = left_after held (picked held carry limit buddy) limit

@@ -3,7 +3,7 @@ ghost use Rattle.std.specs.Prelude.{◌≡◌, IsTrue, IsSome, IfSome, IsOk, IfO
 ghost use Rattle.std.specs.Ordering.{nat_cmp};
 ghost use Rattle.std.specs.FinMap.{find, put};
 ghost use Rattle.piggyback.specs.Keyed.{keyed, is_rising, place, IsAt, IsGap, counted_within};
-ghost use Rattle.piggyback.specs.Picked.{counted_with, is_about};
+ghost use Rattle.piggyback.specs.Picked.{counted_with, is_of_subject};
 
 use base::{MemberId, Memory};
 use incarnation::Update;
@@ -63,7 +63,7 @@ pub(crate) fn set(entries: &mut Vec<(Update, u64)>, update: Update) -> Result<()
 
 // Whether one of the updates is about the member.
 pub(crate) fn has_subject(updates: &[Update], subject: MemberId) -> bool
-    ensures { result ≡ is_about subject updates.now }
+    ensures { result ≡ is_of_subject subject updates.now }
 {
     updates.iter().any(|update| update.subject == subject)
 }

@@ -29,13 +29,13 @@ pub struct Buffer {
 impl Model for Buffer {
     ghost use Rattle.std.specs.Prelude.{IsTrue};
     ghost use Rattle.std.specs.FinMap.{from_entries};
-    ghost use Rattle.piggyback.specs.Picked.{Held};
+    ghost use Rattle.piggyback.specs.Picked.{HeldUpdates};
     ghost use Rattle.piggyback.specs.Keyed.{keyed, is_rising};
     ghost use Rattle.std.specs.Coded.{coded_ℕ, coded×};
     ghost use Rattle.std.specs.FinMap.{code};
     ghost use Rattle.incarnation.specs.contracts.Update as update;
 
-    ghost Value = { Held };
+    ghost Value = { HeldUpdates };
 
     ghost coded = { code coded_ℕ (coded× update.the_row.coded coded_ℕ) };
 

@@ -10,24 +10,24 @@ use Rattle.std.proofs.lemmas.List.Elements.{All-head, All-tail}
 use Rattle.std.proofs.lemmas.List.Quantifiers.{position-Some}
 use Rattle.std.proofs.lemmas.List.Sorted.{length_permutation}
 use Rattle.streams.specs.Draw.{Words, shuffle_of}
-use Rattle.probing.specs.ProbeOrder.{ProbeOrder, NoRepeats, AreMembers, IsSound, count_of, ready_of, probed_at, next_of}
-use Rattle.probing.proofs.SoundLemmas.{count_of-cons, one_if-other, are_members-permutation, are_members-insert, are_members-remove}
+use Rattle.probing.specs.ProbeOrder.{ProbeOrder, NoRepeats, AreMembers, IsSoundOrder, times_in, ready_of, probed_at, next_of}
+use Rattle.probing.proofs.SoundLemmas.{times_in-cons, one_if-other, are_members-permutation, are_members-insert, are_members-remove}
 
 -- numbers below 2^16 only
-none_above : (xs : List ℕ) → All (λ (x : ℕ). x < 2 ^ 16) xs → (m : ℕ) → 2 ^ 16 ≤ m → count_of xs m ≡ 0
+none_above : (xs : List ℕ) → All (λ (x : ℕ). x < 2 ^ 16) xs → (m : ℕ) → 2 ^ 16 ≤ m → times_in xs m ≡ 0
 none_above [] low m high = refl
 none_above (x ∷ xs) low m high =
     let below : x < 2 ^ 16 = All-head (λ (y : ℕ). y < 2 ^ 16) x xs low in
     omega (
       arith,
-      count_of-cons x xs m,
+      times_in-cons x xs m,
       one_if-other x m (λ same. omega arith),
       none_above xs (All-tail (λ (y : ℕ). y < 2 ^ 16) x xs low) m high,
     )
 
 -- a new rota
 pub sound_of : (xs ys : List ℕ) (mark : ℕ) → NoRepeats xs → ys ≡ xs → All (λ (x : ℕ). x < 2 ^ 16) ys → mark ≡ length xs
-    → IsSound (record { members = xs; mark = mark })
+    → IsSoundOrder (record { members = xs; mark = mark })
 sound_of xs ys mark distinct same low end = record {
   listed = record { distinct = distinct; numbers = none_above xs (rw same at low) };
   within = omega (arith, end);
@@ -40,7 +40,7 @@ pub record IsReady (words : Words) (order : ProbeOrder) (words' : Words) (member
   pub is : (record { members = members; mark = mark }, words') ≡ ready_of words order
 
 -- after a shuffle
-pub ready_after_shuffle : (words words' : Words) (xs ys zs : List ℕ) (mark : ℕ) → IsSound (record { members = xs; mark = mark })
+pub ready_after_shuffle : (words words' : Words) (xs ys zs : List ℕ) (mark : ℕ) → IsSoundOrder (record { members = xs; mark = mark })
     → 0 < length xs → mark ≡ length xs → IsPermutation xs ys → (ys, words') ≡ shuffle_of words xs → zs ≡ ys
     → IsReady words (record { members = xs; mark = mark }) words' zs 0
 ready_after_shuffle words words' xs ys zs mark sound some end same drawn is =
@@ -52,7 +52,7 @@ ready_after_shuffle words words' xs ys zs mark sound some end same drawn is =
     }
 
 -- with no shuffle
-pub ready_within : (words : Words) (xs : List ℕ) (mark : ℕ) → IsSound (record { members = xs; mark = mark }) → mark ≢ length xs
+pub ready_within : (words : Words) (xs : List ℕ) (mark : ℕ) → IsSoundOrder (record { members = xs; mark = mark }) → mark ≢ length xs
     → IsReady words (record { members = xs; mark = mark }) words xs mark
 ready_within words xs mark sound before =
     let during : (mark == length xs) ≡ false = ne_eqb mark (length xs) before in
@@ -76,9 +76,9 @@ next_from_ready words words' order members mark member some ready is =
     )
 
 -- a member put at a place
-pub sound_inserted : (xs ys zs : List ℕ) (place m mark mark' : ℕ) (fits : Bool) → IsSound (record { members = xs; mark = mark })
+pub sound_inserted : (xs ys zs : List ℕ) (place m mark mark' : ℕ) (fits : Bool) → IsSoundOrder (record { members = xs; mark = mark })
     → ys ≡ xs → zs ≡ (if fits then insert ys place m else ys) → fits ≡ true → place ≤ length xs → mark' ≤ mark + 1
-    → m < 2 ^ 16 → count_of xs m ≡ 0 → IsSound (record { members = zs; mark = mark' })
+    → m < 2 ^ 16 → times_in xs m ≡ 0 → IsSoundOrder (record { members = zs; mark = mark' })
 sound_inserted xs ys zs place m mark mark' fits sound same put room within near low absent =
     let is : zs ≡ insert xs place m = put ∙ rw (room, same) refl in
     rw is record {
@@ -87,9 +87,9 @@ sound_inserted xs ys zs place m mark mark' fits sound same put room within near 
     }
 
 -- a member taken out of its place
-pub sound_removed : (xs ys zs : List ℕ) (m place mark mark' : ℕ) → IsSound (record { members = xs; mark = mark })
+pub sound_removed : (xs ys zs : List ℕ) (m place mark mark' : ℕ) → IsSoundOrder (record { members = xs; mark = mark })
     → zs ≡ xs → Some place ≡ position (λ other. other == m) zs → ys ≡ remove xs place
-    → mark' ≤ mark - (if nat_lt place mark then 1 else 0) → IsSound (record { members = ys; mark = mark' })
+    → mark' ≤ mark - (if nat_lt place mark then 1 else 0) → IsSoundOrder (record { members = ys; mark = mark' })
 sound_removed xs ys zs m place mark mark' sound same here is near =
     let found : place < length zs = (position-Some (λ other. other == m) zs place 0 (sym here)).0 in
     let within : place < length xs = rw same at found in

@@ -8,25 +8,25 @@ use Rattle.std.proofs.lemmas.List.{take-append-drop, length-take, get_or-take, g
 use Rattle.std.proofs.lemmas.List.Edits.{length-insert, length-remove, insert-append_left, insert-append_right, remove-append_left, remove-append_right}
 use Rattle.std.proofs.lemmas.List.Elements.{filter-append}
 use Rattle.std.proofs.lemmas.List.Sums.{sum_by-append, sum_by-take-drop, passes_at_first}
-use Rattle.probing.specs.ProbeOrder.{ProbeOrder, NoRepeats, IsSound, count_of, put_at, taken_at, remove_of}
+use Rattle.probing.specs.ProbeOrder.{ProbeOrder, NoRepeats, IsSoundOrder, times_in, put_at, taken_at, remove_of}
 use Rattle.probing.specs.Rounds.{probed, coming, others}
 use Rattle.probing.proofs.RoundLemmas.{some_none}
-use Rattle.probing.proofs.SoundLemmas.{one_if, count_of-get_or, count_of-others-same, count_of-others-other, are_members-remove, count_of-cons, one_if-same}
+use Rattle.probing.proofs.SoundLemmas.{one_if, times_in-get_or, times_in-others-same, times_in-others-other, are_members-remove, times_in-cons, one_if-same}
 
 -- where a member isn't there, all are others
-pub others_absent : (m : ℕ) (xs : List ℕ) → count_of xs m ≡ 0 → others m xs ≡ xs
+pub others_absent : (m : ℕ) (xs : List ℕ) → times_in xs m ≡ 0 → others m xs ≡ xs
 others_absent m [] absent = refl
 others_absent m (x ∷ xs) absent =
     elim (cases_Bool (x == m)) [
-      | inl own ↦ absurd (omega (arith, absent, count_of-cons x xs m, one_if-same x m (eqb-true x m own)))
+      | inl own ↦ absurd (omega (arith, absent, times_in-cons x xs m, one_if-same x m (eqb-true x m own)))
       | inr apart ↦
-          let more : count_of xs m ≡ 0 = omega (arith, absent, count_of-cons x xs m) in
+          let more : times_in xs m ≡ 0 = omega (arith, absent, times_in-cons x xs m) in
           rw apart (ap (λ l. x ∷ l) (others_absent m xs more))
     ]
 
 -- two parts of a list
-pub count_of-append : (xs ys : List ℕ) (m : ℕ) → count_of (xs ++ ys) m ≡ count_of xs m + count_of ys m
-count_of-append xs ys m = sum_by-append (λ other. one_if (other == m)) xs ys
+pub times_in-append : (xs ys : List ℕ) (m : ℕ) → times_in (xs ++ ys) m ≡ times_in xs m + times_in ys m
+times_in-append xs ys m = sum_by-append (λ other. one_if (other == m)) xs ys
 
 others-append : (m : ℕ) (xs ys : List ℕ) → others m (xs ++ ys) ≡ others m xs ++ others m ys
 others-append m xs ys = filter-append (λ other. not (other == m)) xs ys
@@ -36,25 +36,25 @@ others_own : (m : ℕ) (xs : List ℕ) → others m (m ∷ xs) ≡ others m xs
 others_own m xs = let own : (m == m) ≡ true = eq-eqb m m refl in rw own refl
 
 -- the parts of a list at a place
-count_of-split : (xs : List ℕ) (i m : ℕ) → count_of (take i xs) m + count_of (drop i xs) m ≡ count_of xs m
-count_of-split xs i m = sum_by-take-drop (λ other. one_if (other == m)) xs i
+times_in-split : (xs : List ℕ) (i m : ℕ) → times_in (take i xs) m + times_in (drop i xs) m ≡ times_in xs m
+times_in-split xs i m = sum_by-take-drop (λ other. one_if (other == m)) xs i
 
 -- a member that is put in
-pub others-insert : (m : ℕ) (xs : List ℕ) (i : ℕ) → count_of xs m ≡ 0 → others m (insert xs i m) ≡ xs
+pub others-insert : (m : ℕ) (xs : List ℕ) (i : ℕ) → times_in xs m ≡ 0 → others m (insert xs i m) ≡ xs
 others-insert m xs i absent =
-    let front = others_absent m (take i xs) (omega (arith, absent, count_of-split xs i m)) in
-    let back = others_absent m (drop i xs) (omega (arith, absent, count_of-split xs i m)) in
+    let front = others_absent m (take i xs) (omega (arith, absent, times_in-split xs i m)) in
+    let back = others_absent m (drop i xs) (omega (arith, absent, times_in-split xs i m)) in
     others-append m (take i xs) (m ∷ drop i xs)
     ∙ rw (others_own m (drop i xs), front, back) (take-append-drop i xs)
 
 -- a member that is taken out, in a list where it is once
-others-remove : (m : ℕ) (xs : List ℕ) (i : ℕ) → i < length xs → get_or xs i 0 ≡ m → count_of xs m ≤ 1 → remove xs i ≡ others m xs
+others-remove : (m : ℕ) (xs : List ℕ) (i : ℕ) → i < length xs → get_or xs i 0 ≡ m → times_in xs m ≤ 1 → remove xs i ≡ others m xs
 others-remove m xs i within here once =
     let at : drop i xs ≡ m ∷ drop (suc i) xs = drop-cons xs i 0 within ∙ ap (λ x. x ∷ drop (suc i) xs) here in
     let whole : xs ≡ take i xs ++ m ∷ drop (suc i) xs = sym (take-append-drop i xs) ∙ ap (λ l. take i xs ++ l) at in
-    let counted : count_of xs m ≡ count_of (take i xs) m + count_of (m ∷ drop (suc i) xs) m =
-    ap (λ l. count_of l m) whole ∙ count_of-append (take i xs) (m ∷ drop (suc i) xs) m in
-    let one = count_of-cons m (drop (suc i) xs) m in
+    let counted : times_in xs m ≡ times_in (take i xs) m + times_in (m ∷ drop (suc i) xs) m =
+    ap (λ l. times_in l m) whole ∙ times_in-append (take i xs) (m ∷ drop (suc i) xs) m in
+    let one = times_in-cons m (drop (suc i) xs) m in
     let own = one_if-same m m refl in
     let front = others_absent m (take i xs) (omega (arith, counted, one, own, once)) in
     let back = others_absent m (drop (suc i) xs) (omega (arith, counted, one, own, once)) in
@@ -87,15 +87,15 @@ pub record KeepsOthers (m : ℕ) (order after : ProbeOrder) : Type 0 where
   pub before : others m (probed after) ≡ probed order
   pub behind : others m (coming after) ≡ coming order
 
-pub put_keeps_others : (place m : ℕ) (order : ProbeOrder) → order.mark ≤ length order.members → count_of order.members m ≡ 0
+pub put_keeps_others : (place m : ℕ) (order : ProbeOrder) → order.mark ≤ length order.members → times_in order.members m ≡ 0
     → KeepsOthers m order (put_at place m order)
 put_keeps_others place m order within absent =
     let front = probed order in
     let back = coming order in
     let size : length front ≡ order.mark = length_probed order within in
-    let counted = count_of-split order.members order.mark m in
-    let front_absent : count_of front m ≡ 0 = omega (arith, counted, absent) in
-    let back_absent : count_of back m ≡ 0 = omega (arith, counted, absent) in
+    let counted = times_in-split order.members order.mark m in
+    let front_absent : times_in front m ≡ 0 = omega (arith, counted, absent) in
+    let back_absent : times_in back m ≡ 0 = omega (arith, counted, absent) in
     let whole : insert order.members place m ≡ insert (front ++ back) place m =
     ap (λ l. insert l place m) (sym (take-append-drop order.mark order.members)) in
     elim (cases_lt place order.mark) [
@@ -130,10 +130,10 @@ pub record IsTaken (m : ℕ) (order : ProbeOrder) (place : ℕ) : Type 0 where
 -- a member that isn't there
 pub record IsAbsent (m : ℕ) (order : ProbeOrder) : Type 0 where
   pub is : remove_of m order ≡ order
-  pub absent : count_of order.members m ≡ 0
+  pub absent : times_in order.members m ≡ 0
 
 -- no place is found for it
-none_found : (m : ℕ) (xs : List ℕ) → length xs ≤ position_or_len (λ other. other == m) xs → count_of xs m ≡ 0
+none_found : (m : ℕ) (xs : List ℕ) → length xs ≤ position_or_len (λ other. other == m) xs → times_in xs m ≡ 0
 none_found m [] past = refl
 none_found m (x ∷ xs) past =
     elim (cases_Bool (x == m)) [
@@ -141,7 +141,7 @@ none_found m (x ∷ xs) past =
       | inr apart ↦
           let none : one_if (x == m) ≡ 0 = rw apart refl in
           let later : position_or_len (λ other. other == m) (x ∷ xs) ≡ 1 + position_or_len (λ other. other == m) xs = rw apart refl in
-          omega (arith, count_of-cons x xs m, none, none_found m xs (omega (arith, later, past)))
+          omega (arith, times_in-cons x xs m, none, none_found m xs (omega (arith, later, past)))
     ]
   where
     first_is_not_past : (m x : ℕ) (xs : List ℕ) → (x == m) ≡ true → length (x ∷ xs) ≤ position_or_len (λ other. other == m) (x ∷ xs) → ⊥
@@ -183,7 +183,7 @@ taken_leaves_others place m order within distinct found own =
     let front = probed order in
     let back = coming order in
     let size : length front ≡ order.mark = length_probed order within in
-    let counted = count_of-split order.members order.mark m in
+    let counted = times_in-split order.members order.mark m in
     let once = distinct m in
     let whole : remove order.members place ≡ remove (front ++ back) place =
     ap (λ l. remove l place) (sym (take-append-drop order.mark order.members)) in
@@ -191,8 +191,8 @@ taken_leaves_others place m order within distinct found own =
       | inl below ↦
           let test : nat_lt place order.mark ≡ true = grind (arith, nat_tests) in
           let here : get_or front place 0 ≡ m = get_or-take order.mark order.members place 0 below ∙ own in
-          let there : 1 ≤ count_of front m =
-          subst (λ (k : ℕ). 1 ≤ count_of front k) here (count_of-get_or front place (omega (arith, size, below))) in
+          let there : 1 ≤ times_in front m =
+          subst (λ (k : ℕ). 1 ≤ times_in front k) here (times_in-get_or front place (omega (arith, size, below))) in
           let rest : remove front place ≡ others m front =
           others-remove m front place (omega (arith, size, below)) here (omega (arith, counted, once)) in
           let cut : IsCut (taken_at place order) (remove front place) back =
@@ -210,7 +210,7 @@ taken_leaves_others place m order within distinct found own =
           let same : order.mark + at ≡ place = omega (arith, behind) in
           let here : get_or back at 0 ≡ m =
           get_or-drop order.mark order.members at 0 ∙ ap (λ (k : ℕ). get_or order.members k 0) same ∙ own in
-          let there : 1 ≤ count_of back m = subst (λ (k : ℕ). 1 ≤ count_of back k) here (count_of-get_or back at inside) in
+          let there : 1 ≤ times_in back m = subst (λ (k : ℕ). 1 ≤ times_in back k) here (times_in-get_or back at inside) in
           let rest : remove back at ≡ others m back = others-remove m back at inside here (omega (arith, counted, once)) in
           let cut : IsCut (taken_at place order) front (remove back at) =
           cut_at (taken_at place order) front (remove back at)
@@ -223,13 +223,13 @@ taken_leaves_others place m order within distinct found own =
     ]
 
 -- a removal
-pub remove_leaves_others : (m : ℕ) (order : ProbeOrder) → IsSound order → LeavesOthers m order (remove_of m order)
+pub remove_leaves_others : (m : ℕ) (order : ProbeOrder) → IsSoundOrder order → LeavesOthers m order (remove_of m order)
 remove_leaves_others m order sound =
     elim (remove_cases m order) [
       | inl (place, taken) ↦
           rw taken.is (taken_leaves_others place m order sound.within sound.listed.distinct taken.within taken.own)
       | inr gone ↦
-          let counted = count_of-split order.members order.mark m in
+          let counted = times_in-split order.members order.mark m in
           rw gone.is record {
             before = sym (others_absent m (probed order) (omega (arith, counted, gone.absent)));
             behind = sym (others_absent m (coming order) (omega (arith, counted, gone.absent)));
@@ -237,33 +237,33 @@ remove_leaves_others m order sound =
     ]
 
 -- then the member isn't there
-pub removed_absent : (m : ℕ) (order : ProbeOrder) → IsSound order → count_of (remove_of m order).members m ≡ 0
+pub removed_absent : (m : ℕ) (order : ProbeOrder) → IsSoundOrder order → times_in (remove_of m order).members m ≡ 0
 removed_absent m order sound =
     let after = remove_of m order in
     let left = remove_leaves_others m order sound in
-    let before : count_of (probed after) m ≡ 0 = ap (λ l. count_of l m) left.before ∙ count_of-others-same m (probed order) in
-    let behind : count_of (coming after) m ≡ 0 = ap (λ l. count_of l m) left.behind ∙ count_of-others-same m (coming order) in
-    omega (arith, count_of-split after.members after.mark m, before, behind)
+    let before : times_in (probed after) m ≡ 0 = ap (λ l. times_in l m) left.before ∙ times_in-others-same m (probed order) in
+    let behind : times_in (coming after) m ≡ 0 = ap (λ l. times_in l m) left.behind ∙ times_in-others-same m (coming order) in
+    omega (arith, times_in-split after.members after.mark m, before, behind)
 
 -- and each other one is there as before
-pub others_counted : (m k : ℕ) (order : ProbeOrder) → IsSound order → m ≢ k → count_of (remove_of m order).members k ≡ count_of order.members k
+pub others_counted : (m k : ℕ) (order : ProbeOrder) → IsSoundOrder order → m ≢ k → times_in (remove_of m order).members k ≡ times_in order.members k
 others_counted m k order sound other =
     let after = remove_of m order in
     let left = remove_leaves_others m order sound in
-    let before : count_of (probed after) k ≡ count_of (probed order) k =
-    ap (λ l. count_of l k) left.before ∙ count_of-others-other m k (probed order) other in
-    let behind : count_of (coming after) k ≡ count_of (coming order) k =
-    ap (λ l. count_of l k) left.behind ∙ count_of-others-other m k (coming order) other in
+    let before : times_in (probed after) k ≡ times_in (probed order) k =
+    ap (λ l. times_in l k) left.before ∙ times_in-others-other m k (probed order) other in
+    let behind : times_in (coming after) k ≡ times_in (coming order) k =
+    ap (λ l. times_in l k) left.behind ∙ times_in-others-other m k (coming order) other in
     omega (
       arith,
-      count_of-split after.members after.mark k,
-      count_of-split order.members order.mark k,
+      times_in-split after.members after.mark k,
+      times_in-split order.members order.mark k,
       before,
       behind,
     )
 
 -- a sound order stays so
-pub remove_sound : (m : ℕ) (order : ProbeOrder) → IsSound order → IsSound (remove_of m order)
+pub remove_sound : (m : ℕ) (order : ProbeOrder) → IsSoundOrder order → IsSoundOrder (remove_of m order)
 remove_sound m order sound =
     elim (remove_cases m order) [
       | inl (place, taken) ↦ rw taken.is record {
@@ -274,7 +274,7 @@ remove_sound m order sound =
     ]
 
 -- where no place is found, the member isn't there
-pub absent_unfound : (m : ℕ) (xs : List ℕ) → None ≡ position (λ other. other == m) xs → count_of xs m ≡ 0
+pub absent_unfound : (m : ℕ) (xs : List ℕ) → None ≡ position (λ other. other == m) xs → times_in xs m ≡ 0
 absent_unfound m xs is =
     let place = position_or_len (λ other. other == m) xs in
     elim (cases_lt place (length xs)) [

@@ -13,9 +13,9 @@ use Rattle.streams.specs.Draw.{Words, AreWords, IsRestOf, rest_after, shuffle_of
 use Rattle.streams.proofs.PlaceLemmas.{rest_after-zero, rest-rest, shuffle_rest}
 use Rattle.streams.proofs.RangeLemmas.{rest_fits}
 use Rattle.streams.proofs.OrderLemmas.{shuffle_keeps}
-use Rattle.probing.specs.ProbeOrder.{ProbeOrder, AreMembers, IsSound, count_of, round_over, next_of}
+use Rattle.probing.specs.ProbeOrder.{ProbeOrder, AreMembers, IsSoundOrder, times_in, round_over, next_of}
 use Rattle.probing.specs.Rounds.{probes_of}
-use Rattle.probing.proofs.SoundLemmas.{one_if, count_of-get_or, are_members-permutation, members_bounded}
+use Rattle.probing.proofs.SoundLemmas.{one_if, times_in-get_or, are_members-permutation, members_bounded}
 
 -- a shuffle keeps the members
 pub shuffle_kept : (words : Words) (xs : List ℕ) → AreWords words → AreMembers xs → IsPermutation xs (shuffle_of words xs).0
@@ -78,7 +78,7 @@ probes_of_a_round (suc n) words xs end fit listed =
     (probes_within (suc n) (shuffle_of words xs).1 ys 0 (omega (arith, size)))
 
 -- as often in another order
-kept_count : (m : ℕ) (xs ys : List ℕ) → IsPermutation xs ys → count_of ys m ≡ count_of xs m
+kept_count : (m : ℕ) (xs ys : List ℕ) → IsPermutation xs ys → times_in ys m ≡ times_in xs m
 kept_count m xs ys same = sum_by-IsPermutation (λ other. one_if (other == m)) xs ys same
 
 -- what a probe gives and leaves
@@ -86,7 +86,7 @@ pub record IsProbe (words : Words) (order : ProbeOrder) (after : Option ℕ × P
   pub same : IsPermutation order.members after.1.members
   pub within : after.1.mark ≤ length after.1.members
   pub rest : IsRestOf words after.2
-  pub some : (m : ℕ) → after.0 ≡ Some m → 1 ≤ count_of order.members m
+  pub some : (m : ℕ) → after.0 ≡ Some m → 1 ≤ times_in order.members m
   pub none : after.0 ≡ None → length order.members ≡ 0
 
 -- whether there is a member, as a number
@@ -113,12 +113,12 @@ is_probe_within words xs mark before = rw (next_of_within words xs mark before) 
   rest = (0, rest_after-zero words);
   some = λ m is.
       let here : get_or xs mark 0 ≡ m = ap (λ (o : Option ℕ). unwrap_or o 0) is in
-      subst (λ (k : ℕ). 1 ≤ count_of xs k) here (count_of-get_or xs mark before);
+      subst (λ (k : ℕ). 1 ≤ times_in xs k) here (times_in-get_or xs mark before);
   none = λ is. absurd (some_none (get_or xs mark 0) is);
 }
 
 -- any probe
-pub is_probe : (words : Words) (order : ProbeOrder) → AreWords words → IsSound order → IsProbe words order (next_of words order)
+pub is_probe : (words : Words) (order : ProbeOrder) → AreWords words → IsSoundOrder order → IsProbe words order (next_of words order)
 is_probe words order fit sound =
     let xs = order.members in
     let ys = (shuffle_of words xs).0 in
@@ -154,19 +154,19 @@ is_probe words order fit sound =
     ]
 
 -- a sound order stays so
-pub next_sound : (words : Words) (order : ProbeOrder) → AreWords words → IsSound order → IsSound (next_of words order).1
+pub next_sound : (words : Words) (order : ProbeOrder) → AreWords words → IsSoundOrder order → IsSoundOrder (next_of words order).1
 next_sound words order fit sound =
     let probe = is_probe words order fit sound in
     record { listed = are_members-permutation _ _ probe.same sound.listed; within = probe.within }
 
 -- a member that isn't there gets no probe
-pub absent_unprobed : (n : ℕ) (words : Words) (m : ℕ) (order : ProbeOrder) → AreWords words → IsSound order → count_of order.members m ≡ 0
+pub absent_unprobed : (n : ℕ) (words : Words) (m : ℕ) (order : ProbeOrder) → AreWords words → IsSoundOrder order → times_in order.members m ≡ 0
     → All (λ (answer : Option ℕ). answer ≢ Some m) (probes_of n words order).0
 absent_unprobed zero words m order fit sound absent = All-nil (λ (answer : Option ℕ). answer ≢ Some m)
 absent_unprobed (suc n) words m order fit sound absent =
     let probe = is_probe words order fit sound in
     let after = next_of words order in
-    let still : count_of after.1.members m ≡ 0 = kept_count m order.members after.1.members probe.same ∙ absent in
+    let still : times_in after.1.members m ≡ 0 = kept_count m order.members after.1.members probe.same ∙ absent in
     All-cons (λ (answer : Option ℕ). answer ≢ Some m) after.0 (probes_of n after.2 after.1).0
     (λ is. absurd (omega (arith, probe.some m is, absent)))
     (absent_unprobed n after.2 m after.1 (rest_fits words after.2 fit probe.rest) (next_sound words order fit sound) still)

@@ -11,20 +11,20 @@ pub record ProbeOrder : Type 0 where
   pub mark : ℕ
 
 -- how often a member is in a list
-abbrev pub count_of : List ℕ → ℕ → ℕ
-count_of members member = count_by (λ other. other == member) members
+abbrev pub times_in : List ℕ → ℕ → ℕ
+times_in members member = count_by (λ other. other == member) members
 
 -- no member is there twice
 abbrev pub NoRepeats : List ℕ → Type 0
-NoRepeats members = (member : ℕ) → count_of members member ≤ 1
+NoRepeats members = (member : ℕ) → times_in members member ≤ 1
 
 -- members, none of them twice: their numbers have 16 bits
 pub record AreMembers (members : List ℕ) : Type 0 where
   pub distinct : NoRepeats members
-  pub numbers : (member : ℕ) → 2 ^ 16 ≤ member → count_of members member ≡ 0
+  pub numbers : (member : ℕ) → 2 ^ 16 ≤ member → times_in members member ≡ 0
 
 -- members, and a mark within their list
-pub record IsSound (order : ProbeOrder) : Type 0 where
+pub record IsSoundOrder (order : ProbeOrder) : Type 0 where
   pub listed : AreMembers order.members
   pub within : order.mark ≤ length order.members
 

@@ -2,18 +2,18 @@
 
 ghost use Rattle.std.specs.Prelude.{◌≡◌, ◌≢◌, ℕ, ◌-◌, ◌<◌, ◌≤◌, ◌^◌, Some, None, List, length, map, min, All, IsPermutation};
 ghost use Rattle.streams.specs.Draw.{Words, AreWords, IsRestOf, shuffle_of};
-ghost use Rattle.probing.specs.ProbeOrder.{ProbeOrder, IsSound, count_of, round_over, next_of, insert_of, remove_of, helpers_of};
+ghost use Rattle.probing.specs.ProbeOrder.{ProbeOrder, IsSoundOrder, times_in, round_over, next_of, insert_of, remove_of, helpers_of};
 ghost use Rattle.probing.specs.Rounds.{probes_of, probed, coming, others};
 
 /// No call makes a member appear twice or moves the mark out of the list.
 pub fn orders_stay_sound()
-    ensures next { (words : Words) (order : ProbeOrder) → AreWords words → IsSound order
-        → IsSound (next_of words order).1 }
+    ensures next { (words : Words) (order : ProbeOrder) → AreWords words → IsSoundOrder order
+        → IsSoundOrder (next_of words order).1 }
     ensures insert { (words : Words) (member : ℕ) (order : ProbeOrder) → AreWords words
-        → IsSound order → member < 2 ^ 16 → count_of order.members member ≡ 0
-        → IsSound (insert_of words member order).0 }
-    ensures remove { (member : ℕ) (order : ProbeOrder) → IsSound order
-        → IsSound (remove_of member order) }
+        → IsSoundOrder order → member < 2 ^ 16 → times_in order.members member ≡ 0
+        → IsSoundOrder (insert_of words member order).0 }
+    ensures remove { (member : ℕ) (order : ProbeOrder) → IsSoundOrder order
+        → IsSoundOrder (remove_of member order) }
 {}
 
 /// A call takes some first words of those that are left, or none, and leaves the others.
@@ -28,26 +28,26 @@ pub fn calls_take_the_first_words()
 /// A probe goes to a member of the list, and there is one unless the list is empty. All members stay.
 pub fn probes_go_to_members()
     ensures member { (words : Words) (order : ProbeOrder) (member : ℕ) → AreWords words
-        → IsSound order → (next_of words order).0 ≡ Some member
-        → count_of order.members member ≡ 1 }
-    ensures none { (words : Words) (order : ProbeOrder) → AreWords words → IsSound order
+        → IsSoundOrder order → (next_of words order).0 ≡ Some member
+        → times_in order.members member ≡ 1 }
+    ensures none { (words : Words) (order : ProbeOrder) → AreWords words → IsSoundOrder order
         → (next_of words order).0 ≡ None → length order.members ≡ 0 }
-    ensures members { (words : Words) (order : ProbeOrder) → AreWords words → IsSound order
+    ensures members { (words : Words) (order : ProbeOrder) → AreWords words → IsSoundOrder order
         → IsPermutation order.members (next_of words order).1.members }
 {}
 
 /// The probes of a round go to the shuffled members in their order, so to each member once, and take
 /// the words of that shuffle alone. What is left of a round that has begun takes none.
 pub fn a_round_probes_each_member_once()
-    ensures round { (words : Words) (order : ProbeOrder) → AreWords words → IsSound order
+    ensures round { (words : Words) (order : ProbeOrder) → AreWords words → IsSoundOrder order
         → order.mark ≡ length order.members
         → let shuffled = shuffle_of words order.members in
         probes_of (length order.members) words order
         ≡ (map Some shuffled.0, round_over shuffled.0, shuffled.1) }
-    ensures once { (words : Words) (order : ProbeOrder) → AreWords words → IsSound order
+    ensures once { (words : Words) (order : ProbeOrder) → AreWords words → IsSoundOrder order
         → order.mark ≡ length order.members
         → IsPermutation (map Some order.members) (probes_of (length order.members) words order).0 }
-    ensures rest { (words : Words) (order : ProbeOrder) → IsSound order
+    ensures rest { (words : Words) (order : ProbeOrder) → IsSoundOrder order
         → probes_of (length order.members - order.mark) words order
         ≡ (map Some (coming order), round_over order.members, words) }
 {}
@@ -55,34 +55,34 @@ pub fn a_round_probes_each_member_once()
 /// A new member is there once. The others keep their order, and whether their turn is over.
 pub fn an_insert_keeps_the_others()
     ensures added { (words : Words) (member : ℕ) (order : ProbeOrder)
-        → count_of order.members member ≡ 0
-        → count_of (insert_of words member order).0.members member ≡ 1 }
+        → times_in order.members member ≡ 0
+        → times_in (insert_of words member order).0.members member ≡ 1 }
     ensures others { (words : Words) (member other : ℕ) (order : ProbeOrder) → member ≢ other
-        → count_of (insert_of words member order).0.members other ≡ count_of order.members other }
-    ensures probed { (words : Words) (member : ℕ) (order : ProbeOrder) → IsSound order
-        → count_of order.members member ≡ 0
+        → times_in (insert_of words member order).0.members other ≡ times_in order.members other }
+    ensures probed { (words : Words) (member : ℕ) (order : ProbeOrder) → IsSoundOrder order
+        → times_in order.members member ≡ 0
         → others member (probed (insert_of words member order).0) ≡ probed order }
-    ensures coming { (words : Words) (member : ℕ) (order : ProbeOrder) → IsSound order
-        → count_of order.members member ≡ 0
+    ensures coming { (words : Words) (member : ℕ) (order : ProbeOrder) → IsSoundOrder order
+        → times_in order.members member ≡ 0
         → others member (coming (insert_of words member order).0) ≡ coming order }
 {}
 
 /// Without a member the others keep their order, and whether their turn is over.
 pub fn a_removal_keeps_the_others()
-    ensures others { (member other : ℕ) (order : ProbeOrder) → IsSound order → member ≢ other
-        → count_of (remove_of member order).members other ≡ count_of order.members other }
-    ensures probed { (member : ℕ) (order : ProbeOrder) → IsSound order
+    ensures others { (member other : ℕ) (order : ProbeOrder) → IsSoundOrder order → member ≢ other
+        → times_in (remove_of member order).members other ≡ times_in order.members other }
+    ensures probed { (member : ℕ) (order : ProbeOrder) → IsSoundOrder order
         → probed (remove_of member order) ≡ others member (probed order) }
-    ensures coming { (member : ℕ) (order : ProbeOrder) → IsSound order
+    ensures coming { (member : ℕ) (order : ProbeOrder) → IsSoundOrder order
         → coming (remove_of member order) ≡ others member (coming order) }
 {}
 
 /// A member that was taken out is not there, and as long as it isn't, no probe goes to it.
 pub fn a_removed_member_is_probed_no_more()
-    ensures removed { (member : ℕ) (order : ProbeOrder) → IsSound order
-        → count_of (remove_of member order).members member ≡ 0 }
+    ensures removed { (member : ℕ) (order : ProbeOrder) → IsSoundOrder order
+        → times_in (remove_of member order).members member ≡ 0 }
     ensures absent { (count : ℕ) (words : Words) (member : ℕ) (order : ProbeOrder) → AreWords words
-        → IsSound order → count_of order.members member ≡ 0
+        → IsSoundOrder order → times_in order.members member ≡ 0
         → All (λ answer. answer ≢ Some member) (probes_of count words order).0 }
 {}
 
@@ -93,5 +93,5 @@ pub fn helpers_are_candidates()
         → length (helpers_of words count candidates).0 ≡ min count (length candidates) }
     ensures each { (words : Words) (count : ℕ) (candidates : List ℕ) (member : ℕ) → AreWords words
         → length candidates < 2 ^ 32 - 1
-        → count_of (helpers_of words count candidates).0 member ≤ count_of candidates member }
+        → times_in (helpers_of words count candidates).0 member ≤ times_in candidates member }
 {}

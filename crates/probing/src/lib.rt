@@ -4,7 +4,7 @@
 
 ghost use Rattle.std.specs.Prelude.{◌≡◌, ◌==◌, IfOk, OnOk, OnErr, ◌<◌, ◌^◌, All, position};
 ghost use Rattle.streams.specs.Draw.{words_of};
-ghost use Rattle.probing.specs.ProbeOrder.{NoRepeats, IsSound, count_of, round_over, next_of, insert_of, remove_of, helpers_of};
+ghost use Rattle.probing.specs.ProbeOrder.{NoRepeats, IsSoundOrder, times_in, round_over, next_of, insert_of, remove_of, helpers_of};
 
 pub mod laws;
 
@@ -21,14 +21,14 @@ pub struct Rota {
 }
 
 impl Model for Rota {
-    ghost use Rattle.probing.specs.ProbeOrder.{ProbeOrder, IsSound};
+    ghost use Rattle.probing.specs.ProbeOrder.{ProbeOrder, IsSoundOrder};
 
     ghost Value = { ProbeOrder };
 
     ghost view = { λ rota. record { members = rota.members.items; mark = rota.mark } };
 
     ghost invariant = { λ rota.
-        IsSound (record { members = rota.members.items; mark = rota.mark }) };
+        IsSoundOrder (record { members = rota.members.items; mark = rota.mark }) };
 }
 
 impl Rota {
@@ -37,7 +37,7 @@ impl Rota {
     pub fn of(members: Vec<MemberId>) -> Result<Self, Memory>
         requires { NoRepeats members.items }
         ensures value { result ≡ Ok (round_over members.items) }
-        ensures sound { IfOk result IsSound }
+        ensures sound { IfOk result IsSoundOrder }
     {
         see_numbers(&members);
         let mark = members.len();
@@ -50,7 +50,7 @@ impl Rota {
     pub fn next(&mut self, stream: &mut Stream) -> Option<MemberId>
         ensures drawn { (result, self.new, words_of stream.new)
             ≡ next_of (words_of stream.old) self.old }
-        ensures sound { IsSound self.new }
+        ensures sound { IsSoundOrder self.new }
     {
         if self.members.is_empty() {
             return None;
@@ -68,11 +68,11 @@ impl Rota {
     /// it from the next one on. A refusal leaves the rota and the stream as they were.
     #[tactic(auto, unfolding(crate::specs::ProbeOrder::insert_of))]
     pub fn insert(&mut self, member: MemberId, stream: &mut Stream) -> Result<(), Memory>
-        requires { count_of self.old.members member ≡ 0 }
+        requires { times_in self.old.members member ≡ 0 }
         ensures ok { OnOk result ((self.new, words_of stream.new)
             ≡ insert_of (words_of stream.old) member self.old) }
         ensures err { OnErr result ((self.new ≡ self.old) × (stream.new ≡ stream.old)) }
-        ensures sound { IsSound self.new }
+        ensures sound { IsSoundOrder self.new }
     {
         if self.members.reserve(1).is_err() {
             return Err(Memory);
@@ -91,7 +91,7 @@ impl Rota {
     #[tactic(auto, unfolding(crate::specs::ProbeOrder::remove_of))]
     pub fn remove(&mut self, member: MemberId)
         ensures removed { self.new ≡ remove_of member self.old }
-        ensures sound { IsSound self.new }
+        ensures sound { IsSoundOrder self.new }
     {
         let Some(place) = place_of(&self.members, member) else {
             return;

@@ -1,5 +1,5 @@
 ghost use Rattle.std.specs.Prelude.{◌≡◌, IsTrue};
-ghost use Rattle.probing.specs.ProbeOrder.{NoRepeats, count_of};
+ghost use Rattle.probing.specs.ProbeOrder.{NoRepeats, times_in};
 
 use super::*;
 use std::process::Abort;
@@ -39,7 +39,7 @@ fn in_a_round(rt: &impl AllocGlobal, draws: &mut Stream) -> Result<Rota, Fail> {
 }
 
 fn is_absent(rota: &Rota, member: MemberId) -> bool
-    ensures { IsTrue result → count_of rota.now.members member ≡ 0 }
+    ensures { IsTrue result → times_in rota.now.members member ≡ 0 }
 {
     match place_of(&rota.members, member) {
         Some(_) => false,

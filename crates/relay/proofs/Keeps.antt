@@ -10,7 +10,7 @@ use Rattle.scenario.specs.Setup.{Setup}
 use Rattle.relay.specs.declared.batch.Batch.{Batch}
 use Rattle.relay.specs.declared.batch.Lot.{Lot}
 use Rattle.relay.specs.declared.rule.Log.{Log}
-use Rattle.relay.specs.Lots.{lot_of, rows_of, has_last, NoneAfterLast, BelongsTo}
+use Rattle.relay.specs.Lots.{lot_of, rows_in, has_last, NoneAfterLast, BelongsTo}
 use Rattle.relay.specs.Rule.{log, Fits, Relayed}
 use Rattle.relay.proofs.Passes.{Each, at_set, each_set, each_more}
 
@@ -191,5 +191,5 @@ received v items sent taken s t told has = all_taken sent taken (map lot_of item
 
 -- and that the rows of the one are a beginning of the rows of the other
 pub begun : (v : Log) (items : List Batch) (sent taken : List Lot) → v.sent ≡ sent → v.taken ≡ taken → (v.sent ≡ v.taken ++ map lot_of items) × NoneAfterLast v.sent
-    → rows_of sent ≡ rows_of taken ++ rows_of (map lot_of items)
-begun v items sent taken s t told = ap rows_of (sym s ∙ told.0 ∙ ap (λ l. l ++ map lot_of items) t) ∙ flat_map-append (λ (lot : Lot). lot.rows) taken (map lot_of items)
+    → rows_in sent ≡ rows_in taken ++ rows_in (map lot_of items)
+begun v items sent taken s t told = ap rows_in (sym s ∙ told.0 ∙ ap (λ l. l ++ map lot_of items) t) ∙ flat_map-append (λ (lot : Lot). lot.rows) taken (map lot_of items)

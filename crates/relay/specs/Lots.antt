@@ -12,8 +12,8 @@ abbrev pub lot_of : Batch → Lot
 lot_of batch = record { number = batch.number; rows = batch.rows.items; last = batch.last }
 
 -- the rows of all batches, one batch's after the other's
-abbrev pub rows_of : List Lot → List Row
-rows_of lots = flat_map (λ lot. lot.rows) lots
+abbrev pub rows_in : List Lot → List Row
+rows_in lots = flat_map (λ lot. lot.rows) lots
 
 -- one of the batches names itself the last
 abbrev pub has_last : List Lot → Bool

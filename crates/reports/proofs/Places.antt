@@ -6,7 +6,7 @@ use Rattle.scenario.specs.Setup.{Setup, member_count}
 use Rattle.trace.specs.declared.row.Row.{Row}
 use Rattle.trace.specs.Text.{NamesMembers}
 use Rattle.reports.specs.Rows.{Placed, placed, placed_after}
-use Rattle.reports.specs.Crashes.{crash_of, is_crash, crashes_of}
+use Rattle.reports.specs.Crashes.{crash_told, is_crash, crashes_of}
 
 -- the rows from a place on, in their places
 abbrev pub placed_from : List Row → ℕ → List Placed
@@ -22,6 +22,6 @@ All-placed_after P earlier (row ∷ later) all =
 -- those who crash are members where the rows name members alone
 pub crashed_are_members : (s : Setup) (rows : List Row) → All (NamesMembers s) rows → All (λ crash. crash.member < member_count s) (crashes_of rows)
 crashed_are_members s rows named =
-    All-map (λ crash. crash.member < member_count s) crash_of (filter is_crash (placed rows))
+    All-map (λ crash. crash.member < member_count s) crash_told (filter is_crash (placed rows))
     (All-filter is_crash (λ p. p.row.member < member_count s) (placed rows)
     (All-placed_after (λ row. row.member < member_count s) [] rows (All-weaker (NamesMembers s) (λ row. row.member < member_count s) (λ row names. names.member) rows named)))

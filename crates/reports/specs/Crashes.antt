@@ -5,7 +5,7 @@ use Rattle.std.specs.List.{last_or}
 use Rattle.trace.specs.declared.row.What.TheVariants as what
 use Rattle.trace.specs.declared.row.Row.{Row}
 use Rattle.reports.specs.declared.crash.Detection.{Detection}
-use Rattle.reports.specs.declared.crash.Crash.{Crash}
+use Rattle.reports.specs.declared.crash.CrashTold.{CrashTold}
 use Rattle.reports.specs.Rows.{Placed, placed, tells, tells_of}
 
 -- the moment of a row, if there is one
@@ -23,21 +23,21 @@ detection_of member later =
     }
 
 -- the crash that a row tells of. Only what stands later in the trace counts as its detection
-abbrev pub crash_of : Placed → Crash
-crash_of p = record { member = p.row.member; at = p.row.at; detection = detection_of p.row.member p.later }
+abbrev pub crash_told : Placed → CrashTold
+crash_told p = record { member = p.row.member; at = p.row.at; detection = detection_of p.row.member p.later }
 
 -- the row tells of a crash
 abbrev pub is_crash : Placed → Bool
 is_crash p = tells what.Crash p.row
 
 -- the crashes of a trace, in its order
-abbrev pub crashes_of : List Row → List Crash
-crashes_of rows = map crash_of (filter is_crash (placed rows))
+abbrev pub crashes_of : List Row → List CrashTold
+crashes_of rows = map crash_told (filter is_crash (placed rows))
 
 -- how long it took until a first member confirmed a crash, where one did
-abbrev pub latency_of : Crash → Option ℕ
+abbrev pub latency_of : CrashTold → Option ℕ
 latency_of crash = option_map (λ confirm. confirm - crash.at) crash.detection.confirm
 
 -- the latencies that are there
-abbrev pub latencies_of : List Crash → List ℕ
+abbrev pub latencies_of : List CrashTold → List ℕ
 latencies_of crashes = filter_map latency_of crashes

@@ -29,8 +29,8 @@ abbrev pub count_of : What → List Row → ℕ
 count_of kind rows = count_by (tells kind) rows
 
 -- how many sendings of this kind were lost
-abbrev pub lost_of : What → List Row → ℕ
-lost_of kind rows = count_by (tells_lost kind) rows
+abbrev pub losses_of : What → List Row → ℕ
+losses_of kind rows = count_by (tells_lost kind) rows
 
 -- the highest local health counter that any member reached (Lifeguard's LHA-Probe): the greatest value of a health row, 0 without one
 abbrev pub worst_health : List Row → ℕ

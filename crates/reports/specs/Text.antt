@@ -6,8 +6,8 @@ use Rattle.trace.specs.Text.{word_of}
 use Rattle.trace.specs.declared.row.What.{What}
 use Rattle.trace.specs.declared.row.What.TheVariants as what
 use Rattle.trace.specs.declared.row.Row.{Row}
-use Rattle.reports.specs.declared.crash.Crash.{Crash}
-use Rattle.reports.specs.Rows.{count_of, lost_of, worst_health}
+use Rattle.reports.specs.declared.crash.CrashTold.{CrashTold}
+use Rattle.reports.specs.Rows.{count_of, losses_of, worst_health}
 use Rattle.reports.specs.Crashes.{crashes_of, latency_of, latencies_of}
 use Rattle.reports.specs.FalsePositives.{false_positives, healthy_false_positives}
 
@@ -25,7 +25,7 @@ unfoldable pub count_line : List ℕ → ℕ → List ℕ
 count_line word n = line (word ∷ decimal n ∷ [])
 
 -- a crash: whose and when, the first suspicion, the first and the last confirmation and how many there were, and the latency
-unfoldable pub crash_line : Setup → Crash → List ℕ
+unfoldable pub crash_line : Setup → CrashTold → List ℕ
 crash_line s crash =
     line (codes "crash" ∷ name_of s crash.member ∷ decimal crash.at
     ∷ codes "suspect" ∷ figure crash.detection.suspect
@@ -55,7 +55,7 @@ abbrev pub size_lines : Setup → List Row → List ℕ
 size_lines s rows = count_line (codes "members") (member_count s) ++ count_line (codes "end") s.end ++ count_line (codes "rows") (length rows)
 
 -- the least and the greatest of the latencies that are there
-abbrev pub latencies_line : List Crash → List ℕ
+abbrev pub latencies_line : List CrashTold → List ℕ
 latencies_line crashes = latency_line (reduce min (latencies_of crashes)) (reduce max (latencies_of crashes))
 
 -- a line for each crash, and one on their latencies
@@ -74,7 +74,7 @@ protocol_lines rows =
 
 -- one kind of message
 abbrev pub message_line : List Row → What → List ℕ
-message_line rows kind = sent_line (word_of kind) (count_of kind rows) (lost_of kind rows)
+message_line rows kind = sent_line (word_of kind) (count_of kind rows) (losses_of kind rows)
 
 -- the report of a trace
 unfoldable pub report_text : Setup → List Row → List ℕ

@@ -40,7 +40,7 @@ impl Detection {
         requires { self.old.confirmers < 2 ^ 63 }
         ensures seen { (rows : List AnyRow) → self.old ≡ detection_of member rows
             → self.new ≡ detection_of member (rows ++ row.now ∷ []) }
-        ensures few { self.new.confirmers ≤ self.old.confirmers + 1 }
+        ensures by_one { self.new.confirmers ≤ self.old.confirmers + 1 }
     {
         if !is_about(row, member) {
             return;
@@ -74,14 +74,14 @@ impl Detection {
 
 /// A crash, and how it was detected.
 #[derive(Clone, Copy)]
-pub(crate) struct Crash {
+pub(crate) struct CrashTold {
     /// Who crashed.
     pub(crate) member: MemberId,
     pub(crate) at: Moment,
     pub(crate) detection: Detection,
 }
 
-impl Crash {
+impl CrashTold {
     /// How many ticks it took until a first member confirmed the crash.
     pub(crate) fn latency(&self) -> Option<u64>
         ensures { result ≡ latency_of self.now }
@@ -103,7 +103,7 @@ fn detection_of(member: MemberId, later: &[Row]) -> Detection
 }
 
 /// The crashes of a trace, in its order.
-pub(crate) fn crashes_of(alloc: Global, rows: &[Row]) -> Result<Vec<Crash>, AllocError>
+pub(crate) fn crashes_of(alloc: Global, rows: &[Row]) -> Result<Vec<CrashTold>, AllocError>
     ensures { IfOk result (λ crashes. crashes.items ≡ crashes_of rows.now) }
 {
     let mut crashes = Vec::new(alloc);
@@ -111,7 +111,7 @@ pub(crate) fn crashes_of(alloc: Global, rows: &[Row]) -> Result<Vec<Crash>, Allo
         if !tells(row, What::Crash) {
             continue;
         }
-        crashes.push(Crash {
+        crashes.push(CrashTold {
             member: row.member,
             at: row.at,
             detection: detection_of(row.member, &rows[place + 1..]),

@@ -1,7 +1,7 @@
 //! Which rows a figure counts.
 ghost use Rattle.std.specs.Prelude.{◌≡◌, map, filter, max};
 ghost use Rattle.std.specs.List.{reduce};
-ghost use Rattle.reports.specs.Rows.{tells, is_about, tells_of, tells_lost, count_of, lost_of, worst_health};
+ghost use Rattle.reports.specs.Rows.{tells, is_about, tells_of, tells_lost, count_of, losses_of, worst_health};
 
 use base::MemberId;
 use trace::{Row, What};
@@ -38,8 +38,8 @@ fn tells_lost(row: &Row, kind: What) -> bool
 }
 
 /// How many sendings of this kind were lost.
-pub(crate) fn lost_of(kind: What, rows: &[Row]) -> usize
-    ensures { result ≡ lost_of kind rows.now }
+pub(crate) fn losses_of(kind: What, rows: &[Row]) -> usize
+    ensures { result ≡ losses_of kind rows.now }
 {
     rows.iter().filter(|row| tells_lost(row, kind)).count()
 }

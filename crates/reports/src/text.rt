@@ -7,9 +7,9 @@ ghost use Rattle.trace.specs.Text.{NamesMembers};
 ghost use Rattle.reports.specs.Crashes.{latencies_of};
 ghost use Rattle.reports.specs.Text.{figure, count_line, size_lines, crash_line, latency_line, latencies_line, false_line, false_claim_line, sent_line, message_line, protocol_lines};
 
-use crate::crash::Crash;
+use crate::crash::CrashTold;
 use crate::false_positives::false_positives;
-use crate::rows::{count_of, lost_of, worst_health};
+use crate::rows::{count_of, losses_of, worst_health};
 use base::Moment;
 use scenario::Scenario;
 use std::alloc::{AllocError, Global};
@@ -64,7 +64,7 @@ pub(crate) fn push_sizes(
 
 /// Appends the line of a crash.
 #[tactic(auto, unfolding(crate::specs::Text::crash_line))]
-fn push_crash(text: &mut String, crash: &Crash, scenario: &Scenario) -> Result<(), AllocError>
+fn push_crash(text: &mut String, crash: &CrashTold, scenario: &Scenario) -> Result<(), AllocError>
     requires { crash.now.member < member_count scenario.now }
     ensures { OnOk result (string_bytes text.new ≡ string_bytes text.old ++ crash_line scenario.now crash.now) }
 {
@@ -85,7 +85,7 @@ fn push_crash(text: &mut String, crash: &Crash, scenario: &Scenario) -> Result<(
 /// Appends a line for each crash.
 pub(crate) fn push_crashes(
     text: &mut String,
-    crashes: &[Crash],
+    crashes: &[CrashTold],
     scenario: &Scenario,
 ) -> Result<(), AllocError>
     requires { All (λ crash. crash.member < member_count scenario.now) crashes.now }
@@ -99,7 +99,7 @@ pub(crate) fn push_crashes(
 }
 
 /// Appends the line of the latencies of crashes.
-pub(crate) fn push_latencies(text: &mut String, crashes: &[Crash]) -> Result<(), AllocError>
+pub(crate) fn push_latencies(text: &mut String, crashes: &[CrashTold]) -> Result<(), AllocError>
     ensures { OnOk result (string_bytes text.new
         ≡ string_bytes text.old ++ latencies_line crashes.now) }
 {
@@ -120,13 +120,13 @@ fn push_latency(
     writeln!(text, "latency least {least} greatest {greatest}")
 }
 
-fn least_latency(crashes: &[Crash]) -> Option<u64>
+fn least_latency(crashes: &[CrashTold]) -> Option<u64>
     ensures { result ≡ reduce min (latencies_of crashes.now) }
 {
     crashes.iter().filter_map(|crash| crash.latency()).min()
 }
 
-fn greatest_latency(crashes: &[Crash]) -> Option<u64>
+fn greatest_latency(crashes: &[CrashTold]) -> Option<u64>
     ensures { result ≡ reduce max (latencies_of crashes.now) }
 {
     crashes.iter().filter_map(|crash| crash.latency()).max()
@@ -170,7 +170,7 @@ fn push_message(text: &mut String, kind: What, rows: &[Row]) -> Result<(), Alloc
 {
     let word = kind.word();
     let sent = count_of(kind, rows);
-    let lost = lost_of(kind, rows);
+    let lost = losses_of(kind, rows);
     writeln!(text, "sent {word} {sent} lost {lost}")
 }
 

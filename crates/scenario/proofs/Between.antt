@@ -6,7 +6,7 @@ use Rattle.std.proofs.lemmas.List.Elements.{filter-append}
 use Rattle.scenario.specs.Setup.{group_at, last_link}
 use Rattle.scenario.specs.declared.settings.Link.{Link}
 use Rattle.scenario.specs.declared.settings.Path.{Path}
-use Rattle.scenario.specs.View.{group_of}
+use Rattle.scenario.specs.SetupOf.{group_of}
 use Rattle.scenario.specs.declared.settings.Group.{Group as Stored}
 
 module _ (gs : List Stored) (i before : ℕ) (g : Stored) (within : i < length gs) (here : get_or gs i g ≡ g) where

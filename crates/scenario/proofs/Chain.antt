@@ -6,7 +6,7 @@ use Rattle.std.specs.Str.{IsUtf8, is_utf8}
 use Rattle.std.proofs.lemmas.Str.{IsUtf8-from_is_utf8, is_utf8-from_IsUtf8}
 use Rattle.toml.specs.Data.{Data, table, Members}
 use Rattle.toml.specs.Parse.{parse_document}
-use Rattle.schema.specs.declared.schema.Key.TheVariants as key
+use Rattle.schema.specs.declared.schema.FormatKey.TheVariants as key
 use Rattle.schema.specs.Tree.{items_at}
 use Rattle.schema.specs.Shape.{least_broken_of_shape, KeepsShape}
 use Rattle.schema.proofs.Chain.{nothing_of_shape}

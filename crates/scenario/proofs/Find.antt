@@ -18,7 +18,7 @@ use Rattle.std.proofs.lemmas.List.Folds.{list_any-append, list_any_none, fold-ma
 use Rattle.scenario.specs.Setup.{Group, names_in, names_below, group_at}
 use Rattle.scenario.specs.Reading.{names_of_all, member_named}
 use Rattle.scenario.specs.Rules.{is_name_byte, is_group_name, any_two}
-use Rattle.scenario.specs.Roster.{named_group, IsNumbered, start_in}
+use Rattle.scenario.specs.Roster.{named_group, AreNumberedFrom, start_in}
 use Rattle.scenario.specs.declared.roster.Block.{Block}
 
 module _ (name : List ℕ) (test : String Global → Bool) (same : (k : String Global) → test k ≡ bytes_eq name (string_bytes k)) where
@@ -212,7 +212,7 @@ module _ (name pre tail : List ℕ) (parts : name ≡ pre ++ 45 ∷ tail) (plain
 
   module _ (test : String Global → Bool) (same : (k : String Global) → test k ≡ bytes_eq pre (string_bytes k)) where
     place_at : (e : Entry) (es : List Entry) (t : ℕ) (b : Block) (i : ℕ) (r : Bool) → test e.0 ≡ r
-        → IsNumbered t (map block (e ∷ es)) → list_any bad (groups_of (e ∷ es)) ≡ false → lookup test (e ∷ es) ≡ Some b → tail ≡ decimal i → i < b.count → b.count ≤ 2 ^ 64
+        → AreNumberedFrom t (map block (e ∷ es)) → list_any bad (groups_of (e ∷ es)) ≡ false → lookup test (e ∷ es) ≡ Some b → tail ≡ decimal i → i < b.count → b.count ≤ 2 ^ 64
         → (lookup test es ≡ Some b → IsPlace name (t + e.1.count) es b i) → IsPlace name t (e ∷ es) b i
     place_at e es t b i true here numbered fine found index below small rest =
         let group = string_bytes e.0 in
@@ -246,19 +246,19 @@ module _ (name pre tail : List ℕ) (parts : name ≡ pre ++ 45 ∷ tail) (plain
         }
 
     -- the member is there, at the number that its group and its index give
-    pub place_found : (es : List Entry) (t : ℕ) (b : Block) (i : ℕ) → IsNumbered t (map block es) → list_any bad (groups_of es) ≡ false → lookup test es ≡ Some b → tail ≡ decimal i → i < b.count → b.count ≤ 2 ^ 64 → IsPlace name t es b i
+    pub place_found : (es : List Entry) (t : ℕ) (b : Block) (i : ℕ) → AreNumberedFrom t (map block es) → list_any bad (groups_of es) ≡ false → lookup test es ≡ Some b → tail ≡ decimal i → i < b.count → b.count ≤ 2 ^ 64 → IsPlace name t es b i
     place_found [] t b i numbered fine found index below small = cc
     place_found (e ∷ es) t b i numbered fine found index below small =
         place_at e es t b i (test e.0) refl numbered fine found index below small
         (λ later. place_found es (t + e.1.count) b i numbered.2 (neither (bad (named_group e)) (list_any bad (groups_of es)) fine).1 later index below small)
 
-    small_at : (e : Entry) (es : List Entry) (t : ℕ) (b : Block) (r : Bool) → test e.0 ≡ r → IsNumbered t (map block (e ∷ es)) → lookup test (e ∷ es) ≡ Some b → (lookup test es ≡ Some b → b.count < 2 ^ 64) → b.count < 2 ^ 64
+    small_at : (e : Entry) (es : List Entry) (t : ℕ) (b : Block) (r : Bool) → test e.0 ≡ r → AreNumberedFrom t (map block (e ∷ es)) → lookup test (e ∷ es) ≡ Some b → (lookup test es ≡ Some b → b.count < 2 ^ 64) → b.count < 2 ^ 64
     small_at e es t b true here numbered found rest =
         let is : Some e.1 ≡ Some b = sym (ap (λ c. cond c (Some e.1) (lookup test es)) here) ∙ found in
         subst (λ (c : Block). c.count < 2 ^ 64) (same_Some e.1 b is) numbered.1
     small_at e es t b false here numbered found rest = rest (sym (ap (λ c. cond c (Some e.1) (lookup test es)) here) ∙ found)
 
-    pub small_count : (es : List Entry) (t : ℕ) (b : Block) → IsNumbered t (map block es) → lookup test es ≡ Some b → b.count < 2 ^ 64
+    pub small_count : (es : List Entry) (t : ℕ) (b : Block) → AreNumberedFrom t (map block es) → lookup test es ≡ Some b → b.count < 2 ^ 64
     small_count [] t b numbered found = cc
     small_count (e ∷ es) t b numbered found = small_at e es t b (test e.0) refl numbered found (λ later. small_count es (t + e.1.count) b numbered.2 later)
 

@@ -20,7 +20,7 @@ use Rattle.scenario.specs.declared.settings.Link.{Link}
 use Rattle.scenario.specs.declared.settings.Path.{Path}
 use Rattle.scenario.specs.declared.settings.Slow.{Slow}
 use Rattle.scenario.specs.declared.settings.Crash.{Crash}
-use Rattle.scenario.specs.Roster.{named_group, IsNumbered}
+use Rattle.scenario.specs.Roster.{named_group, AreNumberedFrom}
 use Rattle.scenario.specs.declared.roster.Block.{Block}
 use Rattle.scenario.specs.Rules.{is_group_name, breaks_name, breaks_names, any_two}
 
@@ -114,7 +114,7 @@ pub block_added : {S : Type 0} (m : IndexMap (String Global) Block S) (k : Strin
 block_added m k n new = ap (map (λ (e : String Global × Block). e.1)) (insert_entry-new string_eq m k n new) ∙ map-append (λ (e : String Global × Block). e.1) m.entries ((k, n) ∷ [])
 
 -- the numbers go on with one more block
-pub numbered-last : (n : ℕ) (bs : List Block) (b : Block) → IsNumbered n bs → b.first ≡ n + sum_by (λ (c : Block). c.count) bs → b.count < 2 ^ 64 → IsNumbered n (bs ++ b ∷ [])
+pub numbered-last : (n : ℕ) (bs : List Block) (b : Block) → AreNumberedFrom n bs → b.first ≡ n + sum_by (λ (c : Block). c.count) bs → b.count < 2 ^ 64 → AreNumberedFrom n (bs ++ b ∷ [])
 numbered-last n [] b numbered next small = (omega (arith, next), small, tt)
 numbered-last n (c ∷ bs) b numbered next small =
     (numbered.0, numbered.1, numbered-last (n + c.count) bs b numbered.2 (omega (arith, next, sum_by-cons (λ (d : Block). d.count) c bs)) small)

@@ -7,7 +7,7 @@ use Rattle.std.proofs.lemmas.Bool.Decides.{nat_tests}
 use Rattle.toml.specs.Data.{Data}
 use Rattle.schema.specs.Tree.{items_at}
 use Rattle.schema.specs.Values.{text_at}
-use Rattle.schema.specs.declared.schema.Key.TheVariants as key
+use Rattle.schema.specs.declared.schema.FormatKey.TheVariants as key
 use Rattle.schema.proofs.Trees.{any-map}
 use Rattle.scenario.specs.Setup.{Setup, Group, start_of}
 use Rattle.scenario.specs.Reading.{plain_group, plain_groups, group_in, slow_in, crash_in, member_named, setup_of_tree}

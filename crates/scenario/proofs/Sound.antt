@@ -8,14 +8,14 @@ use Rattle.std.proofs.lemmas.List.Folds.{fold-map}
 use Rattle.std.proofs.lemmas.List.Quantifiers.{position-Some}
 use Rattle.std.proofs.lemmas.List.Sums.{get_or-le-sum_by}
 use Rattle.toml.specs.Data.{Data, string, integer, float, boolean, datetime, array, table, Items, no_items, item, as_table, as_str}
-use Rattle.schema.specs.Schema.{text_of, rows_of}
-use Rattle.schema.specs.Tree.{Part, items_of, items_at, part, parts_at, parts_below, parts_of, value_at, list_of}
+use Rattle.schema.specs.Schema.{spelling_of, key_rules_of}
+use Rattle.schema.specs.Tree.{SectionTable, items_of, items_at, section_table, tables_at, tables_below, tables_of, value_at, list_of}
 use Rattle.schema.specs.Values.{default_of, whole_or, number_at, text_if}
-use Rattle.schema.specs.Shape.{is_over_0, is_refused, is_absent, is_missing, is_other_kind, is_outside, has_fault, part_breaks, breaks, KeepsShape}
+use Rattle.schema.specs.Shape.{is_over_0, is_refused, is_absent, is_missing, is_other_kind, is_outside, has_fault, table_breaks, breaks, KeepsShape}
 use Rattle.schema.proofs.Trees.{any-flat_map}
-use Rattle.schema.specs.declared.schema.Row.{Row}
-use Rattle.schema.specs.declared.schema.Key.{Key}
-use Rattle.schema.specs.declared.schema.Key.TheVariants as key
+use Rattle.schema.specs.declared.schema.KeyRule.{KeyRule}
+use Rattle.schema.specs.declared.schema.FormatKey.{FormatKey}
+use Rattle.schema.specs.declared.schema.FormatKey.TheVariants as key
 use Rattle.schema.specs.declared.schema.Section.{Section}
 use Rattle.schema.specs.declared.schema.Section.TheVariants as section
 use Rattle.schema.specs.declared.schema.Kind.TheVariants as kind
@@ -57,17 +57,17 @@ there (Some x) e = refl
 
 -- a table of a section keeps the rules 2, 4 and 5
 record Keeps (s : Section) (d : Data) : Type 0 where
-  missing : list_any (is_missing d) (rows_of s) ≡ false
-  kinds : list_any (has_fault is_other_kind d) (rows_of s) ≡ false
-  ranges : list_any (has_fault is_outside d) (rows_of s) ≡ false
+  missing : list_any (is_missing d) (key_rules_of s) ≡ false
+  kinds : list_any (has_fault is_other_kind d) (key_rules_of s) ≡ false
+  ranges : list_any (has_fault is_outside d) (key_rules_of s) ≡ false
 
-keeps : (s : Section) (d : Data) → part_breaks Missing (part s d) ≡ false → part_breaks WrongKind (part s d) ≡ false → part_breaks OutOfRange (part s d) ≡ false → Keeps s d
-unfolding part_breaks
+keeps : (s : Section) (d : Data) → table_breaks Missing (section_table s d) ≡ false → table_breaks WrongKind (section_table s d) ≡ false → table_breaks OutOfRange (section_table s d) ≡ false → Keeps s d
+unfolding table_breaks
 keeps s d a b e =
-    let kinds = neither (is_none (as_table d)) (list_any (has_fault is_other_kind d) (rows_of s)) b in
+    let kinds = neither (is_none (as_table d)) (list_any (has_fault is_other_kind d) (key_rules_of s)) b in
     record { missing = second_false _ _ (there (as_table d) kinds.0) a; kinds = kinds.1; ranges = e }
 
-abbrev whole : Key → Absence → ℕ → ℕ → Row
+abbrev whole : FormatKey → Absence → ℕ → ℕ → KeyRule
 whole k a least most = record { key = k; absence = a; kind = kind.Whole least most }
 
 abbrev Within : ℕ → ℕ → ℕ → Type 0
@@ -93,7 +93,7 @@ bounded r least most default (Some (datetime t)) dflt m b e = absurd (false≢tr
 bounded r least most default (Some (array ds)) dflt m b e = absurd (false≢true (sym b))
 bounded r least most default (Some (table ms)) dflt m b e = absurd (false≢true (sym b))
 
-number_within : (s : Section) (k : Key) (a : Absence) (least most : ℕ) (d : Data) → (is_refused d a ≡ false → Within least most (default_of s k))
+number_within : (s : Section) (k : FormatKey) (a : Absence) (least most : ℕ) (d : Data) → (is_refused d a ≡ false → Within least most (default_of s k))
     → is_missing d (whole k a least most) ≡ false → has_fault is_other_kind d (whole k a least most) ≡ false → has_fault is_outside d (whole k a least most) ≡ false
     → Within least most (number_at s k (Some d))
 unfolding number_at
@@ -130,8 +130,8 @@ each_false f zero (x ∷ xs) e = (neither (f x) (list_any f xs) e).0
 each_false f (suc n) (x ∷ xs) e = each_false f n xs (neither (f x) (list_any f xs) e).1
 
 -- the row at an index of a section
-abbrev IsRow : Section → ℕ → Row → Type 0
-IsRow s i row = (test : Row → Bool) → test_at test i (rows_of s) ≡ test row
+abbrev IsRow : Section → ℕ → KeyRule → Type 0
+IsRow s i row = (test : KeyRule → Bool) → test_at test i (key_rules_of s) ≡ test row
 
 -- a document that breaks none of the rules 2, 4 and 5
 record AllKept (tree : Data) : Type 0 where
@@ -140,62 +140,62 @@ record AllKept (tree : Data) : Type 0 where
   ranges : breaks OutOfRange tree ≡ false
 
 top_kept : (tree : Data) → AllKept tree → Keeps section.Top tree
-unfolding breaks parts_of
+unfolding breaks tables_of
 top_kept tree k = keeps section.Top tree (neither _ _ k.missing).0 (neither _ _ k.kinds).0 (neither _ _ k.ranges).0
 
 -- what a row of the whole text calls for breaks no rule that the document keeps
-below_kept : (tree : Data) (check : Check) (i : ℕ) (row : Row) → IsRow section.Top i row → breaks check tree ≡ false
-    → list_any (part_breaks check) (parts_at row.kind (value_at row.key tree)) ≡ false
-unfolding breaks parts_of
+below_kept : (tree : Data) (check : Check) (i : ℕ) (row : KeyRule) → IsRow section.Top i row → breaks check tree ≡ false
+    → list_any (table_breaks check) (tables_at row.kind (value_at row.key tree)) ≡ false
+unfolding breaks tables_of
 below_kept tree check i row is e =
-    let test : Row → Bool = λ r. list_any (part_breaks check) (parts_below tree r) in
-    sym (is test) ∙ each_false test i (rows_of section.Top) (sym (any-flat_map (part_breaks check) (parts_below tree) (rows_of section.Top)) ∙ (neither (part_breaks check (part section.Top tree)) _ e).1)
+    let test : KeyRule → Bool = λ r. list_any (table_breaks check) (tables_below tree r) in
+    sym (is test) ∙ each_false test i (key_rules_of section.Top) (sym (any-flat_map (table_breaks check) (tables_below tree) (key_rules_of section.Top)) ∙ (neither (table_breaks check (section_table section.Top tree)) _ e).1)
 
-abbrev table_row : Key → Absence → Section → Row
+abbrev table_row : FormatKey → Absence → Section → KeyRule
 table_row k a s = record { key = k; absence = a; kind = kind.Table s }
 
-abbrev list_row : Key → Absence → Section → Row
+abbrev list_row : FormatKey → Absence → Section → KeyRule
 list_row k a s = record { key = k; absence = a; kind = kind.List s }
 
 -- the table at a key keeps the rules
-one_part : (s : Section) (o : Option Data) (d : Data) (f : Part → Bool) → o ≡ Some d → list_any f (parts_at (kind.Table s) o) ≡ false → f (part s d) ≡ false
-one_part s o d f is e = (neither (f (part s d)) false (ap (λ p. list_any f (parts_at (kind.Table s) p)) (sym is) ∙ e)).0
+one_part : (s : Section) (o : Option Data) (d : Data) (f : SectionTable → Bool) → o ≡ Some d → list_any f (tables_at (kind.Table s) o) ≡ false → f (section_table s d) ≡ false
+one_part s o d f is e = (neither (f (section_table s d)) false (ap (λ p. list_any f (tables_at (kind.Table s) p)) (sym is) ∙ e)).0
 
-first_part : (s : Section) (o : Option Data) (d : Data) (ds : Items) (f : Part → Bool) → o ≡ Some (array (item d ds)) → list_any f (parts_at (kind.List s) o) ≡ false → f (part s d) ≡ false
-first_part s o d ds f is e = (neither (f (part s d)) _ (ap (λ p. list_any f (parts_at (kind.List s) p)) (sym is) ∙ e)).0
+first_part : (s : Section) (o : Option Data) (d : Data) (ds : Items) (f : SectionTable → Bool) → o ≡ Some (array (item d ds)) → list_any f (tables_at (kind.List s) o) ≡ false → f (section_table s d) ≡ false
+first_part s o d ds f is e = (neither (f (section_table s d)) _ (ap (λ p. list_any f (tables_at (kind.List s) p)) (sym is) ∙ e)).0
 
-table_kept : (tree : Data) (i : ℕ) (k : Key) (a : Absence) (s : Section) → IsRow section.Top i (table_row k a s) → AllKept tree
+table_kept : (tree : Data) (i : ℕ) (k : FormatKey) (a : Absence) (s : Section) → IsRow section.Top i (table_row k a s) → AllKept tree
     → (d : Data) → value_at k tree ≡ Some d → Keeps s d
 table_kept tree i k a s is kept d at =
     keeps s d
-    (one_part s (value_at k tree) d (part_breaks Missing) at (below_kept tree Missing i (table_row k a s) is kept.missing))
-    (one_part s (value_at k tree) d (part_breaks WrongKind) at (below_kept tree WrongKind i (table_row k a s) is kept.kinds))
-    (one_part s (value_at k tree) d (part_breaks OutOfRange) at (below_kept tree OutOfRange i (table_row k a s) is kept.ranges))
+    (one_part s (value_at k tree) d (table_breaks Missing) at (below_kept tree Missing i (table_row k a s) is kept.missing))
+    (one_part s (value_at k tree) d (table_breaks WrongKind) at (below_kept tree WrongKind i (table_row k a s) is kept.kinds))
+    (one_part s (value_at k tree) d (table_breaks OutOfRange) at (below_kept tree OutOfRange i (table_row k a s) is kept.ranges))
 
-first_kept : (tree : Data) (i : ℕ) (k : Key) (a : Absence) (s : Section) → IsRow section.Top i (list_row k a s) → AllKept tree
+first_kept : (tree : Data) (i : ℕ) (k : FormatKey) (a : Absence) (s : Section) → IsRow section.Top i (list_row k a s) → AllKept tree
     → (d : Data) (ds : Items) → value_at k tree ≡ Some (array (item d ds)) → Keeps s d
 first_kept tree i k a s is kept d ds at =
     keeps s d
-    (first_part s (value_at k tree) d ds (part_breaks Missing) at (below_kept tree Missing i (list_row k a s) is kept.missing))
-    (first_part s (value_at k tree) d ds (part_breaks WrongKind) at (below_kept tree WrongKind i (list_row k a s) is kept.kinds))
-    (first_part s (value_at k tree) d ds (part_breaks OutOfRange) at (below_kept tree OutOfRange i (list_row k a s) is kept.ranges))
+    (first_part s (value_at k tree) d ds (table_breaks Missing) at (below_kept tree Missing i (list_row k a s) is kept.missing))
+    (first_part s (value_at k tree) d ds (table_breaks WrongKind) at (below_kept tree WrongKind i (list_row k a s) is kept.kinds))
+    (first_part s (value_at k tree) d ds (table_breaks OutOfRange) at (below_kept tree OutOfRange i (list_row k a s) is kept.ranges))
 
 -- the number of a row of a table that is there
-number_kept : (s : Section) (i : ℕ) (k : Key) (a : Absence) (least most : ℕ) → IsRow s i (whole k a least most) → (d : Data) → (is_refused d a ≡ false → Within least most (default_of s k)) → Keeps s d → Within least most (number_at s k (Some d))
+number_kept : (s : Section) (i : ℕ) (k : FormatKey) (a : Absence) (least most : ℕ) → IsRow s i (whole k a least most) → (d : Data) → (is_refused d a ≡ false → Within least most (default_of s k)) → Keeps s d → Within least most (number_at s k (Some d))
 number_kept s i k a least most is d dflt kept =
     number_within s k a least most d dflt
-    (sym (is (is_missing d)) ∙ each_false (is_missing d) i (rows_of s) kept.missing)
-    (sym (is (has_fault is_other_kind d)) ∙ each_false (has_fault is_other_kind d) i (rows_of s) kept.kinds)
-    (sym (is (has_fault is_outside d)) ∙ each_false (has_fault is_outside d) i (rows_of s) kept.ranges)
+    (sym (is (is_missing d)) ∙ each_false (is_missing d) i (key_rules_of s) kept.missing)
+    (sym (is (has_fault is_other_kind d)) ∙ each_false (has_fault is_other_kind d) i (key_rules_of s) kept.kinds)
+    (sym (is (has_fault is_outside d)) ∙ each_false (has_fault is_outside d) i (key_rules_of s) kept.ranges)
 
 -- a required number of a table that is there
-required : (s : Section) (i : ℕ) (k : Key) (least most : ℕ) → IsRow s i (whole k Refused least most)
+required : (s : Section) (i : ℕ) (k : FormatKey) (least most : ℕ) → IsRow s i (whole k Refused least most)
     → (o : Option Data) (d : Data) → o ≡ Some d → Keeps s d → Within least most (number_at s k o)
 required s i k least most is o d at kept =
     subst (λ p. Within least most (number_at s k p)) (sym at) (number_kept s i k Refused least most is d (λ no. absurd (false≢true (sym no))) kept)
 
 -- a number with a default, of a table that may be missing
-optional : (s : Section) (i : ℕ) (k : Key) (n least most : ℕ) → IsRow s i (whole k (Default n) least most) → Within least most (default_of s k)
+optional : (s : Section) (i : ℕ) (k : FormatKey) (n least most : ℕ) → IsRow s i (whole k (Default n) least most) → Within least most (default_of s k)
     → (o : Option Data) → ((d : Data) → o ≡ Some d → Keeps s d) → Within least most (number_at s k o)
 unfolding number_at
 optional s i k n least most is dflt None kept = dflt
@@ -225,7 +225,7 @@ record LifeguardSound (s : Lifeguard) : Type 0 where
 
 -- the numbers of the scenario
 swim_sound : (o : Option Data) (d : Data) → o ≡ Some d → ((e : Data) → o ≡ Some e → Keeps section.Swim e) → SwimSound (swim_in o)
-unfolding rows_of text_of
+unfolding key_rules_of spelling_of
 swim_sound o d at kept = record {
   period = (required section.Swim 0 key.Period 2 0x100_0000 (λ _. refl) o d at (kept d at)).1;
   timeout = (required section.Swim 1 key.Timeout 1 0x100_0000 (λ _. refl) o d at (kept d at)).0;
@@ -236,14 +236,14 @@ swim_sound o d at kept = record {
 }
 
 suspicion_sound : (o : Option Data) → ((d : Data) → o ≡ Some d → Keeps section.Suspicion d) → SuspicionSound (suspicion_in o)
-unfolding rows_of text_of
+unfolding key_rules_of spelling_of
 suspicion_sound o kept = record {
   alpha = optional section.Suspicion 0 key.Alpha 5 1 100 (λ _. refl) (omega arith, omega arith) o kept;
   beta = optional section.Suspicion 1 key.Beta 6 1 100 (λ _. refl) (omega arith, omega arith) o kept;
 }
 
 lifeguard_sound : (o : Option Data) → ((d : Data) → o ≡ Some d → Keeps section.Lifeguard d) → LifeguardSound (lifeguard_in o)
-unfolding rows_of text_of
+unfolding key_rules_of spelling_of
 lifeguard_sound o kept = record {
   ceiling = (optional section.Lifeguard 3 key.Ceiling 8 0 16 (λ _. refl) (omega arith, omega arith) o kept).1;
   confirmations = (optional section.Lifeguard 4 key.Confirmations 3 0 9 (λ _. refl) (omega arith, omega arith) o kept).1;
@@ -251,7 +251,7 @@ lifeguard_sound o kept = record {
 }
 
 link_sound : (o : Option Data) (d : Data) → o ≡ Some d → ((e : Data) → o ≡ Some e → Keeps section.Link e) → IsSoundLink (link_in o)
-unfolding rows_of text_of
+unfolding key_rules_of spelling_of
 link_sound o d at kept = record {
   delay = required section.Link 0 key.Delay 1 0x10_0000 (λ _. refl) o d at (kept d at);
   jitter = (optional section.Link 1 key.Jitter 0 0 0x10_0000 (λ _. refl) (omega arith, omega arith) o kept).1;
@@ -259,16 +259,16 @@ link_sound o d at kept = record {
 }
 
 -- a number of a path that is there, else the link's
-path_number : (i : ℕ) (k : Key) (least most n : ℕ) → IsRow section.Path i (whole k Optional least most) → Within least most n → (d : Data) → Keeps section.Path d
+path_number : (i : ℕ) (k : FormatKey) (least most n : ℕ) → IsRow section.Path i (whole k Optional least most) → Within least most n → (d : Data) → Keeps section.Path d
     → Within least most (whole_or n (value_at k d))
 path_number i k least most n is fine d kept =
     bounded false least most n (value_at k d) (λ _. fine)
-    (sym (is (is_missing d)) ∙ each_false (is_missing d) i (rows_of section.Path) kept.missing)
-    (sym (is (has_fault is_other_kind d)) ∙ each_false (has_fault is_other_kind d) i (rows_of section.Path) kept.kinds)
-    (sym (is (has_fault is_outside d)) ∙ each_false (has_fault is_outside d) i (rows_of section.Path) kept.ranges)
+    (sym (is (is_missing d)) ∙ each_false (is_missing d) i (key_rules_of section.Path) kept.missing)
+    (sym (is (has_fault is_other_kind d)) ∙ each_false (has_fault is_other_kind d) i (key_rules_of section.Path) kept.kinds)
+    (sym (is (has_fault is_outside d)) ∙ each_false (has_fault is_outside d) i (key_rules_of section.Path) kept.ranges)
 
 path_sound : (link : Link) (d : Data) → IsSoundLink link → Keeps section.Path d → IsSoundLink (link_over link d)
-unfolding rows_of
+unfolding key_rules_of
 path_sound link d sound kept = record {
   delay = path_number 2 key.Delay 1 0x10_0000 link.delay (λ _. refl) sound.delay d kept;
   jitter = (path_number 3 key.Jitter 0 0x10_0000 link.jitter (λ _. refl) (omega arith, sound.jitter) d kept).1;
@@ -281,23 +281,23 @@ last_of true p ps other taken passed = taken
 last_of false p ps other taken passed = passed
 
 abbrev Fine : Section → List Data → Check → Type 0
-Fine s ds check = list_any (part_breaks check) (map (part s) ds) ≡ false
+Fine s ds check = list_any (table_breaks check) (map (section_table s) ds) ≡ false
 
 -- the last link of the paths that pass a test
 last_sound : (groups : List Group) (link : Link) (test : Path → Bool) → IsSoundLink link → (ds : List Data) → Fine section.Path ds Missing → Fine section.Path ds WrongKind → Fine section.Path ds OutOfRange
     → (other : Link) → IsSoundLink other → IsSoundLink (last_link other (map (λ p. p.link) (filter test (map (path_in groups link) ds))))
 last_sound groups link test sound [] a b e other fine = fine
 last_sound groups link test sound (d ∷ ds) a b e other fine =
-    let missing = neither (part_breaks Missing (part section.Path d)) _ a in
-    let kinds = neither (part_breaks WrongKind (part section.Path d)) _ b in
-    let ranges = neither (part_breaks OutOfRange (part section.Path d)) _ e in
+    let missing = neither (table_breaks Missing (section_table section.Path d)) _ a in
+    let kinds = neither (table_breaks WrongKind (section_table section.Path d)) _ b in
+    let ranges = neither (table_breaks OutOfRange (section_table section.Path d)) _ e in
     let first = path_sound link d sound (keeps section.Path d missing.0 kinds.0 ranges.0) in
     let rest = last_sound groups link test sound ds missing.1 kinds.1 ranges.1 in
     last_of (test (path_in groups link d)) (path_in groups link d) (filter test (map (path_in groups link) ds)) other (rest (link_over link d) first) (rest other fine)
 
 paths_sound : (groups : List Group) (link : Link) (test : Path → Bool) (o : Option Data) → IsSoundLink link
-    → list_any (part_breaks Missing) (parts_at (kind.List section.Path) o) ≡ false → list_any (part_breaks WrongKind) (parts_at (kind.List section.Path) o) ≡ false
-    → list_any (part_breaks OutOfRange) (parts_at (kind.List section.Path) o) ≡ false
+    → list_any (table_breaks Missing) (tables_at (kind.List section.Path) o) ≡ false → list_any (table_breaks WrongKind) (tables_at (kind.List section.Path) o) ≡ false
+    → list_any (table_breaks OutOfRange) (tables_at (kind.List section.Path) o) ≡ false
     → IsSoundLink (last_link link (map (λ p. p.link) (filter test (map (path_in groups link) (option_map_or items_of o [])))))
 paths_sound groups link test None sound a b e = sound
 paths_sound groups link test (Some d) sound a b e = last_sound groups link test sound (items_of d) a b e link sound
@@ -308,26 +308,26 @@ paths_sound groups link test (Some d) sound a b e = last_sound groups link test 
 each_kept : (s : Section) (ds : List Data) → Fine s ds Missing → Fine s ds WrongKind → Fine s ds OutOfRange → AllByRecursion (Keeps s) ds
 each_kept s [] a b e = tt
 each_kept s (d ∷ ds) a b e =
-    let missing = neither (part_breaks Missing (part s d)) _ a in
-    let kinds = neither (part_breaks WrongKind (part s d)) _ b in
-    let ranges = neither (part_breaks OutOfRange (part s d)) _ e in
+    let missing = neither (table_breaks Missing (section_table s d)) _ a in
+    let kinds = neither (table_breaks WrongKind (section_table s d)) _ b in
+    let ranges = neither (table_breaks OutOfRange (section_table s d)) _ e in
     (keeps s d missing.0 kinds.0 ranges.0, each_kept s ds missing.1 kinds.1 ranges.1)
 
-items_kept : (s : Section) (o : Option Data) → list_any (part_breaks Missing) (parts_at (kind.List s) o) ≡ false → list_any (part_breaks WrongKind) (parts_at (kind.List s) o) ≡ false
-    → list_any (part_breaks OutOfRange) (parts_at (kind.List s) o) ≡ false → AllByRecursion (Keeps s) (option_map_or items_of o [])
+items_kept : (s : Section) (o : Option Data) → list_any (table_breaks Missing) (tables_at (kind.List s) o) ≡ false → list_any (table_breaks WrongKind) (tables_at (kind.List s) o) ≡ false
+    → list_any (table_breaks OutOfRange) (tables_at (kind.List s) o) ≡ false → AllByRecursion (Keeps s) (option_map_or items_of o [])
 items_kept s None a b e = tt
 items_kept s (Some d) a b e = each_kept s (items_of d) a b e
 
 extra_kept : (d : Data) → Keeps section.Slow d → number_at section.Slow key.Extra (Some d) ≤ 2 ^ 24
-unfolding rows_of
+unfolding key_rules_of
 extra_kept d kept = (required section.Slow 3 key.Extra 1 0x100_0000 (λ _. refl) (Some d) d refl kept).1
 
 at_kept : (d : Data) → Keeps section.Crash d → number_at section.Crash key.At (Some d) ≤ 2 ^ 40
-unfolding rows_of
+unfolding key_rules_of
 at_kept d kept = (required section.Crash 1 key.At 0 0x100_0000_0000 (λ _. refl) (Some d) d refl kept).1
 
 start_kept : (d : Data) → Keeps section.Group d → number_at section.Group key.Start (Some d) ≤ 2 ^ 40
-unfolding rows_of text_of
+unfolding key_rules_of spelling_of
 start_kept d kept = (number_kept section.Group 2 key.Start (Default 0) 0 0x100_0000_0000 (λ _. refl) d (λ _. (omega arith, omega arith)) kept).1
 
 extra_step : (b : Bool) (e : Slow) (rest : Option Slow) → e.extra ≤ 2 ^ 24 → option_map_or (λ (f : Slow). f.extra) rest 0 ≤ 2 ^ 24 → option_map_or (λ (f : Slow). f.extra) (cond b (Some e) rest) 0 ≤ 2 ^ 24
@@ -402,14 +402,14 @@ member_below : (gs : List Group) (name : List ℕ) (c : ℕ) → member_named gs
 unfolding member_named
 member_below gs name c found = omega (arith, (position-Some (bytes_eq name) (names_of_all gs) c [] found).0, length-names_of_all gs)
 
-abbrev contact_row : Row
+abbrev contact_row : KeyRule
 contact_row = record { key = key.Contact; absence = RefusedOver0 key.Start; kind = kind.Text }
 
 contact_there : (d : Data) → Keeps section.Group d → 0 < number_at section.Group key.Start (Some d) → (t : List ℕ) × (text_if key.Contact d ≡ Some t)
-unfolding number_at text_if rows_of text_of
+unfolding number_at text_if key_rules_of spelling_of
 contact_there d kept late =
-    let missing : is_missing d contact_row ≡ false = each_false (is_missing d) 3 (rows_of section.Group) kept.missing in
-    let kinds : has_fault is_other_kind d contact_row ≡ false = each_false (has_fault is_other_kind d) 3 (rows_of section.Group) kept.kinds in
+    let missing : is_missing d contact_row ≡ false = each_false (is_missing d) 3 (key_rules_of section.Group) kept.missing in
+    let kinds : has_fault is_other_kind d contact_row ≡ false = each_false (has_fault is_other_kind d) 3 (key_rules_of section.Group) kept.kinds in
     text_there (value_at key.Contact d) (second_false (is_over_0 (value_at key.Start d)) (is_absent kind.Text (value_at key.Contact d)) (over_0 (value_at key.Start d) late) missing) kinds
 
 group_sound : (s : Setup) (gs : List Group) (d : Data) → member_count s ≡ sum_by (λ (g : Group). g.count) gs → Keeps section.Group d → has_lost_contact gs d ≡ false → is_bad_contact s (group_in gs d) ≡ false
@@ -449,11 +449,11 @@ some_by s None sound = λ late. absurd (omega arith)
 some_by s (Some g) sound = sound.some
 
 end_sound : (d : Data) → Keeps section.Top d → number_at section.Top key.End (Some d) ≤ 2 ^ 40
-unfolding rows_of
+unfolding key_rules_of
 end_sound d kept = (required section.Top 2 key.End 0 0x100_0000_0000 (λ _. refl) (Some d) d refl kept).1
 
 count_sound : (d : Data) → Keeps section.Group d → 0 < number_at section.Group key.Count (Some d)
-unfolding rows_of
+unfolding key_rules_of
 count_sound d kept = (required section.Group 1 key.Count 1 1024 (λ _. refl) (Some d) d refl kept).0
 
 -- as many members as without the contacts
@@ -465,24 +465,24 @@ counts_same tree =
 
 -- The scenario of a document that breaks no rule.
 pub sound_of : (tree : Data) → KeepsShape tree → KeepsValues tree → IsSound (setup_of_tree tree)
-unfolding setup_of_tree rows_of breaks_references breaks_times
+unfolding setup_of_tree key_rules_of breaks_references breaks_times
 sound_of tree shape values =
     let kept : AllKept tree = record { missing = shape.missing; kinds = shape.kinds; ranges = shape.ranges } in
     let top = top_kept tree kept in
     let gs = plain_groups tree in
-    let absent : (i : ℕ) → test_at (is_missing tree) i (rows_of section.Top) ≡ false = λ i. each_false (is_missing tree) i (rows_of section.Top) top.missing in
+    let absent : (i : ℕ) → test_at (is_missing tree) i (key_rules_of section.Top) ≡ false = λ i. each_false (is_missing tree) i (key_rules_of section.Top) top.missing in
     let swim_there = table_there section.Swim (value_at key.Swim tree) (absent 3) in
     let link_there = table_there section.Link (value_at key.Link tree) (absent 6) in
-    let group = list_there section.Group (value_at key.Group tree) (absent 7) (each_false (has_fault is_other_kind tree) 7 (rows_of section.Top) top.kinds) in
+    let group = list_there section.Group (value_at key.Group tree) (absent 7) (each_false (has_fault is_other_kind tree) 7 (key_rules_of section.Top) top.kinds) in
     let swim : SwimSound (swim_in (value_at key.Swim tree)) = swim_sound _ swim_there.0 swim_there.1 (table_kept tree 3 key.Swim Refused section.Swim (λ _. refl) kept) in
     let suspicion : SuspicionSound (suspicion_in (value_at key.Suspicion tree)) = suspicion_sound _ (table_kept tree 4 key.Suspicion Optional section.Suspicion (λ _. refl) kept) in
     let lifeguard : LifeguardSound (lifeguard_in (value_at key.Lifeguard tree)) = lifeguard_sound _ (table_kept tree 5 key.Lifeguard Optional section.Lifeguard (λ _. refl) kept) in
     let link : IsSoundLink (link_in (value_at key.Link tree)) = link_sound _ link_there.0 link_there.1 (table_kept tree 6 key.Link Refused section.Link (λ _. refl) kept) in
     let first : 0 < number_at section.Group key.Count (Some group.0) = count_sound group.0 (first_kept tree 7 key.Group Refused section.Group (λ _. refl) kept group.0 group.1 group.2) in
-    let below : (i : ℕ) (k : Key) (a : Absence) (s : Section) → IsRow section.Top i (list_row k a s) → AllByRecursion (Keeps s) (items_at k tree) =
+    let below : (i : ℕ) (k : FormatKey) (a : Absence) (s : Section) → IsRow section.Top i (list_row k a s) → AllByRecursion (Keeps s) (items_at k tree) =
     λ i k a s is. items_kept s (value_at k tree) (below_kept tree Missing i (list_row k a s) is shape.missing) (below_kept tree WrongKind i (list_row k a s) is shape.kinds)
     (below_kept tree OutOfRange i (list_row k a s) is shape.ranges) in
-    let path : (check : Check) → breaks check tree ≡ false → list_any (part_breaks check) (parts_at (kind.List section.Path) (value_at key.Path tree)) ≡ false =
+    let path : (check : Check) → breaks check tree ≡ false → list_any (table_breaks check) (tables_at (kind.List section.Path) (value_at key.Path tree)) ≡ false =
     λ check kept. below_kept tree check 8 (list_row key.Path Optional section.Path) (λ _. refl) kept in
     let s : Setup = setup_of_tree tree in
     let times = neither (nat_le s.swim.period s.swim.timeout) (list_any (is_bad_contact s) s.groups || (list_any is_over s.slows || list_any (is_early s) s.crashes)) values.times in

@@ -1,5 +1,5 @@
 pub mod Setup
-pub mod View
+pub mod SetupOf
 pub mod Roster
 pub mod Division
 pub mod Spans

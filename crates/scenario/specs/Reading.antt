@@ -4,8 +4,8 @@ use Rattle.std.specs.List.{position}
 use Rattle.toml.specs.Data.{Data}
 use Rattle.schema.specs.Tree.{value_at, items_at}
 use Rattle.schema.specs.Values.{whole_or, number_at, switch_at, text_if, text_at}
-use Rattle.schema.specs.declared.schema.Key.{Key}
-use Rattle.schema.specs.declared.schema.Key.TheVariants as key
+use Rattle.schema.specs.declared.schema.FormatKey.{FormatKey}
+use Rattle.schema.specs.declared.schema.FormatKey.TheVariants as key
 use Rattle.schema.specs.declared.schema.Section.TheVariants as section
 use Rattle.scenario.specs.Setup.{Setup, Group, names_in}
 use Rattle.scenario.specs.declared.settings.Swim.{Swim}
@@ -42,7 +42,7 @@ abbrev pub group_named : List Group → List ℕ → Option ℕ
 group_named groups name = position (λ g. bytes_eq name g.name) groups
 
 -- the number of the group that a key names
-abbrev pub group_at_key : List Group → Key → Data → ℕ
+abbrev pub group_at_key : List Group → FormatKey → Data → ℕ
 group_at_key groups key d = unwrap_or (group_named groups (text_at key d)) 0
 
 -- one item of the list of groups
@@ -67,7 +67,7 @@ path_in groups link d = record {
 }
 
 -- the number of the member that a key names
-abbrev pub member_at : List Group → Key → Data → ℕ
+abbrev pub member_at : List Group → FormatKey → Data → ℕ
 member_at groups key d = unwrap_or (member_named groups (text_at key d)) 0
 
 -- one item of the list of times in which members are slow

@@ -12,16 +12,16 @@ abbrev pub named_group : (String Global × Block) → Group
 named_group entry = record { name = string_bytes entry.0; count = entry.1.count; start = entry.1.start; contact = None }
 
 -- the first group's members have the numbers from n on, and each further group's those after them
-abbrev pub IsNumbered : ℕ → List Block → Type 0
-IsNumbered n [] = Unit {0}
-IsNumbered n (block ∷ blocks) = (block.first ≡ n) × (block.count < 2 ^ 64) × IsNumbered (n + block.count) blocks
+abbrev pub AreNumberedFrom : ℕ → List Block → Type 0
+AreNumberedFrom n [] = Unit {0}
+AreNumberedFrom n (block ∷ blocks) = (block.first ≡ n) × (block.count < 2 ^ 64) × AreNumberedFrom (n + block.count) blocks
 
 abbrev pub roster_of : Inside → List Group
 roster_of r = map named_group r.groups.entries
 
 -- the numbers follow one another and aren't too many, and the names have their form and differ
 pub record IsRoster (r : Inside) : Type 0 where
-  pub numbered : IsNumbered 0 (map (λ entry. entry.1) r.groups.entries)
+  pub numbered : AreNumberedFrom 0 (map (λ entry. entry.1) r.groups.entries)
   pub small : sum_by (λ g. g.count) (roster_of r) < 2 ^ 128
   pub named : breaks_names (roster_of r) ≡ false
 

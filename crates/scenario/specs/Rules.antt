@@ -9,7 +9,7 @@ use Rattle.toml.specs.Parse.{parse_document}
 use Rattle.schema.specs.Tree.{items_at}
 use Rattle.schema.specs.Values.{text_if, text_at}
 use Rattle.schema.specs.Shape.{least_broken_of_shape}
-use Rattle.schema.specs.declared.schema.Key.TheVariants as key
+use Rattle.schema.specs.declared.schema.FormatKey.TheVariants as key
 use Rattle.scenario.specs.Setup.{Setup, Group, start_of, member_count}
 use Rattle.scenario.specs.Reading.{plain_groups, member_named, group_named, setup_of_tree}
 use Rattle.scenario.specs.declared.settings.Slow.{Slow}

@@ -4,7 +4,7 @@ use Rattle.std.specs.Option.{option_map_or}
 use Rattle.std.specs.Prelude.{Some}
 use Rattle.toml.specs.Data.{Data}
 use Rattle.schema.specs.Values.{number_at, text_if, text_at}
-use Rattle.schema.specs.declared.schema.Key.TheVariants as key
+use Rattle.schema.specs.declared.schema.FormatKey.TheVariants as key
 use Rattle.schema.specs.declared.schema.Section.TheVariants as section
 use Rattle.scenario.specs.Setup.{Group}
 use Rattle.scenario.specs.Reading.{member_named}

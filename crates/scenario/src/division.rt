@@ -66,7 +66,7 @@ impl Division {
     /// How many parts there are: 1 to 64.
     pub fn parts(&self) -> usize
         ensures value { result ≡ self.now.parts }
-        ensures few { (1 ≤ result) × (result ≤ 64) }
+        ensures at_most_64 { (1 ≤ result) × (result ≤ 64) }
     {
         self.parts
     }
@@ -127,7 +127,7 @@ impl Workers {
     /// How many workers there are.
     pub fn count(self) -> usize
         ensures value { result ≡ self }
-        ensures few { (1 ≤ result) × (result ≤ 64) }
+        ensures at_most_64 { (1 ≤ result) × (result ≤ 64) }
     {
         self.count
     }

@@ -3,13 +3,13 @@ ghost use Rattle.std.specs.Prelude.{◌≡◌, ◌≤◌, ◌<◌, ◌++◌, map
 ghost use Rattle.toml.specs.View.{view};
 ghost use Rattle.schema.specs.Values.{text_if};
 ghost use Rattle.scenario.specs.Setup.{names_in, names_below};
-ghost use Rattle.scenario.specs.View.{group_of};
+ghost use Rattle.scenario.specs.SetupOf.{group_of};
 ghost use Rattle.scenario.specs.Reading.{plain_group, group_in, member_named, group_named, group_at_key, member_at, link_over, path_in, slow_in, crash_in};
 
 use crate::roster::{Found, Roster};
 use crate::settings::{Crash, Group, Link, Path, Slow};
 use base::{MemberId, Memory, Moment};
-use schema::{Key, Section, number, text, text_if, whole_or};
+use schema::{FormatKey, Section, number, text, text_if, whole_or};
 use std::alloc::Global;
 use toml::Value;
 
@@ -17,7 +17,7 @@ use toml::Value;
 pub(crate) fn count_of(group: &Value) -> u64
     ensures { result ≡ (plain_group (view group.now)).count }
 {
-    number(Section::Group, Key::Count, Some(group))
+    number(Section::Group, FormatKey::Count, Some(group))
 }
 
 /// The groups in their order.
@@ -26,7 +26,7 @@ pub(crate) fn read_groups(
     roster: &Roster,
     list: &[Value],
 ) -> Result<Vec<Group>, Memory>
-    requires few { sum_by (λ g. g.count) roster.now ≤ 1024 }
+    requires at_most_1024 { sum_by (λ g. g.count) roster.now ≤ 1024 }
     ensures { IfOk result (λ groups. map group_of groups.items ≡ map (λ v. group_in roster.now (view v)) list.now) }
 {
     let mut groups = Vec::new(alloc);
@@ -44,26 +44,26 @@ pub(crate) fn read_groups(
 
 /// One group.
 fn read_group(alloc: Global, roster: &Roster, item: &Value) -> Result<Group, Memory>
-    requires few { sum_by (λ g. g.count) roster.now ≤ 1024 }
+    requires at_most_1024 { sum_by (λ g. g.count) roster.now ≤ 1024 }
     ensures { IfOk result (λ group. group_of group ≡ group_in roster.now (view item.now)) }
 {
-    let Ok(name) = String::from_str(alloc, text(Key::Name, item)) else {
+    let Ok(name) = String::from_str(alloc, text(FormatKey::Name, item)) else {
         return Err(Memory);
     };
     Ok(Group {
         name,
         count: count_of(item),
-        start: Moment(number(Section::Group, Key::Start, Some(item))),
+        start: Moment(number(Section::Group, FormatKey::Start, Some(item))),
         contact: read_contact(roster, item),
     })
 }
 
 /// Whom the members of a group ask to let them join.
 fn read_contact(roster: &Roster, group: &Value) -> Option<MemberId>
-    requires few { sum_by (λ g. g.count) roster.now ≤ 1024 }
-    ensures { result ≡ option_and_then (member_named roster.now) (text_if Key.Contact (view group.now)) }
+    requires at_most_1024 { sum_by (λ g. g.count) roster.now ≤ 1024 }
+    ensures { result ≡ option_and_then (member_named roster.now) (text_if FormatKey.Contact (view group.now)) }
 {
-    match text_if(Key::Contact, group) {
+    match text_if(FormatKey::Contact, group) {
         Some(name) => match roster.find(name) {
             Some(found) => Some(MemberId(found.number as u16)),
             None => None,
@@ -96,14 +96,14 @@ fn read_path(roster: &Roster, link: Link, item: &Value) -> Path
     ensures { result ≡ path_in roster.now link (view item.now) }
 {
     Path {
-        from: group_at(roster, Key::From, item),
-        to: group_at(roster, Key::To, item),
+        from: group_at(roster, FormatKey::From, item),
+        to: group_at(roster, FormatKey::To, item),
         link: link_over(link, item),
     }
 }
 
 /// The number of the group that a key names.
-fn group_at(roster: &Roster, key: Key, item: &Value) -> usize
+fn group_at(roster: &Roster, key: FormatKey, item: &Value) -> usize
     ensures { result ≡ group_at_key roster.now key (view item.now) }
 {
     match roster.group(text(key, item)) {
@@ -117,9 +117,9 @@ fn link_over(link: Link, path: &Value) -> Link
     ensures { result ≡ link_over link (view path.now) }
 {
     Link {
-        delay: whole_or(link.delay, path.get(Key::Delay.text())),
-        jitter: whole_or(link.jitter, path.get(Key::Jitter.text())),
-        loss: whole_or(link.loss, path.get(Key::Loss.text())),
+        delay: whole_or(link.delay, path.get(FormatKey::Delay.text())),
+        jitter: whole_or(link.jitter, path.get(FormatKey::Jitter.text())),
+        loss: whole_or(link.loss, path.get(FormatKey::Loss.text())),
     }
 }
 
@@ -129,7 +129,7 @@ pub(crate) fn read_slows(
     roster: &Roster,
     list: &[Value],
 ) -> Result<Vec<Slow>, Memory>
-    requires few { sum_by (λ g. g.count) roster.now ≤ 1024 }
+    requires at_most_1024 { sum_by (λ g. g.count) roster.now ≤ 1024 }
     ensures { IfOk result (λ slows. slows.items ≡ map (λ v. slow_in roster.now (view v)) list.now) }
 {
     let mut slows = Vec::new(alloc);
@@ -144,14 +144,14 @@ pub(crate) fn read_slows(
 
 /// One time in which a member is slow.
 fn read_slow(roster: &Roster, item: &Value) -> Slow
-    requires few { sum_by (λ g. g.count) roster.now ≤ 1024 }
+    requires at_most_1024 { sum_by (λ g. g.count) roster.now ≤ 1024 }
     ensures { result ≡ slow_in roster.now (view item.now) }
 {
     Slow {
         member: member_at(roster, item),
-        from: Moment(number(Section::Slow, Key::From, Some(item))),
-        until: Moment(number(Section::Slow, Key::Until, Some(item))),
-        extra: number(Section::Slow, Key::Extra, Some(item)),
+        from: Moment(number(Section::Slow, FormatKey::From, Some(item))),
+        until: Moment(number(Section::Slow, FormatKey::Until, Some(item))),
+        extra: number(Section::Slow, FormatKey::Extra, Some(item)),
     }
 }
 
@@ -161,7 +161,7 @@ pub(crate) fn read_crashes(
     roster: &Roster,
     list: &[Value],
 ) -> Result<Vec<Crash>, Memory>
-    requires few { sum_by (λ g. g.count) roster.now ≤ 1024 }
+    requires at_most_1024 { sum_by (λ g. g.count) roster.now ≤ 1024 }
     ensures { IfOk result (λ crashes. crashes.items ≡ map (λ v. crash_in roster.now (view v)) list.now) }
 {
     let mut crashes = Vec::new(alloc);
@@ -176,21 +176,21 @@ pub(crate) fn read_crashes(
 
 /// One crash.
 fn read_crash(roster: &Roster, item: &Value) -> Crash
-    requires few { sum_by (λ g. g.count) roster.now ≤ 1024 }
+    requires at_most_1024 { sum_by (λ g. g.count) roster.now ≤ 1024 }
     ensures { result ≡ crash_in roster.now (view item.now) }
 {
     Crash {
         member: member_at(roster, item),
-        at: Moment(number(Section::Crash, Key::At, Some(item))),
+        at: Moment(number(Section::Crash, FormatKey::At, Some(item))),
     }
 }
 
 /// The member of which an item speaks.
 fn member_at(roster: &Roster, item: &Value) -> MemberId
-    requires few { sum_by (λ g. g.count) roster.now ≤ 1024 }
-    ensures { result ≡ member_at roster.now Key.Member (view item.now) }
+    requires at_most_1024 { sum_by (λ g. g.count) roster.now ≤ 1024 }
+    ensures { result ≡ member_at roster.now FormatKey.Member (view item.now) }
 {
-    match roster.find(text(Key::Member, item)) {
+    match roster.find(text(FormatKey::Member, item)) {
         Some(found) => MemberId(found.number as u16),
         None => MemberId(0),
     }
@@ -202,7 +202,7 @@ pub(crate) fn list_names(alloc: Global, list: &[Value]) -> Result<Vec<String>, M
 {
     let mut names = Vec::new(alloc);
     for group in list {
-        match add_names(alloc, &mut names, text(Key::Name, group), count_of(group)) {
+        match add_names(alloc, &mut names, text(FormatKey::Name, group), count_of(group)) {
             Ok(()) => {}
             Err(Memory) => return Err(Memory),
         }

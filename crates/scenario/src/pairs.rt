@@ -10,7 +10,7 @@ use crate::refusal::Refusal;
 use crate::roster::Roster;
 use base::Memory;
 use indexmap::IndexSet;
-use schema::{Key, Section, items_at, number, text};
+use schema::{FormatKey, Section, items_at, number, text};
 use std::alloc::Global;
 use toml::Value;
 
@@ -30,8 +30,8 @@ pub(crate) fn check_pairs(alloc: Global, roster: &Roster, tree: &Value) -> Resul
     ensures ok { OnOk result (breaks_pairs (crashes_in roster.now (view tree.now)) (slows_in roster.now (view tree.now)) ≡ false) }
     ensures err { IfErr result (λ r. r.rule ≢ 11 → (r.rule ≡ 8) × (breaks_pairs (crashes_in roster.now (view tree.now)) (slows_in roster.now (view tree.now)) ≡ true)) }
 {
-    match check_crashes(alloc, roster, items_at(Key::Crash, tree)) {
-        Ok(()) => check_slows(alloc, roster, items_at(Key::Slow, tree)),
+    match check_crashes(alloc, roster, items_at(FormatKey::Crash, tree)) {
+        Ok(()) => check_slows(alloc, roster, items_at(FormatKey::Slow, tree)),
         Err(refusal) => Err(refusal),
     }
 }
@@ -54,9 +54,9 @@ fn check_crashes(alloc: Global, roster: &Roster, list: &[Value]) -> Result<(), R
 
 /// The number of the member of which an item speaks.
 fn member(roster: &Roster, item: &Value) -> u128
-    ensures { result ≡ member_at roster.now Key.Member (view item.now) }
+    ensures { result ≡ member_at roster.now FormatKey.Member (view item.now) }
 {
-    match roster.find(text(Key::Member, item)) {
+    match roster.find(text(FormatKey::Member, item)) {
         Some(found) => found.number,
         None => 0,
     }
@@ -101,8 +101,8 @@ fn read_span(roster: &Roster, index: usize, item: &Value) -> Span
 {
     Span {
         member: member(roster, item),
-        from: number(Section::Slow, Key::From, Some(item)),
-        until: number(Section::Slow, Key::Until, Some(item)),
+        from: number(Section::Slow, FormatKey::From, Some(item)),
+        until: number(Section::Slow, FormatKey::Until, Some(item)),
         item: index,
     }
 }

@@ -16,7 +16,7 @@ use crate::tables::{read_lifeguard, read_link, read_suspicion, read_swim};
 use crate::times::check_times;
 use base::limits::MOST_MEMBERS;
 use base::{Memory, Moment};
-use schema::{Key, Section, check_shape, items_at, number};
+use schema::{FormatKey, Section, check_shape, items_at, number};
 use std::alloc::Global;
 use toml::Value;
 
@@ -63,7 +63,7 @@ fn build(alloc: Global, tree: &Value) -> Result<Scenario, Refusal>
         Ok(roster) => roster,
         Err(refusal) => return Err(refusal),
     };
-    match settle(alloc, &roster, tree) {
+    match decide(alloc, &roster, tree) {
         Ok(scenario) => Ok(scenario),
         Err(Memory) => Err(Refusal::memory()),
     }
@@ -76,7 +76,7 @@ fn judge(alloc: Global, tree: &Value) -> Result<Roster, Refusal>
     ensures err { IfErr result (λ r. r.rule ≢ 11 → least_broken_by (view tree.now) (setup_of_tree (view tree.now)) ≡ Some r.rule) }
     ensures numbered { IfErr result (λ r. (1 ≤ r.rule) × (r.rule ≤ 11)) }
 {
-    let list = items_at(Key::Group, tree);
+    let list = items_at(FormatKey::Group, tree);
     let roster = match Roster::read(alloc, list) {
         Ok(roster) => roster,
         Err(refusal) => return Err(refusal),
@@ -97,32 +97,32 @@ fn judge(alloc: Global, tree: &Value) -> Result<Roster, Refusal>
 }
 
 /// The scenario of a document that breaks no rule.
-fn settle(alloc: Global, roster: &Roster, tree: &Value) -> Result<Scenario, Memory>
+fn decide(alloc: Global, roster: &Roster, tree: &Value) -> Result<Scenario, Memory>
     requires groups { roster.now ≡ plain_groups (view tree.now) }
     requires shape { KeepsShape (view tree.now) }
     requires values { KeepsValues (view tree.now) }
     ensures { IfOk result (λ s. s ≡ setup_of_tree (view tree.now)) }
 {
-    let list = items_at(Key::Group, tree);
+    let list = items_at(FormatKey::Group, tree);
     let link = read_link(tree);
     let Ok(groups) = read_groups(alloc, roster, list) else {
         return Err(Memory);
     };
-    let Ok(paths) = read_paths(alloc, roster, link, items_at(Key::Path, tree)) else {
+    let Ok(paths) = read_paths(alloc, roster, link, items_at(FormatKey::Path, tree)) else {
         return Err(Memory);
     };
-    let Ok(slows) = read_slows(alloc, roster, items_at(Key::Slow, tree)) else {
+    let Ok(slows) = read_slows(alloc, roster, items_at(FormatKey::Slow, tree)) else {
         return Err(Memory);
     };
-    let Ok(crashes) = read_crashes(alloc, roster, items_at(Key::Crash, tree)) else {
+    let Ok(crashes) = read_crashes(alloc, roster, items_at(FormatKey::Crash, tree)) else {
         return Err(Memory);
     };
     let Ok(names) = list_names(alloc, list) else {
         return Err(Memory);
     };
     Ok(Scenario {
-        seed: number(Section::Top, Key::Seed, Some(tree)),
-        end: Moment(number(Section::Top, Key::End, Some(tree))),
+        seed: number(Section::Top, FormatKey::Seed, Some(tree)),
+        end: Moment(number(Section::Top, FormatKey::End, Some(tree))),
         swim: read_swim(tree),
         suspicion: read_suspicion(tree),
         lifeguard: read_lifeguard(tree),

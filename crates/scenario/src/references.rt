@@ -6,7 +6,7 @@ ghost use Rattle.scenario.specs.Rules.{has_lost_contact, names_no_member, names_
 
 use crate::refusal::Refusal;
 use crate::roster::Roster;
-use schema::{Key, items_at, text, text_if};
+use schema::{FormatKey, items_at, text, text_if};
 use toml::Value;
 
 /// Refuses a contact, a slow member, a crash or a path that names no member or no group.
@@ -14,16 +14,16 @@ pub(crate) fn check_references(roster: &Roster, tree: &Value) -> Result<(), Refu
     ensures ok { OnOk result (breaks_references (view tree.now) roster.now ≡ false) }
     ensures err { IfErr result (λ r. (r.rule ≡ 7) × (breaks_references (view tree.now) roster.now ≡ true)) }
 {
-    if let Some(i) = first_lost_contact(roster, items_at(Key::Group, tree)) {
+    if let Some(i) = first_lost_contact(roster, items_at(FormatKey::Group, tree)) {
         return Err(Refusal::in_item(7, i));
     }
-    if let Some(i) = first_stranger(roster, items_at(Key::Slow, tree)) {
+    if let Some(i) = first_stranger(roster, items_at(FormatKey::Slow, tree)) {
         return Err(Refusal::in_item(7, i));
     }
-    if let Some(i) = first_stranger(roster, items_at(Key::Crash, tree)) {
+    if let Some(i) = first_stranger(roster, items_at(FormatKey::Crash, tree)) {
         return Err(Refusal::in_item(7, i));
     }
-    match first_lost_path(roster, items_at(Key::Path, tree)) {
+    match first_lost_path(roster, items_at(FormatKey::Path, tree)) {
         Some(i) => Err(Refusal::in_item(7, i)),
         None => Ok(()),
     }
@@ -45,7 +45,7 @@ fn first_lost_contact(roster: &Roster, list: &[Value]) -> Option<usize>
 fn has_lost_contact(roster: &Roster, group: &Value) -> bool
     ensures { result ≡ has_lost_contact roster.now (view group.now) }
 {
-    match text_if(Key::Contact, group) {
+    match text_if(FormatKey::Contact, group) {
         Some(name) => roster.find(name).is_none(),
         None => false,
     }
@@ -67,7 +67,7 @@ fn first_stranger(roster: &Roster, list: &[Value]) -> Option<usize>
 fn names_no_member(roster: &Roster, item: &Value) -> bool
     ensures { result ≡ names_no_member roster.now (view item.now) }
 {
-    roster.find(text(Key::Member, item)).is_none()
+    roster.find(text(FormatKey::Member, item)).is_none()
 }
 
 /// The index of the first path from or to a group that isn't there.
@@ -86,5 +86,5 @@ fn first_lost_path(roster: &Roster, list: &[Value]) -> Option<usize>
 fn names_no_group(roster: &Roster, path: &Value) -> bool
     ensures { result ≡ names_no_group roster.now (view path.now) }
 {
-    roster.group(text(Key::From, path)).is_none() || roster.group(text(Key::To, path)).is_none()
+    roster.group(text(FormatKey::From, path)).is_none() || roster.group(text(FormatKey::To, path)).is_none()
 }

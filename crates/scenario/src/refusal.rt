@@ -1,4 +1,4 @@
-use schema::{Fault, Place};
+use schema::{ShapeFault, TablePlace};
 use thiserror::Error;
 
 /// Why a text was refused.
@@ -41,14 +41,14 @@ impl Refusal {
     }
 
     /// The document breaks a rule on its shape.
-    pub(crate) fn of_shape(fault: Fault) -> Refusal
+    pub(crate) fn of_shape(fault: ShapeFault) -> Refusal
         ensures rule { result.rule ≡ rule_of fault.check }
         ensures numbered { (2 ≤ result.rule) × (result.rule ≤ 5) }
     {
         let rule = fault.check.rule();
         match fault.place {
-            Place::Item(index) => Refusal::in_item(rule, index),
-            Place::Table => Refusal { rule, place: 0 },
+            TablePlace::Item(index) => Refusal::in_item(rule, index),
+            TablePlace::Table => Refusal { rule, place: 0 },
         }
     }
 }

@@ -10,7 +10,7 @@ use crate::refusal::Refusal;
 use base::{Memory, Moment};
 use indexmap::IndexMap;
 use itoa::Buffer;
-use schema::{Key, Section, number, text};
+use schema::{FormatKey, Section, number, text};
 use std::alloc::Global;
 use std::marker::Model;
 use toml::Value;
@@ -67,7 +67,7 @@ impl Roster {
         for (i, item) in list.iter().enumerate() {
             let block = read_block(first, item);
             let count = block.count;
-            match add_group(alloc, &mut groups, text(Key::Name, item), block) {
+            match add_group(alloc, &mut groups, text(FormatKey::Name, item), block) {
                 Ok(true) => first += u128::from(count),
                 Ok(false) => return Err(Refusal::in_item(6, i)),
                 Err(Memory) => return Err(Refusal::memory()),
@@ -116,8 +116,8 @@ fn read_block(first: u128, group: &Value) -> Block
 {
     Block {
         first,
-        count: number(Section::Group, Key::Count, Some(group)),
-        start: Moment(number(Section::Group, Key::Start, Some(group))),
+        count: number(Section::Group, FormatKey::Count, Some(group)),
+        start: Moment(number(Section::Group, FormatKey::Start, Some(group))),
     }
 }
 

@@ -1,7 +1,7 @@
 ghost use Rattle.std.specs.Prelude.{◌≡◌, ◌<◌, ◌≤◌, ◌^◌};
 ghost use Rattle.std.specs.Prelude.{map, filter, find, nat_eq, slice_get, option_map, option_and_then, option_copied, IfSome};
 ghost use Rattle.std.specs.Option.{option_map_or};
-ghost use Rattle.scenario.specs.View.{group_of};
+ghost use Rattle.scenario.specs.SetupOf.{group_of};
 ghost use Rattle.scenario.specs.Setup.{member_count, name_of, group_at, leads, last_link, link_between, start_of, contact_of, crash_of, is_slow, extra_of, IsSound, IsSoundLink};
 
 use crate::settings::{Crash, Group, Lifeguard, Link, Path, Slow, Suspicion, Swim};
@@ -29,7 +29,7 @@ impl Model for Scenario {
 
     ghost Value = { Setup };
 
-    ghost use Rattle.scenario.specs.View.{setup_of, IsScenario};
+    ghost use Rattle.scenario.specs.SetupOf.{setup_of, IsScenario};
 
     ghost view = { setup_of };
 
@@ -40,7 +40,7 @@ impl Scenario {
     /// How many members there are: 1 to 1,024.
     pub fn members(&self) -> usize
         ensures count { result ≡ member_count self.now }
-        ensures few { result ≤ 1024 }
+        ensures at_most_1024 { result ≤ 1024 }
         ensures sound { IsSound self.now }
     {
         self.names.len()

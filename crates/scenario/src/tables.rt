@@ -4,7 +4,7 @@ ghost use Rattle.toml.specs.View.{view};
 ghost use Rattle.scenario.specs.Reading.{setup_of_tree};
 
 use crate::settings::{Lifeguard, Link, Suspicion, Swim};
-use schema::{Key, Section, number, switch};
+use schema::{FormatKey, Section, number, switch};
 use toml::Value;
 
 /// How members probe and gossip.
@@ -12,14 +12,14 @@ use toml::Value;
 pub(crate) fn read_swim(tree: &Value) -> Swim
     ensures { result ≡ (setup_of_tree (view tree.now)).swim }
 {
-    let table = tree.get(Key::Swim.text());
+    let table = tree.get(FormatKey::Swim.text());
     Swim {
-        period: number(Section::Swim, Key::Period, table),
-        timeout: number(Section::Swim, Key::Timeout, table),
-        helpers: number(Section::Swim, Key::Helpers, table),
-        carry: number(Section::Swim, Key::Carry, table),
-        lambda: number(Section::Swim, Key::Lambda, table),
-        spread: number(Section::Swim, Key::Spread, table),
+        period: number(Section::Swim, FormatKey::Period, table),
+        timeout: number(Section::Swim, FormatKey::Timeout, table),
+        helpers: number(Section::Swim, FormatKey::Helpers, table),
+        carry: number(Section::Swim, FormatKey::Carry, table),
+        lambda: number(Section::Swim, FormatKey::Lambda, table),
+        spread: number(Section::Swim, FormatKey::Spread, table),
     }
 }
 
@@ -28,10 +28,10 @@ pub(crate) fn read_swim(tree: &Value) -> Swim
 pub(crate) fn read_suspicion(tree: &Value) -> Suspicion
     ensures { result ≡ (setup_of_tree (view tree.now)).suspicion }
 {
-    let table = tree.get(Key::Suspicion.text());
+    let table = tree.get(FormatKey::Suspicion.text());
     Suspicion {
-        alpha: number(Section::Suspicion, Key::Alpha, table),
-        beta: number(Section::Suspicion, Key::Beta, table),
+        alpha: number(Section::Suspicion, FormatKey::Alpha, table),
+        beta: number(Section::Suspicion, FormatKey::Beta, table),
     }
 }
 
@@ -40,14 +40,14 @@ pub(crate) fn read_suspicion(tree: &Value) -> Suspicion
 pub(crate) fn read_lifeguard(tree: &Value) -> Lifeguard
     ensures { result ≡ (setup_of_tree (view tree.now)).lifeguard }
 {
-    let table = tree.get(Key::Lifeguard.text());
+    let table = tree.get(FormatKey::Lifeguard.text());
     Lifeguard {
-        probe: switch(Key::Probe, table),
-        suspicion: switch(Key::Suspicion, table),
-        buddy: switch(Key::Buddy, table),
-        ceiling: number(Section::Lifeguard, Key::Ceiling, table),
-        confirmations: number(Section::Lifeguard, Key::Confirmations, table),
-        nack_percent: number(Section::Lifeguard, Key::NackPercent, table),
+        probe: switch(FormatKey::Probe, table),
+        suspicion: switch(FormatKey::Suspicion, table),
+        buddy: switch(FormatKey::Buddy, table),
+        ceiling: number(Section::Lifeguard, FormatKey::Ceiling, table),
+        confirmations: number(Section::Lifeguard, FormatKey::Confirmations, table),
+        nack_percent: number(Section::Lifeguard, FormatKey::NackPercent, table),
     }
 }
 
@@ -56,10 +56,10 @@ pub(crate) fn read_lifeguard(tree: &Value) -> Lifeguard
 pub(crate) fn read_link(tree: &Value) -> Link
     ensures { result ≡ (setup_of_tree (view tree.now)).link }
 {
-    let table = tree.get(Key::Link.text());
+    let table = tree.get(FormatKey::Link.text());
     Link {
-        delay: number(Section::Link, Key::Delay, table),
-        jitter: number(Section::Link, Key::Jitter, table),
-        loss: number(Section::Link, Key::Loss, table),
+        delay: number(Section::Link, FormatKey::Delay, table),
+        jitter: number(Section::Link, FormatKey::Jitter, table),
+        loss: number(Section::Link, FormatKey::Loss, table),
     }
 }

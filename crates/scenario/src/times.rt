@@ -11,7 +11,7 @@ ghost use Rattle.scenario.specs.Times.{is_bad_contact_in, is_early_in, is_over_i
 use crate::refusal::Refusal;
 use crate::roster::{Found, Roster};
 use crate::tables::read_swim;
-use schema::{Key, Section, items_at, number, text, text_if};
+use schema::{FormatKey, Section, items_at, number, text, text_if};
 use toml::Value;
 
 /// Refuses a timeout that isn't below the period, a contact of a group that starts at moment 0 or that
@@ -27,13 +27,13 @@ pub(crate) fn check_times(roster: &Roster, tree: &Value) -> Result<(), Refusal>
     if swim.timeout >= swim.period {
         return Err(Refusal { rule: 9, place: 0 });
     }
-    if let Some(i) = first_bad_contact(roster, items_at(Key::Group, tree)) {
+    if let Some(i) = first_bad_contact(roster, items_at(FormatKey::Group, tree)) {
         return Err(Refusal::in_item(9, i));
     }
-    if let Some(i) = first_over(items_at(Key::Slow, tree)) {
+    if let Some(i) = first_over(items_at(FormatKey::Slow, tree)) {
         return Err(Refusal::in_item(9, i));
     }
-    match first_early(roster, items_at(Key::Crash, tree)) {
+    match first_early(roster, items_at(FormatKey::Crash, tree)) {
         Some(i) => Err(Refusal::in_item(9, i)),
         None => Ok(()),
     }
@@ -55,7 +55,7 @@ fn first_bad_contact(roster: &Roster, list: &[Value]) -> Option<usize>
 fn is_bad_contact(roster: &Roster, group: &Value) -> bool
     ensures { result ≡ is_bad_contact_in roster.now (view group.now) }
 {
-    let start = number(Section::Group, Key::Start, Some(group));
+    let start = number(Section::Group, FormatKey::Start, Some(group));
     match contact(roster, group) {
         Some(found) => start == 0 || found.start.ticks() > 0,
         None => false,
@@ -64,10 +64,10 @@ fn is_bad_contact(roster: &Roster, group: &Value) -> bool
 
 /// The contact of a group.
 fn contact(roster: &Roster, group: &Value) -> Option<Found>
-    ensures number { option_map (λ f. f.number) result ≡ option_and_then (member_named roster.now) (text_if Key.Contact (view group.now)) }
+    ensures number { option_map (λ f. f.number) result ≡ option_and_then (member_named roster.now) (text_if FormatKey.Contact (view group.now)) }
     ensures start { IfSome result (λ f. f.start ≡ start_in roster.now f.number) }
 {
-    match text_if(Key::Contact, group) {
+    match text_if(FormatKey::Contact, group) {
         Some(name) => roster.find(name),
         None => None,
     }
@@ -89,7 +89,7 @@ fn first_over(list: &[Value]) -> Option<usize>
 fn is_over(slow: &Value) -> bool
     ensures { result ≡ is_over_in (view slow.now) }
 {
-    number(Section::Slow, Key::Until, Some(slow)) <= number(Section::Slow, Key::From, Some(slow))
+    number(Section::Slow, FormatKey::Until, Some(slow)) <= number(Section::Slow, FormatKey::From, Some(slow))
 }
 
 /// The index of the first crash that isn't after its member's start.
@@ -108,8 +108,8 @@ fn first_early(roster: &Roster, list: &[Value]) -> Option<usize>
 fn is_early(roster: &Roster, crash: &Value) -> bool
     ensures { result ≡ is_early_in roster.now (view crash.now) }
 {
-    match roster.find(text(Key::Member, crash)) {
-        Some(found) => number(Section::Crash, Key::At, Some(crash)) <= found.start.ticks(),
+    match roster.find(text(FormatKey::Member, crash)) {
+        Some(found) => number(Section::Crash, FormatKey::At, Some(crash)) <= found.start.ticks(),
         None => false,
     }
 }

@@ -4,9 +4,9 @@ use Rattle.std.specs.Prelude.{◌≡◌, ℕ, ℤ, pos, negsuc, Bool, true, fals
 use Rattle.std.specs.List.{list_any}
 use Rattle.std.specs.Option.{option_map_or}
 use Rattle.toml.specs.Data.{Data, integer, array, no_items, as_integer, as_bool, as_str, as_array, as_table}
-use Rattle.schema.specs.Schema.{rows_of}
-use Rattle.schema.specs.Tree.{Part, parts_of, value_at, row_named, keys_of}
-use Rattle.schema.specs.declared.schema.Row.{Row}
+use Rattle.schema.specs.Schema.{key_rules_of}
+use Rattle.schema.specs.Tree.{SectionTable, tables_of, value_at, rule_named, keys_of}
+use Rattle.schema.specs.declared.schema.KeyRule.{KeyRule}
 use Rattle.schema.specs.declared.schema.Kind.{Kind}
 use Rattle.schema.specs.declared.schema.Kind.TheVariants as kind
 use Rattle.schema.specs.declared.schema.Absence.{Absence}
@@ -36,7 +36,7 @@ is_absent (kind.List s) (Some d) = is_empty_list d
 is_absent _ (Some d) = false
 
 -- the key is required and absent
-abbrev pub is_missing : Data → Row → Bool
+abbrev pub is_missing : Data → KeyRule → Bool
 is_missing d row = is_refused d row.absence && is_absent row.kind (value_at row.key d)
 
 -- the value is of another kind; what has to be a table is judged as a part of its own
@@ -58,7 +58,7 @@ is_outside (kind.Whole least most) (integer z) = not (is_within least most z)
 is_outside _ d = false
 
 -- the value of a row's key is there and has the fault
-abbrev pub has_fault : (Kind → Data → Bool) → Data → Row → Bool
+abbrev pub has_fault : (Kind → Data → Bool) → Data → KeyRule → Bool
 has_fault fault d row = option_map_or (fault row.kind) (value_at row.key d) false
 
 abbrev pub rule_of : Check → ℕ
@@ -68,19 +68,19 @@ rule_of WrongKind = 4
 rule_of OutOfRange = 5
 
 -- what each of the rules 2 to 5 refuses in a part
-unfoldable pub part_breaks : Check → Part → Bool
+unfoldable pub table_breaks : Check → SectionTable → Bool
 -- rule 2: a table lacks a required key
-part_breaks Missing p = is_some (as_table p.value) && list_any (is_missing p.value) (rows_of p.section)
+table_breaks Missing p = is_some (as_table p.value) && list_any (is_missing p.value) (key_rules_of p.section)
 -- rule 3: a table has a key that the format doesn't name
-part_breaks Unknown p = list_any (λ key. is_none (row_named (rows_of p.section) key)) (keys_of p.value)
+table_breaks Unknown p = list_any (λ key. is_none (rule_named (key_rules_of p.section) key)) (keys_of p.value)
 -- rule 4: the part is no table, or a value in it is of another kind
-part_breaks WrongKind p = is_none (as_table p.value) || list_any (has_fault is_other_kind p.value) (rows_of p.section)
+table_breaks WrongKind p = is_none (as_table p.value) || list_any (has_fault is_other_kind p.value) (key_rules_of p.section)
 -- rule 5: a whole number is outside its range
-part_breaks OutOfRange p = list_any (has_fault is_outside p.value) (rows_of p.section)
+table_breaks OutOfRange p = list_any (has_fault is_outside p.value) (key_rules_of p.section)
 
 -- some part of the document breaks the rule
 unfoldable pub breaks : Check → Data → Bool
-breaks check tree = list_any (part_breaks check) (parts_of tree)
+breaks check tree = list_any (table_breaks check) (tables_of tree)
 
 -- the document breaks none of the rules on its tables, 2 to 5
 pub record KeepsShape (tree : Data) : Type 0 where

@@ -8,6 +8,6 @@ mod shape;
 mod tests;
 mod values;
 
-pub use schema::{Absence, Key, Kind, Row, Section};
-pub use shape::{Check, Fault, Place, check_shape};
+pub use schema::{Absence, FormatKey, Kind, KeyRule, Section};
+pub use shape::{Check, ShapeFault, TablePlace, check_shape};
 pub use values::{items_at, number, switch, text, text_if, whole_or};

@@ -1,10 +1,10 @@
 //! The format of a scenario text, as rows of data: one constant for each kind of table.
 ghost use Rattle.std.specs.Prelude.{◌≡◌};
-ghost use Rattle.schema.specs.Schema.{text_of, rows_of};
+ghost use Rattle.schema.specs.Schema.{spelling_of, key_rules_of};
 
 /// A key that the format names.
 #[derive(Clone, Copy, Debug, PartialEq, Eq)]
-pub enum Key {
+pub enum FormatKey {
     Version,
     Seed,
     End,
@@ -44,50 +44,50 @@ pub enum Key {
     At,
 }
 
-impl Key {
+impl FormatKey {
     /// How the text spells the key.
-    #[tactic(auto, unfolding(crate::specs::Schema::text_of))]
+    #[tactic(auto, unfolding(crate::specs::Schema::spelling_of))]
     pub fn text(self) -> &'static str
-        ensures { result.now ≡ text_of self }
+        ensures { result.now ≡ spelling_of self }
     {
         match self {
-            Key::Version => "version",
-            Key::Seed => "seed",
-            Key::End => "end",
-            Key::Swim => "swim",
-            Key::Suspicion => "suspicion",
-            Key::Lifeguard => "lifeguard",
-            Key::Link => "link",
-            Key::Group => "group",
-            Key::Path => "path",
-            Key::Slow => "slow",
-            Key::Crash => "crash",
-            Key::Period => "period",
-            Key::Timeout => "timeout",
-            Key::Helpers => "helpers",
-            Key::Carry => "carry",
-            Key::Lambda => "lambda",
-            Key::Spread => "spread",
-            Key::Alpha => "alpha",
-            Key::Beta => "beta",
-            Key::Probe => "probe",
-            Key::Buddy => "buddy",
-            Key::Ceiling => "ceiling",
-            Key::Confirmations => "confirmations",
-            Key::NackPercent => "nack_percent",
-            Key::Delay => "delay",
-            Key::Jitter => "jitter",
-            Key::Loss => "loss",
-            Key::Name => "name",
-            Key::Count => "count",
-            Key::Start => "start",
-            Key::Contact => "contact",
-            Key::From => "from",
-            Key::To => "to",
-            Key::Member => "member",
-            Key::Until => "until",
-            Key::Extra => "extra",
-            Key::At => "at",
+            FormatKey::Version => "version",
+            FormatKey::Seed => "seed",
+            FormatKey::End => "end",
+            FormatKey::Swim => "swim",
+            FormatKey::Suspicion => "suspicion",
+            FormatKey::Lifeguard => "lifeguard",
+            FormatKey::Link => "link",
+            FormatKey::Group => "group",
+            FormatKey::Path => "path",
+            FormatKey::Slow => "slow",
+            FormatKey::Crash => "crash",
+            FormatKey::Period => "period",
+            FormatKey::Timeout => "timeout",
+            FormatKey::Helpers => "helpers",
+            FormatKey::Carry => "carry",
+            FormatKey::Lambda => "lambda",
+            FormatKey::Spread => "spread",
+            FormatKey::Alpha => "alpha",
+            FormatKey::Beta => "beta",
+            FormatKey::Probe => "probe",
+            FormatKey::Buddy => "buddy",
+            FormatKey::Ceiling => "ceiling",
+            FormatKey::Confirmations => "confirmations",
+            FormatKey::NackPercent => "nack_percent",
+            FormatKey::Delay => "delay",
+            FormatKey::Jitter => "jitter",
+            FormatKey::Loss => "loss",
+            FormatKey::Name => "name",
+            FormatKey::Count => "count",
+            FormatKey::Start => "start",
+            FormatKey::Contact => "contact",
+            FormatKey::From => "from",
+            FormatKey::To => "to",
+            FormatKey::Member => "member",
+            FormatKey::Until => "until",
+            FormatKey::Extra => "extra",
+            FormatKey::At => "at",
         }
     }
 }
@@ -113,9 +113,9 @@ pub enum Section {
 
 impl Section {
     /// The rows of the section's keys.
-    #[tactic(auto, unfolding(crate::specs::Schema::rows_of))]
-    pub fn rows(self) -> &'static [Row]
-        ensures { result.now ≡ rows_of self }
+    #[tactic(auto, unfolding(crate::specs::Schema::key_rules_of))]
+    pub fn rows(self) -> &'static [KeyRule]
+        ensures { result.now ≡ key_rules_of self }
     {
         match self {
             Section::Top => &TOP,
@@ -152,7 +152,7 @@ pub enum Absence {
     /// The text is refused.
     Refused,
     /// The text is refused where the whole number of this key of the same table is over 0.
-    RefusedOver0(Key),
+    RefusedOver0(FormatKey),
     /// The key has this value.
     Default(u64),
     /// A switch is on, the keys of a table have their defaults, a list is empty, and a path has the
@@ -162,115 +162,115 @@ pub enum Absence {
 
 /// A key of a table.
 #[derive(Clone, Copy, Debug, PartialEq, Eq)]
-pub struct Row {
-    pub key: Key,
+pub struct KeyRule {
+    pub key: FormatKey,
     pub absence: Absence,
     pub kind: Kind,
 }
 
 /// The whole text.
-pub(crate) const TOP: [Row; 11] = [
-    Row {
-        key: Key::Version,
+pub(crate) const TOP: [KeyRule; 11] = [
+    KeyRule {
+        key: FormatKey::Version,
         absence: Absence::Refused,
         kind: Kind::Whole { least: 1, most: 1 },
     },
-    Row {
-        key: Key::Seed,
+    KeyRule {
+        key: FormatKey::Seed,
         absence: Absence::Refused,
         kind: Kind::Whole {
             least: 0,
             most: 0x7fff_ffff_ffff_ffff,
         },
     },
-    Row {
-        key: Key::End,
+    KeyRule {
+        key: FormatKey::End,
         absence: Absence::Refused,
         kind: Kind::Whole {
             least: 0,
             most: 0x100_0000_0000,
         },
     },
-    Row {
-        key: Key::Swim,
+    KeyRule {
+        key: FormatKey::Swim,
         absence: Absence::Refused,
         kind: Kind::Table(Section::Swim),
     },
-    Row {
-        key: Key::Suspicion,
+    KeyRule {
+        key: FormatKey::Suspicion,
         absence: Absence::Optional,
         kind: Kind::Table(Section::Suspicion),
     },
-    Row {
-        key: Key::Lifeguard,
+    KeyRule {
+        key: FormatKey::Lifeguard,
         absence: Absence::Optional,
         kind: Kind::Table(Section::Lifeguard),
     },
-    Row {
-        key: Key::Link,
+    KeyRule {
+        key: FormatKey::Link,
         absence: Absence::Refused,
         kind: Kind::Table(Section::Link),
     },
-    Row {
-        key: Key::Group,
+    KeyRule {
+        key: FormatKey::Group,
         absence: Absence::Refused,
         kind: Kind::List(Section::Group),
     },
-    Row {
-        key: Key::Path,
+    KeyRule {
+        key: FormatKey::Path,
         absence: Absence::Optional,
         kind: Kind::List(Section::Path),
     },
-    Row {
-        key: Key::Slow,
+    KeyRule {
+        key: FormatKey::Slow,
         absence: Absence::Optional,
         kind: Kind::List(Section::Slow),
     },
-    Row {
-        key: Key::Crash,
+    KeyRule {
+        key: FormatKey::Crash,
         absence: Absence::Optional,
         kind: Kind::List(Section::Crash),
     },
 ];
 
 /// How members probe and gossip.
-pub(crate) const SWIM: [Row; 6] = [
-    Row {
-        key: Key::Period,
+pub(crate) const SWIM: [KeyRule; 6] = [
+    KeyRule {
+        key: FormatKey::Period,
         absence: Absence::Refused,
         kind: Kind::Whole {
             least: 2,
             most: 0x100_0000,
         },
     },
-    Row {
-        key: Key::Timeout,
+    KeyRule {
+        key: FormatKey::Timeout,
         absence: Absence::Refused,
         kind: Kind::Whole {
             least: 1,
             most: 0x100_0000,
         },
     },
-    Row {
-        key: Key::Helpers,
+    KeyRule {
+        key: FormatKey::Helpers,
         absence: Absence::Default(3),
         kind: Kind::Whole { least: 0, most: 16 },
     },
-    Row {
-        key: Key::Carry,
+    KeyRule {
+        key: FormatKey::Carry,
         absence: Absence::Default(6),
         kind: Kind::Whole { least: 1, most: 64 },
     },
-    Row {
-        key: Key::Lambda,
+    KeyRule {
+        key: FormatKey::Lambda,
         absence: Absence::Default(3),
         kind: Kind::Whole {
             least: 1,
             most: 100,
         },
     },
-    Row {
-        key: Key::Spread,
+    KeyRule {
+        key: FormatKey::Spread,
         absence: Absence::Default(1),
         kind: Kind::Whole {
             least: 1,
@@ -280,17 +280,17 @@ pub(crate) const SWIM: [Row; 6] = [
 ];
 
 /// How long suspicions last.
-pub(crate) const SUSPICION: [Row; 2] = [
-    Row {
-        key: Key::Alpha,
+pub(crate) const SUSPICION: [KeyRule; 2] = [
+    KeyRule {
+        key: FormatKey::Alpha,
         absence: Absence::Default(5),
         kind: Kind::Whole {
             least: 1,
             most: 100,
         },
     },
-    Row {
-        key: Key::Beta,
+    KeyRule {
+        key: FormatKey::Beta,
         absence: Absence::Default(6),
         kind: Kind::Whole {
             least: 1,
@@ -300,34 +300,34 @@ pub(crate) const SUSPICION: [Row; 2] = [
 ];
 
 /// Lifeguard's switches and their settings.
-pub(crate) const LIFEGUARD: [Row; 6] = [
-    Row {
-        key: Key::Probe,
+pub(crate) const LIFEGUARD: [KeyRule; 6] = [
+    KeyRule {
+        key: FormatKey::Probe,
         absence: Absence::Optional,
         kind: Kind::Switch,
     },
-    Row {
-        key: Key::Suspicion,
+    KeyRule {
+        key: FormatKey::Suspicion,
         absence: Absence::Optional,
         kind: Kind::Switch,
     },
-    Row {
-        key: Key::Buddy,
+    KeyRule {
+        key: FormatKey::Buddy,
         absence: Absence::Optional,
         kind: Kind::Switch,
     },
-    Row {
-        key: Key::Ceiling,
+    KeyRule {
+        key: FormatKey::Ceiling,
         absence: Absence::Default(8),
         kind: Kind::Whole { least: 0, most: 16 },
     },
-    Row {
-        key: Key::Confirmations,
+    KeyRule {
+        key: FormatKey::Confirmations,
         absence: Absence::Default(3),
         kind: Kind::Whole { least: 0, most: 9 },
     },
-    Row {
-        key: Key::NackPercent,
+    KeyRule {
+        key: FormatKey::NackPercent,
         absence: Absence::Default(80),
         kind: Kind::Whole {
             least: 1,
@@ -337,25 +337,25 @@ pub(crate) const LIFEGUARD: [Row; 6] = [
 ];
 
 /// How messages travel.
-pub(crate) const LINK: [Row; 3] = [
-    Row {
-        key: Key::Delay,
+pub(crate) const LINK: [KeyRule; 3] = [
+    KeyRule {
+        key: FormatKey::Delay,
         absence: Absence::Refused,
         kind: Kind::Whole {
             least: 1,
             most: 0x10_0000,
         },
     },
-    Row {
-        key: Key::Jitter,
+    KeyRule {
+        key: FormatKey::Jitter,
         absence: Absence::Default(0),
         kind: Kind::Whole {
             least: 0,
             most: 0x10_0000,
         },
     },
-    Row {
-        key: Key::Loss,
+    KeyRule {
+        key: FormatKey::Loss,
         absence: Absence::Default(0),
         kind: Kind::Whole {
             least: 0,
@@ -365,65 +365,65 @@ pub(crate) const LINK: [Row; 3] = [
 ];
 
 /// A group of members.
-pub(crate) const GROUP: [Row; 4] = [
-    Row {
-        key: Key::Name,
+pub(crate) const GROUP: [KeyRule; 4] = [
+    KeyRule {
+        key: FormatKey::Name,
         absence: Absence::Refused,
         kind: Kind::Text,
     },
-    Row {
-        key: Key::Count,
+    KeyRule {
+        key: FormatKey::Count,
         absence: Absence::Refused,
         kind: Kind::Whole {
             least: 1,
             most: 1024,
         },
     },
-    Row {
-        key: Key::Start,
+    KeyRule {
+        key: FormatKey::Start,
         absence: Absence::Default(0),
         kind: Kind::Whole {
             least: 0,
             most: 0x100_0000_0000,
         },
     },
-    Row {
-        key: Key::Contact,
-        absence: Absence::RefusedOver0(Key::Start),
+    KeyRule {
+        key: FormatKey::Contact,
+        absence: Absence::RefusedOver0(FormatKey::Start),
         kind: Kind::Text,
     },
 ];
 
 /// The link from the members of one group to those of another.
-pub(crate) const PATH: [Row; 5] = [
-    Row {
-        key: Key::From,
+pub(crate) const PATH: [KeyRule; 5] = [
+    KeyRule {
+        key: FormatKey::From,
         absence: Absence::Refused,
         kind: Kind::Text,
     },
-    Row {
-        key: Key::To,
+    KeyRule {
+        key: FormatKey::To,
         absence: Absence::Refused,
         kind: Kind::Text,
     },
-    Row {
-        key: Key::Delay,
+    KeyRule {
+        key: FormatKey::Delay,
         absence: Absence::Optional,
         kind: Kind::Whole {
             least: 1,
             most: 0x10_0000,
         },
     },
-    Row {
-        key: Key::Jitter,
+    KeyRule {
+        key: FormatKey::Jitter,
         absence: Absence::Optional,
         kind: Kind::Whole {
             least: 0,
             most: 0x10_0000,
         },
     },
-    Row {
-        key: Key::Loss,
+    KeyRule {
+        key: FormatKey::Loss,
         absence: Absence::Optional,
         kind: Kind::Whole {
             least: 0,
@@ -433,30 +433,30 @@ pub(crate) const PATH: [Row; 5] = [
 ];
 
 /// A time in which a member is slow.
-pub(crate) const SLOW: [Row; 4] = [
-    Row {
-        key: Key::Member,
+pub(crate) const SLOW: [KeyRule; 4] = [
+    KeyRule {
+        key: FormatKey::Member,
         absence: Absence::Refused,
         kind: Kind::Text,
     },
-    Row {
-        key: Key::From,
+    KeyRule {
+        key: FormatKey::From,
         absence: Absence::Refused,
         kind: Kind::Whole {
             least: 0,
             most: 0x100_0000_0000,
         },
     },
-    Row {
-        key: Key::Until,
+    KeyRule {
+        key: FormatKey::Until,
         absence: Absence::Refused,
         kind: Kind::Whole {
             least: 0,
             most: 0x100_0000_0000,
         },
     },
-    Row {
-        key: Key::Extra,
+    KeyRule {
+        key: FormatKey::Extra,
         absence: Absence::Refused,
         kind: Kind::Whole {
             least: 1,
@@ -466,14 +466,14 @@ pub(crate) const SLOW: [Row; 4] = [
 ];
 
 /// The crash of a member.
-pub(crate) const CRASH: [Row; 2] = [
-    Row {
-        key: Key::Member,
+pub(crate) const CRASH: [KeyRule; 2] = [
+    KeyRule {
+        key: FormatKey::Member,
         absence: Absence::Refused,
         kind: Kind::Text,
     },
-    Row {
-        key: Key::At,
+    KeyRule {
+        key: FormatKey::At,
         absence: Absence::Refused,
         kind: Kind::Whole {
             least: 0,

@@ -3,10 +3,10 @@
 ghost use Rattle.std.specs.Prelude.{◌≡◌, ◌≤◌, Some, map, true, false, is_some, is_none, option_map, option_copied, OnOk, IfErr};
 ghost use Rattle.std.specs.List.{list_any};
 ghost use Rattle.toml.specs.View.{view};
-ghost use Rattle.schema.specs.Tree.{part, parts_at, parts_below, row_named, keys_of, items_of};
-ghost use Rattle.schema.specs.Shape.{rule_of, is_over_0, is_missing, is_empty_list, is_absent, has_fault, is_other_kind, is_outside, is_within, part_breaks, breaks, least_broken_of_shape, KeepsShape};
+ghost use Rattle.schema.specs.Tree.{section_table, tables_at, tables_below, rule_named, keys_of, items_of};
+ghost use Rattle.schema.specs.Shape.{rule_of, is_over_0, is_missing, is_empty_list, is_absent, has_fault, is_other_kind, is_outside, is_within, table_breaks, breaks, least_broken_of_shape, KeepsShape};
 
-use crate::schema::{Absence, Kind, Row, Section};
+use crate::schema::{Absence, Kind, KeyRule, Section};
 use thiserror::Error;
 use toml::Value;
 
@@ -44,7 +44,7 @@ impl Check {
 
 /// Where a document breaks a rule, for people.
 #[derive(Clone, Copy, Debug, PartialEq, Eq)]
-pub enum Place {
+pub enum TablePlace {
     /// In the whole text, or in a table that stands once.
     Table,
     /// In the item at this index of a list, counted from 0.
@@ -54,17 +54,17 @@ pub enum Place {
 /// The least rule on its shape that a document breaks.
 #[derive(Clone, Copy, Debug, PartialEq, Eq, Error)]
 #[error("{check}")]
-pub struct Fault {
+pub struct ShapeFault {
     /// Which rule is broken.
     pub check: Check,
     /// Where it is first broken.
-    pub place: Place,
+    pub place: TablePlace,
 }
 
 /// Judges the whole text, the tables and the items of lists that its keys call for, by the rules on
 /// the shape: one check after the other, each on all of them. A document that breaks one is refused
 /// by the least such rule.
-pub fn check_shape(tree: &Value) -> Result<(), Fault>
+pub fn check_shape(tree: &Value) -> Result<(), ShapeFault>
     ensures kept { OnOk result (KeepsShape (view tree.now)) }
     ensures err { IfErr result (λ fault. least_broken_of_shape (view tree.now) ≡ Some (rule_of fault.check)) }
 {
@@ -84,29 +84,29 @@ pub fn check_shape(tree: &Value) -> Result<(), Fault>
 }
 
 /// Refuses a document that breaks the rule.
-fn keep(check: Check, tree: &Value) -> Result<(), Fault>
+fn keep(check: Check, tree: &Value) -> Result<(), ShapeFault>
     ensures ok { OnOk result (breaks check (view tree.now) ≡ false) }
     ensures err { IfErr result (λ fault. (breaks check (view tree.now) ≡ true) × (fault.check ≡ check)) }
 {
     match first_broken(check, tree) {
-        Some(place) => Err(Fault { check, place }),
+        Some(place) => Err(ShapeFault { check, place }),
         None => Ok(()),
     }
 }
 
 /// Where the document first breaks the rule.
-fn first_broken(check: Check, tree: &Value) -> Option<Place>
+fn first_broken(check: Check, tree: &Value) -> Option<TablePlace>
     ensures { is_some result ≡ breaks check (view tree.now) }
 {
     if is_broken(check, Section::Top, tree) {
-        return Some(Place::Table);
+        return Some(TablePlace::Table);
     }
     first_broken_below(check, Section::Top.rows(), tree)
 }
 
 /// Where what the rows call for first breaks the rule.
-fn first_broken_below(check: Check, rows: &[Row], tree: &Value) -> Option<Place>
-    ensures { is_some result ≡ list_any (λ row. list_any (part_breaks check) (parts_below (view tree.now) row)) rows.now }
+fn first_broken_below(check: Check, rows: &[KeyRule], tree: &Value) -> Option<TablePlace>
+    ensures { is_some result ≡ list_any (λ row. list_any (table_breaks check) (tables_below (view tree.now) row)) rows.now }
 {
     for row in rows {
         if let Some(value) = tree.get(row.key.text())
@@ -119,23 +119,23 @@ fn first_broken_below(check: Check, rows: &[Row], tree: &Value) -> Option<Place>
 }
 
 /// Where the value of a key of this kind first breaks the rule, as a table or as a list of tables.
-fn first_broken_in(check: Check, kind: Kind, value: &Value) -> Option<Place>
-    ensures { is_some result ≡ list_any (part_breaks check) (parts_at kind (Some (view value.now))) }
+fn first_broken_in(check: Check, kind: Kind, value: &Value) -> Option<TablePlace>
+    ensures { is_some result ≡ list_any (table_breaks check) (tables_at kind (Some (view value.now))) }
 {
     match kind {
-        Kind::Table(section) => is_broken(check, section, value).then_some(Place::Table),
+        Kind::Table(section) => is_broken(check, section, value).then_some(TablePlace::Table),
         Kind::List(section) => first_broken_item(check, section, items(value)),
         Kind::Whole { .. } | Kind::Switch | Kind::Text => None,
     }
 }
 
 /// The number of the first item that breaks the rule.
-fn first_broken_item(check: Check, section: Section, items: &[Value]) -> Option<Place>
-    ensures { is_some result ≡ list_any (λ v. part_breaks check (part section (view v))) items.now }
+fn first_broken_item(check: Check, section: Section, items: &[Value]) -> Option<TablePlace>
+    ensures { is_some result ≡ list_any (λ v. table_breaks check (section_table section (view v))) items.now }
 {
     for (i, item) in items.iter().enumerate() {
         if is_broken(check, section, item) {
-            return Some(Place::Item(i));
+            return Some(TablePlace::Item(i));
         }
     }
     None
@@ -152,9 +152,9 @@ pub(crate) fn items(value: &Value) -> &[Value]
 }
 
 /// Whether a value that has to be a table of the section breaks the rule.
-#[tactic(auto, unfolding(crate::specs::Shape::part_breaks))]
+#[tactic(auto, unfolding(crate::specs::Shape::table_breaks))]
 fn is_broken(check: Check, section: Section, value: &Value) -> bool
-    ensures { result ≡ part_breaks check (part section (view value.now)) }
+    ensures { result ≡ table_breaks check (section_table section (view value.now)) }
 {
     let rows = section.rows();
     match check {
@@ -166,14 +166,14 @@ fn is_broken(check: Check, section: Section, value: &Value) -> bool
 }
 
 /// Whether the key of one of the rows is required and absent.
-fn is_any_missing(rows: &[Row], table: &Value) -> bool
+fn is_any_missing(rows: &[KeyRule], table: &Value) -> bool
     ensures { result ≡ list_any (is_missing (view table.now)) rows.now }
 {
     rows.iter().any(|row| is_missing(row, table))
 }
 
 /// Whether the row's key is required and absent.
-fn is_missing(row: &Row, table: &Value) -> bool
+fn is_missing(row: &KeyRule, table: &Value) -> bool
     ensures { result ≡ is_missing (view table.now) row.now }
 {
     match row.absence {
@@ -219,33 +219,33 @@ fn is_empty_list(value: &Value) -> bool
 }
 
 /// Whether a table has a key that none of the rows names.
-fn has_unknown_key(rows: &[Row], value: &Value) -> bool
-    ensures { result ≡ list_any (λ key. is_none (row_named rows.now key)) (keys_of (view value.now)) }
+fn has_unknown_key(rows: &[KeyRule], value: &Value) -> bool
+    ensures { result ≡ list_any (λ key. is_none (rule_named rows.now key)) (keys_of (view value.now)) }
 {
     match value {
         Value::Table(table) => table
             .keys()
-            .any(|key| row_named(rows, key.as_str()).is_none()),
+            .any(|key| rule_named(rows, key.as_str()).is_none()),
         _ => false,
     }
 }
 
 /// The row of the key that is spelt so.
-pub(crate) fn row_named<'a>(rows: &'a [Row], name: &str) -> Option<&'a Row>
-    ensures { option_copied result ≡ row_named rows.now name.now }
+pub(crate) fn rule_named<'a>(rows: &'a [KeyRule], name: &str) -> Option<&'a KeyRule>
+    ensures { option_copied result ≡ rule_named rows.now name.now }
 {
     rows.iter().find(|row| row.key.text() == name)
 }
 
 /// Whether the value of one of the rows' keys is of another kind.
-fn has_any_other_kind(rows: &[Row], table: &Value) -> bool
+fn has_any_other_kind(rows: &[KeyRule], table: &Value) -> bool
     ensures { result ≡ list_any (has_fault is_other_kind (view table.now)) rows.now }
 {
     rows.iter().any(|row| has_other_kind(row, table))
 }
 
 /// Whether the value of the row's key is of another kind.
-fn has_other_kind(row: &Row, table: &Value) -> bool
+fn has_other_kind(row: &KeyRule, table: &Value) -> bool
     ensures { result ≡ has_fault is_other_kind (view table.now) row.now }
 {
     match table.get(row.key.text()) {
@@ -261,14 +261,14 @@ fn has_other_kind(row: &Row, table: &Value) -> bool
 }
 
 /// Whether the value of one of the rows' keys is a whole number outside its range.
-fn is_any_outside(rows: &[Row], table: &Value) -> bool
+fn is_any_outside(rows: &[KeyRule], table: &Value) -> bool
     ensures { result ≡ list_any (has_fault is_outside (view table.now)) rows.now }
 {
     rows.iter().any(|row| is_outside(row, table))
 }
 
 /// Whether the value of the row's key is a whole number outside its range.
-fn is_outside(row: &Row, table: &Value) -> bool
+fn is_outside(row: &KeyRule, table: &Value) -> bool
     ensures { result ≡ has_fault is_outside (view table.now) row.now }
 {
     match (row.kind, table.get(row.key.text())) {

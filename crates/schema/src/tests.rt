@@ -1,6 +1,6 @@
 //! What no clause says: that documents have the shape, and which rule each fault breaks.
 use crate::{
-    Absence, Check, Fault, Key, Kind, Place, Row, Section, check_shape, items_at, number, switch,
+    Absence, Check, ShapeFault, FormatKey, Kind, TablePlace, KeyRule, Section, check_shape, items_at, number, switch,
     text, text_if, whole_or,
 };
 use std::alloc::Global;
@@ -22,19 +22,19 @@ count = 2
 ";
 
 /// Edits with the check that fails and the place.
-const FAULTS: [(&str, &str, Check, Place); 3] = [
-    ("seed = 7", "seed = true", Check::WrongKind, Place::Table),
+const FAULTS: [(&str, &str, Check, TablePlace); 3] = [
+    ("seed = 7", "seed = true", Check::WrongKind, TablePlace::Table),
     (
         "period = 1000",
         "period = 1",
         Check::OutOfRange,
-        Place::Table,
+        TablePlace::Table,
     ),
     (
         "count = 2",
         "count = 2\n[[group]]\nname = \"m\"",
         Check::Missing,
-        Place::Item(1),
+        TablePlace::Item(1),
     ),
 ];
 
@@ -210,19 +210,19 @@ const RANGES: [Range; 26] = [
 ];
 
 /// The defaults of the format.
-const DEFAULTS: [(Section, Key, u64); 12] = [
-    (Section::Swim, Key::Helpers, 3),
-    (Section::Swim, Key::Carry, 6),
-    (Section::Swim, Key::Lambda, 3),
-    (Section::Swim, Key::Spread, 1),
-    (Section::Suspicion, Key::Alpha, 5),
-    (Section::Suspicion, Key::Beta, 6),
-    (Section::Lifeguard, Key::Ceiling, 8),
-    (Section::Lifeguard, Key::Confirmations, 3),
-    (Section::Lifeguard, Key::NackPercent, 80),
-    (Section::Link, Key::Jitter, 0),
-    (Section::Link, Key::Loss, 0),
-    (Section::Group, Key::Start, 0),
+const DEFAULTS: [(Section, FormatKey, u64); 12] = [
+    (Section::Swim, FormatKey::Helpers, 3),
+    (Section::Swim, FormatKey::Carry, 6),
+    (Section::Swim, FormatKey::Lambda, 3),
+    (Section::Swim, FormatKey::Spread, 1),
+    (Section::Suspicion, FormatKey::Alpha, 5),
+    (Section::Suspicion, FormatKey::Beta, 6),
+    (Section::Lifeguard, FormatKey::Ceiling, 8),
+    (Section::Lifeguard, FormatKey::Confirmations, 3),
+    (Section::Lifeguard, FormatKey::NackPercent, 80),
+    (Section::Link, FormatKey::Jitter, 0),
+    (Section::Link, FormatKey::Loss, 0),
+    (Section::Group, FormatKey::Start, 0),
 ];
 
 /// Values where a table or a list of tables has to be.
@@ -267,7 +267,7 @@ fn edited(alloc: Global, rt: &impl Abort, old: &str, new: &str) -> String {
 }
 
 /// What the document of the edited text breaks first.
-fn fault_of(alloc: Global, rt: &impl Abort, old: &str, new: &str) -> Option<Fault> {
+fn fault_of(alloc: Global, rt: &impl Abort, old: &str, new: &str) -> Option<ShapeFault> {
     let text = edited(alloc, rt, old, new);
     check_shape(&document(alloc, rt, text.as_str())).err()
 }
@@ -347,7 +347,7 @@ fn a_value_of_another_kind_counts_as_there_and_is_not_looked_into(rt: HostRuntim
 fn a_fault_says_where_and_what(rt: HostRuntime) {
     for (old, new, check, place) in &FAULTS {
         let fault = fault_of(rt.alloc(), &rt, *old, *new);
-        let wanted = Fault {
+        let wanted = ShapeFault {
             check: *check,
             place: *place,
         };
@@ -357,9 +357,9 @@ fn a_fault_says_where_and_what(rt: HostRuntime) {
 
 #[test]
 fn a_fault_is_told_by_its_check(rt: HostRuntime) {
-    let fault = Fault {
+    let fault = ShapeFault {
         check: Check::Unknown,
-        place: Place::Table,
+        place: TablePlace::Table,
     };
     let told = format!(in rt.alloc(); "{fault}").expect(&rt, "memory");
     assert!(rt; told.as_str() == "a key is unknown");
@@ -375,21 +375,21 @@ fn each_default_is_the_formats(rt: HostRuntime) {
 
 /// Asserts what is read of the text's tables.
 fn assert_tables(rt: &impl Abort, tree: &Value) {
-    let seed = number(Section::Top, Key::Seed, Some(tree));
-    let period = number(Section::Swim, Key::Period, tree.get("swim"));
-    let helpers = number(Section::Swim, Key::Helpers, tree.get("swim"));
-    let alpha = number(Section::Suspicion, Key::Alpha, tree.get("suspicion"));
+    let seed = number(Section::Top, FormatKey::Seed, Some(tree));
+    let period = number(Section::Swim, FormatKey::Period, tree.get("swim"));
+    let helpers = number(Section::Swim, FormatKey::Helpers, tree.get("swim"));
+    let alpha = number(Section::Suspicion, FormatKey::Alpha, tree.get("suspicion"));
     assert!(rt; seed == 7 && period == 1000);
     assert!(rt; helpers == 3 && alpha == 5);
-    assert!(rt; !switch(Key::Buddy, tree.get("lifeguard")));
-    assert!(rt; switch(Key::Probe, tree.get("lifeguard")));
-    assert!(rt; switch(Key::Probe, None));
+    assert!(rt; !switch(FormatKey::Buddy, tree.get("lifeguard")));
+    assert!(rt; switch(FormatKey::Probe, tree.get("lifeguard")));
+    assert!(rt; switch(FormatKey::Probe, None));
 }
 
 /// Asserts what is read of the text's group.
 fn assert_group(rt: &impl Abort, group: &Value) {
-    assert!(rt; text_if(Key::Contact, group).is_none());
-    assert!(rt; text(Key::Name, group) == "n");
+    assert!(rt; text_if(FormatKey::Contact, group).is_none());
+    assert!(rt; text(FormatKey::Name, group) == "n");
     assert!(rt; whole_or(9, group.get("count")) == 2);
     assert!(rt; whole_or(9, group.get("start")) == 9);
 }
@@ -404,19 +404,19 @@ fn values_are_those_of_the_document_or_their_defaults(rt: HostRuntime) {
     );
     let tree = document(rt.alloc(), &rt, text.as_str());
     assert_tables(&rt, &tree);
-    let groups = items_at(Key::Group, &tree);
+    let groups = items_at(FormatKey::Group, &tree);
     assert!(rt; groups.len() == 1);
-    assert!(rt; items_at(Key::Path, &tree).is_empty());
+    assert!(rt; items_at(FormatKey::Path, &tree).is_empty());
     assert_group(&rt, groups.first().expect(&rt, "a group"));
 }
 
 #[test]
 fn rows_are_found_by_their_section(rt: HostRuntime) {
-    let row = Row {
-        key: Key::Version,
+    let row = KeyRule {
+        key: FormatKey::Version,
         absence: Absence::Refused,
         kind: Kind::Whole { least: 1, most: 1 },
     };
     assert_eq!(rt; Section::Top.rows().first(), Some(&row));
-    assert_eq!(rt; Key::NackPercent.text(), "nack_percent");
+    assert_eq!(rt; FormatKey::NackPercent.text(), "nack_percent");
 }

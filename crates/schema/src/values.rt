@@ -4,12 +4,12 @@ ghost use Rattle.toml.specs.View.{view};
 ghost use Rattle.schema.specs.Tree.{items_at};
 ghost use Rattle.schema.specs.Values.{default_of, whole_or, number_at, is_on, switch_at, text_if, text_at};
 
-use crate::schema::{Absence, Key, Section};
-use crate::shape::{items, row_named};
+use crate::schema::{Absence, FormatKey, Section};
+use crate::shape::{items, rule_named};
 use toml::Value;
 
 /// The items of the list of a key; none where no list is there.
-pub fn items_at(key: Key, tree: &Value) -> &[Value]
+pub fn items_at(key: FormatKey, tree: &Value) -> &[Value]
     ensures { map view result.now ≡ items_at key (view tree.now) }
 {
     match tree.get(key.text()) {
@@ -21,7 +21,7 @@ pub fn items_at(key: Key, tree: &Value) -> &[Value]
 /// The whole number of a key of a table. Where the table, the key or a whole number from 0 on isn't
 /// there, the default that the key has in the section, or 0 where it has none.
 #[tactic(auto, unfolding(crate::specs::Values::number_at))]
-pub fn number(section: Section, key: Key, table: Option<&Value>) -> u64
+pub fn number(section: Section, key: FormatKey, table: Option<&Value>) -> u64
     ensures { result ≡ number_at section key (option_map (λ v. view v.now) table.entry) }
 {
     match table {
@@ -32,7 +32,7 @@ pub fn number(section: Section, key: Key, table: Option<&Value>) -> u64
 
 /// The switch of a key of a table; on where the table, the key or a boolean isn't there.
 #[tactic(auto, unfolding(crate::specs::Values::switch_at))]
-pub fn switch(key: Key, table: Option<&Value>) -> bool
+pub fn switch(key: FormatKey, table: Option<&Value>) -> bool
     ensures { result ≡ switch_at key (option_map (λ v. view v.now) table.entry) }
 {
     match table {
@@ -62,10 +62,10 @@ pub fn whole_or(default: u64, value: Option<&Value>) -> u64
 }
 
 /// The default of a key of a section.
-fn default_of(section: Section, key: Key) -> u64
+fn default_of(section: Section, key: FormatKey) -> u64
     ensures { result ≡ default_of section key }
 {
-    match row_named(section.rows(), key.text()) {
+    match rule_named(section.rows(), key.text()) {
         Some(row) => match row.absence {
             Absence::Default(number) => number,
             Absence::Refused | Absence::RefusedOver0(_) | Absence::Optional => 0,
@@ -76,7 +76,7 @@ fn default_of(section: Section, key: Key) -> u64
 
 /// The text of a key of a table, if a string is there.
 #[tactic(auto, unfolding(crate::specs::Values::text_if))]
-pub fn text_if(key: Key, table: &Value) -> Option<&str>
+pub fn text_if(key: FormatKey, table: &Value) -> Option<&str>
     ensures { option_map (λ t. t.now) result ≡ text_if key (view table.now) }
 {
     match table.get(key.text()) {
@@ -86,7 +86,7 @@ pub fn text_if(key: Key, table: &Value) -> Option<&str>
 }
 
 /// The text of a key of a table; empty where no string is there.
-pub fn text(key: Key, table: &Value) -> &str
+pub fn text(key: FormatKey, table: &Value) -> &str
     ensures { result.now ≡ text_at key (view table.now) }
 {
     match text_if(key, table) {

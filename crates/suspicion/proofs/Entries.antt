@@ -9,8 +9,8 @@ use Rattle.std.proofs.lemmas.Map.Views.{tells_apart}
 use Rattle.std.specs.BTreeMap.{is_at}
 use Rattle.std.specs.FinMap.{find, get, insert, remove, get-from_entries, get-insert, get-remove, same_map, nat_cmp-IsAntisymmetric}
 use Rattle.suspicion.specs.declared.standing.Standing.{Standing}
-use Rattle.suspicion.specs.Suspicions.{Suspicion, Held, confirmed, accused_of, after_accusation, is_due, first_accuser_of}
-use Rattle.suspicion.specs.View.{suspicion_of, held_of}
+use Rattle.suspicion.specs.Suspicions.{HeldSuspicion, HeldSuspicions, accused, accused_of, after_accusation, is_due, first_accuser_of}
+use Rattle.suspicion.specs.SuspicionOf.{suspicion_of, held_of}
 
 -- the entry of a subject
 abbrev pub found : List (ℕ × Standing) → ℕ → Option Standing
@@ -56,36 +56,36 @@ held_of-remove old new k is =
 
 -- an accusation of a suspect
 pub accused_of-found : (es : List (ℕ × Standing)) (q accuser generation : ℕ) (s : Standing) → Some s ≡ found es q
-    → accused_of (held_of es) q accuser generation ≡ confirmed (suspicion_of s) accuser generation
+    → accused_of (held_of es) q accuser generation ≡ accused (suspicion_of s) accuser generation
 accused_of-found es q accuser generation s here =
-    ap (λ o. option_and_then (λ s. confirmed s accuser generation) o) (get-held_of es q ∙ ap (option_map suspicion_of) (sym here))
+    ap (λ o. option_and_then (λ s. accused s accuser generation) o) (get-held_of es q ∙ ap (option_map suspicion_of) (sym here))
 
 -- and of a member that nobody suspects
 pub accused_of-none : (es : List (ℕ × Standing)) (q accuser generation : ℕ) → None ≡ found es q → accused_of (held_of es) q accuser generation ≡ None
 accused_of-none es q accuser generation none =
-    ap (λ o. option_and_then (λ s. confirmed s accuser generation) o) (get-held_of es q ∙ ap (option_map suspicion_of) (sym none))
+    ap (λ o. option_and_then (λ s. accused s accuser generation) o) (get-held_of es q ∙ ap (option_map suspicion_of) (sym none))
 
-same_there : (held : Held) (k q : ℕ) (s : Suspicion) → get held k ≡ Some s → (b : Bool) → eq_by_cmp nat_cmp q k ≡ b → cond b (Some s) (get held q) ≡ get held q
+same_there : (held : HeldSuspicions) (k q : ℕ) (s : HeldSuspicion) → get held k ≡ Some s → (b : Bool) → eq_by_cmp nat_cmp q k ≡ b → cond b (Some s) (get held q) ≡ get held q
 same_there held k q s here true e = sym here ∙ ap (get held) (sym (tells_apart exact_unsigned q k e))
 same_there held k q s here false e = refl
 
 -- to put in again what is there changes nothing
-insert_again : (held : Held) (k : ℕ) (s : Suspicion) → get held k ≡ Some s → insert held k s ≡ held
+insert_again : (held : HeldSuspicions) (k : ℕ) (s : HeldSuspicion) → get held k ≡ Some s → insert held k s ≡ held
 insert_again held k s here =
     same_map nat_cmp_total nat_cmp-IsAntisymmetric _ _ (λ q. get-insert nat_cmp_total held k s q ∙ same_there held k q s here (eq_by_cmp nat_cmp q k) refl)
 
-after_one : (held : Held) (k : ℕ) (s t : Suspicion) (o : Option Suspicion) → get held k ≡ Some s → t ≡ unwrap_or o s → insert held k t ≡ option_map_or (insert held k) o held
+after_one : (held : HeldSuspicions) (k : ℕ) (s t : HeldSuspicion) (o : Option HeldSuspicion) → get held k ≡ Some s → t ≡ unwrap_or o s → insert held k t ≡ option_map_or (insert held k) o held
 after_one held k s t None here is = ap (insert held k) is ∙ insert_again held k s here
 after_one held k s t (Some u) here is = ap (insert held k) is
 
 -- what is written in the tree where one accuses
 pub after_accusation-found : (old new : List (ℕ × Standing)) (q accuser generation : ℕ) (s t : Standing) → Some s ≡ found old q
-    → suspicion_of t ≡ unwrap_or (confirmed (suspicion_of s) accuser generation) (suspicion_of s)
+    → suspicion_of t ≡ unwrap_or (accused (suspicion_of s) accuser generation) (suspicion_of s)
     → ((r : ℕ) → found new r ≡ cond (eq_by_cmp nat_cmp q r) (Some t) (found old r))
     → held_of new ≡ after_accusation (held_of old) q accuser generation
 after_accusation-found old new q accuser generation s t here is written =
     held_of-insert old new q t written
-    ∙ after_one (held_of old) q (suspicion_of s) (suspicion_of t) (confirmed (suspicion_of s) accuser generation) (get-held_of old q ∙ ap (option_map suspicion_of) (sym here)) is
+    ∙ after_one (held_of old) q (suspicion_of s) (suspicion_of t) (accused (suspicion_of s) accuser generation) (get-held_of old q ∙ ap (option_map suspicion_of) (sym here)) is
     ∙ ap (λ o. option_map_or (insert (held_of old) q) o (held_of old)) (sym (accused_of-found old q accuser generation s here))
 
 pub after_accusation-none : (es : List (ℕ × Standing)) (q accuser generation : ℕ) → None ≡ found es q → held_of es ≡ after_accusation (held_of es) q accuser generation

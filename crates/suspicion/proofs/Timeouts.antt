@@ -1,4 +1,4 @@
--- How long a suspicion lasts: bounds, and that a confirmation more never makes it longer.
+-- How long a suspicion lasts: bounds, and that an accuser more never makes it longer.
 use Rattle.std.proofs.Common.{◌≡◌, ℕ, ◌+◌, ◌-◌, ◌*◌, ◌/◌, ◌<◌, ◌≤◌, ◌^◌, Bool, true, false, not, cond, ◌||◌, leb, max, ap, ◌∙◌, sym, refl, arith}
 use Rattle.std.proofs.Math.Nat.{div-mul-le_self, div-le_of_le-mul, mul-le-mul_left, mul-le-mul_right, zero-div}
 use Rattle.std.proofs.lemmas.Nat.{le-div, mul-le}
@@ -8,7 +8,7 @@ use Rattle.base.specs.Logarithm.{thousandths_of}
 use Rattle.suspicion.specs.declared.terms.Terms.{Terms}
 use Rattle.suspicion.specs.Ranges.{AreSound}
 use Rattle.suspicion.proofs.Tables.{thousandths-rise, thousandths-positive}
-use Rattle.suspicion.specs.Times.{min_timeout, max_timeout, most_confirmations, timeout}
+use Rattle.suspicion.specs.Times.{min_timeout, max_timeout, most_accusers, timeout}
 
 div_rises : (a b k : ℕ) → 0 < k → a ≤ b → a / k ≤ b / k
 div_rises a b k some h = let down = div-mul-le_self a k in le-div (a / k) b k some (omega (arith, down))
@@ -43,29 +43,29 @@ way-le span reached whole h = div-le_of_le-mul whole (let times = mul-le-mul_lef
 pub way-rises : (span r s whole : ℕ) → 0 < whole → r ≤ s → span * r / whole ≤ span * s / whole
 way-rises span r s whole some h = div_rises (span * r) (span * s) whole some (mul-le-mul_left span h)
 
--- the longest timeout without the part that C confirmations take off
+-- the longest timeout without the part that C accusers take off
 abbrev pub shortened : Terms → ℕ → ℕ → ℕ
 shortened terms n c =
-    max_timeout terms n - (max_timeout terms n - min_timeout terms n) * thousandths_of (c + 1) / thousandths_of (most_confirmations terms n + 1)
+    max_timeout terms n - (max_timeout terms n - min_timeout terms n) * thousandths_of (c + 1) / thousandths_of (most_accusers terms n + 1)
 
--- the timeout while confirmations are missing
-pub timeout-missing : (terms : Terms) (n c : ℕ) → not terms.shortens ≡ false → c < most_confirmations terms n → timeout terms n c ≡ shortened terms n c
+-- the timeout while accusers are missing
+pub timeout-missing : (terms : Terms) (n c : ℕ) → not terms.shortens ≡ false → c < most_accusers terms n → timeout terms n c ≡ shortened terms n c
 timeout-missing terms n c on h =
-    ap (λ b. cond (b || leb (most_confirmations terms n) c) (min_timeout terms n) (shortened terms n c)) on
-    ∙ ap (λ b. cond b (min_timeout terms n) (shortened terms n c)) (lt-leb (most_confirmations terms n) c h)
+    ap (λ b. cond (b || leb (most_accusers terms n) c) (min_timeout terms n) (shortened terms n c)) on
+    ∙ ap (λ b. cond b (min_timeout terms n) (shortened terms n c)) (lt-leb (most_accusers terms n) c h)
 
 -- once there are enough of them
-pub timeout-enough : (terms : Terms) (n c : ℕ) → most_confirmations terms n ≤ c → timeout terms n c ≡ min_timeout terms n
+pub timeout-enough : (terms : Terms) (n c : ℕ) → most_accusers terms n ≤ c → timeout terms n c ≡ min_timeout terms n
 timeout-enough terms n c h =
-    ap (λ b. cond b (min_timeout terms n) (shortened terms n c)) (ap (λ b. not terms.shortens || b) (le-leb (most_confirmations terms n) c h) ∙ or-true (not terms.shortens))
+    ap (λ b. cond b (min_timeout terms n) (shortened terms n c)) (ap (λ b. not terms.shortens || b) (le-leb (most_accusers terms n) c h) ∙ or-true (not terms.shortens))
 
 -- and where they do not count
 pub timeout-off : (terms : Terms) (n c : ℕ) → not terms.shortens ≡ true → timeout terms n c ≡ min_timeout terms n
-timeout-off terms n c off = ap (λ b. cond (b || leb (most_confirmations terms n) c) (min_timeout terms n) (shortened terms n c)) off
+timeout-off terms n c off = ap (λ b. cond (b || leb (most_accusers terms n) c) (min_timeout terms n) (shortened terms n c)) off
 
 -- from its parts
-pub timeout_from_parts : (terms : Terms) (n c shortest reached whole : ℕ) → shortest ≡ min_timeout terms n → reached ≡ thousandths_of (c + 1) → whole ≡ thousandths_of (most_confirmations terms n + 1)
-    → not terms.shortens ≡ false → c < most_confirmations terms n → terms.beta * shortest - (terms.beta * shortest - shortest) * reached / whole ≡ timeout terms n c
+pub timeout_from_parts : (terms : Terms) (n c shortest reached whole : ℕ) → shortest ≡ min_timeout terms n → reached ≡ thousandths_of (c + 1) → whole ≡ thousandths_of (most_accusers terms n + 1)
+    → not terms.shortens ≡ false → c < most_accusers terms n → terms.beta * shortest - (terms.beta * shortest - shortest) * reached / whole ≡ timeout terms n c
 timeout_from_parts terms n c shortest reached whole s r w on h =
     (λ i. terms.beta * s i - (terms.beta * s i - s i) * r i / w i) ∙ sym (timeout-missing terms n c on h)
 
@@ -79,56 +79,56 @@ left-le beta shortest reached whole some h =
 
 -- ---- laws of the timeout
 
-shortest-le_shortened : (terms : Terms) (n c : ℕ) → AreSound terms → c < most_confirmations terms n → min_timeout terms n ≤ shortened terms n c
+shortest-le_shortened : (terms : Terms) (n c : ℕ) → AreSound terms → c < most_accusers terms n → min_timeout terms n ≤ shortened terms n c
 shortest-le_shortened terms n c sound missing =
-    let rise = thousandths-rise (c + 1) (most_confirmations terms n + 1) (omega arith) (omega arith) (omega (arith, sound.confirmations)) in
-    (left-le terms.beta (min_timeout terms n) (thousandths_of (c + 1)) (thousandths_of (most_confirmations terms n + 1)) sound.beta.0 rise).0
+    let rise = thousandths-rise (c + 1) (most_accusers terms n + 1) (omega arith) (omega arith) (omega (arith, sound.accusers_wanted)) in
+    (left-le terms.beta (min_timeout terms n) (thousandths_of (c + 1)) (thousandths_of (most_accusers terms n + 1)) sound.beta.0 rise).0
 
-min_by_cases : (terms : Terms) (n c : ℕ) (off enough : Bool) → AreSound terms → not terms.shortens ≡ off → leb (most_confirmations terms n) c ≡ enough → min_timeout terms n ≤ timeout terms n c
+min_by_cases : (terms : Terms) (n c : ℕ) (off enough : Bool) → AreSound terms → not terms.shortens ≡ off → leb (most_accusers terms n) c ≡ enough → min_timeout terms n ≤ timeout terms n c
 min_by_cases terms n c true enough sound q d = let e = timeout-off terms n c q in omega (arith, e)
-min_by_cases terms n c false true sound q d = let e = timeout-enough terms n c (leb-true (most_confirmations terms n) c d) in omega (arith, e)
+min_by_cases terms n c false true sound q d = let e = timeout-enough terms n c (leb-true (most_accusers terms n) c d) in omega (arith, e)
 min_by_cases terms n c false false sound q d =
-    let missing = leb-false (most_confirmations terms n) c d in
+    let missing = leb-false (most_accusers terms n) c d in
     let e = timeout-missing terms n c q missing in
     let h = shortest-le_shortened terms n c sound missing in
     omega (arith, e, h)
 
 pub min-le-timeout : (terms : Terms) (n c : ℕ) → AreSound terms → min_timeout terms n ≤ timeout terms n c
-min-le-timeout terms n c sound = min_by_cases terms n c (not terms.shortens) (leb (most_confirmations terms n) c) sound refl refl
+min-le-timeout terms n c sound = min_by_cases terms n c (not terms.shortens) (leb (most_accusers terms n) c) sound refl refl
 
-max_by_cases : (terms : Terms) (n c : ℕ) (off enough : Bool) → AreSound terms → not terms.shortens ≡ off → leb (most_confirmations terms n) c ≡ enough → timeout terms n c ≤ max_timeout terms n
+max_by_cases : (terms : Terms) (n c : ℕ) (off enough : Bool) → AreSound terms → not terms.shortens ≡ off → leb (most_accusers terms n) c ≡ enough → timeout terms n c ≤ max_timeout terms n
 max_by_cases terms n c true enough sound q d =
     let e = timeout-off terms n c q in let h = le-max_timeout terms.beta (min_timeout terms n) sound.beta.0 in omega (arith, e, h)
 max_by_cases terms n c false true sound q d =
-    let e = timeout-enough terms n c (leb-true (most_confirmations terms n) c d) in let h = le-max_timeout terms.beta (min_timeout terms n) sound.beta.0 in omega (arith, e, h)
-max_by_cases terms n c false false sound q d = let e = timeout-missing terms n c q (leb-false (most_confirmations terms n) c d) in omega (arith, e)
+    let e = timeout-enough terms n c (leb-true (most_accusers terms n) c d) in let h = le-max_timeout terms.beta (min_timeout terms n) sound.beta.0 in omega (arith, e, h)
+max_by_cases terms n c false false sound q d = let e = timeout-missing terms n c q (leb-false (most_accusers terms n) c d) in omega (arith, e)
 
 pub timeout-le-max : (terms : Terms) (n c : ℕ) → AreSound terms → timeout terms n c ≤ max_timeout terms n
-timeout-le-max terms n c sound = max_by_cases terms n c (not terms.shortens) (leb (most_confirmations terms n) c) sound refl refl
+timeout-le-max terms n c sound = max_by_cases terms n c (not terms.shortens) (leb (most_accusers terms n) c) sound refl refl
 
-falls_by_cases : (terms : Terms) (n c d : ℕ) (off enough : Bool) → AreSound terms → not terms.shortens ≡ off → leb (most_confirmations terms n) d ≡ enough → c ≤ d → timeout terms n d ≤ timeout terms n c
+falls_by_cases : (terms : Terms) (n c d : ℕ) (off enough : Bool) → AreSound terms → not terms.shortens ≡ off → leb (most_accusers terms n) d ≡ enough → c ≤ d → timeout terms n d ≤ timeout terms n c
 falls_by_cases terms n c d true enough sound q e h = let here = timeout-off terms n c q in let there = timeout-off terms n d q in omega (arith, here, there)
 falls_by_cases terms n c d false true sound q e h =
-    let there = timeout-enough terms n d (leb-true (most_confirmations terms n) d e) in let least = min-le-timeout terms n c sound in omega (arith, there, least)
+    let there = timeout-enough terms n d (leb-true (most_accusers terms n) d e) in let least = min-le-timeout terms n c sound in omega (arith, there, least)
 falls_by_cases terms n c d false false sound q e h =
-    let missing : d < most_confirmations terms n = leb-false (most_confirmations terms n) d e in
+    let missing : d < most_accusers terms n = leb-false (most_accusers terms n) d e in
     let here = timeout-missing terms n c q (omega (arith, missing)) in
     let there = timeout-missing terms n d q missing in
-    let rise = thousandths-rise (c + 1) (d + 1) (omega arith) (omega arith) (omega (arith, missing, sound.confirmations)) in
-    let positive = thousandths-positive (most_confirmations terms n + 1) (omega (arith, missing)) (omega (arith, sound.confirmations)) in
-    let more = way-rises (max_timeout terms n - min_timeout terms n) (thousandths_of (c + 1)) (thousandths_of (d + 1)) (thousandths_of (most_confirmations terms n + 1)) (omega (arith, positive)) rise in
+    let rise = thousandths-rise (c + 1) (d + 1) (omega arith) (omega arith) (omega (arith, missing, sound.accusers_wanted)) in
+    let positive = thousandths-positive (most_accusers terms n + 1) (omega (arith, missing)) (omega (arith, sound.accusers_wanted)) in
+    let more = way-rises (max_timeout terms n - min_timeout terms n) (thousandths_of (c + 1)) (thousandths_of (d + 1)) (thousandths_of (most_accusers terms n + 1)) (omega (arith, positive)) rise in
     omega (arith, here, there, more)
 
 pub timeout-falls : (terms : Terms) (n c d : ℕ) → AreSound terms → c ≤ d → timeout terms n d ≤ timeout terms n c
-timeout-falls terms n c d sound h = falls_by_cases terms n c d (not terms.shortens) (leb (most_confirmations terms n) d) sound refl refl h
+timeout-falls terms n c d sound h = falls_by_cases terms n c d (not terms.shortens) (leb (most_accusers terms n) d) sound refl refl h
 
 times_zero : (n : ℕ) → n * thousandths_of (0 + 1) ≡ 0
 times_zero n = omega arith
 
--- while nobody has confirmed it the whole time is left
-pub timeout-alone : (terms : Terms) (n : ℕ) → terms.shortens ≡ true → 0 < most_confirmations terms n → timeout terms n 0 ≡ max_timeout terms n
+-- while nobody else has accused the whole time is left
+pub timeout-alone : (terms : Terms) (n : ℕ) → terms.shortens ≡ true → 0 < most_accusers terms n → timeout terms n 0 ≡ max_timeout terms n
 timeout-alone terms n on h =
     let e = timeout-missing terms n 0 (ap not on) h in
-    let none : (max_timeout terms n - min_timeout terms n) * thousandths_of (0 + 1) / thousandths_of (most_confirmations terms n + 1) ≡ 0 =
-    ap (λ k. k / thousandths_of (most_confirmations terms n + 1)) (times_zero (max_timeout terms n - min_timeout terms n)) ∙ zero-div (thousandths_of (most_confirmations terms n + 1)) in
+    let none : (max_timeout terms n - min_timeout terms n) * thousandths_of (0 + 1) / thousandths_of (most_accusers terms n + 1) ≡ 0 =
+    ap (λ k. k / thousandths_of (most_accusers terms n + 1)) (times_zero (max_timeout terms n - min_timeout terms n)) ∙ zero-div (thousandths_of (most_accusers terms n + 1)) in
     omega (arith, e, none)

@@ -3,4 +3,4 @@ pub mod Times
 pub mod Settings
 pub mod Suspicions
 pub mod Coding
-pub mod View
+pub mod SuspicionOf

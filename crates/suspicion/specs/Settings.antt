@@ -8,5 +8,5 @@ terms_of setup = record {
   alpha = setup.suspicion.alpha;
   beta = setup.suspicion.beta;
   shortens = setup.lifeguard.suspicion;
-  confirmations = setup.lifeguard.confirmations;
+  accusers_wanted = setup.lifeguard.confirmations;
 }

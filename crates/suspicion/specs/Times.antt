@@ -1,4 +1,4 @@
--- How long a suspicion lasts, among n members and with C confirmations (Lifeguard's LHA-Suspicion). Quotients are rounded down.
+-- How long a suspicion lasts, among n members and with C further accusers (Lifeguard's LHA-Suspicion). Quotients are rounded down.
 use Rattle.std.specs.Prelude.{ℕ, ◌+◌, ◌-◌, ◌*◌, ◌/◌, max, min, not, nat_le, ◌||◌, if◌then◌else◌}
 use Rattle.base.specs.Logarithm.{log_of, thousandths_of}
 use Rattle.suspicion.specs.declared.terms.Terms.{Terms}
@@ -11,12 +11,12 @@ min_timeout terms n = max 1 (terms.alpha * max 1000 (log_of n) * terms.period / 
 abbrev pub max_timeout : Terms → ℕ → ℕ
 max_timeout terms n = terms.beta * min_timeout terms n
 
--- Lifeguard's K, as far as there are members to confirm: all but the suspect and the first accuser
-abbrev pub most_confirmations : Terms → ℕ → ℕ
-most_confirmations terms n = min terms.confirmations (n - 2)
+-- Lifeguard's K, as far as there are members to accuse: all but the suspect and the first accuser
+abbrev pub most_accusers : Terms → ℕ → ℕ
+most_accusers terms n = min terms.accusers_wanted (n - 2)
 
--- Lifeguard's timeout: from Max it falls with log(C + 1) / log(K + 1) of the way to Min, and is Min from K confirmations on; without LHA-Suspicion always Min
+-- Lifeguard's timeout: from Max it falls with log(C + 1) / log(K + 1) of the way to Min, and is Min from K accusers on; without LHA-Suspicion always Min
 abbrev pub timeout : Terms → ℕ → ℕ → ℕ
 timeout terms n c =
-    if not terms.shortens || nat_le (most_confirmations terms n) c then min_timeout terms n
-    else max_timeout terms n - (max_timeout terms n - min_timeout terms n) * thousandths_of (c + 1) / thousandths_of (most_confirmations terms n + 1)
+    if not terms.shortens || nat_le (most_accusers terms n) c then min_timeout terms n
+    else max_timeout terms n - (max_timeout terms n - min_timeout terms n) * thousandths_of (c + 1) / thousandths_of (most_accusers terms n + 1)

@@ -1,8 +1,8 @@
 //! Suspicions and their timers: a suspicion lasts long while one member alone accuses, and less with
-//! each further member that confirms it (SWIM, section 4.2; Lifeguard's LHA-Suspicion).
+//! each further accuser (SWIM, section 4.2; Lifeguard's LHA-Suspicion).
 #![tactic(auto)]
 
-mod confirmers;
+mod further;
 pub mod laws;
 mod standing;
 mod suspicions;

@@ -1,6 +1,6 @@
 ghost use Rattle.suspicion.specs.Ranges.{IsKept};
 
-use crate::confirmers::Confirmers;
+use crate::further::Accusers;
 use crate::terms::Terms;
 use base::{MemberId, Moment};
 
@@ -14,7 +14,7 @@ pub(crate) struct Standing {
     pub(crate) since: Moment,
     /// The first accuser.
     pub(crate) first: MemberId,
-    pub(crate) confirmers: Confirmers,
+    pub(crate) further: Accusers,
     /// The number of its present timer.
     pub(crate) timer: u64,
     ghost kept: { IsKept terms members since },

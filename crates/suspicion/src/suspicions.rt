@@ -4,10 +4,10 @@ ghost use Rattle.std.specs.FinMap.{empty, contains_key, insert, remove};
 ghost use Rattle.suspicion.specs.Ranges.{AreSound};
 ghost use Rattle.suspicion.specs.Settings.{terms_of};
 ghost use Rattle.suspicion.specs.Times.{timeout};
-ghost use Rattle.suspicion.specs.Suspicions.{started_of, confirmed, accused_of, after_accusation, answer_of, is_due, first_accuser_of, counts};
-ghost use Rattle.suspicion.specs.View.{suspicion_of, held_of};
+ghost use Rattle.suspicion.specs.Suspicions.{started_of, accused, accused_of, after_accusation, answer_of, is_due, first_accuser_of, counts};
+ghost use Rattle.suspicion.specs.SuspicionOf.{suspicion_of, held_of};
 
-use crate::confirmers::Confirmers;
+use crate::further::Accusers;
 use crate::standing::Standing;
 use crate::terms::{Terms, most_counted};
 use base::{MemberId, Memory, Moment};
@@ -36,13 +36,13 @@ impl Model for Suspicions {
     ghost use Rattle.std.specs.FinMap.{code};
     ghost use Rattle.suspicion.specs.contracts.terms.Terms as terms;
     ghost use Rattle.suspicion.specs.Coding.{suspicion_code};
-    ghost use Rattle.suspicion.specs.Suspicions.{Held};
+    ghost use Rattle.suspicion.specs.Suspicions.{HeldSuspicions};
 
-    ghost Value = { Held };
+    ghost Value = { HeldSuspicions };
 
     ghost coded = { code coded_ℕ (suspicion_code terms.the_row.coded) };
 
-    ghost use Rattle.suspicion.specs.View.{held_of};
+    ghost use Rattle.suspicion.specs.SuspicionOf.{held_of};
 
     ghost view = { λ suspicions. held_of suspicions.standing.entries };
 }
@@ -73,7 +73,7 @@ impl Suspicions {
         scenario: &Scenario,
     ) -> Result<Moment, Memory>
         requires some { 1 ≤ members }
-        requires few { members ≤ 1024 }
+        requires at_most_1024 { members ≤ 1024 }
         requires early { now ≤ 2 ^ 40 }
         ensures started { let started = started_of (terms_of scenario.now) accuser members now generation in
             OnOk result (self.new ≡ insert self.old subject started) }
@@ -105,7 +105,7 @@ impl Suspicions {
     ) -> Result<Moment, Memory>
         requires sound { AreSound terms }
         requires some { 1 ≤ members }
-        requires few { members ≤ 1024 }
+        requires at_most_1024 { members ≤ 1024 }
         requires early { now ≤ 2 ^ 40 }
         ensures started { let started = started_of terms accuser members now generation in
             OnOk result (self.new ≡ insert self.old subject started) }
@@ -121,7 +121,7 @@ impl Suspicions {
             members,
             since: now,
             first: accuser,
-            confirmers: Confirmers::new(),
+            further: Accusers::new(),
             timer: generation,
         };
         put(&mut self.standing, subject, standing)?;
@@ -129,7 +129,7 @@ impl Suspicions {
     }
 
     /// A further member accuses a suspect. Where that counts, it is added to the accusers, the timer
-    /// is now the one of number `generation`, and the answer is how many confirm the suspicion and
+    /// is now the one of number `generation`, and the answer is how many further accusers there are and
     /// when its time is over. Where it does not, nothing changes. It takes no memory.
     pub fn accuse(
         &mut self,
@@ -206,11 +206,11 @@ fn accuse_in(
     ensures soon { IfSome result (λ accused. accused.due < 2 ^ 42) }
 {
     let suspicion = standing.get_mut(&subject)?;
-    confirm(suspicion, accuser, now, generation)
+    add_accuser(suspicion, accuser, now, generation)
 }
 
 // Adds an accuser to a suspicion, where that counts.
-fn confirm(
+fn add_accuser(
     suspicion: &mut Standing,
     accuser: MemberId,
     now: Moment,
@@ -218,18 +218,18 @@ fn confirm(
 ) -> Option<Accused>
     requires { now ≤ 2 ^ 40 }
     ensures answer { let old = suspicion_of suspicion.old in
-        result ≡ option_map (answer_of now) (confirmed old accuser generation) }
+        result ≡ option_map (answer_of now) (accused old accuser generation) }
     ensures after { let old = suspicion_of suspicion.old in
-        suspicion_of suspicion.new ≡ unwrap_or (confirmed old accuser generation) old }
+        suspicion_of suspicion.new ≡ unwrap_or (accused old accuser generation) old }
     ensures later { IfSome result (λ accused. now + 1 ≤ accused.due) }
     ensures soon { IfSome result (λ accused. accused.due < 2 ^ 42) }
 {
     if !does_count(suspicion, accuser) {
         return None;
     }
-    suspicion.confirmers.push(accuser);
+    suspicion.further.push(accuser);
     suspicion.timer = generation;
-    let count = suspicion.confirmers.len() as u64;
+    let count = suspicion.further.len() as u64;
     Some(Accused {
         count,
         due: due_moment(suspicion, now, count),
@@ -240,13 +240,13 @@ fn confirm(
 fn does_count(suspicion: &Standing, accuser: MemberId) -> bool
     ensures counts { result ≡ counts (suspicion_of suspicion.now) accuser }
 {
-    let count = suspicion.confirmers.len() as u64;
+    let count = suspicion.further.len() as u64;
     suspicion.terms.shortens
         && count < most_counted(suspicion.terms, suspicion.members)
-        && !(suspicion.first == accuser || suspicion.confirmers.contains(accuser))
+        && !(suspicion.first == accuser || suspicion.further.contains(accuser))
 }
 
-// When a suspicion that was confirmed so often is over.
+// When a suspicion with so many further accusers is over.
 fn due_moment(suspicion: &Standing, now: Moment, count: u64) -> Moment
     requires early { now ≤ 2 ^ 40 }
     ensures due { let lasts = timeout suspicion.now.terms suspicion.now.members count in

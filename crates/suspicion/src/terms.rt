@@ -1,6 +1,6 @@
 ghost use Rattle.std.specs.Prelude.{◌≡◌, ◌^◌, ◌<◌, ◌≤◌};
 ghost use Rattle.suspicion.specs.Ranges.{AreSound};
-ghost use Rattle.suspicion.specs.Times.{min_timeout, most_confirmations, timeout};
+ghost use Rattle.suspicion.specs.Times.{min_timeout, most_accusers, timeout};
 ghost use Rattle.suspicion.specs.Settings.{terms_of};
 
 use base::log_thousandths;
@@ -15,10 +15,10 @@ pub struct Terms {
     pub alpha: u64,
     /// The longest suspicion is this many times the shortest.
     pub beta: u64,
-    /// LHA-Suspicion: whether confirmations shorten a suspicion.
+    /// LHA-Suspicion: whether further accusers shorten a suspicion.
     pub shortens: bool,
-    /// How many confirmations bring a suspicion to its shortest (Lifeguard's K).
-    pub confirmations: u64,
+    /// How many further accusers bring a suspicion to its shortest (Lifeguard's K).
+    pub accusers_wanted: u64,
 }
 
 impl Terms {
@@ -34,17 +34,17 @@ impl Terms {
             alpha: suspicion.alpha,
             beta: suspicion.beta,
             shortens: lifeguard.suspicion,
-            confirmations: lifeguard.confirmations,
+            accusers_wanted: lifeguard.confirmations,
         }
     }
 
-    /// How long a suspicion lasts, in ticks, that started among this many members and was confirmed
-    /// so often (Lifeguard's LHA-Suspicion).
-    pub fn timeout(self, members: u32, confirmations: u64) -> u64
+    /// How long a suspicion lasts, in ticks, that started among this many members and has
+    /// so many further accusers (Lifeguard's LHA-Suspicion).
+    pub fn timeout(self, members: u32, accusers: u64) -> u64
         requires sound { AreSound self }
         requires some { 1 ≤ members }
-        requires few { members ≤ 1024 }
-        ensures value { result ≡ timeout self members confirmations }
+        requires at_most_1024 { members ≤ 1024 }
+        ensures value { result ≡ timeout self members accusers }
 
         // It is never over at once, and no moment of a run is too late to start it.
         ensures positive { 1 ≤ result }
@@ -52,11 +52,11 @@ impl Terms {
     {
         let shortest = shortest(self, members);
         let most = most_counted(self, members);
-        if !self.shortens || confirmations >= most {
+        if !self.shortens || accusers >= most {
             return shortest;
         }
         let longest = self.beta * shortest;
-        let reached = u64::from(log_thousandths(confirmations as u32 + 1));
+        let reached = u64::from(log_thousandths(accusers as u32 + 1));
         let whole = u64::from(log_thousandths(most as u32 + 1));
         longest - (longest - shortest) * reached / whole
     }
@@ -66,7 +66,7 @@ impl Terms {
 fn shortest(terms: Terms, members: u32) -> u64
     requires sound { AreSound terms }
     requires some { 1 ≤ members }
-    requires few { members ≤ 1024 }
+    requires at_most_1024 { members ≤ 1024 }
     ensures value { result ≡ min_timeout terms members }
     ensures positive { 1 ≤ result }
     ensures short { result < 2 ^ 33 }
@@ -75,12 +75,12 @@ fn shortest(terms: Terms, members: u32) -> u64
     (terms.alpha * logarithm * terms.period / 1000).max(1)
 }
 
-/// How many confirmations count of a suspicion that started among this many members.
+/// How many further accusers count of a suspicion that started among this many members.
 pub(crate) fn most_counted(terms: Terms, members: u32) -> u64
     requires { 1 ≤ members }
-    ensures { result ≡ most_confirmations terms members }
+    ensures { result ≡ most_accusers terms members }
 {
     terms
-        .confirmations
+        .accusers_wanted
         .min(u64::from(members.saturating_sub(2)))
 }

@@ -1,4 +1,4 @@
-use crate::confirmers::Confirmers;
+use crate::further::Accusers;
 use crate::suspicions::{Accused, Suspicions};
 use crate::terms::Terms;
 use base::{MemberId, Memory, Moment};
@@ -10,7 +10,7 @@ const USUAL: Terms = Terms {
     alpha: 5,
     beta: 6,
     shortens: true,
-    confirmations: 3,
+    accusers_wanted: 3,
 };
 
 const LARGEST: Terms = Terms {
@@ -18,14 +18,14 @@ const LARGEST: Terms = Terms {
     alpha: 100,
     beta: 100,
     shortens: true,
-    confirmations: 9,
+    accusers_wanted: 9,
 };
 
 const SUBJECT: MemberId = MemberId(7);
 
 #[test]
 fn timeouts_shrink_with_the_logarithm_of_the_accusers(rt: HostRuntime) {
-    for (members, confirmations, wanted) in [
+    for (members, accusers, wanted) in [
         (100, 0, 60_000),
         (100, 1, 35_000),
         (100, 2, 20_383),
@@ -37,9 +37,9 @@ fn timeouts_shrink_with_the_logarithm_of_the_accusers(rt: HostRuntime) {
         (3, 1, 5_000),
     ] {
         assert_eq!(rt;
-            USUAL.timeout(members, confirmations),
+            USUAL.timeout(members, accusers),
             wanted,
-            "{members} members, {confirmations} confirmations"
+            "{members} members, {accusers} accusers"
         );
     }
 }
@@ -52,7 +52,7 @@ fn without_the_mechanism_timeouts_are_the_shortest(rt: HostRuntime) {
     };
     assert_eq!(rt; terms.timeout(100, 0), 10_000);
     let terms = Terms {
-        confirmations: 0,
+        accusers_wanted: 0,
         ..USUAL
     };
     assert_eq!(rt; terms.timeout(100, 0), 10_000);
@@ -162,12 +162,12 @@ fn nobody_is_heard_without_the_mechanism(rt: HostRuntime) -> Result<(), Fail> {
 }
 
 #[test]
-fn confirmers_are_kept_in_place(rt: HostRuntime) {
-    let mut confirmers = Confirmers::new();
-    assert!(rt; !confirmers.contains(MemberId(0)));
-    confirmers.push(MemberId(4));
-    assert!(rt; confirmers.contains(MemberId(4)) && !confirmers.contains(MemberId(0)));
-    assert_eq!(rt; confirmers.len(), 1);
+fn accusers_are_kept_in_place(rt: HostRuntime) {
+    let mut further = Accusers::new();
+    assert!(rt; !further.contains(MemberId(0)));
+    further.push(MemberId(4));
+    assert!(rt; further.contains(MemberId(4)) && !further.contains(MemberId(0)));
+    assert_eq!(rt; further.len(), 1);
 }
 
 /// With ample memory nothing is refused. Run with an allocation failing, the refused call must have

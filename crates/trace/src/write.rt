@@ -51,7 +51,7 @@ pub fn write_rows<S: Sink>(
     sink: &mut S,
 ) -> Result<(), WriteError>
     requires named { All (NamesMembers scenario.now) rows.now }
-    requires few { S.failed sink.old < 2 ^ 63 }
+    requires countable { S.failed sink.old < 2 ^ 63 }
     ensures whole { OnOk result (Appends (S.held sink.old) (S.held sink.new) (rows_text scenario.now rows.now)) }
     ensures part { OnErr result (AppendsBeginning (S.held sink.old) (S.held sink.new) (rows_text scenario.now rows.now)) }
     ensures failures { S.failed sink.new ≡ S.failed sink.old + failures_of_write result }

@@ -20,7 +20,7 @@ use Rattle.member.specs.Opening.{opening_state, script_of, crash_event}
 use Rattle.worker_queue.specs.Queue.{IsLeastKey}
 use Rattle.worker_queue.proofs.Contents.{least_content, contents_by-empty}
 use Rattle.windows.specs.Admitting.{AreFromBelow, with_member, opened_below}
-use Rattle.windows.specs.View.{contents_in, content_of}
+use Rattle.windows.specs.WorldOf.{contents_in, content_of}
 
 pub least_asked : (events : FinMap key_cmp Event) (least : Option Key) → IfSome least (IsLeastKey events) → IfSome least (IsLeastKey (contents_in events))
 least_asked events None is = tt

@@ -14,7 +14,7 @@ use Rattle.member.specs.declared.event.Event.{Event}
 use Rattle.member.specs.declared.event.Effects.{Effects}
 use Rattle.member.specs.State.{State}
 use Rattle.member.specs.Step.{step}
-use Rattle.member.specs.View.{pair_of}
+use Rattle.member.specs.StateOf.{pair_of}
 use Rattle.windows.specs.Parts.{PartStep, for_own, for_others, kept_by}
 use Rattle.windows.specs.Window.{is_own}
 use Rattle.windows.specs.Wears.{WearsInWindow}

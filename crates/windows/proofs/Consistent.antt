@@ -21,7 +21,7 @@ use Rattle.links.specs.declared.table.Links.{Links}
 use Rattle.links.specs.Arrival.{AreLinksOf}
 use Rattle.trace.specs.declared.row.Row.{Row}
 use Rattle.member.specs.declared.content.Content.{Content}
-use Rattle.member.specs.Here.{IsHere, HoldsMembers}
+use Rattle.member.specs.Here.{IsSoundSetting, HoldsMembers}
 use Rattle.member.specs.State.{State}
 use Rattle.member.specs.Step.{step}
 use Rattle.member.proofs.Fair.{steps_numbered}
@@ -43,7 +43,7 @@ pub holds_members : (s : Setup) (m : ℕ) (t : State) → IsConsistent s m t →
 holds_members s m t h = record { others = h.others; listed = λ q absent. h.probes q ∙ none_living (get t.table q) absent; sound = h.order }
 
 -- the event may be handled here
-pub event_here : (s : Setup) (l : Links) (bound : ℕ) (k : Key) (c : Content) → IsSound s → AreLinksOf l s → bound ≤ s.end + 1 → k.at < bound → IsAmongMembers s k c → IsHere s l k
+pub event_here : (s : Setup) (l : Links) (bound : ℕ) (k : Key) (c : Content) → IsSound s → AreLinksOf l s → bound ≤ s.end + 1 → k.at < bound → IsAmongMembers s k c → IsSoundSetting s l k
 event_here s l bound k c sound links in_time early among =
     record { sound = sound; links = links; early = omega (arith, in_time, early, sound.end); receiver = among.receiver; sender = among.sender }
 

@@ -10,7 +10,7 @@ use Rattle.std.proofs.lemmas.Bool.{false≢true}
 use Rattle.base.specs.declared.key.Key.{Key}
 use Rattle.base.specs.Order.{key_cmp, key_total, key_exact}
 use Rattle.base.specs.World.{Outcome, World, with_events, settled, events_of}
-use Rattle.windows.specs.Parts.{part_of, for_own, for_others, joined, kept_by}
+use Rattle.windows.specs.Parts.{part_of, for_own, for_others, with_arrivals, kept_by}
 use Rattle.windows.proofs.Swaps.{NoneIs, pending_settled, with_events-remove, with_events-with_events}
 
 module _ {K X : Type 0} {R : K → K → Ordering} (total : IsTotalOrder R) (exact : IsAntisymmetric R) (own : K → Bool) where
@@ -94,7 +94,7 @@ module _ {S C R : Type 0} (owns : ℕ → Bool) where
       λ i. record { members = members i; pending = pending i }
 
   -- to any other part the events made for it come
-  pub part_settled_other : (w : World S C) (k : Key) (o : Option (Outcome S C R)) → owns k.to ≡ false → part_of owns (settled w k o) ≡ joined (part_of owns w) (for_own owns (events_of o))
+  pub part_settled_other : (w : World S C) (k : Key) (o : Option (Outcome S C R)) → owns k.to ≡ false → part_of owns (settled w k o) ≡ with_arrivals (part_of owns w) (for_own owns (events_of o))
   part_settled_other w k o other =
       let members = members_other w k o other in
       let pending : own_keys owns (settled w k o).pending ≡ with_events (own_keys owns w.pending) (for_own owns (events_of o)) =
@@ -104,17 +104,17 @@ module _ {S C R : Type 0} (owns : ℕ → Bool) where
       λ i. record { members = members i; pending = pending i }
 
 module _ {S C R : Type 0} where
-  members_joined : (p : World S C) (k : Key) (o : Option (Outcome S C R)) (es : List (Key × C)) → (settled (joined p es) k o).members ≡ (settled p k o).members
+  members_joined : (p : World S C) (k : Key) (o : Option (Outcome S C R)) (es : List (Key × C)) → (settled (with_arrivals p es) k o).members ≡ (settled p k o).members
   members_joined p k None es = refl
   members_joined p k (Some o) es = refl
 
   -- events that come to a part before a step or after it
   pub settled_joined : (p : World S C) (k : Key) (o : Option (Outcome S C R)) (es : List (Key × C)) → NoneIs k es → AllByRecursion (λ e. NoneIs e.0 (events_of o)) es
-      → settled (joined p es) k o ≡ joined (settled p k o) es
+      → settled (with_arrivals p es) k o ≡ with_arrivals (settled p k o) es
   settled_joined p k o es none apart =
       let members = members_joined p k o es in
-      let pending : (settled (joined p es) k o).pending ≡ with_events (settled p k o).pending es =
-      pending_settled (joined p es) k o
+      let pending : (settled (with_arrivals p es) k o).pending ≡ with_events (settled p k o).pending es =
+      pending_settled (with_arrivals p es) k o
       ∙ ap (λ m. with_events m (events_of o)) (with_events-remove es p.pending k none)
       ∙ with_events-with_events es (events_of o) (remove p.pending k) apart
       ∙ ap (λ m. with_events m es) (sym (pending_settled p k o)) in
@@ -124,7 +124,7 @@ with_events-append : {C : Type 0} (es fs : List (Key × C)) (pending : FinMap ke
 with_events-append [] fs pending = refl
 with_events-append (e ∷ es) fs pending = with_events-append es fs (insert pending e.0 e.1)
 
-pub joined_joined : {S C : Type 0} (p : World S C) (es fs : List (Key × C)) → joined (joined p es) fs ≡ joined p (es ++ fs)
+pub joined_joined : {S C : Type 0} (p : World S C) (es fs : List (Key × C)) → with_arrivals (with_arrivals p es) fs ≡ with_arrivals p (es ++ fs)
 joined_joined p es fs = ap (λ m. record { members = p.members; pending = m }) (with_events-append es fs p.pending)
 
 -- ---- filters of events

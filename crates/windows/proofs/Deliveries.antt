@@ -20,7 +20,7 @@ use Rattle.member.specs.declared.event.Event.{Event}
 use Rattle.member.specs.declared.event.Effects.{Effects}
 use Rattle.member.specs.State.{State}
 use Rattle.member.specs.Step.{step}
-use Rattle.member.specs.View.{pair_of}
+use Rattle.member.specs.StateOf.{pair_of}
 use Rattle.windows.specs.Parts.{for_own, for_others}
 use Rattle.windows.specs.Handling.{Handles, made_of, members_after}
 

@@ -15,7 +15,7 @@ use Rattle.base.specs.Rising.{IsRising}
 use Rattle.base.proofs.Rising.{all_append, all_weaker}
 use Rattle.windows.specs.Delays.{SendsAsItself}
 use Rattle.windows.specs.Schedule.{Schedule}
-use Rattle.windows.specs.Parts.{part_of, for_own, joined, is_in, Window, IsWindowOf, PartRun, HasWindow, all_keys, all_out, all_rows, AreWindows, StandsAfter, OffersWindows}
+use Rattle.windows.specs.Parts.{part_of, for_own, with_arrivals, is_in, Window, IsWindowOf, PartRun, HasWindow, all_keys, all_out, all_rows, AreWindows, StandsAfter, OffersWindows}
 use Rattle.windows.proofs.Cuts.{get_retained, joined_joined, all_kept, own_of_others}
 use Rattle.windows.proofs.Windows.{Led, leads}
 
@@ -53,7 +53,7 @@ module _ {S C R : Type 0} (step : Machine S C R) (own : SendsAsItself step) (div
 
   -- a part whose window is still to come has only had events come to it, from other parts
   record Awaits (u : World S C) (outs : List (Key × C)) (d : Window S C R) : Type 0 where
-    cut : part_of (owns d) u ≡ joined (part_of (owns d) w) (for_own (owns d) outs)
+    cut : part_of (owns d) u ≡ with_arrivals (part_of (owns d) w) (for_own (owns d) outs)
     strange : AllByRecursion (λ e. owns d e.0.from ≡ false) outs
     window : IsWindowOf step division bounds w d
 
@@ -62,8 +62,8 @@ module _ {S C R : Type 0} (step : Machine S C R) (own : SendsAsItself step) (div
     schedule : Schedule step Test u (all_keys ds) (all_rows ds) world
     ready : Ready world
     far : AllByRecursion (λ e. bounds (division e.0.to) ≤ e.0.at) (all_out ds)
-    parts : AllByRecursion (λ d. part_of (owns d) world ≡ joined d.after (for_own (owns d) (outs ++ all_out ds))) ds
-    others : (part : ℕ) → AllByRecursion (λ d. d.part ≢ part) ds → part_of (is_in division part) world ≡ joined (part_of (is_in division part) u) (for_own (is_in division part) (all_out ds))
+    parts : AllByRecursion (λ d. part_of (owns d) world ≡ with_arrivals d.after (for_own (owns d) (outs ++ all_out ds))) ds
+    others : (part : ℕ) → AllByRecursion (λ d. d.part ≢ part) ds → part_of (is_in division part) world ≡ with_arrivals (part_of (is_in division part) u) (for_own (is_in division part) (all_out ds))
 
   late_own : (part : ℕ) (outs : List (Key × C)) → AllByRecursion (λ e. bounds (division e.0.to) ≤ e.0.at) outs → AllByRecursion (λ e. bounds part ≤ e.0.at) (for_own (is_in division part) outs)
   late_own part outs late =
@@ -85,9 +85,9 @@ module _ {S C R : Type 0} (step : Machine S C R) (own : SendsAsItself step) (div
     still_awaits e other h = record {
       cut =
           first_led.others (owns e) (parts_apart division e.part d.part (λ same. other (sym same)))
-          ∙ ap (λ x. joined x (for_own (owns e) d.out)) h.cut
+          ∙ ap (λ x. with_arrivals x (for_own (owns e) d.out)) h.cut
           ∙ joined_joined (part_of (owns e) w) (for_own (owns e) outs) (for_own (owns e) d.out)
-          ∙ ap (joined (part_of (owns e) w)) (sym (own_append (owns e) outs d.out));
+          ∙ ap (with_arrivals (part_of (owns e) w)) (sym (own_append (owns e) outs d.out));
       strange = all_append _ outs d.out h.strange (all_weaker _ (λ f. owns e f.0.from ≡ false) (λ f from. parts_apart division d.part e.part other f.0.from from) d.out first_led.from);
       window = h.window;
     }
@@ -104,20 +104,20 @@ module _ {S C R : Type 0} (step : Machine S C R) (own : SendsAsItself step) (div
       far = all_append _ d.out (all_out ds) first_led.far rest.far;
       parts = (
         rest.others d.part (all_weaker _ (λ e. e.part ≢ d.part) (λ e other same. other (sym same)) ds apart)
-            ∙ ap (λ x. joined x (for_own (owns d) (all_out ds))) first_led.cut
+            ∙ ap (λ x. with_arrivals x (for_own (owns d) (all_out ds))) first_led.cut
             ∙ joined_joined d.after (for_own (owns d) outs) (for_own (owns d) (all_out ds))
-            ∙ ap (joined d.after)
+            ∙ ap (with_arrivals d.after)
             (ap (λ l. for_own (owns d) outs ++ (l ++ for_own (owns d) (all_out ds))) (sym (own_of_run step (owns d) (bounds d.part) d.keys (part_of (owns d) w) d.after d.out d.rows awaits.window.run))
             ∙ ap (λ l. for_own (owns d) outs ++ l) (sym (own_append (owns d) d.out (all_out ds)))
             ∙ sym (own_append (owns d) outs (d.out ++ all_out ds))),
-        all_weaker _ (λ e. part_of (owns e) rest.world ≡ joined e.after (for_own (owns e) (outs ++ (d.out ++ all_out ds))))
-            (λ e h. h ∙ ap (λ l. joined e.after (for_own (owns e) l)) (append_assoc outs d.out (all_out ds))) ds rest.parts,
+        all_weaker _ (λ e. part_of (owns e) rest.world ≡ with_arrivals e.after (for_own (owns e) (outs ++ (d.out ++ all_out ds))))
+            (λ e h. h ∙ ap (λ l. with_arrivals e.after (for_own (owns e) l)) (append_assoc outs d.out (all_out ds))) ds rest.parts,
       );
       others = λ part apart_from.
           rest.others part apart_from.1
-          ∙ ap (λ x. joined x (for_own (is_in division part) (all_out ds))) (first_led.others (is_in division part) (parts_apart division part d.part (λ same. apart_from.0 (sym same))))
+          ∙ ap (λ x. with_arrivals x (for_own (is_in division part) (all_out ds))) (first_led.others (is_in division part) (parts_apart division part d.part (λ same. apart_from.0 (sym same))))
           ∙ joined_joined (part_of (is_in division part) u) (for_own (is_in division part) d.out) (for_own (is_in division part) (all_out ds))
-          ∙ ap (joined (part_of (is_in division part) u)) (sym (own_append (is_in division part) d.out (all_out ds)));
+          ∙ ap (with_arrivals (part_of (is_in division part) u)) (sym (own_append (is_in division part) d.out (all_out ds)));
     }
 
   -- windows of different parts, one after the other
@@ -159,7 +159,7 @@ module _ {S C R : Type 0} (step : Machine S C R) (own : SendsAsItself step) (div
     stands_after = record { parts = led_by_all.parts; others = λ part none. led_by_all.others part (none_has ds part none) }
 
     left_by : (q : Key) (es : List (Window S C R)) → IsPending after_all q → HasWindow es (division q.to) → AllByRecursion (IsWindowOf step division bounds w) es
-        → AllByRecursion (λ d. part_of (owns d) after_all ≡ joined d.after (for_own (owns d) (all_out ds))) es → bounds (division q.to) ≤ q.at
+        → AllByRecursion (λ d. part_of (owns d) after_all ≡ with_arrivals d.after (for_own (owns d) (all_out ds))) es → bounds (division q.to) ≤ q.at
     left_by q [] here none windows parts = absurd none
     left_by q (d ∷ es) here (inr more) windows parts = left_by q es here more windows.1 parts.1
     left_by q (d ∷ es) here (inl same) windows parts =
@@ -208,8 +208,8 @@ same_parts division u v same =
 -- ---- one world
 
 part_same : {S C R : Type 0} (division : ℕ → ℕ) (ds es : List (Window S C R)) (u v : World S C) (part : ℕ)
-    → AllByRecursion (λ d. part_of (is_in division d.part) u ≡ joined d.after (for_own (is_in division d.part) (all_out ds))) es
-    → AllByRecursion (λ d. part_of (is_in division d.part) v ≡ joined d.after (for_own (is_in division d.part) (all_out ds))) es
+    → AllByRecursion (λ d. part_of (is_in division d.part) u ≡ with_arrivals d.after (for_own (is_in division d.part) (all_out ds))) es
+    → AllByRecursion (λ d. part_of (is_in division d.part) v ≡ with_arrivals d.after (for_own (is_in division d.part) (all_out ds))) es
     → (¬ (HasWindow es part) → part_of (is_in division part) u ≡ part_of (is_in division part) v) → part_of (is_in division part) u ≡ part_of (is_in division part) v
 part_same division ds [] u v part first second none = none (λ has. has)
 part_same division ds (d ∷ es) u v part first second none = by_number (eqb_tells d.part part) (part_same division ds es u v part first.1 second.1)

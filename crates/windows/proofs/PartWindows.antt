@@ -10,11 +10,11 @@ use Rattle.member.specs.declared.event.Event.{Event}
 use Rattle.member.specs.declared.event.Effects.{Effects}
 use Rattle.member.specs.State.{State}
 use Rattle.member.specs.Step.{step}
-use Rattle.member.specs.View.{pair_of}
+use Rattle.member.specs.StateOf.{pair_of}
 use Rattle.member_laws.specs.Words.{IsAmongMembers}
 use Rattle.worker_queue.specs.Queue.{NoneIsBelow}
 use Rattle.windows.specs.Parts.{PartRun}
-use Rattle.windows.specs.Window.{is_own, IsConsistentPart, IsWindow, TakeTheirLinks}
+use Rattle.windows.specs.Window.{is_own, IsConsistentPart, RunsWindow, TakeTheirLinks}
 use Rattle.windows.specs.Wears.{WearsInWindow}
 use Rattle.windows.specs.Handling.{Advances}
 use Rattle.windows.proofs.PartRuns.{own_run, runs_join, one_step_run, steps_left, fewer_left}
@@ -84,5 +84,5 @@ module _ (s : Setup) (bound : ℕ) (p v : World State Content) (so_far : Effects
     window_far = all_far s bound has.keys p v so_far.events.items so_far.rows.items sound has.run
 
   -- where nothing is left below the bound, the window is whole
-  pub window_over : NoneIsBelow v.pending bound → IsWindow s bound p so_far.events.items so_far.rows.items v
+  pub window_over : NoneIsBelow v.pending bound → RunsWindow s bound p so_far.events.items so_far.rows.items v
   window_over none = (has.keys, record { run = has.run; done = none })

@@ -17,7 +17,7 @@ use Rattle.trace.specs.declared.row.Row.{Row}
 use Rattle.member.specs.declared.content.Content.{Content}
 use Rattle.member.specs.declared.event.Event.{Event}
 use Rattle.member.specs.declared.event.Effects.{Effects}
-use Rattle.member.specs.Here.{IsHere, HoldsMembers, NamesMembers}
+use Rattle.member.specs.Here.{IsSoundSetting, HoldsMembers, MentionsMembers}
 use Rattle.member.specs.Opening.{opening}
 use Rattle.member.specs.State.{State}
 use Rattle.member.specs.Step.{step}
@@ -58,13 +58,13 @@ module _ (s : Setup) (sound : IsSound s) (d : Option ℕ) (least : IsLeastDelay 
   among = fact.events event.key event.content here
 
   -- the event may be handled
-  pub handled_here : (l : Links) → AreLinksOf l s → IsHere s l event.key
+  pub handled_here : (l : Links) → AreLinksOf l s → IsSoundSetting s l event.key
   handled_here l links = let low = safe.in_time in event_here s l (s.end + 1) event.key event.content sound links (omega arith) (omega arith) among
 
   pub holds_there : (t : State) → get w.members event.key.to ≡ Some t → HoldsMembers s event.key.to t
   holds_there t at = holds_members s event.key.to t (fact.states event.key.to t at)
 
-  pub names_there : NamesMembers (member_count s) event.content
+  pub names_there : MentionsMembers (member_count s) event.content
   names_there = among.names
 
   -- what is made of it is new

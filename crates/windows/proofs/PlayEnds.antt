@@ -13,7 +13,7 @@ use Rattle.base.specs.Order.{key_cmp, moments-from_not_before}
 use Rattle.base.specs.World.{World}
 use Rattle.base.specs.Rising.{IsPlaceBefore}
 use Rattle.scenario.specs.Setup.{Setup, IsSound, member_count, link_between}
-use Rattle.links.specs.Least.{IsReached, IsNoGreater}
+use Rattle.links.specs.Least.{IsDelayOfAPair, IsNoGreater}
 use Rattle.trace.specs.declared.row.Row.{Row}
 use Rattle.member.specs.Places.{place_of}
 use Rattle.member_laws.specs.Runs.{Cluster, IsRunOf}
@@ -85,12 +85,12 @@ module _ (s : Setup) (sound : IsSound s) (choices : List ℕ) (played : Played) 
 
 -- ---- the least delay
 
-is_least : (s : Setup) (d : Option ℕ) → IfSome d (IsReached (λ i j. (link_between s i j).delay) (member_count s)) → IfSome d (IsNoGreater (λ i j. (link_between s i j).delay) (member_count s))
+is_least : (s : Setup) (d : Option ℕ) → IfSome d (IsDelayOfAPair (λ i j. (link_between s i j).delay) (member_count s)) → IfSome d (IsNoGreater (λ i j. (link_between s i j).delay) (member_count s))
     → (d ≡ None → member_count s ≡ 1) → IsLeastDelay s d
 is_least s None reached least alone = alone refl
 is_least s (Some d) reached least alone = (reached, least)
 
 -- what the links tell of it
-pub least_of_links : (s : Setup) (d : Option ℕ) → IfSome d (IsReached (λ i j. (link_between s i j).delay) (member_count s))
+pub least_of_links : (s : Setup) (d : Option ℕ) → IfSome d (IsDelayOfAPair (λ i j. (link_between s i j).delay) (member_count s))
     → IfSome d (IsNoGreater (λ i j. (link_between s i j).delay) (member_count s)) → (d ≡ None ↔ member_count s ≡ 1) → IsLeastDelay s d
 least_of_links s d reached least alone = is_least s d reached least alone.0

@@ -15,7 +15,7 @@ use Rattle.member.specs.declared.content.Content.{Content}
 use Rattle.member.specs.declared.event.Event.{Event}
 use Rattle.member.specs.State.{State}
 use Rattle.member.specs.Step.{step}
-use Rattle.member.specs.View.{pair_of}
+use Rattle.member.specs.StateOf.{pair_of}
 use Rattle.member.proofs.Fair.{steps_later, steps_linked, steps_numbered}
 use Rattle.member_laws.proofs.Moments.{both}
 use Rattle.windows.specs.Parts.{PartStep, PartRun, for_others}

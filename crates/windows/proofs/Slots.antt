@@ -10,13 +10,13 @@ use Rattle.std.proofs.lemmas.List.{get_or-set_same, get_or-set_other, set-get_or
 use Rattle.std.proofs.lemmas.Option.{same_Some, get_or_from_slice_get}
 use Rattle.member.specs.declared.member.Member.{Member}
 use Rattle.member.specs.State.{State}
-use Rattle.member.specs.View.{state_of}
+use Rattle.member.specs.StateOf.{state_of}
 use Rattle.base.specs.Order.{key_cmp}
 use Rattle.member.specs.declared.event.Event.{Event}
 use Rattle.member.specs.Worn.{IsWorn}
 use Rattle.member.proofs.Worn.{not_worn}
 use Rattle.windows.specs.declared.part.Part.{Part}
-use Rattle.windows.specs.View.{states_from, world_of}
+use Rattle.windows.specs.WorldOf.{states_from, world_of}
 
 -- who stands at a place
 abbrev pub slot_at : List (Option Member) → ℕ → Option Member

@@ -13,7 +13,7 @@ use Rattle.base.specs.Run.{holds-with_events}
 use Rattle.base.proofs.Rising.{all_append, all_weaker}
 use Rattle.windows.specs.Delays.{SendsAsItself}
 use Rattle.windows.specs.Schedule.{TestedStep, Schedule}
-use Rattle.windows.specs.Parts.{part_of, for_own, for_others, joined, kept_by, PartStep, PartRun, is_in, OffersWindows}
+use Rattle.windows.specs.Parts.{part_of, for_own, for_others, with_arrivals, kept_by, PartStep, PartRun, is_in, OffersWindows}
 use Rattle.windows.proofs.Swaps.{NoneIs}
 use Rattle.windows.proofs.Early.{get-with_events, events_own}
 use Rattle.windows.proofs.Cuts.{get_retained, part_settled, part_settled_other, events_kept, settled_joined, joined_joined, all_kept, own_of_sent}
@@ -35,12 +35,12 @@ module _ {S C R : Type 0} (step : Machine S C R) (own : SendsAsItself step) (div
       pub world : World S C
       pub schedule : Schedule step Test u keys rows world
       pub ready : Ready world
-      pub cut : part_of owns world ≡ joined after extra
-      pub others : (mine : ℕ → Bool) → ((m : ℕ) → mine m ≡ true → owns m ≡ false) → part_of mine world ≡ joined (part_of mine u) (for_own mine out)
+      pub cut : part_of owns world ≡ with_arrivals after extra
+      pub others : (mine : ℕ → Bool) → ((m : ℕ) → mine m ≡ true → owns m ≡ false) → part_of mine world ≡ with_arrivals (part_of mine u) (for_own mine out)
       pub far : AllByRecursion (λ e. bounds (division e.0.to) ≤ e.0.at) out
       pub from : AllByRecursion (λ e. owns e.0.from ≡ true) out
 
-    module _ (u p mid : World S C) (k : Key) (sent : List (Key × C)) (made : List R) (ready : Ready u) (cut : part_of owns u ≡ joined p extra) (is : PartStep step owns (bounds part) p k sent made mid) where
+    module _ (u p mid : World S C) (k : Key) (sent : List (Key × C)) (made : List R) (ready : Ready u) (cut : part_of owns u ≡ with_arrivals p extra) (is : PartStep step owns (bounds part) p k sent made mid) where
       out_there : Option (Outcome S C R)
       out_there = outcome step u k is.content
 
@@ -93,18 +93,18 @@ module _ {S C R : Type 0} (step : Machine S C R) (own : SendsAsItself step) (div
           (all_kept (λ e. owns e.0.to) (λ e. e.0.from ≡ k.to) (events_of (outcome step p k is.content)) (events_own step own p k is.content)))
           extra strange)
 
-      part_there : part_of owns led ≡ joined mid extra
+      part_there : part_of owns led ≡ with_arrivals mid extra
       part_there =
           part_settled owns u k (outcome step u k is.content) found.0
           ∙ ap (λ x. settled x k (option_map (kept_by owns) (outcome step u k is.content))) cut
-          ∙ ap (λ o. settled (joined p extra) k (option_map (kept_by owns) o)) same_outcome
+          ∙ ap (λ o. settled (with_arrivals p extra) k (option_map (kept_by owns) o)) same_outcome
           ∙ settled_joined p k (option_map (kept_by owns) (outcome step p k is.content)) extra not_extra unlike_extra
-          ∙ ap (λ x. joined x extra) (sym is.world)
+          ∙ ap (λ x. with_arrivals x extra) (sym is.world)
 
-      others_there : (mine : ℕ → Bool) → ((m : ℕ) → mine m ≡ true → owns m ≡ false) → part_of mine led ≡ joined (part_of mine u) (for_own mine sent)
+      others_there : (mine : ℕ → Bool) → ((m : ℕ) → mine m ≡ true → owns m ≡ false) → part_of mine led ≡ with_arrivals (part_of mine u) (for_own mine sent)
       others_there mine apart =
           part_settled_other mine u k (outcome step u k is.content) (false_from_ne_true (mine k.to) (λ h. false≢true (sym (apart k.to h) ∙ found.0)))
-          ∙ ap (λ l. joined (part_of mine u) l)
+          ∙ ap (λ l. with_arrivals (part_of mine u) l)
           (ap (λ o. for_own mine (events_of o)) same_outcome ∙ sym (own_of_sent owns mine apart (events_of (outcome step p k is.content))) ∙ ap (for_own mine) (sym is.sent))
 
       other_part : (e : Key) → not (owns e.to) ≡ true → division e.to ≢ division k.to
@@ -125,14 +125,14 @@ module _ {S C R : Type 0} (step : Machine S C R) (own : SendsAsItself step) (div
           (for_others owns (events_of (outcome step p k is.content))) (all_kept (λ e. not (owns e.0.to)) (λ e. e.0.from ≡ k.to) (events_of (outcome step p k is.content)) (events_own step own p k is.content)))
 
     -- the steps of a part are steps of the world
-    pub leads : (keys : List Key) (u p after : World S C) (out : List (Key × C)) (rows : List R) → Ready u → part_of owns u ≡ joined p extra
+    pub leads : (keys : List Key) (u p after : World S C) (out : List (Key × C)) (rows : List R) → Ready u → part_of owns u ≡ with_arrivals p extra
         → PartRun step owns (bounds part) p keys out rows after → Led u after keys out rows
     leads [] u p after out rows ready cut run = record {
       world = u;
       schedule = (refl, run.2);
       ready = ready;
-      cut = cut ∙ ap (λ x. joined x extra) (sym run.0);
-      others = λ mine apart. ap (λ l. joined (part_of mine u) (for_own mine l)) (sym run.1);
+      cut = cut ∙ ap (λ x. with_arrivals x extra) (sym run.0);
+      others = λ mine apart. ap (λ l. with_arrivals (part_of mine u) (for_own mine l)) (sym run.1);
       far = subst (AllByRecursion (λ e. bounds (division e.0.to) ≤ e.0.at)) (sym run.1) tt;
       from = subst (AllByRecursion (λ e. owns e.0.from ≡ true)) (sym run.1) tt;
     }
@@ -149,9 +149,9 @@ module _ {S C R : Type 0} (step : Machine S C R) (own : SendsAsItself step) (div
           cut = rest.cut;
           others = λ mine apart.
               rest.others mine apart
-              ∙ ap (λ x. joined x (for_own mine run.2)) (others_there u p mid k sent made ready cut is mine apart)
+              ∙ ap (λ x. with_arrivals x (for_own mine run.2)) (others_there u p mid k sent made ready cut is mine apart)
               ∙ joined_joined (part_of mine u) (for_own mine sent) (for_own mine run.2)
-              ∙ ap (joined (part_of mine u)) (sym (filter-append _ sent run.2) ∙ ap (for_own mine) (sym run.7));
+              ∙ ap (with_arrivals (part_of mine u)) (sym (filter-append _ sent run.2) ∙ ap (for_own mine) (sym run.7));
           far = subst (AllByRecursion (λ e. bounds (division e.0.to) ≤ e.0.at)) (sym run.7) (all_append _ sent run.2 (far_there u p mid k sent made ready cut is) rest.far);
           from = subst (AllByRecursion (λ e. owns e.0.from ≡ true)) (sym run.7) (all_append _ sent run.2 (from_there u p mid k sent made ready cut is) rest.from);
         }

@@ -9,7 +9,7 @@ use Rattle.base.specs.World.{SequentialRun}
 use Rattle.base.specs.Rising.{IsPlaceBefore, IsNumbered}
 use Rattle.scenario.specs.Setup.{Setup, member_count, link_between}
 use Rattle.trace.specs.declared.row.Row.{Row}
-use Rattle.links.specs.Least.{IsReached, IsNoGreater}
+use Rattle.links.specs.Least.{IsDelayOfAPair, IsNoGreater}
 use Rattle.member.specs.declared.content.Content.{Content}
 use Rattle.member.specs.State.{State}
 use Rattle.member.specs.Places.{place_of}
@@ -26,7 +26,7 @@ link_delay s i j = (link_between s i j).delay
 -- the least delay of a link from a member to another one, where there are two members or more
 abbrev pub IsLeastDelay : Setup → Option ℕ → Type 0
 IsLeastDelay s None = member_count s ≡ 1
-IsLeastDelay s (Some d) = IsReached (link_delay s) (member_count s) d × IsNoGreater (link_delay s) (member_count s) d
+IsLeastDelay s (Some d) = IsDelayOfAPair (link_delay s) (member_count s) d × IsNoGreater (link_delay s) (member_count s) d
 
 -- each event that pends has a number that its sender has used
 abbrev pub UsesUpTo : Cluster → Type 0

@@ -6,7 +6,7 @@ pub mod Play
 pub mod Choosing
 pub mod Cluster
 pub mod Horizon
-pub mod View
+pub mod WorldOf
 pub mod Wears
 pub mod Several
 pub mod Window

@@ -21,8 +21,8 @@ abbrev pub for_others : {C : Type 0} → (ℕ → Bool) → List (Key × C) → 
 for_others owns es = filter (λ e. not (owns e.0.to)) es
 
 -- a part that these events have come to
-abbrev pub joined : {S C : Type 0} → World S C → List (Key × C) → World S C
-joined p es = record { members = p.members; pending = with_events p.pending es }
+abbrev pub with_arrivals : {S C : Type 0} → World S C → List (Key × C) → World S C
+with_arrivals p es = record { members = p.members; pending = with_events p.pending es }
 
 -- what stays in the part of what a member makes of an event
 abbrev pub kept_by : {S C R : Type 0} → (ℕ → Bool) → Outcome S C R → Outcome S C R
@@ -96,8 +96,8 @@ pub record AreWindows {S C R : Type 0} (step : Machine S C R) (division : ℕ �
 -- The world that stands after them: each part is as its window leaves it, or as it was if it has none, and the events
 -- that went out have come to their parts.
 pub record StandsAfter {S C R : Type 0} (division : ℕ → ℕ) (w : World S C) (ds : List (Window S C R)) (v : World S C) : Type 0 where
-  pub parts : AllByRecursion (λ d. part_of (is_in division d.part) v ≡ joined d.after (for_own (is_in division d.part) (all_out ds))) ds
-  pub others : (part : ℕ) → ¬ (HasWindow ds part) → part_of (is_in division part) v ≡ joined (part_of (is_in division part) w) (for_own (is_in division part) (all_out ds))
+  pub parts : AllByRecursion (λ d. part_of (is_in division d.part) v ≡ with_arrivals d.after (for_own (is_in division d.part) (all_out ds))) ds
+  pub others : (part : ℕ) → ¬ (HasWindow ds part) → part_of (is_in division part) v ≡ with_arrivals (part_of (is_in division part) w) (for_own (is_in division part) (all_out ds))
 
 -- a world of which this holds, and in which the windows below the bound may run
 abbrev pub IsReady : {S C : Type 0} → ℕ → Option ℕ → (World S C → Type 0) → ℕ → World S C → Type 0

@@ -6,16 +6,16 @@ use Rattle.scenario.specs.Setup.{Setup}
 use Rattle.member.specs.declared.event.Event.{Event}
 use Rattle.windows.specs.declared.part.Part.{Part}
 use Rattle.windows.specs.declared.part.Done.{Done}
-use Rattle.windows.specs.View.{world_of}
-use Rattle.windows.specs.Window.{IsWindow}
+use Rattle.windows.specs.WorldOf.{world_of}
+use Rattle.windows.specs.Window.{RunsWindow}
 use Rattle.windows.specs.Wears.{WearsInWindow}
 
 module _ {Q : Type 0} (set : Q → FinMap key_cmp Event) where
   -- each of these parts had its window
-  abbrev pub HadWindows : Setup → ℕ → List (Part Q) → List (Done Q) → Type 0
-  HadWindows s bound [] [] = Unit {0}
-  HadWindows s bound (p ∷ ps) (d ∷ ds) = IsWindow s bound (world_of set p) d.out.items d.rows.items (world_of set d.part) × HadWindows s bound ps ds
-  HadWindows s bound _ _ = ⊥
+  abbrev pub RanWindows : Setup → ℕ → List (Part Q) → List (Done Q) → Type 0
+  RanWindows s bound [] [] = Unit {0}
+  RanWindows s bound (p ∷ ps) (d ∷ ds) = RunsWindow s bound (world_of set p) d.out.items d.rows.items (world_of set d.part) × RanWindows s bound ps ds
+  RanWindows s bound _ _ = ⊥
 
   -- one of these parts wears a counter out within its window
   pub record OneWears (s : Setup) (bound : ℕ) (parts : List (Part Q)) : Type 0 where

@@ -9,7 +9,7 @@ use Rattle.member.specs.declared.content.Content.{Content}
 use Rattle.member.specs.declared.event.Event.{Event}
 use Rattle.member.specs.State.{State}
 use Rattle.member.specs.Step.{step}
-use Rattle.member.specs.View.{pair_of}
+use Rattle.member.specs.StateOf.{pair_of}
 use Rattle.member_laws.specs.Words.{IsConsistent, IsAmongMembers}
 use Rattle.windows.specs.Parts.{PartWindow}
 
@@ -28,8 +28,8 @@ pub record IsConsistentPart (s : Setup) (p : World State Content) : Type 0 where
 
 -- The window of the part below the bound: these events go out to members of other parts, these rows are written, and
 -- so is the part after it.
-abbrev pub IsWindow : Setup → ℕ → World State Content → List Event → List Row → World State Content → Type 0
-IsWindow s bound p out rows after = (keys : List Key) × PartWindow (step s) (is_own p) bound p keys (map pair_of out) rows after
+abbrev pub RunsWindow : Setup → ℕ → World State Content → List Event → List Row → World State Content → Type 0
+RunsWindow s bound p out rows after = (keys : List Key) × PartWindow (step s) (is_own p) bound p keys (map pair_of out) rows after
 
 -- From any moment on that no pending event of the part is before, each of these events takes at least as long as the
 -- link of its pair.

@@ -7,13 +7,13 @@ ghost use Rattle.trace.specs.declared.row.Row.{Row as ARow};
 ghost use Rattle.links.specs.Arrival.{AreLinksOf};
 ghost use Rattle.member.specs.Opening.{opening};
 ghost use Rattle.member_laws.specs.Runs.{Cluster, IsRunOf, WearsOut};
-ghost use Rattle.worker_queue.specs.View.{set_of};
+ghost use Rattle.worker_queue.specs.SetOf.{set_of};
 ghost use Rattle.windows.specs.Safe.{IsSafe};
 ghost use Rattle.windows.specs.Schedule.{rows_by};
 ghost use Rattle.windows.specs.Cluster.{IsLeastDelay, SafeSchedule, whose};
 ghost use Rattle.windows.specs.Play.{NonePasses, Plays, IsPlayOf, IsLeastLeft, IsBeginning};
 ghost use Rattle.windows.specs.Choosing.{safe_bound, IsPlayed, HasChosen, HasPlayed};
-ghost use Rattle.windows.specs.View.{world_of};
+ghost use Rattle.windows.specs.WorldOf.{world_of};
 
 use crate::part::Part;
 use crate::setting::Setting;
@@ -130,7 +130,7 @@ fn choose_all(
     requires opened { world_of set_of part.old ≡ opening setting.now.scenario.now }
     requires none { made.old.rows.items ≡ [] }
     ensures ok { IfOk result (λ handled. HasPlayed setting.now.scenario.now least_delay choices.now handled made.new.rows.items (world_of set_of part.new)) }
-    ensures few { IfOk result (λ handled. handled ≤ length choices.now) }
+    ensures no_more { IfOk result (λ handled. handled ≤ length choices.now) }
     ensures worn { IsErrOf result StepError.Worn → WearsOut setting.now.scenario.now }
 {
     let mut handled = 0;

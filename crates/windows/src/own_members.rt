@@ -1,10 +1,10 @@
 ghost use Rattle.std.specs.Prelude.{◌≡◌, ◌<◌, Some, IfOk, OnOk, IsErrOf, vec_len};
 ghost use Rattle.std.specs.FinMap.{get, contains_key, insert, empty};
 ghost use Rattle.scenario.specs.Setup.{member_count};
-ghost use Rattle.member.specs.Here.{IsHere, HoldsMembers, NamesMembers};
+ghost use Rattle.member.specs.Here.{IsSoundSetting, HoldsMembers, MentionsMembers};
 ghost use Rattle.member.specs.State.{State};
-ghost use Rattle.member.specs.View.{state_of};
-ghost use Rattle.windows.specs.View.{states_in};
+ghost use Rattle.member.specs.StateOf.{state_of};
+ghost use Rattle.windows.specs.WorldOf.{states_in};
 ghost use Rattle.windows.specs.Handling.{Handles, WearsReceiver};
 
 use crate::setting::Setting;
@@ -67,9 +67,9 @@ impl OwnMembers {
         event: Event,
         setting: &Setting,
     ) -> Result<Effects, StepError>
-        requires here { IsHere setting.now.scenario.now setting.now.links.now event.key }
+        requires here { IsSoundSetting setting.now.scenario.now setting.now.links.now event.key }
         requires known { (t : State) → get (states_in self.old) event.key.to ≡ Some t → HoldsMembers setting.now.scenario.now event.key.to t }
-        requires names { NamesMembers (member_count setting.now.scenario.now) event.content }
+        requires names { MentionsMembers (member_count setting.now.scenario.now) event.content }
         ensures ok { IfOk result (Handles setting.now.scenario.now event (states_in self.old) (states_in self.new)) }
         ensures worn { IsErrOf result StepError.Worn → WearsReceiver setting.now.scenario.now event (states_in self.old) }
     {

@@ -3,14 +3,14 @@ ghost use Rattle.std.specs.FinMap.{empty, contains_key, insert};
 ghost use Rattle.scenario.specs.Setup.{IsSound, member_count};
 ghost use Rattle.links.specs.Arrival.{AreLinksOf};
 ghost use Rattle.member.specs.Opening.{opening, script_key};
-ghost use Rattle.member.specs.View.{pair_of};
+ghost use Rattle.member.specs.StateOf.{pair_of};
 ghost use Rattle.member.specs.declared.event.Event.{Event as AnEvent};
 ghost use Rattle.member_laws.specs.Words.{IsAmongMembers};
 ghost use Rattle.worker_queue.specs.Queue.{IsLeastKey};
 ghost use Rattle.windows.specs.Admitting.{AreFromBelow, with_member};
-ghost use Rattle.windows.specs.Parts.{joined};
-ghost use Rattle.windows.specs.View.{world_of, contents_in};
-ghost use Rattle.windows.specs.Window.{IsConsistentPart, IsWindow, TakeTheirLinks, is_own};
+ghost use Rattle.windows.specs.Parts.{with_arrivals};
+ghost use Rattle.windows.specs.WorldOf.{world_of, contents_in};
+ghost use Rattle.windows.specs.Window.{IsConsistentPart, RunsWindow, TakeTheirLinks, is_own};
 ghost use Rattle.windows.specs.Wears.{WearsInWindow};
 
 use crate::own_members::OwnMembers;
@@ -97,7 +97,7 @@ impl<Q: EventQueue<Event> + Drop> Part<Q> {
     pub fn receive(&mut self, event: Event) -> Result<(), Memory>
         requires own { is_own (world_of Q.set self.old) event.key.to ≡ true }
         requires new { contains_key (world_of Q.set self.old).pending event.key ≡ false }
-        ensures world { OnOk result (world_of Q.set self.new ≡ joined (world_of Q.set self.old) (pair_of event ∷ [])) }
+        ensures world { OnOk result (world_of Q.set self.new ≡ with_arrivals (world_of Q.set self.old) (pair_of event ∷ [])) }
         ensures number { OnOk result (self.new.number ≡ self.old.number) }
     {
         push(&mut self.queue, event)
@@ -130,7 +130,7 @@ impl<Q: EventQueue<Event> + Drop> Part<Q> {
 
         // What went out, the rows and the part that is left are those of the part's window.
         ensures ok { let before = world_of Q.set self in
-            IfOk result (λ done. IsWindow scenario.now (min bound (scenario.now.end + 1)) before done.out.items done.rows.items (world_of Q.set done.part)) }
+            IfOk result (λ done. RunsWindow scenario.now (min bound (scenario.now.end + 1)) before done.out.items done.rows.items (world_of Q.set done.part)) }
         ensures number { IfOk result (λ done. done.part.number ≡ self.number) }
         ensures consistent { IfOk result (λ done. IsConsistentPart scenario.now (world_of Q.set done.part)) }
         ensures among { IfOk result (λ done. All (λ (e : AnEvent). IsAmongMembers scenario.now e.key e.content) done.out.items) }

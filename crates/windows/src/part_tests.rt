@@ -5,7 +5,7 @@ ghost use Rattle.std.specs.FinMap.{contains_key, empty};
 ghost use Rattle.scenario.specs.Setup.{member_count};
 ghost use Rattle.member.specs.declared.event.Event.{Event};
 ghost use Rattle.member_laws.specs.Words.{IsAmongMembers};
-ghost use Rattle.windows.specs.View.{world_of};
+ghost use Rattle.windows.specs.WorldOf.{world_of};
 ghost use Rattle.windows.specs.Window.{IsConsistentPart};
 
 use crate::part::{Done, Part};

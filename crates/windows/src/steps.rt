@@ -5,14 +5,14 @@ ghost use Rattle.base.specs.World.{with_events, events_of};
 ghost use Rattle.base.specs.Rising.{AreNew};
 ghost use Rattle.scenario.specs.Setup.{IsSound, member_count};
 ghost use Rattle.links.specs.Arrival.{AreLinksOf};
-ghost use Rattle.member.specs.Here.{IsHere, HoldsMembers, NamesMembers};
+ghost use Rattle.member.specs.Here.{IsSoundSetting, HoldsMembers, MentionsMembers};
 ghost use Rattle.member.specs.State.{State};
 ghost use Rattle.member.specs.declared.event.Event.{Event};
-ghost use Rattle.member.specs.View.{pair_of};
+ghost use Rattle.member.specs.StateOf.{pair_of};
 ghost use Rattle.member_laws.specs.Words.{IsAmongMembers};
 ghost use Rattle.windows.specs.Parts.{for_own, for_others};
-ghost use Rattle.windows.specs.View.{world_of, states_in, contents_in};
-ghost use Rattle.windows.specs.Window.{is_own, IsConsistentPart, IsWindow, TakeTheirLinks};
+ghost use Rattle.windows.specs.WorldOf.{world_of, states_in, contents_in};
+ghost use Rattle.windows.specs.Window.{is_own, IsConsistentPart, RunsWindow, TakeTheirLinks};
 ghost use Rattle.windows.specs.Wears.{WearsInWindow};
 ghost use Rattle.worker_queue.specs.Queue.{NoneIsBelow};
 ghost use Rattle.windows.specs.Handling.{HandlesTaken, WearsReceiver, Advances, made_of};
@@ -36,7 +36,7 @@ pub(crate) fn run_from<Q: EventQueue<Event> + Drop>(
     requires in_time { setting.now.bound ≤ setting.now.scenario.now.end + 1 }
     requires consistent { IsConsistentPart setting.now.scenario.now (world_of Q.set part) }
     ensures ok { let before = world_of Q.set part in
-        IfOk result (λ done. IsWindow setting.now.scenario.now setting.now.bound before done.out.items done.rows.items (world_of Q.set done.part)) }
+        IfOk result (λ done. RunsWindow setting.now.scenario.now setting.now.bound before done.out.items done.rows.items (world_of Q.set done.part)) }
     ensures number { IfOk result (λ done. done.part.number ≡ part.number) }
     ensures consistent { IfOk result (λ done. IsConsistentPart setting.now.scenario.now (world_of Q.set done.part)) }
     ensures among { IfOk result (λ done. All (λ (e : Event). IsAmongMembers setting.now.scenario.now e.key e.content) done.out.items) }
@@ -97,9 +97,9 @@ pub(crate) fn handle_taken<Q: EventQueue<Event>>(
     setting: &Setting,
     out: &mut Effects,
 ) -> Result<(), StepError>
-    requires here { IsHere setting.now.scenario.now setting.now.links.now event.key }
+    requires here { IsSoundSetting setting.now.scenario.now setting.now.links.now event.key }
     requires known { (t : State) → get (world_of Q.set part.old).members event.key.to ≡ Some t → HoldsMembers setting.now.scenario.now event.key.to t }
-    requires names { NamesMembers (member_count setting.now.scenario.now) event.content }
+    requires names { MentionsMembers (member_count setting.now.scenario.now) event.content }
     requires new { AreNew (world_of Q.set part.old).pending (events_of (made_of setting.now.scenario.now (world_of Q.set part.old).members event)) }
     ensures ok { OnOk result (HandlesTaken setting.now.scenario.now event (world_of Q.set part.old) (world_of Q.set part.new) out.old out.new) }
     ensures number { OnOk result (part.new.number ≡ part.old.number) }

@@ -5,6 +5,6 @@ pub mod Slots
 pub mod Stores
 pub mod Tree
 pub mod Union
-pub mod View
+pub mod SetOf
 pub mod Wheel
 pub mod WheelView

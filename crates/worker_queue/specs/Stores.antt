@@ -4,7 +4,7 @@ use Rattle.base.specs.declared.key.Key.{Key}
 use Rattle.base.specs.Order.{key_cmp}
 use Rattle.worker_queue.specs.declared.stores.Stores.{Stores}
 use Rattle.worker_queue.specs.Union.{union}
-use Rattle.worker_queue.specs.View.{set_of}
+use Rattle.worker_queue.specs.SetOf.{set_of}
 use Rattle.worker_queue.specs.Wheel.{events_in}
 
 -- the events in the slots and the late ones

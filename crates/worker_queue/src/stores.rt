@@ -6,7 +6,7 @@ ghost use Rattle.base.specs.Run.{IsFirst};
 ghost use Rattle.worker_queue.specs.Queue.{IsLeastKey, NoneIsBelow};
 ghost use Rattle.worker_queue.specs.Slots.{NoneIsBefore};
 ghost use Rattle.worker_queue.specs.Union.{AreApart};
-ghost use Rattle.worker_queue.specs.View.{set_of};
+ghost use Rattle.worker_queue.specs.SetOf.{set_of};
 ghost use Rattle.worker_queue.specs.Wheel.{events_in};
 
 use crate::least::{first_key, is_before, lesser};

@@ -16,7 +16,7 @@ pub struct TreeQueue<E: Keyed> {
 }
 
 impl<E: Keyed + Drop> TreeQueue<E> {
-    ghost use Rattle.worker_queue.specs.View.{set_of};
+    ghost use Rattle.worker_queue.specs.SetOf.{set_of};
 
     /// A queue with no events. It takes no memory.
     pub fn new(alloc: Global) -> Self
@@ -61,7 +61,7 @@ impl<E: Keyed + Drop> TreeQueue<E> {
 }
 
 impl<E: Keyed + Drop> EventQueue<E> for TreeQueue<E> {
-    ghost use Rattle.worker_queue.specs.View.{set_of};
+    ghost use Rattle.worker_queue.specs.SetOf.{set_of};
 
     ghost set = { set_of };
 

@@ -1,7 +1,7 @@
 use Rattle.std.proofs.Common.{◌∙◌, length, lit<, refl}
 use Rattle.std.proofs.lemmas.Iterator.Consumers.{YieldsList-turn, YieldsList-end}
 use Rattle.std.proofs.lemmas.Iterator.Splits.{YieldsList-from_str_split}
-use Rattle.command_line.specs.Division.{items_of}
+use Rattle.command_line.specs.Division.{list_items}
 use Rattle.command_line.proofs.Parts.{no_parts}
 use Rattle.command_line.proofs.division.part_numbers.Goals as goal
 
@@ -10,7 +10,7 @@ returns-in-None-part_number-clause-refused c =
     let list = c.args.list.now in
     let items = YieldsList-from_str_split {s = c.into_iter-item-iterator.result} 44 list (lit< tt) (cc) (cc) (cc) in
     let turn = YieldsList-turn items c.loop-item.yielded _ c.loop-item.yielded_by _ _ c.in-Some.item c.in-Some.is c.next.ensures.steps in
-    no_parts (items_of list) (length c.loop-item.yielded) c.in-Some.item.now turn.0 turn.1 (c.in-None-part_number.ensures.none refl)
+    no_parts (list_items list) (length c.loop-item.yielded) c.in-Some.item.now turn.0 turn.1 (c.in-None-part_number.ensures.none refl)
 
 pub returns-clause-numbers : goal.returns-clause-numbers
 returns-clause-numbers c =

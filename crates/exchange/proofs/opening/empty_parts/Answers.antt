@@ -2,8 +2,8 @@ use Rattle.std.proofs.Common.{◌≡◌, ◌∷◌, [], ap, ◌∙◌, sym, subs
 use Rattle.std.specs.List.{AllByRecursion}
 use Rattle.std.specs.FinMap.{empty}
 use Rattle.base.proofs.Rising.{all_append}
-use Rattle.worker_queue.specs.View.{set_of}
-use Rattle.windows.specs.View.{world_of, contents_in, content_of}
+use Rattle.worker_queue.specs.SetOf.{set_of}
+use Rattle.windows.specs.WorldOf.{world_of, contents_in, content_of}
 use Rattle.worker_queue.proofs.Contents.{contents_by-empty}
 use Rattle.exchange.specs.Parts.{nobody}
 use Rattle.exchange.proofs.opening.empty_parts.Goals as goal

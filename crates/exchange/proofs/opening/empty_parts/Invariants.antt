@@ -1,7 +1,7 @@
 use Rattle.std.proofs.Common.{◌≡◌, vec_len}
 use Rattle.std.specs.List.{AllByRecursion}
-use Rattle.worker_queue.specs.View.{set_of}
-use Rattle.windows.specs.View.{world_of}
+use Rattle.worker_queue.specs.SetOf.{set_of}
+use Rattle.windows.specs.WorldOf.{world_of}
 use Rattle.exchange.specs.Parts.{nobody}
 use Rattle.exchange.proofs.opening.empty_parts.Given as goal
 

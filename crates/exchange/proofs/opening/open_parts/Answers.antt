@@ -1,5 +1,5 @@
 use Rattle.std.proofs.Common.{arith}
-use Rattle.worker_queue.specs.View.{set_of}
+use Rattle.worker_queue.specs.SetOf.{set_of}
 use Rattle.exchange.proofs.Admitted.{none_stand}
 use Rattle.exchange.proofs.opening.open_parts.Goals as goal
 

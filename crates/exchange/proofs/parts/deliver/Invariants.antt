@@ -1,5 +1,5 @@
 use Rattle.std.proofs.Common.{◌≡◌, ◌++◌, map}
-use Rattle.member.specs.View.{pair_of}
+use Rattle.member.specs.StateOf.{pair_of}
 use Rattle.exchange.specs.Parts.{part_number, HaveCome}
 use Rattle.exchange.proofs.parts.deliver.Given as goal
 

@@ -4,9 +4,9 @@ use Rattle.std.proofs.lemmas.List.Elements.{All-from_recursion}
 use Rattle.base.specs.Rising.{IsRising, IsPlaceBefore, AreNew}
 use Rattle.member.specs.Places.{place_of}
 use Rattle.member.specs.declared.event.Event.{Event}
-use Rattle.member.specs.View.{pair_of}
+use Rattle.member.specs.StateOf.{pair_of}
 use Rattle.windows.specs.Parts.{for_own, is_in}
-use Rattle.windows.specs.View.{world_of}
+use Rattle.windows.specs.WorldOf.{world_of}
 use Rattle.exchange.specs.Parts.{part_number, HaveTheirMembers}
 use Rattle.exchange.proofs.RowOrders.{wrote, one_alone, windows_rise}
 use Rattle.exchange.proofs.Turning.{parts_consistent}

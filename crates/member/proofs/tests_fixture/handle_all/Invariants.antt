@@ -1,5 +1,5 @@
 use Rattle.member.specs.Here.{HoldsMembers}
-use Rattle.member.specs.View.{state_of}
+use Rattle.member.specs.StateOf.{state_of}
 use Rattle.member.proofs.tests_fixture.handle_all.Given as goal
 
 abbrev pub invariant-loop-step : goal.invariant-loop-step

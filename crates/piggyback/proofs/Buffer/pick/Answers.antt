@@ -4,7 +4,7 @@ use Rattle.piggyback.proofs.Sorting.{no_longer}
 use Rattle.piggyback.proofs.Once.{picked_once}
 use Rattle.std.specs.FinMap.{from_entries}
 use Rattle.incarnation.specs.declared.Update.{Update}
-use Rattle.piggyback.specs.Picked.{Held, left_after, picked}
+use Rattle.piggyback.specs.Picked.{HeldUpdates, left_after, picked}
 use Rattle.piggyback.specs.Keyed.{keyed}
 use Rattle.piggyback.proofs.Holding.{held-left, rising-left, picked-keyed}
 use Rattle.piggyback.proofs.Buffer.pick.Goals as goal
@@ -16,7 +16,7 @@ pub returns-clause-answer : goal.returns-clause-answer
 returns-clause-answer c =
     (rw c.deref.ensures.value at c.in_ok-updates.ensures)
     ∙ picked-keyed c.self.inside.entries.items c.args.carry c.args.limit c.args.buddy c.self.invariant
-    ∙ ap (λ (held : Held). picked held c.args.carry c.args.limit c.args.buddy) c.self.view_is
+    ∙ ap (λ (held : HeldUpdates). picked held c.args.carry c.args.limit c.args.buddy) c.self.view_is
 
 pub returns-clause-ok : goal.returns-clause-ok
 returns-clause-ok c =
@@ -24,7 +24,7 @@ returns-clause-ok c =
     let sent = c.deref-2.ensures.value ∙ returns-clause-answer c in
     ap (λ l. from_entries (keyed l)) c.count_sent.ensures
     ∙ held-left items c.deref-2.result.now c.args.limit c.self.invariant
-    ∙ ap (λ (held : Held). left_after held c.deref-2.result.now c.args.limit) c.self.view_is
+    ∙ ap (λ (held : HeldUpdates). left_after held c.deref-2.result.now c.args.limit) c.self.view_is
     ∙ ap (λ (updates : List Update). left_after c.args.self.now updates c.args.limit) sent
 
 pub returns-clause-at_most : goal.returns-clause-at_most

@@ -1,13 +1,13 @@
 use Rattle.std.proofs.Common.{◌≡◌, ℕ, length, map, Some, refl, ap, ◌∙◌, arith}
 use Rattle.std.proofs.lemmas.List.Sorted.{IsPermutation-map}
 use Rattle.streams.specs.Draw.{Words, AreWords, shuffle_of}
-use Rattle.probing.specs.ProbeOrder.{ProbeOrder, IsSound, round_over}
+use Rattle.probing.specs.ProbeOrder.{ProbeOrder, IsSoundOrder, round_over}
 use Rattle.probing.specs.Rounds.{probes_of}
 use Rattle.probing.proofs.RoundLemmas.{shuffle_kept, probes_within, probes_of_a_round}
 use Rattle.probing.proofs.laws.a_round_probes_each_member_once.Goals as goal
 
 -- a round from an order whose mark is at its end
-round_here : (words : Words) (order : ProbeOrder) → AreWords words → IsSound order → order.mark ≡ length order.members
+round_here : (words : Words) (order : ProbeOrder) → AreWords words → IsSoundOrder order → order.mark ≡ length order.members
     → probes_of (length order.members) words order
     ≡ (map Some (shuffle_of words order.members).0, round_over (shuffle_of words order.members).0, (shuffle_of words order.members).1)
 round_here words order fit sound end =

@@ -1,6 +1,6 @@
 use Rattle.std.proofs.Common.{◌≡◌, map, take}
 use Rattle.toml.specs.View.{view}
-use Rattle.scenario.specs.View.{group_of}
+use Rattle.scenario.specs.SetupOf.{group_of}
 use Rattle.scenario.specs.Reading.{group_in}
 use Rattle.scenario.proofs.lists.read_groups.Given as goal
 

@@ -3,7 +3,7 @@ use Rattle.toml.specs.Data.{Data}
 use Rattle.toml.specs.View.{view}
 use Rattle.toml.specs.declared.value.Value.{Value}
 use Rattle.schema.specs.Tree.{items_at}
-use Rattle.schema.specs.declared.schema.Key.TheVariants as key
+use Rattle.schema.specs.declared.schema.FormatKey.TheVariants as key
 use Rattle.scenario.specs.Setup.{Group}
 use Rattle.scenario.specs.Reading.{plain_group, plain_groups, slows_in, crashes_in, setup_of_tree}
 use Rattle.scenario.specs.Rules.{breaks_names, breaks_references, breaks_pairs, breaks_size}

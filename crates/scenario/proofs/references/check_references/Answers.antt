@@ -1,7 +1,7 @@
 use Rattle.std.proofs.Common.{is_some, ap, ◌∙◌}
 use Rattle.toml.specs.View.{view}
 use Rattle.schema.specs.Tree.{items_at}
-use Rattle.schema.specs.declared.schema.Key.TheVariants as key
+use Rattle.schema.specs.declared.schema.FormatKey.TheVariants as key
 use Rattle.scenario.specs.Rules.{has_lost_contact, names_no_member, names_no_group}
 use Rattle.scenario.proofs.Trees.{any_items}
 use Rattle.scenario.proofs.Chain.{lost_contact, lost_slow, lost_crash, lost_path}

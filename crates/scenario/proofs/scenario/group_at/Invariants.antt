@@ -1,6 +1,6 @@
 use Rattle.std.proofs.Common.{◌≡◌, ◌+◌, map, drop}
 use Rattle.scenario.specs.Setup.{group_at}
-use Rattle.scenario.specs.View.{group_of}
+use Rattle.scenario.specs.SetupOf.{group_of}
 use Rattle.scenario.proofs.scenario.group_at.Given as goal
 
 abbrev pub invariant-loop-number : goal.invariant-loop-number

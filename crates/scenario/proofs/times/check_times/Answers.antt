@@ -3,7 +3,7 @@ use Rattle.std.proofs.lemmas.Bool.Decides.{nat_tests}
 use Rattle.std.specs.List.{list_any}
 use Rattle.toml.specs.View.{view}
 use Rattle.schema.specs.Tree.{items_at}
-use Rattle.schema.specs.declared.schema.Key.TheVariants as key
+use Rattle.schema.specs.declared.schema.FormatKey.TheVariants as key
 use Rattle.scenario.specs.Reading.{plain_groups, setup_of_tree}
 use Rattle.scenario.specs.Rules.{breaks_references}
 use Rattle.scenario.specs.Times.{is_bad_contact_in, is_over_in, is_early_in}

@@ -1,8 +1,8 @@
 use Rattle.std.proofs.Common.{map, Some, ap, sym, ◌∙◌}
 use Rattle.std.specs.List.{list_any}
 use Rattle.toml.specs.View.{view}
-use Rattle.schema.specs.Tree.{part, parts_at}
-use Rattle.schema.specs.Shape.{part_breaks}
+use Rattle.schema.specs.Tree.{section_table, tables_at}
+use Rattle.schema.specs.Shape.{table_breaks}
 use Rattle.schema.proofs.Trees.{any-map}
 use Rattle.schema.proofs.shape.first_broken_in.Goals as goal
 
@@ -11,7 +11,7 @@ returns-in-List c =
     let section = c.in-List.section in
     let items = c.items.result.now in
     c.first_broken_item.ensures
-    ∙ sym (any-map (λ d. part_breaks c.args.check (part section d)) view items)
-    ∙ sym (any-map (part_breaks c.args.check) (part section) (map view items))
-    ∙ ap (λ ds. list_any (part_breaks c.args.check) (map (part section) ds)) c.items.ensures
-    ∙ ap (λ kind. list_any (part_breaks c.args.check) (parts_at kind (Some (view c.args.value.now)))) (sym c.in-List.is)
+    ∙ sym (any-map (λ d. table_breaks c.args.check (section_table section d)) view items)
+    ∙ sym (any-map (table_breaks c.args.check) (section_table section) (map view items))
+    ∙ ap (λ ds. list_any (table_breaks c.args.check) (map (section_table section) ds)) c.items.ensures
+    ∙ ap (λ kind. list_any (table_breaks c.args.check) (tables_at kind (Some (view c.args.value.now)))) (sym c.in-List.is)

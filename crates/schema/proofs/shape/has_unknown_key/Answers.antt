@@ -5,7 +5,7 @@ use Rattle.std.proofs.lemmas.Iterator.Search.{any_from_yields_List}
 use Rattle.std.proofs.lemmas.Iterator.Consumers.{YieldsList-from_rest}
 use Rattle.toml.specs.View.{view}
 use Rattle.toml.proofs.Views.{view-Table}
-use Rattle.schema.specs.Tree.{row_named, keys_of as keys_of_data}
+use Rattle.schema.specs.Tree.{rule_named, keys_of as keys_of_data}
 use Rattle.schema.proofs.Trees.{any_key}
 use Rattle.schema.proofs.shape.has_unknown_key.Goals as goal
 
@@ -13,9 +13,9 @@ pub returns-in-Table : goal.returns-in-Table
 returns-in-Table c =
     let rows = c.args.rows.now in
     let entries = c.in-Table.table.entries in
-    let found : c.any.result ≡ list_any (λ k. is_none (row_named rows (string_bytes k))) (keys_of entries) =
-    any_from_yields_List (λ k. is_none (row_named rows (string_bytes k))) _ _ c.any.result c.any.ensures.ran (YieldsList-from_rest (keys_of entries) c.keys.ensures.rest) (λ x b q k. search (rules, tests)) in
+    let found : c.any.result ≡ list_any (λ k. is_none (rule_named rows (string_bytes k))) (keys_of entries) =
+    any_from_yields_List (λ k. is_none (rule_named rows (string_bytes k))) _ _ c.any.result c.any.ensures.ran (YieldsList-from_rest (keys_of entries) c.keys.ensures.rest) (λ x b q k. search (rules, tests)) in
     found
-    ∙ sym (ap (λ v. list_any (λ key. is_none (row_named rows key)) (keys_of_data (view v))) c.in-Table.is
-    ∙ ap (λ d. list_any (λ key. is_none (row_named rows key)) (keys_of_data d)) (view-Table c.in-Table.table)
-    ∙ any_key (λ key. is_none (row_named rows key)) entries)
+    ∙ sym (ap (λ v. list_any (λ key. is_none (rule_named rows key)) (keys_of_data (view v))) c.in-Table.is
+    ∙ ap (λ d. list_any (λ key. is_none (rule_named rows key)) (keys_of_data d)) (view-Table c.in-Table.table)
+    ∙ any_key (λ key. is_none (rule_named rows key)) entries)

@@ -1,5 +1,5 @@
-use Rattle.suspicion.proofs.Timers.{IsFair-confirmed}
+use Rattle.suspicion.proofs.Timers.{CountsAccusersOnce-accused}
 use Rattle.suspicion.proofs.laws.accusers_are_counted_once.Goals as goal
 
-pub returns-clause-confirmed : goal.returns-clause-confirmed
-returns-clause-confirmed c = IsFair-confirmed
+pub returns-clause-accused : goal.returns-clause-accused
+returns-clause-accused c = CountsAccusersOnce-accused

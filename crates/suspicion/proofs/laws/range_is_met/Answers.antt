@@ -9,4 +9,4 @@ pub returns-clause-enough : goal.returns-clause-enough
 returns-clause-enough c = timeout-enough
 
 pub returns-clause-off : goal.returns-clause-off
-returns-clause-off c terms n confirmations off = timeout-off terms n confirmations (ap not off)
+returns-clause-off c terms n accusers off = timeout-off terms n accusers (ap not off)

@@ -1,7 +1,7 @@
 use Rattle.std.proofs.Common.{ap, ◌∙◌, sym, subst, refl}
 use Rattle.std.specs.Option.{option_map, IsSome}
 use Rattle.suspicion.specs.Suspicions.{answer_of}
-use Rattle.suspicion.specs.View.{held_of}
+use Rattle.suspicion.specs.SuspicionOf.{held_of}
 use Rattle.suspicion.proofs.Entries.{accused_of-found, accused_of-none, after_accusation-found, after_accusation-none}
 use Rattle.suspicion.proofs.suspicions.accuse_in.Goals as goal
 
@@ -17,11 +17,11 @@ returns-in_err-suspicion-clause-after c =
 
 pub returns-clause-answer : goal.returns-clause-answer
 returns-clause-answer c =
-    c.confirm.ensures.answer
+    c.add_accuser.ensures.answer
     ∙ ap (option_map (answer_of c.args.now)) (sym (accused_of-found c.args.standing.now.entries c.args.subject c.args.accuser c.args.generation c.in_ok-suspicion.suspicion.now c.in_ok-suspicion.ensures.value))
 
 pub returns-clause-after : goal.returns-clause-after
 returns-clause-after c =
-    after_accusation-found c.args.standing.now.entries _ c.args.subject c.args.accuser c.args.generation c.in_ok-suspicion.suspicion.now c.confirm.new.suspicion
-    c.in_ok-suspicion.ensures.value c.confirm.ensures.after
-    ((c.get_mut.follows.holds c.confirm.new.suspicion).3 (subst IsSome c.in_ok-suspicion.ensures.value refl)).0
+    after_accusation-found c.args.standing.now.entries _ c.args.subject c.args.accuser c.args.generation c.in_ok-suspicion.suspicion.now c.add_accuser.new.suspicion
+    c.in_ok-suspicion.ensures.value c.add_accuser.ensures.after
+    ((c.get_mut.follows.holds c.add_accuser.new.suspicion).3 (subst IsSome c.in_ok-suspicion.ensures.value refl)).0

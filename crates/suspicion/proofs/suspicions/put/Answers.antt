@@ -1,6 +1,6 @@
 use Rattle.std.proofs.Common.{ap, ◌∙◌}
 use Rattle.std.specs.Option.{is_some, option_map}
-use Rattle.suspicion.specs.View.{suspicion_of}
+use Rattle.suspicion.specs.SuspicionOf.{suspicion_of}
 use Rattle.suspicion.proofs.Entries.{get-held_of, held_of-insert}
 use Rattle.suspicion.proofs.suspicions.put.Goals as goal
 

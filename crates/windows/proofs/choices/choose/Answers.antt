@@ -1,9 +1,9 @@
 use Rattle.std.proofs.Common.{◌≡◌, Err, ap, subst}
 use Rattle.member.specs.declared.turn.StepError.TheVariants.{Worn}
-use Rattle.worker_queue.specs.View.{set_of}
+use Rattle.worker_queue.specs.SetOf.{set_of}
 use Rattle.windows.specs.Safe.{IsSafe}
 use Rattle.windows.specs.Play.{NonePasses}
-use Rattle.windows.specs.View.{world_of}
+use Rattle.windows.specs.WorldOf.{world_of}
 use Rattle.windows.proofs.PlayChoices.{none_handled, handled_here, names_there, holds_taken, new_taken, taken_wears_out, taken_handled_here}
 use Rattle.windows.proofs.choices.choose.Goals as goal
 

@@ -1,8 +1,8 @@
 use Rattle.std.proofs.Common.{◌≡◌, ◌+◌, ◌<◌, ◌++◌, ◌∷◌, [], Bool, true, false, cond, length, take, refl, ap, ◌∙◌, sym, subst, arith}
 use Rattle.std.specs.Int.{from_bool}
 use Rattle.std.proofs.lemmas.List.{take_more}
-use Rattle.worker_queue.specs.View.{set_of}
-use Rattle.windows.specs.View.{world_of}
+use Rattle.worker_queue.specs.SetOf.{set_of}
+use Rattle.windows.specs.WorldOf.{world_of}
 use Rattle.windows.specs.Choosing.{HasPlayed}
 use Rattle.windows.proofs.PlayChoices.{at_most_one, one_played_more, played_there}
 use Rattle.windows.proofs.choices.choose_all.Goals as goal

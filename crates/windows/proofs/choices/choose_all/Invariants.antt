@@ -1,6 +1,6 @@
 use Rattle.std.proofs.Common.{◌≤◌, take}
-use Rattle.worker_queue.specs.View.{set_of}
-use Rattle.windows.specs.View.{world_of}
+use Rattle.worker_queue.specs.SetOf.{set_of}
+use Rattle.windows.specs.WorldOf.{world_of}
 use Rattle.windows.specs.Choosing.{HasPlayed}
 use Rattle.windows.proofs.choices.choose_all.Given as goal
 

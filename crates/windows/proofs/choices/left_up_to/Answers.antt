@@ -1,6 +1,6 @@
 use Rattle.std.proofs.Common.{arith}
-use Rattle.worker_queue.specs.View.{set_of}
-use Rattle.windows.specs.View.{world_of}
+use Rattle.worker_queue.specs.SetOf.{set_of}
+use Rattle.windows.specs.WorldOf.{world_of}
 use Rattle.windows.proofs.PlayEnds.{least_left, none_left_up_to, none_left_at_all}
 use Rattle.windows.proofs.choices.left_up_to.Goals as goal
 

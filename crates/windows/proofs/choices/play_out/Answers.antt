@@ -1,8 +1,8 @@
 use Rattle.std.proofs.Common.{subst, refl, arith}
 use Rattle.member.proofs.Fair.{steps_later}
-use Rattle.worker_queue.specs.View.{set_of}
+use Rattle.worker_queue.specs.SetOf.{set_of}
 use Rattle.windows.specs.Play.{IsLeastLeft}
-use Rattle.windows.specs.View.{world_of}
+use Rattle.windows.specs.WorldOf.{world_of}
 use Rattle.windows.proofs.PlayEnds.{play_of, least_of_links}
 use Rattle.windows.proofs.choices.play_out.Goals as goal
 

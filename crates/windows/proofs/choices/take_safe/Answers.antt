@@ -1,9 +1,9 @@
 use Rattle.std.proofs.Common.{◌<◌, ap, ◌∙◌, subst}
 use Rattle.std.proofs.lemmas.Option.{IfSome_then}
 use Rattle.worker_queue.specs.Queue.{NoneIsBelowFor}
-use Rattle.worker_queue.specs.View.{set_of}
+use Rattle.worker_queue.specs.SetOf.{set_of}
 use Rattle.worker_queue.proofs.Contents.{here_content, least_content_for, none_below_for, contents_by-remove}
-use Rattle.windows.specs.View.{world_of, contents_in, content_of}
+use Rattle.windows.specs.WorldOf.{world_of, contents_in, content_of}
 use Rattle.windows.proofs.PlaySafe.{of_both, of_none, safe_of, none_safe, none_pending}
 use Rattle.windows.proofs.choices.take_safe.Goals as goal
 

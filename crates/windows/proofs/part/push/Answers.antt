@@ -1,6 +1,6 @@
 use Rattle.std.proofs.Common.{◌≡◌, OnOk, ap, ◌∙◌, sym, subst}
 use Rattle.std.specs.FinMap.{insert}
-use Rattle.windows.specs.View.{contents_in, content_of}
+use Rattle.windows.specs.WorldOf.{contents_in, content_of}
 use Rattle.worker_queue.proofs.Contents.{still_pending, contents_by-insert}
 use Rattle.windows.proofs.part.push.Goals.{in-Ok, in-Err}
 use Rattle.windows.proofs.part.push.Goals as goal

@@ -1,7 +1,7 @@
 use Rattle.std.proofs.Common.{ap, ◌∙◌}
 use Rattle.std.specs.Ordering.{is_lt}
 use Rattle.base.specs.Order.{key_cmp}
-use Rattle.windows.specs.View.{world_of}
+use Rattle.windows.specs.WorldOf.{world_of}
 use Rattle.windows.proofs.Opened.{absent_if_first, absent_if_none}
 use Rattle.windows.proofs.part_tests.is_first.Goals as goal
 

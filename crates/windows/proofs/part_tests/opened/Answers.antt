@@ -5,7 +5,7 @@ use Rattle.member.specs.declared.content.Content.{Content}
 use Rattle.member.specs.State.{State}
 use Rattle.worker_queue.proofs.Contents.{contents_by-empty}
 use Rattle.windows.specs.Admitting.{with_member}
-use Rattle.windows.specs.View.{contents_in, content_of}
+use Rattle.windows.specs.WorldOf.{contents_in, content_of}
 use Rattle.windows.specs.Window.{IsConsistentPart}
 use Rattle.windows.proofs.Admitting.{with_pending}
 use Rattle.windows.proofs.Opened.{alone_consistent, none_from_below}

@@ -1,5 +1,5 @@
 use Rattle.std.proofs.Common.{◌∙◌, sym}
-use Rattle.windows.specs.View.{world_of}
+use Rattle.windows.specs.WorldOf.{world_of}
 use Rattle.windows.proofs.Opened.{received_consistent, if_received}
 use Rattle.windows.proofs.part_tests.receive.Goals as goal
 

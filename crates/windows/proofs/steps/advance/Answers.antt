@@ -1,6 +1,6 @@
 use Rattle.std.proofs.Common.{◌≡◌, Err, ap, ◌∙◌, refl}
 use Rattle.member.specs.declared.turn.StepError.TheVariants.{Worn}
-use Rattle.windows.specs.View.{world_of, contents_in, content_of}
+use Rattle.windows.specs.WorldOf.{world_of, contents_in, content_of}
 use Rattle.worker_queue.proofs.Contents.{first_content, none_below, contents_by-remove}
 use Rattle.windows.proofs.Consistent.{event_here, holds_members, new_made}
 use Rattle.windows.proofs.Advancing.{advanced, event_wears}

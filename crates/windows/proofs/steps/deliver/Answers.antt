@@ -1,8 +1,8 @@
 use Rattle.std.proofs.Common.{◌≡◌, ◌++◌, ◌∷◌, [], map, append_assoc, ap, ◌∙◌, sym}
 use Rattle.std.specs.FinMap.{contains_key}
 use Rattle.std.proofs.lemmas.List.{map-append}
-use Rattle.member.specs.View.{pair_of}
-use Rattle.windows.specs.View.{states_in, contents_in}
+use Rattle.member.specs.StateOf.{pair_of}
+use Rattle.windows.specs.WorldOf.{states_in, contents_in}
 use Rattle.windows.proofs.Deliveries.{still_new, one_more_own, one_more_other}
 use Rattle.windows.proofs.steps.deliver.Goals as goal
 

@@ -1,9 +1,9 @@
 use Rattle.std.proofs.Common.{◌≡◌, ◌++◌, map}
 use Rattle.std.specs.FinMap.{contains_key}
 use Rattle.base.specs.World.{with_events}
-use Rattle.member.specs.View.{pair_of}
+use Rattle.member.specs.StateOf.{pair_of}
 use Rattle.windows.specs.Parts.{for_own, for_others}
-use Rattle.windows.specs.View.{states_in, contents_in}
+use Rattle.windows.specs.WorldOf.{states_in, contents_in}
 use Rattle.windows.proofs.steps.deliver.Given as goal
 
 abbrev pub invariant-loop-event : goal.invariant-loop-event

@@ -1,6 +1,6 @@
 use Rattle.std.proofs.Common.{◌≡◌, ◌++◌, Err, ap, ◌∙◌}
 use Rattle.member.specs.declared.turn.StepError.TheVariants.{Worn}
-use Rattle.windows.specs.View.{world_of}
+use Rattle.windows.specs.WorldOf.{world_of}
 use Rattle.windows.proofs.Advancing.{taken_handled}
 use Rattle.windows.proofs.steps.handle_taken.Goals as goal
 

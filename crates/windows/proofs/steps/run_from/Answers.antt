@@ -5,7 +5,7 @@ use Rattle.member.specs.declared.event.Effects.{Effects}
 use Rattle.member_laws.specs.Words.{IsAmongMembers}
 use Rattle.member.specs.declared.turn.StepError.TheVariants.{Worn}
 use Rattle.worker_queue.specs.Queue.{NoneIsBelow}
-use Rattle.windows.specs.View.{world_of}
+use Rattle.windows.specs.WorldOf.{world_of}
 use Rattle.windows.specs.Window.{is_own, IsConsistentPart, TakeTheirLinks}
 use Rattle.windows.specs.Handling.{Advances}
 use Rattle.windows.proofs.PartWindows.{IsWindowSoFar, one_more, fewer, window_wears, window_consistent, window_among, window_far, window_over}

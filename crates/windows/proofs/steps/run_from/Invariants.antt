@@ -1,5 +1,5 @@
 use Rattle.std.proofs.Common.{◌≡◌}
-use Rattle.windows.specs.View.{world_of}
+use Rattle.windows.specs.WorldOf.{world_of}
 use Rattle.windows.proofs.PartWindows.{IsWindowSoFar, left_in}
 use Rattle.windows.proofs.steps.run_from.Given as goal
 

@@ -1,9 +1,9 @@
 use Rattle.std.proofs.Common.{◌≡◌, ◌+◌, ◌++◌, ◌∷◌, [], min, append_assoc, ap, ◌∙◌, sym, subst, arith}
 use Rattle.std.specs.List.{AllByRecursion}
-use Rattle.windows.specs.View.{world_of}
-use Rattle.windows.specs.Window.{IsConsistentPart, IsWindow}
+use Rattle.windows.specs.WorldOf.{world_of}
+use Rattle.windows.specs.Window.{IsConsistentPart, RunsWindow}
 use Rattle.windows.specs.Wears.{WearsInWindow}
-use Rattle.windows.specs.Several.{HadWindows}
+use Rattle.windows.specs.Several.{RanWindows}
 use Rattle.exchange.proofs.Turning.{one_window_more}
 use Rattle.exchange.proofs.window_runner.InTurnWindowRunner.run_windows.Goals as goal
 
@@ -30,9 +30,9 @@ loop-part-preserved g c =
           append_assoc c.loop-part.yielded (c.in-Some.part ∷ []) c.next.new.self.rest.items
           ∙ ap (λ ps. c.loop-part.yielded ++ ps) (sym c.in-Some.ensures.steps.0) ∙ c.loop-part.invariant.left;
       windows =
-          subst (HadWindows g.Q.EventQueue.set c.args.self.now.setting.scenario.now c.args.bound (c.loop-part.yielded ++ c.in-Some.part ∷ [])) (sym c.in-Ok-push.ensures.items)
+          subst (RanWindows g.Q.EventQueue.set c.args.self.now.setting.scenario.now c.args.bound (c.loop-part.yielded ++ c.in-Some.part ∷ [])) (sym c.in-Ok-push.ensures.items)
           (one_window_more g.Q.EventQueue.set c.args.self.now.setting.scenario.now c.args.bound c.loop-part.yielded c.loop-part.all.items c.in-Some.part c.in-Ok.done c.loop-part.invariant.windows
-          (subst (λ b. IsWindow c.args.self.now.setting.scenario.now b (world_of g.Q.EventQueue.set c.in-Some.part) c.in-Ok.done.out.items c.in-Ok.done.rows.items (world_of g.Q.EventQueue.set c.in-Ok.done.part)) in_time c.in-Ok.ensures.ok));
+          (subst (λ b. RunsWindow c.args.self.now.setting.scenario.now b (world_of g.Q.EventQueue.set c.in-Some.part) c.in-Ok.done.out.items c.in-Ok.done.rows.items (world_of g.Q.EventQueue.set c.in-Ok.done.part)) in_time c.in-Ok.ensures.ok));
       consistent =
           (subst (AllByRecursion (λ part. IsConsistentPart c.args.self.now.setting.scenario.now (world_of g.Q.EventQueue.set part))) c.in-Some.ensures.steps.0 c.loop-part.invariant.consistent).1;
     }

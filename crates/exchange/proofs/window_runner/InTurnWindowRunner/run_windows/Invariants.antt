@@ -1,13 +1,13 @@
 use Rattle.std.proofs.Common.{◌≡◌, ◌++◌}
 use Rattle.std.specs.List.{AllByRecursion}
-use Rattle.windows.specs.View.{world_of}
+use Rattle.windows.specs.WorldOf.{world_of}
 use Rattle.windows.specs.Window.{IsConsistentPart}
-use Rattle.windows.specs.Several.{HadWindows}
+use Rattle.windows.specs.Several.{RanWindows}
 use Rattle.exchange.proofs.window_runner.InTurnWindowRunner.run_windows.Given as goal
 
 abbrev pub invariant-loop-part : goal.invariant-loop-part
 invariant-loop-part g l = record {
   left : l.yielded ++ l.part-iterator.rest.items ≡ l.fn.parts.items;
-  windows : HadWindows g.Q.EventQueue.set l.self.setting.scenario.now l.bound l.yielded l.all.items;
+  windows : RanWindows g.Q.EventQueue.set l.self.setting.scenario.now l.bound l.yielded l.all.items;
   consistent : AllByRecursion (λ part. IsConsistentPart l.self.setting.scenario.now (world_of g.Q.EventQueue.set part)) l.part-iterator.rest.items;
 }

@@ -1,7 +1,7 @@
 use Rattle.std.proofs.Common.{◌≡◌, take}
 use Rattle.member.specs.Here.{HoldsMembers}
 use Rattle.member.specs.Step.{all_asked}
-use Rattle.member.specs.View.{effect_of, state_of}
+use Rattle.member.specs.StateOf.{effect_of, state_of}
 use Rattle.member.proofs.member.Member.ask_all.Given as goal
 
 abbrev pub invariant-loop-helper : goal.invariant-loop-helper

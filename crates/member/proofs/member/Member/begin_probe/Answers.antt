@@ -1,4 +1,4 @@
-use Rattle.member.specs.View.{effect_of}
+use Rattle.member.specs.StateOf.{effect_of}
 use Rattle.member.proofs.Worn.{worn_probe, worn_out, worn_pinged, refused}
 use Rattle.member.proofs.member.Member.begin_probe.Goals as goal
 

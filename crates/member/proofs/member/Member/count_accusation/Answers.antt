@@ -3,7 +3,7 @@ use Rattle.suspicion.specs.declared.suspicions.Accused.{Accused}
 use Rattle.member.specs.declared.content.Content.TheVariants.{SuspicionTimer}
 use Rattle.member.specs.Turn.{Effect, with_event}
 use Rattle.member.specs.Apply.{accusation_counted}
-use Rattle.member.specs.View.{effect_of}
+use Rattle.member.specs.StateOf.{effect_of}
 use Rattle.member.specs.Worn.{IsWorn}
 use Rattle.member.proofs.Worn.{kept_passed_on, refused}
 use Rattle.member.proofs.member.Member.count_accusation.Goals as goal

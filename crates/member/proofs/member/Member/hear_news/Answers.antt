@@ -1,7 +1,7 @@
 use Rattle.std.proofs.Common.{map, subst}
 use Rattle.member.specs.State.{State}
 use Rattle.member.specs.Apply.{news_heard, claim_heard}
-use Rattle.member.specs.View.{pair_of}
+use Rattle.member.specs.StateOf.{pair_of}
 use Rattle.member.specs.Worn.{IsWorn}
 use Rattle.member.proofs.Worn.{kept_passed_on, refused}
 use Rattle.member.proofs.member.Member.hear_news.Goals as goal

@@ -4,7 +4,7 @@ use Rattle.member.specs.declared.member.Phase.TheVariants.{Running}
 use Rattle.member.specs.Turn.{Effect, with_row}
 use Rattle.member.specs.Apply.{all_applied}
 use Rattle.member.specs.Step.{joined}
-use Rattle.member.specs.View.{effect_of}
+use Rattle.member.specs.StateOf.{effect_of}
 use Rattle.member.specs.Worn.{IsWorn}
 use Rattle.member.proofs.Worn.{kept_first_period, refused}
 use Rattle.member.proofs.member.Member.join.Goals as goal

@@ -1,11 +1,11 @@
 use Rattle.std.proofs.Common.{◌≡◌, ap, sym, subst}
 use Rattle.std.specs.FinMap.{insert}
 use Rattle.streams.specs.Draw.{words_of}
-use Rattle.probing.specs.ProbeOrder.{ProbeOrder, IsSound, insert_of}
+use Rattle.probing.specs.ProbeOrder.{ProbeOrder, IsSoundOrder, insert_of}
 use Rattle.membership.specs.Table.{Known}
 use Rattle.member.specs.declared.member.Member.{Member}
 use Rattle.member.specs.Here.{HoldsOthers, HoldsMembers}
-use Rattle.member.specs.View.{state_of}
+use Rattle.member.specs.StateOf.{state_of}
 use Rattle.member.proofs.Holds.{holds_put, holds_place, put_there}
 use Rattle.member.proofs.member.Member.keep_claim.Goals as goal
 use Rattle.member.proofs.member.Member.keep_claim.Goals.{then-is_some-via-then-is_some, then-is_some-via-else-is_some+then-is_confirm}
@@ -32,4 +32,4 @@ returns-clause-kept c =
     let rota : c.insert.new.self ≡ (insert_of (words_of c.args.self.now.stream) u.subject c.args.self.now.rota).0 = ap (λ p. p.0) c.in_ok-insert.ensures.ok in
     subst (λ (t : Known). HoldsOthers s m t c.insert.new.self) (sym c.in_ok-set.ensures.ok)
     (subst (λ (r : ProbeOrder). HoldsOthers s m table r) (sym rota)
-    (holds_place s m table c.args.self.now.rota _ u.subject (put_there _ u.subject _) (subst IsSound rota c.in_ok-insert.ensures.sound) put))
+    (holds_place s m table c.args.self.now.rota _ u.subject (put_there _ u.subject _) (subst IsSoundOrder rota c.in_ok-insert.ensures.sound) put))

@@ -1,4 +1,4 @@
-use Rattle.member.specs.View.{effect_of}
+use Rattle.member.specs.StateOf.{effect_of}
 use Rattle.member.proofs.Worn.{worn_refuted, worn_out}
 use Rattle.member.proofs.member.Member.refute.Goals as goal
 

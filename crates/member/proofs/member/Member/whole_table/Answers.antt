@@ -1,7 +1,7 @@
 use Rattle.std.proofs.Common.{ap, ◌∙◌}
 use Rattle.std.specs.FinMap.{remove}
 use Rattle.membership.specs.Table.{Known}
-use Rattle.member.specs.View.{state_of}
+use Rattle.member.specs.StateOf.{state_of}
 use Rattle.member.proofs.Holds.{put_removed, own_absent}
 use Rattle.member.proofs.member.Member.whole_table.Goals as goal
 

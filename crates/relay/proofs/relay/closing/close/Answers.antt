@@ -1,6 +1,6 @@
 use Rattle.std.proofs.Common.{ap, map}
 use Rattle.crossbeam_channel.specs.Claims.{view}
-use Rattle.relay.specs.Lots.{lot_of, rows_of}
+use Rattle.relay.specs.Lots.{lot_of, rows_in}
 use Rattle.relay.specs.declared.rule.Log.{Log}
 use Rattle.relay.proofs.Keeps.{merges, tells, received, begun}
 use Rattle.relay.proofs.relay.closing.close.Goals as goal
@@ -17,4 +17,4 @@ returns-clause-whole c has = let is = c.absorb.ensures.rule in let told = c.lear
 
 pub returns-clause-beginning : goal.returns-clause-beginning
 returns-clause-beginning c = let is = c.absorb.ensures.rule in let told = c.learn_as.ensures.rule in
-    (rows_of (map lot_of told.0), begun (view c.absorb.new.pass) told.0 _ _ (ap (λ (v : Log). v.sent) is) (ap (λ (v : Log). v.taken) is) told.1)
+    (rows_in (map lot_of told.0), begun (view c.absorb.new.pass) told.0 _ _ (ap (λ (v : Log). v.sent) is) (ap (λ (v : Log). v.taken) is) told.1)

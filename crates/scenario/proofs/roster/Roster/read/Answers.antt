@@ -5,7 +5,7 @@ use Rattle.std.proofs.lemmas.List.Sums.{sum_by_push}
 use Rattle.toml.specs.View.{view}
 use Rattle.toml.specs.declared.value.Value.{Value}
 use Rattle.scenario.specs.Setup.{Group}
-use Rattle.scenario.specs.Roster.{named_group, IsNumbered}
+use Rattle.scenario.specs.Roster.{named_group, AreNumberedFrom}
 use Rattle.scenario.specs.Reading.{plain_group}
 use Rattle.scenario.specs.Rules.{breaks_name, breaks_names}
 use Rattle.scenario.specs.declared.roster.Block.{Block}
@@ -26,7 +26,7 @@ loop-i-init c =
     record {
       groups = ap (map named_group) empty;
       fine = refl;
-      numbered = subst (λ bs. IsNumbered 0 bs) (sym (ap (map block) empty)) tt;
+      numbered = subst (λ bs. AreNumberedFrom 0 bs) (sym (ap (map block) empty)) tt;
       first = sym (ap (λ es. sum_by (λ (b : Block). b.count) (map block es)) empty);
       small = omega arith;
     }
@@ -66,7 +66,7 @@ loop-i-preserved c =
     record {
       groups = added;
       fine = name_fits group list c.loop-i.i item c.loop-i-test.true (sym c.index-list-i.is) fits c.loop-i.invariant.fine;
-      numbered = subst (λ bs. IsNumbered 0 bs) (sym blocks) (numbered-last 0 (map block old) b c.loop-i.invariant.numbered (omega (arith, c.read_block-block.ensures.first, c.loop-i.invariant.first)) (omega arith));
+      numbered = subst (λ bs. AreNumberedFrom 0 bs) (sym blocks) (numbered-last 0 (map block old) b c.loop-i.invariant.numbered (omega (arith, c.read_block-block.ensures.first, c.loop-i.invariant.first)) (omega arith));
       first = omega (arith, c.loop-i.invariant.first, c.from-first.ensures, more);
       small = omega (arith, c.loop-i.invariant.small, c.from-first.ensures);
     }

@@ -2,7 +2,7 @@ use Rattle.std.proofs.Common.{◌≡◌, ◌<◌, ℕ, List, map, Option, IfSome
 use Rattle.std.specs.List.{slice_get}
 use Rattle.std.specs.Option.{option_and_then}
 use Rattle.scenario.specs.Setup.{Group, group_at, contact_of, member_count, IsSound}
-use Rattle.scenario.specs.View.{group_of}
+use Rattle.scenario.specs.SetupOf.{group_of}
 use Rattle.scenario.specs.declared.settings.Group.{Group as Stored}
 use Rattle.scenario.proofs.Members.{contact_within}
 use Rattle.scenario.proofs.scenario.Scenario.contact.Goals as goal

@@ -1,6 +1,6 @@
 use Rattle.std.proofs.Common.{◌≡◌, subst, ap, ◌∙◌, arith, vec_len}
 use Rattle.scenario.specs.Setup.{member_count, IsSound}
-use Rattle.scenario.specs.View.{setup_of}
+use Rattle.scenario.specs.SetupOf.{setup_of}
 use Rattle.scenario.proofs.Names.{length-names}
 use Rattle.scenario.proofs.scenario.Scenario.members.Goals as goal
 
@@ -9,8 +9,8 @@ returns-clause-count c =
     let counted : vec_len c.self.inside.names ≡ member_count (setup_of c.self.inside) = c.self.inside.names.ok.0 ∙ length-names c.self.inside.names.items (setup_of c.self.inside) c.self.invariant.names in
     c.len.ensures ∙ counted ∙ ap member_count c.self.view_is
 
-pub returns-clause-few : goal.returns-clause-few
-returns-clause-few c =
+pub returns-clause-at_most_1024 : goal.returns-clause-at_most_1024
+returns-clause-at_most_1024 c =
     let counted : vec_len c.self.inside.names ≡ member_count (setup_of c.self.inside) = c.self.inside.names.ok.0 ∙ length-names c.self.inside.names.items (setup_of c.self.inside) c.self.invariant.names in
     omega (arith, c.self.invariant.sound.members)
 

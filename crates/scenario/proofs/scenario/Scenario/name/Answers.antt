@@ -2,7 +2,7 @@ use Rattle.std.proofs.Common.{◌≡◌, ap, ◌∙◌, sym, arith, vec_len, len
 use Rattle.std.specs.List.{slice_get}
 use Rattle.std.proofs.lemmas.Option.{slice_get-get_or}
 use Rattle.scenario.specs.Setup.{member_count, name_of}
-use Rattle.scenario.specs.View.{setup_of}
+use Rattle.scenario.specs.SetupOf.{setup_of}
 use Rattle.scenario.proofs.Names.{length-names, name_at}
 use Rattle.scenario.proofs.scenario.Scenario.name.Goals as goal
 

@@ -1,39 +1,39 @@
 use Rattle.std.proofs.Common.{rules}
-use Rattle.schema.specs.Schema.{rows_of}
+use Rattle.schema.specs.Schema.{key_rules_of}
 use Rattle.schema.proofs.schema.Section.rows.Goals as goal
 
 pub returns-in-Top : goal.returns-in-Top
-unfolding rows_of
+unfolding key_rules_of
 returns-in-Top c = search rules
 
 pub returns-in-Swim : goal.returns-in-Swim
-unfolding rows_of
+unfolding key_rules_of
 returns-in-Swim c = search rules
 
 pub returns-in-Suspicion : goal.returns-in-Suspicion
-unfolding rows_of
+unfolding key_rules_of
 returns-in-Suspicion c = search rules
 
 pub returns-in-Lifeguard : goal.returns-in-Lifeguard
-unfolding rows_of
+unfolding key_rules_of
 returns-in-Lifeguard c = search rules
 
 pub returns-in-Link : goal.returns-in-Link
-unfolding rows_of
+unfolding key_rules_of
 returns-in-Link c = search rules
 
 pub returns-in-Group : goal.returns-in-Group
-unfolding rows_of
+unfolding key_rules_of
 returns-in-Group c = search rules
 
 pub returns-in-Path : goal.returns-in-Path
-unfolding rows_of
+unfolding key_rules_of
 returns-in-Path c = search rules
 
 pub returns-in-Slow : goal.returns-in-Slow
-unfolding rows_of
+unfolding key_rules_of
 returns-in-Slow c = search rules
 
 pub returns-in-Crash : goal.returns-in-Crash
-unfolding rows_of
+unfolding key_rules_of
 returns-in-Crash c = search rules

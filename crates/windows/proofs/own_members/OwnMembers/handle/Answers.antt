@@ -4,7 +4,7 @@ use Rattle.std.specs.FinMap.{insert}
 use Rattle.std.proofs.lemmas.Option.{slice_get_read}
 use Rattle.member.specs.declared.turn.StepError.TheVariants.{Worn}
 use Rattle.member.specs.Step.{step}
-use Rattle.member.specs.View.{state_of, pair_of}
+use Rattle.member.specs.StateOf.{state_of, pair_of}
 use Rattle.windows.proofs.Slots.{by_place, nobody_past, receiver_at, put_at, put_back}
 use Rattle.windows.proofs.Deliveries.{handled_by, handled_by_none}
 use Rattle.windows.proofs.own_members.OwnMembers.handle.Goals as goal

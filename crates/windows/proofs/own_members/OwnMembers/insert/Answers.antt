@@ -1,6 +1,6 @@
 use Rattle.std.proofs.Common.{◌<◌, length, ap, ◌∙◌, arith}
 use Rattle.std.specs.FinMap.{insert}
-use Rattle.member.specs.View.{state_of}
+use Rattle.member.specs.StateOf.{state_of}
 use Rattle.windows.proofs.Slots.{by_place, put_at}
 use Rattle.windows.proofs.own_members.OwnMembers.insert.Goals as goal
 

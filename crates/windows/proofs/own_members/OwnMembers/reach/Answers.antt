@@ -1,6 +1,6 @@
 use Rattle.std.proofs.Common.{ap, ◌∙◌}
 use Rattle.std.specs.FinMap.{from_entries}
-use Rattle.windows.specs.View.{states_from}
+use Rattle.windows.specs.WorldOf.{states_from}
 use Rattle.windows.proofs.Slots.{one_more_place}
 use Rattle.windows.proofs.own_members.OwnMembers.reach.Goals as goal
 

@@ -1,5 +1,5 @@
 use Rattle.std.proofs.Common.{◌≡◌, ◌+◌, ◌-◌, vec_len}
-use Rattle.windows.specs.View.{states_in}
+use Rattle.windows.specs.WorldOf.{states_in}
 use Rattle.windows.proofs.own_members.OwnMembers.reach.Given as goal
 
 abbrev pub invariant-loop-number : goal.invariant-loop-number

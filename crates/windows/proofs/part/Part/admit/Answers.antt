@@ -1,7 +1,7 @@
 use Rattle.std.proofs.Common.{◌≡◌, ◌<◌, ap, arith}
 use Rattle.base.specs.declared.key.Key.{Key}
 use Rattle.member.specs.declared.content.Content.{Content}
-use Rattle.windows.specs.View.{contents_in}
+use Rattle.windows.specs.WorldOf.{contents_in}
 use Rattle.windows.proofs.Admitting.{crash_is_new}
 use Rattle.windows.proofs.part.Part.admit.Goals as goal
 

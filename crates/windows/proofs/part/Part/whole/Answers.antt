@@ -5,7 +5,7 @@ use Rattle.member.specs.declared.content.Content.{Content}
 use Rattle.member.specs.State.{State}
 use Rattle.worker_queue.proofs.Contents.{contents_by-empty}
 use Rattle.windows.specs.Admitting.{with_member}
-use Rattle.windows.specs.View.{world_of, contents_in, content_of}
+use Rattle.windows.specs.WorldOf.{world_of, contents_in, content_of}
 use Rattle.windows.proofs.Admitting.{with_pending, scripts_from_below, one_more_opened}
 use Rattle.windows.proofs.part.Part.whole.Goals as goal
 

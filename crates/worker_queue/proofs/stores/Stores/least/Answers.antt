@@ -1,4 +1,4 @@
-use Rattle.worker_queue.specs.View.{set_of}
+use Rattle.worker_queue.specs.SetOf.{set_of}
 use Rattle.worker_queue.specs.Wheel.{events_in}
 use Rattle.worker_queue.proofs.Unions.{least_in_both, no_least_in_both}
 use Rattle.worker_queue.proofs.stores.Stores.least.Goals as goal

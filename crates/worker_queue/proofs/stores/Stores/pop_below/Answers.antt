@@ -1,5 +1,5 @@
 use Rattle.std.proofs.Common.{ap, ◌∙◌}
-use Rattle.worker_queue.specs.View.{set_of}
+use Rattle.worker_queue.specs.SetOf.{set_of}
 use Rattle.worker_queue.specs.Wheel.{events_in}
 use Rattle.worker_queue.specs.Union.{union}
 use Rattle.worker_queue.proofs.Unions.{apart_after_pop, first_in_first, union_popped_first, absent_in_second}

@@ -1,7 +1,7 @@
 use Rattle.std.proofs.Common.{◌≤◌, ap, ◌∙◌, sym, subst}
 use Rattle.base.specs.declared.key.Key.{Key}
 use Rattle.worker_queue.specs.Slots.{NoneIsBefore}
-use Rattle.worker_queue.specs.View.{set_of}
+use Rattle.worker_queue.specs.SetOf.{set_of}
 use Rattle.worker_queue.specs.Wheel.{events_in}
 use Rattle.worker_queue.specs.Union.{union, AreApart}
 use Rattle.worker_queue.proofs.Events.{if_none}

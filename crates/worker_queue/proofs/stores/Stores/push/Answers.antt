@@ -1,4 +1,4 @@
-use Rattle.worker_queue.specs.View.{set_of}
+use Rattle.worker_queue.specs.SetOf.{set_of}
 use Rattle.worker_queue.specs.Wheel.{events_in}
 use Rattle.worker_queue.proofs.Unions.{not_in_first, not_in_second, apart_after_push, all_after_push, apart_after_late_push, all_after_late_push}
 use Rattle.worker_queue.proofs.stores.Stores.push.Goals as goal

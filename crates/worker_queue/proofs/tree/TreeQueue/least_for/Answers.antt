@@ -3,7 +3,7 @@ use Rattle.std.specs.List.{list_any}
 use Rattle.std.specs.Ordering.{eq_by_cmp}
 use Rattle.std.proofs.lemmas.Bool.{false≢true, eqb-true, eq-eqb}
 use Rattle.base.specs.Order.{key_cmp}
-use Rattle.worker_queue.specs.View.{set_of}
+use Rattle.worker_queue.specs.SetOf.{set_of}
 use Rattle.worker_queue.proofs.Events.{at_most_by_cmp}
 use Rattle.worker_queue.proofs.Receivers.{all_left, left_after, found_for, none_before_bound}
 use Rattle.worker_queue.proofs.tree.TreeQueue.least_for.Goals as goal

@@ -1,4 +1,4 @@
-use Rattle.worker_queue.specs.View.{set_of}
+use Rattle.worker_queue.specs.SetOf.{set_of}
 use Rattle.worker_queue.proofs.Receivers.{AreLeftFor}
 use Rattle.worker_queue.proofs.tree.TreeQueue.least_for.Given as goal
 

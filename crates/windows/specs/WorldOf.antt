@@ -8,7 +8,7 @@ use Rattle.member.specs.declared.content.Content.{Content}
 use Rattle.member.specs.declared.event.Event.{Event}
 use Rattle.member.specs.declared.member.Member.{Member}
 use Rattle.member.specs.State.{State}
-use Rattle.member.specs.View.{state_of}
+use Rattle.member.specs.StateOf.{state_of}
 use Rattle.worker_queue.specs.Contents.{contents_by}
 use Rattle.windows.specs.declared.own_members.OwnMembers.{OwnMembers}
 use Rattle.windows.specs.declared.part.Part.{Part}

@@ -1,6 +1,6 @@
 use Rattle.std.proofs.Common.{[], append-nil, sym}
 use Rattle.exchange.proofs.Goes.{names_next}
-use Rattle.exchange.proofs.in_turn.simulate_in_turn.Goals as goal
+use Rattle.exchange.proofs.in_turn.rows_in_turn.Goals as goal
 
 pub returns-in-Ok-run_turns-clause-named : goal.returns-in-Ok-run_turns-clause-named
 returns-in-Ok-run_turns-clause-named g c =

@@ -6,16 +6,16 @@ use Rattle.toml.specs.Data.{Data}
 use Rattle.toml.specs.View.{view}
 use Rattle.toml.specs.declared.value.Value.{Value}
 use Rattle.schema.specs.Tree.{items_at}
-use Rattle.schema.specs.declared.schema.Key.TheVariants as key
+use Rattle.schema.specs.declared.schema.FormatKey.TheVariants as key
 use Rattle.scenario.specs.Setup.{Group, names_in, member_count, IsSound}
 use Rattle.scenario.specs.Reading.{plain_groups, group_in, path_in, slow_in, crash_in, setup_of_tree}
 use Rattle.scenario.specs.Rules.{KeepsValues}
-use Rattle.scenario.specs.View.{group_of}
+use Rattle.scenario.specs.SetupOf.{group_of}
 use Rattle.scenario.specs.declared.settings.Link.{Link}
 use Rattle.scenario.proofs.Groups.{same_setup}
 use Rattle.scenario.proofs.Sound.{counts_same, sound_of}
 use Rattle.scenario.proofs.Trees.{map_items}
-use Rattle.scenario.proofs.reader.settle.Goals as goal
+use Rattle.scenario.proofs.reader.decide.Goals as goal
 
 few_members : (tree : Data) (gs : List Group) → gs ≡ plain_groups tree → KeepsValues tree → sum_by (λ (g : Group). g.count) gs ≤ 1024
 few_members tree gs same values =
@@ -43,13 +43,13 @@ module _ (tree : Data) (gs : List Group) (same : gs ≡ plain_groups tree) (list
   crashes_are items = map_items (crash_in gs) (items_at key.Crash tree) list items ∙ ap (λ hs. map (crash_in hs) (items_at key.Crash tree)) same
 
 pub read_groups-requires : goal.read_groups-requires
-read_groups-requires c = record { few = few_members (view c.args.tree.now) c.args.roster.now c.requires.groups c.requires.values }
+read_groups-requires c = record { at_most_1024 = few_members (view c.args.tree.now) c.args.roster.now c.requires.groups c.requires.values }
 
 pub read_slows-requires : goal.read_slows-requires
-read_slows-requires c = record { few = few_members (view c.args.tree.now) c.args.roster.now c.requires.groups c.requires.values }
+read_slows-requires c = record { at_most_1024 = few_members (view c.args.tree.now) c.args.roster.now c.requires.groups c.requires.values }
 
 pub read_crashes-requires : goal.read_crashes-requires
-read_crashes-requires c = record { few = few_members (view c.args.tree.now) c.args.roster.now c.requires.groups c.requires.values }
+read_crashes-requires c = record { at_most_1024 = few_members (view c.args.tree.now) c.args.roster.now c.requires.groups c.requires.values }
 
 pub returns : goal.returns
 unfolding setup_of_tree

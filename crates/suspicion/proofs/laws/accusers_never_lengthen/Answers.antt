@@ -1,5 +1,5 @@
 use Rattle.suspicion.proofs.Timeouts.{timeout-falls}
-use Rattle.suspicion.proofs.laws.confirmations_never_lengthen.Goals as goal
+use Rattle.suspicion.proofs.laws.accusers_never_lengthen.Goals as goal
 
 pub returns : goal.returns
 returns c = timeout-falls

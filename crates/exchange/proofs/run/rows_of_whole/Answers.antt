@@ -1,11 +1,11 @@
 use Rattle.std.proofs.Common.{◌+◌, sym, subst, arith}
-use Rattle.windows.specs.View.{world_of}
+use Rattle.windows.specs.WorldOf.{world_of}
 use Rattle.windows.specs.Window.{IsConsistentPart}
 use Rattle.windows.proofs.Slots.{part_unworn}
-use Rattle.worker_queue.specs.View.{set_of}
+use Rattle.worker_queue.specs.SetOf.{set_of}
 use Rattle.windows.proofs.WholeOpening.{opening_consistent}
 use Rattle.exchange.proofs.Whole.{window_is_run, window_names, window_lasts, window_wears}
-use Rattle.exchange.proofs.run.simulate.Goals as goal
+use Rattle.exchange.proofs.run.rows_of_whole.Goals as goal
 
 pub run-requires-clause-consistent : goal.run-requires-clause-consistent
 run-requires-clause-consistent c =

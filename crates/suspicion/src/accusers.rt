@@ -7,26 +7,26 @@ use std::marker::Model;
 /// The accusers of a suspect after the first one, in the order in which they came: nine at most, so
 /// that they are kept in place and take no memory.
 #[derive(Drop)]
-pub(crate) struct Confirmers {
+pub(crate) struct Accusers {
     members: [MemberId; 9],
     count: usize,
 }
 
-impl Model for Confirmers {
+impl Model for Accusers {
     ghost use Rattle.std.specs.Prelude.{◌≡◌, ℕ, List, take, length, ◌≤◌};
 
     ghost Value = { List ℕ };
 
-    ghost view = { λ confirmers. take confirmers.count confirmers.members };
+    ghost view = { λ further. take further.count further.members };
 
-    ghost invariant = { λ confirmers. (confirmers.count ≤ 9) × (length confirmers.members ≡ 9) };
+    ghost invariant = { λ further. (further.count ≤ 9) × (length further.members ≡ 9) };
 }
 
-impl Confirmers {
+impl Accusers {
     pub(crate) fn new() -> Self
         ensures { result ≡ [] }
     {
-        Confirmers {
+        Accusers {
             members: [MemberId(0); 9],
             count: 0,
         }
