@@ -1,3 +1,4 @@
+use std::alloc::{AllocError, AllocFailed};
 use thiserror::Error;
 
 /// Memory was refused.
@@ -5,10 +6,17 @@ use thiserror::Error;
 #[error("memory was refused")]
 pub struct Memory;
 
-/// A counter stands at its limit, 2^63, and would have to rise.
-#[derive(Clone, Copy, Debug, PartialEq, Eq, Error)]
-#[error("a counter is worn")]
-pub struct Worn;
+impl From<AllocError> for Memory {
+    fn from(_error: AllocError) -> Self {
+        Memory
+    }
+}
+
+impl<T: Drop> From<AllocFailed<T>> for Memory {
+    fn from(_error: AllocFailed<T>) -> Self {
+        Memory
+    }
+}
 
 /// Why a run was refused. Of several causes the first in this order is answered.
 #[derive(Clone, Copy, Debug, PartialEq, Eq, Error)]

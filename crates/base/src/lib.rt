@@ -9,7 +9,7 @@ pub mod limits;
 mod logarithm;
 mod order;
 
-pub use fault::{Fault, Memory, Worn};
+pub use fault::{Fault, Memory};
 pub use key::{Key, MemberId, Moment};
 pub use keyed::Keyed;
 pub use logarithm::{digits, log_thousandths};

@@ -115,10 +115,7 @@ fn groups_of(alloc: Global, scenario: &Scenario) -> Result<Vec<usize>, Memory>
 {
     let mut groups = Vec::new(alloc);
     for member in 0..scenario.members() {
-        match groups.push(scenario.group_number(MemberId(member as u16))) {
-            Ok(()) => {}
-            Err(_) => return Err(Memory),
-        }
+        groups.push(scenario.group_number(MemberId(member as u16)))?;
     }
     Ok(groups)
 }

@@ -17,10 +17,7 @@ pub(crate) fn routes_of(
 {
     let mut routes = BTreeMap::new(alloc);
     for path in paths {
-        match routes.insert((path.from, path.to), path.link) {
-            Ok(_) => {}
-            Err(_) => return Err(Memory),
-        }
+        let _ = routes.insert((path.from, path.to), path.link)?;
     }
     Ok(routes)
 }

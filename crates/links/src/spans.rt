@@ -44,10 +44,7 @@ pub(crate) fn spans_of(
 {
     let mut spans = BTreeMap::new(alloc);
     for slow in slows {
-        match append(alloc, &mut spans, slow.member, SlowSpan::of(slow)) {
-            Ok(()) => {}
-            Err(_) => return Err(Memory),
-        }
+        append(alloc, &mut spans, slow.member, SlowSpan::of(slow))?;
     }
     Ok(spans)
 }
@@ -69,10 +66,7 @@ fn append(
         };
     }
     let mut first = Vec::new(alloc);
-    match first.push(span) {
-        Ok(()) => {}
-        Err(_) => return Err(Memory),
-    }
+    first.push(span)?;
     match spans.insert(member, first) {
         Ok(_) => Ok(()),
         Err(_) => Err(Memory),

@@ -135,10 +135,7 @@ fn reach_claim(claims: &mut Vec<Option<Claim>>, place: usize) -> Result<(), Memo
     ensures bound { length claims.new.items ≤ max (length claims.old.items) (place + 1) }
 {
     while claims.len() <= place {
-        match claims.push(None) {
-            Ok(()) => {}
-            Err(_) => return Err(Memory),
-        }
+        claims.push(None)?;
     }
     Ok(())
 }
@@ -150,10 +147,7 @@ fn reach_number(incs: &mut Vec<u64>, place: usize) -> Result<(), Memory>
     ensures long { length incs.old.items ≤ length incs.new.items }
 {
     while incs.len() <= place {
-        match incs.push(0) {
-            Ok(()) => {}
-            Err(_) => return Err(Memory),
-        }
+        incs.push(0)?;
     }
     Ok(())
 }
@@ -189,10 +183,7 @@ fn list_alive_but(
     for (number, claim) in claims.iter().enumerate() {
         let Some(claim) = claim else { continue };
         if helps(*claim, number, member) {
-            match members.push(MemberId(number as u16)) {
-                Ok(()) => {}
-                Err(_) => return Err(Memory),
-            }
+            members.push(MemberId(number as u16))?;
         }
     }
     Ok(members)
@@ -218,10 +209,7 @@ fn list_updates(
             inc: incs[number],
             accuser,
         };
-        match updates.push(update) {
-            Ok(()) => {}
-            Err(_) => return Err(Memory),
-        }
+        updates.push(update)?;
     }
     Ok(updates)
 }

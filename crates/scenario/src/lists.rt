@@ -34,10 +34,7 @@ pub(crate) fn read_groups(
         let Ok(group) = read_group(alloc, roster, item) else {
             return Err(Memory);
         };
-        match groups.push(group) {
-            Ok(()) => {}
-            Err(_) => return Err(Memory),
-        }
+        groups.push(group)?;
     }
     Ok(groups)
 }
@@ -83,10 +80,7 @@ pub(crate) fn read_paths(
 {
     let mut paths = Vec::new(alloc);
     for item in list {
-        match paths.push(read_path(roster, link, item)) {
-            Ok(()) => {}
-            Err(_) => return Err(Memory),
-        }
+        paths.push(read_path(roster, link, item))?;
     }
     Ok(paths)
 }
@@ -134,10 +128,7 @@ pub(crate) fn read_slows(
 {
     let mut slows = Vec::new(alloc);
     for item in list {
-        match slows.push(read_slow(roster, item)) {
-            Ok(()) => {}
-            Err(_) => return Err(Memory),
-        }
+        slows.push(read_slow(roster, item))?;
     }
     Ok(slows)
 }
@@ -166,10 +157,7 @@ pub(crate) fn read_crashes(
 {
     let mut crashes = Vec::new(alloc);
     for item in list {
-        match crashes.push(read_crash(roster, item)) {
-            Ok(()) => {}
-            Err(_) => return Err(Memory),
-        }
+        crashes.push(read_crash(roster, item))?;
     }
     Ok(crashes)
 }
@@ -202,10 +190,7 @@ pub(crate) fn list_names(alloc: Global, list: &[Value]) -> Result<Vec<String>, M
 {
     let mut names = Vec::new(alloc);
     for group in list {
-        match add_names(alloc, &mut names, text(FormatKey::Name, group), count_of(group)) {
-            Ok(()) => {}
-            Err(Memory) => return Err(Memory),
-        }
+        add_names(alloc, &mut names, text(FormatKey::Name, group), count_of(group))?;
     }
     Ok(names)
 }
@@ -218,10 +203,7 @@ fn add_names(alloc: Global, names: &mut Vec<String>, group: &str, count: u64) ->
         let Ok(name) = format!(in alloc; "{group}-{index}") else {
             return Err(Memory);
         };
-        match names.push(name) {
-            Ok(()) => {}
-            Err(_) => return Err(Memory),
-        }
+        names.push(name)?;
     }
     Ok(())
 }

@@ -87,10 +87,7 @@ fn list_spans(alloc: Global, roster: &Roster, list: &[Value]) -> Result<Vec<Span
 {
     let mut spans = Vec::new(alloc);
     for (i, item) in list.iter().enumerate() {
-        match spans.push(read_span(roster, i, item)) {
-            Ok(()) => {}
-            Err(_) => return Err(Memory),
-        }
+        spans.push(read_span(roster, i, item))?;
     }
     Ok(spans)
 }

@@ -2,7 +2,7 @@
 //! each further accuser (SWIM, section 4.2; Lifeguard's LHA-Suspicion).
 #![tactic(auto)]
 
-mod further;
+mod accusers;
 pub mod laws;
 mod standing;
 mod suspicions;

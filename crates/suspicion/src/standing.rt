@@ -1,6 +1,6 @@
 ghost use Rattle.suspicion.specs.Ranges.{IsKept};
 
-use crate::further::Accusers;
+use crate::accusers::Accusers;
 use crate::terms::Terms;
 use base::{MemberId, Moment};
 

@@ -7,7 +7,7 @@ ghost use Rattle.suspicion.specs.Times.{timeout};
 ghost use Rattle.suspicion.specs.Suspicions.{started_of, accused, accused_of, after_accusation, answer_of, is_due, first_accuser_of, counts};
 ghost use Rattle.suspicion.specs.SuspicionOf.{suspicion_of, held_of};
 
-use crate::further::Accusers;
+use crate::accusers::Accusers;
 use crate::standing::Standing;
 use crate::terms::{Terms, most_counted};
 use base::{MemberId, Memory, Moment};

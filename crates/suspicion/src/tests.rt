@@ -1,4 +1,4 @@
-use crate::further::Accusers;
+use crate::accusers::Accusers;
 use crate::suspicions::{Accused, Suspicions};
 use crate::terms::Terms;
 use base::{MemberId, Memory, Moment};

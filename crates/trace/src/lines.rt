@@ -18,10 +18,7 @@ pub(crate) fn lines(alloc: Global, rows: &[Row], scenario: &Scenario) -> Result<
 {
     let mut writer = plain_writer(alloc);
     for row in rows {
-        match write_line(&mut writer, row, scenario) {
-            Ok(()) => {}
-            Err(Memory) => return Err(Memory),
-        }
+        write_line(&mut writer, row, scenario)?;
     }
     match writer.into_inner() {
         Ok(text) => Ok(text),

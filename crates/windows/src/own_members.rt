@@ -52,10 +52,7 @@ impl OwnMembers {
         ensures place { OnOk result (number < vec_len self.new.slots) }
     {
         while self.slots.len() <= number.index() {
-            match self.slots.push(None) {
-                Ok(()) => {}
-                Err(_) => return Err(Memory),
-            }
+            self.slots.push(None)?;
         }
         Ok(())
     }

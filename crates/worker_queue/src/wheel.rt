@@ -40,10 +40,7 @@ fn empty_slots<E: Keyed + Drop>(alloc: Global) -> Result<Vec<Slot<E>>, Memory>
 {
     let mut slots = Vec::new(alloc);
     for _ in 0..PLACES {
-        match slots.push(Slot::new(alloc)) {
-            Ok(()) => {}
-            Err(_) => return Err(Memory),
-        }
+        slots.push(Slot::new(alloc))?;
     }
     Ok(slots)
 }

@@ -2,7 +2,7 @@ use Rattle.std.proofs.Common.{◌&&◌, not, nat_eq, true, false, map, filter, a
 use Rattle.membership.specs.Table.{is_alive}
 use Rattle.membership.proofs.Columns.{Entry, none_more, up_more}
 use Rattle.membership.proofs.table.list_alive_but.Goals as goal
-use Rattle.membership.proofs.table.list_alive_but.Goals.{then-helps+in-Ok, else-helps}
+use Rattle.membership.proofs.table.list_alive_but.Goals.{then-helps+in_ok-push, else-helps}
 
 pub loop-number-preserved-in_default : goal.loop-number-preserved-in_default
 loop-number-preserved-in_default c incs =
@@ -13,9 +13,9 @@ loop-number-preserved-in_default c incs =
 pub loop-number-preserved : goal.loop-number-preserved
 loop-number-preserved c incs =
     elim c.if-helps.branch [
-      | then-helps+in-Ok w ↦
+      | then-helps+in_ok-push w ↦
           up_more c.args.member c.args.claims.now incs c.loop-number.number c.in-Some.claim c.loop-number-test.true c.in-Some.is c.loop-number.members.items c.if-helps.members.items true
-          (sym w.if-helps.true ∙ c.helps.ensures) (c.loop-number.invariant incs) (ap (λ v. v.items) w.members-is ∙ w.in-Ok.ensures.items)
+          (sym w.if-helps.true ∙ c.helps.ensures) (c.loop-number.invariant incs) (ap (λ v. v.items) w.members-is ∙ w.in_ok-push.ensures.items)
       | else-helps w ↦
           up_more c.args.member c.args.claims.now incs c.loop-number.number c.in-Some.claim c.loop-number-test.true c.in-Some.is c.loop-number.members.items c.if-helps.members.items false
           (sym w.if-helps.false ∙ c.helps.ensures) (c.loop-number.invariant incs) (ap (λ v. v.items) w.members-is)

@@ -10,4 +10,4 @@ loop-number-preserved-in_default c =
 pub loop-number-preserved : goal.loop-number-preserved
 loop-number-preserved c =
     updates_more c.args.accuser c.args.claims.now c.args.incs.now c.loop-number.number c.in-Some.claim c.loop-number-test.true c.in-Some.is c.loop-number.updates.items c.push.new.self.items
-    c.loop-number.invariant c.in-Ok.ensures.items
+    c.loop-number.invariant c.in_ok-push.ensures.items

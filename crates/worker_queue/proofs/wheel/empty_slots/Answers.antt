@@ -12,8 +12,8 @@ loop-init g c = record {
 
 pub loop-preserved : goal.loop-preserved
 loop-preserved g c = record {
-  sized = ap length c.in-Ok.ensures.items ∙ length_push c.loop.slots.items c.new.result ∙ ap (λ n. n + 1) c.loop.invariant.sized;
+  sized = ap length c.in_ok-push.ensures.items ∙ length_push c.loop.slots.items c.new.result ∙ ap (λ n. n + 1) c.loop.invariant.sized;
   empty = λ place.
-      ap (λ l. slot_at (lists_of l) place) c.in-Ok.ensures.items
+      ap (λ l. slot_at (lists_of l) place) c.in_ok-push.ensures.items
       ∙ still_empty (λ s. s.events.items) c.loop.slots.items c.new.result c.loop.invariant.empty c.new.ensures place;
 }

@@ -1,6 +1,6 @@
 use Rattle.std.proofs.Common.{ap, sym, ◌∙◌, length, arith}
 use Rattle.std.proofs.lemmas.List.{length-take-le}
-use Rattle.suspicion.proofs.further.Accusers.len.Goals as goal
+use Rattle.suspicion.proofs.accusers.Accusers.len.Goals as goal
 
 pub returns : goal.returns
 returns c =
