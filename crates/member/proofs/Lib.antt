@@ -4,3 +4,4 @@ pub mod Lists
 pub mod Helpers
 pub mod Openings
 pub mod Fair
+pub mod Buddies

@@ -89,18 +89,19 @@ impl Member {
     }
 
     /// The suspicion of which a ping tells its receiver (Lifeguard's Buddy System).
-    #[tactic(auto, unfolding(crate::specs::Send::buddy_of))]
+    #[tactic(auto, using(crate::proofs::Buddies::none_told), unfolding(crate::specs::Send::buddy_of))]
     fn buddy(&self, here: &Here, to: MemberId) -> Option<Update>
         ensures { result ≡ buddy_of here.now.scenario.now to (state_of self.now) }
     {
         if !here.scenario.lifeguard().buddy {
             return None;
         }
+        // Few members are suspected, so this is asked first: the table is large, and seldom at hand.
+        let accuser = self.suspicions.first_accuser(to)?;
         let held = self.table.get(to)?;
         if !is_suspect(held.0) {
             return None;
         }
-        let accuser = self.suspicions.first_accuser(to)?;
         Some(Update {
             subject: to,
             claim: Claim::Suspect,

@@ -164,12 +164,25 @@ impl Member {
 }
 
 /// Appends what a turn has made.
-fn append(mut turn: Turn, out: &mut Effects) -> Result<(), StepError>
+fn append(turn: Turn, out: &mut Effects) -> Result<(), StepError>
     ensures events { OnOk result (out.new.events.items ≡ out.old.events.items ++ turn.events.items) }
     ensures rows { OnOk result (out.new.rows.items ≡ out.old.rows.items ++ turn.rows.items) }
     ensures err { IfErr result (λ e. e ≡ StepError.Memory) }
 {
-    out.events.append(&mut turn.events)?;
-    out.rows.append(&mut turn.rows)?;
+    let Turn { events, rows } = turn;
+    move_behind(events, &mut out.events)?;
+    move_behind(rows, &mut out.rows)
+}
+
+/// Moves items behind those of a list. They become the list where it is empty, which takes no memory.
+fn move_behind<T: Drop>(mut items: Vec<T>, list: &mut Vec<T>) -> Result<(), StepError>
+    ensures ok { OnOk result (list.new.items ≡ list.old.items ++ items.items) }
+    ensures err { IfErr result (λ e. e ≡ StepError.Memory) }
+{
+    if list.is_empty() {
+        *list = items;
+    } else {
+        list.append(&mut items)?;
+    }
     Ok(())
 }

@@ -9,7 +9,7 @@ use Rattle.std.proofs.lemmas.Bool.{and_parts, cond_both, cases_Bool, cases_eq, l
 use Rattle.std.proofs.lemmas.Bool.Decides.{nat_tests}
 use Rattle.incarnation.specs.declared.Update.{Update}
 use Rattle.piggyback.specs.Picked.{Counted, HeldUpdates, counted_with, left_after}
-use Rattle.piggyback.proofs.Holding.{true_from_T}
+use Rattle.piggyback.proofs.Rising.{true_from_T}
 
 pub tied : (m n : ℕ) → m ≡ n → eq_by_cmp nat_cmp m n ≡ true
 tied m n same = grind (arith, nat_tests)

@@ -1,127 +1,85 @@
 -- A buffer's entries and the map that they stand for.
-use Rattle.std.proofs.Common.{◌≡◌, ℕ, zero, suc, T, Bool, true, false, cond, ltb, ◌&&◌, List, [], ◌∷◌, ◌++◌, map, filter, take, Option, Some, None, Result, Ok, Err, OnOk, OnErr, refl, sym, ap, ◌∙◌, inl, inr, arith}
-use Rattle.std.specs.Ordering.{nat_cmp, eq_by_cmp, is_lt}
-use Rattle.std.specs.Option.{option_to_list}
+use Rattle.std.proofs.Common.{◌≡◌, ℕ, ◌≤◌, Bool, true, cond, eqb, List, ◌++◌, map, filter, take, Option, Some, Result, Ok, Err, OnOk, OnErr, sym, ap, subst, ◌∙◌}
+use Rattle.std.specs.List.{count_by}
+use Rattle.std.specs.Ordering.{nat_cmp, eq_by_cmp}
+use Rattle.std.specs.Option.{option_to_list, option_and_then}
 use Rattle.std.specs.Cmp.{nat_cmp_total}
-use Rattle.std.specs.FinMap.{from_entries, from_sorted, entries, values, get, insert, get-from_entries, get-insert, get-from_sorted, entries-from_sorted, same_map, nat_cmp-IsAntisymmetric}
+use Rattle.std.specs.FinMap.{from_entries, values, get, insert, get-entries, get-from_entries, get-insert, same_map, nat_cmp-IsAntisymmetric}
 use Rattle.std.specs.FinMap.Entries as by
-use Rattle.std.proofs.lemmas.Bool.{and_parts, and_from, cond_both, cases_Bool}
-use Rattle.std.proofs.lemmas.List.{take-map, take-take}
-use Rattle.std.proofs.lemmas.Float.{T_from_true}
 use Rattle.incarnation.specs.declared.Update.{Update}
-use Rattle.piggyback.specs.Picked.{Counted, HeldUpdates, counted_with, left_after, is_candidate, in_order, picked}
-use Rattle.piggyback.specs.Keyed.{keyed, is_rising}
+use Rattle.piggyback.specs.Picked.{Counted, HeldUpdates, IsOwn, left_after, is_candidate, in_order, picked}
+use Rattle.piggyback.specs.Keyed.{keyed, found_of, is_in_order, IsPut, IsSent}
+use Rattle.piggyback.proofs.Counts.{kept, get-left_after}
+use Rattle.piggyback.proofs.Rising.{rises}
+use Rattle.piggyback.proofs.Sorting.{in_order-all_placed, in_order-is, distinct-filter}
+use Rattle.piggyback.proofs.Once.{picked_once}
+use Rattle.piggyback.proofs.Owned.{Own, values_keyed, rising-values}
+use Rattle.piggyback.proofs.Sending.{order_is, differ_in_order, differ_rising, ties, own_found, found-placed_all, found-filter, if_passes, in_order-filter, same_order}
 
--- the map of entries in order has just these entries
-pub entries-from_entries : (es : List (ℕ × Counted)) → by.is_sorted nat_cmp es ≡ true → entries (from_entries {R = nat_cmp} es) ≡ es
-entries-from_entries es sorted =
-    let t = T_from_true _ sorted in
-    let same : ◌≡◌ {A = HeldUpdates} (from_entries es) (from_sorted es) = same_map nat_cmp_total nat_cmp-IsAntisymmetric _ _ (λ q. get-from_entries nat_cmp_total es q ∙ sym (get-from_sorted nat_cmp es q t)) in
-    ap entries same ∙ entries-from_sorted nat_cmp es t
+-- the map of these entries
+abbrev pub held_by : List Counted → HeldUpdates
+held_by these = from_entries (keyed these)
 
-values-keyed : (these : List Counted) → map (λ e. e.1) (keyed these) ≡ these
-values-keyed [] = refl
-values-keyed (it ∷ these) = ap (λ l. it ∷ l) (values-keyed these)
-
--- and its values are what was put under the keys
-pub values-from_entries : (these : List Counted) → is_rising these ≡ true → values (from_entries {R = nat_cmp} (keyed these)) ≡ these
-values-from_entries these rising = ap (map (λ e. e.1)) (entries-from_entries (keyed these) rising) ∙ values-keyed these
-
-pub get-keyed : (these : List Counted) (subject : ℕ) → get (from_entries {R = nat_cmp} (keyed these)) subject ≡ by.find nat_cmp subject (keyed these)
+pub get-keyed : (these : List Counted) (subject : ℕ) → get (held_by these) subject ≡ found_of subject these
 get-keyed these subject = get-from_entries nat_cmp_total (keyed these) subject
 
-pub true_from_T : (b : Bool) → T b → b ≡ true
-true_from_T true h = refl
-true_from_T false h = absurd h
+-- it is the one in which the same stands of each subject
+map_is : (these : List Counted) (held : HeldUpdates) → ((subject : ℕ) → found_of subject these ≡ get held subject) → held_by these ≡ held
+map_is these held same = same_map nat_cmp_total nat_cmp-IsAntisymmetric _ _ (λ subject. get-keyed these subject ∙ same subject)
 
--- entries that have one in its place keep their order
-pub rising-put : (old new : List Counted) (subject : ℕ) (v : Counted) → keyed new ≡ by.put nat_cmp subject v (keyed old) → is_rising old ≡ true → is_rising new ≡ true
-rising-put old new subject v is rising =
-    ap (by.is_sorted nat_cmp) is ∙ true_from_T _ (by.is_sorted-put nat_cmp nat_cmp_total subject v (keyed old) (T_from_true _ rising))
+held-put : (v : Counted) (old new : List Counted) → IsPut v old new → held_by new ≡ insert (held_by old) v.0.subject v
+held-put v old new put =
+    map_is new _ (λ subject.
+    put.stands subject
+    ∙ ap (λ b. cond b (Some v) (found_of subject old)) (sym (ties subject v.0.subject))
+    ∙ ap (cond (eq_by_cmp nat_cmp subject v.0.subject) (Some v)) (sym (get-keyed old subject))
+    ∙ sym (get-insert nat_cmp_total (held_by old) v.0.subject v subject))
 
--- and stand for the map with it
-pub held-put : (old new : List Counted) (subject : ℕ) (v : Counted) → keyed new ≡ by.put nat_cmp subject v (keyed old) → ◌≡◌ {A = HeldUpdates} (from_entries (keyed new)) (insert (from_entries (keyed old)) subject v)
-held-put old new subject v is =
-    same_map nat_cmp_total nat_cmp-IsAntisymmetric _ _ (λ q.
-    get-keyed new q
-    ∙ ap (by.find nat_cmp q) is
-    ∙ by.find-put nat_cmp nat_cmp_total q subject v (keyed old)
-    ∙ ap (cond (eq_by_cmp nat_cmp q subject) (Some v)) (sym (get-keyed old q))
-    ∙ sym (get-insert nat_cmp_total (from_entries (keyed old)) subject v q))
+-- a call that puts one may have been refused
+pub order-after : {A E : Type 0} (r : Result A E) (v : Counted) (old new : List Counted) → OnOk r (IsPut v old new) → OnErr r (new ≡ old) → is_in_order old ≡ true → is_in_order new ≡ true
+order-after (Ok x) v old new ok err ordered = ok.ordered
+order-after (Err e) v old new ok err ordered = ap is_in_order err ∙ ordered
 
--- the same after a call that may have been refused
-pub rising-after : {A E : Type 0} (r : Result A E) (old new : List Counted) (subject : ℕ) (v : Counted) → OnOk r (keyed new ≡ by.put nat_cmp subject v (keyed old)) → OnErr r (new ≡ old) → is_rising old ≡ true → is_rising new ≡ true
-rising-after (Ok x) old new subject v ok err rising = rising-put old new subject v ok rising
-rising-after (Err e) old new subject v ok err rising = ap is_rising err ∙ rising
+pub held-after : {A E : Type 0} (r : Result A E) (v : Counted) (old new : List Counted) → OnOk r (IsPut v old new) → OnOk r (held_by new ≡ insert (held_by old) v.0.subject v)
+held-after (Ok x) v old new ok = held-put v old new ok
+held-after (Err e) v old new ok = tt
 
-pub held-after : {A E : Type 0} (r : Result A E) (old new : List Counted) (subject : ℕ) (v : Counted) → OnOk r (keyed new ≡ by.put nat_cmp subject v (keyed old)) → OnOk r (◌≡◌ {A = HeldUpdates} (from_entries (keyed new)) (insert (from_entries (keyed old)) subject v))
-held-after (Ok x) old new subject v ok = held-put old new subject v ok
-held-after (Err e) old new subject v ok = tt
+-- after a message
+pub held-sent : (updates : List Update) (limit : ℕ) (old new : List Counted) → IsSent updates limit old new → held_by new ≡ left_after (held_by old) updates limit
+held-sent updates limit old new sent =
+    map_is new _ (λ subject.
+    sent.stands subject
+    ∙ ap (option_and_then (kept updates limit)) (sym (get-keyed old subject))
+    ∙ sym (get-left_after updates limit (held_by old) subject))
 
-keyed-map : (updates : List Update) (these : List Counted) → map (λ (e : ℕ × Counted). (e.0, counted_with updates e.1)) (keyed these) ≡ keyed (map (counted_with updates) these)
-keyed-map updates [] = refl
-keyed-map updates (it ∷ these) = ap (λ l. (it.0.subject, counted_with updates it) ∷ l) (keyed-map updates these)
+own-held : (these : List Counted) → IsOwn (held_by these)
+own-held these subject = subst (Own subject) (sym (get-keyed these subject)) (own_found subject these)
 
-keyed-filter : (limit : ℕ) (these : List Counted) → filter (λ (e : ℕ × Counted). ltb e.1.1 limit) (keyed these) ≡ keyed (filter (λ it. ltb it.1 limit) these)
-keyed-filter limit [] = refl
-keyed-filter limit (it ∷ these) =
-    elim (cases_Bool (ltb it.1 limit)) [
-      | inl kept ↦ rw kept (ap (λ l. (it.0.subject, it) ∷ l) (keyed-filter limit these))
-      | inr dropped ↦ rw dropped (keyed-filter limit these)
-    ]
+found-values : (these : List Counted) (subject : ℕ) → found_of subject (values (held_by these)) ≡ found_of subject these
+found-values these subject =
+    ap (by.find nat_cmp subject) (values_keyed (held_by these) (own-held these))
+    ∙ sym (get-entries (held_by these) subject)
+    ∙ get-keyed these subject
 
--- what is left of the entries stands for what is left of the map
-pub held-left : (these : List Counted) (updates : List Update) (limit : ℕ) → is_rising these ≡ true → ◌≡◌ {A = HeldUpdates} (from_entries (keyed (filter (λ it. ltb it.1 limit) (map (counted_with updates) these)))) (left_after (from_entries (keyed these)) updates limit)
-held-left these updates limit rising =
-    ap (λ (es : List (ℕ × Counted)). from_entries {R = nat_cmp} es)
-    (sym (ap (λ es. filter (λ (e : ℕ × Counted). ltb e.1.1 limit) (map (λ e. (e.0, counted_with updates e.1)) es)) (entries-from_entries (keyed these) rising)
-    ∙ ap (filter (λ (e : ℕ × Counted). ltb e.1.1 limit)) (keyed-map updates these)
-    ∙ keyed-filter limit (map (counted_with updates) these)))
-
-below_all-map : (updates : List Update) (subject : ℕ) (these : List Counted) → by.below_all nat_cmp subject (keyed (map (counted_with updates) these)) ≡ by.below_all nat_cmp subject (keyed these)
-below_all-map updates subject [] = refl
-below_all-map updates subject (it ∷ these) = ap (λ b. is_lt (nat_cmp subject it.0.subject) && b) (below_all-map updates subject these)
-
-is_rising-map : (updates : List Update) (these : List Counted) → is_rising (map (counted_with updates) these) ≡ is_rising these
-is_rising-map updates [] = refl
-is_rising-map updates (it ∷ these) = rw (below_all-map updates it.0.subject these, is_rising-map updates these) refl
-
-below_all-filter : (p : Counted → Bool) (subject : ℕ) (these : List Counted) → by.below_all nat_cmp subject (keyed these) ≡ true → by.below_all nat_cmp subject (keyed (filter p these)) ≡ true
-below_all-filter p subject [] h = refl
-below_all-filter p subject (it ∷ these) h =
-    let parts = and_parts (is_lt (nat_cmp subject it.0.subject)) (by.below_all nat_cmp subject (keyed these)) h in
-    cond_both (p it) (it ∷ filter p these) (filter p these) (λ l. by.below_all nat_cmp subject (keyed l) ≡ true)
-    (λ _. and_from _ _ parts.0 (below_all-filter p subject these parts.1))
-    (λ _. below_all-filter p subject these parts.1)
-
-is_rising-filter : (p : Counted → Bool) (these : List Counted) → is_rising these ≡ true → is_rising (filter p these) ≡ true
-is_rising-filter p [] h = refl
-is_rising-filter p (it ∷ these) h =
-    let parts = and_parts (by.below_all nat_cmp it.0.subject (keyed these)) (is_rising these) h in
-    cond_both (p it) (it ∷ filter p these) (filter p these) (λ l. is_rising l ≡ true)
-    (λ _. and_from _ _ (below_all-filter p it.0.subject these parts.0) (is_rising-filter p these parts.1))
-    (λ _. is_rising-filter p these parts.1)
-
--- and their subjects still rise
-pub rising-left : (these : List Counted) (updates : List Update) (limit : ℕ) → is_rising these ≡ true → is_rising (filter (λ it. ltb it.1 limit) (map (counted_with updates) these)) ≡ true
-rising-left these updates limit rising = is_rising-filter (λ it. ltb it.1 limit) (map (counted_with updates) these) (is_rising-map updates these ∙ rising)
+-- the map's values that pass, in order, are the entries that pass
+in_order-values : (p : Counted → Bool) (these : List Counted) → is_in_order these ≡ true → in_order (filter p (values (held_by these))) ≡ filter p these
+in_order-values p these ordered =
+    let all = values (held_by these) in
+    let rising = rises all (rising-values (held_by these) (own-held these)) in
+    let inside = order_is these ordered in
+    let distinct = distinct-filter p all rising in
+    same_order (in_order (filter p all)) (filter p these) (in_order-is (filter p all) distinct) (in_order-filter p these inside) (λ subject.
+    ap (found_of subject) (in_order-all_placed (filter p all) distinct)
+    ∙ found-placed_all subject (filter p all) distinct
+    ∙ found-filter p subject all (differ_rising all rising)
+    ∙ ap (option_and_then (if_passes p)) (found-values these subject)
+    ∙ sym (found-filter p subject these (differ_in_order these inside)))
 
 -- what is picked of the entries is what is picked of the map
-pub picked-keyed : (these : List Counted) (carry limit : ℕ) (buddy : Option Update) → is_rising these ≡ true → take carry (option_to_list buddy ++ map (λ it. it.0) (in_order (filter (is_candidate limit buddy) these))) ≡ picked (from_entries (keyed these)) carry limit buddy
-picked-keyed these carry limit buddy rising =
-    ap (λ l. take carry (option_to_list buddy ++ map (λ (it : Counted). it.0) (in_order (filter (is_candidate limit buddy) l)))) (sym (values-from_entries these rising))
+pub picked-keyed : (these : List Counted) (carry limit : ℕ) (buddy : Option Update) → is_in_order these ≡ true → take carry (option_to_list buddy ++ map (λ it. it.0) (filter (is_candidate limit buddy) these)) ≡ picked (held_by these) carry limit buddy
+picked-keyed these carry limit buddy ordered =
+    ap (λ l. take carry (option_to_list buddy ++ map (λ (it : Counted). it.0) l)) (sym (in_order-values (is_candidate limit buddy) these ordered))
 
--- without a buddy the first entries in order are picked, and with one they come after it
-pub picked_alone : (carry : ℕ) (ordered : List Counted) → map (λ (it : Counted). it.0) (take carry ordered) ≡ take carry ([] ++ map (λ it. it.0) ordered)
-picked_alone carry ordered = sym (take-map (λ (it : Counted). it.0) carry ordered)
-
-pub picked_after : (buddy : Update) (carry : ℕ) (ordered : List Counted) → take carry (buddy ∷ map (λ (it : Counted). it.0) (take carry ordered)) ≡ take carry (buddy ∷ map (λ it. it.0) ordered)
-picked_after buddy zero ordered = refl
-picked_after buddy (suc n) ordered =
-    ap (λ l. buddy ∷ l) (ap (take n) (sym (take-map (λ (it : Counted). it.0) (suc n) ordered)) ∙ take-take n (suc n) (map (λ (it : Counted). it.0) ordered) (omega arith))
-
-pub picked_buddy : (buddy : Option Update) (b : Update) (carry : ℕ) (first ordered : List Counted) (updates : List Update) → buddy ≡ Some b → updates ≡ map (λ (it : Counted). it.0) first → first ≡ take carry ordered → take carry (b ∷ updates) ≡ take carry (option_to_list buddy ++ map (λ it. it.0) ordered)
-picked_buddy buddy b carry first ordered updates is of_first first_is = rw (is, of_first, first_is) (picked_after b carry ordered)
-
-pub picked_no_buddy : (buddy : Option Update) (carry : ℕ) (first ordered : List Counted) (updates : List Update) → buddy ≡ None → updates ≡ map (λ (it : Counted). it.0) first → first ≡ take carry ordered → updates ≡ take carry (option_to_list buddy ++ map (λ it. it.0) ordered)
-picked_no_buddy buddy carry first ordered updates is of_first first_is = rw (is, of_first, first_is) (picked_alone carry ordered)
+pub once-keyed : (these : List Counted) (carry limit : ℕ) (buddy : Option Update) (subject : ℕ) → count_by (λ (update : Update). eqb update.subject subject) (picked (held_by these) carry limit buddy) ≤ 1
+once-keyed these carry limit buddy subject =
+    picked_once (values (held_by these)) (rising-values (held_by these) (own-held these)) limit carry buddy subject

@@ -1,9 +1,11 @@
 pub mod Tally
 pub mod Rising
-pub mod Counting
-pub mod Holding
 pub mod Sorting
 pub mod Once
 pub mod Counts
 pub mod Runs
 pub mod Owned
+pub mod Sending
+pub mod Counting
+pub mod Holding
+pub mod Merging

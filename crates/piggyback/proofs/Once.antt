@@ -5,9 +5,8 @@ use Rattle.std.specs.Option.{option_to_list}
 use Rattle.std.proofs.lemmas.Bool.{cases_Bool, cond_both, and_parts, eqb-true, eq-eqb, ne_eqb}
 use Rattle.incarnation.specs.declared.Update.{Update}
 use Rattle.piggyback.specs.Picked.{Counted, AreDistinct, is_candidate, in_order}
-use Rattle.piggyback.specs.Keyed.{is_rising}
 use Rattle.piggyback.proofs.Tally.{one_of, none_of, count_by-cons}
-use Rattle.piggyback.proofs.Rising.{AllAbove, Rises, rises}
+use Rattle.piggyback.proofs.Rising.{AllAbove, Rises, is_rising, rises}
 use Rattle.piggyback.proofs.Sorting.{count_by-in_order, distinct-filter}
 
 module _ {X : Type 0} (p : X → Bool) where

@@ -9,13 +9,12 @@ use Rattle.std.proofs.lemmas.Bool.{and_parts, cases_eq, cond_both}
 use Rattle.incarnation.specs.declared.Update.{Update}
 use Rattle.piggyback.specs.Picked.{Counted, HeldUpdates, IsOwn, AreDistinct, counted_with, picked, left_by_pick}
 use Rattle.piggyback.specs.Keyed.{keyed}
-use Rattle.piggyback.proofs.Rising.{rises}
-use Rattle.piggyback.proofs.Holding.{true_from_T}
+use Rattle.piggyback.proofs.Rising.{is_rising, rises, true_from_T}
 use Rattle.piggyback.proofs.Counts.{kept, get-left_after, find_below_all, tied, not_tied}
 use Rattle.piggyback.proofs.Once.{distinct_rising}
 
 -- what is found is about the subject
-abbrev Own : ℕ → Option Counted → Type 0
+abbrev pub Own : ℕ → Option Counted → Type 0
 Own subject o = IfSome o (λ it. it.0.subject ≡ subject)
 
 pub own-empty : IsOwn empty
@@ -51,9 +50,13 @@ keyed-values (e ∷ es) sorted own =
     ]) in
     ap (λ k. (k, e.1) ∷ keyed (map (λ x. x.1) es)) here ∙ ap (λ l. e ∷ l) rest
 
+pub values_keyed : (held : HeldUpdates) → IsOwn held → keyed (values held) ≡ entries held
+values_keyed held own =
+    keyed-values (entries held) (true_from_T _ (entries_sorted held)) (λ subject. subst (Own subject) (get-entries held subject) (own subject))
+
 -- so their subjects rise
+pub rising-values : (held : HeldUpdates) → IsOwn held → is_rising (values held) ≡ true
+rising-values held own = ap (by.is_sorted nat_cmp) (values_keyed held own) ∙ true_from_T _ (entries_sorted held)
+
 pub distinct-values : (held : HeldUpdates) → IsOwn held → (test : Counted → Bool) → AreDistinct (filter test (values held))
-distinct-values held own test =
-    let sorted = true_from_T _ (entries_sorted held) in
-    let same = keyed-values (entries held) sorted (λ subject. subst (Own subject) (get-entries held subject) (own subject)) in
-    distinct_rising test (values held) (rises (values held) (ap (by.is_sorted nat_cmp) same ∙ sorted))
+distinct-values held own test = distinct_rising test (values held) (rises (values held) (rising-values held own))

@@ -1,34 +1,24 @@
 -- Entries put in order one after another, which is the order by places.
-use Rattle.std.proofs.Common.{◌≡◌, ◌≢◌, ℕ, zero, suc, ◌+◌, ◌<◌, ◌≤◌, Bool, true, false, cond, eqb, List, [], ◌∷◌, length, take, drop, Option, Some, refl, sym, ap, subst, ◌∙◌, inl, inr, arith, drop-cons, filter, get_or, zero-add}
+use Rattle.std.proofs.Common.{◌≡◌, ◌≢◌, ℕ, zero, suc, ◌+◌, ◌<◌, ◌≤◌, Bool, true, false, cond, eqb, List, [], ◌∷◌, length, take, Option, Some, refl, sym, ap, subst, ◌∙◌, inl, inr, arith, filter, get_or, zero-add}
 use Rattle.std.specs.List.{AllByRecursion, AllPairs, insert, position_or_len, count_by, find, filter_map, range_with_len, slice_get}
 use Rattle.std.proofs.lemmas.Bool.{cases_Bool, cond_both, eqb-true, eqb-false, eq-eqb}
-use Rattle.std.proofs.lemmas.List.{take-take, take_all, drop_all, length-take}
+use Rattle.std.proofs.lemmas.List.{length-take}
 use Rattle.std.proofs.lemmas.Bool.Decides.{nat_tests}
 use Rattle.piggyback.specs.Picked.{Counted, AreDistinct, goes_before, count_before, in_order}
-use Rattle.piggyback.specs.Keyed.{is_rising}
+use Rattle.piggyback.specs.Keyed.{placed, all_placed}
 use Rattle.piggyback.proofs.Tally.{one_of, none_of, count_by-cons}
-use Rattle.piggyback.proofs.Rising.{AllAbove, Rises, rises}
+use Rattle.piggyback.proofs.Rising.{AllAbove, Rises}
 
 one_more : (n : ℕ) → 1 + n ≡ suc n
 one_more n = omega arith
 
--- an entry in its place among others in order
-abbrev pub placed : Counted → List Counted → List Counted
-placed x [] = x ∷ []
-placed x (y ∷ ys) = cond (goes_before x y) (x ∷ y ∷ ys) (y ∷ placed x ys)
-
--- entries placed one after another
-abbrev pub all_placed : List Counted → List Counted → List Counted
-all_placed these [] = these
-all_placed these (x ∷ xs) = all_placed (placed x these) xs
-
 not_before_itself : (x : Counted) → goes_before x x ≡ false
 not_before_itself x = grind (arith, nat_tests)
 
-not_after : (x y : Counted) → goes_before x y ≡ true → goes_before y x ≡ false
+pub not_after : (x y : Counted) → goes_before x y ≡ true → goes_before y x ≡ false
 not_after x y h = grind (arith, nat_tests)
 
-before_all_later : (x y z : Counted) → goes_before x y ≡ true → goes_before y z ≡ true → goes_before x z ≡ true
+pub before_all_later : (x y z : Counted) → goes_before x y ≡ true → goes_before y z ≡ true → goes_before x z ≡ true
 before_all_later x y z h k = grind (arith, nat_tests)
 
 one_before_the_other : (x y : Counted) → x.0.subject ≢ y.0.subject → goes_before x y ≡ false → goes_before y x ≡ true
@@ -42,35 +32,6 @@ insert-position x (y ∷ these) =
       | inl first ↦ rw first refl
       | inr later ↦ rw (later, one_more (position_or_len (goes_before x) these)) (ap (λ l. y ∷ l) (insert-position x these))
     ]
-
--- places from m on do not change the first m
-take_twice : (n : ℕ) (these : List Counted) → take n (take n these) ≡ take n these
-take_twice n these = take-take n n these (omega arith)
-
-take_over_first : (n : ℕ) (y : Counted) (these : List Counted) → take n (y ∷ take n these) ≡ take n (y ∷ these)
-take_over_first zero y these = refl
-take_over_first (suc n) y these = ap (λ l. y ∷ l) (take-take n (suc n) these (omega arith))
-
--- the first n of what is placed depend on the first n alone
-take-placed : (n : ℕ) (x : Counted) (these : List Counted) → take n (placed x (take n these)) ≡ take n (placed x these)
-take-placed zero x these = refl
-take-placed (suc n) x [] = refl
-take-placed (suc n) x (y ∷ these) =
-    elim (cases_Bool (goes_before x y)) [
-      | inl first ↦ rw first (ap (λ l. x ∷ l) (take_over_first n y these))
-      | inr later ↦ rw later (ap (λ l. y ∷ l) (take-placed n x these))
-    ]
-
-take-all_placed : (n : ℕ) (these xs : List Counted) → take n (all_placed (take n these) xs) ≡ take n (all_placed these xs)
-take-all_placed n these [] = take_twice n these
-take-all_placed n these (x ∷ xs) =
-    sym (take-all_placed n (placed x (take n these)) xs)
-    ∙ ap (λ l. take n (all_placed l xs)) (take-placed n x these)
-    ∙ take-all_placed n (placed x these) xs
-
--- one more entry, with room for n
-pub take-all_placed_more : (n : ℕ) (these : List Counted) (x : Counted) (xs : List Counted) → take n (all_placed (take n (placed x these)) xs) ≡ take n (all_placed these (x ∷ xs))
-take-all_placed_more n these x xs = take-all_placed n (placed x these) xs
 
 -- what holds of all is kept
 placed-all : (P : Counted → Type 0) (x : Counted) (these : List Counted) → P x → AllByRecursion P these → AllByRecursion P (placed x these)
@@ -92,7 +53,7 @@ of_all_placed P these (x ∷ xs) h =
     let parts = of_placed P x these rest.0 in
     (parts.1, (parts.0, rest.1))
 
-all_of_both : (P Q R : Counted → Type 0) (these : List Counted) → ((it : Counted) → P it → Q it → R it) → AllByRecursion P these → AllByRecursion Q these → AllByRecursion R these
+pub all_of_both : (P Q R : Counted → Type 0) (these : List Counted) → ((it : Counted) → P it → Q it → R it) → AllByRecursion P these → AllByRecursion Q these → AllByRecursion R these
 all_of_both P Q R [] then p q = tt
 all_of_both P Q R (it ∷ these) then p q = (then it p.0 q.0, all_of_both P Q R these then p.1 q.1)
 
@@ -114,21 +75,21 @@ abbrev pub DifferPairwise : List Counted → Type 0
 DifferPairwise [] = Unit {0}
 DifferPairwise (x ∷ these) = AllByRecursion (Differ x) these × DifferPairwise these
 
-turned : (x y : Counted) → Differ x y → Differ y x
+pub turned : (x y : Counted) → Differ x y → Differ y x
 turned x y differ same = differ (sym same)
 
-placed-in_order : (x : Counted) (these : List Counted) → IsInOrder these → AllByRecursion (Differ x) these → IsInOrder (placed x these)
+pub placed-in_order : (x : Counted) (these : List Counted) → IsInOrder these → AllByRecursion (Differ x) these → IsInOrder (placed x these)
 placed-in_order x [] h differ = (tt, tt)
 placed-in_order x (y ∷ these) h differ =
     cond_both (goes_before x y) (x ∷ y ∷ these) (y ∷ placed x these) IsInOrder
     (λ first. (((first, differ.0), all_of_both (Precedes y) (Differ x) (Precedes x) these (λ z after apart. (before_all_later x y z first after.0, apart)) h.0 differ.1), h))
     (λ later. (placed-all (Precedes y) x these (one_before_the_other x y differ.0 later, turned x y differ.0) h.0, placed-in_order x these h.1 differ.1))
 
-differ_from_placed : (x : Counted) (these xs : List Counted) → AllByRecursion (Differ x) xs → AllByRecursion (λ y. AllByRecursion (Differ y) these) xs → AllByRecursion (λ y. AllByRecursion (Differ y) (placed x these)) xs
+pub differ_from_placed : (x : Counted) (these xs : List Counted) → AllByRecursion (Differ x) xs → AllByRecursion (λ y. AllByRecursion (Differ y) these) xs → AllByRecursion (λ y. AllByRecursion (Differ y) (placed x these)) xs
 differ_from_placed x these xs apart old =
     all_of_both (Differ x) (λ y. AllByRecursion (Differ y) these) (λ y. AllByRecursion (Differ y) (placed x these)) xs (λ y differ h. placed-all (Differ y) x these (turned x y differ) h) apart old
 
-all_placed-in_order : (these xs : List Counted) → IsInOrder these → DifferPairwise xs → AllByRecursion (λ y. AllByRecursion (Differ y) these) xs → IsInOrder (all_placed these xs)
+pub all_placed-in_order : (these xs : List Counted) → IsInOrder these → DifferPairwise xs → AllByRecursion (λ y. AllByRecursion (Differ y) these) xs → IsInOrder (all_placed these xs)
 all_placed-in_order these [] h distinct apart = h
 all_placed-in_order these (x ∷ xs) h distinct apart =
     all_placed-in_order (placed x these) xs (placed-in_order x these h apart.0) distinct.1 (differ_from_placed x these xs distinct.0 apart.1)
@@ -233,7 +194,7 @@ one_further k i = omega arith
 zero_plus : (i : ℕ) → i ≡ 0 + i
 zero_plus i = omega arith
 
-none_there : (these : List Counted) → AllByRecursion (λ y. AllByRecursion (Differ y) []) these
+pub none_there : (these : List Counted) → AllByRecursion (λ y. AllByRecursion (Differ y) []) these
 none_there [] = tt
 none_there (x ∷ these) = (tt, none_there these)
 
@@ -255,30 +216,6 @@ in_order-all_placed these distinct =
     ap (λ n. filter_map (λ place. find (λ it. eqb (count_before these it) place) these) (range_with_len 0 n)) long
     ∙ listed (λ place. find (λ it. eqb (count_before these it) place) these) 0 sorted (λ i v there. found_at these sorted ordered same places (0 + i) v (subst (λ n. slice_get sorted n ≡ Some v) (zero_plus i) there))
 
-suc_is : (i : ℕ) → suc i ≡ i + 1
-suc_is i = omega arith
-
-drop_at : (these : List Counted) (i : ℕ) (x : Counted) → i < length these → x ≡ get_or these i x → drop i these ≡ x ∷ drop (i + 1) these
-drop_at these i x lt is =
-    drop-cons these i x lt ∙ ap (λ y. y ∷ drop (suc i) these) (sym is) ∙ ap (λ n. x ∷ drop n these) (suc_is i)
-
--- the entries from place i on that pass, by the entry at i
-filter-drop : (p : Counted → Bool) (these : List Counted) (i : ℕ) (x : Counted) → i < length these → x ≡ get_or these i x → filter p (drop i these) ≡ cond (p x) (x ∷ filter p (drop (i + 1) these)) (filter p (drop (i + 1) these))
-filter-drop p these i x lt is = rw (drop_at these i x lt is) refl
-
--- one more entry is placed
-pub placed_more : (room : ℕ) (p : Counted → Bool) (these first all : List Counted) (i : ℕ) (x : Counted) → i < length these → x ≡ get_or these i x → p x ≡ true → take room (all_placed first (filter p (drop i these))) ≡ all → take room (all_placed (take room (placed x first)) (filter p (drop (i + 1) these))) ≡ all
-placed_more room p these first all i x lt is passes h =
-    take-all_placed_more room first x (filter p (drop (i + 1) these)) ∙ (rw (filter-drop p these i x lt is, passes) at h)
-
--- one more entry is no candidate
-pub skipped_more : (room : ℕ) (p : Counted → Bool) (these first all : List Counted) (i : ℕ) (x : Counted) → i < length these → x ≡ get_or these i x → p x ≡ false → take room (all_placed first (filter p (drop i these))) ≡ all → take room (all_placed first (filter p (drop (i + 1) these))) ≡ all
-skipped_more room p these first all i x lt is fails h = rw (filter-drop p these i x lt is, fails) at h
-
--- all are placed
-pub placed_end : (room : ℕ) (p : Counted → Bool) (these first all : List Counted) (i : ℕ) → length these ≤ i → length first ≤ room → take room (all_placed first (filter p (drop i these))) ≡ all → first ≡ all
-placed_end room p these first all i le short h = sym (take_all room first short) ∙ (rw (drop_all i these le) at h)
-
 differ_above : (p : Counted → Bool) (x : Counted) (these : List Counted) → AllAbove x.0.subject these → AllByRecursion (Differ x) (filter p these)
 differ_above p x [] h = tt
 differ_above p x (y ∷ these) h =
@@ -294,19 +231,8 @@ distinct-filter p (x ∷ these) h =
     (λ _. (differ_above p x these h.0, distinct-filter p these h.1))
     (λ _. distinct-filter p these h.1)
 
--- one more entry of those that pass, put in its place with room for so many
-pub put_more : (room : ℕ) (p : Counted → Bool) (these first next all : List Counted) (i : ℕ) (x : Counted) → next ≡ take room (insert first (position_or_len (goes_before x) first) x) → i < length these → x ≡ get_or these i x → true ≡ p x → take room (all_placed first (filter p (drop i these))) ≡ all → take room (all_placed next (filter p (drop (i + 1) these))) ≡ all
-put_more room p these first next all i x put lt is passes h =
-    rw (put, insert-position x first) (placed_more room p these first all i x lt is (sym passes) h)
-
 pub no_longer : {X : Type 0} (room : ℕ) (these next : List X) → next ≡ take room these → length next ≤ room
 no_longer room these next is = omega (arith, ap length is, length-take room these)
-
--- at the end the first are those of the entries that pass, in order
-pub placed_all : (room : ℕ) (p : Counted → Bool) (these first : List Counted) (i : ℕ) → is_rising these ≡ true → length these ≤ i → length first ≤ room → take room (all_placed first (filter p (drop i these))) ≡ take room (all_placed [] (filter p these)) → first ≡ take room (in_order (filter p these))
-placed_all room p these first i rising le short h =
-    placed_end room p these first (take room (all_placed [] (filter p these))) i le short h
-    ∙ ap (take room) (sym (in_order-all_placed (filter p these) (distinct-filter p these (rises these rising))))
 
 -- the order has as many of each kind
 pub count_by-in_order : (p : Counted → Bool) (these : List Counted) → DifferPairwise these → count_by p (in_order these) ≡ count_by p these

@@ -1,89 +1,135 @@
-// The entries of a buffer, in the order of their subjects.
-ghost use Rattle.std.specs.Prelude.{◌≡◌, IsTrue, IsSome, IfSome, IsOk, IfOk, IfErr, OnOk, OnErr, map, filter, nat_lt};
-ghost use Rattle.std.specs.Ordering.{nat_cmp};
-ghost use Rattle.std.specs.FinMap.{find, put};
-ghost use Rattle.piggyback.specs.Keyed.{keyed, is_rising, place, IsAt, IsGap, counted_within};
-ghost use Rattle.piggyback.specs.Picked.{counted_with, is_of_subject};
+// The entries of a buffer, in the order in which they are sent.
+ghost use Rattle.std.specs.Prelude.{◌≡◌, ◌<◌, ◌≤◌, ◌==◌, ℕ, IsTrue, IsSome, IfSome, IsOk, OnOk, OnErr, vec_len, count_by, filter, insert, nat_lt, position, remove, if◌then◌else◌};
+ghost use Rattle.std.specs.List.{position_or_len};
+ghost use Rattle.std.specs.Option.{option_map};
+ghost use Rattle.piggyback.specs.Keyed.{counted_once, counted_within, found_of, is_in_order, IsPut, IsSent};
+ghost use Rattle.piggyback.specs.Picked.{goes_before};
 
+use crate::front::{begin_with, count_front};
+use crate::order::place_among;
 use base::{MemberId, Memory};
 use incarnation::Update;
 
-// How many entries are about members below this one: where its own entry is, or would be.
-fn place_of(entries: &[(Update, u64)], subject: MemberId) -> usize
-    requires { IsTrue (is_rising entries.now) }
-    ensures { result ≡ place subject entries.now }
+// Where the entry about a member is, if there is one.
+fn place_of(entries: &[(Update, u64)], subject: MemberId) -> Option<usize>
+    ensures { result ≡ position (λ it. it.0.subject == subject) entries.now }
 {
-    entries.partition_point(|(update, _)| update.subject < subject)
-}
-
-// Where the entry about a member is, or would be.
-fn search(entries: &[(Update, u64)], subject: MemberId) -> Result<usize, usize>
-    requires { IsTrue (is_rising entries.now) }
-    ensures found { IfOk result (IsAt subject entries.now) }
-    ensures absent { IfErr result (IsGap subject entries.now) }
-{
-    let place = place_of(entries, subject);
-    match entries.get(place) {
-        Some(entry) if entry.0.subject == subject => Ok(place),
-        _ => Err(place),
-    }
+    entries
+        .iter()
+        .position(|(update, _)| update.subject == subject)
 }
 
 // The entry about a member.
 pub(crate) fn entry_of(entries: &[(Update, u64)], subject: MemberId) -> Option<(Update, u64)>
-    requires { IsTrue (is_rising entries.now) }
-    ensures found { result ≡ find nat_cmp subject (keyed entries.now) }
+    requires { IsTrue (is_in_order entries.now) }
+    ensures found { result ≡ found_of subject entries.now }
     ensures own { IfSome result (λ it. it.0.subject ≡ subject) }
 {
-    match search(entries, subject) {
-        Ok(place) => Some(entries[place]),
-        Err(_) => None,
+    match place_of(entries, subject) {
+        Some(place) => Some(entries[place]),
+        None => None,
+    }
+}
+
+// Takes out the entry at a place, and puts in its stead another one where that is to be sent. It
+// takes no memory.
+fn replace_at(entries: &mut Vec<(Update, u64)>, place: usize, entry: (Update, u64))
+    requires place { place < vec_len entries.old }
+    requires ordered { IsTrue (is_in_order entries.old.items) }
+    ensures { let others = remove entries.old.items place in
+        entries.new.items ≡ insert others (position_or_len (goes_before entry) others) entry }
+{
+    entries.remove(place);
+    let place = place_among(entries, &entry);
+    entries.insert(place, entry).unwrap();
+}
+
+// Puts a new entry where it is to be sent.
+fn add(entries: &mut Vec<(Update, u64)>, entry: (Update, u64)) -> Result<(), Memory>
+    requires { IsTrue (is_in_order entries.old.items) }
+    ensures ok { let old = entries.old.items in
+        OnOk result (entries.new.items ≡ insert old (position_or_len (goes_before entry) old) entry) }
+    ensures err { OnErr result (entries.new.items ≡ entries.old.items) }
+{
+    let place = place_among(entries, &entry);
+    match entries.insert(place, entry) {
+        Ok(()) => Ok(()),
+        Err(_) => Err(Memory),
     }
 }
 
 // Puts an update that was not sent yet in the place of what is there about its subject.
 pub(crate) fn set(entries: &mut Vec<(Update, u64)>, update: Update) -> Result<(), Memory>
-    requires { IsTrue (is_rising entries.old.items) }
-    ensures ok { let old = keyed entries.old.items in
-        OnOk result (keyed entries.new.items ≡ put nat_cmp update.subject (update, 0) old) }
+    requires { IsTrue (is_in_order entries.old.items) }
+    ensures ok { OnOk result (IsPut (update, 0) entries.old.items entries.new.items) }
     ensures err { OnErr result (entries.new.items ≡ entries.old.items) }
-    ensures replaces { IsSome (find nat_cmp update.subject (keyed entries.old.items)) → IsOk result }
+    ensures replaces { IsSome (found_of update.subject entries.old.items) → IsOk result }
 {
-    match search(entries, update.subject) {
-        Ok(place) => {
-            entries[place] = (update, 0);
+    match place_of(entries, update.subject) {
+        Some(place) => {
+            replace_at(entries, place, (update, 0));
             Ok(())
         }
-        Err(place) => match entries.insert(place, (update, 0)) {
-            Ok(()) => Ok(()),
-            Err(_) => Err(Memory),
-        },
+        None => add(entries, (update, 0)),
     }
 }
 
-// Whether one of the updates is about the member.
-pub(crate) fn has_subject(updates: &[Update], subject: MemberId) -> bool
-    ensures { result ≡ is_of_subject subject updates.now }
+// Counts what is about a member as sent once more.
+fn count_one(entries: &mut Vec<(Update, u64)>, subject: MemberId)
+    requires { IsTrue (is_in_order entries.old.items) }
+    ensures ordered { IsTrue (is_in_order entries.new.items) }
+    ensures counted { let old = entries.old.items in (other : ℕ) → found_of other entries.new.items
+        ≡ (if other == subject then option_map counted_once (found_of other old) else found_of other old) }
 {
-    updates.iter().any(|update| update.subject == subject)
+    let Some(place) = place_of(entries, subject) else {
+        return;
+    };
+    let entry = entries[place];
+    replace_at(entries, place, (entry.0, entry.1.saturating_add(1)));
 }
 
-// Counts what is about the subject of an update as sent once more.
-fn count_each(entries: &mut [(Update, u64)], updates: &[Update])
-    ensures { entries.new ≡ map (counted_within updates.now) entries.old }
+// Counts what is about the subjects of these updates as sent once more, one after another.
+fn count_by_subject(entries: &mut Vec<(Update, u64)>, updates: &[Update])
+    requires ordered { IsTrue (is_in_order entries.old.items) }
+    requires once { (subject : ℕ) → count_by (λ update. update.subject == subject) updates.now ≤ 1 }
+    ensures ordered { IsTrue (is_in_order entries.new.items) }
+    ensures counted { (subject : ℕ) → found_of subject entries.new.items
+        ≡ option_map (counted_within updates.now) (found_of subject entries.old.items) }
 {
-    for entry in entries.iter_mut() {
-        if has_subject(updates, entry.0.subject) {
-            entry.1 = entry.1.saturating_add(1);
-        }
+    for update in updates {
+        count_one(entries, update.subject);
     }
+}
+
+// Counts what is about the subjects of these updates as sent once more.
+fn count_each(entries: &mut Vec<(Update, u64)>, updates: &[Update])
+    requires ordered { IsTrue (is_in_order entries.old.items) }
+    requires once { (subject : ℕ) → count_by (λ update. update.subject == subject) updates.now ≤ 1 }
+    ensures ordered { IsTrue (is_in_order entries.new.items) }
+    ensures counted { (subject : ℕ) → found_of subject entries.new.items
+        ≡ option_map (counted_within updates.now) (found_of subject entries.old.items) }
+{
+    if begin_with(entries, updates) && count_front(entries, updates.len()) {
+        return;
+    }
+    count_by_subject(entries, updates);
+}
+
+// Drops the entries that were sent `limit` times: the last ones.
+fn drop_sent(entries: &mut Vec<(Update, u64)>, limit: u64)
+    requires { IsTrue (is_in_order entries.old.items) }
+    ensures { entries.new.items ≡ filter (λ it. nat_lt it.1 limit) entries.old.items }
+{
+    let left = entries.partition_point(|(_, count)| *count < limit);
+    entries.truncate(left);
 }
 
 // Counts the updates as sent once more, and drops what was then sent `limit` times.
 pub(crate) fn count_sent(entries: &mut Vec<(Update, u64)>, updates: &[Update], limit: u64)
-    ensures { let counted = map (counted_with updates.now) entries.old.items in
-        entries.new.items ≡ filter (λ it. nat_lt it.1 limit) counted }
+    requires ordered { IsTrue (is_in_order entries.old.items) }
+    requires once { (subject : ℕ) → count_by (λ update. update.subject == subject) updates.now ≤ 1 }
+    ensures { IsSent updates.now limit entries.old.items entries.new.items }
 {
     count_each(entries, updates);
-    entries.retain(|(_, count)| *count < limit);
+    drop_sent(entries, limit);
 }

@@ -8,8 +8,11 @@ ghost use Rattle.std.specs.FinMap.{empty, get, insert};
 ghost use Rattle.piggyback.specs.Picked.{picked, left_by_pick};
 
 mod entries;
+mod front;
 pub mod laws;
 mod order;
+#[cfg(test)]
+mod plain;
 
 use base::{MemberId, Memory};
 use entries::{count_sent, entry_of, set};
@@ -22,7 +25,7 @@ use std::marker::Model;
 /// that carried its subject since it was put.
 #[derive(Debug, Drop)]
 pub struct Buffer {
-    // In the order of their subjects.
+    // In the order in which they are sent.
     entries: Vec<(Update, u64)>,
 }
 
@@ -30,7 +33,7 @@ impl Model for Buffer {
     ghost use Rattle.std.specs.Prelude.{IsTrue};
     ghost use Rattle.std.specs.FinMap.{from_entries};
     ghost use Rattle.piggyback.specs.Picked.{HeldUpdates};
-    ghost use Rattle.piggyback.specs.Keyed.{keyed, is_rising};
+    ghost use Rattle.piggyback.specs.Keyed.{keyed, is_in_order};
     ghost use Rattle.std.specs.Coded.{coded_ℕ, coded×};
     ghost use Rattle.std.specs.FinMap.{code};
     ghost use Rattle.incarnation.specs.contracts.Update as update;
@@ -41,7 +44,7 @@ impl Model for Buffer {
 
     ghost view = { λ buffer. from_entries (keyed buffer.entries.items) };
 
-    ghost invariant = { λ buffer. IsTrue (is_rising buffer.entries.items) };
+    ghost invariant = { λ buffer. IsTrue (is_in_order buffer.entries.items) };
 }
 
 impl Buffer {

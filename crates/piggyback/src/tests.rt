@@ -1,4 +1,7 @@
+ghost use Rattle.std.specs.Prelude.{◌<◌};
+
 use super::*;
+use crate::plain::Plain;
 use incarnation::Claim;
 use std::process::Abort;
 use std::test::Fail;
@@ -119,6 +122,69 @@ fn a_refusal_changes_nothing(rt: HostRuntime) -> Result<(), Fail> {
         match buffer.pick(2, 2, buddy) {
             Ok(updates) => assert_eq!(rt; updates.len(), 2),
             Err(Memory) => assert_eq!(rt; counts(&buffer), before, "after a pick that was refused"),
+        }
+    }
+    Ok(())
+}
+
+// What a call of the two forms is drawn from.
+#[derive(Drop)]
+struct Draws {
+    word: u64,
+}
+
+impl Draws {
+    fn below(&mut self, bound: u64) -> u64
+        requires { 0 < bound }
+        ensures { result < bound }
+    {
+        self.word = self
+            .word
+            .wrapping_mul(6_364_136_223_846_793_005)
+            .wrapping_add(1_442_695_040_888_963_407);
+        (self.word >> 33) % bound
+    }
+}
+
+// Puts one update into both forms.
+fn put_both(buffer: &mut Buffer, plain: &mut Plain, draws: &mut Draws) -> Result<(), Memory> {
+    let update = Update {
+        inc: draws.below(3),
+        ..alive(draws.below(12) as u16)
+    };
+    plain.put(&update)?;
+    buffer.put(update)
+}
+
+// Takes the updates of one message out of both forms, and says whether they are the same.
+fn pick_both(
+    alloc: Global,
+    buffer: &mut Buffer,
+    plain: &mut Plain,
+    draws: &mut Draws,
+) -> Result<bool, Memory> {
+    let buddy = match draws.below(4) {
+        0 => Some(suspect(draws.below(12) as u16)),
+        _ => None,
+    };
+    let carry = draws.below(6) as usize;
+    let limit = 2 + draws.below(4);
+    let wanted = plain.pick(alloc, carry, limit, &buddy)?;
+    let updates = buffer.pick(carry, limit, buddy)?;
+    Ok(updates.as_slice() == wanted.as_slice())
+}
+
+#[test]
+fn both_forms_carry_the_same(rt: HostRuntime) -> Result<(), Fail> {
+    let mut buffer = Buffer::new(rt.alloc())?;
+    let mut plain = Plain::new(rt.alloc());
+    let mut draws = Draws { word: 7 };
+    for call in 0..4000u64 {
+        if draws.below(5) < 2 {
+            put_both(&mut buffer, &mut plain, &mut draws)?;
+        } else {
+            let same = pick_both(rt.alloc(), &mut buffer, &mut plain, &mut draws)?;
+            assert!(rt; same, "call {call}");
         }
     }
     Ok(())

@@ -1,17 +1,22 @@
-use Rattle.std.proofs.Common.{◌≡◌, ltb, filter, map, length, ap, ◌∙◌, arith, rules}
-use Rattle.std.proofs.lemmas.List.{length-map}
-use Rattle.std.proofs.lemmas.Fn.{filter_same}
+use Rattle.std.proofs.Common.{ltb, ap, ◌∙◌, arith}
+use Rattle.std.specs.Option.{option_and_then}
 use Rattle.piggyback.specs.Picked.{Counted}
-use Rattle.piggyback.specs.Keyed.{counted_within}
-use Rattle.piggyback.proofs.Counting.{mapped_vec, kept_within}
+use Rattle.piggyback.specs.Keyed.{found_of, is_in_order}
+use Rattle.piggyback.proofs.Sending.{order_is, order_test, differ_in_order, in_order-filter, found-filter, if_passes}
+use Rattle.piggyback.proofs.Counting.{sent_kept}
 use Rattle.piggyback.proofs.entries.count_sent.Goals as goal
 
 pub returns : goal.returns
 returns c =
     let below = λ (it : Counted). ltb it.1 c.args.limit in
-    let kept = filter_same _ below _ (λ x b g called. search rules) _ _ c.retain.ensures.filtered in
-    let counted : c.count_each.new.entries ≡ map (counted_within c.args.updates.now) c.args.entries.now.items = c.count_each.ensures ∙ ap (map (counted_within c.args.updates.now)) c.deref_mut.ensures.value in
-    let long : length c.count_each.new.entries ≡ length c.args.entries.now.items = ap length counted ∙ length-map c.args.entries.now.items (counted_within c.args.updates.now) in
-    kept
-    ∙ ap (filter below) (mapped_vec _ _ _ (omega (arith, c.deref_mut.ensures.len, ap length c.deref_mut.ensures.value)) long ∙ counted)
-    ∙ kept_within c.args.updates.now c.args.limit c.args.entries.now.items (omega arith)
+    let kept = c.drop_sent.ensures in
+    let counted = c.count_each.ensures in
+    let inside = order_is c.count_each.new.entries.items counted.ordered in
+    record {
+      ordered = ap is_in_order kept ∙ order_test _ (in_order-filter below _ inside);
+      stands = λ subject.
+          ap (found_of subject) kept
+          ∙ found-filter below subject _ (differ_in_order _ inside)
+          ∙ ap (option_and_then (if_passes below)) (counted.counted subject)
+          ∙ sent_kept c.args.updates.now c.args.limit (omega arith) (found_of subject c.args.entries.now.items);
+    }

@@ -1,0 +1,88 @@
+// The entries that left with a message mostly stand at the front. There they are counted together, and
+// merged into the others.
+ghost use Rattle.std.specs.Prelude.{◌≡◌, ◌≤◌, IsTrue, IfOk, length, map, drop, take, vec_len};
+ghost use Rattle.std.specs.Bool.{OnTrue, OnFalse};
+ghost use Rattle.piggyback.specs.Keyed.{all_placed, begins_with, counted_once, goes_first, is_in_order, stands_first};
+
+use crate::order::precedes;
+use incarnation::Update;
+use std::alloc::{AllocError, Global};
+
+// Whether the entry at a place is about the update's subject, and its count can rise.
+fn stands_at(entries: &[(Update, u64)], place: usize, update: &Update) -> bool
+    ensures { result ≡ stands_first update.now (drop place entries.now) }
+{
+    match entries.get(place) {
+        Some((own, count)) => own.subject == update.subject && *count < u64::MAX,
+        None => false,
+    }
+}
+
+// Whether the entries begin with those about the subjects of these updates, and their counts can rise.
+pub(crate) fn begin_with(entries: &[(Update, u64)], updates: &[Update]) -> bool
+    ensures { result ≡ begins_with updates.now entries.now }
+{
+    for (place, update) in updates.iter().enumerate() {
+        if !stands_at(entries, place, update) {
+            return false;
+        }
+    }
+    true
+}
+
+// These entries, each sent once more.
+fn counted(alloc: Global, entries: &[(Update, u64)]) -> Result<Vec<(Update, u64)>, AllocError>
+    ensures { IfOk result (λ sent. sent.items ≡ map counted_once entries.now) }
+{
+    entries
+        .iter()
+        .map(|(update, count)| (*update, count.saturating_add(1)))
+        .collect(alloc)
+}
+
+// Whether an entry goes before the one at a place, if there is one.
+fn comes_first(entry: &(Update, u64), entries: &[(Update, u64)], place: usize) -> bool
+    ensures { result ≡ goes_first entry.now (drop place entries.now) }
+{
+    match entries.get(place) {
+        Some(other) => precedes(entry, other),
+        None => true,
+    }
+}
+
+// Merges these into the entries behind as many places as they are, which are free.
+fn merge(entries: &mut [(Update, u64)], sent: &[(Update, u64)])
+    requires room { length sent.now ≤ length entries.old }
+    requires ordered { IsTrue (is_in_order sent.now) }
+    ensures { entries.new ≡ all_placed (drop (length sent.now) entries.old) sent.now }
+{
+    let mut done = 0;
+    for place in 0..entries.len() {
+        if done == sent.len() {
+            return;
+        }
+        let next = place + (sent.len() - done);
+        if comes_first(&sent[done], entries, next) {
+            entries[place] = sent[done];
+            done += 1;
+        } else {
+            entries[place] = entries[next];
+        }
+    }
+}
+
+// Counts so many entries at the front as sent once more. False where memory for it was refused.
+pub(crate) fn count_front(entries: &mut Vec<(Update, u64)>, many: usize) -> bool
+    requires within { many ≤ vec_len entries.old }
+    requires ordered { IsTrue (is_in_order (map counted_once (take many entries.old.items))) }
+    ensures went { let old = entries.old.items in
+        OnTrue result (entries.new.items ≡ all_placed (drop many old) (map counted_once (take many old))) }
+    ensures same { OnFalse result (entries.new.items ≡ entries.old.items) }
+{
+    let alloc = *entries.allocator();
+    let Ok(sent) = counted(alloc, &entries[..many]) else {
+        return false;
+    };
+    merge(entries, &sent);
+    true
+}
