@@ -1,11 +1,11 @@
 -- What an answer to the words says of them, and of what was not done.
-use Rattle.std.proofs.Common.{◌≡◌, ◌≢◌, ◌⊎◌, List, ℕ, Bool, Option, Result, None, subst, inl, inr}
+use Rattle.std.proofs.Common.{◌≡◌, ◌≢◌, ◌⊎◌, List, ℕ, Bool, Option, Result, Ok, Err, None, sym, subst, inl, inr}
 use Rattle.std.proofs.lemmas.Result.{on_ok_weaker}
-use Rattle.std.specs.Result.{OnOk}
+use Rattle.std.specs.Result.{OnOk, IfErr}
+use Rattle.std.specs.Prelude.{IsErrAnd}
 use Rattle.std.specs.Io.KnownBytes.{Appends}
 use Rattle.clap.specs.Words.{Text}
-use Rattle.scenario.specs.Setup.{Setup}
-use Rattle.cli.specs.Outcomes.{Shelf, ScenarioFails, FileFails, RunFails, RefusesFile, Empties, EmptiesTrace, RunsAll, HasDone, report_word, Fails}
+use Rattle.cli.specs.Outcomes.{Shelf, FailsCheck, RunFails, CheckFails, Empties, EmptiesTrace, RunsAll, HasDone, report_word, Fails}
 use Rattle.command_line.specs.Printed.{rows_line}
 use Rattle.command_line.specs.Words.{Answers, AsksForRun, AsksForCheck, IsCommand}
 use Rattle.command_line.specs.declared.words.Asked.{Asked}
@@ -20,46 +20,30 @@ is_command words (asked.Run run) h = inl (run, h.1)
 is_command words (asked.Check file) h = inr (inl (file.now, h.1))
 is_command words (asked.Help help) h = inr (inr h.1)
 
--- a run fails neither by the words nor by standard output
-scenario_usage : (s : Setup) (before after : Shelf) (makes : Text → Bool) (workers : ℕ) (run : RunWords) → ScenarioFails s before after makes workers run Usage → ⊥
-scenario_usage s before after makes workers run (inl split) = split.cause
-scenario_usage s before after makes workers run (inr store) = store.cause
-
-file_usage : (before after : Shelf) (makes : Text → Bool) (workers : ℕ) (run : RunWords) → FileFails before after makes workers run Usage → ⊥
-file_usage before after makes workers run (inl file) = file.cause
-file_usage before after makes workers run (inr fails) = scenario_usage fails.scenario before after makes workers run fails.cause
+-- no check of a run fails by the words or by standard output, and so no run does
+check_usage : (before : Shelf) (run : RunWords) → FailsCheck before run Usage → ⊥
+check_usage before run (inl count) = count
+check_usage before run (inr (inl file)) = file.2
+check_usage before run (inr (inr split)) = split.4
 
 run_usage : (before after : Shelf) (makes : Text → Bool) (run : RunWords) → RunFails before after makes run Usage → ⊥
-run_usage before after makes run (inl count) = count.cause
-run_usage before after makes run (inr fails) = file_usage before after makes fails.workers run fails.cause
+run_usage before after makes run (inl refused) = check_usage before run refused.cause
+run_usage before after makes run (inr store) = store.cause
 
-scenario_output : (s : Setup) (before after : Shelf) (makes : Text → Bool) (workers : ℕ) (run : RunWords) → ScenarioFails s before after makes workers run Output → ⊥
-scenario_output s before after makes workers run (inl split) = split.cause
-scenario_output s before after makes workers run (inr store) = store.cause
-
-file_output : (before after : Shelf) (makes : Text → Bool) (workers : ℕ) (run : RunWords) → FileFails before after makes workers run Output → ⊥
-file_output before after makes workers run (inl file) = file.cause
-file_output before after makes workers run (inr fails) = scenario_output fails.scenario before after makes workers run fails.cause
+check_output : (before : Shelf) (run : RunWords) → FailsCheck before run Output → ⊥
+check_output before run (inl count) = count
+check_output before run (inr (inl file)) = file.2
+check_output before run (inr (inr split)) = split.4
 
 run_output : (before after : Shelf) (makes : Text → Bool) (run : RunWords) → RunFails before after makes run Output → ⊥
-run_output before after makes run (inl count) = count.cause
-run_output before after makes run (inr fails) = file_output before after makes fails.workers run fails.cause
+run_output before after makes run (inl refused) = check_output before run refused.cause
+run_output before after makes run (inr store) = store.cause
 
 -- where memory was refused, no file has changed, but that the trace's may have been made
-scenario_memory : (s : Setup) (before after : Shelf) (makes : Text → Bool) (workers : ℕ) (run : RunWords) → ScenarioFails s before after makes workers run Memory
-    → (after ≡ before) ⊎ ((report_word run ≢ None) × Empties before after run.trace.now)
-scenario_memory s before after makes workers run (inl split) = inl split.same
-scenario_memory s before after makes workers run (inr store) = store.cause
-
-file_memory : (before after : Shelf) (makes : Text → Bool) (workers : ℕ) (run : RunWords) → FileFails before after makes workers run Memory
-    → (after ≡ before) ⊎ ((report_word run ≢ None) × Empties before after run.trace.now)
-file_memory before after makes workers run (inl file) = inl file.same
-file_memory before after makes workers run (inr fails) = scenario_memory fails.scenario before after makes workers run fails.cause
-
 run_memory : (words : List Text) (before after : Shelf) (makes : Text → Bool) (run : RunWords) → AsksForRun words run → RunFails before after makes run Memory
     → (after ≡ before) ⊎ EmptiesTrace words before after
-run_memory words before after makes run asks (inl count) = inl count.same
-run_memory words before after makes run asks (inr fails) = go (file_memory before after makes fails.workers run fails.cause)
+run_memory words before after makes run asks (inl refused) = inl refused.same
+run_memory words before after makes run asks (inr store) = go store.cause
   where
     go : (after ≡ before) ⊎ ((report_word run ≢ None) × Empties before after run.trace.now) → (after ≡ before) ⊎ EmptiesTrace words before after
     go (inl same) = inl same
@@ -79,7 +63,7 @@ run_fails words before after makes run Memory asks fails = run_memory words befo
 
 -- why a check that the words ask for was not done
 pub check_fails : (words : List Text) (before after : Shelf) (makes : Text → Bool) (file : Text) (failure : Failure)
-    → AsksForCheck words file → RefusesFile before after file failure → Fails words before after makes failure
+    → AsksForCheck words file → CheckFails before after file failure → Fails words before after makes failure
 check_fails words before after makes file (File name) asks fails = inr (file, asks, fails)
 check_fails words before after makes file (Rule rule) asks fails = inr (file, asks, fails)
 check_fails words before after makes file Memory asks fails = inl fails.same
@@ -103,3 +87,8 @@ pub asked_run_done : {E : Type 0} (words : List Text) (before after : Shelf) (ol
 asked_run_done words before after old new answer run count printed is h ran told =
     let asks : Answers words (asked.Run run) = subst (Answers words) is h in
     on_ok_weaker printed (λ appended. inl (count, (run, asks.1, ran), appended)) told
+
+-- what a `?` hands on is the error that it was given
+pub handed_on : {T E : Type 0} (Q : E → Type 0) (r : Result T E) (e : E) → IsErrAnd r (λ y. y ≡ e) → Q e → IfErr r Q
+handed_on Q (Ok x) e gives h = absurd gives
+handed_on Q (Err y) e gives h = subst Q (sym gives) h

@@ -57,23 +57,20 @@ pub record StoresRun (s : Setup) (before after : Shelf) (trace : Text) (report :
   pub reported : HoldsReport before after report (report_text s rows)
   pub others : KeepsRest before after trace report
 
--- the scenario was divided as the words say, and its run done
-pub record RunsScenario (s : Setup) (before after : Shelf) (workers : ℕ) (run : RunWords) (count : ℕ) : Type 0 where
-  pub deal : Deal
+-- The checks of a run, before its files are made: the words name so many workers, the file holds this scenario, and its members
+-- are divided so, as the words say.
+pub record PassesChecks (before : Shelf) (run : RunWords) (workers : ℕ) (s : Setup) (deal : Deal) : Type 0 where
+  pub asked : AsksForWorkers (workers_word run) workers
+  pub accepted : HasVerdict (before run.file.now) (Ok s)
   pub divided : Divides (member_count s) workers run.split deal
-  pub stored : StoresRun s before after run.trace.now (report_word run) count
 
--- the same of the scenario that the file holds
-pub record RunsFile (before after : Shelf) (workers : ℕ) (run : RunWords) (count : ℕ) : Type 0 where
-  pub scenario : Setup
-  pub accepted : HasVerdict (before run.file.now) (Ok scenario)
-  pub done : RunsScenario scenario before after workers run count
-
--- the run that the words of `run` ask for was done, and has so many rows
+-- the run that the words of `run` ask for passed its checks and was done, and has so many rows
 pub record RunsAll (before after : Shelf) (run : RunWords) (count : ℕ) : Type 0 where
   pub workers : ℕ
-  pub asked : AsksForWorkers (workers_word run) workers
-  pub done : RunsFile before after workers run count
+  pub scenario : Setup
+  pub deal : Deal
+  pub checks : PassesChecks before run workers scenario deal
+  pub stored : StoresRun scenario before after run.trace.now (report_word run) count
 
 -- the file holds a scenario of so many members
 pub record HoldsScenario (known : KnownFile) (members : ℕ) : Type 0 where
@@ -147,22 +144,6 @@ StoreFails s before after makes trace report Memory = (after ≡ before) ⊎ ((r
 StoreFails s before after makes trace report (Run cause) = BreaksOff s before after trace report cause
 StoreFails s before after makes trace report _ = ⊥
 
--- the scenario can't be divided as the words say
-pub record RefusesSplit (s : Setup) (before after : Shelf) (split : Split) (failure : Failure) : Type 0 where
-  pub cause : RefusesDivision (member_count s) split failure
-  pub same : after ≡ before
-
--- the scenario can be divided, but its run isn't stored whole
-pub record RefusesStore (s : Setup) (before after : Shelf) (makes : Text → Bool) (workers : ℕ) (run : RunWords) (failure : Failure) : Type 0 where
-  pub deal : Deal
-  pub divided : Divides (member_count s) workers run.split deal
-  pub cause : StoreFails s before after makes run.trace.now (report_word run) failure
-
--- why a scenario was not run to its end
-abbrev pub ScenarioFails : Setup → Shelf → Shelf → (Text → Bool) → ℕ → RunWords → Failure → Type 0
-ScenarioFails s before after makes workers run failure = RefusesSplit s before after run.split failure
-    ⊎ RefusesStore s before after makes workers run failure
-
 -- no scenario was read from the file of this name: it can't be read, its text breaks a rule, or memory was refused
 abbrev pub LoadFails : KnownFile → Text → Failure → Type 0
 LoadFails known file (File name) = (name.now ≡ file) × IsAbsent known
@@ -170,42 +151,40 @@ LoadFails known file (Rule rule) = HasVerdict known (Err rule)
 LoadFails known file Memory = Unit {0}
 LoadFails known file _ = ⊥
 
-pub record RefusesFile (before after : Shelf) (file : Text) (failure : Failure) : Type 0 where
-  pub cause : LoadFails (before file) file failure
+-- The check of a run that failed. Of several causes it is the first of workers, the file and its text, division.
+abbrev pub FailsCheck : Shelf → RunWords → Failure → Type 0
+FailsCheck before run failure =
+    RefusesWorkers (workers_word run) failure
+    ⊎ (((workers : ℕ) × AsksForWorkers (workers_word run) workers × LoadFails (before run.file.now) run.file.now failure)
+    ⊎ ((workers : ℕ) × (s : Setup) × AsksForWorkers (workers_word run) workers × HasVerdict (before run.file.now) (Ok s)
+    × RefusesDivision (member_count s) run.split failure))
+
+-- no file has changed, since a check failed before
+pub record IsRefused (before after : Shelf) (Cause : Type 0) : Type 0 where
+  pub cause : Cause
   pub same : after ≡ before
 
--- the file holds a scenario, which was not run to its end
-pub record RefusesScenario (before after : Shelf) (makes : Text → Bool) (workers : ℕ) (run : RunWords) (failure : Failure) : Type 0 where
-  pub scenario : Setup
-  pub accepted : HasVerdict (before run.file.now) (Ok scenario)
-  pub cause : ScenarioFails scenario before after makes workers run failure
-
--- why a file's scenario was not run to its end
-abbrev pub FileFails : Shelf → Shelf → (Text → Bool) → ℕ → RunWords → Failure → Type 0
-FileFails before after makes workers run failure = RefusesFile before after run.file.now failure
-    ⊎ RefusesScenario before after makes workers run failure
-
--- the words name no number of workers
-pub record RefusesCount (before after : Shelf) (run : RunWords) (failure : Failure) : Type 0 where
-  pub cause : RefusesWorkers (workers_word run) failure
-  pub same : after ≡ before
-
--- the words name one, but the run was not done
-pub record RefusesRun (before after : Shelf) (makes : Text → Bool) (run : RunWords) (failure : Failure) : Type 0 where
+-- all checks passed, but the run was not stored whole
+pub record FailsToStore (before after : Shelf) (makes : Text → Bool) (run : RunWords) (failure : Failure) : Type 0 where
   pub workers : ℕ
-  pub asked : AsksForWorkers (workers_word run) workers
-  pub cause : FileFails before after makes workers run failure
+  pub scenario : Setup
+  pub deal : Deal
+  pub checks : PassesChecks before run workers scenario deal
+  pub cause : StoreFails scenario before after makes run.trace.now (report_word run) failure
 
--- why the run that the words of `run` ask for was not done: of several causes the first of workers, file, scenario,
--- division and files
+-- why the run that the words of `run` ask for was not done: the first check that failed, and after all checks what befell the files
 abbrev pub RunFails : Shelf → Shelf → (Text → Bool) → RunWords → Failure → Type 0
-RunFails before after makes run failure = RefusesCount before after run failure ⊎ RefusesRun before after makes run failure
+RunFails before after makes run failure = IsRefused before after (FailsCheck before run failure) ⊎ FailsToStore before after makes run failure
+
+-- why the file was not checked
+abbrev pub CheckFails : Shelf → Shelf → Text → Failure → Type 0
+CheckFails before after file failure = IsRefused before after (LoadFails (before file) file failure)
 
 -- why a run or a check that the words ask for was not done
 abbrev pub DoesNot : List Text → Shelf → Shelf → (Text → Bool) → Failure → Type 0
 DoesNot words before after makes failure =
     ((run : RunWords) × AsksForRun words run × RunFails before after makes run failure)
-    ⊎ ((file : Text) × AsksForCheck words file × RefusesFile before after file failure)
+    ⊎ ((file : Text) × AsksForCheck words file × CheckFails before after file failure)
 
 -- the words ask for a run, and the file of its trace was made, but not that of its report
 abbrev pub EmptiesTrace : List Text → Shelf → Shelf → Type 0

@@ -2,7 +2,7 @@
 ghost use Rattle.std.specs.Prelude.{◌≡◌, ◌≢◌, ◌⊎◌, ◌≤◌, map, Ok, Some, None, IfOk, IfErr, OnOk, IsErrOf, length};
 ghost use Rattle.scenario.specs.Setup.{member_count};
 ghost use Rattle.command_line.specs.Words.{IsCommand, IsNoCommand};
-ghost use Rattle.cli.specs.Outcomes.{HasDone, Fails, Ends, RunsAll, RunFails, RunsFile, FileFails, RunsScenario, ScenarioFails, StoresRun, StoreFails, report_word, HasVerdict, LoadFails};
+ghost use Rattle.cli.specs.Outcomes.{HasDone, Fails, Ends, RunsAll, RunFails, PassesChecks, FailsCheck, StoresRun, StoreFails, HasVerdict, LoadFails};
 
 use crate::simulation::{check, simulate};
 use command_line::{
@@ -75,24 +75,21 @@ fn perform<'a, S: AsStr, F: Files, O: Write>(
     ensures usage { IsErrOf result Failure.Usage → IsNoCommand (map S.text words.entry.now) }
     ensures silent { IfErr result (λ failure. failure ≢ Failure.Output → out.new ≡ out.old) }
 {
-    let asked = match parse(alloc, words) {
-        Ok(asked) => asked,
-        Err(failure) => return Err(failure),
-    };
-    match asked {
+    match parse(alloc, words)? {
         Asked::Help(help) => print_help(&help, out),
-        Asked::Run(words) => match run(rt, alloc, words, files) {
-            Ok(summary) => print_rows(summary.rows, out),
-            Err(failure) => Err(failure),
-        },
-        Asked::Check(file) => match load(alloc, file, files) {
-            Ok(scenario) => print_members(scenario.members(), out),
-            Err(failure) => Err(failure),
-        },
+        Asked::Run(words) => {
+            let summary = run(rt, alloc, words, files)?;
+            print_rows(summary.rows, out)
+        }
+        Asked::Check(file) => {
+            let scenario = load(alloc, file, files)?;
+            print_members(scenario.members(), out)
+        }
     }
 }
 
-/// Runs the scenario of one file, and writes its trace and its report to others.
+/// Runs the scenario of one file, and writes its trace and its report to others, which are made once all
+/// checks have passed.
 fn run<'a, F: Files>(
     rt: &(impl Threads + Sync),
     alloc: Global,
@@ -104,51 +101,41 @@ fn run<'a, F: Files>(
     ensures failed { IfErr result
         (RunFails (F.known files.old) (F.known files.new) (F.makes files.old) words.entry) }
 {
-    match workers_asked(words.workers) {
-        Ok(workers) => run_file(rt, alloc, words, workers, files),
-        Err(failure) => Err(failure),
+    let prepared = prepare(alloc, words, files)?;
+    match words.report {
+        Some(report) => store_both(rt, alloc, &prepared, words.trace, report, files),
+        None => store_trace(rt, alloc, &prepared, words.trace, files),
     }
 }
 
-/// Runs the scenario of one file with so many workers, and writes its trace and its report to others.
-fn run_file<'a, F: Files>(
-    rt: &(impl Threads + Sync),
-    alloc: Global,
-    words: RunWords<'a>,
+/// What a run goes by, once its checks have passed.
+#[derive(Drop)]
+struct Prepared {
     workers: Workers,
-    files: &mut F,
-) -> Result<Summary, Failure<'a>>
-    ensures done { IfOk result
-        (λ summary. RunsFile (F.known files.old) (F.known files.new) workers words.entry summary.rows) }
-    ensures failed { IfErr result
-        (FileFails (F.known files.old) (F.known files.new) (F.makes files.old) workers words.entry) }
-{
-    match load(alloc, words.file, files) {
-        Ok(scenario) => run_scenario(rt, alloc, &scenario, words, workers, files),
-        Err(failure) => Err(failure),
-    }
+    scenario: Scenario,
+    division: Division,
 }
 
-/// Divides a scenario as the words say, runs it with so many workers, and writes its trace and its report
-/// to files.
-fn run_scenario<'a, F: Files>(
-    rt: &(impl Threads + Sync),
+/// The checks of a run, in their order: how many workers, which scenario, which division of its members.
+fn prepare<'a, F: Files>(
     alloc: Global,
-    scenario: &Scenario,
     words: RunWords<'a>,
-    workers: Workers,
     files: &mut F,
-) -> Result<Summary, Failure<'a>>
-    ensures done { IfOk result (λ summary. RunsScenario scenario.now (F.known files.old) (F.known files.new)
-        workers words.entry summary.rows) }
-    ensures failed { IfErr result (ScenarioFails scenario.now (F.known files.old) (F.known files.new)
-        (F.makes files.old) workers words.entry) }
+) -> Result<Prepared, Failure<'a>>
+    ensures passed { IfOk result (λ p. PassesChecks (F.known files.old) words.entry p.workers p.scenario p.division) }
+    ensures failed { IfErr result (FailsCheck (F.known files.old) words.entry) }
+    ensures divided { IfOk result (λ p. length p.division.part_of ≡ member_count p.scenario) }
+    ensures same { F.known files.new ≡ F.known files.old }
+    ensures makes { F.makes files.new ≡ F.makes files.old }
 {
-    let division = match division_asked(alloc, scenario, words.split, workers) {
-        Ok(division) => division,
-        Err(failure) => return Err(failure),
-    };
-    store_run(rt, alloc, scenario, &division, words, files)
+    let workers = workers_asked(words.workers)?;
+    let scenario = load(alloc, words.file, files)?;
+    let division = division_asked(alloc, &scenario, words.split, workers)?;
+    Ok(Prepared {
+        workers,
+        scenario,
+        division,
+    })
 }
 
 /// The scenario of a file.
@@ -164,47 +151,32 @@ fn load<'a, F: Files>(alloc: Global, name: &'a str, files: &mut F) -> Result<Sce
     }
 }
 
-/// Runs a scenario, and writes its trace to a file, and its report to another where one is asked for.
-fn store_run<'a, F: Files>(
-    rt: &(impl Threads + Sync),
-    alloc: Global,
-    scenario: &Scenario,
-    division: &Division,
-    words: RunWords<'a>,
-    files: &mut F,
-) -> Result<Summary, Failure<'a>>
-    requires divided { length division.now.part_of ≡ member_count scenario.now }
-    ensures done { IfOk result (λ summary. StoresRun scenario.now (F.known files.old) (F.known files.new)
-        words.entry.trace.now (report_word words.entry) summary.rows) }
-    ensures failed { IfErr result (StoreFails scenario.now (F.known files.old) (F.known files.new)
-        (F.makes files.old) words.entry.trace.now (report_word words.entry)) }
-{
-    match words.report {
-        Some(report) => store_both(rt, alloc, scenario, division, words.trace, report, files),
-        None => store_trace(rt, alloc, scenario, division, words.trace, files),
-    }
-}
-
 /// Runs a scenario, and writes its trace to the file of a name. Its report goes nowhere.
 fn store_trace<'a, F: Files>(
     rt: &(impl Threads + Sync),
     alloc: Global,
-    scenario: &Scenario,
-    division: &Division,
+    prepared: &Prepared,
     name: &'a str,
     files: &mut F,
 ) -> Result<Summary, Failure<'a>>
-    requires divided { length division.now.part_of ≡ member_count scenario.now }
-    ensures done { IfOk result (λ summary. StoresRun scenario.now (F.known files.old) (F.known files.new)
+    requires divided { length prepared.now.division.part_of ≡ member_count prepared.now.scenario }
+    ensures done { IfOk result (λ summary. StoresRun prepared.now.scenario (F.known files.old) (F.known files.new)
         name.entry.now None summary.rows) }
-    ensures failed { IfErr result (StoreFails scenario.now (F.known files.old) (F.known files.new)
+    ensures failed { IfErr result (StoreFails prepared.now.scenario (F.known files.old) (F.known files.new)
         (F.makes files.old) name.entry.now None) }
 {
     let made = match files.make(name) {
         Ok(made) => made,
         Err(fault) => return Err(file_failure(fault, name)),
     };
-    let (made, _nowhere, outcome) = simulate(rt, alloc, scenario, division, made, io::sink());
+    let (made, _nowhere, outcome) = simulate(
+        rt,
+        alloc,
+        &prepared.scenario,
+        &prepared.division,
+        made,
+        io::sink(),
+    );
     files.close(name, made);
     match outcome {
         Ok(summary) => Ok(summary),
@@ -217,16 +189,15 @@ fn store_trace<'a, F: Files>(
 fn store_both<'a, F: Files>(
     rt: &(impl Threads + Sync),
     alloc: Global,
-    scenario: &Scenario,
-    division: &Division,
+    prepared: &Prepared,
     trace: &'a str,
     report: &'a str,
     files: &mut F,
 ) -> Result<Summary, Failure<'a>>
-    requires divided { length division.now.part_of ≡ member_count scenario.now }
-    ensures done { IfOk result (λ summary. StoresRun scenario.now (F.known files.old) (F.known files.new)
+    requires divided { length prepared.now.division.part_of ≡ member_count prepared.now.scenario }
+    ensures done { IfOk result (λ summary. StoresRun prepared.now.scenario (F.known files.old) (F.known files.new)
         trace.entry.now (Some report.entry.now) summary.rows) }
-    ensures failed { IfErr result (StoreFails scenario.now (F.known files.old) (F.known files.new)
+    ensures failed { IfErr result (StoreFails prepared.now.scenario (F.known files.old) (F.known files.new)
         (F.makes files.old) trace.entry.now (Some report.entry.now)) }
 {
     if report == trace {
@@ -243,8 +214,8 @@ fn store_both<'a, F: Files>(
     let (made_trace, made_report, outcome) = simulate(
         rt,
         alloc,
-        scenario,
-        division,
+        &prepared.scenario,
+        &prepared.division,
         made_trace,
         made_report,
     );

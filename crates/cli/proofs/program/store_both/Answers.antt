@@ -13,7 +13,7 @@ at_error (Ok x) d is h = cc
 
 pub returns-in-Err-outcome-clause-failed : goal.returns-in-Err-outcome-clause-failed
 returns-in-Err-outcome-clause-failed g c =
-    let s = c.args.scenario.now in
+    let s = c.args.prepared.now.scenario in
     let known = g.F.Files.known in
     let trace = c.args.trace.now in
     let report = c.args.report.now in
@@ -39,7 +39,7 @@ returns-in-Err-outcome-clause-failed g c =
 
 pub returns-in-Ok-outcome-clause-done : goal.returns-in-Ok-outcome-clause-done
 returns-in-Ok-outcome-clause-done g c =
-    let s = c.args.scenario.now in
+    let s = c.args.prepared.now.scenario in
     let known = g.F.Files.known in
     let trace = c.args.trace.now in
     let report = c.args.report.now in
