@@ -15,20 +15,7 @@ use Rattle.trace.specs.declared.row.Row.{Row}
 use Rattle.reports.specs.declared.crash.Detection.{Detection}
 use Rattle.reports.specs.Rows.{tells, is_about, tells_of}
 use Rattle.reports.specs.Crashes.{moment_of, detection_of}
-
--- a moment, where a test holds
-abbrev pub moment_if : Bool → ℕ → Option ℕ
-moment_if test at = cond test (Some at) None
-
--- what a row adds to what those before it told: whether it suspects, whether it confirms, and when
-abbrev pub with_row : Bool → Bool → ℕ → Detection → Detection
-with_row suspects confirms at d =
-    record {
-      suspect = option_or d.suspect (moment_if suspects at);
-      confirm = option_or d.confirm (moment_if confirms at);
-      last = cond confirms (Some at) d.last;
-      confirmers = d.confirmers + cond confirms 1 0;
-    }
+use Rattle.reports.specs.Failures.{moment_if, detection_if, detection_with}
 
 -- ---- the first and the last of rows with one more
 
@@ -65,7 +52,7 @@ same_parts a b s c l n =
     ∙ ap (λ x. detection b.suspect b.confirm x a.confirmers) l ∙ ap (detection b.suspect b.confirm b.last) n
 
 pub detection-push : (member : ℕ) (rows : List Row) (row : Row)
-    → detection_of member (rows ++ row ∷ []) ≡ with_row (tells_of what.Suspect member row) (tells_of what.Confirm member row) row.at (detection_of member rows)
+    → detection_of member (rows ++ row ∷ []) ≡ detection_with member row (detection_of member rows)
 detection-push member rows row =
     same_parts _ _ (first-push (tells_of what.Suspect member) rows row) (first-push (tells_of what.Confirm member) rows row)
     (last-push (tells_of what.Confirm member) rows row) (sum_by_push (λ r. cond (tells_of what.Confirm member r) 1 0) rows row)
@@ -76,7 +63,7 @@ detection-push member rows row =
 pub tells_of-other : (kind : What) (member : ℕ) (row : Row) → is_about member row ≡ false → tells_of kind member row ≡ false
 tells_of-other kind member row other = ap (λ b. tells kind row && b) other ∙ and-false (tells kind row)
 
-and-true : (b : Bool) → (b && true) ≡ b
+pub and-true : (b : Bool) → (b && true) ≡ b
 and-true true = refl
 and-true false = refl
 
@@ -96,23 +83,20 @@ or-none : (o : Option ℕ) → option_or o None ≡ o
 or-none None = refl
 or-none (Some x) = refl
 
-pub same_detection : (member : ℕ) (rows : List Row) (row : Row) (d : Detection) → tells_of what.Suspect member row ≡ false → tells_of what.Confirm member row ≡ false
-    → d ≡ detection_of member rows → d ≡ detection_of member (rows ++ row ∷ [])
-same_detection member rows row d s c told =
-    told ∙ sym (detection-push member rows row ∙ ap (λ b. with_row b (tells_of what.Confirm member row) row.at (detection_of member rows)) s
-    ∙ ap (λ b. with_row false b row.at (detection_of member rows)) c
-    ∙ same_parts (with_row false false row.at (detection_of member rows)) (detection_of member rows) (or-none _) (or-none _) refl (add-zero _))
+pub same_detection : (member : ℕ) (row : Row) (d : Detection) → tells_of what.Suspect member row ≡ false → tells_of what.Confirm member row ≡ false
+    → d ≡ detection_with member row d
+same_detection member row d s c =
+    sym (ap (λ b. detection_if b (tells_of what.Confirm member row) row.at d) s ∙ ap (λ b. detection_if false b row.at d) c
+    ∙ same_parts (detection_if false false row.at d) d (or-none _) (or-none _) refl (add-zero _))
 
-pub suspect_detection : (member : ℕ) (rows : List Row) (row : Row) (d e : Detection) → tells_of what.Suspect member row ≡ true → tells_of what.Confirm member row ≡ false
-    → d ≡ detection_of member rows → e ≡ record d { suspect = option_or d.suspect (Some row.at) } → e ≡ detection_of member (rows ++ row ∷ [])
-suspect_detection member rows row d e s c told is =
-    is ∙ same_parts (record d { suspect = option_or d.suspect (Some row.at) }) (with_row true false row.at d) refl (sym (or-none _)) refl (sym (add-zero _))
-    ∙ ap (λ b. with_row b false row.at d) (sym s) ∙ ap (λ b. with_row (tells_of what.Suspect member row) b row.at d) (sym c)
-    ∙ ap (with_row (tells_of what.Suspect member row) (tells_of what.Confirm member row) row.at) told ∙ sym (detection-push member rows row)
+pub suspect_detection : (member : ℕ) (row : Row) (d e : Detection) → tells_of what.Suspect member row ≡ true → tells_of what.Confirm member row ≡ false
+    → e ≡ record d { suspect = option_or d.suspect (Some row.at) } → e ≡ detection_with member row d
+suspect_detection member row d e s c is =
+    is ∙ same_parts (record d { suspect = option_or d.suspect (Some row.at) }) (detection_if true false row.at d) refl (sym (or-none _)) refl (sym (add-zero _))
+    ∙ ap (λ b. detection_if b false row.at d) (sym s) ∙ ap (λ b. detection_if (tells_of what.Suspect member row) b row.at d) (sym c)
 
-pub confirm_detection : (member : ℕ) (rows : List Row) (row : Row) (d e : Detection) → tells_of what.Suspect member row ≡ false → tells_of what.Confirm member row ≡ true
-    → d ≡ detection_of member rows → e ≡ record d { confirm = option_or d.confirm (Some row.at); last = Some row.at; confirmers = d.confirmers + 1 } → e ≡ detection_of member (rows ++ row ∷ [])
-confirm_detection member rows row d e s c told is =
-    is ∙ same_parts (record d { confirm = option_or d.confirm (Some row.at); last = Some row.at; confirmers = d.confirmers + 1 }) (with_row false true row.at d) (sym (or-none _)) refl refl refl
-    ∙ ap (λ b. with_row b true row.at d) (sym s) ∙ ap (λ b. with_row (tells_of what.Suspect member row) b row.at d) (sym c)
-    ∙ ap (with_row (tells_of what.Suspect member row) (tells_of what.Confirm member row) row.at) told ∙ sym (detection-push member rows row)
+pub confirm_detection : (member : ℕ) (row : Row) (d e : Detection) → tells_of what.Suspect member row ≡ false → tells_of what.Confirm member row ≡ true
+    → e ≡ record d { confirm = option_or d.confirm (Some row.at); last = Some row.at; confirmers = d.confirmers + 1 } → e ≡ detection_with member row d
+confirm_detection member row d e s c is =
+    is ∙ same_parts (record d { confirm = option_or d.confirm (Some row.at); last = Some row.at; confirmers = d.confirmers + 1 }) (detection_if false true row.at d) (sym (or-none _)) refl refl refl
+    ∙ ap (λ b. detection_if b true row.at d) (sym s) ∙ ap (λ b. detection_if (tells_of what.Suspect member row) b row.at d) (sym c)

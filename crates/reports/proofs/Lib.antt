@@ -1,2 +1,6 @@
+pub mod Counting
 pub mod Detections
 pub mod Places
+pub mod Pushes
+pub mod Keeping
+pub mod Makers

@@ -1,19 +1,15 @@
 -- Rows in their places.
-use Rattle.std.proofs.Common.{ℕ, ◌<◌, List, [], ◌∷◌, ◌++◌, take, drop}
+use Rattle.std.proofs.Common.{◌<◌, List, [], ◌∷◌, ◌++◌}
 use Rattle.std.specs.Prelude.{All, filter}
 use Rattle.std.proofs.lemmas.List.Elements.{All-nil, All-cons, All-head, All-tail, All-map, All-filter, All-weaker}
 use Rattle.scenario.specs.Setup.{Setup, member_count}
 use Rattle.trace.specs.declared.row.Row.{Row}
 use Rattle.trace.specs.Text.{NamesMembers}
-use Rattle.reports.specs.Rows.{Placed, placed, placed_after}
+use Rattle.reports.specs.Rows.{placed, placed_after}
 use Rattle.reports.specs.Crashes.{crash_told, is_crash, crashes_of}
 
--- the rows from a place on, in their places
-abbrev pub placed_from : List Row → ℕ → List Placed
-placed_from rows i = placed_after (take i rows) (drop i rows)
-
 -- what holds of each row holds of each in its place
-All-placed_after : (P : Row → Type 0) (earlier rows : List Row) → All P rows → All (λ p. P p.row) (placed_after earlier rows)
+pub All-placed_after : (P : Row → Type 0) (earlier rows : List Row) → All P rows → All (λ p. P p.row) (placed_after earlier rows)
 All-placed_after P earlier [] all = All-nil (λ p. P p.row)
 All-placed_after P earlier (row ∷ later) all =
     All-cons (λ p. P p.row) (record { earlier = earlier; row = row; later = later }) (placed_after (earlier ++ row ∷ []) later)

@@ -2,3 +2,6 @@ pub mod Rows
 pub mod Crashes
 pub mod FalsePositives
 pub mod Text
+pub mod Past
+pub mod Counts
+pub mod Failures

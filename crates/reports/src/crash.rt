@@ -1,12 +1,13 @@
 //! The crashes of a trace.
-ghost use Rattle.std.specs.Prelude.{◌≡◌, ◌+◌, ◌≤◌, ◌<◌, ◌^◌, ℕ, Some, List, ◌∷◌, [], ◌++◌, IfOk};
+ghost use Rattle.std.specs.Prelude.{◌≡◌, ◌+◌, ◌<◌, ◌==◌, ◌^◌, ◌++◌, ◌∷◌, Some, [], map, All, OnOk, OnErr};
 ghost use Rattle.std.specs.Option.{option_or};
-ghost use Rattle.trace.specs.declared.row.Row.{Row as AnyRow};
-ghost use Rattle.reports.specs.Crashes.{detection_of, crashes_of, latency_of};
+ghost use Rattle.std.specs.List.{list_any};
+ghost use Rattle.reports.specs.Crashes.{latency_of};
+ghost use Rattle.reports.specs.Failures.{detection_with, crash_with, crash_at, is_about_crash};
 
-use crate::rows::{is_about, tells};
+use crate::rows::is_about;
 use base::{MemberId, Moment};
-use std::alloc::{AllocError, Global};
+use std::alloc::AllocError;
 use trace::{Row, What};
 
 /// What the rows after a member's crash tell of it.
@@ -23,24 +24,10 @@ pub(crate) struct Detection {
 }
 
 impl Detection {
-    /// No row tells anything yet.
-    fn new() -> Detection
-        ensures { (member : ℕ) → result ≡ detection_of member [] }
-    {
-        Detection {
-            suspect: None,
-            confirm: None,
-            last: None,
-            confirmers: 0,
-        }
-    }
-
     /// Takes in what one row more tells of the member.
     fn see(&mut self, row: &Row, member: MemberId)
         requires { self.old.confirmers < 2 ^ 63 }
-        ensures seen { (rows : List AnyRow) → self.old ≡ detection_of member rows
-            → self.new ≡ detection_of member (rows ++ row.now ∷ []) }
-        ensures by_one { self.new.confirmers ≤ self.old.confirmers + 1 }
+        ensures { self.new ≡ detection_with member row.now self.old }
     {
         if !is_about(row, member) {
             return;
@@ -82,6 +69,14 @@ pub(crate) struct CrashTold {
 }
 
 impl CrashTold {
+    /// Takes in what one row more tells of the crash.
+    fn see(&mut self, row: &Row)
+        requires { self.old.detection.confirmers < 2 ^ 63 }
+        ensures { self.new ≡ crash_with row.now self.old }
+    {
+        self.detection.see(row, self.member);
+    }
+
     /// How many ticks it took until a first member confirmed the crash.
     pub(crate) fn latency(&self) -> Option<u64>
         ensures { result ≡ latency_of self.now }
@@ -91,31 +86,47 @@ impl CrashTold {
     }
 }
 
-/// What the rows after a member's crash tell of it.
-fn detection_of(member: MemberId, later: &[Row]) -> Detection
-    ensures { result ≡ detection_of member later.now }
+/// Adds the crash that a row tells of. Only later rows tell how it was detected.
+pub(crate) fn add_crash(crashes: &mut Vec<CrashTold>, row: &Row) -> Result<(), AllocError>
+    ensures ok { OnOk result (crashes.new.items ≡ crashes.old.items ++ crash_at row.now ∷ []) }
+    ensures err { OnErr result (crashes.new.items ≡ crashes.old.items) }
 {
-    let mut detection = Detection::new();
-    for row in later {
-        detection.see(row, member);
-    }
-    detection
+    let detection = Detection {
+        suspect: None,
+        confirm: None,
+        last: None,
+        confirmers: 0,
+    };
+    crashes.push(CrashTold {
+        member: row.member,
+        at: row.at,
+        detection,
+    })?;
+    Ok(())
 }
 
-/// The crashes of a trace, in its order.
-pub(crate) fn crashes_of(alloc: Global, rows: &[Row]) -> Result<Vec<CrashTold>, AllocError>
-    ensures { IfOk result (λ crashes. crashes.items ≡ crashes_of rows.now) }
+/// Takes in what one row more tells of each crash.
+pub(crate) fn see_each(crashes: &mut [CrashTold], row: &Row)
+    requires { All (λ crash. crash.detection.confirmers < 2 ^ 63) crashes.old }
+    ensures { crashes.new ≡ map (crash_with row.now) crashes.old }
 {
-    let mut crashes = Vec::new(alloc);
-    for (place, row) in rows.iter().enumerate() {
-        if !tells(row, What::Crash) {
-            continue;
-        }
-        crashes.push(CrashTold {
-            member: row.member,
-            at: row.at,
-            detection: detection_of(row.member, &rows[place + 1..]),
-        })?;
+    for crash in crashes.iter_mut() {
+        crash.see(row);
     }
-    Ok(crashes)
+}
+
+/// Whether a row is about a member that crashed.
+pub(crate) fn is_about_crash(row: &Row, crashes: &[CrashTold]) -> bool
+    ensures { result ≡ is_about_crash crashes.now row.now }
+{
+    match row.about {
+        Some(about) => has_crashed(about, crashes),
+        None => false,
+    }
+}
+
+fn has_crashed(member: MemberId, crashes: &[CrashTold]) -> bool
+    ensures { result ≡ list_any (λ crash. crash.member == member) crashes.now }
+{
+    crashes.iter().any(|crash| crash.member == member)
 }

@@ -4,7 +4,6 @@ ghost use Rattle.std.specs.String.{string_bytes};
 ghost use Rattle.trace.specs.Text.{NamesMembers};
 ghost use Rattle.reports.specs.Text.{report_text};
 
-use crate::crash::crashes_of;
 use crate::tallies::Tallies;
 use crate::text::{
     push_crashes, push_false_positives, push_latencies, push_messages, push_protocol, push_sizes,
@@ -30,7 +29,10 @@ pub fn report(alloc: Global, tallies: &Tallies, scenario: &Scenario) -> Result<V
     requires { All (NamesMembers scenario.now) tallies.now }
     ensures { IfOk result (λ text. text.items ≡ report_text scenario.now tallies.now) }
 {
-    report_on(alloc, tallies.rows.as_slice(), scenario)
+    match text_of(alloc, tallies, scenario) {
+        Ok(text) => Ok(text.into_bytes()),
+        Err(_) => Err(Memory),
+    }
 }
 
 /// The text of the report on a run that has these rows. They must name members of the scenario's
@@ -39,25 +41,42 @@ pub fn report_on(alloc: Global, rows: &[Row], scenario: &Scenario) -> Result<Vec
     requires { All (NamesMembers scenario.now) rows.now }
     ensures { IfOk result (λ text. text.items ≡ report_text scenario.now rows.now) }
 {
-    match text_of(alloc, rows, scenario) {
-        Ok(text) => Ok(text.into_bytes()),
-        Err(_) => Err(Memory),
+    match tallies_of(alloc, rows, scenario) {
+        Ok(tallies) => report(alloc, &tallies, scenario),
+        Err(Memory) => Err(Memory),
     }
 }
 
-#[tactic(auto, unfolding(crate::specs::Text::report_text))]
-fn text_of(alloc: Global, rows: &[Row], scenario: &Scenario) -> Result<String, AllocError>
+/// The tallies of these rows. There is no memory for more rows than can be counted.
+fn tallies_of(alloc: Global, rows: &[Row], scenario: &Scenario) -> Result<Tallies, Memory>
     requires { All (NamesMembers scenario.now) rows.now }
-    ensures { IfOk result (λ text. string_bytes text ≡ report_text scenario.now rows.now) }
+    ensures { IfOk result (λ tallies. tallies ≡ rows.now) }
 {
-    let crashes = crashes_of(alloc, rows)?;
+    let mut tallies = match Tallies::new(alloc) {
+        Ok(tallies) => tallies,
+        Err(Memory) => return Err(Memory),
+    };
+    for row in rows {
+        match tallies.add(row, scenario) {
+            Ok(()) => {}
+            Err(_) => return Err(Memory),
+        }
+    }
+    Ok(tallies)
+}
+
+#[tactic(auto, unfolding(crate::specs::Text::report_text))]
+fn text_of(alloc: Global, tallies: &Tallies, scenario: &Scenario) -> Result<String, AllocError>
+    requires { All (NamesMembers scenario.now) tallies.now }
+    ensures { IfOk result (λ text. string_bytes text ≡ report_text scenario.now tallies.now) }
+{
     let mut text = String::new(alloc);
-    push_sizes(&mut text, rows, scenario)?;
-    push_crashes(&mut text, crashes.as_slice(), scenario)?;
-    push_latencies(&mut text, crashes.as_slice())?;
-    push_false_positives(alloc, &mut text, What::Suspect, rows, scenario)?;
-    push_false_positives(alloc, &mut text, What::Confirm, rows, scenario)?;
-    push_protocol(&mut text, rows)?;
-    push_messages(&mut text, &MESSAGES, rows)?;
+    push_sizes(&mut text, tallies, scenario)?;
+    push_crashes(&mut text, tallies.crashes(), scenario)?;
+    push_latencies(&mut text, tallies.crashes())?;
+    push_false_positives(&mut text, What::Suspect, tallies, scenario)?;
+    push_false_positives(&mut text, What::Confirm, tallies, scenario)?;
+    push_protocol(&mut text, tallies)?;
+    push_messages(&mut text, &MESSAGES, tallies)?;
     Ok(text)
 }

@@ -1,14 +1,22 @@
 //! What is kept of a run for its report.
-ghost use Rattle.std.specs.Prelude.{◌≡◌, ◌≤◌, [], ◌∷◌, ◌++◌, length, Ok, OnOk, OnErr, IfErr};
+ghost use Rattle.std.specs.Prelude.{◌≡◌, ◌≤◌, [], ◌∷◌, ◌++◌, ◌⊎◌, length, Ok, OnOk, OnErr, IfErr};
 ghost use Rattle.base.specs.declared.limits.TheConstants.{COUNTER_LIMIT};
 ghost use Rattle.trace.specs.Text.{NamesMembers};
+ghost use Rattle.reports.specs.Rows.{count_of, losses_of, worst_health};
+ghost use Rattle.reports.specs.Crashes.{crashes_of};
+ghost use Rattle.reports.specs.Failures.{makers_of};
 
+use crate::counts::Counts;
+use crate::crash::CrashTold;
+use crate::failures::Failures;
+use crate::false_positives::Maker;
+use crate::past::Past;
 use base::Memory;
+use base::limits::COUNTER_LIMIT;
 use scenario::Scenario;
 use std::alloc::Global;
 use std::marker::Model;
-use std::slice;
-use trace::Row;
+use trace::{Row, What};
 
 /// Why a row was not added.
 #[derive(Clone, Copy, Debug, PartialEq, Eq, thiserror::Error)]
@@ -21,19 +29,27 @@ pub enum AddError {
     Worn,
 }
 
-/// The rows of a run so far, in the order in which they came.
+/// The rows of a run so far, in the order in which they came. It keeps of them what a report tells:
+/// counts, for each crash how it was detected, and who made which false claim.
 #[derive(Drop)]
 pub struct Tallies {
-    pub(crate) rows: Vec<Row>,
+    past: Past,
+    counts: Counts,
+    failures: Failures,
 }
 
 impl Model for Tallies {
     ghost use Rattle.std.specs.Prelude.{List};
     ghost use Rattle.trace.specs.declared.row.Row.{Row};
+    ghost use Rattle.reports.specs.Counts.{AreCountsOf};
+    ghost use Rattle.reports.specs.Failures.{AreFailuresOf};
 
     ghost Value = { List Row };
 
-    ghost view = { λ tallies. tallies.rows.items };
+    ghost view = { λ tallies. tallies.past };
+
+    ghost invariant = { λ tallies. AreCountsOf tallies.counts tallies.past
+        × AreFailuresOf tallies.failures tallies.past };
 }
 
 impl Tallies {
@@ -42,7 +58,9 @@ impl Tallies {
         ensures { result ≡ Ok [] }
     {
         Ok(Tallies {
-            rows: Vec::new(alloc),
+            past: Past::new(),
+            counts: Counts::new(),
+            failures: Failures::new(alloc),
         })
     }
 
@@ -53,9 +71,62 @@ impl Tallies {
         ensures err { OnErr result (self.new ≡ self.old) }
         ensures worn { IfErr result (λ error. error ≡ AddError.Worn → COUNTER_LIMIT ≤ length self.old) }
     {
-        match self.rows.extend_from_slice(slice::from_ref(row)) {
-            Ok(()) => Ok(()),
-            Err(_) => Err(AddError::Memory),
+        if self.counts.rows >= COUNTER_LIMIT {
+            return Err(AddError::Worn);
+        }
+        match self.failures.follow(row) {
+            Ok(()) => {}
+            Err(_) => return Err(AddError::Memory),
+        }
+        self.counts.count(row);
+        self.past.append(row);
+        Ok(())
+    }
+
+    /// How many rows there are.
+    pub(crate) fn rows(&self) -> u64
+        ensures { result ≡ length self.now }
+    {
+        self.counts.rows
+    }
+
+    /// How many rows tell of this.
+    pub(crate) fn told(&self, kind: What) -> u64
+        ensures { result ≡ count_of kind self.now }
+    {
+        self.counts.told(kind)
+    }
+
+    /// How many sendings of this kind were lost.
+    pub(crate) fn lost(&self, kind: What) -> u64
+        ensures { result ≡ losses_of kind self.now }
+    {
+        self.counts.lost(kind)
+    }
+
+    /// The highest local health counter that any member reached, 0 where none changed (Lifeguard's
+    /// LHA-Probe).
+    pub(crate) fn worst_health(&self) -> u64
+        ensures { result ≡ worst_health self.now }
+    {
+        self.counts.worst_health
+    }
+
+    /// The crashes, in the order of the rows.
+    pub(crate) fn crashes(&self) -> &[CrashTold]
+        ensures { result.now ≡ crashes_of self.now }
+    {
+        self.failures.crashes.as_slice()
+    }
+
+    /// Who made the false positives of this claim, a suspicion or a confirmation.
+    pub(crate) fn makers(&self, claim: What) -> &[Maker]
+        requires { (claim ≡ What.Suspect) ⊎ (claim ≡ What.Confirm) }
+        ensures { result.now ≡ makers_of claim self.now }
+    {
+        match claim {
+            What::Suspect => self.failures.suspicions.as_slice(),
+            _ => self.failures.confirmations.as_slice(),
         }
     }
 }

@@ -3,6 +3,7 @@ ghost use Rattle.std.specs.Prelude.{All, IfOk, ◌<◌};
 ghost use Rattle.scenario.specs.Setup.{member_count};
 ghost use Rattle.trace.specs.Text.{NamesMembers};
 
+use crate::tests_plain::assert_tallied;
 use crate::{AddError, Tallies, report};
 use base::{MemberId, Moment};
 use scenario::Scenario;
@@ -11,7 +12,7 @@ use std::test::Fail;
 use trace::{Row, What};
 
 /// All that a row can tell of.
-const KINDS: [What; 17] = [
+pub(crate) const KINDS: [What; 17] = [
     What::Start,
     What::Crash,
     What::Joined,
@@ -88,7 +89,7 @@ fn assert_members(rt: &impl Abort, row: &Row, scenario: &Scenario)
     }
 }
 
-/// The tallies of the rows of these lines.
+/// The tallies of the rows of these lines, which tell after each of them what plain counts tell.
 fn tallies_of(
     rt: &(impl Abort + AllocGlobal),
     lines: &str,
@@ -97,10 +98,13 @@ fn tallies_of(
     ensures { IfOk result (λ tallies. All (NamesMembers scenario.now) tallies) }
 {
     let mut tallies = Tallies::new(rt.alloc())?;
+    let mut rows = Vec::new(rt.alloc());
     for line in lines.lines() {
         let row = row_of(line, scenario).expect(rt, "a line of a trace");
         assert_members(rt, &row, scenario);
         tallies.add(&row, scenario)?;
+        rows.push(row)?;
+        assert_tallied(rt, &tallies, rows.as_slice());
     }
     Ok(tallies)
 }
@@ -432,6 +436,39 @@ sent nack 1 lost 1
     assert_report(&rt, FOUR, lines, expected)
 }
 
+/// A member's second crash row begins anew: each crash is detected by the rows after it.
+#[test]
+fn a_member_may_crash_twice(rt: HostRuntime) -> Result<(), Fail> {
+    let lines = "100,n-0,n-0,1,confirm,n-1,0,0
+200,n-1,n-1,1,crash,,0,0
+300,n-0,n-0,2,suspect,n-1,0,0
+400,n-0,n-0,3,confirm,n-1,0,0
+500,n-1,n-1,2,crash,,0,0
+600,n-0,n-0,4,confirm,n-1,0,0
+600,n-0,n-0,4,confirm,,0,0
+";
+    let expected = "members 2
+end 8000
+rows 7
+crash n-1 200 suspect 300 confirm 400 last 600 confirmers 2 latency 200
+crash n-1 500 suspect - confirm 600 last 600 confirmers 1 latency 100
+latency least 100 greatest 200
+false suspect 0 healthy 0
+false confirm 2 healthy 2
+accuse 0
+refute 0
+fail 0
+health 0
+sent join 0 lost 0
+sent welcome 0 lost 0
+sent ping 0 lost 0
+sent ping-req 0 lost 0
+sent ack 0 lost 0
+sent nack 0 lost 0
+";
+    assert_report(&rt, TWO, lines, expected)
+}
+
 /// Two members up to moment 2500, of which `n-1` is slow for a while.
 const SLOW: &str = "version = 1
 seed = 7
@@ -529,12 +566,7 @@ sent nack 0 lost 0
     assert_report(&rt, SLOW, lines, expected)
 }
 
-/// How many rows were tallied.
-fn row_count(tallies: &Tallies) -> usize {
-    tallies.rows.len()
-}
-
-/// Where memory is refused, wherever that is, the tallies keep the rows that they had.
+/// Where memory is refused, the tallies stay as they were. Each of these false claims takes some.
 #[test]
 fn a_refused_row_changes_nothing(rt: HostRuntime) -> Result<(), Fail> {
     let Ok(scenario) = scenario::read(rt.alloc(), TWO.as_bytes()) else {
@@ -546,20 +578,20 @@ fn a_refused_row_changes_nothing(rt: HostRuntime) -> Result<(), Fail> {
         from: MemberId(0),
         number: 1,
         index: 0,
-        what: What::Fail,
+        what: What::Suspect,
         about: Some(MemberId(1)),
         value: 1,
         lost: false,
     };
     assert_members(&rt, &row, &scenario);
     let mut tallies = Tallies::new(rt.alloc())?;
-    for added in 0..100 {
+    for added in 0..100u64 {
         if let Err(refusal) = tallies.add(&row, &scenario) {
             assert_eq!(rt; refusal, AddError::Memory);
-            assert_eq!(rt; row_count(&tallies), added);
+            assert_eq!(rt; tallies.rows(), added);
             tallies.add(&row, &scenario)?;
         }
-        assert_eq!(rt; row_count(&tallies), added + 1);
+        assert_eq!(rt; tallies.rows(), added + 1);
     }
     Ok(())
 }

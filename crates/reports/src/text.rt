@@ -1,5 +1,5 @@
 //! The lines of the report.
-ghost use Rattle.std.specs.Prelude.{◌≡◌, ◌++◌, ◌<◌, OnOk, Some, All, flat_map, min, max};
+ghost use Rattle.std.specs.Prelude.{◌≡◌, ◌++◌, ◌<◌, ◌⊎◌, OnOk, Some, All, flat_map, min, max};
 ghost use Rattle.std.specs.List.{reduce};
 ghost use Rattle.std.specs.String.{string_bytes};
 ghost use Rattle.scenario.specs.Setup.{member_count};
@@ -8,13 +8,13 @@ ghost use Rattle.reports.specs.Crashes.{latencies_of};
 ghost use Rattle.reports.specs.Text.{figure, count_line, size_lines, crash_line, latency_line, latencies_line, false_line, false_claim_line, sent_line, message_line, protocol_lines};
 
 use crate::crash::CrashTold;
-use crate::false_positives::false_positives;
-use crate::rows::{count_of, losses_of, worst_health};
+use crate::false_positives::{false_positives, healthy_false_positives};
+use crate::tallies::Tallies;
 use base::Moment;
 use scenario::Scenario;
-use std::alloc::{AllocError, Global};
+use std::alloc::AllocError;
 use std::fmt;
-use trace::{Row, What};
+use trace::What;
 
 /// A figure, or a dash where there is none.
 #[derive(Clone, Copy)]
@@ -52,14 +52,14 @@ fn push_count(text: &mut String, word: &str, number: u64) -> Result<(), AllocErr
 /// Appends how large the cluster is, how long it ran, and how much there is to tell.
 pub(crate) fn push_sizes(
     text: &mut String,
-    rows: &[Row],
+    tallies: &Tallies,
     scenario: &Scenario,
 ) -> Result<(), AllocError>
-    ensures { OnOk result (string_bytes text.new ≡ string_bytes text.old ++ size_lines scenario.now rows.now) }
+    ensures { OnOk result (string_bytes text.new ≡ string_bytes text.old ++ size_lines scenario.now tallies.now) }
 {
     push_count(text, "members", scenario.members() as u64)?;
     push_count(text, "end", scenario.end().ticks())?;
-    push_count(text, "rows", rows.len() as u64)
+    push_count(text, "rows", tallies.rows())
 }
 
 /// Appends the line of a crash.
@@ -132,45 +132,44 @@ fn greatest_latency(crashes: &[CrashTold]) -> Option<u64>
     crashes.iter().filter_map(|crash| crash.latency()).max()
 }
 
-/// Appends the line of the false positives of one claim.
+/// Appends the line of the false positives of one claim, a suspicion or a confirmation.
 #[tactic(auto, unfolding(crate::specs::Text::false_line))]
 pub(crate) fn push_false_positives(
-    alloc: Global,
     text: &mut String,
     claim: What,
-    rows: &[Row],
+    tallies: &Tallies,
     scenario: &Scenario,
 ) -> Result<(), AllocError>
-    requires { All (NamesMembers scenario.now) rows.now }
+    requires claim { (claim ≡ What.Suspect) ⊎ (claim ≡ What.Confirm) }
+    requires named { All (NamesMembers scenario.now) tallies.now }
     ensures { OnOk result (string_bytes text.new
-        ≡ string_bytes text.old ++ false_claim_line scenario.now rows.now claim) }
+        ≡ string_bytes text.old ++ false_claim_line scenario.now tallies.now claim) }
 {
-    let found = false_positives(alloc, claim, rows, scenario)?;
     let word = claim.word();
-    let all = found.all;
-    let healthy = found.healthy;
+    let all = false_positives(tallies, claim);
+    let healthy = healthy_false_positives(tallies, claim, scenario);
     writeln!(text, "false {word} {all} healthy {healthy}")
 }
 
-/// Appends how often members accused and refuted, how often probes failed, and how bad the health of
-/// a member got.
-pub(crate) fn push_protocol(text: &mut String, rows: &[Row]) -> Result<(), AllocError>
-    ensures { OnOk result (string_bytes text.new ≡ string_bytes text.old ++ protocol_lines rows.now) }
+/// Appends how often members accused and refuted, how often probes failed, and how bad the health
+/// of a member got.
+pub(crate) fn push_protocol(text: &mut String, tallies: &Tallies) -> Result<(), AllocError>
+    ensures { OnOk result (string_bytes text.new ≡ string_bytes text.old ++ protocol_lines tallies.now) }
 {
-    push_count(text, "accuse", count_of(What::Accuse, rows) as u64)?;
-    push_count(text, "refute", count_of(What::Refute, rows) as u64)?;
-    push_count(text, "fail", count_of(What::Fail, rows) as u64)?;
-    push_count(text, "health", worst_health(rows))
+    push_count(text, "accuse", tallies.told(What::Accuse))?;
+    push_count(text, "refute", tallies.told(What::Refute))?;
+    push_count(text, "fail", tallies.told(What::Fail))?;
+    push_count(text, "health", tallies.worst_health())
 }
 
 /// Appends how many messages of a kind were sent, and how many of them were lost.
 #[tactic(auto, unfolding(crate::specs::Text::sent_line))]
-fn push_message(text: &mut String, kind: What, rows: &[Row]) -> Result<(), AllocError>
-    ensures { OnOk result (string_bytes text.new ≡ string_bytes text.old ++ message_line rows.now kind) }
+fn push_message(text: &mut String, kind: What, tallies: &Tallies) -> Result<(), AllocError>
+    ensures { OnOk result (string_bytes text.new ≡ string_bytes text.old ++ message_line tallies.now kind) }
 {
     let word = kind.word();
-    let sent = count_of(kind, rows);
-    let lost = losses_of(kind, rows);
+    let sent = tallies.told(kind);
+    let lost = tallies.lost(kind);
     writeln!(text, "sent {word} {sent} lost {lost}")
 }
 
@@ -178,13 +177,13 @@ fn push_message(text: &mut String, kind: What, rows: &[Row]) -> Result<(), Alloc
 pub(crate) fn push_messages(
     text: &mut String,
     kinds: &[What],
-    rows: &[Row],
+    tallies: &Tallies,
 ) -> Result<(), AllocError>
     ensures { OnOk result (string_bytes text.new
-        ≡ string_bytes text.old ++ flat_map (message_line rows.now) kinds.now) }
+        ≡ string_bytes text.old ++ flat_map (message_line tallies.now) kinds.now) }
 {
     for kind in kinds {
-        push_message(text, *kind, rows)?;
+        push_message(text, *kind, tallies)?;
     }
     Ok(())
 }

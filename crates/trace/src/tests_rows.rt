@@ -118,7 +118,7 @@ fn many_rows_are_their_lines_in_order(rt: HostRuntime) -> Result<(), Fail> {
     let scenario = scenario::read(rt.alloc(), TEXT)?;
     let mut rows = Vec::new(rt.alloc());
     let mut lines = String::new(rt.alloc());
-    for number in 0..200 {
+    for number in 0..1100 {
         rows.push(Row {
             number,
             ..start_of(1)
@@ -162,7 +162,7 @@ fn refused_memory_leaves_a_beginning(rt: HostRuntime) -> Result<(), Fail> {
         return Ok(());
     };
     let mut sink = MemorySink::new(rt.alloc());
-    let rows = [start_of(0); 150];
+    let rows = [start_of(0); 1100];
     let outcome = write(&rt, &rows, &scenario, &mut sink);
     let lines = sink.bytes().len() / 23;
     assert_eq!(rt; sink.bytes().len(), lines.saturating_mul(23));
@@ -171,15 +171,15 @@ fn refused_memory_leaves_a_beginning(rt: HostRuntime) -> Result<(), Fail> {
     }
     match outcome {
         Ok(()) => {
-            assert_eq!(rt; lines, 150);
+            assert_eq!(rt; lines, 1100);
             assert_eq!(rt; sink.failures(), 0);
         }
         Err(WriteError::Memory) => {
-            assert!(rt; lines < 150);
+            assert!(rt; lines < 1100);
             assert_eq!(rt; sink.failures(), 0);
         }
         Err(WriteError::Stopped) => {
-            assert!(rt; lines < 150);
+            assert!(rt; lines < 1100);
             assert_eq!(rt; sink.failures(), 1);
         }
     }

@@ -13,7 +13,7 @@ use scenario::Scenario;
 use std::alloc::Global;
 
 /// How many lines are laid into memory before they are put.
-const ROWS_AT_ONCE: usize = 64;
+const ROWS_AT_ONCE: usize = 1024;
 
 /// Why a text was not put whole.
 #[derive(Clone, Copy, Debug, PartialEq, Eq, thiserror::Error)]

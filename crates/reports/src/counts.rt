@@ -1,0 +1,114 @@
+//! How many rows came, how many of each kind, and how bad a member's health got.
+ghost use Rattle.std.specs.Prelude.{◌≡◌, ◌<◌, ◌+◌, ◌^◌, ◌++◌, ◌∷◌, [], List, length, slice_index, slice_set, max, if◌then◌else◌};
+ghost use Rattle.trace.specs.declared.row.Row.{Row as AnyRow};
+ghost use Rattle.reports.specs.Rows.{tells};
+ghost use Rattle.reports.specs.Counts.{place_of, AreCountsOf};
+
+use crate::rows::tells;
+use trace::{Row, What};
+
+/// How many kinds of row there are.
+const KINDS: usize = 17;
+
+/// The counts of the rows so far.
+#[derive(Drop)]
+pub(crate) struct Counts {
+    /// How many rows there are.
+    pub(crate) rows: u64,
+    /// How many rows tell of each kind.
+    pub(crate) told: [u64; KINDS],
+    /// How many of these tell of what was lost.
+    pub(crate) lost: [u64; KINDS],
+    /// The highest local health counter that any member reached (Lifeguard's LHA-Probe).
+    pub(crate) worst_health: u64,
+}
+
+impl Counts {
+    /// The counts of no rows.
+    pub(crate) fn new() -> Counts
+        ensures { AreCountsOf result [] }
+    {
+        Counts {
+            rows: 0,
+            told: [0; KINDS],
+            lost: [0; KINDS],
+            worst_health: 0,
+        }
+    }
+
+    /// Counts the next row.
+    pub(crate) fn count(&mut self, row: &Row)
+        requires by_one { self.old.rows < 2 ^ 63 }
+        requires counted { (rows : List AnyRow) × AreCountsOf self.old rows }
+        ensures { (rows : List AnyRow) → AreCountsOf self.old rows → AreCountsOf self.new (rows ++ row.now ∷ []) }
+    {
+        let place = place_of(row.what);
+        self.rows += 1;
+        raise(&mut self.told, place, true);
+        raise(&mut self.lost, place, row.lost);
+        self.worst_health = worse(self.worst_health, row);
+    }
+
+    /// How many rows tell of this.
+    pub(crate) fn told(&self, kind: What) -> u64
+        ensures { result ≡ slice_index self.now.told (place_of kind) }
+    {
+        self.told[place_of(kind)]
+    }
+
+    /// How many rows tell of this, and that it was lost.
+    pub(crate) fn lost(&self, kind: What) -> u64
+        ensures { result ≡ slice_index self.now.lost (place_of kind) }
+    {
+        self.lost[place_of(kind)]
+    }
+}
+
+/// Raises the count at a place by one, if it counts.
+fn raise(counts: &mut [u64; KINDS], place: usize, does_count: bool)
+    requires place { place < 17 }
+    requires by_one { slice_index counts.old place < 2 ^ 63 }
+    ensures long { length counts.old ≡ 17 }
+    ensures raised { counts.new ≡ (if does_count then slice_set counts.old place (slice_index counts.old place + 1) else counts.old) }
+{
+    if does_count {
+        counts[place] += 1;
+    }
+}
+
+/// The worse of a health counter and that of a row, where the row tells of one.
+fn worse(health: u64, row: &Row) -> u64
+    ensures { result ≡ (if tells What.Health row.now then max health row.now.value else health) }
+{
+    if tells(row, What::Health) {
+        health.max(row.value)
+    } else {
+        health
+    }
+}
+
+/// The place of a kind of row among the counts.
+fn place_of(kind: What) -> usize
+    ensures place { result ≡ place_of kind }
+    ensures within { result < 17 }
+{
+    match kind {
+        What::Start => 0,
+        What::Crash => 1,
+        What::Joined => 2,
+        What::Join => 3,
+        What::Welcome => 4,
+        What::Ping => 5,
+        What::PingReq => 6,
+        What::Ack => 7,
+        What::Nack => 8,
+        What::Fail => 9,
+        What::Health => 10,
+        What::Alive => 11,
+        What::Suspect => 12,
+        What::Confirm => 13,
+        What::Accuse => 14,
+        What::Refute => 15,
+        What::Dead => 16,
+    }
+}
