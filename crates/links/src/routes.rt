@@ -17,7 +17,7 @@ pub(crate) fn routes_of(
 {
     let mut routes = BTreeMap::new(alloc);
     for path in paths {
-        let _ = routes.insert((path.from, path.to), path.link)?;
+        routes.insert((path.from, path.to), path.link)?;
     }
     Ok(routes)
 }

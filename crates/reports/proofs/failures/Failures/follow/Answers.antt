@@ -14,18 +14,18 @@ add_claim-requires c = All-same (λ crash. crash.detection.confirmers < 2 ^ 63) 
 pub add_claim-requires-in-Confirm : goal.add_claim-requires-in-Confirm
 add_claim-requires-in-Confirm c = All-same (λ crash. crash.detection.confirmers < 2 ^ 63) c.args.self.now.crashes.items (crashes_of c.requires.0) c.requires.1.detected (few_confirmers c.requires.0 c.requires.2)
 
-pub returns-in-CrashTold-clause-ok : goal.returns-in-CrashTold-clause-ok
-returns-in-CrashTold-clause-ok c =
+pub returns-in-Crash-clause-ok : goal.returns-in-Crash-clause-ok
+returns-in-Crash-clause-ok c =
     let row = c.args.row.now in
-    let is = c.in-CrashTold.is in
+    let is = c.in-Crash.is in
     on_ok c.add_crash.result (λ added rows are. record {
       detected = added ∙ ap (λ l. l ++ crash_at row ∷ []) are.detected ∙ sym (one_crash rows row (tells-same what.Crash what.Crash row is) (tells-same what.Crash what.Suspect row is) (tells-same what.Crash what.Confirm row is));
       suspected = are.suspected ∙ sym (other_claim what.Suspect rows row (tells-same what.Crash what.Suspect row is));
       confirmed = are.confirmed ∙ sym (other_claim what.Confirm rows row (tells-same what.Crash what.Confirm row is));
     }) c.add_crash.ensures.ok
 
-pub returns-in-CrashTold-clause-err : goal.returns-in-CrashTold-clause-err
-returns-in-CrashTold-clause-err c = on_err c.add_crash.result (λ left rows are. record { detected = left ∙ are.detected; suspected = are.suspected; confirmed = are.confirmed }) c.add_crash.ensures.err
+pub returns-in-Crash-clause-err : goal.returns-in-Crash-clause-err
+returns-in-Crash-clause-err c = on_err c.add_crash.result (λ left rows are. record { detected = left ∙ are.detected; suspected = are.suspected; confirmed = are.confirmed }) c.add_crash.ensures.err
 
 pub returns-in-Suspect-clause-ok : goal.returns-in-Suspect-clause-ok
 returns-in-Suspect-clause-ok c =
@@ -60,7 +60,7 @@ returns-in-Confirm-clause-err c =
 pub returns-in_default-clause-ok : goal.returns-in_default-clause-ok
 returns-in_default-clause-ok c rows are =
     let row = c.args.row.now in
-    let crash = tells-not what.Crash row c.in_default.not-CrashTold in
+    let crash = tells-not what.Crash row c.in_default.not-Crash in
     let suspect = tells-not what.Suspect row c.in_default.not-Suspect in
     let confirm = tells-not what.Confirm row c.in_default.not-Confirm in
     record {
