@@ -26,10 +26,10 @@ pub record State : Type 0 where
   -- what it holds of others
   pub table : Known
   -- the updates that are still to be sent
-  pub buffer : piggyback.Held
+  pub buffer : piggyback.HeldUpdates
   -- whom to probe next
   pub rota : ProbeOrder
-  pub suspicions : suspicion.Held
+  pub suspicions : suspicion.HeldSuspicions
   -- the probes that it made for others and has not answered yet
   pub relays : RelaySet
   -- the words that are left of its stream
