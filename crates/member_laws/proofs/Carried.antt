@@ -14,7 +14,7 @@ use Rattle.incarnation.specs.declared.Claim.TheVariants.{Alive}
 use Rattle.incarnation.specs.declared.Update.{Update}
 use Rattle.piggyback.specs.Picked.{Counted, HeldUpdates, counted_with, count_before, in_order, is_candidate, picked, left_by_pick}
 use Rattle.piggyback.proofs.Counts.{find_below_all, kept, get-left_after}
-use Rattle.piggyback.proofs.Holding.{true_from_T}
+use Rattle.piggyback.proofs.Rising.{true_from_T}
 use Rattle.membership.specs.Table.{Known, update_by, updates_by}
 use Rattle.member.specs.Send.{whole_table}
 use Rattle.member_laws.proofs.Tables.{get_put, has_put}
