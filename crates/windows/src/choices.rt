@@ -83,8 +83,14 @@ fn play_out(alloc: Global, scenario: &Scenario, choices: &[MemberId]) -> Result<
     ensures worn { IsErrOf result StepError.Worn → WearsOut scenario.now }
 {
     let end = scenario.end();
-    let links = Links::of(alloc, scenario)?;
-    let mut part = Part::whole(alloc, scenario, TreeQueue::new(alloc))?;
+    let links = match Links::of(alloc, scenario) {
+        Ok(links) => links,
+        Err(_) => return Err(StepError::Memory),
+    };
+    let mut part = match Part::whole(alloc, scenario, TreeQueue::new(alloc)) {
+        Ok(part) => part,
+        Err(_) => return Err(StepError::Memory),
+    };
     let setting = Setting {
         bound: end,
         scenario,
@@ -95,7 +101,10 @@ fn play_out(alloc: Global, scenario: &Scenario, choices: &[MemberId]) -> Result<
         rows: Vec::new(alloc),
     };
     let least_delay = links.least_delay();
-    let handled = choose_all(alloc, &mut part, &setting, least_delay, choices, &mut made)?;
+    let handled = match choose_all(alloc, &mut part, &setting, least_delay, choices, &mut made) {
+        Ok(handled) => handled,
+        Err(error) => return Err(error),
+    };
     let Effects { rows, events: _ } = made;
     Ok(Played {
         rows,
@@ -126,7 +135,10 @@ fn choose_all(
 {
     let mut handled = 0;
     for member in choices {
-        let went = choose(alloc, part, setting, least_delay, *member, made)?;
+        let went = match choose(alloc, part, setting, least_delay, *member, made) {
+            Ok(went) => went,
+            Err(error) => return Err(error),
+        };
         handled += usize::from(went);
     }
     Ok(handled)

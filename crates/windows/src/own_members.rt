@@ -52,7 +52,10 @@ impl OwnMembers {
         ensures place { OnOk result (number < vec_len self.new.slots) }
     {
         while self.slots.len() <= number.index() {
-            self.slots.push(None)?;
+            match self.slots.push(None) {
+                Ok(()) => {}
+                Err(_) => return Err(Memory),
+            }
         }
         Ok(())
     }

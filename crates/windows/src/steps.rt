@@ -105,7 +105,10 @@ pub(crate) fn handle_taken<Q: EventQueue<Event>>(
     ensures number { OnOk result (part.new.number ≡ part.old.number) }
     ensures worn { IsErrOf result StepError.Worn → WearsReceiver setting.now.scenario.now event (world_of Q.set part.old).members }
 {
-    let Effects { events, rows } = part.members.handle(alloc, event, setting)?;
+    let Effects { events, rows } = match part.members.handle(alloc, event, setting) {
+        Ok(made) => made,
+        Err(error) => return Err(error),
+    };
     match deliver(&part.members, &mut part.queue, events, &mut out.events) {
         Ok(()) => {}
         Err(Memory) => return Err(StepError::Memory),
@@ -130,7 +133,10 @@ fn deliver<Q: EventQueue<Event>>(
         OnOk result (map pair_of out.new.items ≡ map pair_of out.old.items ++ for_others own (map pair_of events.items)) }
 {
     for event in events {
-        place(members, queue, event, out)?;
+        match place(members, queue, event, out) {
+            Ok(()) => {}
+            Err(Memory) => return Err(Memory),
+        }
     }
     Ok(())
 }

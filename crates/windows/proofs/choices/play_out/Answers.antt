@@ -15,5 +15,5 @@ returns-clause-played c =
     let d = c.least_delay-least_delay in
     let least = least_of_links s d.result (d.ensures.reached s c.in-Ok.ensures) (d.ensures.least s c.in-Ok.ensures) (d.ensures.alone s c.in-Ok.ensures) in
     let w = world_of set_of c.choose_all.new.part in
-    play_of s d.result c.args.choices.now c.in-Ok-choose_all.handled c.choose_all.new.made.rows.items w _ least c.in-Ok-choose_all.ensures.ok refl refl (omega (arith, c.in-Ok-choose_all.ensures.few))
+    play_of s d.result c.args.choices.now c.in-Ok-choose_all.handled c.choose_all.new.made.rows.items w _ least c.in-Ok-choose_all.ensures.ok refl refl (omega (arith, c.in-Ok-choose_all.ensures.no_more))
     (subst (λ end. IsLeastLeft end w c.left_up_to.result) c.end-end.ensures.value c.left_up_to.ensures)
