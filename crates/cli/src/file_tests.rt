@@ -62,7 +62,10 @@ fn each_byte_of_the_report_may_have_no_room(rt: HostRuntime) -> Result<(), Fail>
 fn no_report_follows_half_a_trace(rt: HostRuntime) -> Result<(), Fail> {
     for (fails, trace) in [
         (Failing::AtWrite(1), ""),
-        (Failing::After(40), "moment,member,from,number,what,about,val"),
+        (
+            Failing::After(40),
+            "moment,member,from,number,what,about,val",
+        ),
         (Failing::AtFlush, TWO_MEMBERS.trace),
     ] {
         let files = older_files(&rt, TWO_MEMBERS.scenario)?.failing(fails);

@@ -47,7 +47,11 @@ impl Failures {
 }
 
 /// Takes in a claim that a member failed: it is told of that member's crashes, or it is false.
-fn add_claim(makers: &mut Vec<Maker>, crashes: &mut Vec<CrashTold>, row: &Row) -> Result<(), AllocError>
+fn add_claim(
+    makers: &mut Vec<Maker>,
+    crashes: &mut Vec<CrashTold>,
+    row: &Row,
+) -> Result<(), AllocError>
     requires { All (λ crash. crash.detection.confirmers < 2 ^ 63) crashes.old.items }
     ensures crashes { OnOk result (crashes.new.items ≡ map (crash_with row.now) crashes.old.items) }
     ensures makers { OnOk result (makers.new.items

@@ -190,7 +190,12 @@ pub(crate) fn list_names(alloc: Global, list: &[Value]) -> Result<Vec<String>, M
 {
     let mut names = Vec::new(alloc);
     for group in list {
-        add_names(alloc, &mut names, text(FormatKey::Name, group), count_of(group))?;
+        add_names(
+            alloc,
+            &mut names,
+            text(FormatKey::Name, group),
+            count_of(group),
+        )?;
     }
     Ok(names)
 }

@@ -86,5 +86,6 @@ fn first_lost_path(roster: &Roster, list: &[Value]) -> Option<usize>
 fn names_no_group(roster: &Roster, path: &Value) -> bool
     ensures { result ≡ names_no_group roster.now (view path.now) }
 {
-    roster.group(text(FormatKey::From, path)).is_none() || roster.group(text(FormatKey::To, path)).is_none()
+    roster.group(text(FormatKey::From, path)).is_none()
+        || roster.group(text(FormatKey::To, path)).is_none()
 }

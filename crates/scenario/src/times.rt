@@ -89,7 +89,8 @@ fn first_over(list: &[Value]) -> Option<usize>
 fn is_over(slow: &Value) -> bool
     ensures { result ≡ is_over_in (view slow.now) }
 {
-    number(Section::Slow, FormatKey::Until, Some(slow)) <= number(Section::Slow, FormatKey::From, Some(slow))
+    number(Section::Slow, FormatKey::Until, Some(slow))
+        <= number(Section::Slow, FormatKey::From, Some(slow))
 }
 
 /// The index of the first crash that isn't after its member's start.

@@ -6,7 +6,7 @@ ghost use Rattle.toml.specs.View.{view};
 ghost use Rattle.schema.specs.Tree.{section_table, tables_at, tables_below, rule_named, keys_of, items_of};
 ghost use Rattle.schema.specs.Shape.{rule_of, is_over_0, is_missing, is_empty_list, is_absent, has_fault, is_other_kind, is_outside, is_within, table_breaks, breaks, least_broken_of_shape, KeepsShape};
 
-use crate::schema::{Absence, Kind, KeyRule, Section};
+use crate::schema::{Absence, KeyRule, Kind, Section};
 use thiserror::Error;
 use toml::Value;
 

@@ -1,7 +1,7 @@
 //! What no clause says: that documents have the shape, and which rule each fault breaks.
 use crate::{
-    Absence, Check, ShapeFault, FormatKey, Kind, TablePlace, KeyRule, Section, check_shape, items_at, number, switch,
-    text, text_if, whole_or,
+    Absence, Check, FormatKey, KeyRule, Kind, Section, ShapeFault, TablePlace, check_shape,
+    items_at, number, switch, text, text_if, whole_or,
 };
 use std::alloc::Global;
 use std::process::Abort;
@@ -23,7 +23,12 @@ count = 2
 
 /// Edits with the check that fails and the place.
 const FAULTS: [(&str, &str, Check, TablePlace); 3] = [
-    ("seed = 7", "seed = true", Check::WrongKind, TablePlace::Table),
+    (
+        "seed = 7",
+        "seed = true",
+        Check::WrongKind,
+        TablePlace::Table,
+    ),
     (
         "period = 1000",
         "period = 1",
