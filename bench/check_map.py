@@ -21,30 +21,17 @@ def names_in(text):
     return re.findall(r'`([^`]+)`', text)
 
 
-def missing_definitions(cell):
-    """Definitions of a cell that their file does not have."""
+def missing_names(cell, mark, folder, ending, begins):
+    """Names of a cell, each as `crate/file`, the mark and names, that the crate's file does not have."""
     for place in cell.split(';'):
-        named = re.match(r'\s*(\w+)/(\w+): (.*)', place)
+        named = re.match(rf'\s*(\w+)/(\w+){mark}(.*)', place)
         if not named:
             continue
-        path = CRATES / named[1] / 'specs' / f'{named[2]}.antt'
+        path = CRATES / named[1] / folder / f'{named[2]}{ending}'
         text = path.read_text() if path.exists() else ''
         for name in names_in(named[3]):
-            if not re.search(rf'(?m)^\s*[a-z ]*\b{re.escape(name)}\b', text):
-                yield f'{named[1]}/specs/{named[2]}.antt: {name}'
-
-
-def missing_code(cell):
-    """Functions of a cell that their file does not have."""
-    for place in cell.split(';'):
-        named = re.match(r'\s*(\w+)/(\w+)\.(.*)', place)
-        if not named:
-            continue
-        path = CRATES / named[1] / 'src' / f'{named[2]}.rt'
-        text = path.read_text() if path.exists() else ''
-        for name in names_in(named[3]):
-            if not re.search(rf'\bfn {re.escape(name)}\b', text):
-                yield f'{named[1]}/src/{named[2]}.rt: {name}'
+            if not re.search(rf'{begins}\b{re.escape(name)}\b', text):
+                yield f'{path.relative_to(CRATES)}: {name}'
 
 
 def missing_tests(cell, tests):
@@ -59,8 +46,8 @@ def main():
     for line in (TOP / 'docs' / 'MAP.md').read_text().splitlines():
         cells = [cell.strip() for cell in line.strip('|').split('|')]
         if line.startswith('|') and len(cells) == 4 and '`' in line:
-            found += missing_definitions(cells[1])
-            found += missing_code(cells[2])
+            found += missing_names(cells[1], ': ', 'specs', '.antt', r'(?m)^\s*[a-z ]*')
+            found += missing_names(cells[2], r'\.', 'src', '.rt', r'\bfn ')
             found += missing_tests(cells[3], tests)
     for place in found:
         print(place)
