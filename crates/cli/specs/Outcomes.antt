@@ -10,6 +10,7 @@ use Rattle.trace.specs.Text.{trace_text}
 use Rattle.trace.specs.declared.row.Row.{Row}
 use Rattle.reports.specs.Text.{report_text}
 use Rattle.exchange.specs.Runs.{IsRunOf, WearsOut}
+use Rattle.exchange.specs.Promise.{WearsOutReport}
 use Rattle.clap.specs.Words.{Text}
 use Rattle.files.specs.Files.{KnownFile, Holds, HoldsNow, IsAbsent, KeepsOthers}
 use Rattle.command_line.specs.Words.{AsksForRun, AsksForCheck, AsksForHelp, IsNoCommand}
@@ -122,8 +123,7 @@ pub record BreaksOff (s : Setup) (before after : Shelf) (trace : Text) (report :
   pub written : (HoldsBeginning (before trace) (after trace) (trace_text s rows) × HoldsReport before after report [])
       ⊎ (HoldsNow (before trace) (after trace) (trace_text s rows) × BeginsReport before after report (report_text s rows))
   pub others : KeepsRest before after trace report
-  pub worn : cause ≡ fault.Worn → WearsOut s
-  pub relay : cause ≢ fault.Relay
+  pub worn : cause ≡ fault.Worn → WearsOut s ⊎ WearsOutReport s
 
 -- the file is empty now, and no other has changed
 pub record Empties (before after : Shelf) (name : Text) : Type 0 where

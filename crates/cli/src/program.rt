@@ -16,14 +16,16 @@ use std::alloc::Global;
 use std::convert::AsStr;
 use std::io;
 use std::io::Write;
+use std::sync::Wait;
 use std::thread::Threads;
 
 /// Does what the words ask for, and answers the exit status.
 ///
-/// `rt` starts the threads of a run. `words` are those of the command line without the program's name. A failure is told in one line on
-/// `err`, and `out` then gets nothing, unless `out` itself failed.
+/// `rt` starts the threads of a run and lets them wait. `words` are those of the command line without the
+/// program's name. A failure is told in one line on `err`, and `out` then gets nothing, unless `out` itself
+/// failed.
 pub fn command<S: AsStr, F: Files, O: Write, E: Write>(
-    rt: &(impl Threads + Sync),
+    rt: &(impl Threads + Wait + Sync),
     alloc: Global,
     words: &[S],
     files: &mut F,
@@ -59,7 +61,7 @@ pub fn command<S: AsStr, F: Files, O: Write, E: Write>(
 
 /// Does what the words ask for.
 fn perform<'a, S: AsStr, F: Files, O: Write>(
-    rt: &(impl Threads + Sync),
+    rt: &(impl Threads + Wait + Sync),
     alloc: Global,
     words: &'a [S],
     files: &mut F,
@@ -91,7 +93,7 @@ fn perform<'a, S: AsStr, F: Files, O: Write>(
 /// Runs the scenario of one file, and writes its trace and its report to others, which are made once all
 /// checks have passed.
 fn run<'a, F: Files>(
-    rt: &(impl Threads + Sync),
+    rt: &(impl Threads + Wait + Sync),
     alloc: Global,
     words: RunWords<'a>,
     files: &mut F,
@@ -153,7 +155,7 @@ fn load<'a, F: Files>(alloc: Global, name: &'a str, files: &mut F) -> Result<Sce
 
 /// Runs a scenario, and writes its trace to the file of a name. Its report goes nowhere.
 fn store_trace<'a, F: Files>(
-    rt: &(impl Threads + Sync),
+    rt: &(impl Threads + Wait + Sync),
     alloc: Global,
     prepared: &Prepared,
     name: &'a str,
@@ -174,6 +176,7 @@ fn store_trace<'a, F: Files>(
         alloc,
         &prepared.scenario,
         &prepared.division,
+        prepared.workers,
         made,
         io::sink(),
     );
@@ -187,7 +190,7 @@ fn store_trace<'a, F: Files>(
 /// Runs a scenario, and writes its trace and its report to the files of two names, which are made in that
 /// order. One name for both is refused before either is made, since one file can't hold both.
 fn store_both<'a, F: Files>(
-    rt: &(impl Threads + Sync),
+    rt: &(impl Threads + Wait + Sync),
     alloc: Global,
     prepared: &Prepared,
     trace: &'a str,
@@ -216,6 +219,7 @@ fn store_both<'a, F: Files>(
         alloc,
         &prepared.scenario,
         &prepared.division,
+        prepared.workers,
         made_trace,
         made_report,
     );

@@ -1,17 +1,18 @@
 //! From a scenario's bytes to its trace and its report.
-ghost use Rattle.std.specs.Prelude.{◌≡◌, ◌≢◌, Ok, IfOk, IfErr, OnErr, IsErrOf, length};
+ghost use Rattle.std.specs.Prelude.{◌≡◌, ◌⊎◌, Ok, IfOk, IfErr, OnErr, IsErrOf, length};
 ghost use Rattle.scenario.specs.Setup.{member_count};
 ghost use Rattle.scenario.specs.Rules.{verdict};
 ghost use Rattle.exchange.specs.Runs.{WearsOut};
 ghost use Rattle.command_line.specs.Failures.{RefusesText};
-ghost use Rattle.exchange.specs.Promise.{WritesRun, WritesBeginning};
+ghost use Rattle.exchange.specs.Promise.{WritesRun, WritesBeginning, WearsOutReport};
 
 use base::Fault;
 use command_line::Failure;
-use exchange::{Summary, run_in_turn};
-use scenario::{Division, Scenario};
+use exchange::{OpenGate, Summary};
+use scenario::{Division, Scenario, Workers};
 use std::alloc::Global;
 use std::io::Write;
+use std::sync::Wait;
 use std::thread::Threads;
 use trace::Put;
 
@@ -32,13 +33,15 @@ pub fn check(alloc: Global, bytes: &[u8]) -> Result<Scenario, Failure<'static>>
     }
 }
 
-/// Runs a scenario by a division of its members, writes its trace to one writer and then its report to the
-/// other, and gives both back. After a fault they have got a beginning of that.
+/// Runs a scenario by the parts of a division of its members and so many workers, writes its trace to one
+/// writer and then its report to the other, and gives both back. After a fault they have got a beginning of
+/// that.
 pub fn simulate<T: Write, R: Write>(
-    rt: &(impl Threads + Sync),
+    rt: &(impl Threads + Wait + Sync),
     alloc: Global,
     scenario: &Scenario,
     division: &Division,
+    workers: Workers,
     trace: T,
     report: R,
 ) -> (T, R, Result<Summary, Fault>)
@@ -47,11 +50,19 @@ pub fn simulate<T: Write, R: Write>(
         (R.contents report) (R.contents result.1) summary.rows) }
     ensures beginning { OnErr result.2 (WritesBeginning scenario.now (T.contents trace) (T.contents result.0)
         (R.contents report) (R.contents result.1)) }
-    ensures worn { IsErrOf result.2 Fault.Worn → WearsOut scenario.now }
-    ensures relay { IfErr result.2 (λ fault. fault ≢ Fault.Relay) }
+    ensures worn { IsErrOf result.2 Fault.Worn → WearsOut scenario.now ⊎ WearsOutReport scenario.now }
 {
     let mut trace = Put::new(trace);
     let mut report = Put::new(report);
-    let outcome = run_in_turn(rt, alloc, scenario, division, &mut trace, &mut report);
+    let outcome = exchange::run(
+        rt,
+        alloc,
+        scenario,
+        division,
+        workers,
+        &OpenGate,
+        &mut trace,
+        &mut report,
+    );
     (trace.into_inner(), report.into_inner(), outcome)
 }

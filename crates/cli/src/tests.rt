@@ -4,6 +4,7 @@ use exchange::testing::TWO_MEMBERS;
 use files::testing::{Failing, MemoryFiles, MemoryWriter};
 use scenario::DivisionFault;
 use std::process::Abort;
+use std::sync::Wait;
 use std::test::Fail;
 use std::thread::Threads;
 
@@ -40,7 +41,7 @@ pub(crate) fn older_files(rt: &impl AllocGlobal, text: &str) -> Result<MemoryFil
 /// Gives a command the words of this line, parted by spaces, and the files, and a standard output that fails
 /// in this way.
 pub(crate) fn left_by(
-    rt: &(impl Threads + Sync + AllocGlobal),
+    rt: &(impl Threads + Wait + Sync + AllocGlobal),
     line: &str,
     files: MemoryFiles,
     fails: Failing,

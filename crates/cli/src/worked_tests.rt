@@ -5,10 +5,11 @@ use exchange::testing::{CRASH_DETECTED, JOIN, LOST_PATH, THREE_HELPERS, WORKED, 
 use files::testing::Failing;
 use std::process::Abort;
 use std::test::Fail;
+use std::sync::Wait;
 use std::thread::Threads;
 
 /// What the command leaves that runs this text, where an older trace and an older report stand.
-fn run_of(rt: &(impl Threads + Sync + AllocGlobal), text: &str) -> Result<Left, Fail> {
+fn run_of(rt: &(impl Threads + Wait + Sync + AllocGlobal), text: &str) -> Result<Left, Fail> {
     left_by(rt, REPORTED, older_files(rt, text)?, Failing::Never)
 }
 

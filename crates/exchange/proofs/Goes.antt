@@ -1,9 +1,10 @@
--- How the run in turn goes on: what the loop that makes it keeps.
-use Rattle.std.proofs.Common.{◌≡◌, All, ℕ, zero, suc, ◌+◌, ◌<◌, ◌≤◌, true, cond, List, [], ◌∷◌, ◌++◌, length, Option, Some, None, append_assoc, append-nil, ap, ◌∙◌, sym, subst, refl, arith}
+-- How a run goes on turn after turn: what each loop that makes it keeps.
+use Rattle.std.proofs.Common.{◌≡◌, ◌↔◌, All, ℕ, zero, suc, ◌+◌, ◌<◌, ◌≤◌, ◌^◌, true, cond, List, [], ◌∷◌, ◌++◌, length, Option, Some, None, append_assoc, append-nil, ap, ◌∙◌, sym, subst, refl, arith}
 use Rattle.std.specs.Option.{IfSome, is_some}
 use Rattle.std.specs.List.{AllByRecursion, slice_get}
 use Rattle.std.specs.Cmp.{nat_cmp_total}
 use Rattle.std.specs.FinMap.{FinMap, get, contains_key, nat_cmp-IsAntisymmetric}
+use Rattle.std.proofs.lemmas.List.{length-append}
 use Rattle.std.proofs.lemmas.Bool.{false≢true, eq-eqb, ltb-true}
 use Rattle.std.proofs.lemmas.Option.{same_Some, slice_get_within}
 use Rattle.std.proofs.lemmas.List.Elements.{recursion_from_All, All-from_recursion}
@@ -12,6 +13,7 @@ use Rattle.base.specs.Order.{key_cmp, key_total, key_exact}
 use Rattle.base.specs.World.{IsPending, IsOver, Run}
 use Rattle.base.specs.Run.{handled, trace, run-exists}
 use Rattle.member.proofs.Fair.{steps_later}
+use Rattle.links.specs.Least.{IsDelayOfAPair, IsNoGreater}
 use Rattle.scenario.specs.Setup.{Setup, IsSound, member_count}
 use Rattle.scenario.specs.Division.{Deal}
 use Rattle.trace.specs.declared.row.Row.{Row}
@@ -24,22 +26,25 @@ use Rattle.member_laws.specs.Runs.{Cluster}
 use Rattle.member_laws.proofs.Reached.{rows_named}
 use Rattle.worker_queue.specs.Queue.{NoneIsBelow}
 use Rattle.windows.specs.declared.part.Part.{Part}
+use Rattle.windows.specs.declared.part.Done.{Done}
 use Rattle.trace.specs.Text.{NamesMembers}
-use Rattle.windows.specs.Window.{is_own}
+use Rattle.windows.specs.Window.{is_own, IsConsistentPart}
 use Rattle.windows.proofs.Members.{met_in_part, some_delay}
 use Rattle.member.specs.Worn.{IsWorn}
 use Rattle.windows.specs.Parts.{PartRun, part_of, is_in}
 use Rattle.windows.specs.Schedule.{MeetsState}
-use Rattle.windows.specs.Cluster.{IsLeastDelay, IsWholeCluster}
+use Rattle.windows.specs.Cluster.{link_delay, IsLeastDelay, IsWholeCluster}
 use Rattle.windows.specs.WorldOf.{world_of}
 use Rattle.windows.proofs.Cuts.{get_retained}
 use Rattle.member_laws.specs.Runs.{IsRunOf, WearsOut}
-use Rattle.windows.specs.Several.{OneWears}
-use Rattle.exchange.specs.Parts.{part_number, NonePendsBefore, StandFor, MayTurn, HaveTurned}
+use Rattle.windows.specs.Several.{RanWindows, OneWears}
+use Rattle.exchange.specs.Parts.{part_number, NonePendsBefore, StandFor, MayTurn, Came, HaveExchanged}
 use Rattle.exchange.specs.Bounds.{IsNextBound}
-use Rattle.exchange.specs.Promise.{IsBeginning, BeginsRun}
+use Rattle.exchange.specs.declared.turns.Course.{Course}
+use Rattle.exchange.specs.Course.{IsCourse}
+use Rattle.exchange.specs.Promise.{IsBeginning, BeginsRun, WearsOutReport}
 use Rattle.exchange.proofs.Coming.{behind}
-use Rattle.exchange.proofs.Turning.{all_places, world_at, own_by_part}
+use Rattle.exchange.proofs.Turning.{all_places, world_at, parts_consistent, own_by_part}
 use Rattle.exchange.proofs.Lasting.{wears_nothing}
 use Rattle.windows.proofs.Wholes.{pending_kept}
 use Rattle.windows.proofs.Slots.{part_unworn}
@@ -86,81 +91,109 @@ pub record IsUnderWay {Q : Type 0} (set : Q → FinMap key_cmp Event) (s : Setup
       → (all : List Key) × Run (step s) s.end (opening s) all (rows ++ left) last
   pub met : (m : ℕ) (t : State) → MeetsState (step s) s.end world m t → MeetsState (step s) s.end (opening s) m t
 
+-- ---- what every turn goes by
+
+-- what the links say of their least delay
+pub is_least : (s : Setup) (d : Option ℕ) → IfSome d (IsDelayOfAPair (link_delay s) (member_count s)) → IfSome d (IsNoGreater (link_delay s) (member_count s)) → (d ≡ None ↔ member_count s ≡ 1) → IsLeastDelay s d
+is_least s None reached least alone = alone.0 refl
+is_least s (Some d) reached least alone = (reached, least)
+
 -- ---- the opening
 
-pub not_yet : {Q : Type 0} (set : Q → FinMap key_cmp Event) (s : Setup) (deal : Deal) (parts : List (Part Q)) → IsSound s → StandFor set deal parts (opening s) → IsUnderWay set s deal 0 parts []
-not_yet set s deal parts sound stand = record {
-  world = opening s;
+pub not_yet : {Q : Type 0} (set : Q → FinMap key_cmp Event) (course : Course) (is : IsCourse course) (parts : List (Part Q)) → StandFor set course.division.now parts (opening course.scenario.now)
+    → IsUnderWay set course.scenario.now course.division.now 0 parts []
+not_yet set course is parts stand = record {
+  world = opening course.scenario.now;
   stand = stand;
-  whole = opening_whole s sound;
-  none = none_of_parts set deal parts (opening s) stand 0 (λ q here. omega arith);
+  whole = opening_whole course.scenario.now is.sound;
+  none = none_of_parts set course.division.now parts (opening course.scenario.now) stand 0 (λ q here. omega arith);
   follows = λ keys left last run over. (keys, run);
   met = λ m t met. met;
 }
 
 -- ---- the next turn
 
-module _ {Q : Type 0} (set : Q → FinMap key_cmp Event) (s : Setup) (sound : IsSound s) (deal : Deal) (divides : length deal.part_of ≡ member_count s)
-    (below : (m : ℕ) → m < member_count s → part_number deal m < deal.parts) (parts : List (Part Q)) (rows : List Row) (from : ℕ) (so_far : IsUnderWay set s deal from parts rows) where
+module _ {Q : Type 0} (set : Q → FinMap key_cmp Event) (course : Course) (is : IsCourse course) (parts : List (Part Q)) (rows : List Row) (from : ℕ)
+    (so_far : IsUnderWay set course.scenario.now course.division.now from parts rows) where
+  abbrev s : Setup
+  s = course.scenario.now
+
+  abbrev deal : Deal
+  deal = course.division.now
+
+  pub consistent : AllByRecursion (λ (p : Part Q). IsConsistentPart s (world_of set p)) parts
+  consistent = parts_consistent set deal parts so_far.world so_far.stand s so_far.whole
+
   receiver_below : (q : Key) → IsPending so_far.world q → q.to < member_count s
   receiver_below q here = by_value (get so_far.world.pending q) refl here
     where
       by_value : (o : Option Content) → get so_far.world.pending q ≡ o → is_some o ≡ true → q.to < member_count s
-      by_value None is here = absurd (false≢true here)
-      by_value (Some c) is here = (so_far.whole.sound.events q c is).receiver
+      by_value None same here = absurd (false≢true here)
+      by_value (Some c) same here = (so_far.whole.sound.events q c same).receiver
 
   none_of_it : (t : ℕ) → NonePendsBefore set parts t → (q : Key) → IsPending so_far.world q → t ≤ q.at
-  none_of_it t = none_of_world set deal parts so_far.world so_far.stand t (λ q here. below q.to (receiver_below q here))
+  none_of_it t = none_of_world set deal parts so_far.world so_far.stand t (λ q here. is.below q.to (receiver_below q here))
 
-  pub near_all : (d : Option ℕ) (least bound : ℕ) → NonePendsBefore set parts least → IfSome d (λ d. bound ≤ least + d) → IfSome d (λ d. (q : Key) → IsPending so_far.world q → bound ≤ q.at + d)
+  near_all : (d : Option ℕ) (least bound : ℕ) → NonePendsBefore set parts least → IfSome d (λ d. bound ≤ least + d) → IfSome d (λ d. (q : Key) → IsPending so_far.world q → bound ≤ q.at + d)
   near_all None least bound none near = tt
   near_all (Some d) least bound none near = λ q here. let low = none_of_it least none q here in omega arith
 
-  module _ (d : Option ℕ) (least : IsLeastDelay s d) (bound : ℕ) (next : IsNextBound set parts s.end d bound) where
-    abbrev pub may_turn : MayTurn set s deal bound parts
+  -- the bound of the next windows, as it was found in the slice of these parts
+  module _ (bound : ℕ) (slice : List (Part Q)) (same : slice ≡ parts) (found : IsNextBound set slice course.end course.least_delay bound) where
+    abbrev next : IsNextBound set parts s.end course.least_delay bound
+    next = subst (λ e. IsNextBound set parts e course.least_delay bound) is.end (subst (λ l. IsNextBound set l course.end course.least_delay bound) same found)
+
+    abbrev may_turn : MayTurn set s deal bound parts
     may_turn = record {
       world = so_far.world;
       stand = so_far.stand;
       whole = so_far.whole;
-      least_delay = d;
-      least = least;
-      common = record { in_time = next.in_time; near = near_all d next.least bound next.none next.near };
+      least_delay = course.least_delay;
+      least = is.least;
+      common = record { in_time = next.in_time; near = near_all course.least_delay next.least bound next.none next.near };
     }
 
-    pub further : (from < bound) × (bound ≤ s.end + 1)
-    further = (let past = next.past (some_delay s sound d least) in let low = next.some from so_far.none in omega arith, next.in_time)
+    pub in_time : bound ≤ s.end + 1
+    in_time = next.in_time
 
-    pub goes_on : (after : List (Part Q)) (made : List Row) → HaveTurned set s deal bound parts after made → IsUnderWay set s deal bound after (rows ++ made)
-    goes_on after made turned =
-        let v = (led set s sound deal bound parts turned.done divides may_turn turned.windows).0 in
-        let stand = stand_after set s sound deal bound parts turned.done divides may_turn turned.windows after turned.come in
+    pub further : (from < bound) × (bound ≤ course.end + 1)
+    further = (let past = next.past (some_delay s is.sound course.least_delay is.least) in let low = next.some from so_far.none in omega arith, let low = next.in_time in omega (arith, low, is.end))
+
+    pub came : (done : List (Done Q)) → RanWindows set s bound parts done → Came set deal done
+    came done windows = record { setup = s; sound = is.sound; divides = is.divides; bound = bound; before = parts; ready = may_turn; windows = windows }
+
+    pub goes_on : (done : List (Done Q)) → RanWindows set s bound parts done → (after : List (Part Q)) (made : List Row) → HaveExchanged set deal done after made
+        → IsUnderWay set s deal bound after (rows ++ made)
+    goes_on done windows after made exchanged =
+        let v = (led set s is.sound deal bound parts done is.divides may_turn windows).0 in
+        let stand = stand_after set s is.sound deal bound parts done is.divides may_turn windows after exchanged.come in
         record {
           world = v;
           stand = stand;
-          whole = whole_led set s sound deal bound parts turned.done divides may_turn turned.windows;
-          none = none_of_parts set deal after v stand bound (none_led set s sound deal bound parts turned.done divides may_turn turned.windows below);
+          whole = whole_led set s is.sound deal bound parts done is.divides may_turn windows;
+          none = none_of_parts set deal after v stand bound (none_led set s is.sound deal bound parts done is.divides may_turn windows is.below);
           follows = λ keys left last run over.
-              let before = run_led set s sound deal bound parts turned.done divides may_turn turned.windows below made left keys last turned.rows run over in
+              let before = run_led set s is.sound deal bound parts done is.divides may_turn windows is.below made left keys last exchanged.rows run over in
               let all = so_far.follows before.0 before.1 last before.2 over in
               (all.0, subst (λ l. Run (step s) s.end (opening s) all.0 l last) (ap (λ l. rows ++ l) before.3 ∙ sym (append_assoc rows made left)) all.1);
-          met = λ m t met. so_far.met m t (met_led set s sound deal bound parts turned.done divides may_turn turned.windows m t met);
+          met = λ m t met. so_far.met m t (met_led set s is.sound deal bound parts done is.divides may_turn windows m t met);
         }
 
     -- a counter that a window wears out the run wears out
     pub one_wears : OneWears set s bound parts → WearsOut s
-    one_wears is =
-        let i = length is.before in
-        let here : slice_get parts i ≡ Some is.part = ap (λ l. slice_get l i) is.there ∙ after_front is.before is.part is.after in
-        let low : i < deal.parts = let within = slice_get_within parts i is.part here in omega (arith, within, so_far.stand.count) in
-        let world = world_at set deal parts so_far.world so_far.stand i is.part here in
+    one_wears one =
+        let i = length one.before in
+        let here : slice_get parts i ≡ Some one.part = ap (λ l. slice_get l i) one.there ∙ after_front one.before one.part one.after in
+        let low : i < deal.parts = let within = slice_get_within parts i one.part here in omega (arith, within, so_far.stand.count) in
+        let world = world_at set deal parts so_far.world so_far.stand i one.part here in
         let owns = is_in (part_number deal) i in
         let p = part_of owns so_far.world in
-        let run : PartRun (step s) owns bound p is.wears.keys is.wears.out is.wears.rows is.wears.world =
-        subst (λ f. PartRun (step s) f bound p is.wears.keys is.wears.out is.wears.rows is.wears.world) (own_by_part s deal so_far.world i divides so_far.whole low)
-        (subst (λ x. PartRun (step s) (is_own x) bound x is.wears.keys is.wears.out is.wears.rows is.wears.world) world is.wears.reached) in
-        let met = so_far.met is.wears.number is.wears.member
-        (met_in_part s d (part_number deal) i bound so_far.world is.wears.world is.wears.keys is.wears.out is.wears.rows is.wears.number is.wears.member sound least so_far.whole.sound may_turn.common run is.wears.there) in
-        record { keys = met.keys; rows = met.rows; world = met.world; reached = met.run; number = is.wears.number; member = is.wears.member; there = met.there; worn = is.wears.worn }
+        let run : PartRun (step s) owns bound p one.wears.keys one.wears.out one.wears.rows one.wears.world =
+        subst (λ f. PartRun (step s) f bound p one.wears.keys one.wears.out one.wears.rows one.wears.world) (own_by_part s deal so_far.world i is.divides so_far.whole low)
+        (subst (λ x. PartRun (step s) (is_own x) bound x one.wears.keys one.wears.out one.wears.rows one.wears.world) world one.wears.reached) in
+        let met = so_far.met one.wears.number one.wears.member
+        (met_in_part s course.least_delay (part_number deal) i bound so_far.world one.wears.world one.wears.keys one.wears.out one.wears.rows one.wears.number one.wears.member is.sound is.least so_far.whole.sound may_turn.common run one.wears.there) in
+        record { keys = met.keys; rows = met.rows; world = met.world; reached = met.run; number = one.wears.number; member = one.wears.member; there = met.there; worn = one.wears.worn }
       where
         after_front : {A : Type 0} (xs : List A) (x : A) (ys : List A) → slice_get (xs ++ x ∷ ys) (length xs) ≡ Some x
         after_front [] x ys = refl
@@ -169,13 +202,13 @@ module _ {Q : Type 0} (set : Q → FinMap key_cmp Event) (s : Setup) (sound : Is
   -- the rows so far are the first of the run
   pub begins : BeginsRun s rows
   begins =
-      let later = steps_later s sound in
+      let later = steps_later s is.sound in
       let left = run-exists (step s) later s.end so_far.world in
       let all = so_far.follows (handled (step s) later s.end so_far.world) (trace (step s) later s.end so_far.world) left.last left.run left.over in
       (rows ++ trace (step s) later s.end so_far.world, (all.0, record { last = left.last; run = all.1; over = left.over }), (trace (step s) later s.end so_far.world, refl))
 
-  -- where nothing is left up to the end, the run is whole
-  pub is_over : NonePendsBefore set parts (s.end + 1) → IsOver s.end so_far.world
+  -- where nothing is left up to the end, the run is whole, and wore no counter out
+  is_over : NonePendsBefore set parts (s.end + 1) → IsOver s.end so_far.world
   is_over none q here = let low = none_of_it (s.end + 1) none q here in omega arith
 
   whole_run : IsOver s.end so_far.world → (all : List Key) × Run (step s) s.end (opening s) all rows so_far.world
@@ -183,14 +216,28 @@ module _ {Q : Type 0} (set : Q → FinMap key_cmp Event) (s : Setup) (sound : Is
       let all = so_far.follows [] [] so_far.world (refl, refl) over in
       (all.0, subst (λ l. Run (step s) s.end (opening s) all.0 l so_far.world) (append-nil rows) all.1)
 
-  pub run_is : NonePendsBefore set parts (s.end + 1) → IsRunOf s rows
-  run_is none = let all = whole_run (is_over none) in (all.0, record { last = so_far.world; run = all.1; over = is_over none })
+  all_unworn : (m : ℕ) (t : State) → get so_far.world.members m ≡ Some t → ¬ (IsWorn t)
+  all_unworn m t here =
+      let low = ltb-true m (member_count s) (sym (so_far.whole.peopled m) ∙ ap is_some here) in
+      let i = part_number deal m in
+      let found = behind (world_of set) (slice_get parts i) (part_of (is_in (part_number deal) i) so_far.world) (so_far.stand.worlds i (is.below m low)) in
+      let kept : get (part_of (is_in (part_number deal) i) so_far.world).members m ≡ Some t =
+      get_retained nat_cmp_total nat_cmp-IsAntisymmetric (is_in (part_number deal) i) so_far.world.members m ∙ ap (λ b. cond b (get so_far.world.members m) None) (eq-eqb i i refl) ∙ here in
+      part_unworn set found.0 m t (ap (λ (x : Cluster). get x.members m) found.2 ∙ kept)
 
-  pub run_names : NonePendsBefore set parts (s.end + 1) → All (NamesMembers s) rows
-  run_names none = let all = whole_run (is_over none) in rows_named s sound all.0 rows so_far.world all.1
+  ends : NonePendsBefore set parts (s.end + 1) → IsRunOf s rows × (¬ (WearsOut s))
+  ends none =
+      let over = is_over none in
+      let all = whole_run over in
+      ((all.0, record { last = so_far.world; run = all.1; over = over }), wears_nothing s is.sound all.0 rows so_far.world all.1 over all_unworn)
 
-  pub past_end : s.end < from → NonePendsBefore set parts (s.end + 1)
-  past_end past = none_of_parts set deal parts so_far.world so_far.stand (s.end + 1) (λ q here. let low = none_of_it from so_far.none q here in omega arith)
+  -- it is where no next bound was found
+  pub ends_here : (slice : List (Part Q)) → slice ≡ parts → NonePendsBefore set slice (course.end + 1) → IsRunOf s rows × (¬ (WearsOut s))
+  ends_here slice same none = ends (subst (λ e. NonePendsBefore set parts (e + 1)) is.end (subst (λ l. NonePendsBefore set l (course.end + 1)) same none))
+
+  -- and past the end
+  pub ends_past : course.end < from → IsRunOf s rows × (¬ (WearsOut s))
+  ends_past past = ends (none_of_parts set deal parts so_far.world so_far.stand (s.end + 1) (λ q here. let low = none_of_it from so_far.none q here in omega (arith, low, past, is.end)))
 
 -- ---- the first rows of a run
 
@@ -213,25 +260,27 @@ module _ (s : Setup) (sound : IsSound s) where
   pub names_next : (before made : List Row) → BeginsRun s (before ++ made) → All (NamesMembers s) made
   names_next before made begun = All-from_recursion (NamesMembers s) made (later_ones (NamesMembers s) before made (names_first (before ++ made) begun))
 
+  pub names_run : (rows : List Row) → IsRunOf s rows → All (NamesMembers s) rows
+  names_run rows run = names_next [] rows (rows, run, ([], sym (append-nil rows)))
+
+  -- where there are as many as the report can't count, the run has no fewer
+  pub wears_report : (front : List Row) → BeginsRun s front → 2 ^ 63 ≤ length front → WearsOutReport s
+  wears_report front begun many = record {
+    rows = begun.0;
+    run = begun.1;
+    many = let all = ap length begun.2.1 ∙ length-append front begun.2.0 in omega (arith, all, many);
+  }
+
   pub begins_with : (front rows : List Row) → IsBeginning front rows → BeginsRun s rows → BeginsRun s front
   begins_with front rows front_of begun =
       (begun.0, begun.1, (front_of.0 ++ begun.2.0, begun.2.1 ∙ ap (λ l. l ++ begun.2.0) front_of.1 ∙ append_assoc front front_of.0 begun.2.0))
 
--- ---- a run that comes to its end in parts in memory wore nothing out
+-- ---- the rows of one turn more
 
-module _ {Q : Type 0} (set : Q → FinMap key_cmp Event) (s : Setup) (sound : IsSound s) (deal : Deal) (divides : length deal.part_of ≡ member_count s)
-    (below : (m : ℕ) → m < member_count s → part_number deal m < deal.parts) (parts : List (Part Q)) (rows : List Row) (from : ℕ) (so_far : IsUnderWay set s deal from parts rows) where
-  all_unworn : (m : ℕ) (t : State) → get so_far.world.members m ≡ Some t → ¬ (IsWorn t)
-  all_unworn m t here =
-      let low = ltb-true m (member_count s) (sym (so_far.whole.peopled m) ∙ ap is_some here) in
-      let i = part_number deal m in
-      let found = behind (world_of set) (slice_get parts i) (part_of (is_in (part_number deal) i) so_far.world) (so_far.stand.worlds i (below m low)) in
-      let kept : get (part_of (is_in (part_number deal) i) so_far.world).members m ≡ Some t =
-      get_retained nat_cmp_total nat_cmp-IsAntisymmetric (is_in (part_number deal) i) so_far.world.members m ∙ ap (λ b. cond b (get so_far.world.members m) None) (eq-eqb i i refl) ∙ here in
-      part_unworn set found.0 m t (ap (λ (x : Cluster). get x.members m) found.2 ∙ kept)
+module _ {Q : Type 0} (set : Q → FinMap key_cmp Event) (course : Course) (is : IsCourse course) (rows made : List Row) (bound : ℕ) (after : List (Part Q))
+    (on : IsUnderWay set course.scenario.now course.division.now bound after (rows ++ made)) where
+  pub names_on : All (NamesMembers course.scenario.now) made
+  names_on = names_next course.scenario.now is.sound rows made (begins set course is after (rows ++ made) bound on)
 
-  pub run_lasts : NonePendsBefore set parts (s.end + 1) → ¬ (WearsOut s)
-  run_lasts none =
-      let over = is_over set s sound deal divides below parts rows from so_far none in
-      let all = whole_run set s sound deal divides below parts rows from so_far over in
-      wears_nothing s sound all.0 rows so_far.world all.1 over all_unworn
+  pub begins_on : (front : List Row) → IsBeginning front (rows ++ made) → BeginsRun course.scenario.now front
+  begins_on front first = begins_with course.scenario.now is.sound front (rows ++ made) first (begins set course is after (rows ++ made) bound on)

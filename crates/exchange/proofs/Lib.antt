@@ -10,3 +10,6 @@ mod Wearing
 mod Lasting
 mod Admitted
 mod Whole
+mod Streaming
+mod Endings
+mod Sent

@@ -8,7 +8,7 @@ use Rattle.std.specs.declared.cmp.Ordering.{Ordering}
 use Rattle.base.specs.declared.key.Key.{Key}
 use Rattle.base.specs.Order.{key_cmp}
 use Rattle.base.specs.Rising.{IsRising, IsPlaceBefore}
-use Rattle.scenario.specs.Setup.{Setup}
+use Rattle.scenario.specs.Setup.{Setup, IsSound, member_count}
 use Rattle.scenario.specs.Division.{Deal}
 use Rattle.trace.specs.declared.row.Row.{Row}
 use Rattle.worker_queue.specs.Queue.{NoneIsBelow}
@@ -78,10 +78,18 @@ module _ {Q : Type 0} (set : Q → FinMap key_cmp Event) where
     pub count : length after ≡ length before
     pub worlds : (i : ℕ) → option_map (world_of set) (slice_get after i) ≡ option_map (λ p. with_arrivals (world_of set p) (for_own (is_in division i) events)) (slice_get before i)
 
-  -- All parts have had their windows, the events that went out have come to their parts, and these are the rows of all,
-  -- in row order.
-  pub record HaveTurned (s : Setup) (deal : Deal) (bound : ℕ) (before after : List (Part Q)) (made : List Row) : Type 0 where
-    pub done : List (Done Q)
-    pub windows : RanWindows set s bound before done
+  -- This is what the windows of all parts gave, somewhere in a run.
+  pub record Came (deal : Deal) (done : List (Done Q)) : Type 0 where
+    pub setup : Setup
+    pub sound : IsSound setup
+    pub divides : length deal.part_of ≡ member_count setup
+    pub bound : ℕ
+    pub before : List (Part Q)
+    pub ready : MayTurn setup deal bound before
+    pub windows : RanWindows set setup bound before done
+
+  -- The events that went out of these windows have come to their parts, and these are the rows of all windows, in row
+  -- order.
+  pub record HaveExchanged (deal : Deal) (done : List (Done Q)) (after : List (Part Q)) (made : List Row) : Type 0 where
     pub come : HaveCome (part_number deal) (map (λ d. d.part) done) after (map pair_of (flat_map (λ d. d.out.items) done))
     pub rows : IsInRowOrder (flat_map (λ d. d.rows.items) done) made

@@ -1,5 +1,5 @@
 -- What a run writes, and how far it has come.
-use Rattle.std.specs.Prelude.{◌≡◌, ℕ, ◌⊎◌, List, ◌++◌, Option, length}
+use Rattle.std.specs.Prelude.{◌≡◌, ℕ, ◌⊎◌, List, ◌++◌, ◌^◌, ◌≤◌, Option, length}
 use Rattle.std.specs.Io.KnownBytes.{Appends, Keeps}
 use Rattle.scenario.specs.Setup.{Setup}
 use Rattle.trace.specs.declared.row.Row.{Row}
@@ -23,6 +23,12 @@ pub record WritesBeginning (s : Setup) (trace_old trace_new report_old report_ne
   pub written : (AppendsBeginning trace_old trace_new (trace_text s rows) × Keeps report_old report_new)
       ⊎ (Appends trace_old trace_new (trace_text s rows) × AppendsBeginning report_old report_new (report_text s rows))
 
+-- a beginning of the trace of the scenario's run was appended
+pub record BeginsTrace (s : Setup) (trace_old trace_new : Option (List ℕ)) : Type 0 where
+  pub rows : List Row
+  pub run : IsRunOf s rows
+  pub written : AppendsBeginning trace_old trace_new (trace_text s rows)
+
 -- these rows are the first of those
 abbrev pub IsBeginning : List Row → List Row → Type 0
 IsBeginning front rows = (rest : List Row) × (rows ≡ front ++ rest)
@@ -30,3 +36,9 @@ IsBeginning front rows = (rest : List Row) × (rows ≡ front ++ rest)
 -- these rows are the first of the scenario's run
 abbrev pub BeginsRun : Setup → List Row → Type 0
 BeginsRun s front = (rows : List Row) × IsRunOf s rows × IsBeginning front rows
+
+-- the report on the scenario's run would count past 2^63
+pub record WearsOutReport (s : Setup) : Type 0 where
+  pub rows : List Row
+  pub run : IsRunOf s rows
+  pub many : 2 ^ 63 ≤ length rows

@@ -1,22 +1,32 @@
-ghost use Rattle.std.specs.Prelude.{◌≡◌, ◌≢◌, ◌+◌, ◌<◌, ◌^◌, ◌⊎◌, length, IfOk, OnOk, IfErr, OnErr, IsErrOf, All};
+ghost use Rattle.std.specs.Prelude.{◌≡◌, ◌≢◌, ◌+◌, ◌<◌, ◌≤◌, ◌^◌, ◌⊎◌, length, IfOk, OnOk, IfErr, OnErr, IsErrOf, All};
+ghost use Rattle.std.specs.List.{AllByRecursion};
 ghost use Rattle.scenario.specs.Setup.{IsSound, member_count};
 ghost use Rattle.trace.specs.Text.{NamesMembers};
+ghost use Rattle.member.specs.Opening.{opening};
 ghost use Rattle.member_laws.specs.Runs.{IsRunOf, WearsOut};
+ghost use Rattle.windows.specs.declared.part.Part.{Part as APart};
+ghost use Rattle.windows.specs.WorldOf.{world_of};
+ghost use Rattle.windows.specs.Window.{IsConsistentPart};
+ghost use Rattle.windows.specs.Several.{RanWindows, OneWears};
+ghost use Rattle.exchange.specs.Course.{IsCourse};
+ghost use Rattle.exchange.specs.Parts.{StandFor};
 ghost use Rattle.exchange.specs.Promise.{WritesRun, WritesBeginning};
 
 use crate::opening::open_parts;
-use crate::row_taker::RowList;
-use crate::run::{Summary, write_run};
-use crate::setting::Setting;
-use crate::turns::{Course, run_turns};
-use crate::window_runner::InTurn;
-use base::{Fault, Memory};
+use crate::outputs::write_run;
+use crate::rows::join;
+use crate::sequential::Summary;
+use crate::turns::{Course, Turned, course_of, exchanged, next_bound};
+use base::{Fault, Memory, Moment};
 use links::Links;
+use member::{Event, StepError};
 use scenario::{Division, Scenario};
 use std::alloc::Global;
 use std::marker::Sync;
 use std::thread::Threads;
 use trace::{Row, Sink};
+use windows::{Done, Part};
+use worker_queue::EventQueue;
 
 /// Runs the scenario by the parts of a division of its members: window after window, in each the parts one
 /// after another, in the order of their numbers. It starts no thread of its own; a sort of a window's rows
@@ -78,7 +88,7 @@ fn rows_in_turn(
     ensures lasts { OnOk result (¬ (WearsOut scenario.now)) }
     ensures sound { IsSound scenario.now }
 {
-    let end = scenario.end();
+    let _end = scenario.end();
     let links = match Links::of(alloc, scenario) {
         Ok(links) => links,
         Err(Memory) => return Err(Fault::Memory),
@@ -87,19 +97,77 @@ fn rows_in_turn(
         Ok(parts) => parts,
         Err(Memory) => return Err(Fault::Memory),
     };
-    let course = Course {
-        division,
-        end,
-        least_delay: links.least_delay(),
-    };
-    let setting = Setting { scenario, links };
-    let mut runner = InTurn { setting };
-    let mut list = RowList {
-        scenario,
-        rows: Vec::new(alloc),
-    };
-    match run_turns(rt, alloc, parts, &mut runner, &mut list, &course) {
-        Ok(()) => Ok(list.rows),
-        Err(fault) => Err(fault),
+    let course = course_of(scenario, &links, division);
+    turns_in_turn(rt, alloc, parts, &course)
+}
+
+/// The rows of the run that begins in these parts, turn after turn.
+fn turns_in_turn<Q: EventQueue<Event> + Drop>(
+    rt: &(impl Threads + Sync),
+    alloc: Global,
+    mut parts: Vec<Part<Q>>,
+    course: &Course,
+) -> Result<Vec<Row>, Fault>
+    requires course { IsCourse course.now }
+    requires opened { StandFor Q.set course.now.division.now parts.items (opening course.now.scenario.now) }
+    ensures run { IfOk result (λ rows. IsRunOf course.now.scenario.now rows.items) }
+    ensures worn { IsErrOf result Fault.Worn → WearsOut course.now.scenario.now }
+    ensures causes { IfErr result (λ fault. (fault ≢ Fault.Write) × (fault ≢ Fault.Relay)) }
+    ensures lasts { OnOk result (¬ (WearsOut course.now.scenario.now)) }
+{
+    let mut rows = Vec::new(alloc);
+    let last = course.end.ticks();
+    let mut from = 0;
+    while from <= last {
+        let Some(bound) = next_bound(&parts, course.end, course.least_delay) else {
+            return Ok(rows);
+        };
+        let done = match windows_in_turn(alloc, parts, bound, course) {
+            Ok(done) => done,
+            Err(StepError::Memory) => return Err(Fault::Memory),
+            Err(StepError::Worn) => return Err(Fault::Worn),
+        };
+        let turned = match exchanged(rt, alloc, done, course.division) {
+            Ok(turned) => turned,
+            Err(Memory) => return Err(Fault::Memory),
+        };
+        let Turned {
+            parts: after,
+            rows: made,
+        } = turned;
+        match join(&mut rows, made) {
+            Ok(()) => {}
+            Err(Memory) => return Err(Fault::Memory),
+        }
+        parts = after;
+        from = bound.ticks();
     }
+    Ok(rows)
+}
+
+/// What came of the windows of these parts below the bound, run one after another.
+fn windows_in_turn<Q: EventQueue<Event> + Drop>(
+    alloc: Global,
+    parts: Vec<Part<Q>>,
+    bound: Moment,
+    course: &Course,
+) -> Result<Vec<Done<Q>>, StepError>
+    requires course { IsCourse course.now }
+    requires in_time { bound ≤ course.now.scenario.now.end + 1 }
+    requires consistent { AllByRecursion (λ (part : APart Q). IsConsistentPart course.now.scenario.now (world_of Q.set part)) parts.items }
+    ensures ok { IfOk result (λ done. RanWindows Q.set course.now.scenario.now bound parts.items done.items) }
+    ensures worn { IsErrOf result StepError.Worn → OneWears Q.set course.now.scenario.now bound parts.items }
+{
+    let mut all = Vec::new(alloc);
+    for part in parts {
+        let done = match part.run(alloc, bound, course.scenario, course.links) {
+            Ok(done) => done,
+            Err(error) => return Err(error),
+        };
+        match all.push(done) {
+            Ok(()) => {}
+            Err(_) => return Err(StepError::Memory),
+        }
+    }
+    Ok(all)
 }

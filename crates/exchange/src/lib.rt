@@ -2,14 +2,18 @@
 //! and the report on that.
 #![tactic(auto)]
 
+mod by_workers;
+mod driver;
 mod in_turn;
 mod laws;
 mod opening;
+mod outputs;
 mod parts;
-mod row_taker;
 mod rows;
-mod run;
-mod setting;
+mod sequential;
+mod stream;
+mod stream_writer;
+mod tallied;
 pub mod testing;
 #[cfg(test)]
 mod tests;
@@ -21,12 +25,16 @@ mod tests_reports;
 mod tests_seeds;
 #[cfg(test)]
 mod tests_turns;
+#[cfg(test)]
+mod tests_workers;
+mod threads;
 mod turns;
-mod window_runner;
 
+pub use by_workers::run;
 pub use in_turn::run_in_turn;
 pub use laws::{
     a_run_exists, events_are_new, keys_rise, rows_rise, the_run_is_one,
     the_window_of_all_is_the_run,
 };
-pub use run::{Summary, run_one};
+pub use sequential::{Summary, run_one};
+pub use workers::{Gate, OpenGate};

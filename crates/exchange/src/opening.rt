@@ -6,13 +6,14 @@ ghost use Rattle.worker_queue.specs.SetOf.{set_of};
 ghost use Rattle.windows.specs.WorldOf.{world_of};
 ghost use Rattle.windows.specs.Admitting.{opened_below};
 ghost use Rattle.exchange.specs.Parts.{nobody, part_number, StandFor};
+ghost use Rattle.exchange.specs.Wheels.{wheel_set};
 
 use base::{MemberId, Memory};
 use member::Event;
 use scenario::{Division, Scenario};
 use std::alloc::Global;
 use windows::Part;
-use worker_queue::{EventQueue, TreeQueue};
+use worker_queue::{EventQueue, TreeQueue, WheelQueue};
 
 /// The parts in which a run begins: each member waits in its own, with all events that the script has for
 /// it, also those past the end.
@@ -38,6 +39,38 @@ fn empty_parts(alloc: Global, count: usize) -> Result<Vec<Part<TreeQueue<Event>>
     let mut parts = Vec::new(alloc);
     for number in 0..count {
         let part = Part::new(alloc, number, TreeQueue::new(alloc));
+        match parts.push(part) {
+            Ok(()) => {}
+            Err(_) => return Err(Memory),
+        }
+    }
+    Ok(parts)
+}
+
+/// The same, in parts whose events stand in wheels.
+pub(crate) fn open_wheels(
+    alloc: Global,
+    scenario: &Scenario,
+    division: &Division,
+) -> Result<Vec<Part<WheelQueue<Event>>>, Memory>
+    requires divides { length division.now.part_of ≡ member_count scenario.now }
+    ensures opened { IfOk result (λ parts. StandFor wheel_set division.now parts.items (opening scenario.now)) }
+    ensures below { OnOk result ((m : _) → m < member_count scenario.now → part_number division.now m < division.now.parts) }
+{
+    let mut parts = empty_wheels(alloc, division.parts())?;
+    admit_all(alloc, &mut parts, scenario, division)?;
+    Ok(parts)
+}
+
+/// So many parts, in which nobody is, with a wheel each.
+fn empty_wheels(alloc: Global, count: usize) -> Result<Vec<Part<WheelQueue<Event>>>, Memory>
+    ensures count { IfOk result (λ parts. vec_len parts ≡ count) }
+    ensures empty { IfOk result (λ parts. AllByRecursion (λ part. world_of wheel_set part ≡ nobody) parts.items) }
+{
+    let mut parts = Vec::new(alloc);
+    for number in 0..count {
+        let wheel = WheelQueue::new(alloc)?;
+        let part = Part::new(alloc, number, wheel);
         match parts.push(part) {
             Ok(()) => {}
             Err(_) => return Err(Memory),

@@ -1,24 +1,22 @@
 //! Whole runs byte for byte, and every way in which a run is refused.
 
-use crate::run::Summary;
+use crate::sequential::Summary;
 use crate::testing::{JOIN, START_ONLY, WORKED};
-use crate::tests_turns::run_by;
+use crate::tests_turns::{WAYS, Way, run_by};
 use base::Fault;
 use scenario::{Scenario, read};
 use std::marker::Sync;
 use std::process::Abort;
+use std::sync::Wait;
 use std::thread::Threads;
 use trace::Sink;
 use trace::testing::MemorySink;
 
-/// Each test runs a scenario in each of these ways: by so many parts, or where those are 0 by `run_one`.
-const WAYS: [u8; 3] = [0, 1, 2];
-
 /// Runs the text into this sink, and gives what came and the sink. Where it fails, the report's sink gets
 /// nothing.
 fn run_into(
-    rt: &(impl Abort + AllocGlobal + Threads + Sync),
-    parts: u8,
+    rt: &(impl Abort + AllocGlobal + Threads + Wait + Sync),
+    way: Way,
     text: &str,
     sink: MemorySink,
 ) -> (Result<Summary, Fault>, MemorySink) {
@@ -28,7 +26,7 @@ fn run_into(
     };
     let mut trace = sink;
     let mut report = MemorySink::new(rt.alloc());
-    let outcome = run_by(rt, parts, &scenario, &mut trace, &mut report);
+    let outcome = run_by(rt, way, &scenario, &mut trace, &mut report);
     if outcome.is_err() {
         assert_eq!(rt; report.bytes().len(), 0);
         assert_eq!(rt; report.puts(), 0);
@@ -39,9 +37,9 @@ fn run_into(
 #[test]
 fn each_worked_run_is_byte_for_byte(rt: HostRuntime) {
     for run in WORKED {
-        for parts in WAYS {
+        for way in WAYS {
             let sink = MemorySink::new(rt.alloc());
-            let (outcome, sink) = run_into(&rt, parts, run.scenario, sink);
+            let (outcome, sink) = run_into(&rt, way, run.scenario, sink);
             assert_eq!(rt; outcome, Ok(Summary { rows: run.rows }));
             assert_eq!(rt; sink.bytes(), run.trace.as_bytes());
             assert_eq!(rt; sink.failures(), 0);
@@ -51,9 +49,9 @@ fn each_worked_run_is_byte_for_byte(rt: HostRuntime) {
 
 #[test]
 fn a_sink_of_40_bytes_has_the_beginning_of_the_header(rt: HostRuntime) {
-    for parts in WAYS {
+    for way in WAYS {
         let sink = MemorySink::new(rt.alloc()).failing_after(40);
-        let (outcome, sink) = run_into(&rt, parts, START_ONLY.scenario, sink);
+        let (outcome, sink) = run_into(&rt, way, START_ONLY.scenario, sink);
         assert_eq!(rt; outcome, Err(Fault::Write));
         assert_eq!(rt;
             sink.bytes(),
@@ -65,9 +63,9 @@ fn a_sink_of_40_bytes_has_the_beginning_of_the_header(rt: HostRuntime) {
 #[test]
 fn one_byte_a_put_gives_the_same_trace(rt: HostRuntime) {
     for run in WORKED {
-        for parts in WAYS {
+        for way in WAYS {
             let sink = MemorySink::new(rt.alloc()).with_short_puts();
-            let (outcome, sink) = run_into(&rt, parts, run.scenario, sink);
+            let (outcome, sink) = run_into(&rt, way, run.scenario, sink);
             assert_eq!(rt; outcome, Ok(Summary { rows: run.rows }));
             assert_eq!(rt; sink.bytes(), run.trace.as_bytes());
         }
@@ -77,11 +75,11 @@ fn one_byte_a_put_gives_the_same_trace(rt: HostRuntime) {
 #[test]
 fn each_put_that_fails_leaves_a_beginning(rt: HostRuntime) {
     for number in 1..=326 {
-        for parts in WAYS {
+        for way in WAYS {
             let sink = MemorySink::new(rt.alloc())
                 .with_short_puts()
                 .failing_at_put(number);
-            let (outcome, sink) = run_into(&rt, parts, JOIN.scenario, sink);
+            let (outcome, sink) = run_into(&rt, way, JOIN.scenario, sink);
             assert_eq!(rt; outcome, Err(Fault::Write));
             assert_eq!(rt; sink.puts(), number);
             assert!(rt; JOIN.trace.as_bytes().starts_with(sink.bytes()));
@@ -92,9 +90,9 @@ fn each_put_that_fails_leaves_a_beginning(rt: HostRuntime) {
 #[test]
 fn each_byte_that_has_no_room_leaves_the_bytes_before_it(rt: HostRuntime) {
     for bytes in 0..326 {
-        for parts in WAYS {
+        for way in WAYS {
             let sink = MemorySink::new(rt.alloc()).failing_after(bytes);
-            let (outcome, sink) = run_into(&rt, parts, JOIN.scenario, sink);
+            let (outcome, sink) = run_into(&rt, way, JOIN.scenario, sink);
             assert_eq!(rt; outcome, Err(Fault::Write));
             assert_eq!(rt; sink.bytes().len(), bytes);
             assert!(rt; JOIN.trace.as_bytes().starts_with(sink.bytes()));
@@ -104,9 +102,9 @@ fn each_byte_that_has_no_room_leaves_the_bytes_before_it(rt: HostRuntime) {
 
 #[test]
 fn the_trace_is_flushed(rt: HostRuntime) {
-    for parts in WAYS {
+    for way in WAYS {
         let sink = MemorySink::new(rt.alloc()).failing_at_flush();
-        let (outcome, sink) = run_into(&rt, parts, JOIN.scenario, sink);
+        let (outcome, sink) = run_into(&rt, way, JOIN.scenario, sink);
         assert_eq!(rt; outcome, Err(Fault::Write));
         assert_eq!(rt; sink.bytes(), JOIN.trace.as_bytes());
     }
@@ -115,13 +113,13 @@ fn the_trace_is_flushed(rt: HostRuntime) {
 /// Runs the scenario of `JOIN`, and asserts that the sinks have what the answer says, or a beginning of
 /// that.
 fn assert_beginning(
-    rt: &(impl Abort + AllocGlobal + Threads + Sync),
-    parts: u8,
+    rt: &(impl Abort + AllocGlobal + Threads + Wait + Sync),
+    way: Way,
     scenario: &Scenario,
 ) {
     let mut trace = MemorySink::new(rt.alloc());
     let mut report = MemorySink::new(rt.alloc());
-    let outcome = run_by(rt, parts, scenario, &mut trace, &mut report);
+    let outcome = run_by(rt, way, scenario, &mut trace, &mut report);
     assert!(rt; JOIN.trace.as_bytes().starts_with(trace.bytes()));
     if trace.bytes() != JOIN.trace.as_bytes() {
         assert_eq!(rt; report.puts(), 0);
@@ -131,19 +129,21 @@ fn assert_beginning(
             assert_eq!(rt; summary.rows, 11);
             assert_eq!(rt; trace.bytes(), JOIN.trace.as_bytes());
         }
-        Err(fault) => assert!(rt; fault == Fault::Memory || fault == Fault::Write),
+        Err(fault) => assert!(rt;
+            fault == Fault::Memory || fault == Fault::Write || fault == Fault::Relay
+        ),
     }
 }
 
 /// Run with each allocation refused in turn: the text is refused by rule 11, or a run by want of
-/// memory or by the sink's, and the sink has a beginning of the trace.
+/// memory, by the sink's or by a thread's that could not be started, and the sink has a beginning of the trace.
 #[test]
 fn refused_memory_leaves_a_beginning(rt: HostRuntime) {
     match read(rt.alloc(), JOIN.scenario.as_bytes()) {
         Err(refusal) => assert_eq!(rt; refusal.rule, 11),
         Ok(scenario) => {
-            for parts in WAYS {
-                assert_beginning(&rt, parts, &scenario);
+            for way in WAYS {
+                assert_beginning(&rt, way, &scenario);
             }
         }
     }

@@ -1,7 +1,7 @@
 //! Small clusters in which several mechanisms meet, and the whole traces of their runs, worked out by hand
 //! from the protocol's rules.
 
-use crate::run::run_one;
+use crate::sequential::run_one;
 use scenario::read;
 use std::process::Abort;
 use std::test::Fail;

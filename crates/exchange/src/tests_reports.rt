@@ -1,12 +1,13 @@
 //! The reports of worked runs, byte for byte, and every way in which a report's sink fails.
 
-use crate::run::Summary;
+use crate::sequential::Summary;
 use crate::testing::{TWO_MEMBERS, WORKED};
-use crate::tests_turns::run_by;
+use crate::tests_turns::{WAYS, Way, run_by};
 use base::Fault;
 use scenario::read;
 use std::marker::Sync;
 use std::process::Abort;
+use std::sync::Wait;
 use std::thread::Threads;
 use trace::Sink;
 use trace::testing::MemorySink;
@@ -19,13 +20,10 @@ struct Left {
     report: MemorySink,
 }
 
-/// Each test runs a scenario in each of these ways: by so many parts, or where those are 0 by `run_one`.
-const WAYS: [u8; 3] = [0, 1, 2];
-
 /// Runs the text into these sinks.
 fn run_into(
-    rt: &(impl Abort + AllocGlobal + Threads + Sync),
-    parts: u8,
+    rt: &(impl Abort + AllocGlobal + Threads + Wait + Sync),
+    way: Way,
     text: &str,
     trace: MemorySink,
     report: MemorySink,
@@ -35,7 +33,7 @@ fn run_into(
         Err(_) => panic!(rt; "the text is no scenario"),
     };
     let (mut trace, mut report) = (trace, report);
-    let outcome = run_by(rt, parts, &scenario, &mut trace, &mut report);
+    let outcome = run_by(rt, way, &scenario, &mut trace, &mut report);
     Left {
         outcome,
         trace,
@@ -45,12 +43,12 @@ fn run_into(
 
 /// Runs two members, with this sink for the report.
 fn report_into(
-    rt: &(impl Abort + AllocGlobal + Threads + Sync),
-    parts: u8,
+    rt: &(impl Abort + AllocGlobal + Threads + Wait + Sync),
+    way: Way,
     report: MemorySink,
 ) -> Left {
     let trace = MemorySink::new(rt.alloc());
-    run_into(rt, parts, TWO_MEMBERS.scenario, trace, report)
+    run_into(rt, way, TWO_MEMBERS.scenario, trace, report)
 }
 
 /// Asserts that the run of two members failed once its whole trace was written, at a report of which
@@ -72,10 +70,10 @@ fn assert_part(rt: &impl Abort, left: &Left, bytes: usize) {
 #[test]
 fn each_worked_run_has_its_report(rt: HostRuntime) {
     for run in WORKED {
-        for parts in WAYS {
+        for way in WAYS {
             let trace = MemorySink::new(rt.alloc());
             let report = MemorySink::new(rt.alloc());
-            let left = run_into(&rt, parts, run.scenario, trace, report);
+            let left = run_into(&rt, way, run.scenario, trace, report);
             assert!(rt; left.outcome.is_ok());
             assert_eq!(rt; left.report.bytes(), run.report.as_bytes());
             assert_eq!(rt; left.report.failures(), 0);
@@ -85,10 +83,10 @@ fn each_worked_run_has_its_report(rt: HostRuntime) {
 
 #[test]
 fn one_byte_a_put_gives_the_same_trace_and_report(rt: HostRuntime) {
-    for parts in WAYS {
+    for way in WAYS {
         let trace = MemorySink::new(rt.alloc()).with_short_puts();
         let report = MemorySink::new(rt.alloc()).with_short_puts();
-        let left = run_into(&rt, parts, TWO_MEMBERS.scenario, trace, report);
+        let left = run_into(&rt, way, TWO_MEMBERS.scenario, trace, report);
         assert_eq!(rt; left.outcome, Ok(Summary { rows: 6 }));
         assert_eq!(rt; left.trace.bytes(), TWO_MEMBERS.trace.as_bytes());
         assert_eq!(rt; left.report.bytes(), TWO_MEMBERS.report.as_bytes());
@@ -98,11 +96,11 @@ fn one_byte_a_put_gives_the_same_trace_and_report(rt: HostRuntime) {
 #[test]
 fn each_put_of_the_report_may_fail(rt: HostRuntime) {
     for place in 0..TWO_MEMBERS.report.len() {
-        for parts in WAYS {
+        for way in WAYS {
             let sink = MemorySink::new(rt.alloc())
                 .with_short_puts()
                 .failing_at_put(place as u64 + 1);
-            assert_part(&rt, &report_into(&rt, parts, sink), place);
+            assert_part(&rt, &report_into(&rt, way, sink), place);
         }
     }
 }
@@ -110,35 +108,31 @@ fn each_put_of_the_report_may_fail(rt: HostRuntime) {
 #[test]
 fn each_byte_of_the_report_may_have_no_room(rt: HostRuntime) {
     for bytes in 0..TWO_MEMBERS.report.len() {
-        for parts in WAYS {
+        for way in WAYS {
             let sink = MemorySink::new(rt.alloc()).failing_after(bytes);
-            assert_part(&rt, &report_into(&rt, parts, sink), bytes);
+            assert_part(&rt, &report_into(&rt, way, sink), bytes);
             let zero = MemorySink::new(rt.alloc())
                 .failing_after(bytes)
                 .answering_zero();
-            assert_part(&rt, &report_into(&rt, parts, zero), bytes);
+            assert_part(&rt, &report_into(&rt, way, zero), bytes);
         }
     }
 }
 
 #[test]
 fn the_report_is_flushed(rt: HostRuntime) {
-    for parts in WAYS {
+    for way in WAYS {
         let sink = MemorySink::new(rt.alloc()).failing_at_flush();
-        assert_part(
-            &rt,
-            &report_into(&rt, parts, sink),
-            TWO_MEMBERS.report.len(),
-        );
+        assert_part(&rt, &report_into(&rt, way, sink), TWO_MEMBERS.report.len());
     }
 }
 
 #[test]
 fn no_report_follows_a_trace_that_was_not_flushed(rt: HostRuntime) {
-    for parts in WAYS {
+    for way in WAYS {
         let trace = MemorySink::new(rt.alloc()).failing_at_flush();
         let report = MemorySink::new(rt.alloc());
-        let left = run_into(&rt, parts, TWO_MEMBERS.scenario, trace, report);
+        let left = run_into(&rt, way, TWO_MEMBERS.scenario, trace, report);
         assert_eq!(rt; left.outcome, Err(Fault::Write));
         assert_eq!(rt; left.trace.bytes(), TWO_MEMBERS.trace.as_bytes());
         assert_eq!(rt; left.report.puts(), 0);

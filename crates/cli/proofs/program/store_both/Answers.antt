@@ -34,7 +34,6 @@ returns-in-Err-outcome-clause-failed g c =
           c.close.ensures.closed c.close-2.ensures.closed begins.written;
       others = others_kept start first second third end trace report apart c.make.ensures.others c.make-2.ensures.others c.close.ensures.others c.close-2.ensures.others;
       worn = λ e. run.ensures.worn (fails.is ∙ ap Err e);
-      relay = search rules;
     }
 
 pub returns-in-Ok-outcome-clause-done : goal.returns-in-Ok-outcome-clause-done

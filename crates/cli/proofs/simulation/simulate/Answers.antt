@@ -7,6 +7,3 @@ returns-clause-written g c = search rules fits 100
 
 pub returns-clause-beginning : goal.returns-clause-beginning
 returns-clause-beginning g c = search rules fits 100
-
-pub returns-clause-relay : goal.returns-clause-relay
-returns-clause-relay g c = c.run_in_turn-outcome.ensures.relay

@@ -1,0 +1,24 @@
+use Rattle.std.proofs.Common.{ap, ◌∙◌, sym, subst}
+use Rattle.member.specs.Opening.{opening}
+use Rattle.relay.specs.Seats.{IsSender}
+use Rattle.exchange.specs.Parts.{StandFor}
+use Rattle.exchange.specs.Streams.{rows_so_far, IsDriven}
+use Rattle.exchange.proofs.Endings.{is_driven}
+use Rattle.exchange.proofs.driver.drive.Goals as goal
+
+pub turns_by_crew-outcome-requires-clause-opened : goal.turns_by_crew-outcome-requires-clause-opened
+turns_by_crew-outcome-requires-clause-opened g c = λ loans lives.
+    let of_course = c.course_of-course.ensures in
+    subst (λ s. StandFor g.Q.EventQueue.set c.course_of-course.result.division.now c.args.task.parts.items (opening s)) (sym of_course.scenario)
+    (subst (λ d. StandFor g.Q.EventQueue.set d c.args.task.parts.items (opening c.args.task.scenario.now)) (sym of_course.division) c.requires.opened)
+
+pub returns : goal.returns
+returns g c =
+    let s = c.course_of-course.result.scenario.now in
+    let relay = c.args.task.relay.now in
+    let after = c.turns_by_crew-outcome.new.stream in
+    let same = ap (λ r. r.now) c.turns_by_crew-outcome.ensures.relay ∙ c.new-stream.ensures.relay in
+    subst (λ t. IsDriven t relay c.close.result) c.course_of-course.ensures.scenario
+    (is_driven s c.course_of-course.ensures.course.sound relay c.close.result (rows_so_far after) c.turns_by_crew-outcome.result (subst (λ r. IsSender r c.close.result.seat) same c.close.ensures.seat)
+    c.close.ensures.whole c.close.ensures.part c.close.ensures.came c.close.ensures.causes
+    c.turns_by_crew-outcome.ensures.run c.turns_by_crew-outcome.ensures.beginning c.turns_by_crew-outcome.ensures.lasts c.turns_by_crew-outcome.ensures.worn c.turns_by_crew-outcome.ensures.write)

@@ -1,0 +1,193 @@
+//! A run by threads that live as long as it does: workers run the windows of the parts, a driver deals and
+//! exchanges, and the calling thread writes.
+ghost use Rattle.std.specs.Prelude.{◌≡◌, ◌≢◌, ◌<◌, ◌^◌, ◌⊎◌, length, IfOk, OnOk, IfErr, OnErr, IsErrOf};
+ghost use Rattle.std.specs.Io.KnownBytes.{Appends};
+ghost use Rattle.scenario.specs.Setup.{IsSound, member_count};
+ghost use Rattle.trace.specs.Text.{trace_text};
+ghost use Rattle.member.specs.Opening.{opening};
+ghost use Rattle.member_laws.specs.Runs.{IsRunOf, WearsOut};
+ghost use Rattle.exchange.specs.Course.{GoTogether};
+ghost use Rattle.exchange.specs.Parts.{StandFor};
+ghost use Rattle.exchange.specs.Promise.{WritesRun, WritesBeginning, BeginsTrace, WearsOutReport};
+
+use crate::driver::{Driven, Ended};
+use crate::opening::open_wheels;
+use crate::outputs::{fault_of, flush, write_tallied};
+use crate::sequential::Summary;
+use crate::stream_writer::first_fault;
+use crate::tallied::Tallied;
+use crate::threads::within;
+use base::{Fault, Memory};
+use crossbeam_channel::bounded;
+use links::Links;
+use member::Event;
+use relay::{Relay, close};
+use scenario::{Division, Scenario, Workers};
+use std::alloc::Global;
+use std::marker::Sync;
+use std::sync::Wait;
+use std::thread::Threads;
+use trace::Sink;
+use windows::Part;
+use worker_queue::EventQueue;
+use workers::{Awaited, Gate};
+
+/// How many errands may be on their way to the workers: as many as there are parts, at most.
+const MOST_ERRANDS: usize = 64;
+
+/// Runs the scenario by the parts of a division of its members: window after window, in each the parts by as
+/// many workers as are asked for, but no more than there are parts. It writes what `run_one` writes, whatever
+/// the division and the number of workers are: the trace, and once that is whole and its sink flushed the
+/// report, whose sink is flushed too. After a fault the sinks have got a beginning of that. A worker tells the
+/// gate of each part before it runs it. The sinks stay on the calling thread. It waits for its threads.
+///
+/// Faults: `Memory`; `Worn` where a counter of the run or of the report would pass 2^63; `Write` where a sink
+/// failed; `Relay` where a thread could not be started, or did not hand on what it was given. Of several the
+/// first in this order.
+pub fn run<A: Sink, B: Sink, G: Gate, R: Threads + Wait + Sync>(
+    rt: &R,
+    alloc: Global,
+    scenario: &Scenario,
+    division: &Division,
+    workers: Workers,
+    gate: &G,
+    trace: &mut A,
+    report: &mut B,
+) -> Result<Summary, Fault>
+    requires divides { length division.now.part_of ≡ member_count scenario.now }
+    requires countable { A.failed trace.old < 2 ^ 63 }
+    requires countable_report { B.failed report.old < 2 ^ 63 }
+
+    // The sinks get exactly the trace of the scenario's run, and the report on it.
+    ensures written { IfOk result (λ summary. WritesRun scenario.now (A.held trace.old) (A.held trace.new)
+        (B.held report.old) (B.held report.new) summary.rows) }
+    ensures beginning { OnErr result (WritesBeginning scenario.now (A.held trace.old) (A.held trace.new)
+        (B.held report.old) (B.held report.new)) }
+
+    // Where the trace's sink fails, at its flush too, the report's is left as it was.
+    ensures first { A.failed trace.old < A.failed trace.new → report.new ≡ report.old }
+
+    // No counter of a run that succeeds passes 2^63.
+    ensures lasts { OnOk result (¬ (WearsOut scenario.now)) }
+
+    // No fault comes without its cause.
+    ensures worn { IsErrOf result Fault.Worn → WearsOut scenario.now ⊎ WearsOutReport scenario.now }
+    ensures write { IsErrOf result Fault.Write
+        → (A.failed trace.old < A.failed trace.new) ⊎ (B.failed report.old < B.failed report.new) }
+    ensures whole { OnOk result (A.failed trace.new ≡ A.failed trace.old) }
+    ensures whole_report { OnOk result (B.failed report.new ≡ B.failed report.old) }
+    ensures others { IsErrOf result Fault.Relay → A.failed trace.new ≡ A.failed trace.old }
+    ensures others_report { IfErr result (λ fault. fault ≢ Fault.Write → B.failed report.new ≡ B.failed report.old) }
+{
+    let tallied = match run_into(rt, alloc, scenario, division, workers, gate, trace) {
+        Ok(tallied) => tallied,
+        Err(fault) => return Err(fault),
+    };
+    match flush(trace) {
+        Ok(()) => {}
+        Err(error) => return Err(fault_of(error)),
+    }
+    match write_tallied(alloc, &tallied, scenario, report) {
+        Ok(()) => Ok(Summary {
+            rows: tallied.count,
+        }),
+        Err(error) => Err(fault_of(error)),
+    }
+}
+
+/// Runs the scenario by threads, and writes its trace; nothing is flushed yet.
+#[tactic(auto, using(crate::proofs::Endings::begins_nothing))]
+fn run_into<A: Sink, G: Gate, R: Threads + Wait + Sync>(
+    rt: &R,
+    alloc: Global,
+    scenario: &Scenario,
+    division: &Division,
+    workers: Workers,
+    gate: &G,
+    trace: &mut A,
+) -> Result<Tallied, Fault>
+    requires divides { length division.now.part_of ≡ member_count scenario.now }
+    requires countable { A.failed trace.old < 2 ^ 63 }
+    ensures run { IfOk result (λ tallied. IsRunOf scenario.now tallied.tallies) }
+    ensures whole { IfOk result (λ tallied. Appends (A.held trace.old) (A.held trace.new) (trace_text scenario.now tallied.tallies)) }
+    ensures part { OnErr result (BeginsTrace scenario.now (A.held trace.old) (A.held trace.new)) }
+    ensures lasts { OnOk result (¬ (WearsOut scenario.now)) }
+    ensures worn { IsErrOf result Fault.Worn → WearsOut scenario.now ⊎ WearsOutReport scenario.now }
+    ensures write { IsErrOf result Fault.Write → A.failed trace.old < A.failed trace.new }
+    ensures unfailed { OnOk result (A.failed trace.new ≡ A.failed trace.old) }
+    ensures relay { IsErrOf result Fault.Relay → A.failed trace.new ≡ A.failed trace.old }
+    ensures sound { IsSound scenario.now }
+{
+    let _end = scenario.end();
+    let links = match Links::of(alloc, scenario) {
+        Ok(links) => links,
+        Err(Memory) => return Err(Fault::Memory),
+    };
+    let parts = match open_wheels(alloc, scenario, division) {
+        Ok(parts) => parts,
+        Err(Memory) => return Err(Fault::Memory),
+    };
+    let hands = workers.count().min(division.parts());
+    by_crew(
+        rt, alloc, parts, hands, gate, scenario, &links, division, trace,
+    )
+}
+
+/// Runs these parts by a crew of so many workers, and writes the trace.
+#[tactic(auto, using(crate::proofs::Endings::begins_nothing, crate::proofs::Endings::begins_trace, crate::proofs::Endings::run_ended, crate::proofs::Endings::trace_ended, crate::proofs::Endings::lasts_ended, crate::proofs::Endings::unfailed, crate::proofs::Endings::worn_ended, crate::proofs::Endings::write_ended, crate::proofs::Endings::relay_ended))]
+fn by_crew<A: Sink, Q: EventQueue<Event> + Drop + Send, G: Gate, R: Threads + Wait + Sync>(
+    rt: &R,
+    alloc: Global,
+    parts: Vec<Part<Q>>,
+    workers: usize,
+    gate: &G,
+    scenario: &Scenario,
+    links: &Links,
+    division: &Division,
+    trace: &mut A,
+) -> Result<Tallied, Fault>
+    requires together { GoTogether scenario.now links.now division.now }
+    requires opened { StandFor Q.set division.now parts.items (opening scenario.now) }
+    requires countable { A.failed trace.old < 2 ^ 63 }
+    ensures run { IfOk result (λ tallied. IsRunOf scenario.now tallied.tallies) }
+    ensures whole { IfOk result (λ tallied. Appends (A.held trace.old) (A.held trace.new) (trace_text scenario.now tallied.tallies)) }
+    ensures part { OnErr result (BeginsTrace scenario.now (A.held trace.old) (A.held trace.new)) }
+    ensures lasts { OnOk result (¬ (WearsOut scenario.now)) }
+    ensures worn { IsErrOf result Fault.Worn → WearsOut scenario.now ⊎ WearsOutReport scenario.now }
+    ensures write { IsErrOf result Fault.Write → A.failed trace.old < A.failed trace.new }
+    ensures unfailed { OnOk result (A.failed trace.new ≡ A.failed trace.old) }
+    ensures relay { IsErrOf result Fault.Relay → A.failed trace.new ≡ A.failed trace.old }
+{
+    let tallied = match Tallied::new(alloc) {
+        Ok(tallied) => tallied,
+        Err(Memory) => return Err(Fault::Memory),
+    };
+    let (relay, sender, taker) = match Relay::new(alloc, scenario) {
+        Ok(made) => made,
+        Err(Memory) => return Err(Fault::Memory),
+    };
+    let awaited = Awaited::new();
+    let Ok((errands, posted)) = bounded(alloc, MOST_ERRANDS) else {
+        return Err(Fault::Memory);
+    };
+    let ended = match within(
+        rt, alloc, workers, errands, &posted, &awaited, gate, parts, scenario, links, division,
+        &relay, sender, taker, tallied, trace,
+    ) {
+        Ok(ended) => ended,
+        Err(fault) => return Err(fault),
+    };
+    let Ended {
+        driven,
+        taker,
+        tallied,
+        written,
+    } = ended;
+    let Driven { seat, outcome } = driven;
+    drop(posted);
+    close(relay, seat, taker);
+    match first_fault(outcome, written) {
+        Ok(()) => Ok(tallied),
+        Err(fault) => Err(fault),
+    }
+}

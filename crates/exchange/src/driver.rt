@@ -1,0 +1,151 @@
+ghost use Rattle.std.specs.Prelude.{◌≡◌, ◌≢◌, [], OnOk, OnErr, IfErr, IsErrOf};
+ghost use Rattle.member.specs.Opening.{opening};
+ghost use Rattle.member_laws.specs.Runs.{IsRunOf, WearsOut};
+ghost use Rattle.exchange.specs.Course.{IsCourse, GoTogether};
+ghost use Rattle.exchange.specs.Parts.{StandFor};
+ghost use Rattle.exchange.specs.Promise.{BeginsRun};
+ghost use Rattle.exchange.specs.Streams.{rows_so_far, IsOpen, MaySend, IsDriven};
+
+use crate::stream::Stream;
+use crate::tallied::Tallied;
+use crate::turns::{Course, Turned, course_of, exchanged, next_bound};
+use base::{Fault, Memory};
+use links::Links;
+use member::Event;
+use relay::{Relay, SendSeat, TakeSeat};
+use scenario::{Division, Scenario};
+use std::alloc::Global;
+use std::marker::Sync;
+use std::snapshot::Snapshot;
+use std::sync::Wait;
+use std::thread::{Promise, Threads};
+use windows::Part;
+use worker_queue::EventQueue;
+use workers::{Crew, Gate};
+
+/// What the driver of a run gives back.
+#[derive(Drop)]
+pub(crate) struct Driven {
+    /// The seat from which it sent the rows.
+    pub(crate) seat: SendSeat,
+    /// Whether the run came to its end.
+    pub(crate) outcome: Result<(), Fault>,
+}
+
+/// What the threads of a run leave once they have ended.
+#[derive(Drop)]
+pub(crate) struct Ended {
+    pub(crate) driven: Driven,
+    pub(crate) taker: TakeSeat,
+    pub(crate) tallied: Tallied,
+    /// Whether all that came was written.
+    pub(crate) written: Result<(), Fault>,
+}
+
+/// The promise of the driver of this scenario's run, who sends over this relay.
+#[derive(Drop)]
+pub(crate) struct Drives(pub(crate) Snapshot<Scenario>, pub(crate) Snapshot<Relay>);
+
+impl Promise<Driven> for Drives {
+    ghost use Rattle.exchange.specs.Streams.{IsDriven};
+
+    ghost kept_by = { λ promise driven. IsDriven promise.0.value promise.1.value driven };
+}
+
+/// What the driver of a run takes with it.
+#[derive(Drop)]
+pub(crate) struct Task<'a, Q: EventQueue<Event>, G> {
+    /// The parts in which the run begins.
+    pub(crate) parts: Vec<Part<Q>>,
+    pub(crate) crew: Crew<'a, Q, G>,
+    pub(crate) scenario: &'a Scenario,
+    pub(crate) links: &'a Links,
+    pub(crate) division: &'a Division,
+    pub(crate) relay: &'a Relay,
+    pub(crate) seat: SendSeat,
+}
+
+/// Runs the parts of the task, turn after turn, by its crew, and sends the rows over its relay. After a fault
+/// too the last batch is sent.
+pub(crate) fn drive<'a, Q: EventQueue<Event> + Drop, G: Gate, R: Threads + Wait + Sync>(
+    rt: &'a R,
+    alloc: Global,
+    task: Task<'a, Q, G>,
+) -> Driven
+    requires together { GoTogether task.scenario.now task.links.now task.division.now }
+    requires opened { StandFor Q.set task.division.now task.parts.items (opening task.scenario.now) }
+    requires seat { MaySend task.scenario.now task.relay.now task.seat }
+    ensures { IsDriven task.entry.scenario.now task.entry.relay.now result }
+{
+    let Task {
+        parts,
+        mut crew,
+        scenario,
+        links,
+        division,
+        relay,
+        seat,
+    } = task;
+    let course = course_of(scenario, links, division);
+    let mut stream = Stream::new(rt, alloc, scenario, relay, seat);
+    let outcome = turns_by_crew(rt, alloc, parts, &mut crew, &mut stream, &course);
+    stream.close(outcome)
+}
+
+/// Runs the parts in which a run begins, turn after turn, by the crew, and hands the rows of each turn to
+/// the stream.
+fn turns_by_crew<'a, Q: EventQueue<Event> + Drop, G: Gate, R: Threads + Wait + Sync>(
+    rt: &R,
+    alloc: Global,
+    mut parts: Vec<Part<Q>>,
+    crew: &mut Crew<'a, Q, G>,
+    stream: &mut Stream<R>,
+    course: &Course<'a>,
+) -> Result<(), Fault>
+    requires course { IsCourse course.now }
+    requires opened { StandFor Q.set course.now.division.now parts.items (opening course.now.scenario.now) }
+    requires open { IsOpen stream.old }
+    requires one { stream.old.scenario.now ≡ course.now.scenario.now }
+    requires none_yet { rows_so_far stream.old ≡ [] }
+    ensures open { IsOpen stream.new }
+    ensures relay { stream.new.relay ≡ stream.old.relay }
+    ensures run { OnOk result (IsRunOf course.now.scenario.now (rows_so_far stream.new)) }
+    ensures beginning { OnErr result (BeginsRun course.now.scenario.now (rows_so_far stream.new)) }
+    ensures lasts { OnOk result (¬ (WearsOut course.now.scenario.now)) }
+    ensures worn { IsErrOf result Fault.Worn → WearsOut course.now.scenario.now }
+    ensures write { IfErr result (λ fault. fault ≢ Fault.Write) }
+{
+    let last = course.end.ticks();
+    let mut from = 0;
+    let mut window = 0u64;
+    while from <= last {
+        let Some(bound) = next_bound(&parts, course.end, course.least_delay) else {
+            return Ok(());
+        };
+        window = window.saturating_add(1);
+        let done = match crew.run_windows(
+            rt,
+            alloc,
+            parts,
+            bound,
+            window,
+            course.scenario,
+            course.links,
+        ) {
+            Ok(done) => done,
+            Err(fault) => return Err(fault),
+        };
+        let turned = match exchanged(rt, alloc, done, course.division) {
+            Ok(turned) => turned,
+            Err(Memory) => return Err(Fault::Memory),
+        };
+        let Turned { parts: after, rows } = turned;
+        match stream.take(rows) {
+            Ok(()) => {}
+            Err(fault) => return Err(fault),
+        }
+        parts = after;
+        from = bound.ticks();
+    }
+    Ok(())
+}

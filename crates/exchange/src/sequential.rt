@@ -1,0 +1,95 @@
+ghost use Rattle.std.specs.Prelude.{◌≡◌, ◌≢◌, ◌+◌, ◌<◌, ◌^◌, ◌⊎◌, IfOk, OnOk, IfErr, OnErr, IsErrOf, All};
+ghost use Rattle.scenario.specs.Setup.{IsSound};
+ghost use Rattle.trace.specs.Text.{NamesMembers};
+ghost use Rattle.member_laws.specs.Runs.{IsRunOf, WearsOut};
+ghost use Rattle.exchange.specs.Promise.{WritesRun, WritesBeginning};
+
+use crate::outputs::write_run;
+use base::{Fault, Memory, Moment};
+use links::Links;
+use member::StepError;
+use scenario::Scenario;
+use std::alloc::Global;
+use trace::{Row, Sink};
+use windows::{Done, Part};
+use worker_queue::TreeQueue;
+
+/// What a run did.
+#[derive(Clone, Copy, Debug, PartialEq, Eq)]
+pub struct Summary {
+    /// How many rows the trace has, its header not counted.
+    pub rows: u64,
+}
+
+/// Runs the scenario on one thread, with one set of pending events, and writes its trace. Once the whole
+/// trace is written and its sink flushed, it writes the report, and flushes that sink too. After a fault the
+/// sinks have got a beginning of that.
+///
+/// Faults: `Memory`; `Worn` where a counter of the run would pass 2^63; `Write` where a sink failed.
+pub fn run_one<A: Sink, B: Sink>(
+    alloc: Global,
+    scenario: &Scenario,
+    trace: &mut A,
+    report: &mut B,
+) -> Result<Summary, Fault>
+    requires countable { A.failed trace.old < 2 ^ 63 }
+    requires countable_report { B.failed report.old < 2 ^ 63 }
+
+    // The sinks get exactly the trace of the scenario's run, and the report on it.
+    ensures written { IfOk result (λ summary. WritesRun scenario.now (A.held trace.old) (A.held trace.new)
+        (B.held report.old) (B.held report.new) summary.rows) }
+    ensures beginning { OnErr result (WritesBeginning scenario.now (A.held trace.old) (A.held trace.new)
+        (B.held report.old) (B.held report.new)) }
+
+    // Where the trace's sink fails, at its flush too, the report's is left as it was.
+    ensures first { A.failed trace.old < A.failed trace.new → report.new ≡ report.old }
+
+    // No counter of a run that succeeds passes 2^63.
+    ensures lasts { OnOk result (¬ (WearsOut scenario.now)) }
+
+    // No fault comes without its cause.
+    ensures worn { IsErrOf result Fault.Worn → WearsOut scenario.now }
+    ensures write { IsErrOf result Fault.Write
+        → (A.failed trace.old < A.failed trace.new) ⊎ (B.failed report.old < B.failed report.new) }
+    ensures whole { OnOk result (A.failed trace.new ≡ A.failed trace.old) }
+    ensures whole_report { OnOk result (B.failed report.new ≡ B.failed report.old) }
+    ensures others { IfErr result (λ fault. fault ≢ Fault.Write → A.failed trace.new ≡ A.failed trace.old) }
+    ensures others_report { IfErr result (λ fault. fault ≢ Fault.Write → B.failed report.new ≡ B.failed report.old) }
+    ensures relay { IfErr result (λ fault. fault ≢ Fault.Relay) }
+{
+    let outcome = rows_of_whole(alloc, scenario);
+    write_run(alloc, outcome, scenario, trace, report)
+}
+
+/// All rows of the scenario's run, in the order made: those of the window of one part, which owns every
+/// member, up to the end.
+pub(crate) fn rows_of_whole(alloc: Global, scenario: &Scenario) -> Result<Vec<Row>, Fault>
+    ensures run { IfOk result (λ rows. IsRunOf scenario.now rows.items) }
+    ensures named { IfOk result (λ rows. All (NamesMembers scenario.now) rows.items) }
+    ensures worn { IsErrOf result Fault.Worn → WearsOut scenario.now }
+    ensures causes { IfErr result (λ fault. (fault ≢ Fault.Write) × (fault ≢ Fault.Relay)) }
+    ensures lasts { OnOk result (¬ (WearsOut scenario.now)) }
+    ensures sound { IsSound scenario.now }
+{
+    let past_the_end = Moment(scenario.end().ticks() + 1);
+    let links = match Links::of(alloc, scenario) {
+        Ok(links) => links,
+        Err(Memory) => return Err(Fault::Memory),
+    };
+    let part = match Part::whole(alloc, scenario, TreeQueue::new(alloc)) {
+        Ok(part) => part,
+        Err(Memory) => return Err(Fault::Memory),
+    };
+    match part.run(alloc, past_the_end, scenario, &links) {
+        Ok(done) => {
+            let Done {
+                part: _,
+                out: _,
+                rows,
+            } = done;
+            Ok(rows)
+        }
+        Err(StepError::Memory) => Err(Fault::Memory),
+        Err(StepError::Worn) => Err(Fault::Worn),
+    }
+}

@@ -1,0 +1,168 @@
+ghost use Rattle.std.specs.Prelude.{◌≡◌, ◌≢◌, ◌⊎◌, ◌+◌, ◌++◌, ◌<◌, ◌≤◌, ◌^◌, [], true, length, List, Option, OnOk, OnErr, IfErr, IsOk, IsErrOf, All, ℕ};
+ghost use Rattle.std.specs.Io.KnownBytes.{Appends};
+ghost use Rattle.trace.specs.Text.{NamesMembers, rows_text};
+ghost use Rattle.trace.specs.Sinks.{AppendsBeginning};
+ghost use Rattle.trace.specs.declared.row.Row.{Row as ARow};
+ghost use Rattle.relay.specs.Lots.{rows_in, has_last};
+ghost use Rattle.relay.specs.Seats.{scenario_of, taken_by, IsTaker};
+ghost use Rattle.exchange.specs.Streams.{failures_of, HasWritten};
+
+use crate::outputs::fault_of;
+use crate::stream::lost;
+use crate::tallied::Tallied;
+use base::Fault;
+use relay::{Relay, TakeSeat};
+use scenario::Scenario;
+use std::alloc::Global;
+use std::sync::Wait;
+use trace::{Row, Sink, write_head, write_rows};
+
+/// Writes the trace as its rows come over the relay, up to the last batch, and tallies them. After a fault it
+/// goes on receiving, so that whoever sends can come to an end, but puts nothing more.
+///
+/// Faults: `Memory`; `Worn` where a count of the report would pass 2^63; `Write` where the sink failed; `Relay`
+/// where the last batch never came.
+pub(crate) fn write_stream<A: Sink>(
+    rt: &impl Wait,
+    alloc: Global,
+    relay: &Relay,
+    seat: &mut TakeSeat,
+    scenario: &Scenario,
+    tallied: &mut Tallied,
+    trace: &mut A,
+) -> Result<(), Fault>
+    requires seat { IsTaker relay.now seat.old }
+    requires one { scenario_of relay.now ≡ scenario.now }
+    requires none_taken { taken_by seat.old ≡ [] }
+    requires none_tallied { tallied.old.tallies ≡ [] }
+    requires countable { A.failed trace.old < 2 ^ 63 }
+    ensures seat { IsTaker relay.now seat.new }
+    ensures last { OnOk result (has_last (taken_by seat.new) ≡ true) }
+    ensures written { HasWritten scenario.now (rows_in (taken_by seat.new)) (A.held trace.old) (A.held trace.new) tallied.new.tallies result }
+    ensures failures { A.failed trace.new ≡ A.failed trace.old + failures_of result }
+{
+    let mut so_far = begin(trace);
+    for _ in rt.forever() {
+        let Some(batch) = relay.receive(rt, seat) else {
+            return lost(so_far);
+        };
+        so_far = go_on(so_far, alloc, &batch.rows, scenario, tallied, trace);
+        if batch.last {
+            return so_far;
+        }
+    }
+    unreachable!()
+}
+
+/// Writes the header.
+fn begin<A: Sink>(trace: &mut A) -> Result<(), Fault>
+    requires countable { A.failed trace.old < 2 ^ 63 }
+    ensures written { (s : _) → HasWritten s [] (A.held trace.old) (A.held trace.new) [] result }
+    ensures failures { A.failed trace.new ≡ A.failed trace.old + failures_of result }
+{
+    match write_head(trace) {
+        Ok(()) => Ok(()),
+        Err(error) => Err(fault_of(error)),
+    }
+}
+
+/// Writes the rows of a batch, unless a fault came before.
+fn go_on<A: Sink>(
+    so_far: Result<(), Fault>,
+    alloc: Global,
+    rows: &[Row],
+    scenario: &Scenario,
+    tallied: &mut Tallied,
+    trace: &mut A,
+) -> Result<(), Fault>
+    requires named { All (NamesMembers scenario.now) rows.now }
+    requires countable { OnOk so_far (A.failed trace.old < 2 ^ 63) }
+    ensures written { (before : List ARow) (held : Option (List ℕ)) → HasWritten scenario.now before held (A.held trace.old) tallied.old.tallies so_far
+        → HasWritten scenario.now (before ++ rows.now) held (A.held trace.new) tallied.new.tallies result }
+    ensures failures { A.failed trace.new + failures_of so_far ≡ A.failed trace.old + failures_of result }
+{
+    match so_far {
+        Ok(()) => write_batch(alloc, rows, scenario, tallied, trace),
+        Err(fault) => Err(fault),
+    }
+}
+
+/// Writes the rows of a batch, and tallies them.
+fn write_batch<A: Sink>(
+    alloc: Global,
+    rows: &[Row],
+    scenario: &Scenario,
+    tallied: &mut Tallied,
+    trace: &mut A,
+) -> Result<(), Fault>
+    requires named { All (NamesMembers scenario.now) rows.now }
+    requires countable { A.failed trace.old < 2 ^ 63 }
+    ensures whole { OnOk result (Appends (A.held trace.old) (A.held trace.new) (rows_text scenario.now rows.now)) }
+    ensures tallied { OnOk result (tallied.new.tallies ≡ tallied.old.tallies ++ rows.now) }
+    ensures part { OnErr result (AppendsBeginning (A.held trace.old) (A.held trace.new) (rows_text scenario.now rows.now)) }
+    ensures worn { IsErrOf result Fault.Worn → 2 ^ 63 ≤ length (tallied.old.tallies ++ rows.now) }
+    ensures failures { A.failed trace.new ≡ A.failed trace.old + failures_of result }
+{
+    match tally(rows, scenario, tallied) {
+        Ok(()) => {}
+        Err(fault) => return Err(fault),
+    }
+    match write_rows(alloc, rows, scenario, trace) {
+        Ok(()) => Ok(()),
+        Err(error) => Err(fault_of(error)),
+    }
+}
+
+/// Tallies rows, up to one that is refused.
+fn tally(rows: &[Row], scenario: &Scenario, tallied: &mut Tallied) -> Result<(), Fault>
+    requires named { All (NamesMembers scenario.now) rows.now }
+    ensures tallied { OnOk result (tallied.new.tallies ≡ tallied.old.tallies ++ rows.now) }
+    ensures worn { IsErrOf result Fault.Worn → 2 ^ 63 ≤ length (tallied.old.tallies ++ rows.now) }
+    ensures causes { IfErr result (λ fault. (fault ≢ Fault.Write) × (fault ≢ Fault.Relay)) }
+{
+    for row in rows {
+        match tallied.add(row, scenario) {
+            Ok(()) => {}
+            Err(fault) => return Err(fault),
+        }
+    }
+    Ok(())
+}
+
+/// Of the faults of the two sides of a run the first in the order in which faults are answered.
+pub(crate) fn first_fault(
+    driven: Result<(), Fault>,
+    written: Result<(), Fault>,
+) -> Result<(), Fault>
+    ensures both { OnOk result (IsOk driven × IsOk written) }
+    ensures one { IfErr result (λ fault. IsErrOf driven fault ⊎ IsErrOf written fault) }
+    ensures relay { IsErrOf result Fault.Relay → failures_of written ≡ 0 }
+{
+    match driven {
+        Ok(()) => written,
+        Err(fault) => match written {
+            Ok(()) => Err(fault),
+            Err(other) => Err(first_of(fault, other)),
+        },
+    }
+}
+
+/// Of two faults the first in that order.
+fn first_of(one: Fault, other: Fault) -> Fault
+    ensures either { (result ≡ one) ⊎ (result ≡ other) }
+    ensures relay { result ≡ Fault.Relay → other ≡ Fault.Relay }
+{
+    match one {
+        Fault::Memory => one,
+        Fault::Worn => match other {
+            Fault::Memory => other,
+            _ => one,
+        },
+        Fault::Write => match other {
+            Fault::Memory => other,
+            Fault::Worn => other,
+            _ => one,
+        },
+        Fault::Relay => other,
+    }
+}

@@ -1,0 +1,131 @@
+-- An errand may go to another thread, where its queue may.
+use denote.Param.Send.{IsSend, IsSync, AllSend, recorded_send, struct_send, sendable}
+use denote.Struct.Struct.{Struct}
+use denote.Struct.Declared as declared
+use denote.Struct.Declared.{Declared, shape}
+use denote.RattleType.{RattleType}
+use denote.Ref.{NamedLft}
+use Rattle.std.proofs.Crossing.{crosses, Vec-send}
+use Rattle.std.proofs.MapsCrossing as maps
+use Rattle.std.proofs.MapsCrossingOver as over
+use Rattle.rtrb.proofs.end.End.TheSendSync.{the_send as end_send}
+use Rattle.scenario.specs.contracts.settings.Group as group
+use Rattle.scenario.specs.contracts.settings.Path as path
+use Rattle.scenario.specs.contracts.settings.Slow as slow
+use Rattle.scenario.specs.contracts.settings.Crash as crash
+use Rattle.scenario.specs.contracts.scenario.Scenario as scenario
+use Rattle.links.specs.contracts.table.Links as links
+use Rattle.membership.specs.contracts.table.Table as table
+use Rattle.piggyback.specs.contracts.Buffer as buffer
+use Rattle.probing.specs.contracts.Rota as rota
+use Rattle.suspicion.specs.contracts.suspicions.Suspicions as suspicions
+use Rattle.lifeguard.specs.contracts.relays.Relays as relays
+use Rattle.streams.specs.contracts.Stream as stream
+use Rattle.member.specs.contracts.member.Member as member
+use Rattle.member.specs.contracts.updates.Updates as updates
+use Rattle.member.specs.contracts.event.Event as event
+use Rattle.trace.specs.contracts.row.Row as row
+use Rattle.windows.specs.contracts.part.Part as part
+use Rattle.windows.specs.contracts.part.Done as done
+use Rattle.base.specs.declared.keyed.Keyed as keyed
+use Rattle.worker_queue.specs.contracts.tree.TreeQueue as tree
+use Rattle.worker_queue.specs.declared.queue.EventQueue.{Ghosts}
+use Rattle.member.specs.declared.event.Event.{Event}
+use Rattle.workers.specs.contracts.awaited.Awaited as awaited
+use Rattle.workers.specs.contracts.ring.Asked as asked
+use Rattle.workers.specs.contracts.ring.Word as word
+use Rattle.workers.specs.contracts.ring.Reply as reply
+use Rattle.workers.specs.contracts.terms.Terms as terms
+use Rattle.workers.specs.contracts.errand.Errand as errand
+
+-- a struct may go where its fields may: for those that `search` can't take apart
+declared_send : (T : Declared) → AllSend (shape T).fields → IsSend (declared.row T)
+declared_send T all = recorded_send (Struct (shape T)) T.D T.to T.to_one (struct_send (shape T) all)
+
+pub group_sync : IsSync group.the_row
+group_sync = search (crosses, sendable) depth 60 fits 20000
+
+pub path_sync : IsSync path.the_row
+path_sync = search (crosses, sendable) depth 60 fits 20000
+
+pub slow_sync : IsSync slow.the_row
+slow_sync = search (crosses, sendable) depth 60 fits 20000
+
+pub crash_sync : IsSync crash.the_row
+crash_sync = search (crosses, sendable) depth 60 fits 20000
+
+pub scenario_sync : IsSync scenario.the_row
+scenario_sync = search (crosses, group_sync, path_sync, slow_sync, crash_sync, sendable) depth 60 fits 20000
+
+pub links_sync : IsSync links.the_row
+links_sync = search (maps.crosses, crosses, sendable) depth 60 fits 20000
+
+pub table_send : IsSend table.the_row
+table_send = search (maps.crosses, crosses, sendable) depth 60 fits 20000
+
+pub buffer_send : IsSend buffer.the_row
+buffer_send = search (crosses, sendable) depth 60 fits 20000
+
+pub rota_send : IsSend rota.the_row
+rota_send = search (crosses, sendable) depth 60 fits 20000
+
+pub suspicions_send : IsSend suspicions.the_row
+suspicions_send = search (maps.crosses, crosses, sendable) depth 60 fits 20000
+
+pub relays_send : IsSend relays.the_row
+relays_send = search (over.crosses, crosses, sendable) depth 60 fits 20000
+
+pub stream_send : IsSend stream.the_row
+stream_send = search (crosses, sendable) depth 60 fits 20000
+
+pub member_send : IsSend member.the_row
+member_send = search (table_send, buffer_send, rota_send, suspicions_send, relays_send, stream_send, crosses, sendable) depth 60 fits 20000
+
+part_send : (Q : RattleType) → IsSend Q → IsSend (part.the_field Q).row
+part_send Q s = search (member_send, crosses, sendable) depth 60 fits 20000
+
+pub updates_send : IsSend updates.the_row
+updates_send = search (crosses, sendable) depth 60 fits 20000
+
+pub event_send : IsSend event.the_row
+event_send = search (updates_send, crosses, sendable) depth 60 fits 20000
+
+pub row_send : IsSend row.the_row
+row_send = search (crosses, sendable) depth 60 fits 20000
+
+pub done_send : (Q : RattleType) → IsSend Q → IsSend (done.the_row Q)
+done_send Q s =
+    let all : AllSend (shape (done.the_type Q)).fields = (part_send Q s, (Vec-send event.the_row event_send, (Vec-send row.the_row row_send, tt))) in
+    declared_send (done.the_type Q) all
+
+asked_send : (Q : RattleType) → IsSend Q → IsSend (asked.the_row Q)
+asked_send Q s = search (crosses, sendable) depth 60 fits 20000
+
+word_of_parts : (Q : RattleType) → IsSend (done.the_row Q) → IsSend (asked.the_row Q) → IsSend (word.the_row Q)
+word_of_parts Q d a = search (crosses, sendable) depth 60 fits 20000
+
+pub word_send : (Q : RattleType) → IsSend Q → IsSend (word.the_row Q)
+word_send Q s = word_of_parts Q (done_send Q s) (asked_send Q s)
+
+reply_of_word : (Q : RattleType) (g : Ghosts Q.Denot Event) → IsSend (word.the_row Q) → IsSend (reply.the_field Q g).row
+reply_of_word Q g w = search (end_send, crosses, sendable) depth 60 fits 20000
+
+reply_send : (Q : RattleType) (g : Ghosts Q.Denot Event) → IsSend Q → IsSend (reply.the_field Q g).row
+reply_send Q g s = reply_of_word Q g (word_send Q s)
+
+terms_send : (α : NamedLft) (Q : RattleType) (g : Ghosts Q.Denot Event) → IsSend Q → IsSend (terms.the_field α Q g).row
+terms_send α Q g s = search (scenario_sync, links_sync, crosses, sendable) depth 60 fits 20000
+
+errand_of_parts : (α : NamedLft) (Q : RattleType) (g : Ghosts Q.Denot Event) → IsSend (part.the_field Q).row → IsSend (terms.the_field α Q g).row → IsSend (reply.the_field Q g).row → IsSend (errand.the_row α Q g)
+errand_of_parts α Q g p t r =
+    let all : AllSend (shape (errand.the_type α Q g)).fields = (p, (search sendable, (search (scenario_sync, sendable), (t, (r, tt))))) in
+    declared_send (errand.the_type α Q g) all
+
+pub errand_send : (α : NamedLft) (Q : RattleType) (g : Ghosts Q.Denot Event) → IsSend Q → IsSend (errand.the_row α Q g)
+errand_send α Q g s = errand_of_parts α Q g (part_send Q s) (terms_send α Q g s) (reply_send Q g s)
+
+pub awaited_sync : IsSync awaited.the_row
+awaited_sync = search (crosses, sendable) depth 60 fits 20000
+
+pub tree_send : (E : RattleType) (g : keyed.Ghosts E.Denot) → IsSend E → IsSend (tree.the_row E g)
+tree_send E g s = search (maps.crosses, crosses, sendable) depth 60 fits 20000

@@ -1,0 +1,4 @@
+pub mod Answers
+pub mod Crews
+pub mod Faults
+pub mod Props

@@ -1,0 +1,70 @@
+use std::hint;
+use std::sync::Wait;
+use std::sync::atomic::{AtomicUsize, Ordering};
+use std::thread::Parker;
+
+/// How often the driver looks for the last answer before it gives its processor away.
+const LOOKS: usize = 200;
+
+/// How many answers are still to come: the driver waits for them, and the worker that gives the last one
+/// wakes it.
+#[derive(Drop)]
+pub struct Awaited {
+    // one for each errand that is out, and one while the driver deals
+    left: AtomicUsize,
+    driver: Parker,
+}
+
+impl Awaited {
+    /// No errand is out.
+    pub fn new() -> Self {
+        Awaited {
+            left: AtomicUsize::new(1),
+            driver: Parker::new(),
+        }
+    }
+
+    /// One more errand goes out.
+    pub(crate) fn add(&self) {
+        self.left.fetch_add(1, Ordering::SeqCst);
+    }
+
+    /// One errand is answered, or was not taken.
+    pub(crate) fn remove(&self) {
+        if self.left.fetch_sub(1, Ordering::SeqCst) == 1 {
+            self.driver.unpark();
+        }
+    }
+
+    /// Waits until no errand is out.
+    pub(crate) fn wait(&self, rt: &impl Wait) {
+        self.left.fetch_sub(1, Ordering::SeqCst);
+        if !self.is_over_soon() {
+            self.sleep(rt);
+        }
+        self.left.store(1, Ordering::SeqCst);
+    }
+
+    fn is_over(&self) -> bool {
+        self.left.load(Ordering::SeqCst) == 0
+    }
+
+    fn is_over_soon(&self) -> bool {
+        for _ in 0..LOOKS {
+            if self.is_over() {
+                return true;
+            }
+            hint::spin_loop();
+        }
+        false
+    }
+
+    fn sleep(&self, rt: &impl Wait) {
+        for _ in rt.forever() {
+            if self.is_over() {
+                return;
+            }
+            self.driver.park(rt);
+        }
+    }
+}

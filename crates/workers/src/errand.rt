@@ -1,0 +1,81 @@
+ghost use Rattle.std.specs.Prelude.{◌≡◌, ◌+◌, ◌≤◌, IfOk};
+ghost use Rattle.links.specs.Arrival.{AreLinksOf};
+ghost use Rattle.windows.specs.WorldOf.{world_of};
+ghost use Rattle.windows.specs.Window.{IsConsistentPart};
+
+use crate::gate::Gate;
+use crate::ring::{Reply, Ticket, ring_for};
+use crate::terms::Terms;
+use base::{Memory, Moment};
+use links::Links;
+use member::Event;
+use scenario::Scenario;
+use std::alloc::Global;
+use std::snapshot::Snapshot;
+use windows::Part;
+use worker_queue::EventQueue;
+
+/// What a worker takes: a part, and all that its window needs.
+#[derive(Drop)]
+pub struct Errand<'a, Q: EventQueue<Event>> {
+    part: Part<Q>,
+    window: u64,
+    scenario: &'a Scenario,
+    terms: Terms<'a, Q>,
+    reply: Reply<Q>,
+    ghost scenario_of_terms: { terms.scenario.now ≡ scenario.now },
+    ghost scenario_of_reply: { reply.scenario.value ≡ scenario.now },
+    ghost bound_of_reply: { reply.bound ≡ terms.bound },
+    ghost part_of_terms: { terms.part.value ≡ part },
+    ghost part_of_reply: { reply.before.value ≡ part },
+}
+
+/// The errand of a part, and the ticket for what comes of it.
+pub(crate) fn ask<'a, Q: EventQueue<Event> + Drop>(
+    alloc: Global,
+    part: Part<Q>,
+    bound: Moment,
+    window: u64,
+    scenario: &'a Scenario,
+    links: &'a Links,
+) -> Result<(Ticket<Q>, Errand<'a, Q>), Memory>
+    requires fits { AreLinksOf links.now scenario.now }
+    requires in_time { bound ≤ scenario.now.end + 1 }
+    requires consistent { IsConsistentPart scenario.now (world_of Q.set part) }
+    ensures { IfOk result (λ r. (r.0.scenario.value ≡ scenario.now) × (r.0.bound ≡ bound) × (r.0.before.value ≡ part)) }
+{
+    let (ticket, reply) = match ring_for(alloc, scenario, bound, &part) {
+        Ok(ends) => ends,
+        Err(Memory) => return Err(Memory),
+    };
+    let terms = Terms {
+        scenario,
+        links,
+        bound,
+        part: Snapshot::of(&part),
+    };
+    let errand = Errand {
+        part,
+        window,
+        scenario,
+        terms,
+        reply,
+    };
+    Ok((ticket, errand))
+}
+
+impl<'a, Q: EventQueue<Event> + Drop> Errand<'a, Q> {
+    /// Enters the gate, runs the window of the part, and answers.
+    pub(crate) fn run<G: Gate>(self, alloc: Global, gate: &G, worker: usize) {
+        let Errand {
+            part,
+            window,
+            scenario: _,
+            terms,
+            reply,
+        } = self;
+        gate.enter(worker, window, part.number);
+        let came = terms.run(alloc, part);
+        reply.send(came);
+    }
+}

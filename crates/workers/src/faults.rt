@@ -1,0 +1,72 @@
+ghost use Rattle.std.specs.Prelude.{◌≡◌, ◌≢◌, ◌++◌, ◌∷◌, [], ◌⊎◌, Ok, IfOk, IfErr, IsErrOf};
+ghost use Rattle.workers.specs.Faults.{rank_of, first_of, Joins};
+
+use base::Fault;
+use member::{Event, StepError};
+use windows::Done;
+use worker_queue::EventQueue;
+
+/// What came of a window, its error as a fault of the run.
+pub(crate) fn told<T: Drop>(came: Result<T, StepError>) -> Result<T, Fault>
+    ensures ok { IfOk result (λ value. came ≡ Ok value) }
+    ensures worn { IsErrOf result Fault.Worn → IsErrOf came StepError.Worn }
+    ensures write { IfErr result (λ fault. fault ≢ Fault.Write) }
+{
+    match came {
+        Ok(value) => Ok(value),
+        Err(StepError::Memory) => Err(Fault::Memory),
+        Err(StepError::Worn) => Err(Fault::Worn),
+    }
+}
+
+/// What came of several windows, and of one more: all of them, or the first of their faults.
+pub(crate) fn joined<Q: EventQueue<Event> + Drop>(
+    so_far: Result<Vec<Done<Q>>, Fault>,
+    came: Result<Done<Q>, Fault>,
+) -> Result<Vec<Done<Q>>, Fault>
+    ensures ok { IfOk result (λ all. Joins so_far came all) }
+    ensures worn { IsErrOf result Fault.Worn → IsErrOf so_far Fault.Worn ⊎ IsErrOf came Fault.Worn }
+    ensures write { IfErr so_far (λ fault. fault ≢ Fault.Write) → IfErr came (λ fault. fault ≢ Fault.Write)
+        → IfErr result (λ fault. fault ≢ Fault.Write) }
+{
+    match so_far {
+        Ok(all) => match came {
+            Ok(done) => added(all, done),
+            Err(fault) => Err(fault),
+        },
+        Err(fault) => match came {
+            Ok(_) => Err(fault),
+            Err(other) => Err(first_of(fault, other)),
+        },
+    }
+}
+
+/// One more at the end of a list.
+fn added<T: Drop>(mut all: Vec<T>, one: T) -> Result<Vec<T>, Fault>
+    ensures ok { IfOk result (λ more. more.items ≡ all.items ++ one ∷ []) }
+    ensures err { IfErr result (λ fault. fault ≡ Fault.Memory) }
+{
+    match all.push(one) {
+        Ok(()) => Ok(all),
+        Err(_) => Err(Fault::Memory),
+    }
+}
+
+/// Of two faults the one that a run answers: want of memory first, then a worn counter.
+fn first_of(one: Fault, other: Fault) -> Fault
+    ensures { result ≡ first_of one other }
+{
+    if rank(other) < rank(one) { other } else { one }
+}
+
+/// The place of a fault in the order in which faults are answered.
+fn rank(fault: Fault) -> u8
+    ensures { result ≡ rank_of fault }
+{
+    match fault {
+        Fault::Memory => 1,
+        Fault::Worn => 2,
+        Fault::Write => 3,
+        Fault::Relay => 4,
+    }
+}
