@@ -13,6 +13,7 @@ use std::sync::atomic::{AtomicU64, Ordering};
 use std::test::Fail;
 use std::thread;
 use std::thread::Threads;
+use trace::Sink;
 use trace::testing::MemorySink;
 use workers::Gate;
 
