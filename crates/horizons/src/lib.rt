@@ -1,0 +1,6 @@
+//! How far each part of a cluster may run by itself: the least lengths of walks of links from part to
+//! part, and from them a bound for each part.
+#![tactic(auto)]
+
+mod least;
+mod lengths;
