@@ -1,5 +1,5 @@
 -- The least of numbers of which some may not be there, and sums of such numbers.
-use Rattle.std.specs.Prelude.{◌≡◌, ℕ, ◌+◌, ◌-◌, ◌^◌, ◌<◌, ◌≤◌, min, Option, Some, None}
+use Rattle.std.specs.Prelude.{◌≡◌, ℕ, ◌+◌, ◌-◌, ◌^◌, ◌<◌, ◌≤◌, min, Bool, true, false, nat_lt, Option, Some, None}
 
 -- of the first k, the least of those that are there
 abbrev pub IsLeastOf : (ℕ → Option ℕ) → ℕ → Option ℕ → Type 0
@@ -16,3 +16,9 @@ sum_of None b = None
 abbrev pub IsAtMost : Option ℕ → ℕ → Type 0
 IsAtMost None n = ⊥
 IsAtMost (Some d) n = d ≤ n
+
+-- a number that is less than the other, or there is no other
+abbrev pub is_less : Option ℕ → Option ℕ → Bool
+is_less None b = false
+is_less (Some a) None = true
+is_less (Some a) (Some b) = nat_lt a b

@@ -1,2 +1,5 @@
 pub mod Least
 pub mod Lengths
+pub mod Between
+pub mod Walks
+pub mod Bounds

@@ -1,9 +1,9 @@
 ghost use Rattle.std.specs.Prelude.{◌≡◌, ℕ, ◌+◌, ◌*◌, ◌^◌, ◌<◌, length, IfOk, Some, None};
-ghost use Rattle.links.specs.Least.{lesser_of};
-ghost use Rattle.horizons.specs.Least.{IsLeastOf, sum_of};
-ghost use Rattle.horizons.specs.Lengths.{length_at, weight_of, weight, IsSettledAt};
 
-use crate::least::{lesser, sum};
+
+ghost use Rattle.horizons.specs.Lengths.{length_at, weight_of, weight};
+
+
 use base::Memory;
 use std::alloc::Global;
 use std::marker::Model;

@@ -4,3 +4,4 @@
 
 mod least;
 mod lengths;
+mod settle;

@@ -1,0 +1,4 @@
+pub mod LeastOf
+pub mod Joining
+pub mod Shortening
+pub mod Shortest

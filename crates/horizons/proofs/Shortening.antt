@@ -1,0 +1,116 @@
+-- A length that is made that of a way by another part.
+use Rattle.std.proofs.Common.{◌≡◌, ◌≢◌, ℕ, ◌+◌, ◌-◌, ◌^◌, ◌<◌, ◌≤◌, ◌⊎◌, inl, inr, min, Bool, true, false, nat_lt, List, Option, Some, None, refl, sym, ap, ◌∙◌, subst, arith}
+use Rattle.std.proofs.lemmas.Bool.{cases_eq, false≢true, ltb-true}
+use Rattle.scenario.specs.Setup.{Setup}
+use Rattle.windows.specs.Cluster.{IsPeopled}
+use Rattle.windows.specs.Horizon.{Walk}
+use Rattle.horizons.specs.Least.{IsLeastOf, IsAtMost, sum_of, is_less}
+use Rattle.horizons.specs.Lengths.{length_at}
+use Rattle.horizons.specs.Walks.{IsLengthOfAWalk, AreLengthsOfWalks}
+use Rattle.horizons.proofs.LeastOf.{parts_of_sum, some_same}
+use Rattle.horizons.proofs.Joining.{ends_peopled, joined_lengths}
+
+up_to : (o : Option ℕ) (n m : ℕ) → o ≡ Some n → IsAtMost o m → n ≤ m
+up_to o n m is most = subst (λ x. IsAtMost x m) is most
+
+-- no more than what stood, where it is less
+less_than : (old : Option ℕ) (n m : ℕ) → is_less (Some n) old ≡ true → IsAtMost old m → IsAtMost (Some n) m
+less_than None n m less most = absurd most
+less_than (Some d) n m less most = let below : n < d = ltb-true n d less in omega (arith, most)
+
+-- the least way has 64 bits
+pub way_fits : (lengths : List (Option ℕ)) (from to : ℕ) (way : Option ℕ) → IsLeastOf (λ way. sum_of (length_at lengths from way) (length_at lengths way to)) 64 way → (n : ℕ) → way ≡ Some n → n < 2 ^ 64
+way_fits lengths from to None least n is = absurd (let no : None ≡ Some n = is in cc)
+way_fits lengths from to (Some d) least n is =
+    let of = parts_of_sum (length_at lengths from least.0.0) (length_at lengths least.0.0 to) d least.0.2 in
+    let same = some_same d n is in
+    omega (arith, of.sum)
+
+module _ (s : Setup) (division : ℕ → ℕ) (between : ℕ → ℕ → ℕ) (old : List (Option ℕ)) (are : AreLengthsOfWalks s division between old) where
+  -- lengths between different parts are small, and so are all
+  apart_small : (p q n : ℕ) → p < 64 → q < 64 → p ≢ q → length_at old p q ≡ Some n → n ≤ 2 ^ 20
+  apart_small p q n here there apart is =
+      let walk = (are.walked p q n here there is).0 in
+      let ends = ends_peopled (IsPeopled s division) p q walk in
+      let most = up_to (length_at old p q) n (between p q) is (are.direct p q apart walk.begins ends) in
+      let near = are.near p q apart walk.begins ends in
+      omega arith
+
+  small : (p q n : ℕ) → p < 64 → q < 64 → length_at old p q ≡ Some n → n ≤ 2 ^ 21
+  small p q n here there is = elim (cases_eq p q) as (λ _. n ≤ 2 ^ 21) [
+    | inl same ↦ are.back p n here (ap (λ x. length_at old p x) same ∙ is)
+    | inr apart ↦ (let few = apart_small p q n here there apart is in omega arith)
+  ]
+
+  module _ (from to way n : ℕ) (here : from < 64) (there : to < 64) (by : way < 64) (is : sum_of (length_at old from way) (length_at old way to) ≡ Some n) where
+    -- the way's length is that of a walk
+    way_walked : IsLengthOfAWalk (IsPeopled s division) between from to n
+    way_walked =
+        let of = parts_of_sum (length_at old from way) (length_at old way to) n is in
+        let one = small from way of.one here by of.first in
+        let other = small way to of.other by there of.second in
+        let sum : of.one + of.other ≡ n = omega (arith, of.sum) in
+        subst (IsLengthOfAWalk (IsPeopled s division) between from to) sum
+            (joined_lengths between (IsPeopled s division) from way to of.one of.other (are.walked from way of.one here by of.first) (are.walked way to of.other by there of.second))
+
+    -- a way back to the same part that is less than what stood goes by another part
+    way_back : from ≡ to → is_less (Some n) (length_at old from to) ≡ true → n ≤ 2 ^ 21
+    way_back same less =
+        let of = parts_of_sum (length_at old from way) (length_at old way to) n is in
+        elim (cases_eq from way) as (λ _. n ≤ 2 ^ 21) [
+          | inl stays ↦ (
+              let is_way : length_at old from to ≡ Some of.other = ap (λ x. length_at old x to) stays ∙ of.second in
+              let below : n < of.other = ltb-true n of.other (sym (ap (is_less (Some n)) is_way) ∙ less) in
+              let few = small way to of.other by there of.second in
+              omega arith)
+          | inr leaves ↦ (
+              let one = apart_small from way of.one here by leaves of.first in
+              let other = apart_small way to of.other by there (λ e. leaves (same ∙ sym e)) of.second in
+              omega (arith, of.sum))
+        ]
+
+  module _ (new : List (Option ℕ)) (from to : ℕ) (here : from < 64) (there : to < 64)
+      (others : (p q : ℕ) → q < 64 → ¬ ((p ≡ from) × (q ≡ to)) → length_at new p q ≡ length_at old p q) where
+    -- the place that was written, or another one that is as it was
+    abbrev Told : ℕ → ℕ → Type 0
+    Told p q = ((p ≡ from) × (q ≡ to)) ⊎ (length_at new p q ≡ length_at old p q)
+
+    told : (p q : ℕ) → q < 64 → Told p q
+    told p q below = elim (cases_eq p from) as (λ _. Told p q) [
+      | inl a ↦ elim (cases_eq q to) as (λ _. Told p q) [
+          | inl b ↦ inl (a, b)
+          | inr b ↦ inr (others p q below (λ both. b both.1))
+        ]
+      | inr a ↦ inr (others p q below (λ both. a both.0))
+    ]
+
+    module _ (n : ℕ) (put : length_at new from to ≡ Some n) where
+      -- what holds of the new length where it was written, and of the old ones elsewhere
+      at_each : (P : ℕ → ℕ → Option ℕ → Type 0) → P from to (Some n) → ((p q : ℕ) → p < 64 → q < 64 → P p q (length_at old p q)) → (p q : ℕ) → p < 64 → q < 64 → P p q (length_at new p q)
+      at_each P written stood p q low below = elim (told p q below) as (λ _. P p q (length_at new p q)) [
+        | inl both ↦ subst (λ x. P x q (length_at new x q)) (sym both.0) (subst (λ y. P from y (length_at new from y)) (sym both.1) (subst (P from to) (sym put) written))
+        | inr same ↦ subst (P p q) (sym same) (stood p q low below)
+      ]
+
+      by_way : (way : ℕ) → way < 64 → sum_of (length_at old from way) (length_at old way to) ≡ Some n → is_less (Some n) (length_at old from to) ≡ true → AreLengthsOfWalks s division between new
+      by_way way by is less = record {
+        few = are.few;
+        near = are.near;
+        walked = λ p q m low below has.
+            at_each (λ p q o. (m : ℕ) → o ≡ Some m → IsLengthOfAWalk (IsPeopled s division) between p q m)
+                (λ m has. subst (IsLengthOfAWalk (IsPeopled s division) between from to) (sym (some_same n m has)) (way_walked from to way n here there by is))
+                (λ p q low below m has. are.walked p q m low below has) p q low below m has;
+        direct = λ p q apart begins ends.
+            at_each (λ p q o. p ≢ q → IsPeopled s division p → IsPeopled s division q → IsAtMost o (between p q))
+                (λ apart begins ends. less_than (length_at old from to) n (between from to) less (are.direct from to apart begins ends))
+                (λ p q low below apart begins ends. are.direct p q apart begins ends) p q (are.few p begins) (are.few q ends) apart begins ends;
+        back = λ p m low has.
+            at_each (λ p q o. p ≡ q → (m : ℕ) → o ≡ Some m → m ≤ 2 ^ 21)
+                (λ same m has. let few = way_back from to way n here there by is same less in let e = some_same n m has in omega arith)
+                (λ p q low below same m has. small p q m low below has) p p low low refl m has;
+      }
+
+    pub shortened : (way : Option ℕ) → IsLeastOf (λ way. sum_of (length_at old from way) (length_at old way to)) 64 way → is_less way (length_at old from to) ≡ true → length_at new from to ≡ way
+        → AreLengthsOfWalks s division between new
+    shortened None least less put = absurd (false≢true less)
+    shortened (Some n) least less put = by_way n put least.0.0 least.0.1 least.0.2 less
