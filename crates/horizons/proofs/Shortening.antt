@@ -8,6 +8,7 @@ use Rattle.horizons.specs.Least.{IsLeastOf, IsAtMost, sum_of, is_less}
 use Rattle.horizons.specs.Lengths.{length_at}
 use Rattle.horizons.specs.Walks.{IsLengthOfAWalk, AreLengthsOfWalks}
 use Rattle.horizons.proofs.LeastOf.{parts_of_sum, some_same}
+use Rattle.horizons.proofs.Writing.{IsWritten, at_each}
 use Rattle.horizons.proofs.Joining.{ends_peopled, joined_lengths}
 
 up_to : (o : Option ℕ) (n m : ℕ) → o ≡ Some n → IsAtMost o m → n ≤ m
@@ -69,48 +70,26 @@ module _ (s : Setup) (division : ℕ → ℕ) (between : ℕ → ℕ → ℕ) (o
               omega (arith, of.sum))
         ]
 
-  module _ (new : List (Option ℕ)) (from to : ℕ) (here : from < 64) (there : to < 64)
-      (others : (p q : ℕ) → q < 64 → ¬ ((p ≡ from) × (q ≡ to)) → length_at new p q ≡ length_at old p q) where
-    -- the place that was written, or another one that is as it was
-    abbrev Told : ℕ → ℕ → Type 0
-    Told p q = ((p ≡ from) × (q ≡ to)) ⊎ (length_at new p q ≡ length_at old p q)
+  module _ (new : List (Option ℕ)) (from to : ℕ) (here : from < 64) (there : to < 64) where
+    by_way : (n way : ℕ) → IsWritten from to (Some n) old new → way < 64 → sum_of (length_at old from way) (length_at old way to) ≡ Some n → is_less (Some n) (length_at old from to) ≡ true → AreLengthsOfWalks s division between new
+    by_way n way written by is less = record {
+      few = are.few;
+      near = are.near;
+      walked = λ p q m low below has.
+          at_each from to (Some n) old new written (λ p q o. (m : ℕ) → p < 64 → o ≡ Some m → IsLengthOfAWalk (IsPeopled s division) between p q m)
+              (λ m low has. subst (IsLengthOfAWalk (IsPeopled s division) between from to) (sym (some_same n m has)) (way_walked from to way n here there by is))
+              (λ p q below m low has. are.walked p q m low below has) p q below m low has;
+      direct = λ p q apart begins ends.
+          at_each from to (Some n) old new written (λ p q o. p ≢ q → IsPeopled s division p → IsPeopled s division q → IsAtMost o (between p q))
+              (λ apart begins ends. less_than (length_at old from to) n (between from to) less (are.direct from to apart begins ends))
+              (λ p q below apart begins ends. are.direct p q apart begins ends) p q (are.few q ends) apart begins ends;
+      back = λ p m low has.
+          at_each from to (Some n) old new written (λ p q o. p ≡ q → (m : ℕ) → p < 64 → o ≡ Some m → m ≤ 2 ^ 21)
+              (λ same m low has. let few = way_back from to way n here there by is same less in let e = some_same n m has in omega arith)
+              (λ p q below same m low has. small p q m low below has) p p low refl m low has;
+    }
 
-    told : (p q : ℕ) → q < 64 → Told p q
-    told p q below = elim (cases_eq p from) as (λ _. Told p q) [
-      | inl a ↦ elim (cases_eq q to) as (λ _. Told p q) [
-          | inl b ↦ inl (a, b)
-          | inr b ↦ inr (others p q below (λ both. b both.1))
-        ]
-      | inr a ↦ inr (others p q below (λ both. a both.0))
-    ]
-
-    module _ (n : ℕ) (put : length_at new from to ≡ Some n) where
-      -- what holds of the new length where it was written, and of the old ones elsewhere
-      at_each : (P : ℕ → ℕ → Option ℕ → Type 0) → P from to (Some n) → ((p q : ℕ) → p < 64 → q < 64 → P p q (length_at old p q)) → (p q : ℕ) → p < 64 → q < 64 → P p q (length_at new p q)
-      at_each P written stood p q low below = elim (told p q below) as (λ _. P p q (length_at new p q)) [
-        | inl both ↦ subst (λ x. P x q (length_at new x q)) (sym both.0) (subst (λ y. P from y (length_at new from y)) (sym both.1) (subst (P from to) (sym put) written))
-        | inr same ↦ subst (P p q) (sym same) (stood p q low below)
-      ]
-
-      by_way : (way : ℕ) → way < 64 → sum_of (length_at old from way) (length_at old way to) ≡ Some n → is_less (Some n) (length_at old from to) ≡ true → AreLengthsOfWalks s division between new
-      by_way way by is less = record {
-        few = are.few;
-        near = are.near;
-        walked = λ p q m low below has.
-            at_each (λ p q o. (m : ℕ) → o ≡ Some m → IsLengthOfAWalk (IsPeopled s division) between p q m)
-                (λ m has. subst (IsLengthOfAWalk (IsPeopled s division) between from to) (sym (some_same n m has)) (way_walked from to way n here there by is))
-                (λ p q low below m has. are.walked p q m low below has) p q low below m has;
-        direct = λ p q apart begins ends.
-            at_each (λ p q o. p ≢ q → IsPeopled s division p → IsPeopled s division q → IsAtMost o (between p q))
-                (λ apart begins ends. less_than (length_at old from to) n (between from to) less (are.direct from to apart begins ends))
-                (λ p q low below apart begins ends. are.direct p q apart begins ends) p q (are.few p begins) (are.few q ends) apart begins ends;
-        back = λ p m low has.
-            at_each (λ p q o. p ≡ q → (m : ℕ) → o ≡ Some m → m ≤ 2 ^ 21)
-                (λ same m has. let few = way_back from to way n here there by is same less in let e = some_same n m has in omega arith)
-                (λ p q low below same m has. small p q m low below has) p p low low refl m has;
-      }
-
-    pub shortened : (way : Option ℕ) → IsLeastOf (λ way. sum_of (length_at old from way) (length_at old way to)) 64 way → is_less way (length_at old from to) ≡ true → length_at new from to ≡ way
+    pub shortened : (way : Option ℕ) → IsLeastOf (λ way. sum_of (length_at old from way) (length_at old way to)) 64 way → is_less way (length_at old from to) ≡ true → IsWritten from to way old new
         → AreLengthsOfWalks s division between new
-    shortened None least less put = absurd (false≢true less)
-    shortened (Some n) least less put = by_way n put least.0.0 least.0.1 least.0.2 less
+    shortened None least less written = absurd (false≢true less)
+    shortened (Some n) least less written = by_way n least.0.0 written least.0.1 least.0.2 less

@@ -2,4 +2,5 @@ pub mod Least
 pub mod Lengths
 pub mod Between
 pub mod Walks
+pub mod Direct
 pub mod Bounds

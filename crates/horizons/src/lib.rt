@@ -2,6 +2,7 @@
 //! part, and from them a bound for each part.
 #![tactic(auto)]
 
+mod direct;
 mod least;
 mod lengths;
 mod settle;

@@ -17,7 +17,8 @@ returns-clause-walks c =
     let lengths = c.args.lengths.now in
     let less : is_less c.least_by_way-way.result (length_at lengths c.args.from c.args.to) ≡ true = ap (is_less c.least_by_way-way.result) (sym c.at.ensures) ∙ sym c.is_less.ensures ∙ c.if-not-is_less.false in
     λ s division between are.
-        shortened s division between lengths are c.put.new.self c.args.from c.args.to c.requires.from c.requires.to c.put.ensures.others c.least_by_way-way.result c.least_by_way-way.ensures less c.put.ensures.here
+        shortened s division between lengths are c.put.new.self c.args.from c.args.to c.requires.from c.requires.to c.least_by_way-way.result c.least_by_way-way.ensures less
+        (record { here = c.put.ensures.here; others = c.put.ensures.others })
 
 pub returns-clause-less : goal.returns-clause-less
 returns-clause-less c =
