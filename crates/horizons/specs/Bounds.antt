@@ -12,7 +12,7 @@ PendsFirst leasts part at = slice_get leasts part ≡ Some (Some at)
 
 -- a moment at which what pends first in some part would come by some walk from there
 abbrev pub ComesBy : (ℕ → Type 0) → (ℕ → ℕ → ℕ) → List (Option ℕ) → ℕ → ℕ → Type 0
-ComesBy HasMembers between leasts part moment = (from : ℕ) × (at : ℕ) × PendsFirst leasts from at × ((walk : Walk HasMembers from part) × (moment ≡ at + length_of between walk))
+ComesBy HasMembers between leasts part moment = (from : ℕ) × (at : ℕ) × PendsFirst leasts from at × (walk : Walk HasMembers from part) × (moment ≡ at + length_of between walk)
 
 -- The least of all these moments and of the one after the end: it is none later, and it is one of them.
 pub record IsHorizon (HasMembers : ℕ → Type 0) (between : ℕ → ℕ → ℕ) (leasts : List (Option ℕ)) (end part bound : ℕ) : Type 0 where

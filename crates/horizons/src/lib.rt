@@ -3,6 +3,13 @@
 #![tactic(auto)]
 
 mod direct;
+mod laws;
 mod least;
 mod lengths;
+mod making;
 mod settle;
+mod table;
+
+pub use laws::bounds_are_horizons;
+pub use making::horizons;
+pub use table::Horizons;
