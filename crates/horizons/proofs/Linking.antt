@@ -37,14 +37,14 @@ lesser_new : (o : Option ℕ) (d m : ℕ) → d ≤ m → IsAtMost (lesser_of o 
 lesser_new None d m most = most
 lesser_new (Some a) d m most = omega (arith, most)
 
-module _ (s : Setup) (division : ℕ → ℕ) (from to : ℕ) (old : List (Option ℕ)) (are : AreDirectUpTo s division from to old) where
+module _ (parts : ℕ) (s : Setup) (at_most_64 : parts ≤ 64) (division : ℕ → ℕ) (from to : ℕ) (old : List (Option ℕ)) (are : AreDirectUpTo parts s division from to old) where
   -- the link of members of one part is passed over
-  pub link_within : division from ≡ division to → division to < 64 → AreDirectUpTo s division from (to + 1) old
+  pub link_within : division from ≡ division to → division to < parts → AreDirectUpTo parts s division from (to + 1) old
   link_within same low = record {
     found = are.found;
-    few = λ i j before here. elim (one_more from to i j before) as (λ _. division j < 64) [
+    few = λ i j before here. elim (one_more from to i j before) as (λ _. division j < parts) [
       | inl a ↦ are.few i j a here
-      | inr b ↦ subst (λ m. division m < 64) (sym b.1) low
+      | inr b ↦ subst (λ m. division m < parts) (sym b.1) low
     ];
     lies = λ i j before here apart. elim (one_more from to i j before) as (λ _. IsAtMost (length_at old (division i) (division j)) (link_delay s i j)) [
       | inl a ↦ are.lies i j a here apart
@@ -52,26 +52,27 @@ module _ (s : Setup) (division : ℕ → ℕ) (from to : ℕ) (old : List (Optio
     ];
   }
 
-  pub link_taken : (new : List (Option ℕ)) (p q d : ℕ) → from < member_count s → to < member_count s → division from ≡ p → division to ≡ q → p ≢ q → q < 64 → d ≡ link_delay s from to
-      → IsWritten p q (lesser_of (length_at old p q) (Some d)) old new → AreDirectUpTo s division from (to + 1) new
+  pub link_taken : (new : List (Option ℕ)) (p q d : ℕ) → from < member_count s → to < member_count s → division from ≡ p → division to ≡ q → p ≢ q → q < parts → d ≡ link_delay s from to
+      → IsWritten p q (lesser_of (length_at old p q) (Some d)) old new → AreDirectUpTo parts s division from (to + 1) new
   link_taken new p q d here there of_from of_to apart low delay written =
       let lesser = lesser_of (length_at old p q) (Some d) in
+      let low_place : q < 64 = omega arith in
       let lowers : (x y m : ℕ) → y < 64 → IsAtMost (length_at old x y) m → IsAtMost (length_at new x y) m = λ x y m below most.
           at_each p q lesser old new written (λ x y o. (m : ℕ) → IsAtMost (length_at old x y) m → IsAtMost o m) (λ m most. lesser_old (length_at old p q) d m most) (λ x y below m most. most) x y below m most in
       record {
         found = λ x y n left below has.
             at_each p q lesser old new written (λ x y o. (n : ℕ) → x < 64 → o ≡ Some n → (x ≢ y) × IsDelayBetween s division x y n)
                 (λ n left has. elim (lesser_is (length_at old p q) d n has) as (λ _. (p ≢ q) × IsDelayBetween s division p q n) [
-                  | inl a ↦ are.found p q n left low a
+                  | inl a ↦ are.found p q n left (omega arith) a
                   | inr b ↦ (apart, (from, to, here, there, of_from, of_to, sym delay ∙ sym b))
                 ])
                 (λ x y below n left has. are.found x y n left below has) x y below n left has;
-        few = λ i j before within. elim (one_more from to i j before) as (λ _. division j < 64) [
+        few = λ i j before within. elim (one_more from to i j before) as (λ _. division j < parts) [
           | inl a ↦ are.few i j a within
-          | inr b ↦ subst (λ m. m < 64) (sym of_to ∙ ap division (sym b.1)) low
+          | inr b ↦ subst (λ m. m < parts) (sym of_to ∙ ap division (sym b.1)) low
         ];
         lies = λ i j before within other. elim (one_more from to i j before) as (λ _. IsAtMost (length_at new (division i) (division j)) (link_delay s i j)) [
-          | inl a ↦ lowers (division i) (division j) (link_delay s i j) (are.few i j a within) (are.lies i j a within other)
+          | inl a ↦ lowers (division i) (division j) (link_delay s i j) (omega (arith, are.few i j a within)) (are.lies i j a within other)
           | inr b ↦ (
               let least : IsAtMost (length_at new p q) (link_delay s from to) = subst (λ o. IsAtMost o (link_delay s from to)) (sym written.here) (lesser_new (length_at old p q) d (link_delay s from to) (omega arith)) in
               subst (λ m. IsAtMost (length_at new (division m) (division j)) (link_delay s m j)) (sym b.0)
@@ -81,8 +82,8 @@ module _ (s : Setup) (division : ℕ → ℕ) (from to : ℕ) (old : List (Optio
       }
 
 -- after the pairs of one sender come those of the next
-pub next_sender : (s : Setup) (division : ℕ → ℕ) (from to : ℕ) (lengths : List (Option ℕ)) → to ≡ member_count s → AreDirectUpTo s division from to lengths → AreDirectUpTo s division (from + 1) 0 lengths
-next_sender s division from to lengths all are =
+pub next_sender : (parts : ℕ) (s : Setup) (division : ℕ → ℕ) (from to : ℕ) (lengths : List (Option ℕ)) → to ≡ member_count s → AreDirectUpTo parts s division from to lengths → AreDirectUpTo parts s division (from + 1) 0 lengths
+next_sender parts s division from to lengths all are =
     let before : (i j : ℕ) → ComesBefore (from + 1) 0 i j → j < member_count s → ComesBefore from to i j = λ i j before within. earlier i j before (omega arith) in
     record { found = are.found; few = λ i j b within. are.few i j (before i j b within) within; lies = λ i j b within apart. are.lies i j (before i j b within) within apart }
   where
@@ -91,8 +92,8 @@ next_sender s division from to lengths all are =
   earlier i j (inr (same, none)) within = absurd (omega (arith, none))
 
 -- before any pair nothing is said of an empty table
-pub none_taken : (s : Setup) (division : ℕ → ℕ) (lengths : List (Option ℕ)) → ((p q : ℕ) → length_at lengths p q ≡ None) → AreDirectUpTo s division 0 0 lengths
-none_taken s division lengths none = record {
+pub none_taken : (parts : ℕ) (s : Setup) (division : ℕ → ℕ) (lengths : List (Option ℕ)) → ((p q : ℕ) → length_at lengths p q ≡ None) → AreDirectUpTo parts s division 0 0 lengths
+none_taken parts s division lengths none = record {
   found = λ p q n left below has. absurd (let no = none p q in absent p q n (none p q) has);
   few = λ i j before within. absurd (nobody i j before);
   lies = λ i j before within apart. absurd (nobody i j before);
@@ -106,12 +107,12 @@ none_taken s division lengths none = record {
   absent p q n none has = cc
 
 -- all pairs taken: what lies between two parts is what stands for them
-module _ (s : Setup) (sound : IsSound s) (division : ℕ → ℕ) (lengths : List (Option ℕ)) (are : AreDirectUpTo s division (member_count s) 0 lengths) where
+module _ (parts : ℕ) (at_most_64 : parts ≤ 64) (s : Setup) (sound : IsSound s) (division : ℕ → ℕ) (lengths : List (Option ℕ)) (are : AreDirectUpTo parts s division (member_count s) 0 lengths) where
   abbrev pub between : ℕ → ℕ → ℕ
   between p q = unwrap_or (length_at lengths p q) 0
 
-  few : (p : ℕ) → IsPeopled s division p → p < 64
-  few p (m, within, is) = subst (λ x. x < 64) is (are.few m m (inl within) within)
+  few : (p : ℕ) → IsPeopled s division p → p < parts
+  few p (m, within, is) = subst (λ x. x < parts) is (are.few m m (inl within) within)
 
   -- what stands between two different parts
   Stands : ℕ → ℕ → Type 0
@@ -127,7 +128,7 @@ module _ (s : Setup) (sound : IsSound s) (division : ℕ → ℕ) (lengths : Lis
       let at : IsAtMost (length_at lengths (division begins.0) (division ends.0)) (link_delay s begins.0 ends.0) =
           are.lies begins.0 ends.0 (inl begins.1) ends.1 (λ same. apart (sym begins.2 ∙ same ∙ ends.2)) in
       let here = subst (λ x. IsAtMost (length_at lengths x q) (link_delay s begins.0 ends.0)) begins.2 (subst (λ y. IsAtMost (length_at lengths (division begins.0) y) (link_delay s begins.0 ends.0)) ends.2 at) in
-      stands_by p q (link_delay s begins.0 ends.0) (length_at lengths p q) (few p begins) (few q ends) refl here
+      stands_by p q (link_delay s begins.0 ends.0) (length_at lengths p q) (omega (arith, few p begins)) (omega (arith, few q ends)) refl here
 
   up_to_default : (o : Option ℕ) (d : ℕ) → IsAtMost o d → unwrap_or o 0 ≤ d
   up_to_default None d most = absurd most
@@ -151,9 +152,10 @@ module _ (s : Setup) (sound : IsSound s) (division : ℕ → ℕ) (lengths : Lis
         omega arith,
       )
 
-  pub direct_walks : AreLengthsOfWalks s division between lengths
+  pub direct_walks : AreLengthsOfWalks parts s division between lengths
   unfolding Stands
   direct_walks = record {
+    at_most_64 = at_most_64;
     few = few;
     near = λ p q apart begins ends.
         let is = stands p q apart begins ends in

@@ -8,8 +8,8 @@ use Rattle.horizons.specs.Lengths.{length_at, IsSettledAt}
 use Rattle.horizons.specs.Walks.{IsLeastWalk, AreLengthsOfWalks}
 use Rattle.horizons.proofs.LeastOf.{no_more, sums_of}
 
-module _ (s : Setup) (division : ℕ → ℕ) (between : ℕ → ℕ → ℕ) (lengths : List (Option ℕ)) (are : AreLengthsOfWalks s division between lengths)
-    (settled : (from to : ℕ) → from < 64 → to < 64 → IsSettledAt lengths from to) (to : ℕ) (there : to < 64) where
+module _ (parts : ℕ) (s : Setup) (division : ℕ → ℕ) (between : ℕ → ℕ → ℕ) (lengths : List (Option ℕ)) (are : AreLengthsOfWalks parts s division between lengths)
+    (settled : (from to : ℕ) → from < parts → to < 64 → IsSettledAt parts lengths from to) (to : ℕ) (there : to < 64) where
   up_to_walk : (rest : List ℕ) (part next : ℕ) → IsPeopled s division part → IsWalk (IsPeopled s division) part (next ∷ rest) → walk_end next rest ≡ to
       → IsAtMost (length_at lengths part to) (walk_length between part (next ∷ rest))
   up_to_walk [] part next begins walk ends =

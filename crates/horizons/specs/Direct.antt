@@ -19,8 +19,8 @@ abbrev pub ComesBefore : ℕ → ℕ → ℕ → ℕ → Type 0
 ComesBefore from to i j = (i < from) ⊎ ((i ≡ from) × (j < to))
 
 -- Between two different parts stands the delay of a link, which is no more than that of any link of the pairs of members
--- that come before this pair. Of these pairs' receivers the parts are among 64.
-pub record AreDirectUpTo (s : Setup) (division : ℕ → ℕ) (from to : ℕ) (lengths : List (Option ℕ)) : Type 0 where
+-- that come before this pair. Of these pairs' receivers the parts are among so many.
+pub record AreDirectUpTo (parts : ℕ) (s : Setup) (division : ℕ → ℕ) (from to : ℕ) (lengths : List (Option ℕ)) : Type 0 where
   pub found : (p q n : ℕ) → p < 64 → q < 64 → length_at lengths p q ≡ Some n → (p ≢ q) × IsDelayBetween s division p q n
-  pub few : (i j : ℕ) → ComesBefore from to i j → j < member_count s → division j < 64
+  pub few : (i j : ℕ) → ComesBefore from to i j → j < member_count s → division j < parts
   pub lies : (i j : ℕ) → ComesBefore from to i j → j < member_count s → division i ≢ division j → IsAtMost (length_at lengths (division i) (division j)) (link_delay s i j)

@@ -18,6 +18,6 @@ weight_of (Some n) = n
 abbrev pub weight : List (Option ℕ) → ℕ
 weight lengths = sum_by weight_of lengths
 
--- by way of no third part is it shorter
-abbrev pub IsSettledAt : List (Option ℕ) → ℕ → ℕ → Type 0
-IsSettledAt lengths from to = (way n : ℕ) → way < 64 → sum_of (length_at lengths from way) (length_at lengths way to) ≡ Some n → IsAtMost (length_at lengths from to) n
+-- by way of none of so many parts is it shorter
+abbrev pub IsSettledAt : ℕ → List (Option ℕ) → ℕ → ℕ → Type 0
+IsSettledAt parts lengths from to = (way n : ℕ) → way < parts → sum_of (length_at lengths from way) (length_at lengths way to) ≡ Some n → IsAtMost (length_at lengths from to) n

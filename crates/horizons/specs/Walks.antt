@@ -29,9 +29,10 @@ pub record AreWalksOf (t : Table) (s : Setup) (division : ℕ → ℕ) (between 
   pub least : (from to : ℕ) → from < t.parts → to < t.parts → IsLeastWalk (IsPeopled s division) between from to (length_at t.lengths from to)
 
 -- What holds of the lengths while they are made: each is the length of a walk, and between different parts none is
--- more than what lies between them. Parts with members are among 64, and no more than 2^20 lies between them.
-pub record AreLengthsOfWalks (s : Setup) (division : ℕ → ℕ) (between : ℕ → ℕ → ℕ) (lengths : List (Option ℕ)) : Type 0 where
-  pub few : (part : ℕ) → IsPeopled s division part → part < 64
+-- more than what lies between them. Parts with members are among so many, and no more than 2^20 lies between them.
+pub record AreLengthsOfWalks (parts : ℕ) (s : Setup) (division : ℕ → ℕ) (between : ℕ → ℕ → ℕ) (lengths : List (Option ℕ)) : Type 0 where
+  pub at_most_64 : parts ≤ 64
+  pub few : (part : ℕ) → IsPeopled s division part → part < parts
   pub near : (from to : ℕ) → from ≢ to → IsPeopled s division from → IsPeopled s division to → between from to ≤ 2 ^ 20
   pub walked : (from to n : ℕ) → from < 64 → to < 64 → length_at lengths from to ≡ Some n → IsLengthOfAWalk (IsPeopled s division) between from to n
   pub direct : (from to : ℕ) → from ≢ to → IsPeopled s division from → IsPeopled s division to → IsAtMost (length_at lengths from to) (between from to)

@@ -20,7 +20,7 @@ pub(crate) fn direct_lengths(
     requires few { length division.now.part_of ≤ 1024 }
     requires parts { division.now.parts ≤ 64 }
     ensures { IfOk result (λ lengths. (s : Setup) → BelongTo links.now division.now s
-        → AreDirectUpTo s (part_number division.now) (member_count s) 0 lengths) }
+        → AreDirectUpTo division.now.parts s (part_number division.now) (member_count s) 0 lengths) }
 {
     let mut lengths = Lengths::new(alloc)?;
     for from in 0..division.members() {
@@ -35,8 +35,8 @@ fn take_links_from(lengths: &mut Lengths, division: &Division, links: &Links, fr
     requires parts { division.now.parts ≤ 64 }
     requires from { from < length division.now.part_of }
     ensures { (s : Setup) → BelongTo links.now division.now s
-        → AreDirectUpTo s (part_number division.now) from 0 lengths.old
-        → AreDirectUpTo s (part_number division.now) (from + 1) 0 lengths.new }
+        → AreDirectUpTo division.now.parts s (part_number division.now) from 0 lengths.old
+        → AreDirectUpTo division.now.parts s (part_number division.now) (from + 1) 0 lengths.new }
 {
     for to in 0..division.members() {
         take_link(lengths, division, links, from, to);
@@ -50,8 +50,8 @@ fn take_link(lengths: &mut Lengths, division: &Division, links: &Links, from: us
     requires from { from < length division.now.part_of }
     requires to { to < length division.now.part_of }
     ensures { (s : Setup) → BelongTo links.now division.now s
-        → AreDirectUpTo s (part_number division.now) from to lengths.old
-        → AreDirectUpTo s (part_number division.now) from (to + 1) lengths.new }
+        → AreDirectUpTo division.now.parts s (part_number division.now) from to lengths.old
+        → AreDirectUpTo division.now.parts s (part_number division.now) from (to + 1) lengths.new }
 {
     let sender = MemberId(from as u16);
     let receiver = MemberId(to as u16);

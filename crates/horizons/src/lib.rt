@@ -9,6 +9,8 @@ mod lengths;
 mod making;
 mod settle;
 mod table;
+#[cfg(test)]
+mod tests;
 
 pub use laws::bounds_are_horizons;
 pub use making::horizons;

@@ -29,6 +29,6 @@ pub fn horizons(
     let _members = scenario.members();
     let parts = division.parts();
     let mut lengths = direct_lengths(alloc, division, links)?;
-    settle(&mut lengths);
+    settle(&mut lengths, parts);
     Ok(Horizons { parts, lengths })
 }

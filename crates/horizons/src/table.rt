@@ -32,6 +32,14 @@ impl Model for Horizons {
 }
 
 impl Horizons {
+    /// How many parts there are.
+    pub fn parts(&self) -> usize
+        ensures value { result ≡ self.now.parts }
+        ensures at_most_64 { result ≤ 64 }
+    {
+        self.parts
+    }
+
     /// The length of the least walk from one part to another, or back to it, in ticks: what a message
     /// needs at least that goes from a member of the one to a member of the other, handed on by
     /// members of any other parts. None where there is no walk: where one of the two has no members,

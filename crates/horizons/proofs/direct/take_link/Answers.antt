@@ -15,7 +15,7 @@ returns-then-from_part-to_part c =
     let of_from : part_number deal c.args.from ≡ c.part-from_part.result = ap (λ o. unwrap_or o deal.parts) c.part-from_part.ensures.value in
     let of_to : part_number deal c.args.to ≡ c.part-to_part.result = ap (λ o. unwrap_or o deal.parts) c.part-to_part.ensures.value in
     λ s belong are.
-        link_within s (part_number deal) c.args.from c.args.to c.args.lengths.now are (of_from ∙ c.if-from_part-to_part.true ∙ sym of_to)
+        link_within deal.parts s c.requires.parts (part_number deal) c.args.from c.args.to c.args.lengths.now are (of_from ∙ c.if-from_part-to_part.true ∙ sym of_to)
         (omega (arith, of_to, c.part-to_part.ensures.below))
 
 pub returns : goal.returns
@@ -33,5 +33,5 @@ returns c =
     λ s belong are.
         let here : from < member_count s = omega (arith, c.requires.from, belong.one_each) in
         let there : to < member_count s = omega (arith, c.requires.to, belong.one_each) in
-        link_taken s (part_number deal) from to old are c.put.new.self p q c.delay.result here there of_from of_to c.if-from_part-to_part.false
+        link_taken deal.parts s c.requires.parts (part_number deal) from to old are c.put.new.self p q c.delay.result here there of_from of_to c.if-from_part-to_part.false
         (omega (arith, c.part-to_part.ensures.below)) (c.delay.ensures.value s belong.serve here there) written

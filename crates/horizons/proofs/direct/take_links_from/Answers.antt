@@ -7,4 +7,4 @@ use Rattle.horizons.proofs.direct.take_links_from.Goals as goal
 pub returns : goal.returns
 returns c = λ s belong are.
     let all : c.loop-to.to ≡ member_count s = omega (arith, belong.one_each) in
-    next_sender s (part_number c.args.division.now) c.args.from c.loop-to.to c.loop-to.lengths all (c.loop-to.invariant s belong are)
+    next_sender c.args.division.now.parts s (part_number c.args.division.now) c.args.from c.loop-to.to c.loop-to.lengths all (c.loop-to.invariant s belong are)

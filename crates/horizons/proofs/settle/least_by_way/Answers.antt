@@ -13,5 +13,5 @@ loop-way-preserved c =
 pub returns : goal.returns
 returns c =
     let by_way : ℕ → Option ℕ = λ way. sum_of (length_at c.args.lengths.now c.args.from way) (length_at c.args.lengths.now way c.args.to) in
-    let all : c.loop-way.way ≡ 64 = omega arith in
+    let all : c.loop-way.way ≡ c.args.parts = omega arith in
     subst (λ k. IsLeastOf by_way k c.loop-way.least) all c.loop-way.invariant

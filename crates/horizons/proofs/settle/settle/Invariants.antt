@@ -5,7 +5,7 @@ use Rattle.horizons.specs.Walks.{AreLengthsOfWalks}
 use Rattle.horizons.proofs.settle.settle.Given as goal
 
 abbrev pub invariant-loop : goal.invariant-loop
-invariant-loop l = (s : Setup) (division : ℕ → ℕ) (between : ℕ → ℕ → ℕ) → AreLengthsOfWalks s division between l.fn.lengths → AreLengthsOfWalks s division between l.lengths
+invariant-loop l = (s : Setup) (division : ℕ → ℕ) (between : ℕ → ℕ → ℕ) → AreLengthsOfWalks l.parts s division between l.fn.lengths → AreLengthsOfWalks l.parts s division between l.lengths
 
 abbrev pub decreases-loop : goal.decreases-loop
 decreases-loop l = weight l.lengths

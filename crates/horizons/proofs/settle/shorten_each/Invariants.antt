@@ -6,14 +6,14 @@ use Rattle.horizons.specs.Walks.{AreLengthsOfWalks}
 use Rattle.horizons.proofs.settle.shorten_each.Given as goal
 
 -- up to a place, no length can be made less, and none was
-pub record IsSettledUpTo (place : ℕ) (before lengths : List (Option ℕ)) : Type 0 where
+pub record IsSettledUpTo (parts place : ℕ) (before lengths : List (Option ℕ)) : Type 0 where
   pub same : lengths ≡ before
-  pub settled : (from to : ℕ) → from < 64 → to < 64 → 64 * from + to < place → IsSettledAt before from to
+  pub settled : (from to : ℕ) → from < parts → to < 64 → 64 * from + to < place → IsSettledAt parts before from to
 
 abbrev pub invariant-loop-place : goal.invariant-loop-place
 invariant-loop-place l = record {
-  walks : (s : Setup) (division : ℕ → ℕ) (between : ℕ → ℕ → ℕ) → AreLengthsOfWalks s division between l.fn.lengths → AreLengthsOfWalks s division between l.lengths;
-  settled : OnFalse l.shortened (IsSettledUpTo l.place l.fn.lengths l.lengths);
+  walks : (s : Setup) (division : ℕ → ℕ) (between : ℕ → ℕ → ℕ) → AreLengthsOfWalks l.parts s division between l.fn.lengths → AreLengthsOfWalks l.parts s division between l.lengths;
+  settled : OnFalse l.shortened (IsSettledUpTo l.parts l.place l.fn.lengths l.lengths);
   less : OnTrue l.shortened (weight l.lengths < weight l.fn.lengths);
   no_more : weight l.lengths ≤ weight l.fn.lengths;
 }
