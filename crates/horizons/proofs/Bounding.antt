@@ -1,10 +1,7 @@
 -- The bound that is made of the least walks is the horizon, and horizons of all parts are horizons of the cluster.
-use Rattle.std.proofs.Common.{◌≡◌, ℕ, ◌+◌, ◌-◌, ◌^◌, ◌<◌, ◌≤◌, ◌⊎◌, inl, inr, min, List, length, get_or, Option, Some, None, refl, sym, ap, ◌∙◌, subst, arith}
-use Rattle.std.specs.List.{slice_get}
+use Rattle.std.proofs.Common.{◌≡◌, ℕ, ◌+◌, ◌-◌, ◌^◌, ◌<◌, ◌≤◌, ◌⊎◌, inl, inr, min, List, length, get_or, Option, Some, None, refl, ap, ◌∙◌, subst, arith}
 use Rattle.std.proofs.lemmas.Bool.{cases_lt}
 use Rattle.std.proofs.lemmas.Option.{slice_get_within, slice_get-get_or, get_or_from_slice_get}
-use Rattle.base.specs.declared.key.Key.{Key}
-use Rattle.base.specs.World.{IsPending}
 use Rattle.scenario.specs.Setup.{Setup}
 use Rattle.member_laws.specs.Runs.{Cluster}
 use Rattle.windows.specs.Cluster.{IsPeopled}
@@ -12,7 +9,7 @@ use Rattle.windows.specs.Horizon.{Walk, length_of, AreHorizons}
 use Rattle.horizons.specs.Least.{IsLeastOf, sum_of}
 use Rattle.horizons.specs.Lengths.{length_at}
 use Rattle.horizons.specs.Walks.{Table, AreWalksOf, IsLengthOfAWalk, IsLeastWalk}
-use Rattle.horizons.specs.Bounds.{PendsFirst, ComesBy, IsHorizon, NonePendsEarlier}
+use Rattle.horizons.specs.Bounds.{ComesBy, IsHorizon, NonePendsEarlier}
 use Rattle.horizons.proofs.LeastOf.{parts_of_sum}
 use Rattle.horizons.proofs.Joining.{ends_peopled}
 
@@ -55,8 +52,8 @@ module _ (s : Setup) (division : ℕ → ℕ) (between : ℕ → ℕ → ℕ) (t
       reached = inl refl;
     }
       where
-      absent : (from n : ℕ) → from < length leasts → coming from ≡ Some n → ⊥
-      absent from n within is = let no : coming from ≡ None = none from within in cc
+        absent : (from n : ℕ) → from < length leasts → coming from ≡ Some n → ⊥
+        absent from n within is = let no : coming from ≡ None = none from within in cc
 
     pub first_comes : (d : ℕ) → IsLeastOf coming (length leasts) (Some d) → IsHorizon (IsPeopled s division) between leasts end part (min d (end + 1))
     first_comes d least = record {

@@ -5,3 +5,4 @@ pub mod Shortening
 pub mod Shortest
 pub mod Linking
 pub mod Bounding
+pub mod Progress

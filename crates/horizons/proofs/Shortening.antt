@@ -1,9 +1,8 @@
 -- A length that is made that of a way by another part.
-use Rattle.std.proofs.Common.{◌≡◌, ◌≢◌, ℕ, ◌+◌, ◌-◌, ◌^◌, ◌<◌, ◌≤◌, ◌⊎◌, inl, inr, min, Bool, true, false, nat_lt, List, Option, Some, None, refl, sym, ap, ◌∙◌, subst, arith}
+use Rattle.std.proofs.Common.{◌≡◌, ◌≢◌, ℕ, ◌+◌, ◌^◌, ◌<◌, ◌≤◌, inl, inr, true, List, Option, Some, None, refl, sym, ap, ◌∙◌, subst, arith}
 use Rattle.std.proofs.lemmas.Bool.{cases_eq, false≢true, ltb-true}
 use Rattle.scenario.specs.Setup.{Setup}
 use Rattle.windows.specs.Cluster.{IsPeopled}
-use Rattle.windows.specs.Horizon.{Walk}
 use Rattle.horizons.specs.Least.{IsLeastOf, IsAtMost, sum_of, is_less}
 use Rattle.horizons.specs.Lengths.{length_at}
 use Rattle.horizons.specs.Walks.{IsLengthOfAWalk, AreLengthsOfWalks}
@@ -55,7 +54,7 @@ module _ (parts : ℕ) (s : Setup) (division : ℕ → ℕ) (between : ℕ → �
         let other = small way to of.other low_way there of.second in
         let sum : of.one + of.other ≡ n = omega (arith, of.sum) in
         subst (IsLengthOfAWalk (IsPeopled s division) between from to) sum
-            (joined_lengths between (IsPeopled s division) from way to of.one of.other (are.walked from way of.one here low_way of.first) (are.walked way to of.other low_way there of.second))
+        (joined_lengths between (IsPeopled s division) from way to of.one of.other (are.walked from way of.one here low_way of.first) (are.walked way to of.other low_way there of.second))
 
     -- a way back to the same part that is less than what stood goes by another part
     way_back : from ≡ to → is_less (Some n) (length_at old from to) ≡ true → n ≤ 2 ^ 21
@@ -81,16 +80,16 @@ module _ (parts : ℕ) (s : Setup) (division : ℕ → ℕ) (between : ℕ → �
       near = are.near;
       walked = λ p q m low below has.
           at_each from to (Some n) old new written (λ p q o. (m : ℕ) → p < 64 → o ≡ Some m → IsLengthOfAWalk (IsPeopled s division) between p q m)
-              (λ m low has. subst (IsLengthOfAWalk (IsPeopled s division) between from to) (sym (some_same n m has)) (way_walked from to way n here there by is))
-              (λ p q below m low has. are.walked p q m low below has) p q below m low has;
+          (λ m low has. subst (IsLengthOfAWalk (IsPeopled s division) between from to) (sym (some_same n m has)) (way_walked from to way n here there by is))
+          (λ p q below m low has. are.walked p q m low below has) p q below m low has;
       direct = λ p q apart begins ends.
           at_each from to (Some n) old new written (λ p q o. p ≢ q → IsPeopled s division p → IsPeopled s division q → IsAtMost o (between p q))
-              (λ apart begins ends. less_than (length_at old from to) n (between from to) less (are.direct from to apart begins ends))
-              (λ p q below apart begins ends. are.direct p q apart begins ends) p q (omega (arith, are.few q ends, are.at_most_64)) apart begins ends;
+          (λ apart begins ends. less_than (length_at old from to) n (between from to) less (are.direct from to apart begins ends))
+          (λ p q below apart begins ends. are.direct p q apart begins ends) p q (omega (arith, are.few q ends, are.at_most_64)) apart begins ends;
       back = λ p m low has.
           at_each from to (Some n) old new written (λ p q o. p ≡ q → (m : ℕ) → p < 64 → o ≡ Some m → m ≤ 2 ^ 21)
-              (λ same m low has. let few = way_back from to way n here there by is same less in let e = some_same n m has in omega arith)
-              (λ p q below same m low has. small p q m low below has) p p low refl m low has;
+          (λ same m low has. let few = way_back from to way n here there by is same less in let e = some_same n m has in omega arith)
+          (λ p q below same m low has. small p q m low below has) p p low refl m low has;
     }
 
     pub shortened : (way : Option ℕ) → IsLeastOf (λ way. sum_of (length_at old from way) (length_at old way to)) parts way → is_less way (length_at old from to) ≡ true → IsWritten from to way old new

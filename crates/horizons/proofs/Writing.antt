@@ -16,9 +16,9 @@ module _ (from to : ℕ) (length : Option ℕ) (old new : List (Option ℕ)) (wr
   told : (p q : ℕ) → q < 64 → Told p q
   told p q below = elim (cases_eq p from) as (λ _. Told p q) [
     | inl a ↦ elim (cases_eq q to) as (λ _. Told p q) [
-        | inl b ↦ inl (a, b)
-        | inr b ↦ inr (written.others p q below (λ both. b both.1))
-      ]
+      | inl b ↦ inl (a, b)
+      | inr b ↦ inr (written.others p q below (λ both. b both.1))
+    ]
     | inr a ↦ inr (written.others p q below (λ both. a both.0))
   ]
 

@@ -1,5 +1,5 @@
 -- A table of lengths from each of 64 parts to each.
-use Rattle.std.specs.Prelude.{◌≡◌, ℕ, ◌+◌, ◌*◌, ◌^◌, ◌<◌, List, length, slice_index_or, sum_by, Option, Some, None}
+use Rattle.std.specs.Prelude.{◌≡◌, ℕ, ◌+◌, ◌*◌, ◌^◌, ◌<◌, List, slice_index_or, sum_by, Option, Some, None}
 use Rattle.horizons.specs.declared.lengths.Lengths.TheInside.{Inside}
 use Rattle.horizons.specs.Least.{sum_of, IsAtMost}
 

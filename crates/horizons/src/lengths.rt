@@ -1,8 +1,5 @@
 ghost use Rattle.std.specs.Prelude.{◌≡◌, ℕ, ◌+◌, ◌*◌, ◌^◌, ◌<◌, length, IfOk, Some, None};
-
-
 ghost use Rattle.horizons.specs.Lengths.{length_at, weight_of, weight};
-
 
 use base::Memory;
 use std::alloc::Global;

@@ -11,7 +11,10 @@ mod settle;
 mod table;
 #[cfg(test)]
 mod tests;
+mod twins;
 
-pub use laws::bounds_are_horizons;
+pub use laws::{
+    bounds_are_horizons, bounds_are_past_the_first_moment, parts_with_members_have_walks,
+};
 pub use making::horizons;
 pub use table::Horizons;

@@ -7,13 +7,15 @@ ghost use Rattle.horizons.specs.Walks.{AreWalksOf};
 use crate::direct::direct_lengths;
 use crate::settle::settle;
 use crate::table::Horizons;
+use crate::twins::twins_before;
 use base::Memory;
 use links::Links;
 use scenario::{Division, Scenario};
 use std::alloc::Global;
 
 /// The least walks of links among the parts of a scenario's members, or `Memory` where it was refused.
-/// It goes over all pairs of members once.
+/// It goes once over all pairs of members that have no twin, one of the same group and part, before
+/// them.
 pub fn horizons(
     alloc: Global,
     scenario: &Scenario,
@@ -26,9 +28,9 @@ pub fn horizons(
     ensures walks { IfOk result (λ horizons. (between : ℕ → ℕ → ℕ) × IsLeastBetween scenario.now (part_number division.now) between
         × AreWalksOf horizons scenario.now (part_number division.now) between) }
 {
-    let _members = scenario.members();
+    let twins = twins_before(alloc, scenario, division)?;
     let parts = division.parts();
-    let mut lengths = direct_lengths(alloc, division, links)?;
+    let mut lengths = direct_lengths(alloc, division, links, twins.as_slice())?;
     settle(&mut lengths, parts);
     Ok(Horizons { parts, lengths })
 }

@@ -163,9 +163,7 @@ fn moment(ticks: Option<u64>) -> Option<Moment> {
 
 /// The scenario of a text.
 fn scenario_of(alloc: Global, rt: &impl Abort, text: &str) -> Scenario {
-    let text = format!(in alloc; "{HEAD}{text}")
-        .ok()
-        .expect(rt, "memory");
+    let text = format!(in alloc; "{HEAD}{text}").ok().expect(rt, "memory");
     read(alloc, text.as_bytes()).ok().expect(rt, "accepted")
 }
 
@@ -221,8 +219,14 @@ fn each_of_64_parts_has_a_walk_to_each(rt: HostRuntime) {
     let made = horizons_of(rt.alloc(), &rt, MANY, 64, &part_of);
     assert!(rt; made.parts() == 64);
     for part in 0..64 {
-        assert_eq!(rt; made.walk(part, 63), Some(if part == 63 { 100 } else { 50 }));
-        assert_eq!(rt; made.walk(63, part), Some(if part == 63 { 100 } else { 50 }));
+        assert_eq!(rt;
+            made.walk(part, 63),
+            Some(if part == 63 { 100 } else { 50 })
+        );
+        assert_eq!(rt;
+            made.walk(63, part),
+            Some(if part == 63 { 100 } else { 50 })
+        );
     }
     let mut leasts = [None; 64];
     leasts[63] = Some(Moment(7));

@@ -1,4 +1,4 @@
-use Rattle.std.proofs.Common.{◌≡◌, ℕ, Option, Bool, true, false, sym, ap, ◌∙◌, arith}
+use Rattle.std.proofs.Common.{◌≡◌, ℕ, Option, true, false, sym, ap, ◌∙◌, arith}
 use Rattle.horizons.specs.Least.{sum_of, is_less}
 use Rattle.horizons.specs.Lengths.{length_at}
 use Rattle.horizons.proofs.LeastOf.{none_less, weighs_less}
@@ -17,8 +17,8 @@ returns-clause-walks c =
     let lengths = c.args.lengths.now in
     let less : is_less c.least_by_way-way.result (length_at lengths c.args.from c.args.to) ≡ true = ap (is_less c.least_by_way-way.result) (sym c.at.ensures) ∙ sym c.is_less.ensures ∙ c.if-not-is_less.false in
     λ s division between are.
-        shortened c.args.parts s division between lengths are c.put.new.self c.args.from c.args.to c.requires.from c.requires.to c.least_by_way-way.result c.least_by_way-way.ensures less
-        (record { here = c.put.ensures.here; others = c.put.ensures.others })
+    shortened c.args.parts s division between lengths are c.put.new.self c.args.from c.args.to c.requires.from c.requires.to c.least_by_way-way.result c.least_by_way-way.ensures less
+    (record { here = c.put.ensures.here; others = c.put.ensures.others })
 
 pub returns-clause-less : goal.returns-clause-less
 returns-clause-less c =

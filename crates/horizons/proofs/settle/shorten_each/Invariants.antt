@@ -1,4 +1,4 @@
-use Rattle.std.proofs.Common.{◌≡◌, ℕ, ◌+◌, ◌*◌, ◌<◌, ◌≤◌, Bool, true, false, List, Option}
+use Rattle.std.proofs.Common.{◌≡◌, ℕ, ◌+◌, ◌*◌, ◌<◌, ◌≤◌, List, Option}
 use Rattle.std.specs.Bool.{OnTrue, OnFalse}
 use Rattle.scenario.specs.Setup.{Setup}
 use Rattle.horizons.specs.Lengths.{weight, IsSettledAt}

@@ -1,4 +1,4 @@
-use Rattle.std.proofs.Common.{◌≡◌, ℕ, ◌+◌, ◌<◌, min, length, Some, None, sym, ap, ◌∙◌, subst, arith}
+use Rattle.std.proofs.Common.{◌≡◌, ◌+◌, ◌<◌, min, length, sym, subst, arith}
 use Rattle.windows.specs.Cluster.{IsPeopled}
 use Rattle.horizons.specs.Least.{IsLeastOf}
 use Rattle.horizons.specs.TableOf.{table_of}
@@ -17,7 +17,7 @@ returns-in-Some c = λ s division between are.
     let least = subst (IsLeastOf (coming s division between t walks leasts one_each c.args.part here) (length leasts)) c.in-Some.is c.first_to_come.ensures in
     let same : min c.in-Some.moment (c.args.end + 1) ≡ c.min.result = omega (arith, c.min.ensures, c.ticks-past_the_end.ensures) in
     subst (IsHorizon (IsPeopled s division) between leasts c.args.end c.args.part) same
-        (first_comes s division between t walks leasts one_each c.args.part here c.args.end c.requires.end c.in-Some.moment least)
+    (first_comes s division between t walks leasts one_each c.args.part here c.args.end c.requires.end c.in-Some.moment least)
 
 pub returns-in-None : goal.returns-in-None
 returns-in-None c = λ s division between are.
@@ -29,4 +29,4 @@ returns-in-None c = λ s division between are.
     let none = subst (IsLeastOf (coming s division between t walks leasts one_each c.args.part here) (length leasts)) c.in-None.is c.first_to_come.ensures in
     let same : c.args.end + 1 ≡ c.ticks-past_the_end.result + 1 = omega (arith, c.ticks-past_the_end.ensures) in
     subst (IsHorizon (IsPeopled s division) between leasts c.args.end c.args.part) same
-        (none_comes s division between t walks leasts one_each c.args.part here c.args.end c.requires.end none)
+    (none_comes s division between t walks leasts one_each c.args.part here c.args.end c.requires.end none)
