@@ -7,8 +7,8 @@ ghost use Rattle.windows.specs.Cluster.{IsPeopled};
 ghost use Rattle.horizons.specs.Between.{IsLeastBetween};
 ghost use Rattle.horizons.specs.Bounds.{IsHorizon, PendsFirst, NonePendsEarlier};
 
-/// Walks are between parts with members. There is one between any two, and back to a part where another
-/// part has members.
+/// Walks are between parts with members. There is one between any two, and back to a part where
+/// another part has members.
 pub fn parts_with_members_have_walks()
     ensures ends { (s : Setup) (division : ℕ → ℕ) (from to : ℕ) → Walk (IsPeopled s division) from to
         → IsPeopled s division from × IsPeopled s division to }
@@ -20,8 +20,8 @@ pub fn parts_with_members_have_walks()
         → (other : ℕ) × (part ≢ other) × IsPeopled s division other }
 {}
 
-/// Where nothing pends earlier than the least moments of the parts, the bounds that are made of these
-/// moments are horizons of the cluster. Of a part without members only the end is asked.
+/// Where nothing pends earlier than the least moments of the parts, the bounds that are made of
+/// these moments are horizons of the cluster. Of a part without members only the end is asked.
 pub fn bounds_are_horizons()
     ensures { (s : Setup) (division : ℕ → ℕ) (between : ℕ → ℕ → ℕ) (leasts : List (Option ℕ)) (bounds : ℕ → ℕ) (w : Cluster)
         → NonePendsEarlier division leasts w → ((part : ℕ) → bounds part ≤ s.end + 1)
@@ -29,8 +29,8 @@ pub fn bounds_are_horizons()
         → AreHorizons s.end division (IsPeopled s division) between bounds w }
 {}
 
-/// Each bound is past the first of all pending moments, where that is no later than the end: parts that
-/// run up to their bounds go on.
+/// Each bound is past the first of all pending moments, where that is no later than the end: parts
+/// that run up to their bounds go on.
 pub fn bounds_are_past_the_first_moment()
     ensures { (s : Setup) (division : ℕ → ℕ) (between : ℕ → ℕ → ℕ) (leasts : List (Option ℕ)) (end part bound first : ℕ)
         → IsSound s → IsLeastBetween s division between → IsHorizon (IsPeopled s division) between leasts end part bound

@@ -13,9 +13,9 @@ use links::Links;
 use scenario::{Division, Scenario};
 use std::alloc::Global;
 
-/// The least walks of links among the parts of a scenario's members, or `Memory` where it was refused.
-/// It goes once over all pairs of members that have no twin, one of the same group and part, before
-/// them.
+/// The least walks of links among the parts of a scenario's members, or `Memory` where it was
+/// refused. It goes once over all pairs of members that have no twin, one of the same group and
+/// part, before them.
 pub fn horizons(
     alloc: Global,
     scenario: &Scenario,

@@ -8,8 +8,8 @@ ghost use Rattle.horizons.specs.Walks.{AreLengthsOfWalks};
 use crate::least::{lesser, sum};
 use crate::lengths::{Lengths, MOST_PARTS};
 
-/// Makes each length the least by way of any of so many parts. Where no length can be made less by way of one
-/// part, none can be by way of several.
+/// Makes each length from one of so many parts to another that of the least walk, given those of
+/// one link. Where none can be made less by way of one part, none can be by way of several.
 pub(crate) fn settle(lengths: &mut Lengths, parts: usize)
     requires { parts ≤ 64 }
     ensures walks { (s : Setup) (division : ℕ → ℕ) (between : ℕ → ℕ → ℕ)

@@ -40,10 +40,10 @@ impl Horizons {
         self.parts
     }
 
-    /// The length of the least walk from one part to another, or back to it, in ticks: what a message
-    /// needs at least that goes from a member of the one to a member of the other, handed on by
-    /// members of any other parts. None where there is no walk: where one of the two has no members,
-    /// or only one part has. Takes no memory.
+    /// The length of the least walk from one part to another, or back to it, in ticks: what a
+    /// message needs at least that goes from a member of the one to a member of the other, handed
+    /// on by members of any other parts. None where there is no walk: where one of the two has no
+    /// members, or only one part has. Takes no memory.
     pub fn walk(&self, from: usize, to: usize) -> Option<u64>
         requires from { from < self.now.parts }
         requires to { to < self.now.parts }
@@ -57,9 +57,9 @@ impl Horizons {
         self.lengths.at(from, to)
     }
 
-    /// The moment up to which a part may run by itself, given the least pending moment of each part, or
-    /// None where nothing pends: before it, nothing can come to the part from what pends now. It is no
-    /// later than the moment after the end. Takes no memory.
+    /// The moment up to which a part may run by itself, given the least pending moment of each
+    /// part, or None where nothing pends: before it, nothing can come to the part from what pends
+    /// now. It is no later than the moment after the end. Takes no memory.
     pub fn bound(&self, part: usize, leasts: &[Option<Moment>], end: Moment) -> Moment
         requires part { part < self.now.parts }
         requires one_each { length leasts.now ≡ self.now.parts }

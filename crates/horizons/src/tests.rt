@@ -41,7 +41,8 @@ to = \"c\"
 delay = 20
 ";
 
-/// Two sites of two members each, with one way faster than the other, and the fastest within a site.
+/// Two sites of two members each, with one way faster than the other, and the fastest within a
+/// site.
 const PAIRS: &str = "[[group]]
 name = \"a\"
 count = 2

@@ -7,8 +7,8 @@ use base::{MemberId, Memory};
 use scenario::{Division, Scenario};
 use std::alloc::Global;
 
-/// Of each member, whether a twin stands before it: a member of its group and its part, whose links are
-/// as fast as its own. `Memory` where it was refused.
+/// Of each member, whether a twin stands before it: a member of its group and its part, whose links
+/// are as fast as its own. `Memory` where it was refused.
 pub(crate) fn twins_before(
     alloc: Global,
     scenario: &Scenario,
