@@ -1,0 +1,7 @@
+pub mod Least
+pub mod Lengths
+pub mod Between
+pub mod Walks
+pub mod TableOf
+pub mod Direct
+pub mod Bounds

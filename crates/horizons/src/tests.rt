@@ -1,0 +1,236 @@
+//! Divisions of few members, worked out by hand, and one of 64 parts.
+
+use crate::making::horizons;
+use crate::table::Horizons;
+use base::Moment;
+use links::Links;
+use scenario::{Division, Scenario, read};
+use std::alloc::Global;
+use std::process::Abort;
+
+/// What all texts begin with.
+const HEAD: &str = "version = 1
+seed = 7
+end = 0
+swim = { period = 1000, timeout = 300 }
+link = { delay = 50 }
+";
+
+/// Three sites of one member each: from the first to the third it is farther straight than by the
+/// second.
+const SITES: &str = "[[group]]
+name = \"a\"
+count = 1
+[[group]]
+name = \"b\"
+count = 1
+[[group]]
+name = \"c\"
+count = 1
+[[path]]
+from = \"a\"
+to = \"c\"
+delay = 100
+[[path]]
+from = \"a\"
+to = \"b\"
+delay = 10
+[[path]]
+from = \"b\"
+to = \"c\"
+delay = 20
+";
+
+/// Two sites of two members each, with one way faster than the other, and the fastest within a
+/// site.
+const PAIRS: &str = "[[group]]
+name = \"a\"
+count = 2
+[[group]]
+name = \"b\"
+count = 2
+[[path]]
+from = \"a\"
+to = \"b\"
+delay = 3
+[[path]]
+from = \"b\"
+to = \"a\"
+delay = 7
+[[path]]
+from = \"a\"
+to = \"a\"
+delay = 1
+";
+
+/// A site of 64 members.
+const MANY: &str = "[[group]]
+name = \"n\"
+count = 64
+";
+
+/// The scenario of a text, and its members' parts.
+#[derive(Clone, Copy)]
+struct Divided {
+    text: &'static str,
+    parts: usize,
+    part_of: &'static [u8],
+}
+
+const BY_SITES: Divided = Divided {
+    text: SITES,
+    parts: 3,
+    part_of: &[0, 1, 2],
+};
+
+/// Parts 1 and 4 have no members.
+const WITH_EMPTY: Divided = Divided {
+    text: SITES,
+    parts: 5,
+    part_of: &[0, 2, 3],
+};
+
+const TWO: Divided = Divided {
+    text: PAIRS,
+    parts: 2,
+    part_of: &[0, 0, 1, 1],
+};
+
+/// A member of each site in each part.
+const MIXED: Divided = Divided {
+    text: PAIRS,
+    parts: 2,
+    part_of: &[0, 1, 0, 1],
+};
+
+const ONE: Divided = Divided {
+    text: PAIRS,
+    parts: 1,
+    part_of: &[0, 0, 0, 0],
+};
+
+/// Only the second part has members.
+const ALONE: Divided = Divided {
+    text: PAIRS,
+    parts: 2,
+    part_of: &[1, 1, 1, 1],
+};
+
+/// A division, two parts, and the length of the least walk from the one to the other.
+const WALKS: [(Divided, usize, usize, Option<u64>); 22] = [
+    (BY_SITES, 0, 1, Some(10)),
+    (BY_SITES, 1, 2, Some(20)),
+    (BY_SITES, 0, 2, Some(30)),
+    (BY_SITES, 2, 0, Some(50)),
+    (BY_SITES, 0, 0, Some(60)),
+    (BY_SITES, 1, 1, Some(60)),
+    (BY_SITES, 2, 2, Some(70)),
+    (WITH_EMPTY, 0, 3, Some(30)),
+    (WITH_EMPTY, 0, 0, Some(60)),
+    (WITH_EMPTY, 0, 1, None),
+    (WITH_EMPTY, 1, 0, None),
+    (WITH_EMPTY, 4, 4, None),
+    (TWO, 0, 1, Some(3)),
+    (TWO, 1, 0, Some(7)),
+    (TWO, 0, 0, Some(10)),
+    (TWO, 1, 1, Some(10)),
+    (MIXED, 0, 1, Some(1)),
+    (MIXED, 0, 0, Some(2)),
+    (ONE, 0, 0, None),
+    (ALONE, 1, 1, None),
+    (ALONE, 0, 1, None),
+    (ALONE, 1, 0, None),
+];
+
+/// What is asked of the three sites: for which part, the least pending moment of each, the end, and
+/// the bound.
+const BOUNDS: [(usize, [Option<u64>; 3], u64, u64); 10] = [
+    (0, [Some(5), Some(5), Some(5)], 1000, 55),
+    (1, [Some(5), Some(5), Some(5)], 1000, 15),
+    (2, [Some(5), Some(5), Some(5)], 1000, 25),
+    (2, [Some(5), None, Some(40)], 1000, 35),
+    (2, [Some(5), None, None], 1000, 35),
+    (0, [Some(5), None, None], 1000, 65),
+    (0, [None, None, None], 1000, 1001),
+    (0, [Some(5), None, None], 64, 65),
+    (0, [Some(5), None, None], 63, 64),
+    (1, [Some(u64::MAX), None, None], 1 << 40, (1 << 40) + 1),
+];
+
+/// The moment after so many ticks, where there is one.
+fn moment(ticks: Option<u64>) -> Option<Moment> {
+    Some(Moment(ticks?))
+}
+
+/// The scenario of a text.
+fn scenario_of(alloc: Global, rt: &impl Abort, text: &str) -> Scenario {
+    let text = format!(in alloc; "{HEAD}{text}").ok().expect(rt, "memory");
+    read(alloc, text.as_bytes()).ok().expect(rt, "accepted")
+}
+
+/// The horizons of a division by these parts of the members.
+fn horizons_of(
+    alloc: Global,
+    rt: &impl Abort,
+    text: &str,
+    parts: usize,
+    part_of: &[u8],
+) -> Horizons {
+    let scenario = scenario_of(alloc, rt, text);
+    let part_of = part_of.to_vec(alloc).ok().expect(rt, "memory");
+    let division = Division::new(&scenario, parts, part_of)
+        .ok()
+        .expect(rt, "divided");
+    let links = Links::of(alloc, &scenario).ok().expect(rt, "memory");
+    assert_eq!(rt; division.members(), scenario.members());
+    horizons(alloc, &scenario, &division, &links)
+        .ok()
+        .expect(rt, "memory")
+}
+
+#[test]
+fn walks_are_least(rt: HostRuntime) {
+    for (case, from, to, wanted) in &WALKS {
+        let made = horizons_of(rt.alloc(), &rt, case.text, case.parts, case.part_of);
+        assert!(rt; *from < made.parts());
+        assert!(rt; *to < made.parts());
+        assert_eq!(rt; made.walk(*from, *to), *wanted, "from {from} to {to}");
+    }
+}
+
+#[test]
+fn bounds_are_least_arrivals(rt: HostRuntime) {
+    let made = horizons_of(rt.alloc(), &rt, SITES, 3, &[0, 1, 2]);
+    for (part, leasts, end, wanted) in &BOUNDS {
+        let leasts = [moment(leasts[0]), moment(leasts[1]), moment(leasts[2])];
+        assert!(rt; made.parts() == 3);
+        assert!(rt; *part < 3);
+        assert!(rt; *end <= 1 << 40);
+        let bound = made.bound(*part, &leasts, Moment(*end));
+        assert_eq!(rt; bound.ticks(), *wanted, "of {part}");
+    }
+}
+
+#[test]
+fn each_of_64_parts_has_a_walk_to_each(rt: HostRuntime) {
+    let mut part_of = [0; 64];
+    for part in 0..64u8 {
+        part_of[usize::from(part)] = part;
+    }
+    let made = horizons_of(rt.alloc(), &rt, MANY, 64, &part_of);
+    assert!(rt; made.parts() == 64);
+    for part in 0..64 {
+        assert_eq!(rt;
+            made.walk(part, 63),
+            Some(if part == 63 { 100 } else { 50 })
+        );
+        assert_eq!(rt;
+            made.walk(63, part),
+            Some(if part == 63 { 100 } else { 50 })
+        );
+    }
+    let mut leasts = [None; 64];
+    leasts[63] = Some(Moment(7));
+    assert_eq!(rt; made.bound(0, &leasts, Moment(1000)).ticks(), 57);
+    assert_eq!(rt; made.bound(63, &leasts, Moment(1000)).ticks(), 107);
+}
