@@ -4,8 +4,8 @@ use crate::tests::{Left, REPORTED, holds, left_by, older_files};
 use exchange::testing::{CRASH_DETECTED, JOIN, LOST_PATH, THREE_HELPERS, WORKED, Worked};
 use files::testing::Failing;
 use std::process::Abort;
-use std::test::Fail;
 use std::sync::Wait;
+use std::test::Fail;
 use std::thread::Threads;
 
 /// What the command leaves that runs this text, where an older trace and an older report stand.

@@ -1,6 +1,6 @@
 //! What holds of a run under every seed.
 
-use crate::sequential::{Summary, run_one, rows_of_whole};
+use crate::sequential::{Summary, rows_of_whole, run_one};
 use crate::testing::{LOST_PATH, SLOW_MEMBER, THREE_HELPERS};
 use base::{MemberId, Moment};
 use scenario::{Scenario, read};

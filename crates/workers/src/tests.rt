@@ -126,7 +126,15 @@ fn drive<'a, G: Gate>(
             Ok(parts) => parts,
             Err(Memory) => return Err(Fault::Memory),
         };
-        let done = match crew.run_windows(rt, alloc, parts, Moment(bound), window + 1, scenario, links) {
+        let done = match crew.run_windows(
+            rt,
+            alloc,
+            parts,
+            Moment(bound),
+            window + 1,
+            scenario,
+            links,
+        ) {
             Ok(done) => done,
             Err(fault) => return Err(fault),
         };
@@ -159,11 +167,20 @@ fn within<'a, G: Gate, R: Threads + Wait + Sync>(
             requires { IsSync R.row × IsSync G.row × AreLinksOf links.now scenario.now }
         {
             for worker in 0..workers {
-                if scope.spawn(move || work(rt, alloc, errands, awaited, gate, worker)).is_err() {
+                if scope
+                    .spawn(move || work(rt, alloc, errands, awaited, gate, worker))
+                    .is_err()
+                {
                     return Err(Fault::Relay);
                 }
             }
-            drive(rt, alloc, Crew::new(workers, sender, awaited, gate), scenario, links)
+            drive(
+                rt,
+                alloc,
+                Crew::new(workers, sender, awaited, gate),
+                scenario,
+                links,
+            )
         },
     )
 }
@@ -183,7 +200,9 @@ fn by_workers<G: Gate, R: Threads + Wait + Sync>(
     let Ok((sender, errands)) = bounded(alloc, 64) else {
         return Err(Fault::Memory);
     };
-    within(rt, alloc, workers, sender, &errands, &awaited, gate, scenario, links)
+    within(
+        rt, alloc, workers, sender, &errands, &awaited, gate, scenario, links,
+    )
 }
 
 /// The rows of all windows, one part after another.
