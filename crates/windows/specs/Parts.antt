@@ -64,7 +64,7 @@ pub record Window (S C R : Type 0) : Type 0 where
   pub rows : List R
   pub after : World S C
 
--- this is the window of that part of the world, below the part's bound
+-- this is the window of the part that it names, below that part's bound
 abbrev pub IsWindowOfItsPart : {S C R : Type 0} → Machine S C R → (ℕ → ℕ) → (ℕ → ℕ) → World S C → Window S C R → Type 0
 IsWindowOfItsPart step division bounds w d = PartWindow step (is_in division d.part) (bounds d.part) (part_of (is_in division d.part) w) d.keys d.out d.rows d.after
 
@@ -73,7 +73,7 @@ pub record IsCommonBound {S C : Type 0} (end : ℕ) (least_delay : Option ℕ) (
   pub in_time : bound ≤ end + 1
   pub near : IfSome least_delay (λ d. (q : Key) → IsPending w q → bound ≤ q.at + d)
 
--- the part has one of these windows
+-- one of these windows is the part's
 abbrev pub IncludesPart : {S C R : Type 0} → List (Window S C R) → ℕ → Type 0
 IncludesPart [] part = ⊥
 IncludesPart (d ∷ ds) part = (d.part ≡ part) ⊎ IncludesPart ds part
