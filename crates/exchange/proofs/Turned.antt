@@ -25,7 +25,7 @@ use Rattle.member.specs.StateOf.{pair_of}
 use Rattle.member_laws.specs.Runs.{Cluster, IsSoundCluster}
 use Rattle.windows.specs.declared.part.Part.{Part}
 use Rattle.windows.specs.declared.part.Done.{Done}
-use Rattle.windows.specs.Parts.{Window, IsWindowOf, part_of, is_in, for_own, with_arrivals, all_keys, all_rows, all_out, HasWindow, AreWindows, StandsAfter}
+use Rattle.windows.specs.Parts.{Window, IsWindowOfItsPart, part_of, is_in, for_own, with_arrivals, all_keys, all_rows, all_out, IncludesPart, AreWindowsOfDifferentParts, StandsAfter}
 use Rattle.windows.specs.Cluster.{SafeSchedule, IsWhole, IsWholeCluster}
 use Rattle.windows.specs.Schedule.{MeetsState}
 use Rattle.windows.proofs.Wholes.{pending_kept}
@@ -105,10 +105,10 @@ module _ {Q : Type 0} (set : Q → FinMap key_cmp Event) (s : Setup) (sound : Is
       ∙ eq-eqb (part_number deal m) i is in
       ap (λ (p : Part Q). is_own (world_of set p) m) (sym done.2) ∙ subst (λ n. is_own (world_of set done.0.part) m ≡ is_own (part_of (is_in (part_number deal) n) ready.world) m) same stay ∙ before
     where
-      own_stay : (ws : List (Window State Content Row)) → AllByRecursion (IsWindowOf (step s) (part_number deal) (λ part. bound) ready.world) ws
+      own_stay : (ws : List (Window State Content Row)) → AllByRecursion (IsWindowOfItsPart (step s) (part_number deal) (λ part. bound) ready.world) ws
           → AllByRecursion (λ (d : Window State Content Row). (q : ℕ) → is_own d.after q ≡ is_own (part_of (is_in (part_number deal) d.part) ready.world) q) ws
       own_stay ws are =
-          all_weaker (IsWindowOf (step s) (part_number deal) (λ part. bound) ready.world) _
+          all_weaker (IsWindowOfItsPart (step s) (part_number deal) (λ part. bound) ready.world) _
           (λ d is q. own_run (step s) (is_in (part_number deal) d.part) bound d.keys (part_of (is_in (part_number deal) d.part) ready.world) d.after d.out d.rows is.run q) ws are
 
   pub count_after : length (map (λ (d : Done Q). d.part) ds) ≡ deal.parts
@@ -118,7 +118,7 @@ module _ {Q : Type 0} (set : Q → FinMap key_cmp Event) (s : Setup) (sound : Is
       as_many [] = refl
       as_many (e ∷ es) = ap suc (as_many es)
 
-  abbrev pub are : AreWindows (step s) (part_number deal) (λ part. bound) ready.world windows
+  abbrev pub are : AreWindowsOfDifferentParts (step s) (part_number deal) (λ part. bound) ready.world windows
   are = are_windows set s bound deal divides ready.world ready.whole ps ds had ready.stand
 
   -- the world that stands after the windows
@@ -128,7 +128,7 @@ module _ {Q : Type 0} (set : Q → FinMap key_cmp Event) (s : Setup) (sound : Is
   pub sound_led : IsSoundCluster s led.0
   sound_led = sound_after s ready.least_delay ready.world led.0 (all_keys windows) (all_rows windows) sound ready.least ready.whole.sound led.1
 
-  no_window : (a i : ℕ) (ps : List (Part Q)) (ds : List (Done Q)) (had : RanWindows set s bound ps ds) → HasWindow (windows_from set s bound a ps ds had) i → i < a + length ps
+  no_window : (a i : ℕ) (ps : List (Part Q)) (ds : List (Done Q)) (had : RanWindows set s bound ps ds) → IncludesPart (windows_from set s bound a ps ds had) i → i < a + length ps
   no_window a i [] [] had has = absurd has
   no_window a i [] (d ∷ ds) had has = absurd had
   no_window a i (p ∷ ps) [] had has = absurd had
@@ -145,7 +145,7 @@ module _ {Q : Type 0} (set : Q → FinMap key_cmp Event) (s : Setup) (sound : Is
 
   beyond : AllByRecursion (λ (e : Key × Content). part_number deal e.0.to ≡ deal.parts → e.0.to < member_count s) (all_out windows)
   beyond =
-      let none : ¬ (HasWindow windows deal.parts) = λ has. let below = no_window 0 deal.parts ps ds had has in omega (arith, ready.stand.count) in
+      let none : ¬ (IncludesPart windows deal.parts) = λ has. let below = no_window 0 deal.parts ps ds had has in omega (arith, ready.stand.count) in
       let there = led.2.others deal.parts none in
       let own = for_own (is_in (part_number deal) deal.parts) (all_out windows) in
       let p = part_of (is_in (part_number deal) deal.parts) ready.world in

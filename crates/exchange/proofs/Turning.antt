@@ -20,7 +20,7 @@ use Rattle.member.specs.StateOf.{pair_of}
 use Rattle.member_laws.specs.Runs.{Cluster}
 use Rattle.windows.specs.declared.part.Part.{Part}
 use Rattle.windows.specs.declared.part.Done.{Done}
-use Rattle.windows.specs.Parts.{PartWindow, Window, IsWindowOf, HasWindow, AreWindows, part_of, is_in, all_rows, all_out}
+use Rattle.windows.specs.Parts.{PartWindow, Window, IsWindowOfItsPart, IncludesPart, AreWindowsOfDifferentParts, part_of, is_in, all_rows, all_out}
 use Rattle.windows.specs.WorldOf.{world_of}
 use Rattle.windows.specs.Window.{is_own, IsConsistentPart, RunsWindow}
 use Rattle.windows.specs.Cluster.{IsWholeCluster}
@@ -113,13 +113,13 @@ module _ {Q : Type 0} (set : Q → FinMap key_cmp Event) (s : Setup) (bound : �
   all_different a (p ∷ ps) [] had = absurd had
   all_different a (p ∷ ps) (d ∷ ds) had = (numbers_past a (a + 1) ps ds had.1 (omega arith), all_different (a + 1) ps ds had.1)
 
-  pub has_window : (a i : ℕ) (ps : List (Part Q)) (ds : List (Done Q)) (had : RanWindows set s bound ps ds) → a ≤ i → i < a + length ps → HasWindow (windows_from a ps ds had) i
+  pub has_window : (a i : ℕ) (ps : List (Part Q)) (ds : List (Done Q)) (had : RanWindows set s bound ps ds) → a ≤ i → i < a + length ps → IncludesPart (windows_from a ps ds had) i
   has_window a i [] [] had from below = absurd (omega arith)
   has_window a i [] (d ∷ ds) had from below = absurd had
   has_window a i (p ∷ ps) [] had from below = absurd had
   has_window a i (p ∷ ps) (d ∷ ds) had from below = by_test (λ past. has_window (a + 1) i ps ds had.1 past (omega arith)) (eqb a i) refl
     where
-      by_test : (a + 1 ≤ i → HasWindow (windows_from (a + 1) ps ds had.1) i) → (b : Bool) → eqb a i ≡ b → (a ≡ i) ⊎ HasWindow (windows_from (a + 1) ps ds had.1) i
+      by_test : (a + 1 ≤ i → IncludesPart (windows_from (a + 1) ps ds had.1) i) → (b : Bool) → eqb a i ≡ b → (a ≡ i) ⊎ IncludesPart (windows_from (a + 1) ps ds had.1) i
       by_test later true h = inl (eqb-true a i h)
       by_test later false h = let other = eqb-false a i h in inr (later (omega arith))
 
@@ -148,7 +148,7 @@ module _ {Q : Type 0} (set : Q → FinMap key_cmp Event) (s : Setup) (bound : �
         (subst (λ x. PartWindow (step s) (is_own x) bound x keys out rows after) here is)
 
     all_windows : (a : ℕ) (ps : List (Part Q)) (ds : List (Done Q)) (had : RanWindows set s bound ps ds) → Follow a ps
-        → AllByRecursion (IsWindowOf (step s) (part_number deal) (λ part. bound) w) (windows_from a ps ds had)
+        → AllByRecursion (IsWindowOfItsPart (step s) (part_number deal) (λ part. bound) w) (windows_from a ps ds had)
     all_windows a [] [] had follow = tt
     all_windows a [] (d ∷ ds) had follow = absurd had
     all_windows a (p ∷ ps) [] had follow = absurd had
@@ -159,7 +159,7 @@ module _ {Q : Type 0} (set : Q → FinMap key_cmp Event) (s : Setup) (bound : �
     follow_all ps stand i p here = (let within = slice_get_within ps i p here in omega (arith, stand.count, within), world_at set deal ps w stand i p here ∙ ap (λ n. part_of (owns n) w) (let same : i ≡ 0 + i = omega arith in same))
 
     pub are_windows : (ps : List (Part Q)) (ds : List (Done Q)) (had : RanWindows set s bound ps ds) → StandFor set deal ps w
-        → AreWindows (step s) (part_number deal) (λ part. bound) w (windows_from 0 ps ds had)
+        → AreWindowsOfDifferentParts (step s) (part_number deal) (λ part. bound) w (windows_from 0 ps ds had)
     are_windows ps ds had stand = record { windows = all_windows 0 ps ds had (follow_all ps stand); different = all_different 0 ps ds had }
 
     -- what is known of each window by its part's number is known of each part

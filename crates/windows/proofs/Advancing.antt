@@ -1,5 +1,5 @@
 -- What becomes of a part when its least event is taken and handled, and what was made of it delivered.
-use Rattle.std.proofs.Common.{◌≡◌, ℕ, ◌<◌, Bool, cond, [], ◌∷◌, ◌++◌, map, Option, Some, None, ap, ◌∙◌, sym, refl}
+use Rattle.std.proofs.Common.{◌≡◌, ℕ, ◌<◌, Bool, cond, List, [], ◌∷◌, ◌++◌, map, Option, Some, None, ap, ◌∙◌, sym, refl}
 use Rattle.std.specs.Option.{option_map}
 use Rattle.std.specs.Ordering.{nat_cmp, is_eq}
 use Rattle.std.specs.Cmp.{nat_cmp_total, tied_itself}
@@ -30,20 +30,20 @@ module _ (s : Setup) (event : Event) (members : FinMap nat_cmp State) where
   pub own_after : (after : FinMap nat_cmp State) → after ≡ members_after members event (made_of s members event) → ◌≡◌ {A = ℕ → Bool} (contains_key after) (contains_key members)
   own_after after is = λ i q. (ap (λ m. contains_key m q) is ∙ own_either (get members event.key.to) refl q) i
 
--- what the receiver made of the event is delivered
-pub taken_handled : (s : Setup) (event : Event) (p : World State Content) (n : FinMap nat_cmp State) (q : FinMap key_cmp Content) (effects before after : Effects) → Handles s event p.members n effects
-    → q ≡ with_events p.pending (for_own (contains_key n) (map pair_of effects.events.items))
-    → map pair_of after.events.items ≡ map pair_of before.events.items ++ for_others (contains_key n) (map pair_of effects.events.items)
-    → after.rows.items ≡ before.rows.items ++ effects.rows.items → HandlesTaken s event p (record { members = n; pending = q }) before after
-taken_handled s event p n q effects before after handles delivered sent written =
+-- what the receiver made of the event, alone on its list, is delivered behind what was sent before
+pub taken_handled : (s : Setup) (event : Event) (p : World State Content) (n : FinMap nat_cmp State) (q : FinMap key_cmp Content) (before alone made after : Effects) (mine sent : List Event)
+    → alone.events.items ≡ [] → alone.rows.items ≡ before.rows.items → Handles s event p.members n alone made → mine ≡ made.events.items → sent ≡ before.events.items
+    → q ≡ with_events p.pending (for_own (contains_key n) (map pair_of mine)) → map pair_of after.events.items ≡ map pair_of sent ++ for_others (contains_key n) (map pair_of mine)
+    → after.rows.items ≡ made.rows.items → HandlesTaken s event p (record { members = n; pending = q }) before after
+taken_handled s event p n q before alone made after mine sent none kept handles is_mine is_sent delivered goes_out written =
     let own : ◌≡◌ {A = ℕ → Bool} (contains_key n) (is_own p) = own_after s event p.members n handles.members in
+    let events : map pair_of mine ≡ events_of (made_of s p.members event) = ap (map pair_of) is_mine ∙ handles.events ∙ ap (λ l. map pair_of l ++ events_of (made_of s p.members event)) none in
     record {
       members = handles.members;
-      pending = delivered ∙ ap (λ (f : ℕ → Bool). with_events p.pending (for_own f (map pair_of effects.events.items))) own
-          ∙ ap (λ es. with_events p.pending (for_own (is_own p) es)) handles.events;
-      out = sent ∙ ap (λ (f : ℕ → Bool). map pair_of before.events.items ++ for_others f (map pair_of effects.events.items)) own
-          ∙ ap (λ es. map pair_of before.events.items ++ for_others (is_own p) es) handles.events;
-      rows = written ∙ ap (λ rows. before.rows.items ++ rows) handles.rows;
+      pending = delivered ∙ ap (λ (f : ℕ → Bool). with_events p.pending (for_own f (map pair_of mine))) own ∙ ap (λ es. with_events p.pending (for_own (is_own p) es)) events;
+      out = goes_out ∙ ap (λ l. map pair_of l ++ for_others (contains_key n) (map pair_of mine)) is_sent
+          ∙ ap (λ (f : ℕ → Bool). map pair_of before.events.items ++ for_others f (map pair_of mine)) own ∙ ap (λ es. map pair_of before.events.items ++ for_others (is_own p) es) events;
+      rows = written ∙ handles.rows ∙ ap (λ rows. rows ++ rows_of (made_of s p.members event)) kept;
     }
 
 -- ---- a step

@@ -4,7 +4,7 @@ use Rattle.std.specs.Option.{is_some, option_map}
 use Rattle.std.specs.List.{AllByRecursion}
 use Rattle.std.specs.Ordering.{nat_cmp, eq_by_cmp}
 use Rattle.std.specs.FinMap.{FinMap, get, empty, contains_key, insert, get-insert}
-use Rattle.std.proofs.lemmas.List.{map-append}
+use Rattle.std.proofs.lemmas.List.{append-nil, map-append}
 use Rattle.std.proofs.lemmas.List.Elements.{filter-append}
 use Rattle.member_laws.proofs.Carried.{all_filter}
 use Rattle.windows.proofs.Swaps.{NoneIs}
@@ -24,26 +24,32 @@ use Rattle.member.specs.StateOf.{pair_of}
 use Rattle.windows.specs.Parts.{for_own, for_others}
 use Rattle.windows.specs.Handling.{Handles, made_of, members_after}
 
-module _ (s : Setup) (event : Event) (before after : FinMap nat_cmp State) (effects : Effects) where
+-- what follows from what a success tells
+pub if_ok : {T E P Q : Type 0} (r : Result T E) → OnOk r P → (P → Q) → OnOk r Q
+if_ok (Ok _) p so = so p
+if_ok (Err _) p so = tt
+
+module _ (s : Setup) (event : Event) (held held_after : FinMap nat_cmp State) (before : Effects) where
   -- nobody made anything of it
-  pub handled_by_none : get before event.key.to ≡ None → after ≡ before → effects.events.items ≡ [] → effects.rows.items ≡ [] → Handles s event before after effects
-  handled_by_none none same no_events no_rows =
-      let made : made_of s before event ≡ None = ap (option_map (step s event.key event.content)) none in
+  pub handled_by_none : get held event.key.to ≡ None → held_after ≡ held → Handles s event held held_after before before
+  handled_by_none none same =
+      let made : made_of s held event ≡ None = ap (option_map (step s event.key event.content)) none in
       record {
-        members = same ∙ ap (members_after before event) (sym made);
-        events = ap (map pair_of) no_events ∙ ap events_of (sym made);
-        rows = no_rows ∙ ap rows_of (sym made);
+        members = same ∙ ap (members_after held event) (sym made);
+        events = sym (append-nil (map pair_of before.events.items)) ∙ ap (λ o. map pair_of before.events.items ++ events_of o) (sym made);
+        rows = sym (append-nil before.rows.items) ∙ ap (λ o. before.rows.items ++ rows_of o) (sym made);
       }
 
   -- its receiver made this of it
-  pub handled_by : (t : State) → get before event.key.to ≡ Some t → after ≡ insert before event.key.to (step s event.key event.content t).state
-      → map pair_of effects.events.items ≡ (step s event.key event.content t).events → effects.rows.items ≡ (step s event.key event.content t).rows → Handles s event before after effects
-  handled_by t here changed events rows =
-      let made : made_of s before event ≡ Some (step s event.key event.content t) = ap (option_map (step s event.key event.content)) here in
+  pub handled_by : (after : Effects) (t : State) → get held event.key.to ≡ Some t → held_after ≡ insert held event.key.to (step s event.key event.content t).state
+      → map pair_of after.events.items ≡ map pair_of before.events.items ++ (step s event.key event.content t).events
+      → after.rows.items ≡ before.rows.items ++ (step s event.key event.content t).rows → Handles s event held held_after before after
+  handled_by after t here changed events rows =
+      let made : made_of s held event ≡ Some (step s event.key event.content t) = ap (option_map (step s event.key event.content)) here in
       record {
-        members = changed ∙ ap (members_after before event) (sym made);
-        events = events ∙ ap events_of (sym made);
-        rows = rows ∙ ap rows_of (sym made);
+        members = changed ∙ ap (members_after held event) (sym made);
+        events = events ∙ ap (λ o. map pair_of before.events.items ++ events_of o) (sym made);
+        rows = rows ∙ ap (λ o. before.rows.items ++ rows_of o) (sym made);
       }
 
 -- ---- deliveries

@@ -15,7 +15,7 @@ use Rattle.base.specs.Rising.{IsRising}
 use Rattle.base.proofs.Rising.{all_append, all_weaker}
 use Rattle.windows.specs.Delays.{SendsAsItself}
 use Rattle.windows.specs.Schedule.{Schedule}
-use Rattle.windows.specs.Parts.{part_of, for_own, with_arrivals, is_in, Window, IsWindowOf, PartRun, HasWindow, all_keys, all_out, all_rows, AreWindows, StandsAfter, OffersWindows}
+use Rattle.windows.specs.Parts.{part_of, for_own, with_arrivals, is_in, Window, IsWindowOfItsPart, PartRun, IncludesPart, all_keys, all_out, all_rows, AreWindowsOfDifferentParts, StandsAfter, OffersWindows}
 use Rattle.windows.proofs.Cuts.{get_retained, joined_joined, all_kept, own_of_others}
 use Rattle.windows.proofs.Windows.{Led, leads}
 
@@ -55,7 +55,7 @@ module _ {S C R : Type 0} (step : Machine S C R) (own : SendsAsItself step) (div
   record Awaits (u : World S C) (outs : List (Key × C)) (d : Window S C R) : Type 0 where
     cut : part_of (owns d) u ≡ with_arrivals (part_of (owns d) w) (for_own (owns d) outs)
     strange : AllByRecursion (λ e. owns d e.0.from ≡ false) outs
-    window : IsWindowOf step division bounds w d
+    window : IsWindowOfItsPart step division bounds w d
 
   record AllLed (u : World S C) (outs : List (Key × C)) (ds : List (Window S C R)) : Type 0 where
     world : World S C
@@ -131,14 +131,14 @@ module _ {S C R : Type 0} (step : Machine S C R) (own : SendsAsItself step) (div
 
   -- ---- the statement of all windows of a world
 
-  none_has : (ds : List (Window S C R)) (part : ℕ) → ¬ (HasWindow ds part) → AllByRecursion (λ d. d.part ≢ part) ds
+  none_has : (ds : List (Window S C R)) (part : ℕ) → ¬ (IncludesPart ds part) → AllByRecursion (λ d. d.part ≢ part) ds
   none_has [] part none = tt
   none_has (d ∷ ds) part none = (λ same. none (inl same), none_has ds part (λ h. none (inr h)))
 
-  await_first : (ds : List (Window S C R)) → AllByRecursion (IsWindowOf step division bounds w) ds → AllByRecursion (Awaits w []) ds
+  await_first : (ds : List (Window S C R)) → AllByRecursion (IsWindowOfItsPart step division bounds w) ds → AllByRecursion (Awaits w []) ds
   await_first ds windows = all_weaker _ (Awaits w []) (λ d window. record { cut = refl; strange = tt; window = window }) ds windows
 
-  module _ (ds : List (Window S C R)) (ready : Ready w) (are : AreWindows step division bounds w ds) where
+  module _ (ds : List (Window S C R)) (ready : Ready w) (are : AreWindowsOfDifferentParts step division bounds w ds) where
     led_by_all : AllLed w [] ds
     led_by_all = all_led ds w [] ready tt are.different (await_first ds are.windows)
 
@@ -158,7 +158,7 @@ module _ {S C R : Type 0} (step : Machine S C R) (own : SendsAsItself step) (div
     unfolding after_all
     stands_after = record { parts = led_by_all.parts; others = λ part none. led_by_all.others part (none_has ds part none) }
 
-    left_by : (q : Key) (es : List (Window S C R)) → IsPending after_all q → HasWindow es (division q.to) → AllByRecursion (IsWindowOf step division bounds w) es
+    left_by : (q : Key) (es : List (Window S C R)) → IsPending after_all q → IncludesPart es (division q.to) → AllByRecursion (IsWindowOfItsPart step division bounds w) es
         → AllByRecursion (λ d. part_of (owns d) after_all ≡ with_arrivals d.after (for_own (owns d) (all_out ds))) es → bounds (division q.to) ≤ q.at
     left_by q [] here none windows parts = absurd none
     left_by q (d ∷ es) here (inr more) windows parts = left_by q es here more windows.1 parts.1
@@ -170,7 +170,7 @@ module _ {S C R : Type 0} (step : Machine S C R) (own : SendsAsItself step) (div
         q (subst (λ (x : World S C). contains_key x.pending q ≡ true) parts.0 kept))
 
     -- nothing is left below the bound for a part that had its window
-    pub none_left : (q : Key) → IsPending after_all q → HasWindow ds (division q.to) → bounds (division q.to) ≤ q.at
+    pub none_left : (q : Key) → IsPending after_all q → IncludesPart ds (division q.to) → bounds (division q.to) ≤ q.at
     none_left q here has = left_by q ds here has are.windows stands_after.parts
 
 early_of_run : {S C R : Type 0} (step : Machine S C R) (owns : ℕ → Bool) (bound : ℕ) (ks : List Key) (p v : World S C) (out : List (Key × C)) (rows : List R) → PartRun step owns bound p ks out rows v
@@ -179,7 +179,7 @@ early_of_run step owns bound [] p v out rows run = tt
 early_of_run step owns bound (k ∷ ks) p v out rows run = (run.5.early, early_of_run step owns bound ks run.0 v run.2 run.4 run.6)
 
 -- all events of the windows are before the bound
-pub keys_early : {S C R : Type 0} (step : Machine S C R) (division : ℕ → ℕ) (bound : ℕ) (w : World S C) (ds : List (Window S C R)) → AllByRecursion (IsWindowOf step division (λ part. bound) w) ds
+pub keys_early : {S C R : Type 0} (step : Machine S C R) (division : ℕ → ℕ) (bound : ℕ) (w : World S C) (ds : List (Window S C R)) → AllByRecursion (IsWindowOfItsPart step division (λ part. bound) w) ds
     → AllByRecursion (λ k. k.at < bound) (all_keys ds)
 keys_early step division bound w [] windows = tt
 keys_early step division bound w (d ∷ ds) windows =
@@ -210,17 +210,17 @@ same_parts division u v same =
 part_same : {S C R : Type 0} (division : ℕ → ℕ) (ds es : List (Window S C R)) (u v : World S C) (part : ℕ)
     → AllByRecursion (λ d. part_of (is_in division d.part) u ≡ with_arrivals d.after (for_own (is_in division d.part) (all_out ds))) es
     → AllByRecursion (λ d. part_of (is_in division d.part) v ≡ with_arrivals d.after (for_own (is_in division d.part) (all_out ds))) es
-    → (¬ (HasWindow es part) → part_of (is_in division part) u ≡ part_of (is_in division part) v) → part_of (is_in division part) u ≡ part_of (is_in division part) v
+    → (¬ (IncludesPart es part) → part_of (is_in division part) u ≡ part_of (is_in division part) v) → part_of (is_in division part) u ≡ part_of (is_in division part) v
 part_same division ds [] u v part first second none = none (λ has. has)
 part_same division ds (d ∷ es) u v part first second none = by_number (eqb_tells d.part part) (part_same division ds es u v part first.1 second.1)
   where
     by_number : ((eqb d.part part ≡ true) × (d.part ≡ part)) ⊎ ((eqb d.part part ≡ false) × (d.part ≢ part))
-        → ((¬ (HasWindow es part) → part_of (is_in division part) u ≡ part_of (is_in division part) v) → part_of (is_in division part) u ≡ part_of (is_in division part) v)
+        → ((¬ (IncludesPart es part) → part_of (is_in division part) u ≡ part_of (is_in division part) v) → part_of (is_in division part) u ≡ part_of (is_in division part) v)
         → part_of (is_in division part) u ≡ part_of (is_in division part) v
     by_number (inl here) rest = subst (λ n. part_of (is_in division n) u ≡ part_of (is_in division n) v) here.1 (first.0 ∙ sym second.0)
     by_number (inr other) rest = rest (λ gone. none (neither gone))
       where
-        neither : ¬ (HasWindow es part) → ¬ (HasWindow (d ∷ es) part)
+        neither : ¬ (IncludesPart es part) → ¬ (IncludesPart (d ∷ es) part)
         neither gone (inl here) = other.1 here
         neither gone (inr more) = gone more
 

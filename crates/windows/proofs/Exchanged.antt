@@ -12,7 +12,7 @@ use Rattle.base.specs.World.{Machine, World, IsPending}
 use Rattle.base.specs.Rising.{IsRising, UsesNumbers, IsNumbered, AreNew}
 use Rattle.base.proofs.Rising.{all_append, all_weaker, rising_append}
 use Rattle.windows.specs.Delays.{KeepsDelays}
-use Rattle.windows.specs.Parts.{part_of, for_own, is_in, Window, IsWindowOf, AreWindows, all_out}
+use Rattle.windows.specs.Parts.{part_of, for_own, is_in, Window, IsWindowOfItsPart, AreWindowsOfDifferentParts, all_out}
 use Rattle.windows.proofs.Cuts.{get_retained, all_kept}
 use Rattle.windows.proofs.Numbers.{rising_kept}
 use Rattle.windows.proofs.Far.{all_both}
@@ -58,23 +58,23 @@ module _ {S C R : Type 0} (delay : ℕ → ℕ → ℕ) (step : Machine S C R) (
       (sym (get_retained nat_cmp_total nat_cmp-IsAntisymmetric (is_in division d.part) w.members e.from) ∙ unused.1.1) in
       (home, (λ same. false≢true (sym out ∙ eq-eqb (division e.to) d.part (same ∙ home)), (unused.1.0, there.1, unused.1.2)))
 
-  goes_window : (d : Window S C R) → IsWindowOf step division bounds w d → AllByRecursion (λ e. (division e.0.from ≡ d.part) × Goes e.0) d.out
+  goes_window : (d : Window S C R) → IsWindowOfItsPart step division bounds w d → AllByRecursion (λ e. (division e.0.from ≡ d.part) × Goes e.0) d.out
   goes_window d window =
       all_weaker _ (λ e. (division e.0.from ≡ d.part) × Goes e.0) (λ e h. goes_one d e.0 h.0 h.1) d.out
       (all_both (λ e. is_in division d.part e.0.to ≡ false) (λ e. IsUnused delay step keeps next numbers (is_in division d.part) (bounds d.part) (part_of (is_in division d.part) w) e.0) d.out
       (none_passes (λ e. is_in division d.part e.0.to) d.out (own_of_run step (is_in division d.part) (bounds d.part) d.keys (part_of (is_in division d.part) w) d.after d.out d.rows window.run))
       (out_unused delay step keeps next numbers (is_in division d.part) (bounds d.part) d.keys (part_of (is_in division d.part) w) d.after d.out d.rows (own_part d) window.run))
 
-  all_go : (ds : List (Window S C R)) → AllByRecursion (IsWindowOf step division bounds w) ds → AllByRecursion (λ e. Goes e.0) (all_out ds)
+  all_go : (ds : List (Window S C R)) → AllByRecursion (IsWindowOfItsPart step division bounds w) ds → AllByRecursion (λ e. Goes e.0) (all_out ds)
   all_go [] windows = tt
   all_go (d ∷ ds) windows = all_append _ d.out (all_out ds) (all_weaker _ (λ e. Goes e.0) (λ e h. h.1) d.out (goes_window d windows.0)) (all_go ds windows.1)
 
-  from_others : (part : ℕ) (ds : List (Window S C R)) → AllByRecursion (IsWindowOf step division bounds w) ds → AllByRecursion (λ d. part ≢ d.part) ds → AllByRecursion (λ e. division e.0.from ≢ part) (all_out ds)
+  from_others : (part : ℕ) (ds : List (Window S C R)) → AllByRecursion (IsWindowOfItsPart step division bounds w) ds → AllByRecursion (λ d. part ≢ d.part) ds → AllByRecursion (λ e. division e.0.from ≢ part) (all_out ds)
   from_others part [] windows others = tt
   from_others part (d ∷ ds) windows others =
       all_append _ d.out (all_out ds) (all_weaker _ (λ e. division e.0.from ≢ part) (λ e h same. others.0 (sym same ∙ h.0)) d.out (goes_window d windows.0)) (from_others part ds windows.1 others.1)
 
-  all_apart : (ds : List (Window S C R)) → AllByRecursion (IsWindowOf step division bounds w) ds → IsRising (λ d e. d.part ≢ e.part) ds → IsRising (λ e f. e.0 ≢ f.0) (all_out ds)
+  all_apart : (ds : List (Window S C R)) → AllByRecursion (IsWindowOfItsPart step division bounds w) ds → IsRising (λ d e. d.part ≢ e.part) ds → IsRising (λ e f. e.0 ≢ f.0) (all_out ds)
   all_apart [] windows different = tt
   all_apart (d ∷ ds) windows different =
       rising_append (λ e f. e.0 ≢ f.0) d.out (all_out ds)
@@ -84,7 +84,7 @@ module _ {S C R : Type 0} (delay : ℕ → ℕ → ℕ) (step : Machine S C R) (
       (λ e h. all_weaker _ (λ f. e.0 ≢ f.0) (λ f other same. other (ap (λ (q : Key). division q.from) (sym same) ∙ h.0)) (all_out ds) (from_others d.part ds windows.1 different.0))
       d.out (goes_window d windows.0))
 
-  module _ (ds : List (Window S C R)) (are : AreWindows step division bounds w ds) (part : ℕ) (p : World S C)
+  module _ (ds : List (Window S C R)) (are : AreWindowsOfDifferentParts step division bounds w ds) (part : ℕ) (p : World S C)
       (came : (q : Key) → IsPending p q → IsPending (part_of (is_in division part) w) q ⊎ (is_in division part q.from ≡ true)) where
     not_there : (e : Key) → is_in division part e.to ≡ true → Goes e → IsPending (part_of (is_in division part) w) e ⊎ (is_in division part e.from ≡ true) → ⊥
     unfolding Goes
@@ -105,7 +105,7 @@ module _ {S C R : Type 0} (delay : ℕ → ℕ → ℕ) (step : Machine S C R) (
       unlike_each_other = rising_kept (λ e f. e.0 ≢ f.0) (λ e. is_in division part e.0.to) (all_out ds) (all_apart ds are.windows are.different);
     }
 
-  each_new : (ds es : List (Window S C R)) → AreWindows step division bounds w ds → AllByRecursion (IsWindowOf step division bounds w) es
+  each_new : (ds es : List (Window S C R)) → AreWindowsOfDifferentParts step division bounds w ds → AllByRecursion (IsWindowOfItsPart step division bounds w) es
       → AllByRecursion (λ d. AreNew d.after.pending (for_own (is_in division d.part) (all_out ds))) es
   each_new ds es are windows =
       all_weaker _ (λ d. AreNew d.after.pending (for_own (is_in division d.part) (all_out ds)))
@@ -114,5 +114,5 @@ module _ {S C R : Type 0} (delay : ℕ → ℕ → ℕ) (step : Machine S C R) (
       es windows
 
   -- what went out of all windows is new in each part after its window
-  pub all_new : (ds : List (Window S C R)) → AreWindows step division bounds w ds → AllByRecursion (λ d. AreNew d.after.pending (for_own (is_in division d.part) (all_out ds))) ds
+  pub all_new : (ds : List (Window S C R)) → AreWindowsOfDifferentParts step division bounds w ds → AllByRecursion (λ d. AreNew d.after.pending (for_own (is_in division d.part) (all_out ds))) ds
   all_new ds are = each_new ds ds are are.windows

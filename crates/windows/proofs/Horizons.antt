@@ -18,7 +18,7 @@ use Rattle.member_laws.specs.Runs.{Cluster, IsSoundCluster}
 use Rattle.member_laws.proofs.Reached.{step_among}
 use Rattle.windows.specs.Schedule.{TestedStep, Schedule, CatchesUp}
 use Rattle.windows.specs.Horizon.{AreHorizons, KeepsBetween, IsClearIn}
-use Rattle.windows.specs.Parts.{Window, AreWindows, StandsAfter, all_keys, all_rows}
+use Rattle.windows.specs.Parts.{Window, AreWindowsOfDifferentParts, StandsAfter, all_keys, all_rows}
 use Rattle.windows.specs.Cluster.{link_delay, IsPeopled, LiesBetween, IsClearOf}
 use Rattle.windows.proofs.Far.{all_both}
 use Rattle.windows.proofs.Early.{early_step}
@@ -63,7 +63,7 @@ clear_early s division between w v k made sound lies fact is =
     (weaker_step (step s) _ (IsClearIn s.end division (IsPeopled s division) between (IsSoundCluster s)) w v k made (is.passes, fact) is)
 
 pub clear_windows : (s : Setup) (division : ℕ → ℕ) (between : ℕ → ℕ → ℕ) (bounds : ℕ → ℕ) (w : Cluster) (windows : List (Window State Content Row)) → IsSound s → LiesBetween s division between
-    → IsSoundCluster s w → AreHorizons s.end division (IsPeopled s division) between bounds w → AreWindows (step s) division bounds w windows
+    → IsSoundCluster s w → AreHorizons s.end division (IsPeopled s division) between bounds w → AreWindowsOfDifferentParts (step s) division bounds w windows
     → (v : Cluster) × Schedule (step s) (IsClearOf s division between) w (all_keys windows) (all_rows windows) v × StandsAfter division w windows v × IsSoundCluster s v
 clear_windows s division between bounds w windows sound lies fact horizons are =
     let keeps = keeps_between s sound division between lies in

@@ -27,7 +27,7 @@ use Rattle.member_laws.proofs.Runs.{kept_after}
 use Rattle.windows.specs.Delays.{SendsAsItself, KeepsDelays, ComesFar, KeepsFar, IsNoMore}
 use Rattle.windows.specs.Safe.{IsSafe}
 use Rattle.windows.specs.Schedule.{CatchesUp, MeetsState, rows_by}
-use Rattle.windows.specs.Parts.{Window, IsCommonBound, AreWindows, StandsAfter, HasWindow, PartRun, for_own, is_in, part_of, all_out, all_keys, all_rows}
+use Rattle.windows.specs.Parts.{Window, IsCommonBound, AreWindowsOfDifferentParts, StandsAfter, IncludesPart, PartRun, for_own, is_in, part_of, all_out, all_keys, all_rows}
 use Rattle.windows.specs.Cluster.{UsesUpTo, link_delay, IsLeastDelay, SafeStep, SafeSchedule, IsRunFrom, IsRowOrder, IsWhole, whose}
 use Rattle.windows.proofs.Far.{far_made}
 use Rattle.windows.proofs.Numbers.{numbered_schedule}
@@ -137,7 +137,7 @@ new_here s d division part bound w p keys out rows k c sound least fact numbered
     part_new (step s) (steps_later s sound) (sends_as_itself s sound) s.end d (IsSoundCluster s) (sound_keeps s sound d least)
     (λ (t : State). t.next_number) (steps_numbered s sound) division part bound w p keys out rows k c (fact, common) numbered run here
 
-pub sent_new : (s : Setup) (division bounds : ℕ → ℕ) (w : Cluster) (windows : List (Window State Content Row)) → IsSound s → UsesUpTo w → AreWindows (step s) division bounds w windows
+pub sent_new : (s : Setup) (division bounds : ℕ → ℕ) (w : Cluster) (windows : List (Window State Content Row)) → IsSound s → UsesUpTo w → AreWindowsOfDifferentParts (step s) division bounds w windows
     → All (λ (d : Window State Content Row). AreNew d.after.pending (for_own (is_in division d.part) (all_out windows))) windows
 sent_new s division bounds w windows sound numbered are =
     All-from_recursion (λ (d : Window State Content Row). AreNew d.after.pending (for_own (is_in division d.part) (all_out windows))) windows
@@ -165,9 +165,9 @@ next_rows s d bound w v keys run_keys left_keys rows sorted run left cmp sound l
     place_of (steps_counted s sound) cmp order.total order.agrees bound sorted (recursion_from_All (λ (k : Key). k.at < bound) keys below) from items up
 
 module _ (s : Setup) (d : Option ℕ) (division : ℕ → ℕ) (bound : ℕ) (w : Cluster) (windows : List (Window State Content Row)) (sound : IsSound s) (least : IsLeastDelay s d)
-    (fact : IsSoundCluster s w) (common : IsCommonBound s.end d w bound) (are : AreWindows (step s) division (λ part. bound) w windows) where
+    (fact : IsSoundCluster s w) (common : IsCommonBound s.end d w bound) (are : AreWindowsOfDifferentParts (step s) division (λ part. bound) w windows) where
   lead : (v : Cluster) × SafeSchedule s d w (all_keys windows) (all_rows windows) v × StandsAfter division w windows v × IsSoundCluster s v
-      × ((q : Key) → IsPending v q → HasWindow windows (division q.to) → bound ≤ q.at)
+      × ((q : Key) → IsPending v q → IncludesPart windows (division q.to) → bound ≤ q.at)
   lead = windows_lead (step s) (steps_later s sound) (sends_as_itself s sound) s.end d (IsSoundCluster s) (sound_keeps s sound d least) division bound w windows (fact, common) are
 
   pub windows_here : (v : Cluster) × SafeSchedule s d w (all_keys windows) (all_rows windows) v × StandsAfter division w windows v
@@ -179,25 +179,25 @@ receiver_low s v q None fact is here = absurd (false≢true here)
 receiver_low s v q (Some c) fact is here = (fact.events q c is).receiver
 
 module _ (s : Setup) (d : Option ℕ) (division : ℕ → ℕ) (bound : ℕ) (w v : Cluster) (windows : List (Window State Content Row)) (sound : IsSound s) (least : IsLeastDelay s d)
-    (fact : IsSoundCluster s w) (common : IsCommonBound s.end d w bound) (are : AreWindows (step s) division (λ part. bound) w windows) (parts : IsWhole s division windows)
+    (fact : IsSoundCluster s w) (common : IsCommonBound s.end d w bound) (are : AreWindowsOfDifferentParts (step s) division (λ part. bound) w windows) (parts : IsWhole s division windows)
     (stands : StandsAfter division w windows v) where
   sound_there : IsSoundCluster s v
   sound_there =
       let led = lead s d division bound w windows sound least fact common are in
       subst (IsSoundCluster s) (stands_once division w led.0 v windows led.2 stands) led.3
 
-  has_window : (q : Key) → IsPending v q → HasWindow windows (division q.to)
+  has_window : (q : Key) → IsPending v q → IncludesPart windows (division q.to)
   has_window q here = parts q.to (receiver_low s v q (get v.pending q) sound_there refl here)
 
   pub none_left_here : (q : Key) → IsPending v q → bound ≤ q.at
   none_left_here q here =
       let led = lead s d division bound w windows sound least fact common are in
       let same = stands_once division w led.0 v windows led.2 stands in
-      subst (λ u. (r : Key) → IsPending u r → HasWindow windows (division r.to) → bound ≤ r.at) same led.4 q here (has_window q here)
+      subst (λ u. (r : Key) → IsPending u r → IncludesPart windows (division r.to) → bound ≤ r.at) same led.4 q here (has_window q here)
 
 pub windows_rows : (s : Setup) (least_delay : Option ℕ) (division : ℕ → ℕ) (bound : ℕ) (w v : Cluster) (windows : List (Window State Content Row)) (run_keys left_keys : List Key)
     (sorted run left : List Row) (cmp : Row → Row → Ordering) → IsSound s → IsLeastDelay s least_delay → IsSoundCluster s w → IsRowOrder cmp → IsCommonBound s.end least_delay w bound
-    → AreWindows (step s) division (λ part. bound) w windows → IsWhole s division windows → StandsAfter division w windows v → IsRunFrom s w run_keys run → IsRunFrom s v left_keys left
+    → AreWindowsOfDifferentParts (step s) division (λ part. bound) w windows → IsWhole s division windows → StandsAfter division w windows v → IsRunFrom s w run_keys run → IsRunFrom s v left_keys left
     → IsPermutation (all_rows windows) sorted → IsSorted cmp sorted → run ≡ sorted ++ left
 windows_rows s d division bound w v windows run_keys left_keys sorted run left cmp sound least fact order common are parts stands whole rest items up =
     windows_released (step s) (steps_later s sound) (sends_as_itself s sound) s.end d (IsSoundCluster s) (sound_keeps s sound d least) place_of (steps_counted s sound) cmp order.total order.agrees

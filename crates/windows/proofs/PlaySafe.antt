@@ -20,6 +20,11 @@ pub of_none : {A : Type 0} (o : Option A) (P Q : Type 0) → (P → Q) → IfNon
 of_none None P Q gives none = gives none
 of_none (Some x) P Q gives none = tt
 
+-- what holds in any case holds where there is none
+pub if_none : {A : Type 0} (o : Option A) (P : Type 0) → P → IfNone o P
+if_none None P given = given
+if_none (Some x) P given = tt
+
 module _ {S C : Type 0} (end : ℕ) (w : World S C) where
   first_of : (m : ℕ) (k : Key) → IsLeastKeyFor w.pending m k → IsFirstOf w k
   first_of m k is = record { here = is.here; least = λ q here own. is.least q here (own ∙ is.own) }

@@ -16,7 +16,7 @@ use Rattle.base.proofs.Rising.{new_step}
 use Rattle.windows.specs.Delays.{SendsAsItself, KeepsFar}
 use Rattle.windows.specs.Safe.{IsSafe, IsSafeIn}
 use Rattle.windows.specs.Schedule.{TestedStep, Schedule, CatchesUp, MeetsState, TellsWhose, rows_by}
-use Rattle.windows.specs.Parts.{Window, IsReady, for_own, PartRun, part_of, is_in, all_keys, all_rows, AreWindows, StandsAfter, HasWindow}
+use Rattle.windows.specs.Parts.{Window, IsReady, for_own, PartRun, part_of, is_in, all_keys, all_rows, AreWindowsOfDifferentParts, StandsAfter, IncludesPart}
 use Rattle.windows.proofs.Early.{early_step}
 use Rattle.windows.proofs.States.{met_by_schedule, met_after}
 use Rattle.windows.proofs.Cuts.{get_retained}
@@ -135,8 +135,8 @@ module _ {S C R : Type 0} (step : Machine S C R) (later : MakesLater step) (own 
         ∙ sorted_trace step later place counts end cmp total agrees own (IsSafeIn end least_delay Fact) (safe_offers step later end least_delay Fact keeps) ks w v rows sorted (schedule_kept ks w v rows fact is).0 over items up
 
   -- windows of different parts lead by safe steps to a world that stands for the parts
-  pub windows_lead : (division : ℕ → ℕ) (bound : ℕ) (w : World S C) (ds : List (Window S C R)) → IsReady end least_delay Fact bound w → AreWindows step division (λ part. bound) w ds
-      → (v : World S C) × Schedule step (IsSafe end least_delay) w (all_keys ds) (all_rows ds) v × StandsAfter division w ds v × Fact v × ((q : Key) → IsPending v q → HasWindow ds (division q.to) → bound ≤ q.at)
+  pub windows_lead : (division : ℕ → ℕ) (bound : ℕ) (w : World S C) (ds : List (Window S C R)) → IsReady end least_delay Fact bound w → AreWindowsOfDifferentParts step division (λ part. bound) w ds
+      → (v : World S C) × Schedule step (IsSafe end least_delay) w (all_keys ds) (all_rows ds) v × StandsAfter division w ds v × Fact v × ((q : Key) → IsPending v q → IncludesPart ds (division q.to) → bound ≤ q.at)
   windows_lead division bound w ds ready are =
       let offers = common_offers step later end least_delay Fact keeps bound division in
       let Safe : World S C → Key → Type 0 = IsSafeIn end least_delay Fact in
@@ -151,11 +151,11 @@ module _ {S C R : Type 0} (step : Machine S C R) (later : MakesLater step) (own 
   -- the rows of the windows of all parts below a bound, sorted, are the next of the run
   module _ (place : R → Key × ℕ) (counts : CountsRows place step) (cmp : R → R → Ordering) (total : IsTotalOrder cmp) (agrees : (a b : R) → IsPlaceBefore (place a) (place b) → cmp a b ≡ Less) where
     pub windows_released : (division : ℕ → ℕ) (bound : ℕ) (w v : World S C) (ds : List (Window S C R)) (all_ks left_ks : List Key) (all left sorted : List R)
-        → IsReady end least_delay Fact bound w → AreWindows step division (λ part. bound) w ds → StandsAfter division w ds v → ((q : Key) → IsPending v q → HasWindow ds (division q.to))
+        → IsReady end least_delay Fact bound w → AreWindowsOfDifferentParts step division (λ part. bound) w ds → StandsAfter division w ds v → ((q : Key) → IsPending v q → IncludesPart ds (division q.to))
         → SequentialRun step end w all_ks all → SequentialRun step end v left_ks left → IsPermutation (all_rows ds) sorted → IsSorted cmp sorted → all ≡ sorted ++ left
     windows_released division bound w v ds all_ks left_ks all left sorted ready are stands covers whole rest items up =
         let led = windows_lead division bound w ds ready are in
         let same : led.0 ≡ v = stands_once division w led.0 v ds led.2 stands in
         safe_released w v (all_keys ds) all_ks left_ks (all_rows ds) all left ready.0 (subst (Schedule step (IsSafe end least_delay) w (all_keys ds) (all_rows ds)) same led.1) whole rest
         place counts cmp total agrees bound sorted (keys_early step division bound w ds are.windows)
-        (λ q here. subst (λ u. (r : Key) → IsPending u r → HasWindow ds (division r.to) → bound ≤ r.at) same led.4 q here (covers q here)) items up
+        (λ q here. subst (λ u. (r : Key) → IsPending u r → IncludesPart ds (division r.to) → bound ≤ r.at) same led.4 q here (covers q here)) items up

@@ -18,7 +18,7 @@ use Rattle.member_laws.specs.Runs.{Cluster, IsSoundCluster}
 use Rattle.windows.specs.Safe.{IsSafe}
 use Rattle.windows.specs.Schedule.{TestedStep, Schedule}
 use Rattle.windows.specs.Horizon.{IsClear}
-use Rattle.windows.specs.Parts.{Window, HasWindow}
+use Rattle.windows.specs.Parts.{Window, IncludesPart}
 
 abbrev pub link_delay : Setup → ℕ → ℕ → ℕ
 link_delay s i j = (link_between s i j).delay
@@ -61,7 +61,7 @@ pub record IsRowOrder (cmp : Row → Row → Ordering) : Type 0 where
 
 -- these windows are of all parts
 abbrev pub IsWhole : Setup → (ℕ → ℕ) → List (Window State Content Row) → Type 0
-IsWhole s division windows = (m : ℕ) → m < member_count s → HasWindow windows (division m)
+IsWhole s division windows = (m : ℕ) → m < member_count s → IncludesPart windows (division m)
 
 -- a part that has a member of the scenario
 abbrev pub IsPeopled : Setup → (ℕ → ℕ) → ℕ → Type 0

@@ -26,11 +26,11 @@ abbrev pub members_after : FinMap nat_cmp State → Event → Option (Outcome St
 members_after members event None = members
 members_after members event (Some o) = insert members event.key.to o.state
 
--- the event was handled: this became of the members, and these effects came of it
-pub record Handles (s : Setup) (event : Event) (before after : FinMap nat_cmp State) (effects : Effects) : Type 0 where
-  pub members : after ≡ members_after before event (made_of s before event)
-  pub events : map pair_of effects.events.items ≡ events_of (made_of s before event)
-  pub rows : effects.rows.items ≡ rows_of (made_of s before event)
+-- the event was handled: these are the members after it, and what came of it follows the effects before
+pub record Handles (s : Setup) (event : Event) (held held_after : FinMap nat_cmp State) (before after : Effects) : Type 0 where
+  pub members : held_after ≡ members_after held event (made_of s held event)
+  pub events : map pair_of after.events.items ≡ map pair_of before.events.items ++ events_of (made_of s held event)
+  pub rows : after.rows.items ≡ before.rows.items ++ rows_of (made_of s held event)
 
 -- An event that was taken out of a part is handled: this is the part after it, and what its receiver made for others and
 -- its rows follow the effects before.

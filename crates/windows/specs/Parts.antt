@@ -64,19 +64,19 @@ pub record Window (S C R : Type 0) : Type 0 where
   pub rows : List R
   pub after : World S C
 
--- this is the window of that part of the world, below the part's bound
-abbrev pub IsWindowOf : {S C R : Type 0} → Machine S C R → (ℕ → ℕ) → (ℕ → ℕ) → World S C → Window S C R → Type 0
-IsWindowOf step division bounds w d = PartWindow step (is_in division d.part) (bounds d.part) (part_of (is_in division d.part) w) d.keys d.out d.rows d.after
+-- this is the window of the part that it names, below that part's bound
+abbrev pub IsWindowOfItsPart : {S C R : Type 0} → Machine S C R → (ℕ → ℕ) → (ℕ → ℕ) → World S C → Window S C R → Type 0
+IsWindowOfItsPart step division bounds w d = PartWindow step (is_in division d.part) (bounds d.part) (part_of (is_in division d.part) w) d.keys d.out d.rows d.after
 
 -- A common bound: no more than the end and one, nor than the least pending moment and the least delay.
 pub record IsCommonBound {S C : Type 0} (end : ℕ) (least_delay : Option ℕ) (w : World S C) (bound : ℕ) : Type 0 where
   pub in_time : bound ≤ end + 1
   pub near : IfSome least_delay (λ d. (q : Key) → IsPending w q → bound ≤ q.at + d)
 
--- the part has one of these windows
-abbrev pub HasWindow : {S C R : Type 0} → List (Window S C R) → ℕ → Type 0
-HasWindow [] part = ⊥
-HasWindow (d ∷ ds) part = (d.part ≡ part) ⊎ HasWindow ds part
+-- one of these windows is the part's
+abbrev pub IncludesPart : {S C R : Type 0} → List (Window S C R) → ℕ → Type 0
+IncludesPart [] part = ⊥
+IncludesPart (d ∷ ds) part = (d.part ≡ part) ⊎ IncludesPart ds part
 
 -- all keys, events that went out and rows of these windows
 abbrev pub all_keys : {S C R : Type 0} → List (Window S C R) → List Key
@@ -89,15 +89,15 @@ abbrev pub all_rows : {S C R : Type 0} → List (Window S C R) → List R
 all_rows = flat_map (λ d. d.rows)
 
 -- Windows of different parts of a world, each below its part's bound.
-pub record AreWindows {S C R : Type 0} (step : Machine S C R) (division : ℕ → ℕ) (bounds : ℕ → ℕ) (w : World S C) (ds : List (Window S C R)) : Type 0 where
-  pub windows : AllByRecursion (IsWindowOf step division bounds w) ds
+pub record AreWindowsOfDifferentParts {S C R : Type 0} (step : Machine S C R) (division : ℕ → ℕ) (bounds : ℕ → ℕ) (w : World S C) (ds : List (Window S C R)) : Type 0 where
+  pub windows : AllByRecursion (IsWindowOfItsPart step division bounds w) ds
   pub different : IsRising (λ d e. d.part ≢ e.part) ds
 
 -- The world that stands after them: each part is as its window leaves it, or as it was if it has none, and the events
 -- that went out have come to their parts.
 pub record StandsAfter {S C R : Type 0} (division : ℕ → ℕ) (w : World S C) (ds : List (Window S C R)) (v : World S C) : Type 0 where
   pub parts : AllByRecursion (λ d. part_of (is_in division d.part) v ≡ with_arrivals d.after (for_own (is_in division d.part) (all_out ds))) ds
-  pub others : (part : ℕ) → ¬ (HasWindow ds part) → part_of (is_in division part) v ≡ with_arrivals (part_of (is_in division part) w) (for_own (is_in division part) (all_out ds))
+  pub others : (part : ℕ) → ¬ (IncludesPart ds part) → part_of (is_in division part) v ≡ with_arrivals (part_of (is_in division part) w) (for_own (is_in division part) (all_out ds))
 
 -- a world of which this holds, and in which the windows below the bound may run
 abbrev pub IsReady : {S C : Type 0} → ℕ → Option ℕ → (World S C → Type 0) → ℕ → World S C → Type 0

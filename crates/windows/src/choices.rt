@@ -83,14 +83,8 @@ fn play_out(alloc: Global, scenario: &Scenario, choices: &[MemberId]) -> Result<
     ensures worn { IsErrOf result StepError.Worn → WearsOut scenario.now }
 {
     let end = scenario.end();
-    let links = match Links::of(alloc, scenario) {
-        Ok(links) => links,
-        Err(_) => return Err(StepError::Memory),
-    };
-    let mut part = match Part::whole(alloc, scenario, TreeQueue::new(alloc)) {
-        Ok(part) => part,
-        Err(_) => return Err(StepError::Memory),
-    };
+    let links = Links::of(alloc, scenario)?;
+    let mut part = Part::whole(alloc, scenario, TreeQueue::new(alloc))?;
     let setting = Setting {
         bound: end,
         scenario,
@@ -101,10 +95,7 @@ fn play_out(alloc: Global, scenario: &Scenario, choices: &[MemberId]) -> Result<
         rows: Vec::new(alloc),
     };
     let least_delay = links.least_delay();
-    let handled = match choose_all(alloc, &mut part, &setting, least_delay, choices, &mut made) {
-        Ok(handled) => handled,
-        Err(error) => return Err(error),
-    };
+    let handled = choose_all(alloc, &mut part, &setting, least_delay, choices, &mut made)?;
     let Effects { rows, events: _ } = made;
     Ok(Played {
         rows,
@@ -135,10 +126,7 @@ fn choose_all(
 {
     let mut handled = 0;
     for member in choices {
-        let went = match choose(alloc, part, setting, least_delay, *member, made) {
-            Ok(went) => went,
-            Err(error) => return Err(error),
-        };
+        let went = choose(alloc, part, setting, least_delay, *member, made)?;
         handled += usize::from(went);
     }
     Ok(handled)
@@ -166,10 +154,8 @@ fn choose(
         Some(event) => event,
         None => return Ok(false),
     };
-    match handle_taken(alloc, part, event, setting, made) {
-        Ok(()) => Ok(true),
-        Err(error) => Err(error),
-    }
+    handle_taken(alloc, part, event, setting, made)?;
+    Ok(true)
 }
 
 /// Takes out the member's least event, if it is safe.
@@ -188,10 +174,7 @@ fn take_safe(
     ensures none { IfNone result (NonePasses (IsSafe end least_delay) (world_of set_of part.old) member) }
     ensures unchanged { IfNone result (world_of set_of part.new ≡ world_of set_of part.old) }
 {
-    let least = match part.least() {
-        Some(least) => least,
-        None => return None,
-    };
+    let least = part.least()?;
     let bound = safe_before(least.at, end, least_delay);
     part.queue.take_for(member, bound)
 }
@@ -213,10 +196,7 @@ fn safe_before(least: Moment, end: Moment, least_delay: Option<u64>) -> Moment
 fn left_up_to(part: &Part<TreeQueue<Event>>, end: Moment) -> Option<Moment>
     ensures { IsLeastLeft end (world_of set_of part.now) result }
 {
-    let least = match part.least() {
-        Some(least) => least,
-        None => return None,
-    };
+    let least = part.least()?;
     let moment = least.at.ticks();
     let last = end.ticks();
     if moment <= last { Some(least.at) } else { None }

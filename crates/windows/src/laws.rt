@@ -17,7 +17,7 @@ ghost use Rattle.member.specs.Step.{step};
 ghost use Rattle.member_laws.specs.Runs.{Cluster, IsSoundCluster};
 ghost use Rattle.windows.specs.Schedule.{TestedStep, Schedule, CatchesUp, MeetsState, rows_by};
 ghost use Rattle.windows.specs.Window.{is_own, IsConsistentPart};
-ghost use Rattle.windows.specs.Parts.{Window, IsCommonBound, AreWindows, PartRun, PartWindow, StandsAfter, is_in, part_of, for_own, all_out, all_keys, all_rows};
+ghost use Rattle.windows.specs.Parts.{Window, IsCommonBound, AreWindowsOfDifferentParts, PartRun, PartWindow, StandsAfter, is_in, part_of, for_own, all_out, all_keys, all_rows};
 ghost use Rattle.windows.specs.Horizon.{AreHorizons};
 ghost use Rattle.windows.specs.Cluster.{UsesUpTo, IsWholeCluster, IsPeopled, LiesBetween, IsClearOf, link_delay, IsLeastDelay, SafeStep, SafeSchedule, IsRunFrom, IsRowOrder, IsWhole, whose};
 
@@ -109,7 +109,7 @@ pub fn events_stay_new()
         → PartRun (step s) (is_in division part) bound (part_of (is_in division part) w) keys out rows p → get p.pending k ≡ Some c
         → AreNew (remove p.pending k) (for_own (is_in division part) (events_of (outcome (step s) p k c))) }
     ensures sent { (s : Setup) (division bounds : ℕ → ℕ) (w : Cluster) (windows : List (Window State Content Row))
-        → IsSound s → UsesUpTo w → AreWindows (step s) division bounds w windows
+        → IsSound s → UsesUpTo w → AreWindowsOfDifferentParts (step s) division bounds w windows
         → All (λ (d : Window State Content Row). AreNew d.after.pending (for_own (is_in division d.part) (all_out windows))) windows }
 {}
 
@@ -128,13 +128,13 @@ pub fn a_part_sends_out_late()
 pub fn windows_are_safe_steps()
     ensures schedule { (s : Setup) (least_delay : Option ℕ) (division : ℕ → ℕ) (bound : ℕ) (w : Cluster) (windows : List (Window State Content Row))
         → IsSound s → IsLeastDelay s least_delay → IsSoundCluster s w → IsCommonBound s.end least_delay w bound
-        → AreWindows (step s) division (λ part. bound) w windows
+        → AreWindowsOfDifferentParts (step s) division (λ part. bound) w windows
         → (v : Cluster) × SafeSchedule s least_delay w (all_keys windows) (all_rows windows) v × StandsAfter division w windows v }
     ensures one { (division : ℕ → ℕ) (w u v : Cluster) (windows : List (Window State Content Row))
         → StandsAfter division w windows u → StandsAfter division w windows v → u ≡ v }
     ensures none_left { (s : Setup) (least_delay : Option ℕ) (division : ℕ → ℕ) (bound : ℕ) (w v : Cluster) (windows : List (Window State Content Row))
         → IsSound s → IsLeastDelay s least_delay → IsSoundCluster s w → IsCommonBound s.end least_delay w bound
-        → AreWindows (step s) division (λ part. bound) w windows → IsWhole s division windows → StandsAfter division w windows v
+        → AreWindowsOfDifferentParts (step s) division (λ part. bound) w windows → IsWhole s division windows → StandsAfter division w windows v
         → (q : Key) → IsPending v q → bound ≤ q.at }
 {}
 
@@ -143,7 +143,7 @@ pub fn windows_write_the_next_rows()
     ensures { (s : Setup) (least_delay : Option ℕ) (division : ℕ → ℕ) (bound : ℕ) (w v : Cluster) (windows : List (Window State Content Row))
         (run_keys left_keys : List Key) (sorted run left : List Row) (cmp : Row → Row → Ordering)
         → IsSound s → IsLeastDelay s least_delay → IsSoundCluster s w → IsRowOrder cmp → IsCommonBound s.end least_delay w bound
-        → AreWindows (step s) division (λ part. bound) w windows → IsWhole s division windows → StandsAfter division w windows v
+        → AreWindowsOfDifferentParts (step s) division (λ part. bound) w windows → IsWhole s division windows → StandsAfter division w windows v
         → IsRunFrom s w run_keys run → IsRunFrom s v left_keys left
         → IsPermutation (all_rows windows) sorted → IsSorted cmp sorted → run ≡ sorted ++ left }
 {}
@@ -157,7 +157,7 @@ pub fn parts_may_run_to_their_horizons()
         → TestedStep (step s) (IsClearOf s division between) w k v made → CatchesUp (step s) s.end w v k made }
     ensures windows { (s : Setup) (division : ℕ → ℕ) (between : ℕ → ℕ → ℕ) (bounds : ℕ → ℕ) (w : Cluster) (windows : List (Window State Content Row))
         → IsSound s → LiesBetween s division between → IsSoundCluster s w
-        → AreHorizons s.end division (IsPeopled s division) between bounds w → AreWindows (step s) division bounds w windows
+        → AreHorizons s.end division (IsPeopled s division) between bounds w → AreWindowsOfDifferentParts (step s) division bounds w windows
         → (v : Cluster) × Schedule (step s) (IsClearOf s division between) w (all_keys windows) (all_rows windows) v
         × StandsAfter division w windows v × IsSoundCluster s v }
 {}
@@ -168,7 +168,7 @@ pub fn rows_are_in_order_of_places()
 {}
 
 /// A part of a whole cluster is consistent, and its members are those of its number, so that its window
-/// (`IsWindow`) is that of the division's part of that number (`IsWindowOf`).
+/// (`RunsWindow`) is that of the division's part of that number (`IsWindowOfItsPart`).
 pub fn a_part_owns_the_members_of_its_number()
     ensures consistent { (s : Setup) (owns : ℕ → Bool) (w : Cluster) → IsWholeCluster s w → IsConsistentPart s (part_of owns w) }
     ensures window { (s : Setup) (division : ℕ → ℕ) (part bound : ℕ) (w after : Cluster) (keys : List Key) (out : List (Key × Content)) (rows : List Row)

@@ -1,4 +1,4 @@
-ghost use Rattle.std.specs.Prelude.{◌≡◌, ◌<◌, Some, IfOk, OnOk, IsErrOf, vec_len};
+ghost use Rattle.std.specs.Prelude.{◌≡◌, ◌<◌, Some, OnOk, IsErrOf, vec_len};
 ghost use Rattle.std.specs.FinMap.{get, contains_key, insert, empty};
 ghost use Rattle.scenario.specs.Setup.{member_count};
 ghost use Rattle.member.specs.Here.{IsSoundSetting, HoldsMembers, MentionsMembers};
@@ -52,42 +52,33 @@ impl OwnMembers {
         ensures place { OnOk result (number < vec_len self.new.slots) }
     {
         while self.slots.len() <= number.index() {
-            match self.slots.push(None) {
-                Ok(()) => {}
-                Err(_) => return Err(Memory),
-            }
+            self.slots.push(None)?;
         }
         Ok(())
     }
 
-    /// What the event's receiver makes of it: nothing where that is none of these members.
+    /// Appends to `out` what the event's receiver makes of it: nothing where that is none of these members.
     pub(crate) fn handle(
         &mut self,
         alloc: Global,
         event: Event,
         setting: &Setting,
-    ) -> Result<Effects, StepError>
+        out: &mut Effects,
+    ) -> Result<(), StepError>
         requires here { IsSoundSetting setting.now.scenario.now setting.now.links.now event.key }
         requires known { (t : State) → get (states_in self.old) event.key.to ≡ Some t → HoldsMembers setting.now.scenario.now event.key.to t }
         requires names { MentionsMembers (member_count setting.now.scenario.now) event.content }
-        ensures ok { IfOk result (Handles setting.now.scenario.now event (states_in self.old) (states_in self.new)) }
+        ensures ok { OnOk result (Handles setting.now.scenario.now event (states_in self.old) (states_in self.new) out.old out.new) }
         ensures worn { IsErrOf result StepError.Worn → WearsReceiver setting.now.scenario.now event (states_in self.old) }
     {
-        let mut made = Effects {
-            events: Vec::new(alloc),
-            rows: Vec::new(alloc),
-        };
         let receiver = receiver_of(&event);
         if self.slots.len() <= receiver {
-            return Ok(made);
+            return Ok(());
         }
         let Some(member) = &mut self.slots[receiver] else {
-            return Ok(made);
+            return Ok(());
         };
-        match member.step(alloc, event, setting.scenario, setting.links, &mut made) {
-            Ok(()) => Ok(made),
-            Err(error) => Err(error),
-        }
+        member.step(alloc, event, setting.scenario, setting.links, out)
     }
 }
 

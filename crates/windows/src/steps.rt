@@ -23,6 +23,7 @@ use crate::setting::Setting;
 use base::Memory;
 use member::{Effects, Event, StepError};
 use std::alloc::Global;
+use std::mem::replace;
 use worker_queue::EventQueue;
 
 /// Runs the window that begins in this part.
@@ -47,16 +48,9 @@ pub(crate) fn run_from<Q: EventQueue<Event> + Drop>(
         events: Vec::new(alloc),
         rows: Vec::new(alloc),
     };
-    loop {
-        match advance(alloc, &mut part, setting, &mut made) {
-            Ok(true) => {}
-            Ok(false) => {
-                let Effects { events: out, rows } = made;
-                return Ok(Done { part, out, rows });
-            }
-            Err(error) => return Err(error),
-        }
-    }
+    while advance(alloc, &mut part, setting, &mut made)? {}
+    let Effects { events: out, rows } = made;
+    Ok(Done { part, out, rows })
 }
 
 /// The next step of the window: the least pending event is handled, if its moment is before the bound.
@@ -82,10 +76,8 @@ fn advance<Q: EventQueue<Event>>(
         Some(event) => event,
         None => return Ok(false),
     };
-    match handle_taken(alloc, part, event, setting, out) {
-        Ok(()) => Ok(true),
-        Err(error) => Err(error),
-    }
+    handle_taken(alloc, part, event, setting, out)?;
+    Ok(true)
 }
 
 /// Handles an event that was just taken out of the part's queue. What its receiver makes for members of
@@ -105,18 +97,12 @@ pub(crate) fn handle_taken<Q: EventQueue<Event>>(
     ensures number { OnOk result (part.new.number ≡ part.old.number) }
     ensures worn { IsErrOf result StepError.Worn → WearsReceiver setting.now.scenario.now event (world_of Q.set part.old).members }
 {
-    let Effects { events, rows } = match part.members.handle(alloc, event, setting) {
-        Ok(made) => made,
-        Err(error) => return Err(error),
-    };
-    match deliver(&part.members, &mut part.queue, events, &mut out.events) {
-        Ok(()) => {}
-        Err(Memory) => return Err(StepError::Memory),
-    }
-    match out.rows.extend_from_slice(&rows) {
-        Ok(()) => Ok(()),
-        Err(_) => Err(StepError::Memory),
-    }
+    // While the step appends its rows where they stay, the events that it makes are on a list of their own.
+    let sent = replace(&mut out.events, Vec::new(alloc));
+    part.members.handle(alloc, event, setting, out)?;
+    let made = replace(&mut out.events, sent);
+    deliver(&part.members, &mut part.queue, made, &mut out.events)?;
+    Ok(())
 }
 
 /// Lets the events for these members pend, and sends the others out.
@@ -133,10 +119,7 @@ fn deliver<Q: EventQueue<Event>>(
         OnOk result (map pair_of out.new.items ≡ map pair_of out.old.items ++ for_others own (map pair_of events.items)) }
 {
     for event in events {
-        match place(members, queue, event, out) {
-            Ok(()) => {}
-            Err(Memory) => return Err(Memory),
-        }
+        place(members, queue, event, out)?;
     }
     Ok(())
 }
@@ -157,9 +140,7 @@ fn place<Q: EventQueue<Event>>(
     if members.has(&event.key.to) {
         push(queue, event)
     } else {
-        match out.push(event) {
-            Ok(()) => Ok(()),
-            Err(_) => Err(Memory),
-        }
+        out.push(event)?;
+        Ok(())
     }
 }

@@ -1,5 +1,4 @@
-use Rattle.std.proofs.Common.{◌≡◌, Err, ap, subst}
-use Rattle.member.specs.declared.turn.StepError.TheVariants.{Worn}
+use Rattle.std.proofs.Common.{subst, rules}
 use Rattle.worker_queue.specs.SetOf.{set_of}
 use Rattle.windows.specs.Safe.{IsSafe}
 use Rattle.windows.specs.Play.{NonePasses}
@@ -47,21 +46,20 @@ handle_taken-requires-clause-new c =
     let safe = subst (λ end. IsSafe end c.args.least_delay w event.key) c.end-end.ensures.value c.in-Some.ensures.safe in
     new_taken s c.requires.sound c.args.least_delay c.requires.least w c.requires.played event c.in-Some.ensures.here safe (world_of set_of c.take_safe.new.part) c.in-Some.ensures.members c.in-Some.ensures.taken
 
-pub returns-in-Ok-clause-ok : goal.returns-in-Ok-clause-ok
-returns-in-Ok-clause-ok c =
+pub returns-clause-ok : goal.returns-clause-ok
+returns-clause-ok c =
     let s = c.args.setting.now.scenario.now in
     let w = world_of set_of c.args.part.now in
     let event = c.in-Some.event in
     let safe = subst (λ end. IsSafe end c.args.least_delay w event.key) c.end-end.ensures.value c.in-Some.ensures.safe in
     taken_handled_here s c.requires.sound c.args.least_delay c.requires.least w c.requires.played event c.in-Some.ensures.here safe (world_of set_of c.take_safe.new.part) c.in-Some.ensures.members
-    c.in-Some.ensures.taken c.args.member (world_of set_of c.handle_taken.new.part) c.args.made.now c.handle_taken.new.out c.in-Some.ensures.own c.in-Ok.ensures.ok
+    c.in-Some.ensures.taken c.args.member (world_of set_of c.handle_taken.new.part) c.args.made.now c.handle_taken.new.out c.in-Some.ensures.own c.in_ok-handle_taken.ensures.ok
 
-pub returns-in-Err-clause-worn : goal.returns-in-Err-clause-worn
-returns-in-Err-clause-worn c = λ worn.
+pub returns-in_err-handle_taken-clause-worn : goal.returns-in_err-handle_taken-clause-worn
+returns-in_err-handle_taken-clause-worn c = λ worn.
     let s = c.args.setting.now.scenario.now in
     let w = world_of set_of c.args.part.now in
     let event = c.in-Some.event in
     let safe = subst (λ end. IsSafe end c.args.least_delay w event.key) c.end-end.ensures.value c.in-Some.ensures.safe in
-    let same : c.in-Err.error ≡ Worn = cc in
     taken_wears_out s c.requires.sound c.args.least_delay c.requires.least w c.requires.played event c.in-Some.ensures.here safe (world_of set_of c.take_safe.new.part) c.in-Some.ensures.members
-    c.in-Some.ensures.taken (c.in-Err.ensures.worn (ap Err same))
+    c.in-Some.ensures.taken (c.in_err-handle_taken.ensures.worn (search rules))

@@ -24,15 +24,15 @@ loop-member-preserved c =
     let choices = c.args.choices.now in
     let after = world_of set_of c.choose.new.part in
     let rows = c.choose.new.made.rows.items in
-    let one : c.from-handled.result ≡ cond c.in-Ok.went 1 0 = c.from-handled.ensures ∙ counted_as c.in-Ok.went in
+    let one : c.from-handled.result ≡ cond c.in_ok-went.went 1 0 = c.from-handled.ensures ∙ counted_as c.in_ok-went.went in
     let within : place < length choices = omega arith in
     let taken = take_more choices place c.member-item.result within ∙ ap (λ y. take place choices ++ y ∷ []) (sym c.member-item.is) in
-    let few = at_most_one c.in-Ok.went in
+    let few = at_most_one c.in_ok-went.went in
     record {
       so_far =
           subst (λ l. HasPlayed s d l (c.loop-member.handled + c.from-handled.result) rows after) (sym taken)
           (subst (λ n. HasPlayed s d (take place choices ++ c.member-item.result ∷ []) (c.loop-member.handled + n) rows after) (sym one)
-          (one_played_more s d (take place choices) c.member-item.result c.loop-member.handled c.in-Ok.went c.loop-member.made.rows.items rows (world_of set_of c.loop-member.part) after c.loop-member.invariant.so_far
-          c.in-Ok.ensures.ok));
+          (one_played_more s d (take place choices) c.member-item.result c.loop-member.handled c.in_ok-went.went c.loop-member.made.rows.items rows (world_of set_of c.loop-member.part) after c.loop-member.invariant.so_far
+          c.in_ok-went.ensures.ok));
       few = omega (arith, few, one, c.loop-member.invariant.few);
     }

@@ -13,7 +13,7 @@ pub returns-clause-played : goal.returns-clause-played
 returns-clause-played c =
     let s = c.args.scenario.now in
     let d = c.least_delay-least_delay in
-    let least = least_of_links s d.result (d.ensures.reached s c.in-Ok.ensures) (d.ensures.least s c.in-Ok.ensures) (d.ensures.alone s c.in-Ok.ensures) in
+    let least = least_of_links s d.result (d.ensures.reached s c.in_ok-links.ensures) (d.ensures.least s c.in_ok-links.ensures) (d.ensures.alone s c.in_ok-links.ensures) in
     let w = world_of set_of c.choose_all.new.part in
-    play_of s d.result c.args.choices.now c.in-Ok-choose_all.handled c.choose_all.new.made.rows.items w _ least c.in-Ok-choose_all.ensures.ok refl refl (omega (arith, c.in-Ok-choose_all.ensures.no_more))
+    play_of s d.result c.args.choices.now c.in_ok-handled.handled c.choose_all.new.made.rows.items w _ least c.in_ok-handled.ensures.ok refl refl (omega (arith, c.in_ok-handled.ensures.no_more))
     (subst (λ end. IsLeastLeft end w c.left_up_to.result) c.end-end.ensures.value c.left_up_to.ensures)

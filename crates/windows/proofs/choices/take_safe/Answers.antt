@@ -4,11 +4,11 @@ use Rattle.worker_queue.specs.Queue.{NoneIsBelowFor}
 use Rattle.worker_queue.specs.SetOf.{set_of}
 use Rattle.worker_queue.proofs.Contents.{here_content, least_content_for, none_below_for, contents_by-remove}
 use Rattle.windows.specs.WorldOf.{world_of, contents_in, content_of}
-use Rattle.windows.proofs.PlaySafe.{of_both, of_none, safe_of, none_safe, none_pending}
+use Rattle.windows.proofs.PlaySafe.{if_none, of_both, of_none, safe_of, none_safe, none_pending}
 use Rattle.windows.proofs.choices.take_safe.Goals as goal
 
-pub returns-in-None-clause-none : goal.returns-in-None-clause-none
-returns-in-None-clause-none c = none_pending c.args.end (world_of set_of c.args.part.now) c.args.least_delay c.args.member c.in-None.ensures.none
+pub returns-in_err-least-clause-none : goal.returns-in_err-least-clause-none
+returns-in_err-least-clause-none c = if_none _ _ (none_pending c.args.end (world_of set_of c.args.part.now) c.args.least_delay c.args.member c.in_err-least.ensures.none)
 
 pub returns-clause-here : goal.returns-clause-here
 returns-clause-here c = IfSome_then c.take_for.result c.take_for.ensures.here (λ event here. here_content content_of (set_of c.args.part.now.queue) event.key event here)
@@ -17,7 +17,7 @@ pub returns-clause-safe : goal.returns-clause-safe
 returns-clause-safe c =
     of_both c.take_for.result _ _ _
     (λ event first below.
-    safe_of c.args.end (world_of set_of c.args.part.now) c.in-Some.least c.in-Some.ensures.least c.args.least_delay c.args.member event.key
+    safe_of c.args.end (world_of set_of c.args.part.now) c.in_ok-least.least c.in_ok-least.ensures.least c.args.least_delay c.args.member event.key
     (least_content_for content_of (set_of c.args.part.now.queue) c.args.member event.key first) (subst (λ bound. event.key.at < bound) c.safe_before-bound.ensures below))
     c.take_for.ensures.first c.take_for.ensures.below
 
@@ -28,6 +28,6 @@ pub returns-clause-none : goal.returns-clause-none
 returns-clause-none c =
     of_none c.take_for.result _ _
     (λ none.
-    none_safe c.args.end (world_of set_of c.args.part.now) c.in-Some.least c.in-Some.ensures.least c.args.least_delay c.args.member
+    none_safe c.args.end (world_of set_of c.args.part.now) c.in_ok-least.least c.in_ok-least.ensures.least c.args.least_delay c.args.member
     (none_below_for content_of (set_of c.args.part.now.queue) c.args.member _ (subst (NoneIsBelowFor (set_of c.args.part.now.queue) c.args.member) c.safe_before-bound.ensures none)))
     c.take_for.ensures.none

@@ -1,5 +1,4 @@
-use Rattle.std.proofs.Common.{◌≡◌, Err, ap, ◌∙◌, refl}
-use Rattle.member.specs.declared.turn.StepError.TheVariants.{Worn}
+use Rattle.std.proofs.Common.{ap, ◌∙◌, refl, rules}
 use Rattle.windows.specs.WorldOf.{world_of, contents_in, content_of}
 use Rattle.worker_queue.proofs.Contents.{first_content, none_below, contents_by-remove}
 use Rattle.windows.proofs.Consistent.{event_here, holds_members, new_made}
@@ -32,16 +31,15 @@ handle_taken-requires-clause-new g c =
     let taken = ap contents_in c.in-Some.ensures.taken ∙ contents_by-remove content_of (g.Q.EventQueue.set c.args.part.now.queue) event.key in
     new_made c.args.setting.now.scenario.now c.requires.sound p event.key event.content _ _ taken refl c.requires.consistent
 
-pub returns-in-Ok-clause-went : goal.returns-in-Ok-clause-went
-returns-in-Ok-clause-went g c =
+pub returns-clause-went : goal.returns-clause-went
+returns-clause-went g c =
     let event = c.in-Some.event in
     let first = first_content content_of (g.Q.EventQueue.set c.args.part.now.queue) event.key event c.in-Some.ensures.first in
     let taken = ap contents_in c.in-Some.ensures.taken ∙ contents_by-remove content_of (g.Q.EventQueue.set c.args.part.now.queue) event.key in
-    advanced c.args.setting.now.scenario.now c.args.setting.now.bound (world_of g.Q.EventQueue.set c.args.part.now) event first c.in-Some.ensures.below _ _ _ _ taken c.in-Ok.ensures.ok
+    advanced c.args.setting.now.scenario.now c.args.setting.now.bound (world_of g.Q.EventQueue.set c.args.part.now) event first c.in-Some.ensures.below _ _ _ _ taken c.in_ok-handle_taken.ensures.ok
 
-pub returns-in-Err-clause-worn : goal.returns-in-Err-clause-worn
-returns-in-Err-clause-worn g c =
+pub returns-in_err-handle_taken-clause-worn : goal.returns-in_err-handle_taken-clause-worn
+returns-in_err-handle_taken-clause-worn g c =
     let event = c.in-Some.event in
     let first = first_content content_of (g.Q.EventQueue.set c.args.part.now.queue) event.key event c.in-Some.ensures.first in
-    λ worn. let same : c.in-Err.error ≡ Worn = cc in
-    event_wears c.args.setting.now.scenario.now c.args.setting.now.bound (world_of g.Q.EventQueue.set c.args.part.now) event first c.in-Some.ensures.below (c.in-Err.ensures.worn (ap Err same))
+    λ worn. event_wears c.args.setting.now.scenario.now c.args.setting.now.bound (world_of g.Q.EventQueue.set c.args.part.now) event first c.in-Some.ensures.below (c.in_err-handle_taken.ensures.worn (search rules))

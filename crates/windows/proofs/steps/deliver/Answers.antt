@@ -25,6 +25,6 @@ loop-event-preserved g c =
     let event = c.in-Some.event in
     record {
       left = c.loop-event.invariant.left ∙ ap (λ rest. c.loop-event.yielded ++ rest) c.in-Some.ensures.steps.0 ∙ sym (append_assoc c.loop-event.yielded (event ∷ []) c.next.new.self.rest.items);
-      own = one_more_own own _ _ _ c.loop-event.yielded event c.loop-event.invariant.own c.in-Ok.ensures.own;
-      others = one_more_other own _ _ _ c.loop-event.yielded event c.loop-event.invariant.others c.in-Ok.ensures.others;
+      own = one_more_own own _ _ _ c.loop-event.yielded event c.loop-event.invariant.own c.in_ok-place.ensures.own;
+      others = one_more_other own _ _ _ c.loop-event.yielded event c.loop-event.invariant.others c.in_ok-place.ensures.others;
     }

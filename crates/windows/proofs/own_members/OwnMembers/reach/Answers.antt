@@ -6,4 +6,4 @@ use Rattle.windows.proofs.own_members.OwnMembers.reach.Goals as goal
 
 pub loop-number-preserved : goal.loop-number-preserved
 loop-number-preserved c =
-    ap (λ slots. from_entries (states_from 0 slots)) c.in-Ok.ensures.items ∙ ap from_entries (one_more_place c.loop-number.self.slots.items 0) ∙ c.loop-number.invariant
+    ap (λ slots. from_entries (states_from 0 slots)) c.in_ok-push.ensures.items ∙ ap from_entries (one_more_place c.loop-number.self.slots.items 0) ∙ c.loop-number.invariant
