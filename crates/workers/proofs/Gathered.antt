@@ -64,10 +64,10 @@ module _ {Q : Type 0} (set : Q → FinMap key_cmp Event) (s : Setup) (bound : �
     ok =
         IfOk-weaker after _ _
         (λ all j.
-            subst (RanWindows set s bound (ps ++ p ∷ [])) (sym j.items)
-            (had_more ps j.before.items p j.done
-            (subst (λ (r : Result (Vec (Done Q) Global) Fault). IfOk r (λ all. RanWindows set s bound ps all.items)) j.was so.ok)
-            (subst (λ (r : Result (Done Q) Fault). IfOk r (λ done. RunsWindow s bound (world_of set p) done.out.items done.rows.items (world_of set done.part))) j.is ok)))
+        subst (RanWindows set s bound (ps ++ p ∷ [])) (sym j.items)
+        (had_more ps j.before.items p j.done
+        (subst (λ (r : Result (Vec (Done Q) Global) Fault). IfOk r (λ all. RanWindows set s bound ps all.items)) j.was so.ok)
+        (subst (λ (r : Result (Done Q) Fault). IfOk r (λ done. RunsWindow s bound (world_of set p) done.out.items done.rows.items (world_of set done.part))) j.is ok)))
         joins;
     worn = λ is. elim (either is) [ inl before ↦ wears_more ps (p ∷ []) (so.worn before) | inr now ↦ last_wears ps p (worn now) ];
     write = writes so.write write;

@@ -72,7 +72,9 @@ pub(crate) fn ring_for<Q: EventQueue<Event> + Drop>(
     ensures ticket { IfOk result (λ r. (r.0.scenario.value ≡ scenario.now) × (r.0.bound ≡ bound) × (r.0.before.value ≡ part.now)) }
     ensures reply { IfOk result (λ r. (r.1.scenario.value ≡ scenario.now) × (r.1.bound ≡ bound) × (r.1.before.value ≡ part.now)) }
 {
-    let (mut producer, mut consumer) = match RingBuffer::with_protocol::<Global, InTurn<Q>>(alloc, 2) {
+    let (mut producer, mut consumer) = match RingBuffer::with_protocol::<Global, InTurn<Q>>(
+        alloc, 2,
+    ) {
         Ok(ends) => ends,
         Err(_) => return Err(Memory),
     };
