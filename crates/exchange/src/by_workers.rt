@@ -34,9 +34,7 @@ use std::thread::Threads;
 use trace::Sink;
 use windows::Part;
 use worker_queue::EventQueue;
-use workers::{
-    Crew, ErrandBoard, ErrandPost, ErrandSeat, Gate, SEATS, Signals, close_board,
-};
+use workers::{Crew, ErrandBoard, ErrandPost, ErrandSeat, Gate, SEATS, Signals, close_board};
 
 /// Runs the scenario by the parts of a division of its members: window after window, in each the parts by as
 /// many workers as are asked for, but no more than there are parts. It writes what `run_one` writes, whatever
@@ -169,11 +167,14 @@ fn by_crew<'a, A: Sink, Q: EventQueue<Event> + Drop + Send, G: Gate, R: Threads 
         Ok(made) => made,
         Err(Memory) => return Err(Fault::Memory),
     };
-    let (board, seats): (ErrandBoard<'a, Q>, Vec<ErrandSeat<'a, Q>>) =
-        match Board::new(alloc, division.parts(), SEATS) {
-            Ok(made) => made,
-            Err(Memory) => return Err(Fault::Memory),
-        };
+    let (board, seats): (ErrandBoard<'a, Q>, Vec<ErrandSeat<'a, Q>>) = match Board::new(
+        alloc,
+        division.parts(),
+        SEATS,
+    ) {
+        Ok(made) => made,
+        Err(Memory) => return Err(Fault::Memory),
+    };
     let (tallied, seats) = match at_board::<A, Q, G, Brand, R>(
         rt, alloc, &board, seats, parts, workers, gate, scenario, links, division, relay, sender,
         taker, tallied, trace,

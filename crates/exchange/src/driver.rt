@@ -76,11 +76,7 @@ pub(crate) fn drive<
     G: Gate,
     J: Site,
     R: Threads + Wait + Sync,
->(
-    rt: &R,
-    alloc: Global,
-    task: Task<'r, 'b, 'a, Q, G, J>,
-) -> (Driven, ErrandPost<'b, 'a, Q, J>)
+>(rt: &R, alloc: Global, task: Task<'r, 'b, 'a, Q, G, J>) -> (Driven, ErrandPost<'b, 'a, Q, J>)
     requires together { GoTogether task.scenario.now task.links.now task.division.now }
     requires opened { StandFor Q.set task.division.now task.parts.items (opening task.scenario.now) }
     requires seat { MaySend task.scenario.now task.relay.now task.seat }
@@ -104,14 +100,7 @@ pub(crate) fn drive<
 
 /// Runs the parts in which a run begins, turn after turn, by the crew, and hands the rows of each turn to
 /// the stream.
-fn turns_by_crew<
-    'b,
-    'a,
-    Q: EventQueue<Event> + Drop,
-    G: Gate,
-    J: Site,
-    R: Threads + Wait + Sync,
->(
+fn turns_by_crew<'b, 'a, Q: EventQueue<Event> + Drop, G: Gate, J: Site, R: Threads + Wait + Sync>(
     rt: &R,
     alloc: Global,
     mut parts: Vec<Part<Q>>,

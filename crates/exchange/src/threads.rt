@@ -81,7 +81,17 @@ pub(crate) fn within<
     let (ended, _trace) = thread::scope(
         thread::scope_env(),
         rt,
-        move |scope| -> (Result<(Ended, ErrandPost<Q, J>, Result<Vec<ErrandPost<Q, J>>, Memory>), Fault>, &mut A)
+        move |scope| -> (
+            Result<
+                (
+                    Ended,
+                    ErrandPost<Q, J>,
+                    Result<Vec<ErrandPost<Q, J>>, Memory>,
+                ),
+                Fault,
+            >,
+            &mut A,
+        )
             requires { IsSync R.row × IsSync G.row × IsSend Q.row
                 × GoTogether task.scenario.now task.links.now task.division.now
                 × StandFor Q.set task.division.now task.parts.items (opening task.scenario.now)

@@ -230,7 +230,9 @@ fn at_board<'a, G: Gate, J: Site + Send, R: Threads + Wait + Sync>(
         return Err(Fault::Relay);
     };
     let crew = Crew::new(workers, own, &signals, gate);
-    let (rows, posts) = match within(rt, alloc, workers, posts, crew, &signals, gate, scenario, links) {
+    let (rows, posts) = match within(
+        rt, alloc, workers, posts, crew, &signals, gate, scenario, links,
+    ) {
         Ok(pair) => pair,
         Err(fault) => return Err(fault),
     };
