@@ -1,3 +1,4 @@
 pub mod Hands
 pub mod Same
+pub mod Singles
 pub mod Steps

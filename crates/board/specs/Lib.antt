@@ -1,2 +1,4 @@
 pub mod Deal
+pub mod NoSite
 pub mod Seats
+pub mod Sites

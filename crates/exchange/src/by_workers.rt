@@ -1,16 +1,20 @@
 //! A run by threads that live as long as it does: workers run the windows of the parts, a driver deals and
 //! exchanges, and the calling thread writes.
-ghost use Rattle.std.specs.Prelude.{◌≡◌, ◌≢◌, ◌<◌, ◌^◌, ◌⊎◌, length, IfOk, OnOk, IfErr, OnErr, IsErrOf};
+ghost use Rattle.std.specs.Prelude.{◌≡◌, ◌≢◌, ◌<◌, ◌^◌, ◌⊎◌, [], length, IfOk, OnOk, IfErr, OnErr, IsErrOf};
 ghost use Rattle.std.specs.Io.KnownBytes.{Appends};
+ghost use Rattle.board.specs.Deal.{whole};
+ghost use Rattle.board.specs.Seats.{AreAllSeats};
+ghost use Rattle.board.specs.Sites.{table_of, AreSingleSeats};
 ghost use Rattle.scenario.specs.Setup.{IsSound, member_count};
 ghost use Rattle.trace.specs.Text.{trace_text};
 ghost use Rattle.member.specs.Opening.{opening};
 ghost use Rattle.member_laws.specs.Runs.{IsRunOf, WearsOut};
 ghost use Rattle.exchange.specs.Course.{GoTogether};
 ghost use Rattle.exchange.specs.Parts.{StandFor};
+ghost use Rattle.exchange.specs.Streams.{MaySend, MayTake};
 ghost use Rattle.exchange.specs.Promise.{WritesRun, WritesBeginning, BeginsTrace, WearsOutReport};
 
-use crate::driver::{Driven, Ended};
+use crate::driver::Ended;
 use crate::opening::open_wheels;
 use crate::outputs::{fault_of, flush, write_tallied};
 use crate::sequential::Summary;
@@ -18,22 +22,19 @@ use crate::stream_writer::first_fault;
 use crate::tallied::Tallied;
 use crate::threads::within;
 use base::{Fault, Memory};
-use crossbeam_channel::bounded;
+use board::{Board, Site, posts_at, seats_of};
 use links::Links;
 use member::Event;
-use relay::{Relay, close};
+use relay::{Relay, SendSeat, TakeSeat, close};
 use scenario::{Division, Scenario, Workers};
 use std::alloc::Global;
-use std::marker::Sync;
+use std::marker::{Brand, Sync};
 use std::sync::Wait;
 use std::thread::Threads;
 use trace::Sink;
 use windows::Part;
 use worker_queue::EventQueue;
-use workers::{Awaited, Gate};
-
-/// How many errands may be on their way to the workers: as many as there are parts, at most.
-const MOST_ERRANDS: usize = 64;
+use workers::{Crew, ErrandBoard, ErrandPost, ErrandSeat, Gate, SEATS, Signals, close_board};
 
 /// Runs the scenario by the parts of a division of its members: window after window, in each the parts by as
 /// many workers as are asked for, but no more than there are parts. It writes what `run_one` writes, whatever
@@ -133,17 +134,17 @@ fn run_into<A: Sink, G: Gate, R: Threads + Wait + Sync>(
     )
 }
 
-/// Runs these parts by a crew of so many workers, and writes the trace.
-#[tactic(auto, using(crate::proofs::Endings::begins_nothing, crate::proofs::Endings::begins_trace, crate::proofs::Endings::run_ended, crate::proofs::Endings::trace_ended, crate::proofs::Endings::lasts_ended, crate::proofs::Endings::unfailed, crate::proofs::Endings::worn_ended, crate::proofs::Endings::write_ended, crate::proofs::Endings::relay_ended))]
-fn by_crew<A: Sink, Q: EventQueue<Event> + Drop + Send, G: Gate, R: Threads + Wait + Sync>(
+/// Runs these parts by a crew of so many workers, over a board that is closed at the end, and writes the trace.
+#[tactic(auto, using(crate::proofs::Endings::begins_nothing))]
+fn by_crew<'a, A: Sink, Q: EventQueue<Event> + Drop + Send, G: Gate, R: Threads + Wait + Sync>(
     rt: &R,
     alloc: Global,
     parts: Vec<Part<Q>>,
     workers: usize,
     gate: &G,
-    scenario: &Scenario,
-    links: &Links,
-    division: &Division,
+    scenario: &'a Scenario,
+    links: &'a Links,
+    division: &'a Division,
     trace: &mut A,
 ) -> Result<Tallied, Fault>
     requires together { GoTogether scenario.now links.now division.now }
@@ -166,16 +167,91 @@ fn by_crew<A: Sink, Q: EventQueue<Event> + Drop + Send, G: Gate, R: Threads + Wa
         Ok(made) => made,
         Err(Memory) => return Err(Fault::Memory),
     };
-    let awaited = Awaited::new();
-    let Ok((errands, posted)) = bounded(alloc, MOST_ERRANDS) else {
-        return Err(Fault::Memory);
-    };
-    let ended = match within(
-        rt, alloc, workers, errands, &posted, &awaited, gate, parts, scenario, links, division,
-        &relay, sender, taker, tallied, trace,
+    let (board, seats): (ErrandBoard<'a, Q>, Vec<ErrandSeat<'a, Q>>) = match Board::new(
+        alloc,
+        division.parts(),
+        SEATS,
     ) {
-        Ok(ended) => ended,
+        Ok(made) => made,
+        Err(Memory) => return Err(Fault::Memory),
+    };
+    let (tallied, seats) = match at_board::<A, Q, G, Brand, R>(
+        rt, alloc, &board, seats, parts, workers, gate, scenario, links, division, relay, sender,
+        taker, tallied, trace,
+    ) {
+        Ok(made) => made,
         Err(fault) => return Err(fault),
+    };
+    match close_board(rt, board, seats) {
+        Ok(()) => Ok(tallied),
+        Err(fault) => Err(fault),
+    }
+}
+
+/// The same over this board, with a post at each of its seats: the rows' tallies, and the seats.
+#[tactic(auto, using(crate::proofs::Endings::begins_nothing, crate::proofs::Endings::begins_trace, crate::proofs::Endings::run_ended, crate::proofs::Endings::trace_ended, crate::proofs::Endings::lasts_ended, crate::proofs::Endings::unfailed, crate::proofs::Endings::worn_ended, crate::proofs::Endings::write_ended, crate::proofs::Endings::relay_ended))]
+fn at_board<
+    'a,
+    A: Sink,
+    Q: EventQueue<Event> + Drop + Send,
+    G: Gate,
+    J: Site + Send,
+    R: Threads + Wait + Sync,
+>(
+    rt: &R,
+    alloc: Global,
+    board: &ErrandBoard<'a, Q>,
+    seats: Vec<ErrandSeat<'a, Q>>,
+    parts: Vec<Part<Q>>,
+    workers: usize,
+    gate: &G,
+    scenario: &'a Scenario,
+    links: &'a Links,
+    division: &'a Division,
+    relay: Relay,
+    sender: SendSeat,
+    taker: TakeSeat,
+    tallied: Tallied,
+    trace: &mut A,
+) -> Result<(Tallied, Vec<ErrandSeat<'a, Q>>), Fault>
+    requires here { table_of board.now ≡ J.table }
+    requires all { AreAllSeats board.now seats.items }
+    requires count { length seats.items ≡ whole }
+    requires together { GoTogether scenario.now links.now division.now }
+    requires opened { StandFor Q.set division.now parts.items (opening scenario.now) }
+    requires sends { MaySend scenario.now relay sender }
+    requires takes { MayTake scenario.now relay taker }
+    requires none { tallied.tallies ≡ [] }
+    requires countable { A.failed trace.old < 2 ^ 63 }
+    ensures seats { IfOk result (λ r. AreSingleSeats board.now r.1.items) }
+    ensures run { IfOk result (λ r. IsRunOf scenario.now r.0.tallies) }
+    ensures whole { IfOk result (λ r. Appends (A.held trace.old) (A.held trace.new) (trace_text scenario.now r.0.tallies)) }
+    ensures part { OnErr result (BeginsTrace scenario.now (A.held trace.old) (A.held trace.new)) }
+    ensures lasts { OnOk result (¬ (WearsOut scenario.now)) }
+    ensures worn { IsErrOf result Fault.Worn → WearsOut scenario.now ⊎ WearsOutReport scenario.now }
+    ensures write { IsErrOf result Fault.Write → A.failed trace.old < A.failed trace.new }
+    ensures unfailed { OnOk result (A.failed trace.new ≡ A.failed trace.old) }
+    ensures relay { IsErrOf result Fault.Relay → A.failed trace.new ≡ A.failed trace.old }
+{
+    let signals = Signals::new();
+    let mut posts: Vec<ErrandPost<Q, J>> = match posts_at(alloc, board, seats) {
+        Ok(posts) => posts,
+        Err(Memory) => return Err(Fault::Memory),
+    };
+    let Some(own) = posts.pop() else {
+        return Err(Fault::Relay);
+    };
+    let crew = Crew::new(workers, own, &signals, gate);
+    let (ended, posts) = match within(
+        rt, alloc, workers, posts, crew, &signals, gate, parts, scenario, links, division, &relay,
+        sender, taker, tallied, trace,
+    ) {
+        Ok(left) => left,
+        Err(fault) => return Err(fault),
+    };
+    let seats = match posts {
+        Ok(posts) => seats_of(alloc, board, posts),
+        Err(Memory) => Err(Memory),
     };
     let Ended {
         driven,
@@ -183,11 +259,13 @@ fn by_crew<A: Sink, Q: EventQueue<Event> + Drop + Send, G: Gate, R: Threads + Wa
         tallied,
         written,
     } = ended;
-    let Driven { seat, outcome } = driven;
-    drop(posted);
-    close(relay, seat, taker);
-    match first_fault(outcome, written) {
-        Ok(()) => Ok(tallied),
+    close(relay, driven.seat, taker);
+    let seats = match seats {
+        Ok(seats) => seats,
+        Err(Memory) => return Err(Fault::Memory),
+    };
+    match first_fault(driven.outcome, written) {
+        Ok(()) => Ok((tallied, seats)),
         Err(fault) => Err(fault),
     }
 }

@@ -10,6 +10,7 @@ use crate::stream::Stream;
 use crate::tallied::Tallied;
 use crate::turns::{Course, Turned, course_of, exchanged, next_bound};
 use base::{Fault, Memory};
+use board::Site;
 use links::Links;
 use member::Event;
 use relay::{Relay, SendSeat, TakeSeat};
@@ -21,7 +22,7 @@ use std::sync::Wait;
 use std::thread::{Promise, Threads};
 use windows::Part;
 use worker_queue::EventQueue;
-use workers::{Crew, Gate};
+use workers::{Crew, ErrandPost, Gate};
 
 /// What the driver of a run gives back.
 #[derive(Drop)]
@@ -46,36 +47,40 @@ pub(crate) struct Ended {
 #[derive(Drop)]
 pub(crate) struct Drives(pub(crate) Snapshot<Scenario>, pub(crate) Snapshot<Relay>);
 
-impl Promise<Driven> for Drives {
+impl<'b, 'a, Q: EventQueue<Event>, J: Site> Promise<(Driven, ErrandPost<'b, 'a, Q, J>)> for Drives {
     ghost use Rattle.exchange.specs.Streams.{IsDriven};
 
-    ghost kept_by = { λ promise driven. IsDriven promise.0.value promise.1.value driven };
+    ghost kept_by = { λ promise given. IsDriven promise.0.value promise.1.value given.0 };
 }
 
 /// What the driver of a run takes with it.
 #[derive(Drop)]
-pub(crate) struct Task<'a, Q: EventQueue<Event>, G> {
+pub(crate) struct Task<'r, 'b, 'a, Q: EventQueue<Event>, G, J: Site> {
     /// The parts in which the run begins.
     pub(crate) parts: Vec<Part<Q>>,
-    pub(crate) crew: Crew<'a, Q, G>,
+    pub(crate) crew: Crew<'b, 'a, Q, G, J>,
     pub(crate) scenario: &'a Scenario,
     pub(crate) links: &'a Links,
     pub(crate) division: &'a Division,
-    pub(crate) relay: &'a Relay,
+    pub(crate) relay: &'r Relay,
     pub(crate) seat: SendSeat,
 }
 
 /// Runs the parts of the task, turn after turn, by its crew, and sends the rows over its relay. After a fault
-/// too the last batch is sent.
-pub(crate) fn drive<'a, Q: EventQueue<Event> + Drop, G: Gate, R: Threads + Wait + Sync>(
-    rt: &'a R,
-    alloc: Global,
-    task: Task<'a, Q, G>,
-) -> Driven
+/// too the last batch is sent. Then the workers end, and the crew's post comes back.
+pub(crate) fn drive<
+    'r,
+    'b,
+    'a,
+    Q: EventQueue<Event> + Drop,
+    G: Gate,
+    J: Site,
+    R: Threads + Wait + Sync,
+>(rt: &R, alloc: Global, task: Task<'r, 'b, 'a, Q, G, J>) -> (Driven, ErrandPost<'b, 'a, Q, J>)
     requires together { GoTogether task.scenario.now task.links.now task.division.now }
     requires opened { StandFor Q.set task.division.now task.parts.items (opening task.scenario.now) }
     requires seat { MaySend task.scenario.now task.relay.now task.seat }
-    ensures { IsDriven task.entry.scenario.now task.entry.relay.now result }
+    ensures { IsDriven task.entry.scenario.now task.entry.relay.now result.0 }
 {
     let Task {
         parts,
@@ -89,16 +94,17 @@ pub(crate) fn drive<'a, Q: EventQueue<Event> + Drop, G: Gate, R: Threads + Wait 
     let course = course_of(scenario, links, division);
     let mut stream = Stream::new(rt, alloc, scenario, relay, seat);
     let outcome = turns_by_crew(rt, alloc, parts, &mut crew, &mut stream, &course);
-    stream.close(outcome)
+    let driven = stream.close(outcome);
+    (driven, crew.leave())
 }
 
 /// Runs the parts in which a run begins, turn after turn, by the crew, and hands the rows of each turn to
 /// the stream.
-fn turns_by_crew<'a, Q: EventQueue<Event> + Drop, G: Gate, R: Threads + Wait + Sync>(
+fn turns_by_crew<'b, 'a, Q: EventQueue<Event> + Drop, G: Gate, J: Site, R: Threads + Wait + Sync>(
     rt: &R,
     alloc: Global,
     mut parts: Vec<Part<Q>>,
-    crew: &mut Crew<'a, Q, G>,
+    crew: &mut Crew<'b, 'a, Q, G, J>,
     stream: &mut Stream<R>,
     course: &Course<'a>,
 ) -> Result<(), Fault>

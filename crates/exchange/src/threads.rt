@@ -1,5 +1,5 @@
 //! The threads of a run, from their start to their end.
-ghost use Rattle.std.specs.Prelude.{◌≡◌, ◌<◌, ◌^◌, [], IfOk, OnErr, IfErr};
+ghost use Rattle.std.specs.Prelude.{◌≡◌, ◌≢◌, ◌<◌, ◌^◌, [], IfOk, OnErr, IfErr};
 ghost use Rattle.std.specs.Thread.{IsSync, IsSend};
 ghost use Rattle.member.specs.Opening.{opening};
 ghost use Rattle.exchange.specs.Course.{GoTogether};
@@ -9,8 +9,8 @@ ghost use Rattle.exchange.specs.Streams.{MaySend, MayTake, IsDriven, HasEnded};
 use crate::driver::{Driven, Drives, Ended, Task, drive};
 use crate::stream_writer::write_stream;
 use crate::tallied::Tallied;
-use base::Fault;
-use crossbeam_channel::{Receiver, Sender};
+use base::{Fault, Memory};
+use board::Site;
 use links::Links;
 use member::Event;
 use relay::{Relay, SendSeat, TakeSeat};
@@ -20,52 +20,58 @@ use std::marker::Sync;
 use std::snapshot::Snapshot;
 use std::sync::Wait;
 use std::thread;
-use std::thread::Threads;
+use std::thread::{JoinHandle, Threads};
 use trace::Sink;
 use windows::Part;
 use worker_queue::EventQueue;
-use workers::{Awaited, Crew, Errand, Gate, work};
+use workers::{Crew, ErrandPost, Gate, Signals, work};
 
-/// Starts the workers and the driver, writes on the calling thread what the driver sends, and returns once all
-/// threads have ended. One worker alone is the driver itself. `Relay` where a thread could not be started: then
-/// nothing was written.
+/// Starts a worker at each of so many posts and the driver, who has the crew, writes on the calling thread what
+/// the driver sends, and returns once all threads have ended: what they leave, and all posts, or `Memory` where
+/// there was none for these. One worker alone is the driver itself.
+///
+/// Faults: `Relay` where a thread could not be started, `Memory` where its handle could not be kept. Then nothing
+/// was written.
 pub(crate) fn within<
+    'r,
+    'b,
     'a,
     A: Sink,
     Q: EventQueue<Event> + Drop + Send,
     G: Gate,
+    J: Site + Send,
     R: Threads + Wait + Sync,
 >(
-    rt: &'a R,
+    rt: &R,
     alloc: Global,
     workers: usize,
-    errands: Sender<Errand<'a, Q>>,
-    posted: &Receiver<Errand<'a, Q>>,
-    awaited: &'a Awaited,
-    gate: &'a G,
+    mut posts: Vec<ErrandPost<'b, 'a, Q, J>>,
+    crew: Crew<'b, 'a, Q, G, J>,
+    signals: &Signals,
+    gate: &G,
     parts: Vec<Part<Q>>,
     scenario: &'a Scenario,
     links: &'a Links,
     division: &'a Division,
-    relay: &'a Relay,
+    relay: &'r Relay,
     sender: SendSeat,
     taker: TakeSeat,
     tallied: Tallied,
     trace: &mut A,
-) -> Result<Ended, Fault>
+) -> Result<(Ended, Result<Vec<ErrandPost<'b, 'a, Q, J>>, Memory>), Fault>
     requires together { GoTogether scenario.now links.now division.now }
     requires opened { StandFor Q.set division.now parts.items (opening scenario.now) }
     requires sends { MaySend scenario.now relay.now sender }
     requires takes { MayTake scenario.now relay.now taker }
     requires none { tallied.tallies ≡ [] }
     requires countable { A.failed trace.old < 2 ^ 63 }
-    ensures ended { IfOk result (λ ended. HasEnded scenario.now relay.now (A.held trace.old) (A.held trace.new) (A.failed trace.old) (A.failed trace.new) ended) }
+    ensures ended { IfOk result (λ r. HasEnded scenario.now relay.now (A.held trace.old) (A.held trace.new) (A.failed trace.old) (A.failed trace.new) r.0) }
     ensures unwritten { OnErr result (trace.new ≡ trace.old) }
-    ensures fault { IfErr result (λ fault. fault ≡ Fault.Relay) }
+    ensures fault { IfErr result (λ fault. (fault ≢ Fault.Worn) × (fault ≢ Fault.Write)) }
 {
     let task = Task {
         parts,
-        crew: Crew::new(workers, errands, awaited, gate),
+        crew,
         scenario,
         links,
         division,
@@ -75,7 +81,17 @@ pub(crate) fn within<
     let (ended, _trace) = thread::scope(
         thread::scope_env(),
         rt,
-        move |scope| -> (Result<Ended, Fault>, &mut A)
+        move |scope| -> (
+            Result<
+                (
+                    Ended,
+                    ErrandPost<Q, J>,
+                    Result<Vec<ErrandPost<Q, J>>, Memory>,
+                ),
+                Fault,
+            >,
+            &mut A,
+        )
             requires { IsSync R.row × IsSync G.row × IsSend Q.row
                 × GoTogether task.scenario.now task.links.now task.division.now
                 × StandFor Q.set task.division.now task.parts.items (opening task.scenario.now)
@@ -84,28 +100,39 @@ pub(crate) fn within<
                 × (task.scenario.now ≡ scenario.now) × (task.relay.now ≡ relay.now)
                 × (tallied.tallies ≡ []) × (A.failed trace.now < 2 ^ 63) }
             ensures same { result.1.ghost_name ≡ trace.entry.ghost_name }
-            ensures ended { IfOk result.0 (λ ended. HasEnded scenario.entry.now relay.entry.now
-                (A.held trace.entry.now) (A.held result.1.now) (A.failed trace.entry.now) (A.failed result.1.now) ended) }
+            ensures ended { IfOk result.0 (λ r. HasEnded scenario.entry.now relay.entry.now
+                (A.held trace.entry.now) (A.held result.1.now) (A.failed trace.entry.now) (A.failed result.1.now) r.0) }
             ensures unwritten { OnErr result.0 (result.1.now ≡ trace.entry.now) }
-            ensures fault { IfErr result.0 (λ fault. fault ≡ Fault.Relay) }
+            ensures fault { IfErr result.0 (λ fault. (fault ≢ Fault.Worn) × (fault ≢ Fault.Write)) }
         {
             let started = if workers == 1 { 0 } else { workers };
-            let mut all_started = true;
+            let Ok(mut threads) = Vec::with_capacity(alloc, started) else {
+                return (Err(Fault::Memory), trace);
+            };
             for worker in 0..started {
-                let thread = scope.spawn(move || work(rt, alloc, posted, awaited, gate, worker));
-                all_started = all_started && thread.is_ok();
+                let Some(post) = posts.pop() else {
+                    break;
+                };
+                let Ok(thread) = scope.spawn(move || work(rt, alloc, post, signals, gate, worker))
+                else {
+                    break;
+                };
+                match threads.push(thread) {
+                    Ok(()) => {}
+                    Err(_) => break,
+                }
             }
-            if !all_started {
+            if threads.len() < started {
                 return (Err(Fault::Relay), trace);
             }
             let driver = scope.spawn_with(
                 Drives(Snapshot::of(task.scenario), Snapshot::of(task.relay)),
-                move || -> Driven
+                move || -> (Driven, ErrandPost<Q, J>)
                     requires { IsSync R.row
                         × GoTogether task.scenario.now task.links.now task.division.now
                         × StandFor Q.set task.division.now task.parts.items (opening task.scenario.now)
                         × MaySend task.scenario.now task.relay.now task.seat }
-                    ensures { IsDriven task.entry.scenario.now task.entry.relay.now result }
+                    ensures { IsDriven task.entry.scenario.now task.entry.relay.now result.0 }
                 { drive(rt, alloc, task) },
             );
             let Ok(driver) = driver else {
@@ -114,15 +141,49 @@ pub(crate) fn within<
             let mut seat = taker;
             let mut tallied = tallied;
             let written = write_stream(rt, alloc, relay, &mut seat, scenario, &mut tallied, trace);
-            let driven = driver.join(rt);
+            let (driven, own) = driver.join(rt);
+            let posts = gather(rt, threads, posts);
             let ended = Ended {
                 driven,
                 taker: seat,
                 tallied,
                 written,
             };
-            (Ok(ended), trace)
+            (Ok((ended, own, posts)), trace)
         },
     );
-    ended
+    match ended {
+        Ok((ended, own, others)) => Ok((ended, joined(others, own))),
+        Err(fault) => Err(fault),
+    }
+}
+
+/// These posts, and those of the threads once they have ended.
+fn gather<'b, 'a, Q: EventQueue<Event> + Drop, J: Site>(
+    rt: &impl Threads,
+    threads: Vec<JoinHandle<ErrandPost<'b, 'a, Q, J>>>,
+    mut posts: Vec<ErrandPost<'b, 'a, Q, J>>,
+) -> Result<Vec<ErrandPost<'b, 'a, Q, J>>, Memory> {
+    for thread in threads {
+        match posts.push(thread.join(rt)) {
+            Ok(()) => {}
+            Err(_) => return Err(Memory),
+        }
+    }
+    Ok(posts)
+}
+
+/// These posts and one more.
+fn joined<'b, 'a, Q: EventQueue<Event> + Drop, J: Site>(
+    posts: Result<Vec<ErrandPost<'b, 'a, Q, J>>, Memory>,
+    one: ErrandPost<'b, 'a, Q, J>,
+) -> Result<Vec<ErrandPost<'b, 'a, Q, J>>, Memory> {
+    let mut posts = match posts {
+        Ok(posts) => posts,
+        Err(Memory) => return Err(Memory),
+    };
+    match posts.push(one) {
+        Ok(()) => Ok(posts),
+        Err(_) => Err(Memory),
+    }
 }

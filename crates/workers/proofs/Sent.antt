@@ -9,6 +9,15 @@ use Rattle.std.proofs.Crossing.{crosses, Vec-send}
 use Rattle.std.proofs.MapsCrossing as maps
 use Rattle.std.proofs.MapsCrossingOver as over
 use Rattle.rtrb.proofs.end.End.TheSendSync.{the_send as end_send}
+use Rattle.atomic_table.proofs.shared.Seat.TheSendSync as pass
+use Rattle.atomic_table.proofs.shared.Shared.TheSendSync as shared
+use Rattle.atomic_table.proofs.send_lease.SendLease.TheSendSync as lease
+use Rattle.std.proofs.alloc.Global.TheSendSync as heap
+use Rattle.board.specs.contracts.seats.Board as board
+use Rattle.board.specs.contracts.seats.Seat as seat
+use Rattle.board.specs.contracts.post.Post as post
+use Rattle.board.specs.declared.rule.Setting as setting
+use Rattle.board.specs.declared.site.Site as site
 use Rattle.scenario.specs.contracts.settings.Group as group
 use Rattle.scenario.specs.contracts.settings.Path as path
 use Rattle.scenario.specs.contracts.settings.Slow as slow
@@ -31,7 +40,7 @@ use Rattle.base.specs.declared.keyed.Keyed as keyed
 use Rattle.worker_queue.specs.contracts.tree.TreeQueue as tree
 use Rattle.worker_queue.specs.declared.queue.EventQueue.{Ghosts}
 use Rattle.member.specs.declared.event.Event.{Event}
-use Rattle.workers.specs.contracts.awaited.Awaited as awaited
+use Rattle.workers.specs.contracts.signals.Signals as signals
 use Rattle.workers.specs.contracts.ring.Asked as asked
 use Rattle.workers.specs.contracts.ring.Word as word
 use Rattle.workers.specs.contracts.ring.Reply as reply
@@ -81,7 +90,7 @@ stream_send = search (crosses, sendable) depth 60 fits 20000
 pub member_send : IsSend member.the_row
 member_send = search (table_send, buffer_send, rota_send, suspicions_send, relays_send, stream_send, crosses, sendable) depth 60 fits 20000
 
-part_send : (Q : RattleType) → IsSend Q → IsSend (part.the_field Q).row
+pub part_send : (Q : RattleType) → IsSend Q → IsSend (part.the_field Q).row
 part_send Q s = search (member_send, crosses, sendable) depth 60 fits 20000
 
 pub updates_send : IsSend updates.the_row
@@ -124,8 +133,20 @@ errand_of_parts α Q g p t r =
 pub errand_send : (α : NamedLft) (Q : RattleType) (g : Ghosts Q.Denot Event) → IsSend Q → IsSend (errand.the_row α Q g)
 errand_send α Q g s = errand_of_parts α Q g (part_send Q s) (terms_send α Q g s) (reply_send Q g s)
 
-pub awaited_sync : IsSync awaited.the_row
-awaited_sync = search (crosses, sendable) depth 60 fits 20000
+pub board_sync : (T V S : RattleType) (g : setting.Ghosts S.Denot T.Denot V.Denot) → IsSend T → IsSync (board.the_row T V S g)
+board_sync T V S g s = search (lease.the_sync, shared.the_sync, heap.the_sync, crosses, sendable) depth 60 fits 20000
+
+pub seat_send : (T V : RattleType) → IsSend T → IsSend (seat.the_field T V).row
+seat_send T V s = search (pass.the_send, crosses, sendable) depth 60 fits 20000
+
+-- a post may go where its pieces may
+pub post_send : (β : NamedLft) (T V S P : RattleType) (p : site.Ghosts P.Denot) (g : setting.Ghosts S.Denot T.Denot V.Denot) → IsSend T → IsSend (post.the_row β T V S P p g)
+post_send β T V S P p g s =
+    let all : AllSend (shape (post.the_type β T V S P p g)).fields = (search (board_sync, sendable), (seat_send T V s, (search sendable, tt))) in
+    declared_send (post.the_type β T V S P p g) all
+
+pub signals_sync : IsSync signals.the_row
+signals_sync = search (crosses, sendable) depth 60 fits 20000
 
 pub tree_send : (E : RattleType) (g : keyed.Ghosts E.Denot) → IsSend E → IsSend (tree.the_row E g)
 tree_send E g s = search (maps.crosses, crosses, sendable) depth 60 fits 20000

@@ -1,4 +1,5 @@
 pub mod Answers
 pub mod Crews
 pub mod Faults
+pub mod Pieces
 pub mod Props

@@ -9,7 +9,7 @@ const LOOKS: usize = 200;
 /// How many answers are still to come: the driver waits for them, and the worker that gives the last one
 /// wakes it.
 #[derive(Drop)]
-pub struct Awaited {
+pub(crate) struct Awaited {
     // one for each errand that is out, and one while the driver deals
     left: AtomicUsize,
     driver: Parker,
@@ -17,7 +17,7 @@ pub struct Awaited {
 
 impl Awaited {
     /// No errand is out.
-    pub fn new() -> Self {
+    pub(crate) const fn new() -> Self {
         Awaited {
             left: AtomicUsize::new(1),
             driver: Parker::new(),

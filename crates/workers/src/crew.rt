@@ -8,13 +8,14 @@ ghost use Rattle.windows.specs.Window.{IsConsistentPart};
 ghost use Rattle.windows.specs.Several.{RanWindows, OneWears};
 ghost use Rattle.workers.specs.Crews.{parts_of, IsOfWindow};
 
-use crate::awaited::Awaited;
 use crate::errand::{Errand, ask};
 use crate::faults::{joined, told};
 use crate::gate::Gate;
+use crate::pieces::ErrandPost;
 use crate::ring::Ticket;
+use crate::signals::{Hold, Signals};
 use base::{Fault, Memory, Moment};
-use crossbeam_channel::Sender;
+use board::Site;
 use links::Links;
 use member::Event;
 use scenario::Scenario;
@@ -23,13 +24,13 @@ use std::sync::Wait;
 use windows::{Done, Part};
 use worker_queue::EventQueue;
 
-/// The driver's hold on its workers. Once it is dropped they end.
+/// The driver's hold on its workers. Once it is dropped or has left they end.
 #[derive(Drop)]
-pub struct Crew<'a, Q: EventQueue<Event>, G> {
+pub struct Crew<'b, 'a, Q: EventQueue<Event>, G, J: Site> {
     workers: usize,
-    errands: Sender<Errand<'a, Q>>,
-    awaited: &'a Awaited,
-    gate: &'a G,
+    post: ErrandPost<'b, 'a, Q, J>,
+    hold: Hold<'b>,
+    gate: &'b G,
 }
 
 /// An errand was handed back.
@@ -42,21 +43,27 @@ struct Dealt<Q: EventQueue<Event>> {
     fault: Option<Fault>,
 }
 
-impl<'a, Q: EventQueue<Event> + Drop, G: Gate> Crew<'a, Q, G> {
-    /// A crew of so many workers, which take what is sent to the errands and tell the awaited of each answer.
-    /// With one worker the driver does its work, and nothing is sent.
+impl<'b, 'a, Q: EventQueue<Event> + Drop, G: Gate, J: Site> Crew<'b, 'a, Q, G, J> {
+    /// A crew of so many workers, which take what is dealt from the post. With one worker the driver does its
+    /// work, and nothing is dealt.
     pub fn new(
         workers: usize,
-        errands: Sender<Errand<'a, Q>>,
-        awaited: &'a Awaited,
-        gate: &'a G,
+        post: ErrandPost<'b, 'a, Q, J>,
+        signals: &'b Signals,
+        gate: &'b G,
     ) -> Self {
         Crew {
             workers,
-            errands,
-            awaited,
+            post,
+            hold: Hold(signals),
             gate,
         }
+    }
+
+    /// Lets the workers end, and gives the post back.
+    pub fn leave(self) -> ErrandPost<'b, 'a, Q, J> {
+        let Crew { post, .. } = self;
+        post
     }
 
     /// The windows of these parts below the bound, by the workers, in the order of the parts. The window's
@@ -86,14 +93,14 @@ impl<'a, Q: EventQueue<Event> + Drop, G: Gate> Crew<'a, Q, G> {
             return run_alone(alloc, self.gate, parts, bound, window, scenario, links);
         }
         let dealt = self.deal(rt, alloc, parts, bound, window, scenario, links);
-        self.awaited.wait(rt);
+        self.hold.0.awaited.wait(rt);
         let Dealt { tickets, fault } = dealt;
         gather(begun(alloc, fault), tickets, bound, scenario)
     }
 
     /// Deals the parts, until one can't be dealt.
     fn deal(
-        &self,
+        &mut self,
         rt: &impl Wait,
         alloc: Global,
         parts: Vec<Part<Q>>,
@@ -131,13 +138,17 @@ impl<'a, Q: EventQueue<Event> + Drop, G: Gate> Crew<'a, Q, G> {
         }
     }
 
-    /// Hands an errand to the workers, unless it comes back.
-    fn hand(&self, rt: &impl Wait, errand: Errand<'a, Q>) -> Result<(), Relay> {
-        self.awaited.add();
-        match self.errands.send(rt, errand) {
-            Ok(()) => Ok(()),
+    /// Deals an errand, unless it comes back.
+    fn hand(&mut self, rt: &impl Wait, errand: Errand<'a, Q>) -> Result<(), Relay> {
+        let signals = self.hold.0;
+        signals.awaited.add();
+        match self.post.deal(rt, errand) {
+            Ok(()) => {
+                signals.bell.ring();
+                Ok(())
+            }
             Err(_) => {
-                self.awaited.remove();
+                signals.awaited.remove();
                 Err(Relay)
             }
         }

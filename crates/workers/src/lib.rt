@@ -1,20 +1,26 @@
-//! Workers that run the windows of parts, for as long as a run lasts: the driver deals the parts, each with
-//! the errand of its window, and gets what came of them in the order in which they were dealt.
+//! Workers that run the windows of parts, for as long as a run lasts: the driver deals the parts over a board,
+//! each with the errand of its window, and gets what came of them in the order in which they were dealt.
 #![tactic(auto)]
 
 mod awaited;
+mod bell;
+mod close;
 mod crew;
 mod errand;
 mod faults;
 mod gate;
+mod pieces;
 mod ring;
+mod signals;
 mod terms;
 #[cfg(test)]
 mod tests;
 mod worker;
 
-pub use awaited::Awaited;
+pub use close::{SEATS, close_board};
 pub use crew::Crew;
 pub use errand::Errand;
 pub use gate::{Gate, OpenGate};
+pub use pieces::{ErrandBoard, ErrandPost, ErrandSeat, Errands};
+pub use signals::Signals;
 pub use worker::work;

@@ -1,20 +1,25 @@
 //! Two parts, of which one has all members and the other nobody, by one worker and by several.
-ghost use Rattle.std.specs.Prelude.{◌≡◌, IfOk};
+ghost use Rattle.std.specs.Prelude.{◌≡◌, length, IfOk};
 ghost use Rattle.std.specs.List.{AllByRecursion};
 ghost use Rattle.std.specs.Thread.{IsSync};
+ghost use Rattle.board.specs.Deal.{whole};
+ghost use Rattle.board.specs.Seats.{AreAllSeats};
+ghost use Rattle.board.specs.Sites.{table_of, AreSingleSeats};
 ghost use Rattle.links.specs.Arrival.{AreLinksOf};
 ghost use Rattle.worker_queue.specs.SetOf.{set_of};
 ghost use Rattle.windows.specs.WorldOf.{world_of};
 ghost use Rattle.windows.specs.Window.{IsConsistentPart};
 
-use crate::{Awaited, Crew, Errand, Gate, OpenGate, work};
+use crate::{
+    Crew, ErrandBoard, ErrandPost, ErrandSeat, Gate, OpenGate, SEATS, Signals, close_board, work,
+};
 use base::{Fault, Memory, Moment};
-use crossbeam_channel::{Receiver, Sender, bounded};
+use board::{Board, Site, posts_at, seats_of};
 use links::Links;
 use member::Event;
 use scenario::{Scenario, read};
 use std::alloc::Global;
-use std::marker::Sync;
+use std::marker::{Brand, Sync};
 use std::process::Abort;
 use std::sync::Wait;
 use std::sync::atomic::{AtomicU64, Ordering};
@@ -110,10 +115,10 @@ fn add_rows(all: Vec<Done<TreeQueue<Event>>>, rows: &mut Vec<Row>) -> Result<(),
 }
 
 /// The rows of each window, in the order of the parts.
-fn drive<'a, G: Gate>(
+fn drive<'b, 'a, G: Gate, J: Site>(
     rt: &impl Wait,
     alloc: Global,
-    mut crew: Crew<'a, TreeQueue<Event>, G>,
+    crew: &mut Crew<'b, 'a, TreeQueue<Event>, G, J>,
     scenario: &'a Scenario,
     links: &'a Links,
 ) -> Result<Vec<Row>, Fault>
@@ -146,63 +151,125 @@ fn drive<'a, G: Gate>(
     Ok(rows)
 }
 
-/// The same, with a thread for each worker.
-fn within<'a, G: Gate, R: Threads + Wait + Sync>(
+/// The same, with a thread for each worker: the rows, and all posts.
+fn within<'b, 'a, G: Gate, J: Site + Send, R: Threads + Wait + Sync>(
     rt: &R,
     alloc: Global,
     workers: usize,
-    sender: Sender<Errand<'a, TreeQueue<Event>>>,
-    errands: &Receiver<Errand<'a, TreeQueue<Event>>>,
-    awaited: &'a Awaited,
-    gate: &'a G,
+    mut posts: Vec<ErrandPost<'b, 'a, TreeQueue<Event>, J>>,
+    mut crew: Crew<'b, 'a, TreeQueue<Event>, G, J>,
+    signals: &Signals,
+    gate: &G,
     scenario: &'a Scenario,
     links: &'a Links,
-) -> Result<Vec<Row>, Fault>
+) -> Result<(Vec<Row>, Vec<ErrandPost<'b, 'a, TreeQueue<Event>, J>>), Fault>
     requires { AreLinksOf links.now scenario.now }
 {
     thread::scope(
         thread::scope_env(),
         rt,
-        move |scope| -> Result<Vec<Row>, Fault>
+        move |scope| -> Result<(Vec<Row>, Vec<ErrandPost<TreeQueue<Event>, J>>), Fault>
             requires { IsSync R.row × IsSync G.row × AreLinksOf links.now scenario.now }
         {
+            let mut threads = Vec::new(alloc);
             for worker in 0..workers {
-                if scope
-                    .spawn(move || work(rt, alloc, errands, awaited, gate, worker))
-                    .is_err()
-                {
+                let Some(post) = posts.pop() else {
                     return Err(Fault::Relay);
+                };
+                let Ok(thread) = scope.spawn(move || work(rt, alloc, post, signals, gate, worker))
+                else {
+                    return Err(Fault::Relay);
+                };
+                match threads.push(thread) {
+                    Ok(()) => {}
+                    Err(_) => return Err(Fault::Memory),
                 }
             }
-            drive(
-                rt,
-                alloc,
-                Crew::new(workers, sender, awaited, gate),
-                scenario,
-                links,
-            )
+            let rows = drive(rt, alloc, &mut crew, scenario, links);
+            match posts.push(crew.leave()) {
+                Ok(()) => {}
+                Err(_) => return Err(Fault::Memory),
+            }
+            for thread in threads {
+                match posts.push(thread.join(rt)) {
+                    Ok(()) => {}
+                    Err(_) => return Err(Fault::Memory),
+                }
+            }
+            match rows {
+                Ok(rows) => Ok((rows, posts)),
+                Err(fault) => Err(fault),
+            }
         },
     )
 }
 
+/// The same from the seats: the rows, and all seats.
+fn at_board<'a, G: Gate, J: Site + Send, R: Threads + Wait + Sync>(
+    rt: &R,
+    alloc: Global,
+    workers: usize,
+    board: &ErrandBoard<'a, TreeQueue<Event>>,
+    seats: Vec<ErrandSeat<'a, TreeQueue<Event>>>,
+    gate: &G,
+    scenario: &'a Scenario,
+    links: &'a Links,
+) -> Result<(Vec<Row>, Vec<ErrandSeat<'a, TreeQueue<Event>>>), Fault>
+    requires fits { AreLinksOf links.now scenario.now }
+    requires here { table_of board.now ≡ J.table }
+    requires all { AreAllSeats board.now seats.items }
+    requires count { length seats.items ≡ whole }
+    ensures { IfOk result (λ r. AreSingleSeats board.now r.1.items) }
+{
+    let signals = Signals::new();
+    let mut posts: Vec<ErrandPost<TreeQueue<Event>, J>> = match posts_at(alloc, board, seats) {
+        Ok(posts) => posts,
+        Err(Memory) => return Err(Fault::Memory),
+    };
+    let Some(own) = posts.pop() else {
+        return Err(Fault::Relay);
+    };
+    let crew = Crew::new(workers, own, &signals, gate);
+    let (rows, posts) = match within(
+        rt, alloc, workers, posts, crew, &signals, gate, scenario, links,
+    ) {
+        Ok(pair) => pair,
+        Err(fault) => return Err(fault),
+    };
+    match seats_of(alloc, board, posts) {
+        Ok(seats) => Ok((rows, seats)),
+        Err(Memory) => Err(Fault::Memory),
+    }
+}
+
 /// The rows of all windows, by so many workers.
-fn by_workers<G: Gate, R: Threads + Wait + Sync>(
+fn by_workers<'a, G: Gate, R: Threads + Wait + Sync>(
     rt: &R,
     alloc: Global,
     workers: usize,
     gate: &G,
-    scenario: &Scenario,
-    links: &Links,
+    scenario: &'a Scenario,
+    links: &'a Links,
 ) -> Result<Vec<Row>, Fault>
     requires { AreLinksOf links.now scenario.now }
 {
-    let awaited = Awaited::new();
-    let Ok((sender, errands)) = bounded(alloc, 64) else {
-        return Err(Fault::Memory);
+    let (board, seats): (
+        ErrandBoard<'a, TreeQueue<Event>>,
+        Vec<ErrandSeat<'a, TreeQueue<Event>>>,
+    ) = match Board::new(alloc, 2, SEATS) {
+        Ok(pair) => pair,
+        Err(Memory) => return Err(Fault::Memory),
     };
-    within(
-        rt, alloc, workers, sender, &errands, &awaited, gate, scenario, links,
-    )
+    let (rows, seats) = match at_board::<G, Brand, R>(
+        rt, alloc, workers, &board, seats, gate, scenario, links,
+    ) {
+        Ok(pair) => pair,
+        Err(fault) => return Err(fault),
+    };
+    match close_board(rt, board, seats) {
+        Ok(()) => Ok(rows),
+        Err(fault) => Err(fault),
+    }
 }
 
 /// The rows of all windows, one part after another.
@@ -303,6 +370,8 @@ fn two_parts_by_one_two_and_three_workers(rt: HostRuntime) -> Result<(), Fail> {
         let rows = counted(&rt, alloc, workers, &scenario, &links)?;
         assert!(rt; are_same(&rows, &wanted));
     }
+    let rows = counted(&rt, alloc, 64, &scenario, &links)?;
+    assert!(rt; are_same(&rows, &wanted));
     Ok(())
 }
 

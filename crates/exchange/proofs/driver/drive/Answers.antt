@@ -18,7 +18,7 @@ returns g c =
     let relay = c.args.task.relay.now in
     let after = c.turns_by_crew-outcome.new.stream in
     let same = ap (λ r. r.now) c.turns_by_crew-outcome.ensures.relay ∙ c.new-stream.ensures.relay in
-    subst (λ t. IsDriven t relay c.close.result) c.course_of-course.ensures.scenario
-    (is_driven s c.course_of-course.ensures.course.sound relay c.close.result (rows_so_far after) c.turns_by_crew-outcome.result (subst (λ r. IsSender r c.close.result.seat) same c.close.ensures.seat)
-    c.close.ensures.whole c.close.ensures.part c.close.ensures.came c.close.ensures.causes
+    subst (λ t. IsDriven t relay c.close-driven.result) c.course_of-course.ensures.scenario
+    (is_driven s c.course_of-course.ensures.course.sound relay c.close-driven.result (rows_so_far after) c.turns_by_crew-outcome.result (subst (λ r. IsSender r c.close-driven.result.seat) same c.close-driven.ensures.seat)
+    c.close-driven.ensures.whole c.close-driven.ensures.part c.close-driven.ensures.came c.close-driven.ensures.causes
     c.turns_by_crew-outcome.ensures.run c.turns_by_crew-outcome.ensures.beginning c.turns_by_crew-outcome.ensures.lasts c.turns_by_crew-outcome.ensures.worn c.turns_by_crew-outcome.ensures.write)

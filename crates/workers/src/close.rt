@@ -1,0 +1,35 @@
+ghost use Rattle.std.specs.Prelude.{◌≡◌, OnOk, IfErr};
+ghost use Rattle.std.specs.List.{flat_map};
+ghost use Rattle.board.specs.Deal.{SameBag};
+ghost use Rattle.board.specs.Seats.{dealt, taken};
+ghost use Rattle.board.specs.Sites.{AreSingleSeats};
+
+use crate::pieces::{ErrandBoard, ErrandSeat};
+use base::Fault;
+use board::settle;
+use member::Event;
+use std::sync::Wait;
+use worker_queue::EventQueue;
+
+/// How many seats the board of a run has: as many as a board may have.
+pub const SEATS: usize = 65;
+
+/// Closes the board of a run, given the seats that came back. `Relay` where one is missing or a part still lies
+/// on the board: else every part that was dealt was taken, as often, and no other.
+pub fn close_board<'a, Q: EventQueue<Event> + Drop>(
+    rt: &impl Wait,
+    board: ErrandBoard<'a, Q>,
+    seats: Vec<ErrandSeat<'a, Q>>,
+) -> Result<(), Fault>
+    requires { AreSingleSeats board seats.items }
+    ensures taken { OnOk result (SameBag (flat_map dealt seats.entry.items) (flat_map taken seats.entry.items)) }
+    ensures relay { IfErr result (λ fault. fault ≡ Fault.Relay) }
+{
+    if seats.len() != SEATS {
+        return Err(Fault::Relay);
+    }
+    if settle(rt, board, seats) != 0 {
+        return Err(Fault::Relay);
+    }
+    Ok(())
+}
