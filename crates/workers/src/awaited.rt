@@ -1,10 +1,7 @@
-use std::hint;
+use crate::pause::{LOOKS, pause};
 use std::sync::Wait;
 use std::sync::atomic::{AtomicUsize, Ordering};
 use std::thread::Parker;
-
-/// How often the driver looks for the last answer before it gives its processor away.
-const LOOKS: usize = 200;
 
 /// How many answers are still to come: the driver waits for them, and the worker that gives the last one
 /// wakes it.
@@ -50,11 +47,11 @@ impl Awaited {
     }
 
     fn is_over_soon(&self) -> bool {
-        for _ in 0..LOOKS {
+        for look in 0..LOOKS {
             if self.is_over() {
                 return true;
             }
-            hint::spin_loop();
+            pause(look);
         }
         false
     }

@@ -1,9 +1,6 @@
-use std::hint;
+use crate::pause::{LOOKS, pause};
 use std::sync::Wait;
 use std::sync::atomic::{AtomicBool, AtomicU64, AtomicUsize, Ordering};
-
-/// How often a worker looks whether the bell rang before it gives its processor away.
-const LOOKS: usize = 200;
 
 /// Wakes the workers: it rings for each errand that is dealt, and a last time when none comes any more.
 #[derive(Drop)]
@@ -60,11 +57,11 @@ impl Bell {
     }
 
     fn rings_soon(&self, heard: u64) -> bool {
-        for _ in 0..LOOKS {
+        for look in 0..LOOKS {
             if self.rings() != heard {
                 return true;
             }
-            hint::spin_loop();
+            pause(look);
         }
         false
     }

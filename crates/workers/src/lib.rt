@@ -9,6 +9,7 @@ mod crew;
 mod errand;
 mod faults;
 mod gate;
+mod pause;
 mod pieces;
 mod ring;
 mod signals;
