@@ -14,11 +14,11 @@ use Rattle.windows.specs.WorldOf.{world_of}
 use Rattle.worker_queue.specs.Queue.{IsLeastKey, NoneIsBelow}
 use Rattle.exchange.specs.Parts.{IsUpTo, NonePendsBefore, IsLeastMoment}
 
-abbrev moment_of : Option Key → Option ℕ
+abbrev pub moment_of : Option Key → Option ℕ
 moment_of key = option_map (λ k. k.at) key
 
 -- no event of a queue is before a moment just where that is up to its least
-below_least : {C : Type 0} (events : FinMap key_cmp C) (least : Option Key) → IfSome least (IsLeastKey events) → IfNone least (events ≡ empty) → (t : ℕ) → NoneIsBelow events t ↔ IsUpTo (moment_of least) t
+pub below_least : {C : Type 0} (events : FinMap key_cmp C) (least : Option Key) → IfSome least (IsLeastKey events) → IfNone least (events ≡ empty) → (t : ℕ) → NoneIsBelow events t ↔ IsUpTo (moment_of least) t
 below_least events None some none t = (λ h. tt, λ h q here. absurd (false≢true (ap is_some (sym (get-empty key_cmp q)) ∙ ap (λ m. contains_key m q) (sym none) ∙ here)))
 below_least events (Some k) some none t = (λ h. h k some.here, λ h q here. let least = moments-from_not_before q k (some.least q here) in omega arith)
 

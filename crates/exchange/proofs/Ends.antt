@@ -1,4 +1,4 @@
--- A schedule of safe steps leads to where the run ends, and keeps a cluster whole.
+-- A schedule of clear steps leads to where the run ends, and keeps a cluster whole.
 use Rattle.std.proofs.Common.{◌≡◌, ℕ, ◌<◌, ◌≤◌, List, [], ◌∷◌, ◌++◌, Option, Some, None, append_assoc, ap, ◌∙◌, sym, subst, refl, arith}
 use Rattle.std.specs.Option.{is_some, option_map}
 use Rattle.std.specs.FinMap.{get, contains_key}
@@ -12,8 +12,10 @@ use Rattle.member.specs.State.{State}
 use Rattle.member.specs.Step.{step}
 use Rattle.member.proofs.Fair.{steps_later}
 use Rattle.member_laws.specs.Runs.{Cluster, IsSoundCluster}
-use Rattle.windows.specs.Cluster.{IsLeastDelay, IsWholeCluster, SafeSchedule, SafeStep}
-use Rattle.windows.proofs.Members.{early_here, sound_after, numbered_here}
+use Rattle.windows.specs.Schedule.{TestedStep, Schedule}
+use Rattle.windows.specs.Cluster.{LiesBetween, IsClearOf, IsWholeCluster}
+use Rattle.windows.proofs.Members.{sound_stays, numbered_by}
+use Rattle.windows.proofs.Horizons.{clear_early}
 use Rattle.windows.proofs.PartRuns.{same_own}
 
 module _ {S C R : Type 0} (step : Machine S C R) (end : ℕ) where
@@ -58,11 +60,11 @@ module _ {S C R : Type 0} (step : Machine S C R) (end : ℕ) where
     over = is.over;
   }
 
-module _ (s : Setup) (sound : IsSound s) (d : Option ℕ) (least : IsLeastDelay s d) where
-  step_end : (w v last : Cluster) (k : Key) (made : List Row) → IsSoundCluster s w → SafeStep s d w k v made → EndsIn (step s) s.end v last → EndsIn (step s) s.end w last
+module _ (s : Setup) (sound : IsSound s) (division : ℕ → ℕ) (between : ℕ → ℕ → ℕ) (lies : LiesBetween s division between) where
+  step_end : (w v last : Cluster) (k : Key) (made : List Row) → IsSoundCluster s w → TestedStep (step s) (IsClearOf s division between) w k v made → EndsIn (step s) s.end v last → EndsIn (step s) s.end w last
   step_end w v last k made fact is ends =
       let later = steps_later s sound in
-      let early = early_here s d w v k made sound least fact is in
+      let early = clear_early s division between w v k made sound lies fact is in
       let there = end_there (step s) s.end later early.after in
       let same = one_end (step s) s.end later v there.0 last (end_before (step s) s.end early.before v early.after there.0 early.front early.alike there.1) ends in
       subst (EndsIn (step s) s.end w) same
@@ -70,15 +72,12 @@ module _ (s : Setup) (sound : IsSound s) (d : Option ℕ) (least : IsLeastDelay 
       (run_more (step s) later s.end early.before w early.there early.after early.front made k early.until is.passes.in_time early.turn) there.1)
 
   -- where the run ends from the end of a schedule, it ends
-  pub schedule_end : (ks : List Key) (w v last : Cluster) (rows : List Row) → IsSoundCluster s w → SafeSchedule s d w ks rows v → EndsIn (step s) s.end v last → EndsIn (step s) s.end w last
+  pub schedule_end : (ks : List Key) (w v last : Cluster) (rows : List Row) → IsSoundCluster s w → Schedule (step s) (IsClearOf s division between) w ks rows v → EndsIn (step s) s.end v last
+      → EndsIn (step s) s.end w last
   schedule_end [] w v last rows fact is ends = subst (λ u. EndsIn (step s) s.end u last) is.0 ends
   schedule_end (k ∷ ks) w v last rows fact is ends =
-      let mid = sound_after s d w is.0 (k ∷ []) is.1 sound least fact (is.0, is.1, [], is.3, (refl, refl), sym (nil_after is.1)) in
+      let mid = subst (IsSoundCluster s) (sym is.3.world) (sound_stays s sound w k is.3.content fact is.3.here is.3.passes.in_time) in
       step_end w is.0 last k is.1 fact is.3 (schedule_end ks is.0 v last is.2 mid is.4 ends)
-    where
-      nil_after : (xs : List Row) → xs ++ [] ≡ xs
-      nil_after [] = refl
-      nil_after (x ∷ xs) = ap (λ l. x ∷ l) (nil_after xs)
 
 -- ---- what a schedule keeps
 
@@ -87,15 +86,15 @@ settled_same : (s : Setup) (w : Cluster) (k : Key) (c : Content) (o : Option Sta
 settled_same s w k c None none m = refl
 settled_same s w k c (Some t) here m = same_own w.members k.to t (step s k c t).state here m
 
-module _ (s : Setup) (sound : IsSound s) (d : Option ℕ) where
-  same_members : (ks : List Key) (w v : Cluster) (rows : List Row) → SafeSchedule s d w ks rows v → (m : ℕ) → contains_key v.members m ≡ contains_key w.members m
+module _ (s : Setup) (sound : IsSound s) (Test : Cluster → Key → Type 0) where
+  same_members : (ks : List Key) (w v : Cluster) (rows : List Row) → Schedule (step s) Test w ks rows v → (m : ℕ) → contains_key v.members m ≡ contains_key w.members m
   same_members [] w v rows is m = ap (λ (u : Cluster). contains_key u.members m) is.0
   same_members (k ∷ ks) w v rows is m =
       same_members ks is.0 v is.2 is.4 m ∙ ap (λ (u : Cluster). contains_key u.members m) is.3.world ∙ settled_same s w k is.3.content (get w.members k.to) refl m
 
-  pub whole_after : (ks : List Key) (w v : Cluster) (rows : List Row) → SafeSchedule s d w ks rows v → IsSoundCluster s v → IsWholeCluster s w → IsWholeCluster s v
+  pub whole_after : (ks : List Key) (w v : Cluster) (rows : List Row) → Schedule (step s) Test w ks rows v → IsSoundCluster s v → IsWholeCluster s w → IsWholeCluster s v
   whole_after ks w v rows is there whole = record {
     sound = there;
-    numbered = numbered_here s d w v ks rows sound whole.numbered is;
+    numbered = numbered_by s Test w v ks rows sound whole.numbered is;
     peopled = λ m. same_members ks w v rows is m ∙ whole.peopled m;
   }

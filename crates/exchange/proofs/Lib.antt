@@ -1,6 +1,8 @@
 mod Runs
 mod Coming
 mod Bounding
+mod Limits
+mod Releasing
 mod Turning
 mod RowOrders
 mod Turned

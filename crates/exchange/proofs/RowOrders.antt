@@ -1,5 +1,6 @@
 -- The rows of windows in row order.
 use Rattle.std.proofs.Common.{◌≡◌, ℕ, ◌+◌, ◌<◌, Bool, true, false, cond, not, eqb, List, [], ◌∷◌, ◌++◌, map, length, take, vec_len, append-nil, count_by, ap, ◌∙◌, sym, subst, refl, arith}
+use Rattle.std.specs.Bool.{OnTrue}
 use Rattle.std.specs.List.{flat_map}
 use Rattle.std.specs.List.Sorted.{IsPermutation}
 use Rattle.std.specs.declared.cmp.Ordering.{Ordering}
@@ -16,7 +17,7 @@ use Rattle.trace.specs.declared.row.Row.{Row}
 use Rattle.member.specs.declared.event.Event.{Event}
 use Rattle.member.specs.Places.{place_of}
 use Rattle.member.specs.StateOf.{pair_of}
-use Rattle.windows.specs.declared.part.Part.{Part}
+use Rattle.windows.specs.declared.bounded.Bounded.{Bounded}
 use Rattle.windows.specs.declared.part.Done.{Done}
 use Rattle.windows.specs.WorldOf.{world_of}
 use Rattle.windows.specs.Window.{is_own}
@@ -24,16 +25,20 @@ use Rattle.windows.proofs.RowOrders.{part_rows_rise, sorted_by_places}
 use Rattle.windows.specs.Several.{RanWindows}
 use Rattle.exchange.specs.Parts.{RowsRise, IsInRowOrder}
 
-module _ {Q : Type 0} (set : Q → FinMap key_cmp Event) (s : Setup) (sound : IsSound s) (bound : ℕ) where
+module _ {Q : Type 0} (set : Q → FinMap key_cmp Event) (s : Setup) (sound : IsSound s) where
   -- so does each window
-  pub windows_rise : (ps : List (Part Q)) (ds : List (Done Q)) → RanWindows set s bound ps ds → RowsRise ds
+  pub windows_rise : (ps : List (Bounded Q)) (ds : List (Done Q)) → RanWindows set s ps ds → RowsRise ds
   windows_rise [] [] had = tt
   windows_rise [] (d ∷ ds) had = absurd had
   windows_rise (p ∷ ps) [] had = absurd had
   windows_rise (p ∷ ps) (d ∷ ds) had = (
-    part_rows_rise s sound (is_own (world_of set p)) bound had.0.0 (world_of set p) (world_of set d.part) (map pair_of d.out.items) d.rows.items had.0.1.run,
+    part_rows_rise s sound (is_own (world_of set p.part)) p.bound had.0.0 (world_of set p.part) (world_of set d.part) (map pair_of d.out.items) d.rows.items had.0.1.run,
     windows_rise ps ds had.1,
   )
+
+pub when_true : {P : Type 0} (b : Bool) → b ≡ true → OnTrue b P → P
+when_true true e p = p
+when_true false e p = absurd (true≢false (sym e))
 
 -- ---- where one part alone wrote rows
 

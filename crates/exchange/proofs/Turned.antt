@@ -23,20 +23,22 @@ use Rattle.member.specs.State.{State}
 use Rattle.member.specs.Step.{step}
 use Rattle.member.specs.StateOf.{pair_of}
 use Rattle.member_laws.specs.Runs.{Cluster, IsSoundCluster}
+use Rattle.windows.specs.declared.bounded.Bounded.{Bounded}
 use Rattle.windows.specs.declared.part.Part.{Part}
 use Rattle.windows.specs.declared.part.Done.{Done}
 use Rattle.windows.specs.Parts.{Window, IsWindowOfItsPart, part_of, is_in, for_own, with_arrivals, all_keys, all_rows, all_out, IncludesPart, AreWindowsOfDifferentParts, StandsAfter}
-use Rattle.windows.specs.Cluster.{SafeSchedule, IsWhole, IsWholeCluster}
-use Rattle.windows.specs.Schedule.{MeetsState}
+use Rattle.windows.specs.Cluster.{IsWholeCluster, IsClearOf}
+use Rattle.windows.specs.Schedule.{Schedule, MeetsState}
 use Rattle.windows.proofs.Wholes.{pending_kept}
-use Rattle.windows.proofs.Members.{sent_new, windows_here, sound_after, none_left_here, windows_rows, met_here}
+use Rattle.windows.proofs.Members.{sent_new, receiver_low}
+use Rattle.windows.proofs.Horizons.{clear_windows, clear_none_left, clear_rows, clear_met}
 use Rattle.windows.specs.WorldOf.{world_of}
 use Rattle.windows.specs.Window.{is_own}
-use Rattle.windows.specs.Several.{RanWindows}
+use Rattle.windows.specs.Several.{RanWindows, parts_of}
 use Rattle.windows.proofs.PartRuns.{own_run}
-use Rattle.exchange.specs.Parts.{part_number, HaveTheirMembers, StandFor, MayTurn, HaveCome, IsInRowOrder}
+use Rattle.exchange.specs.Parts.{part_number, HaveTheirMembers, StandFor, MayTurn, HaveCome}
 use Rattle.exchange.proofs.Coming.{behind}
-use Rattle.exchange.proofs.Turning.{windows_from, rows_same, has_window, out_same, same_count, are_windows, fact_by_number, own_by_part}
+use Rattle.exchange.proofs.Turning.{many, windows_from, rows_same, has_window, out_same, same_count, are_windows, fact_by_number, own_by_part}
 use Rattle.exchange.proofs.Ends.{schedule_end, whole_after}
 
 -- ---- events that pend once they have come
@@ -71,10 +73,16 @@ of_events : (P : Key → Type 0) (es : List Event) → AllByRecursion (λ (e : K
 of_events P [] all = tt
 of_events P (e ∷ es) all = (all.0, of_events P es all.1)
 
-module _ {Q : Type 0} (set : Q → FinMap key_cmp Event) (s : Setup) (sound : IsSound s) (deal : Deal) (bound : ℕ) (ps : List (Part Q)) (ds : List (Done Q)) (divides : length deal.part_of ≡ member_count s)
-    (ready : MayTurn set s deal bound ps) (had : RanWindows set s bound ps ds) where
+module _ {Q : Type 0} (set : Q → FinMap key_cmp Event) (s : Setup) (sound : IsSound s) (deal : Deal) (ps : List (Bounded Q)) (ds : List (Done Q)) (divides : length deal.part_of ≡ member_count s)
+    (ready : MayTurn set s deal ps) (had : RanWindows set s ps ds) where
+  abbrev pub division : ℕ → ℕ
+  division = part_number deal
+
+  abbrev pub bounds : ℕ → ℕ
+  bounds = ready.horizons.bounds
+
   abbrev windows : List (Window State Content Row)
-  windows = windows_from set s bound 0 ps ds had
+  windows = windows_from set s 0 ps ds had
 
   abbrev outs : List (Key × Content)
   outs = map pair_of (flat_map (λ (d : Done Q). d.out.items) ds)
@@ -82,53 +90,53 @@ module _ {Q : Type 0} (set : Q → FinMap key_cmp Event) (s : Setup) (sound : Is
   pub new_to_parts : (i : ℕ) (part : Part Q) → slice_get (map (λ (d : Done Q). d.part) ds) i ≡ Some part → AreNew (world_of set part).pending (for_own (is_in (part_number deal) i) outs)
   new_to_parts i part here =
       let done = behind (λ (d : Done Q). d.part) (slice_get ds i) part (sym (slice_get-map (λ (d : Done Q). d.part) ds i) ∙ here) in
-      let are = are_windows set s bound deal divides ready.world ready.whole ps ds had ready.stand in
+      let are = are_windows set s deal divides ready.world ready.whole bounds ps ds had ready.stand ready.horizons.each in
       let all = recursion_from_All (λ (d : Window State Content Row). AreNew d.after.pending (for_own (is_in (part_number deal) d.part) (all_out windows))) windows
-      (sent_new s (part_number deal) (λ part. bound) ready.world windows sound ready.whole.numbered are) in
-      let new = fact_by_number set s bound deal divides ready.world ready.whole (λ n after. AreNew after.pending (for_own (is_in (part_number deal) n) (all_out windows))) 0 ps ds had all i done.0 done.1 in
+      (sent_new s (part_number deal) bounds ready.world windows sound ready.whole.numbered are) in
+      let new = fact_by_number set s (λ n after. AreNew after.pending (for_own (is_in (part_number deal) n) (all_out windows))) 0 ps ds had all i done.0 done.1 in
       let same : 0 + i ≡ i = omega arith in
       subst (λ (p : Part Q). AreNew (world_of set p).pending (for_own (is_in (part_number deal) i) outs)) done.2
-      (subst (λ l. AreNew (world_of set done.0.part).pending (for_own (is_in (part_number deal) i) l)) (out_same set s bound 0 ps ds had)
+      (subst (λ l. AreNew (world_of set done.0.part).pending (for_own (is_in (part_number deal) i) l)) (out_same set s 0 ps ds had)
       (subst (λ n. AreNew (world_of set done.0.part).pending (for_own (is_in (part_number deal) n) (all_out windows))) same new))
 
   -- each part has its members after its window too
   pub members_after : HaveTheirMembers set deal (map (λ (d : Done Q). d.part) ds)
   members_after i part here m low is =
       let done = behind (λ (d : Done Q). d.part) (slice_get ds i) part (sym (slice_get-map (λ (d : Done Q). d.part) ds i) ∙ here) in
-      let are = are_windows set s bound deal divides ready.world ready.whole ps ds had ready.stand in
+      let are = are_windows set s deal divides ready.world ready.whole bounds ps ds had ready.stand ready.horizons.each in
       let within = slice_get_within ds i done.0 done.1 in
-      let stay = fact_by_number set s bound deal divides ready.world ready.whole (λ n after. (q : ℕ) → is_own after q ≡ is_own (part_of (is_in (part_number deal) n) ready.world) q) 0 ps ds had
+      let stay = fact_by_number set s (λ n after. (q : ℕ) → is_own after q ≡ is_own (part_of (is_in (part_number deal) n) ready.world) q) 0 ps ds had
       (own_stay windows are.windows) i done.0 done.1 m in
       let same : 0 + i ≡ i = omega arith in
       let before : is_own (part_of (is_in (part_number deal) i) ready.world) m ≡ true =
-      ap (λ (f : ℕ → Bool). f m) (own_by_part s deal ready.world i divides ready.whole (omega (arith, within, same_count set s bound ps ds had, ready.stand.count)))
+      ap (λ (f : ℕ → Bool). f m) (own_by_part s deal ready.world i divides ready.whole (omega (arith, within, same_count set s ps ds had, many ps, ready.stand.count)))
       ∙ eq-eqb (part_number deal m) i is in
       ap (λ (p : Part Q). is_own (world_of set p) m) (sym done.2) ∙ subst (λ n. is_own (world_of set done.0.part) m ≡ is_own (part_of (is_in (part_number deal) n) ready.world) m) same stay ∙ before
     where
-      own_stay : (ws : List (Window State Content Row)) → AllByRecursion (IsWindowOfItsPart (step s) (part_number deal) (λ part. bound) ready.world) ws
+      own_stay : (ws : List (Window State Content Row)) → AllByRecursion (IsWindowOfItsPart (step s) (part_number deal) bounds ready.world) ws
           → AllByRecursion (λ (d : Window State Content Row). (q : ℕ) → is_own d.after q ≡ is_own (part_of (is_in (part_number deal) d.part) ready.world) q) ws
       own_stay ws are =
-          all_weaker (IsWindowOfItsPart (step s) (part_number deal) (λ part. bound) ready.world) _
-          (λ d is q. own_run (step s) (is_in (part_number deal) d.part) bound d.keys (part_of (is_in (part_number deal) d.part) ready.world) d.after d.out d.rows is.run q) ws are
+          all_weaker (IsWindowOfItsPart (step s) (part_number deal) bounds ready.world) _
+          (λ d is q. own_run (step s) (is_in (part_number deal) d.part) (bounds d.part) d.keys (part_of (is_in (part_number deal) d.part) ready.world) d.after d.out d.rows is.run q) ws are
 
   pub count_after : length (map (λ (d : Done Q). d.part) ds) ≡ deal.parts
-  count_after = as_many ds ∙ same_count set s bound ps ds had ∙ ready.stand.count
+  count_after = as_many ds ∙ same_count set s ps ds had ∙ sym (many ps) ∙ ready.stand.count
     where
       as_many : (es : List (Done Q)) → length (map (λ (d : Done Q). d.part) es) ≡ length es
       as_many [] = refl
       as_many (e ∷ es) = ap suc (as_many es)
 
-  abbrev pub are : AreWindowsOfDifferentParts (step s) (part_number deal) (λ part. bound) ready.world windows
-  are = are_windows set s bound deal divides ready.world ready.whole ps ds had ready.stand
+  abbrev pub are : AreWindowsOfDifferentParts (step s) (part_number deal) bounds ready.world windows
+  are = are_windows set s deal divides ready.world ready.whole bounds ps ds had ready.stand ready.horizons.each
 
   -- the world that stands after the windows
-  abbrev pub led : (v : Cluster) × SafeSchedule s ready.least_delay ready.world (all_keys windows) (all_rows windows) v × StandsAfter (part_number deal) ready.world windows v
-  led = windows_here s ready.least_delay (part_number deal) bound ready.world windows sound ready.least ready.whole.sound ready.common are
+  abbrev pub led : (v : Cluster) × Schedule (step s) (IsClearOf s division ready.horizons.between) ready.world (all_keys windows) (all_rows windows) v × StandsAfter division ready.world windows v × IsSoundCluster s v
+  led = clear_windows s division ready.horizons.between bounds ready.world windows sound ready.horizons.lies ready.whole.sound ready.horizons.are are
 
   pub sound_led : IsSoundCluster s led.0
-  sound_led = sound_after s ready.least_delay ready.world led.0 (all_keys windows) (all_rows windows) sound ready.least ready.whole.sound led.1
+  sound_led = led.3
 
-  no_window : (a i : ℕ) (ps : List (Part Q)) (ds : List (Done Q)) (had : RanWindows set s bound ps ds) → IncludesPart (windows_from set s bound a ps ds had) i → i < a + length ps
+  no_window : (a i : ℕ) (ps : List (Bounded Q)) (ds : List (Done Q)) (had : RanWindows set s ps ds) → IncludesPart (windows_from set s a ps ds had) i → i < a + length ps
   no_window a i [] [] had has = absurd has
   no_window a i [] (d ∷ ds) had has = absurd had
   no_window a i (p ∷ ps) [] had has = absurd had
@@ -145,7 +153,7 @@ module _ {Q : Type 0} (set : Q → FinMap key_cmp Event) (s : Setup) (sound : Is
 
   beyond : AllByRecursion (λ (e : Key × Content). part_number deal e.0.to ≡ deal.parts → e.0.to < member_count s) (all_out windows)
   beyond =
-      let none : ¬ (IncludesPart windows deal.parts) = λ has. let below = no_window 0 deal.parts ps ds had has in omega (arith, ready.stand.count) in
+      let none : ¬ (IncludesPart windows deal.parts) = λ has. let below = no_window 0 deal.parts ps ds had has in omega (arith, ready.stand.count, many ps) in
       let there = led.2.others deal.parts none in
       let own = for_own (is_in (part_number deal) deal.parts) (all_out windows) in
       let p = part_of (is_in (part_number deal) deal.parts) ready.world in
@@ -170,25 +178,25 @@ module _ {Q : Type 0} (set : Q → FinMap key_cmp Event) (s : Setup) (sound : Is
   named_out =
       of_events (λ k. k.to < length deal.part_of) (flat_map (λ (d : Done Q). d.out.items) ds)
       (all_weaker _ (λ (e : Key × Content). e.0.to < length deal.part_of) (λ e later. is_named e.0.to (nat_lt e.0.to (length deal.part_of)) refl later) outs
-      (subst (AllByRecursion (λ (e : Key × Content). part_number deal e.0.to ≡ deal.parts → e.0.to < member_count s)) (out_same set s bound 0 ps ds had) beyond))
+      (subst (AllByRecursion (λ (e : Key × Content). part_number deal e.0.to ≡ deal.parts → e.0.to < member_count s)) (out_same set s 0 ps ds had) beyond))
 
   -- the parts stand for it once the events have come
   pub stand_after : (after : List (Part Q)) → HaveCome set (part_number deal) (map (λ (d : Done Q). d.part) ds) after outs → StandFor set deal after led.0
   stand_after after come = record {
     count = come.count ∙ count_after;
     worlds = λ i low.
-        let done = there ds i (omega (arith, low, many)) in
-        let world = fact_by_number set s bound deal divides ready.world ready.whole (λ n x. part_of (is_in (part_number deal) n) led.0 ≡ with_arrivals x (for_own (is_in (part_number deal) n) (all_out windows)))
+        let done = there ds i (omega (arith, low, as_many)) in
+        let world = fact_by_number set s (λ n x. part_of (is_in (part_number deal) n) led.0 ≡ with_arrivals x (for_own (is_in (part_number deal) n) (all_out windows)))
         0 ps ds had led.2.parts i done.0 done.1 in
         let same : 0 + i ≡ i = omega arith in
         come.worlds i
         ∙ ap (option_map (λ (p : Part Q). with_arrivals (world_of set p) (for_own (is_in (part_number deal) i) outs))) (slice_get-map (λ (d : Done Q). d.part) ds i ∙ ap (option_map (λ (d : Done Q). d.part)) done.1)
-        ∙ ap (λ l. Some (with_arrivals (world_of set done.0.part) (for_own (is_in (part_number deal) i) l))) (sym (out_same set s bound 0 ps ds had))
+        ∙ ap (λ l. Some (with_arrivals (world_of set done.0.part) (for_own (is_in (part_number deal) i) l))) (sym (out_same set s 0 ps ds had))
         ∙ ap Some (sym (subst (λ n. part_of (is_in (part_number deal) n) led.0 ≡ with_arrivals (world_of set done.0.part) (for_own (is_in (part_number deal) n) (all_out windows))) same world));
   }
     where
-      many : length ds ≡ deal.parts
-      many = same_count set s bound ps ds had ∙ ready.stand.count
+      as_many : length ds ≡ deal.parts
+      as_many = same_count set s ps ds had ∙ sym (many ps) ∙ ready.stand.count
 
       there : (xs : List (Done Q)) (i : ℕ) → i < length xs → (d : Done Q) × (slice_get xs i ≡ Some d)
       there [] i low = absurd (omega arith)
@@ -196,26 +204,35 @@ module _ {Q : Type 0} (set : Q → FinMap key_cmp Event) (s : Setup) (sound : Is
       there (x ∷ xs) (suc i) low = there xs i (omega arith)
 
   pub whole_led : IsWholeCluster s led.0
-  whole_led = whole_after s sound ready.least_delay (all_keys windows) ready.world led.0 (all_rows windows) led.1 sound_led ready.whole
+  whole_led = whole_after s sound (IsClearOf s division ready.horizons.between) (all_keys windows) ready.world led.0 (all_rows windows) led.1 sound_led ready.whole
 
-  pub are_whole : ((m : ℕ) → m < member_count s → part_number deal m < deal.parts) → IsWhole s (part_number deal) windows
-  are_whole below m low = has_window set s bound 0 (part_number deal m) ps ds had (omega arith) (let h = below m low in omega (arith, h, ready.stand.count))
+  -- nothing is left in it below a moment that all bounds reach
+  module _ (below : (m : ℕ) → m < member_count s → part_number deal m < deal.parts) (until : ℕ) (reached : AllByRecursion (λ (b : Bounded Q). until ≤ b.bound) ps) where
+    at_place : (xs : List (Bounded Q)) (i : ℕ) → i < length xs → AllByRecursion (λ (b : Bounded Q). until ≤ b.bound) xs → (b : Bounded Q) × (slice_get xs i ≡ Some b) × (until ≤ b.bound)
+    at_place [] i low all = absurd (omega arith)
+    at_place (x ∷ xs) zero low all = (x, refl, all.0)
+    at_place (x ∷ xs) (suc i) low all = at_place xs i (omega arith) all.1
 
-  -- nothing is left in it below the bound
-  pub none_led : ((m : ℕ) → m < member_count s → part_number deal m < deal.parts) → (q : Key) → IsPending led.0 q → bound ≤ q.at
-  none_led below = none_left_here s ready.least_delay (part_number deal) bound ready.world led.0 windows sound ready.least ready.whole.sound ready.common are (are_whole below) led.2
+    pub none_led : (q : Key) → IsPending led.0 q → until ≤ q.at
+    none_led q here =
+        let named = receiver_low s led.0 q (get led.0.pending q) sound_led refl here in
+        let low = below q.to named in
+        let one = at_place ps (division q.to) (omega (arith, low, ready.stand.count, many ps)) reached in
+        let has = has_window set s 0 (division q.to) ps ds had (omega arith) (omega (arith, low, ready.stand.count, many ps)) in
+        let left = clear_none_left s division ready.horizons.between sound ready.horizons.lies bounds ready.world ready.whole.sound ready.horizons.are windows led.0 are led.2 q here has in
+        let bound = ready.horizons.each (division q.to) one.0 one.1 in
+        let past = one.2 in
+        omega (arith, left, bound, past)
 
-  -- the rows of all windows, sorted, are those of the run before it comes to where it goes on from there
-  pub run_led : ((m : ℕ) → m < member_count s → part_number deal m < deal.parts) → (sorted left : List Row) (keys : List Key) (last : Cluster)
-      → IsInRowOrder (flat_map (λ (d : Done Q). d.rows.items) ds) sorted → Run (step s) s.end led.0 keys left last → IsOver s.end last
-      → (ks : List Key) × (run : List Row) × Run (step s) s.end ready.world ks run last × (run ≡ sorted ++ left)
-  run_led below sorted left keys last order run over =
-      let ends = schedule_end s sound ready.least_delay ready.least (all_keys windows) ready.world led.0 last (all_rows windows) ready.whole.sound led.1
+  -- the rows of all windows, and those of the run from there, are those of the run from where the windows began
+  pub run_led : (left : List Row) (keys : List Key) (last : Cluster) → Run (step s) s.end led.0 keys left last → IsOver s.end last
+      → (ks : List Key) × (run : List Row) × Run (step s) s.end ready.world ks run last × IsPermutation (flat_map (λ (d : Done Q). d.rows.items) ds ++ left) run
+  run_led left keys last run over =
+      let ends = schedule_end s sound division ready.horizons.between ready.horizons.lies (all_keys windows) ready.world led.0 last (all_rows windows) ready.whole.sound led.1
       (record { keys = keys; rows = left; run = run; over = over }) in
-      let rows = windows_rows s ready.least_delay (part_number deal) bound ready.world led.0 windows ends.keys keys sorted ends.rows left order.0 sound ready.least ready.whole.sound order.1 ready.common are
-      (are_whole below) led.2 (record { last = last; run = ends.run; over = ends.over }) (record { last = last; run = run; over = over })
-      (subst (λ l. IsPermutation l sorted) (sym (rows_same set s bound 0 ps ds had)) order.2) order.3 in
-      (ends.keys, ends.rows, ends.run, rows)
+      let same = clear_rows s division ready.horizons.between sound ready.horizons.lies ready.world led.0 (all_keys windows) ends.keys keys (all_rows windows) ends.rows left ready.whole.sound led.1
+      (record { last = last; run = ends.run; over = ends.over }) (record { last = last; run = run; over = over }) in
+      (ends.keys, ends.rows, ends.run, subst (λ l. IsPermutation (l ++ left) ends.rows) (rows_same set s 0 ps ds had) same)
 
   pub met_led : (m : ℕ) (t : State) → MeetsState (step s) s.end led.0 m t → MeetsState (step s) s.end ready.world m t
-  met_led m t = met_here s ready.least_delay ready.world led.0 (all_keys windows) (all_rows windows) m t sound ready.least ready.whole.sound led.1
+  met_led m t = clear_met s division ready.horizons.between sound ready.horizons.lies ready.world led.0 (all_keys windows) (all_rows windows) m t ready.whole.sound led.1

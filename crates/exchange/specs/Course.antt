@@ -4,16 +4,14 @@ use Rattle.scenario.specs.Setup.{Setup, IsSound, member_count}
 use Rattle.scenario.specs.Division.{Deal}
 use Rattle.links.specs.declared.table.Links.{Links}
 use Rattle.links.specs.Arrival.{AreLinksOf}
-use Rattle.windows.specs.Cluster.{IsLeastDelay}
 use Rattle.exchange.specs.declared.turns.Course.{Course}
 use Rattle.exchange.specs.Parts.{part_number}
 
--- The links, the end, the least delay and the division are those of the scenario, and each member has a part.
+-- The links, the end and the division are those of the scenario, and each member has a part.
 pub record IsCourse (course : Course) : Type 0 where
   pub sound : IsSound course.scenario.now
   pub fits : AreLinksOf course.links.now course.scenario.now
   pub end : course.end ≡ course.scenario.now.end
-  pub least : IsLeastDelay course.scenario.now course.least_delay
   pub divides : length course.division.now.part_of ≡ member_count course.scenario.now
   pub below : (m : ℕ) → m < member_count course.scenario.now → part_number course.division.now m < course.division.now.parts
 

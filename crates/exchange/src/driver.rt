@@ -1,16 +1,20 @@
 ghost use Rattle.std.specs.Prelude.{◌≡◌, ◌≢◌, [], OnOk, OnErr, IfErr, IsErrOf};
 ghost use Rattle.member.specs.Opening.{opening};
 ghost use Rattle.member_laws.specs.Runs.{IsRunOf, WearsOut};
+ghost use Rattle.exchange.specs.Bounds.{AreHorizonsOf};
 ghost use Rattle.exchange.specs.Course.{IsCourse, GoTogether};
 ghost use Rattle.exchange.specs.Parts.{StandFor};
 ghost use Rattle.exchange.specs.Promise.{BeginsRun};
 ghost use Rattle.exchange.specs.Streams.{rows_so_far, IsOpen, MaySend, IsDriven};
 
+use crate::bounds::{bounded_by_horizons, first_moment};
+use crate::slice::Slice;
 use crate::stream::Stream;
 use crate::tallied::Tallied;
-use crate::turns::{Course, Turned, course_of, exchanged, next_bound};
+use crate::turns::{Course, Turned, course_of, exchanged};
 use base::{Fault, Memory};
 use board::Site;
+use horizons::{Horizons, horizons};
 use links::Links;
 use member::Event;
 use relay::{Relay, SendSeat, TakeSeat};
@@ -103,7 +107,7 @@ pub(crate) fn drive<
 fn turns_by_crew<'b, 'a, Q: EventQueue<Event> + Drop, G: Gate, J: Site, R: Threads + Wait + Sync>(
     rt: &R,
     alloc: Global,
-    mut parts: Vec<Part<Q>>,
+    parts: Vec<Part<Q>>,
     crew: &mut Crew<'b, 'a, Q, G, J>,
     stream: &mut Stream<R>,
     course: &Course<'a>,
@@ -121,19 +125,63 @@ fn turns_by_crew<'b, 'a, Q: EventQueue<Event> + Drop, G: Gate, J: Site, R: Threa
     ensures worn { IsErrOf result Fault.Worn → WearsOut course.now.scenario.now }
     ensures write { IfErr result (λ fault. fault ≢ Fault.Write) }
 {
+    let horizons = match horizons(alloc, course.scenario, course.division, course.links) {
+        Ok(horizons) => horizons,
+        Err(Memory) => return Err(Fault::Memory),
+    };
+    turns_to_horizons(rt, alloc, parts, crew, stream, &horizons, course)
+}
+
+/// Runs them so, each part up to its own horizon, or as far as the slice of the turn goes.
+fn turns_to_horizons<
+    'b,
+    'a,
+    Q: EventQueue<Event> + Drop,
+    G: Gate,
+    J: Site,
+    R: Threads + Wait + Sync,
+>(
+    rt: &R,
+    alloc: Global,
+    mut parts: Vec<Part<Q>>,
+    crew: &mut Crew<'b, 'a, Q, G, J>,
+    stream: &mut Stream<R>,
+    horizons: &Horizons,
+    course: &Course<'a>,
+) -> Result<(), Fault>
+    requires course { IsCourse course.now }
+    requires opened { StandFor Q.set course.now.division.now parts.items (opening course.now.scenario.now) }
+    requires horizons { AreHorizonsOf horizons.now course.now.scenario.now course.now.division.now }
+    requires open { IsOpen stream.old }
+    requires one { stream.old.scenario.now ≡ course.now.scenario.now }
+    requires none_yet { rows_so_far stream.old ≡ [] }
+    ensures open { IsOpen stream.new }
+    ensures relay { stream.new.relay ≡ stream.old.relay }
+    ensures run { OnOk result (IsRunOf course.now.scenario.now (rows_so_far stream.new)) }
+    ensures beginning { OnErr result (BeginsRun course.now.scenario.now (rows_so_far stream.new)) }
+    ensures lasts { OnOk result (¬ (WearsOut course.now.scenario.now)) }
+    ensures worn { IsErrOf result Fault.Worn → WearsOut course.now.scenario.now }
+    ensures write { IfErr result (λ fault. fault ≢ Fault.Write) }
+{
+    let mut kept = Vec::new(alloc);
+    let mut slice = Slice::new();
     let last = course.end.ticks();
     let mut from = 0;
     let mut window = 0u64;
     while from <= last {
-        let Some(bound) = next_bound(&parts, course.end, course.least_delay) else {
+        let Some(first) = first_moment(&parts, course.end) else {
             return Ok(());
+        };
+        let limit = slice.end(first);
+        let bounded = match bounded_by_horizons(alloc, parts, first, limit, horizons, course) {
+            Ok(bounded) => bounded,
+            Err(Memory) => return Err(Fault::Memory),
         };
         window = window.saturating_add(1);
         let done = match crew.run_windows(
             rt,
             alloc,
-            parts,
-            bound,
+            bounded,
             window,
             course.scenario,
             course.links,
@@ -141,17 +189,23 @@ fn turns_by_crew<'b, 'a, Q: EventQueue<Event> + Drop, G: Gate, J: Site, R: Threa
             Ok(done) => done,
             Err(fault) => return Err(fault),
         };
-        let turned = match exchanged(rt, alloc, done, course.division) {
+        let turned = match exchanged(rt, alloc, done, kept, course.division) {
             Ok(turned) => turned,
             Err(Memory) => return Err(Fault::Memory),
         };
-        let Turned { parts: after, rows } = turned;
+        let Turned {
+            parts: after,
+            rows,
+            kept: still_kept,
+        } = turned;
+        slice.adapt(rows.len());
         match stream.take(rows) {
             Ok(()) => {}
             Err(fault) => return Err(fault),
         }
         parts = after;
-        from = bound.ticks();
+        kept = still_kept;
+        from = first.ticks() + 1;
     }
     Ok(())
 }

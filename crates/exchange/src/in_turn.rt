@@ -4,7 +4,8 @@ ghost use Rattle.scenario.specs.Setup.{IsSound, member_count};
 ghost use Rattle.trace.specs.Text.{NamesMembers};
 ghost use Rattle.member.specs.Opening.{opening};
 ghost use Rattle.member_laws.specs.Runs.{IsRunOf, WearsOut};
-ghost use Rattle.windows.specs.declared.part.Part.{Part as APart};
+ghost use Rattle.windows.specs.declared.bounded.Bounded.{Bounded as ABounded};
+ghost use Rattle.windows.specs.Cluster.{IsLeastDelay};
 ghost use Rattle.windows.specs.WorldOf.{world_of};
 ghost use Rattle.windows.specs.Window.{IsConsistentPart};
 ghost use Rattle.windows.specs.Several.{RanWindows, OneWears};
@@ -12,11 +13,12 @@ ghost use Rattle.exchange.specs.Course.{IsCourse};
 ghost use Rattle.exchange.specs.Parts.{StandFor};
 ghost use Rattle.exchange.specs.Promise.{WritesRun, WritesBeginning};
 
+use crate::bounds::{bounded_in_common, first_moment};
 use crate::opening::open_parts;
 use crate::outputs::write_run;
 use crate::rows::join;
 use crate::sequential::Summary;
-use crate::turns::{Course, Turned, course_of, exchanged, next_bound};
+use crate::turns::{Course, Turned, course_of, exchanged};
 use base::{Fault, Memory, Moment};
 use links::Links;
 use member::{Event, StepError};
@@ -25,7 +27,7 @@ use std::alloc::Global;
 use std::marker::Sync;
 use std::thread::Threads;
 use trace::{Row, Sink};
-use windows::{Done, Part};
+use windows::{Bounded, Done, Part};
 use worker_queue::EventQueue;
 
 /// Runs the scenario by the parts of a division of its members: window after window, in each the parts one
@@ -97,8 +99,9 @@ fn rows_in_turn(
         Ok(parts) => parts,
         Err(Memory) => return Err(Fault::Memory),
     };
+    let least_delay = links.least_delay();
     let course = course_of(scenario, &links, division);
-    turns_in_turn(rt, alloc, parts, &course)
+    turns_in_turn(rt, alloc, parts, least_delay, &course)
 }
 
 /// The rows of the run that begins in these parts, turn after turn.
@@ -106,9 +109,11 @@ fn turns_in_turn<Q: EventQueue<Event> + Drop>(
     rt: &(impl Threads + Sync),
     alloc: Global,
     mut parts: Vec<Part<Q>>,
+    least_delay: Option<u64>,
     course: &Course,
 ) -> Result<Vec<Row>, Fault>
     requires course { IsCourse course.now }
+    requires least { IsLeastDelay course.now.scenario.now least_delay }
     requires opened { StandFor Q.set course.now.division.now parts.items (opening course.now.scenario.now) }
     ensures run { IfOk result (λ rows. IsRunOf course.now.scenario.now rows.items) }
     ensures worn { IsErrOf result Fault.Worn → WearsOut course.now.scenario.now }
@@ -116,50 +121,57 @@ fn turns_in_turn<Q: EventQueue<Event> + Drop>(
     ensures lasts { OnOk result (¬ (WearsOut course.now.scenario.now)) }
 {
     let mut rows = Vec::new(alloc);
+    let mut kept = Vec::new(alloc);
     let last = course.end.ticks();
     let mut from = 0;
     while from <= last {
-        let Some(bound) = next_bound(&parts, course.end, course.least_delay) else {
+        let Some(first) = first_moment(&parts, course.end) else {
             return Ok(rows);
         };
-        let done = match windows_in_turn(alloc, parts, bound, course) {
+        let bounded = match bounded_in_common(alloc, parts, first, least_delay, course) {
+            Ok(bounded) => bounded,
+            Err(Memory) => return Err(Fault::Memory),
+        };
+        let done = match windows_in_turn(alloc, bounded, course) {
             Ok(done) => done,
             Err(StepError::Memory) => return Err(Fault::Memory),
             Err(StepError::Worn) => return Err(Fault::Worn),
         };
-        let turned = match exchanged(rt, alloc, done, course.division) {
+        let turned = match exchanged(rt, alloc, done, kept, course.division) {
             Ok(turned) => turned,
             Err(Memory) => return Err(Fault::Memory),
         };
         let Turned {
             parts: after,
             rows: made,
+            kept: still_kept,
         } = turned;
         match join(&mut rows, made) {
             Ok(()) => {}
             Err(Memory) => return Err(Fault::Memory),
         }
         parts = after;
-        from = bound.ticks();
+        kept = still_kept;
+        from = first.ticks() + 1;
     }
     Ok(rows)
 }
 
-/// What came of the windows of these parts below the bound, run one after another.
+/// What came of the windows of these parts, run one after another.
 fn windows_in_turn<Q: EventQueue<Event> + Drop>(
     alloc: Global,
-    parts: Vec<Part<Q>>,
-    bound: Moment,
+    parts: Vec<Bounded<Q>>,
     course: &Course,
 ) -> Result<Vec<Done<Q>>, StepError>
     requires course { IsCourse course.now }
-    requires in_time { bound ≤ course.now.scenario.now.end + 1 }
-    requires consistent { AllByRecursion (λ (part : APart Q). IsConsistentPart course.now.scenario.now (world_of Q.set part)) parts.items }
-    ensures ok { IfOk result (λ done. RanWindows Q.set course.now.scenario.now bound parts.items done.items) }
-    ensures worn { IsErrOf result StepError.Worn → OneWears Q.set course.now.scenario.now bound parts.items }
+    requires in_time { AllByRecursion (λ (b : ABounded Q). b.bound ≤ course.now.scenario.now.end + 1) parts.items }
+    requires consistent { AllByRecursion (λ (b : ABounded Q). IsConsistentPart course.now.scenario.now (world_of Q.set b.part)) parts.items }
+    ensures ok { IfOk result (λ done. RanWindows Q.set course.now.scenario.now parts.items done.items) }
+    ensures worn { IsErrOf result StepError.Worn → OneWears Q.set course.now.scenario.now parts.items }
 {
     let mut all = Vec::new(alloc);
-    for part in parts {
+    for bounded in parts {
+        let Bounded { part, bound } = bounded;
         let done = match part.run(alloc, bound, course.scenario, course.links) {
             Ok(done) => done,
             Err(error) => return Err(error),

@@ -2,6 +2,7 @@
 //! and the report on that.
 #![tactic(auto)]
 
+mod bounds;
 mod by_workers;
 mod driver;
 mod in_turn;
@@ -11,12 +12,15 @@ mod outputs;
 mod parts;
 mod rows;
 mod sequential;
+mod slice;
 mod stream;
 mod stream_writer;
 mod tallied;
 pub mod testing;
 #[cfg(test)]
 mod tests;
+#[cfg(test)]
+mod tests_horizons;
 #[cfg(test)]
 mod tests_meeting;
 #[cfg(test)]

@@ -1,13 +1,12 @@
-ghost use Rattle.std.specs.Prelude.{◌≡◌, ◌+◌, ◌<◌, ◌≤◌, ◌^◌, map, flat_map, length, IfOk, IfSome, IfNone};
+ghost use Rattle.std.specs.Prelude.{◌≡◌, ◌<◌, ◌++◌, map, flat_map, length, IfOk};
 ghost use Rattle.scenario.specs.Setup.{member_count};
 ghost use Rattle.links.specs.Arrival.{AreLinksOf};
 ghost use Rattle.windows.specs.declared.part.Done.{Done as ADone};
-ghost use Rattle.exchange.specs.Parts.{part_number, NonePendsBefore, Came, HaveExchanged};
+ghost use Rattle.exchange.specs.Parts.{part_number, Came, HaveExchanged};
 ghost use Rattle.exchange.specs.Course.{IsCourse};
-ghost use Rattle.exchange.specs.Bounds.{IsNextBound};
 
 use crate::parts::{deliver, least_moment};
-use crate::rows::{in_row_order, join, writers};
+use crate::rows::{Split, in_row_order, join, released, stand_in_order};
 use base::{Memory, Moment};
 use links::Links;
 use member::Event;
@@ -26,7 +25,6 @@ pub(crate) struct Course<'a> {
     pub(crate) links: &'a Links,
     pub(crate) division: &'a Division,
     pub(crate) end: Moment,
-    pub(crate) least_delay: Option<u64>,
 }
 
 /// What the turns of the scenario's run go by.
@@ -40,6 +38,7 @@ pub(crate) fn course_of<'a>(
     requires below { (m : _) → m < member_count scenario.now → part_number division.now m < division.now.parts }
     ensures course { IsCourse result }
     ensures scenario { result.scenario.now ≡ scenario.now }
+    ensures links { result.links.now ≡ links.now }
     ensures division { result.division.now ≡ division.now }
 {
     Course {
@@ -47,49 +46,6 @@ pub(crate) fn course_of<'a>(
         links,
         division,
         end: scenario.end(),
-        least_delay: links.least_delay(),
-    }
-}
-
-/// The bound of the next windows: None where nothing pends up to the end. The windows may reach past
-/// the least pending moment by as much as any event takes to another member, and up to the end.
-pub(crate) fn next_bound<Q: EventQueue<Event> + Drop>(
-    parts: &[Part<Q>],
-    end: Moment,
-    least_delay: Option<u64>,
-) -> Option<Moment>
-    requires end { end < 2 ^ 63 }
-    ensures over { IfNone result (NonePendsBefore Q.set parts.now (end + 1)) }
-    ensures bound { IfSome result (IsNextBound Q.set parts.now end least_delay) }
-{
-    let least = match least_moment(parts) {
-        Some(least) => least,
-        None => return None,
-    };
-    let last = end.ticks();
-    if last < least.ticks() {
-        return None;
-    }
-    let bound = bound_after(least.ticks(), last + 1, least_delay);
-    Some(Moment(bound))
-}
-
-/// A bound past that moment, no more than the least delay past it, nor than the last bound.
-fn bound_after(least: u64, last: u64, least_delay: Option<u64>) -> u64
-    requires { least < last }
-    ensures in_time { result ≤ last }
-    ensures near { IfSome least_delay (λ d. result ≤ least + d) }
-    ensures past { IfSome least_delay (λ d. 0 < d) → least < result }
-{
-    match least_delay {
-        Some(delay) => {
-            if delay < last - least {
-                least + delay
-            } else {
-                last
-            }
-        }
-        None => last,
     }
 }
 
@@ -98,23 +54,27 @@ fn bound_after(least: u64, last: u64, least_delay: Option<u64>) -> u64
 pub(crate) struct Turned<Q: EventQueue<Event>> {
     /// The parts, once what went out has come to them.
     pub(crate) parts: Vec<Part<Q>>,
-    /// The rows of all, in row order.
+    /// The rows before all that pends, in row order.
     pub(crate) rows: Vec<Row>,
+    /// The other rows: earlier ones may still come.
+    pub(crate) kept: Vec<Row>,
 }
 
 /// Ends a turn whose windows gave this: lets the events that went out pend in the parts of their
-/// receivers, and orders the rows.
+/// receivers, and of all rows, with those that were kept so far, in row order, releases the ones before all
+/// that pends.
 pub(crate) fn exchanged<Q: EventQueue<Event> + Drop>(
     rt: &(impl Threads + Sync),
     alloc: Global,
     done: Vec<Done<Q>>,
+    kept: Vec<Row>,
     division: &Division,
 ) -> Result<Turned<Q>, Memory>
     requires came { Came Q.set division.now done.items }
-    ensures { IfOk result (λ turned. HaveExchanged Q.set division.now done.items turned.parts.items turned.rows.items) }
+    ensures { IfOk result (λ turned. HaveExchanged Q.set division.now done.items kept.items turned.parts.items turned.rows.items turned.kept.items) }
 {
-    let wrote = writers(&done);
-    let gathered = match gather(alloc, done) {
+    let ordered = stand_in_order(&kept, &done);
+    let gathered = match gather(alloc, done, kept) {
         Ok(gathered) => gathered,
         Err(Memory) => return Err(Memory),
     };
@@ -123,14 +83,21 @@ pub(crate) fn exchanged<Q: EventQueue<Event> + Drop>(
         out,
         rows,
     } = gathered;
-    let rows = match in_row_order(rt, alloc, rows, wrote) {
+    let rows = match in_row_order(rt, alloc, rows, ordered) {
         Ok(rows) => rows,
         Err(Memory) => return Err(Memory),
     };
     match deliver(&mut parts, out, division) {
-        Ok(()) => Ok(Turned { parts, rows }),
-        Err(Memory) => Err(Memory),
+        Ok(()) => {}
+        Err(Memory) => return Err(Memory),
     }
+    let first = least_moment(&parts);
+    let split = match released(alloc, &rows, first) {
+        Ok(split) => split,
+        Err(Memory) => return Err(Memory),
+    };
+    let Split { rows, kept } = split;
+    Ok(Turned { parts, rows, kept })
 }
 
 /// What the windows of all parts gave, each kind for itself.
@@ -144,18 +111,19 @@ struct Gathered<Q: EventQueue<Event>> {
     rows: Vec<Row>,
 }
 
-/// Gathers what the windows gave.
+/// Gathers what the windows gave, the rows after those that were kept.
 fn gather<Q: EventQueue<Event> + Drop>(
     alloc: Global,
     done: Vec<Done<Q>>,
+    kept: Vec<Row>,
 ) -> Result<Gathered<Q>, Memory>
     ensures parts { IfOk result (λ all. all.parts.items ≡ map (λ (d : ADone Q). d.part) done.items) }
     ensures out { IfOk result (λ all. all.out.items ≡ flat_map (λ (d : ADone Q). d.out.items) done.items) }
-    ensures rows { IfOk result (λ all. all.rows.items ≡ flat_map (λ (d : ADone Q). d.rows.items) done.items) }
+    ensures rows { IfOk result (λ all. all.rows.items ≡ kept.items ++ flat_map (λ (d : ADone Q). d.rows.items) done.items) }
 {
     let mut parts = Vec::new(alloc);
     let mut out = Vec::new(alloc);
-    let mut rows = Vec::new(alloc);
+    let mut rows = kept;
     for one in done {
         match parts.push(one.part) {
             Ok(()) => {}

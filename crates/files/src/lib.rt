@@ -5,9 +5,12 @@
 ghost use Rattle.std.specs.Prelude.{◌≡◌, ℕ, List, [], Bool, Option, Some, false, IfOk, IfSome, IsErrOf, OnOk, OnErr};
 ghost use Rattle.files.specs.Files.{KnownFile, Holds, HoldsNow, IsAbsent, ClosesAs, KeepsOthers};
 
+mod identity;
+mod reading;
 pub mod system;
 pub mod testing;
 
+pub use reading::read_whole;
 use std::alloc::Global;
 use std::io::Write;
 

@@ -1,7 +1,6 @@
 -- What comes of a probe (SWIM), and what its end says of the member that probed (LHA-Probe).
 use Rattle.std.specs.Prelude.{◌≡◌, ℕ, zero, suc, ◌+◌, ◌<◌, ◌≤◌, false, nat_lt, if◌then◌else◌}
 use Rattle.lifeguard.specs.declared.probe.Probe.{Probe}
-use Rattle.lifeguard.specs.declared.limits.TheConstants.{MOST_NACKS}
 use Rattle.lifeguard.specs.Health.{LocalHealth, lowered, raised}
 
 -- a probe that begins
@@ -9,9 +8,9 @@ abbrev pub fresh_probe : ℕ → ℕ → Probe
 fresh_probe seq target =
     record { seq = seq; target = target; expected = 0; nacks = 0; acked = false }
 
--- after a nack: one more where fewer than the most were counted
+-- after a nack: one more, up to 16
 abbrev pub with_nack : Probe → Probe
-with_nack p = record p { nacks = (if nat_lt p.nacks MOST_NACKS then p.nacks + 1 else p.nacks) }
+with_nack p = record p { nacks = (if nat_lt p.nacks 16 then p.nacks + 1 else p.nacks) }
 
 -- after a number of nacks
 abbrev pub with_nacks : Probe → ℕ → Probe

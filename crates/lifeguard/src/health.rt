@@ -1,6 +1,5 @@
-ghost use Rattle.std.specs.Prelude.{◌≡◌, ◌+◌, ◌*◌, ◌≤◌};
+ghost use Rattle.std.specs.Prelude.{◌≡◌, ◌*◌, ◌≤◌, ◌^◌};
 
-use crate::limits::{HIGHEST_CEILING, LONGEST_TIME};
 use crate::probe::Probe;
 use std::marker::Model;
 
@@ -15,14 +14,13 @@ pub struct Health {
 
 impl Model for Health {
     ghost use Rattle.std.specs.Prelude.{◌≤◌};
-    ghost use Rattle.lifeguard.specs.declared.limits.TheConstants.{HIGHEST_CEILING};
     ghost use Rattle.lifeguard.specs.Health.{LocalHealth};
 
     ghost Value = { LocalHealth };
 
     ghost view = { λ h. record { counter = h.counter; ceiling = h.ceiling } };
 
-    ghost invariant = { λ h. (h.counter ≤ h.ceiling) × (h.ceiling ≤ HIGHEST_CEILING) };
+    ghost invariant = { λ h. (h.counter ≤ h.ceiling) × (h.ceiling ≤ 16) };
 
     ghost inverse = { λ h. record { counter = h.counter; ceiling = h.ceiling } };
 }
@@ -31,9 +29,9 @@ impl Health {
     ghost use Rattle.lifeguard.specs.Health.{full_health, lowered, raised, scaled};
     ghost use Rattle.lifeguard.specs.Probe.{after_probe};
 
-    /// Full health, with the given ceiling. A ceiling of 0 switches LHA-Probe's scaling off.
+    /// Full health, with a ceiling of at most 16; a ceiling of 0 switches LHA-Probe's scaling off.
     pub fn new(ceiling: u32) -> Self
-        requires { ceiling ≤ HIGHEST_CEILING }
+        requires { ceiling ≤ 16 }
         ensures { result ≡ full_health ceiling }
     {
         Health {
@@ -96,7 +94,7 @@ impl Health {
     pub fn counter(&self) -> u32
         ensures value { result ≡ self.now.counter }
         ensures within { result ≤ self.now.ceiling }
-        ensures ceiling { self.now.ceiling ≤ HIGHEST_CEILING }
+        ensures ceiling { self.now.ceiling ≤ 16 }
     {
         self.counter
     }
@@ -104,9 +102,9 @@ impl Health {
     /// A probe period or a probe timeout of `base` ticks, as long as the health makes it: LHA-Probe
     /// multiplies it by the counter plus 1.
     pub fn scaled(&self, base: u64) -> u64
-        requires { base ≤ LONGEST_TIME }
+        requires { base ≤ 2 ^ 24 }
         ensures value { result ≡ scaled self.now base }
-        ensures bound { result ≤ base * (HIGHEST_CEILING + 1) }
+        ensures bound { result ≤ base * 17 }
     {
         base * (u64::from(self.counter) + 1)
     }

@@ -8,8 +8,6 @@ ghost use Rattle.lifeguard.specs.Probe.{FailsWithRoom, MissedNacks, after_probe,
 ghost use Rattle.lifeguard.specs.Relays.{RelaySet, relay_cmp};
 ghost use Rattle.lifeguard.specs.declared.probe.Probe.{Probe};
 
-use crate::limits::MOST_NACKS;
-
 /// Whatever a member learns of its health, the counter stays from 0 to the ceiling, and the ceiling
 /// stays what it was made with.
 pub fn counter_stays_within_ceiling()
@@ -49,9 +47,9 @@ pub fn scaled_grows_with_the_counter()
     ensures least { (h : LocalHealth) (base : ℕ) → base ≤ scaled h base }
 {}
 
-/// The nacks to a probe are all counted, up to the most that are.
+/// The nacks to a probe are all counted, up to 16.
 pub fn nacks_are_counted()
-    ensures { (seq target n : ℕ) → (with_nacks (fresh_probe seq target) n).nacks ≡ min n MOST_NACKS }
+    ensures { (seq target n : ℕ) → (with_nacks (fresh_probe seq target) n).nacks ≡ min n 16 }
 {}
 
 /// A nack is sent at least one tick after the ping-req came, and no later than the timeout.

@@ -4,7 +4,6 @@
 
 mod health;
 pub mod laws;
-pub mod limits;
 mod nack;
 mod probe;
 mod relays;

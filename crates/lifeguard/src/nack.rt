@@ -1,15 +1,13 @@
-ghost use Rattle.std.specs.Prelude.{◌≡◌, ◌≤◌};
+ghost use Rattle.std.specs.Prelude.{◌≡◌, ◌≤◌, ◌^◌};
 ghost use Rattle.lifeguard.specs.NackDelay.{nack_delay_of};
-
-use crate::limits::LONGEST_TIME;
 
 /// How many ticks a helper waits for the target's ack before it answers by a nack: `nack_percent`
 /// of the probe timeout, rounded down, and at least 1 (LHA-Probe).
 pub fn nack_delay(nack_percent: u32, timeout: u64) -> u64
     requires percent { nack_percent ≤ 100 }
-    requires timeout { timeout ≤ LONGEST_TIME }
+    requires timeout { timeout ≤ 2 ^ 24 }
     ensures value { result ≡ nack_delay_of nack_percent timeout }
-    ensures bound { result ≤ LONGEST_TIME }
+    ensures bound { result ≤ 2 ^ 24 }
 {
     (u64::from(nack_percent) * timeout / 100).max(1)
 }

@@ -1,7 +1,9 @@
 ghost use Rattle.std.specs.Prelude.{◌≡◌, ◌<◌, ◌↔◌, IsTrue};
 
-use crate::limits::MOST_NACKS;
 use base::MemberId;
+
+/// The most nacks of one probe that are counted: a probe asks at most 16 helpers.
+const MOST_NACKS: u8 = 16;
 
 /// The probe that a member has under way: whom it probes, and what has come back.
 #[derive(Clone, Copy, Debug, PartialEq, Eq)]
@@ -12,7 +14,7 @@ pub struct Probe {
     pub target: MemberId,
     /// How many helpers were asked to answer, by an ack or a nack.
     pub expected: u8,
-    /// How many nacks came, of which at most [`MOST_NACKS`] are counted.
+    /// How many nacks came, of which at most 16 are counted.
     pub nacks: u8,
     /// Whether an ack came, from the target or by a helper.
     pub acked: bool,

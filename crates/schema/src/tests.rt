@@ -267,7 +267,7 @@ fn document(alloc: Global, rt: &impl Abort, text: &str) -> Value {
 
 /// The text after an edit.
 fn edited(alloc: Global, rt: &impl Abort, old: &str, new: &str) -> String {
-    assert!(rt; TEXT.contains(old), "no {old:?}");
+    assert!(rt; TEXT.contains(old), "no {old}");
     TEXT.replacen(alloc, old, new, 1).expect(rt, "memory")
 }
 
@@ -289,7 +289,7 @@ fn rule_of_edit(alloc: Global, rt: &impl Abort, old: &str, new: &str) -> u8 {
 fn assert_rules(alloc: Global, rt: &impl Abort, edits: &[(&str, &str, u8)]) {
     for (old, new, rule) in edits {
         let answer = rule_of_edit(alloc, rt, *old, *new);
-        assert!(rt; answer == *rule, "{new:?} for {old:?}");
+        assert!(rt; answer == *rule, "{new} for {old}");
     }
 }
 
@@ -422,6 +422,6 @@ fn rows_are_found_by_their_section(rt: HostRuntime) {
         absence: Absence::Refused,
         kind: Kind::Whole { least: 1, most: 1 },
     };
-    assert_eq!(rt; Section::Top.rows().first(), Some(&row));
-    assert_eq!(rt; FormatKey::NackPercent.text(), "nack_percent");
+    assert!(rt; Section::Top.rows().first() == Some(&row));
+    assert!(rt; FormatKey::NackPercent.text() == "nack_percent");
 }

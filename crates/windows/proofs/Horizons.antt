@@ -1,11 +1,12 @@
 -- A scenario's parts may run to their horizons.
-use Rattle.std.proofs.Common.{◌≡◌, ◌≢◌, ℕ, ◌+◌, ◌<◌, ◌≤◌, List, Option, Some, None, ap, sym, refl, arith}
+use Rattle.std.proofs.Common.{◌≡◌, ◌≢◌, ℕ, ◌+◌, ◌<◌, ◌≤◌, List, ◌++◌, Option, Some, None, ap, sym, subst, refl, arith}
 use Rattle.std.specs.Option.{option_map}
 use Rattle.std.specs.List.{AllByRecursion}
+use Rattle.std.specs.List.Sorted.{IsPermutation}
 use Rattle.std.specs.FinMap.{get}
 use Rattle.std.proofs.lemmas.List.Elements.{recursion_from_All}
 use Rattle.base.specs.declared.key.Key.{Key}
-use Rattle.base.specs.World.{events_of}
+use Rattle.base.specs.World.{IsPending, events_of}
 use Rattle.base.proofs.Rising.{all_weaker}
 use Rattle.scenario.specs.Setup.{Setup, IsSound, member_count}
 use Rattle.trace.specs.declared.row.Row.{Row}
@@ -16,15 +17,16 @@ use Rattle.member.proofs.Fair.{steps_later, steps_linked}
 use Rattle.member_laws.specs.Words.{IsConsistent, IsAmongMembers}
 use Rattle.member_laws.specs.Runs.{Cluster, IsSoundCluster}
 use Rattle.member_laws.proofs.Reached.{step_among}
-use Rattle.windows.specs.Schedule.{TestedStep, Schedule, CatchesUp}
+use Rattle.windows.specs.Schedule.{TestedStep, Schedule, CatchesUp, OffersEarly, MeetsState}
 use Rattle.windows.specs.Horizon.{AreHorizons, KeepsBetween, IsClearIn}
-use Rattle.windows.specs.Parts.{Window, AreWindowsOfDifferentParts, StandsAfter, all_keys, all_rows}
-use Rattle.windows.specs.Cluster.{link_delay, IsPeopled, LiesBetween, IsClearOf}
+use Rattle.windows.specs.Parts.{Window, AreWindowsOfDifferentParts, StandsAfter, IncludesPart, PartRun, is_in, part_of, all_keys, all_rows}
+use Rattle.windows.specs.Cluster.{link_delay, IsRunFrom, IsPeopled, LiesBetween, IsClearOf}
 use Rattle.windows.proofs.Far.{all_both}
 use Rattle.windows.proofs.Early.{early_step}
 use Rattle.windows.proofs.Clear.{clear_offers, horizons_offer}
-use Rattle.windows.proofs.Division.{after_all, all_schedule, ready_after, stands_after}
-use Rattle.windows.proofs.Schedules.{weaker_step, weaker_schedule}
+use Rattle.windows.proofs.Division.{after_all, all_schedule, ready_after, stands_after, none_left, stands_once}
+use Rattle.windows.proofs.States.{met_by_schedule}
+use Rattle.windows.proofs.Schedules.{weaker_step, weaker_schedule, with_fact, rows_by_schedule, met_by_part}
 use Rattle.windows.proofs.Members.{sends_as_itself, sound_stays, receiver_low}
 
 module _ (s : Setup) (sound : IsSound s) (division : ℕ → ℕ) (between : ℕ → ℕ → ℕ) (lies : LiesBetween s division between) where
@@ -76,3 +78,51 @@ clear_windows s division between bounds w windows sound lies fact horizons are =
       stands_after (step s) (sends_as_itself s sound) division bounds Clear Ready offers w windows (fact, horizons) are,
       (ready_after (step s) (sends_as_itself s sound) division bounds Clear Ready offers w windows (fact, horizons) are).0,
     )
+
+-- ---- what schedules of clear steps, and windows below horizons, are to the run
+
+module _ (s : Setup) (division : ℕ → ℕ) (between : ℕ → ℕ → ℕ) (sound : IsSound s) (lies : LiesBetween s division between) where
+  abbrev Clear : Cluster → Key → Type 0
+  Clear = IsClearIn s.end division (IsPeopled s division) between (IsSoundCluster s)
+
+  abbrev Ready : (ℕ → ℕ) → Cluster → Type 0
+  Ready bounds w = IsSoundCluster s w × AreHorizons s.end division (IsPeopled s division) between bounds w
+
+  early_offers : OffersEarly (step s) s.end Clear
+  early_offers = clear_offers (step s) (steps_later s sound) s.end division (IsPeopled s division) between (IsSoundCluster s) (keeps_between s sound division between lies)
+
+  -- a cluster stays sound
+  clear_kept : (keys : List Key) (w v : Cluster) (rows : List Row) → IsSoundCluster s w → Schedule (step s) (IsClearOf s division between) w keys rows v
+      → Schedule (step s) Clear w keys rows v × IsSoundCluster s v
+  clear_kept = with_fact (step s) (IsClearOf s division between) (IsSoundCluster s) (λ w k c fact clear here. sound_stays s sound w k c fact here clear.in_time)
+
+  -- its rows and those of the run that is left are the whole run's, in another order
+  pub clear_rows : (w v : Cluster) (keys run_keys left_keys : List Key) (rows run left : List Row) → IsSoundCluster s w → Schedule (step s) (IsClearOf s division between) w keys rows v
+      → IsRunFrom s w run_keys run → IsRunFrom s v left_keys left → IsPermutation (rows ++ left) run
+  clear_rows w v keys run_keys left_keys rows run left fact is =
+      rows_by_schedule (step s) (steps_later s sound) (sends_as_itself s sound) s.end Clear early_offers w v keys run_keys left_keys rows run left (clear_kept keys w v rows fact is).0
+
+  -- what the run from its end meets, the run meets
+  pub clear_met : (w v : Cluster) (keys : List Key) (rows : List Row) (m : ℕ) (t : State) → IsSoundCluster s w → Schedule (step s) (IsClearOf s division between) w keys rows v
+      → MeetsState (step s) s.end v m t → MeetsState (step s) s.end w m t
+  clear_met w v keys rows m t fact is =
+      met_by_schedule (step s) (steps_later s sound) (sends_as_itself s sound) s.end Clear early_offers keys w v rows m t (clear_kept keys w v rows fact is).0
+
+  module _ (bounds : ℕ → ℕ) (w : Cluster) (fact : IsSoundCluster s w) (horizons : AreHorizons s.end division (IsPeopled s division) between bounds w) where
+    -- and so is a state in which the steps of a part below its bound leave a member
+    pub clear_met_in_part : (part : ℕ) (after : Cluster) (keys : List Key) (out : List (Key × Content)) (rows : List Row) (m : ℕ) (t : State)
+        → PartRun (step s) (is_in division part) (bounds part) (part_of (is_in division part) w) keys out rows after → get after.members m ≡ Some t → MeetsState (step s) s.end w m t
+    clear_met_in_part part after keys out rows m t =
+        met_by_part (step s) (steps_later s sound) (sends_as_itself s sound) s.end Clear early_offers division bounds (Ready bounds)
+        (horizons_offer (step s) (steps_later s sound) s.end division (IsPeopled s division) between (IsSoundCluster s) (keeps_between s sound division between lies) bounds)
+        part w after keys out rows m t (fact, horizons)
+
+    -- nothing is left below its bound for a part that had its window
+    pub clear_none_left : (windows : List (Window State Content Row)) (v : Cluster) → AreWindowsOfDifferentParts (step s) division bounds w windows → StandsAfter division w windows v
+        → (q : Key) → IsPending v q → IncludesPart windows (division q.to) → bounds (division q.to) ≤ q.at
+    clear_none_left windows v are stands q here has =
+        let offers = horizons_offer (step s) (steps_later s sound) s.end division (IsPeopled s division) between (IsSoundCluster s) (keeps_between s sound division between lies) bounds in
+        let same = stands_once division w (after_all (step s) (sends_as_itself s sound) division bounds Clear (Ready bounds) offers w windows (fact, horizons) are) v windows
+        (stands_after (step s) (sends_as_itself s sound) division bounds Clear (Ready bounds) offers w windows (fact, horizons) are) stands in
+        subst (λ (u : Cluster). (r : Key) → IsPending u r → IncludesPart windows (division r.to) → bounds (division r.to) ≤ r.at) same
+        (none_left (step s) (sends_as_itself s sound) division bounds Clear (Ready bounds) offers w windows (fact, horizons) are) q here has

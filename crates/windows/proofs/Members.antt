@@ -26,7 +26,7 @@ use Rattle.member_laws.proofs.Reached.{step_among, consistent_reached, pending_a
 use Rattle.member_laws.proofs.Runs.{kept_after}
 use Rattle.windows.specs.Delays.{SendsAsItself, KeepsDelays, ComesFar, KeepsFar, IsNoMore}
 use Rattle.windows.specs.Safe.{IsSafe}
-use Rattle.windows.specs.Schedule.{CatchesUp, MeetsState, rows_by}
+use Rattle.windows.specs.Schedule.{Schedule, CatchesUp, MeetsState, rows_by}
 use Rattle.windows.specs.Parts.{Window, IsCommonBound, AreWindowsOfDifferentParts, StandsAfter, IncludesPart, PartRun, for_own, is_in, part_of, all_out, all_keys, all_rows}
 use Rattle.windows.specs.Cluster.{UsesUpTo, link_delay, IsLeastDelay, SafeStep, SafeSchedule, IsRunFrom, IsRowOrder, IsWhole, whose}
 use Rattle.windows.proofs.Far.{far_made}
@@ -125,9 +125,9 @@ pub met_in_part : (s : Setup) (least_delay : Option ℕ) (division : ℕ → ℕ
 met_in_part s d division part bound w after keys out rows m t sound least fact common run there =
     part_met (step s) (steps_later s sound) (sends_as_itself s sound) s.end d (IsSoundCluster s) (sound_keeps s sound d least) division part bound w after keys out rows m t (fact, common) run there
 
-pub numbered_here : (s : Setup) (least_delay : Option ℕ) (w v : Cluster) (keys : List Key) (rows : List Row) → IsSound s → UsesUpTo w → SafeSchedule s least_delay w keys rows v → UsesUpTo v
-numbered_here s d w v keys rows sound numbered is =
-    numbered_schedule (λ (t : State). t.next_number) (step s) (steps_numbered s sound) (IsSafe s.end d) keys w v rows numbered is
+-- a test says nothing of numbers: whatever schedule it is, each event that pends has one that its sender has used
+pub numbered_by : (s : Setup) (Test : Cluster → Key → Type 0) (w v : Cluster) (keys : List Key) (rows : List Row) → IsSound s → UsesUpTo w → Schedule (step s) Test w keys rows v → UsesUpTo v
+numbered_by s Test w v keys rows sound numbered is = numbered_schedule (λ (t : State). t.next_number) (step s) (steps_numbered s sound) Test keys w v rows numbered is
 
 pub new_here : (s : Setup) (least_delay : Option ℕ) (division : ℕ → ℕ) (part bound : ℕ) (w p : Cluster) (keys : List Key) (out : List (Key × Content)) (rows : List Row) (k : Key) (c : Content)
     → IsSound s → IsLeastDelay s least_delay → IsSoundCluster s w → UsesUpTo w → IsCommonBound s.end least_delay w bound

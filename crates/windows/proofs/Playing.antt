@@ -22,7 +22,7 @@ use Rattle.windows.specs.Safe.{IsSafe}
 use Rattle.windows.specs.Schedule.{MeetsState, rows_by}
 use Rattle.windows.specs.Cluster.{UsesUpTo, IsLeastDelay, SafeSchedule, IsRunFrom, IsRowOrder, whose}
 use Rattle.windows.specs.Play.{Plays, IsBeginning}
-use Rattle.windows.proofs.Members.{sound_opening, sound_after, rows_by_here, run_sorted, met_here, numbered_here}
+use Rattle.windows.proofs.Members.{sound_opening, sound_after, rows_by_here, run_sorted, met_here, numbered_by}
 use Rattle.windows.proofs.Numbers.{rising_kept}
 use Rattle.windows.proofs.Released.{trace_rises}
 use Rattle.windows.proofs.Sorting.{IsLess}
@@ -38,7 +38,7 @@ module _ (s : Setup) (d : Option ℕ) (choices : List ℕ) (keys : List Key) (ma
   sound_there = sound_after s d (opening s) v keys made sound least (sound_opening s sound) steps
 
   pub numbered_there : UsesUpTo v
-  numbered_there = numbered_here s d (opening s) v keys made sound (opening_numbered s) steps
+  numbered_there = numbered_by s (IsSafe s.end d) (opening s) v keys made sound (opening_numbered s) steps
 
   -- every member of the scenario is there
   pub peopled_there : (m : ℕ) → m < member_count s → contains_key v.members m ≡ true

@@ -27,7 +27,7 @@ module _ {A B : Type 0} (f : A → B) where
   all_mapped P [] all = tt
   all_mapped P (x ∷ xs) all = (all.0, all_mapped P xs all.1)
 
-  rising_mapped : (before : B → B → Type 0) (Q : A → A → Type 0) → ((x y : A) → before (f x) (f y) → Q x y) → (xs : List A) → IsRising before (map f xs) → IsRising Q xs
+  pub rising_mapped : (before : B → B → Type 0) (Q : A → A → Type 0) → ((x y : A) → before (f x) (f y) → Q x y) → (xs : List A) → IsRising before (map f xs) → IsRising Q xs
   rising_mapped before Q gives [] up = tt
   rising_mapped before Q gives (x ∷ xs) up = (all_weaker _ (Q x) (gives x) xs (all_mapped (before (f x)) xs up.0), rising_mapped before Q gives xs up.1)
 
@@ -65,7 +65,7 @@ module _ {S C R : Type 0} (step : Machine S C R) (later : MakesLater step) (plac
 
   module _ (end : ℕ) where
     -- where nothing pends before a bound, no row of the run from there is before it
-    rows_from : (bound : ℕ) (ks : List Key) (w v : World S C) (rows : List R) → ((q : Key) → IsPending w q → bound ≤ q.at) → Run step end w ks rows v
+    pub rows_from : (bound : ℕ) (ks : List Key) (w v : World S C) (rows : List R) → ((q : Key) → IsPending w q → bound ≤ q.at) → Run step end w ks rows v
         → AllByRecursion (λ row. bound ≤ (place row).0.at) rows
     rows_from bound [] w v rows from run = subst (AllByRecursion (λ row. bound ≤ (place row).0.at)) (sym run.1) tt
     rows_from bound (k ∷ ks) w v rows from run =
@@ -76,6 +76,14 @@ module _ {S C R : Type 0} (step : Machine S C R) (later : MakesLater step) (plac
         (holds-settled step later end (λ q. bound ≤ q.at) w k next.content (λ q here _. from q here) (λ q past. omega arith)) in
         subst (AllByRecursion (λ row. bound ≤ (place row).0.at)) (sym run.6)
         (all_append _ run.1 run.2 (of_key (λ q. bound ≤ q.at) k run.1 _ first next.made (keyed_here w k next.content)) (rows_from bound ks run.0 v run.2 from_mid run.5))
+
+    -- and none is past the end
+    pub rows_in_time : (ks : List Key) (w v : World S C) (rows : List R) → Run step end w ks rows v → AllByRecursion (λ row. (place row).0.at ≤ end) rows
+    rows_in_time [] w v rows run = subst (AllByRecursion (λ row. (place row).0.at ≤ end)) (sym run.1) tt
+    rows_in_time (k ∷ ks) w v rows run =
+        let next = run.4 in
+        subst (AllByRecursion (λ row. (place row).0.at ≤ end)) (sym run.6)
+        (all_append _ run.1 run.2 (of_key (λ q. q.at ≤ end) k run.1 _ run.3 next.made (keyed_here w k next.content)) (rows_in_time ks run.0 v run.2 run.5))
 
     module _ (cmp : R → R → Ordering) (total : IsTotalOrder cmp) (agrees : (a b : R) → IsPlaceBefore (place a) (place b) → cmp a b ≡ Less) where
       pub trace_rises : (Q : R → R → Type 0) → ((a b : R) → cmp a b ≡ Less → Q a b) → (w : World S C) → IsRising Q (trace step later end w)

@@ -15,8 +15,8 @@ use Rattle.base.specs.Rising.{IsPlaceBefore, CountsRows, UsesNumbers, IsNumbered
 use Rattle.base.proofs.Rising.{new_step}
 use Rattle.windows.specs.Delays.{SendsAsItself, KeepsFar}
 use Rattle.windows.specs.Safe.{IsSafe, IsSafeIn}
-use Rattle.windows.specs.Schedule.{TestedStep, Schedule, CatchesUp, MeetsState, TellsWhose, rows_by}
-use Rattle.windows.specs.Parts.{Window, IsReady, for_own, PartRun, part_of, is_in, all_keys, all_rows, AreWindowsOfDifferentParts, StandsAfter, IncludesPart}
+use Rattle.windows.specs.Schedule.{TestedStep, Schedule, CatchesUp, OffersEarly, MeetsState, TellsWhose, rows_by}
+use Rattle.windows.specs.Parts.{Window, IsReady, OffersWindows, for_own, PartRun, part_of, is_in, all_keys, all_rows, AreWindowsOfDifferentParts, StandsAfter, IncludesPart}
 use Rattle.windows.proofs.Early.{early_step}
 use Rattle.windows.proofs.States.{met_by_schedule, met_after}
 use Rattle.windows.proofs.Cuts.{get_retained}
@@ -47,6 +47,28 @@ module _ {S C R : Type 0} (step : Machine S C R) where
       let rest = with_fact Test Fact stays ks is.0 v is.2 mid is.4 in
       ((is.0, is.1, is.2, weaker_step Test _ w is.0 k is.1 (is.3.passes, fact) is.3, rest.0, is.5), rest.1)
 
+module _ {S C R : Type 0} (step : Machine S C R) (later : MakesLater step) (end : ℕ) where
+  same_run : (w : World S C) (keys : List Key) (rows : List R) → SequentialRun step end w keys rows → (handled step later end w ≡ keys) × (trace step later end w ≡ rows)
+  same_run w keys rows is = trace-run step later end keys w is.last rows is.run is.over
+
+module _ {S C R : Type 0} (step : Machine S C R) (later : MakesLater step) (own : SendsAsItself step) (end : ℕ) (Test : World S C → Key → Type 0) (early : OffersEarly step end Test) where
+  -- the rows of a schedule, with those of the run that is left, are the whole run's, in another order
+  pub rows_by_schedule : (w v : World S C) (ks all_ks left_ks : List Key) (rows all left : List R) → Schedule step Test w ks rows v → SequentialRun step end w all_ks all → SequentialRun step end v left_ks left
+      → IsPermutation (rows ++ left) all
+  rows_by_schedule w v ks all_ks left_ks rows all left is whole rest =
+      subst (λ l. IsPermutation (rows ++ l) all) (same_run step later end v left_ks left rest).1
+      (subst (IsPermutation (rows ++ trace step later end v)) (same_run step later end w all_ks all whole).1 (schedule_rows step later own end Test early ks w v rows is))
+
+  -- a state in which the steps of a part below its bound leave a member, the run meets
+  module _ (division bounds : ℕ → ℕ) (Ready : World S C → Type 0) (offers : OffersWindows division bounds Test Ready step) where
+    pub met_by_part : (part : ℕ) (w after : World S C) (ks : List Key) (out : List (Key × C)) (rows : List R) (m : ℕ) (state : S) → Ready w
+        → PartRun step (is_in division part) (bounds part) (part_of (is_in division part) w) ks out rows after → get after.members m ≡ Some state → MeetsState step end w m state
+    met_by_part part w after ks out rows m state ready run there =
+        let led = leads step own division bounds Test Ready offers part [] tt tt ks w (part_of (is_in division part) w) after out rows ready refl run in
+        let kept : cond (is_in division part m) (get led.world.members m) None ≡ Some state =
+        sym (get_retained nat_cmp_total nat_cmp-IsAntisymmetric (is_in division part) led.world.members m) ∙ ap (λ (u : World S C). get u.members m) led.cut ∙ there in
+        met_after step later own end Test early ks w led.world rows m state led.schedule (kept_value (get led.world.members m) state (is_in division part m) (is_in division part m) refl kept).1
+
 module _ {S C R : Type 0} (step : Machine S C R) (later : MakesLater step) (own : SendsAsItself step) (end : ℕ) (least_delay : Option ℕ) (Fact : World S C → Type 0)
     (keeps : KeepsFar end least_delay Fact step) where
   -- a safe event may be handled before its turn
@@ -58,38 +80,34 @@ module _ {S C R : Type 0} (step : Machine S C R) (later : MakesLater step) (own 
   pub schedule_kept : (ks : List Key) (w v : World S C) (rows : List R) → Fact w → Schedule step (IsSafe end least_delay) w ks rows v → Schedule step (IsSafeIn end least_delay Fact) w ks rows v × Fact v
   schedule_kept = with_fact step (IsSafe end least_delay) Fact (λ w k c fact safe here. keeps.stays w k c fact here safe.in_time)
 
-  same_run : (w : World S C) (keys : List Key) (rows : List R) → SequentialRun step end w keys rows → (handled step later end w ≡ keys) × (trace step later end w ≡ rows)
-  same_run w keys rows is = trace-run step later end keys w is.last rows is.run is.over
-
   module _ (w v : World S C) (ks all_ks left_ks : List Key) (rows all left : List R) (fact : Fact w) (is : Schedule step (IsSafe end least_delay) w ks rows v)
       (whole : SequentialRun step end w all_ks all) (rest : SequentialRun step end v left_ks left) where
     -- the keys and the rows of a schedule, with those of the run that is left, are the whole run's, in another order
     pub safe_keys : IsPermutation (ks ++ left_ks) all_ks
     safe_keys =
         let keys = schedule_keys step later own end (IsSafeIn end least_delay Fact) (safe_offers step later end least_delay Fact keeps) ks w v rows (schedule_kept ks w v rows fact is).0 in
-        subst (λ l. IsPermutation (ks ++ l) all_ks) (same_run v left_ks left rest).0 (subst (IsPermutation (ks ++ handled step later end v)) (same_run w all_ks all whole).0 keys)
+        subst (λ l. IsPermutation (ks ++ l) all_ks) (same_run step later end v left_ks left rest).0 (subst (IsPermutation (ks ++ handled step later end v)) (same_run step later end w all_ks all whole).0 keys)
 
     pub safe_rows : IsPermutation (rows ++ left) all
     safe_rows =
-        let same = schedule_rows step later own end (IsSafeIn end least_delay Fact) (safe_offers step later end least_delay Fact keeps) ks w v rows (schedule_kept ks w v rows fact is).0 in
-        subst (λ l. IsPermutation (rows ++ l) all) (same_run v left_ks left rest).1 (subst (IsPermutation (rows ++ trace step later end v)) (same_run w all_ks all whole).1 same)
+        rows_by_schedule step later own end (IsSafeIn end least_delay Fact) (safe_offers step later end least_delay Fact keeps) w v ks all_ks left_ks rows all left (schedule_kept ks w v rows fact is).0 whole rest
 
     -- and each member's in the same order
     pub safe_rows_by : (whose : R → ℕ) → TellsWhose whose step → (m : ℕ) → rows_by whose m all ≡ rows_by whose m rows ++ rows_by whose m left
     safe_rows_by whose tells m =
-        ap (rows_by whose m) (sym (same_run w all_ks all whole).1)
+        ap (rows_by whose m) (sym (same_run step later end w all_ks all whole).1)
         ∙ schedule_by step later own end (IsSafeIn end least_delay Fact) (safe_offers step later end least_delay Fact keeps) whose tells m ks w v rows (schedule_kept ks w v rows fact is).0
-        ∙ ap (λ l. rows_by whose m rows ++ rows_by whose m l) (same_run v left_ks left rest).1
+        ∙ ap (λ l. rows_by whose m rows ++ rows_by whose m l) (same_run step later end v left_ks left rest).1
 
     module _ (place : R → Key × ℕ) (counts : CountsRows place step) (cmp : R → R → Ordering) (total : IsTotalOrder cmp) (agrees : (a b : R) → IsPlaceBefore (place a) (place b) → cmp a b ≡ Less) where
       -- where all events before a bound were handled, and no later one, the rows, sorted, are the next of the run
       pub safe_released : (bound : ℕ) (sorted : List R) → AllByRecursion (λ k. k.at < bound) ks → ((q : Key) → IsPending v q → bound ≤ q.at)
           → IsPermutation rows sorted → IsSorted cmp sorted → all ≡ sorted ++ left
       safe_released bound sorted below from same up =
-          sym (same_run w all_ks all whole).1
+          sym (same_run step later end w all_ks all whole).1
           ∙ released step later place counts end cmp total agrees own (IsSafeIn end least_delay Fact) (safe_offers step later end least_delay Fact keeps)
           bound ks w v rows sorted (schedule_kept ks w v rows fact is).0 below from same up
-          ∙ ap (λ l. sorted ++ l) (same_run v left_ks left rest).1
+          ∙ ap (λ l. sorted ++ l) (same_run step later end v left_ks left rest).1
 
   -- what the run from the end of a schedule meets, the run meets
   pub safe_met : (w v : World S C) (ks : List Key) (rows : List R) (m : ℕ) (state : S) → Fact w → Schedule step (IsSafe end least_delay) w ks rows v → MeetsState step end v m state → MeetsState step end w m state
@@ -99,13 +117,9 @@ module _ {S C R : Type 0} (step : Machine S C R) (later : MakesLater step) (own 
   -- and so is a state in which the steps of a part below a common bound leave a member
   pub part_met : (division : ℕ → ℕ) (part bound : ℕ) (w after : World S C) (ks : List Key) (out : List (Key × C)) (rows : List R) (m : ℕ) (state : S) → IsReady end least_delay Fact bound w
       → PartRun step (is_in division part) bound (part_of (is_in division part) w) ks out rows after → get after.members m ≡ Some state → MeetsState step end w m state
-  part_met division part bound w after ks out rows m state ready run there =
-      let led = leads step own division (λ p. bound) (IsSafeIn end least_delay Fact) (IsReady end least_delay Fact bound) (common_offers step later end least_delay Fact keeps bound division)
-      part [] tt tt ks w (part_of (is_in division part) w) after out rows ready refl run in
-      let kept : cond (is_in division part m) (get led.world.members m) None ≡ Some state =
-      sym (get_retained nat_cmp_total nat_cmp-IsAntisymmetric (is_in division part) led.world.members m) ∙ ap (λ (u : World S C). get u.members m) led.cut ∙ there in
-      met_after step later own end (IsSafeIn end least_delay Fact) (safe_offers step later end least_delay Fact keeps) ks w led.world rows m state led.schedule
-      (kept_value (get led.world.members m) state (is_in division part m) (is_in division part m) refl kept).1
+  part_met division part bound =
+      met_by_part step later own end (IsSafeIn end least_delay Fact) (safe_offers step later end least_delay Fact keeps) division (λ p. bound) (IsReady end least_delay Fact bound)
+      (common_offers step later end least_delay Fact keeps bound division) part
 
   -- and the events that such a part makes for its own members are new in it
   pub part_new : (next : S → ℕ) → UsesNumbers next step → (division : ℕ → ℕ) (part bound : ℕ) (w p : World S C) (ks : List Key) (out : List (Key × C)) (rows : List R) (k : Key) (c : C)
@@ -131,7 +145,7 @@ module _ {S C R : Type 0} (step : Machine S C R) (later : MakesLater step) (own 
     pub safe_trace : (ks all_ks : List Key) (w v : World S C) (rows sorted all : List R) → Fact w → Schedule step (IsSafe end least_delay) w ks rows v → IsOver end v → SequentialRun step end w all_ks all
         → IsPermutation rows sorted → IsSorted cmp sorted → all ≡ sorted
     safe_trace ks all_ks w v rows sorted all fact is over whole items up =
-        sym (same_run w all_ks all whole).1
+        sym (same_run step later end w all_ks all whole).1
         ∙ sorted_trace step later place counts end cmp total agrees own (IsSafeIn end least_delay Fact) (safe_offers step later end least_delay Fact keeps) ks w v rows sorted (schedule_kept ks w v rows fact is).0 over items up
 
   -- windows of different parts lead by safe steps to a world that stands for the parts

@@ -17,7 +17,7 @@ ghost use Rattle.member.specs.Step.{step};
 ghost use Rattle.member_laws.specs.Runs.{Cluster, IsSoundCluster};
 ghost use Rattle.windows.specs.Schedule.{TestedStep, Schedule, CatchesUp, MeetsState, rows_by};
 ghost use Rattle.windows.specs.Window.{is_own, IsConsistentPart};
-ghost use Rattle.windows.specs.Parts.{Window, IsCommonBound, AreWindowsOfDifferentParts, PartRun, PartWindow, StandsAfter, is_in, part_of, for_own, all_out, all_keys, all_rows};
+ghost use Rattle.windows.specs.Parts.{Window, IsCommonBound, AreWindowsOfDifferentParts, IncludesPart, PartRun, PartWindow, StandsAfter, is_in, part_of, for_own, all_out, all_keys, all_rows};
 ghost use Rattle.windows.specs.Horizon.{AreHorizons};
 ghost use Rattle.windows.specs.Cluster.{UsesUpTo, IsWholeCluster, IsPeopled, LiesBetween, IsClearOf, link_delay, IsLeastDelay, SafeStep, SafeSchedule, IsRunFrom, IsRowOrder, IsWhole, whose};
 
@@ -150,7 +150,9 @@ pub fn windows_write_the_next_rows()
 
 /// Each part may run up to a bound of its own, where no pending event's walk of links reaches the
 /// part before it: a clear event may be handled before its turn, and windows below such bounds, in
-/// any order, are a schedule of clear steps.
+/// any order, are a schedule of clear steps, after which no part has events left below its bound. Of
+/// such a schedule's rows, those of the run from where it ends are the rest; it meets no state that
+/// the run doesn't.
 pub fn parts_may_run_to_their_horizons()
     ensures early { (s : Setup) (division : ℕ → ℕ) (between : ℕ → ℕ → ℕ) (w v : Cluster) (k : Key) (made : List Row)
         → IsSound s → LiesBetween s division between → IsSoundCluster s w
@@ -160,6 +162,16 @@ pub fn parts_may_run_to_their_horizons()
         → AreHorizons s.end division (IsPeopled s division) between bounds w → AreWindowsOfDifferentParts (step s) division bounds w windows
         → (v : Cluster) × Schedule (step s) (IsClearOf s division between) w (all_keys windows) (all_rows windows) v
         × StandsAfter division w windows v × IsSoundCluster s v }
+    ensures none_left { (s : Setup) (division : ℕ → ℕ) (between : ℕ → ℕ → ℕ) (bounds : ℕ → ℕ) (w v : Cluster) (windows : List (Window State Content Row))
+        → IsSound s → LiesBetween s division between → IsSoundCluster s w
+        → AreHorizons s.end division (IsPeopled s division) between bounds w → AreWindowsOfDifferentParts (step s) division bounds w windows
+        → StandsAfter division w windows v → (q : Key) → IsPending v q → IncludesPart windows (division q.to) → bounds (division q.to) ≤ q.at }
+    ensures rows { (s : Setup) (division : ℕ → ℕ) (between : ℕ → ℕ → ℕ) (w v : Cluster) (keys run_keys left_keys : List Key) (rows run left : List Row)
+        → IsSound s → LiesBetween s division between → IsSoundCluster s w → Schedule (step s) (IsClearOf s division between) w keys rows v
+        → IsRunFrom s w run_keys run → IsRunFrom s v left_keys left → IsPermutation (rows ++ left) run }
+    ensures states { (s : Setup) (division : ℕ → ℕ) (between : ℕ → ℕ → ℕ) (w v : Cluster) (keys : List Key) (rows : List Row) (m : ℕ) (t : State)
+        → IsSound s → LiesBetween s division between → IsSoundCluster s w → Schedule (step s) (IsClearOf s division between) w keys rows v
+        → MeetsState (step s) s.end v m t → MeetsState (step s) s.end w m t }
 {}
 
 /// The order of rows is one that the laws speak of: by their places first.

@@ -3,6 +3,7 @@
 //! cluster, which runs its window, and a whole cluster that runs by any list of choices.
 #![tactic(auto)]
 
+mod bounded;
 mod choices;
 #[cfg(test)]
 mod choices_tests;
@@ -14,6 +15,7 @@ mod part_tests;
 mod setting;
 mod steps;
 
+pub use bounded::Bounded;
 pub use choices::{Played, a_play_is_a_schedule, play};
 pub use laws::{
     a_part_owns_the_members_of_its_number, a_part_sends_out_late, a_part_writes_in_row_order,

@@ -1,14 +1,18 @@
 -- The tickets of the parts that were dealt.
-use Rattle.std.specs.Prelude.{◌≡◌, ℕ, List, map}
+use Rattle.std.specs.Prelude.{◌≡◌, List, map}
 use Rattle.scenario.specs.Setup.{Setup}
-use Rattle.windows.specs.declared.part.Part.{Part}
+use Rattle.windows.specs.declared.bounded.Bounded.{Bounded}
 use Rattle.workers.specs.declared.ring.Ticket.{Ticket}
 
 module _ {Q : Type 0} where
-  -- the parts that the tickets are of, as they were dealt
-  abbrev pub parts_of : List (Ticket Q) → List (Part Q)
-  parts_of tickets = map (λ (t : Ticket Q). t.before.value) tickets
+  -- the part that the ticket is of and the bound of its window, as they were dealt
+  abbrev pub bounded_of : Ticket Q → Bounded Q
+  bounded_of t = record { part = t.before.value; bound = t.bound }
 
-  -- the ticket is of a window of this scenario below this bound
-  abbrev pub IsOfWindow : Setup → ℕ → Ticket Q → Type 0
-  IsOfWindow s bound t = (t.scenario.value ≡ s) × (t.bound ≡ bound)
+  -- those of all these tickets
+  abbrev pub all_bounded : List (Ticket Q) → List (Bounded Q)
+  all_bounded tickets = map bounded_of tickets
+
+  -- the ticket is of a window of this scenario
+  abbrev pub IsOfScenario : Setup → Ticket Q → Type 0
+  IsOfScenario s t = t.scenario.value ≡ s

@@ -1,12 +1,12 @@
-ghost use Rattle.std.specs.Prelude.{◌≡◌, ◌≢◌, ◌+◌, ◌≤◌, ◌++◌, [], List, Some, None, IsOk, IfOk, OnOk, IfErr, IfSome, IfNone, IsErrOf};
+ghost use Rattle.std.specs.Prelude.{◌≡◌, ◌≢◌, ◌+◌, ◌≤◌, ◌++◌, ◌⊎◌, [], List, Some, None, IsOk, IfOk, OnOk, IfErr, IfSome, IfNone, IsErrOf};
 ghost use Rattle.std.specs.List.{AllByRecursion};
 ghost use Rattle.scenario.specs.Setup.{IsSound};
 ghost use Rattle.links.specs.Arrival.{AreLinksOf};
-ghost use Rattle.windows.specs.declared.part.Part.{Part as APart};
+ghost use Rattle.windows.specs.declared.bounded.Bounded.{Bounded as ABounded};
 ghost use Rattle.windows.specs.WorldOf.{world_of};
 ghost use Rattle.windows.specs.Window.{IsConsistentPart};
 ghost use Rattle.windows.specs.Several.{RanWindows, OneWears};
-ghost use Rattle.workers.specs.Crews.{parts_of, IsOfWindow};
+ghost use Rattle.workers.specs.Crews.{all_bounded, IsOfScenario};
 
 use crate::errand::{Errand, ask};
 use crate::faults::{joined, told};
@@ -14,14 +14,14 @@ use crate::gate::Gate;
 use crate::pieces::ErrandPost;
 use crate::ring::Ticket;
 use crate::signals::{Hold, Signals};
-use base::{Fault, Memory, Moment};
+use base::{Fault, Memory};
 use board::Site;
 use links::Links;
 use member::Event;
 use scenario::Scenario;
 use std::alloc::Global;
 use std::sync::Wait;
-use windows::{Done, Part};
+use windows::{Bounded, Done};
 use worker_queue::EventQueue;
 
 /// The driver's hold on its workers. Once it is dropped or has left they end.
@@ -66,8 +66,8 @@ impl<'b, 'a, Q: EventQueue<Event> + Drop, G: Gate, J: Site> Crew<'b, 'a, Q, G, J
         post
     }
 
-    /// The windows of these parts below the bound, by the workers, in the order of the parts. The window's
-    /// number is what the gate is told.
+    /// The windows of these parts, each below its bound, by the workers, in the order of the parts. The
+    /// window's number is what the gate is told.
     ///
     /// Faults: `Memory` and `Worn` of a part's window, `Relay` where an errand was handed back or lost. Of
     /// several the first in that order is answered. All errands that went out have come to an end.
@@ -75,27 +75,27 @@ impl<'b, 'a, Q: EventQueue<Event> + Drop, G: Gate, J: Site> Crew<'b, 'a, Q, G, J
         &mut self,
         rt: &impl Wait,
         alloc: Global,
-        parts: Vec<Part<Q>>,
-        bound: Moment,
+        parts: Vec<Bounded<Q>>,
         window: u64,
         scenario: &'a Scenario,
         links: &'a Links,
     ) -> Result<Vec<Done<Q>>, Fault>
         requires sound { IsSound scenario.now }
         requires fits { AreLinksOf links.now scenario.now }
-        requires in_time { bound ≤ scenario.now.end + 1 }
-        requires consistent { AllByRecursion (λ (part : APart Q). IsConsistentPart scenario.now (world_of Q.set part)) parts.items }
-        ensures ok { IfOk result (λ done. RanWindows Q.set scenario.now bound parts.items done.items) }
-        ensures worn { IsErrOf result Fault.Worn → OneWears Q.set scenario.now bound parts.items }
+        requires in_time { AllByRecursion (λ (b : ABounded Q). b.bound ≤ scenario.now.end + 1) parts.items }
+        requires consistent { AllByRecursion (λ (b : ABounded Q). IsConsistentPart scenario.now (world_of Q.set b.part)) parts.items }
+        ensures ok { IfOk result (λ done. RanWindows Q.set scenario.now parts.items done.items) }
+        ensures worn { IsErrOf result Fault.Worn → OneWears Q.set scenario.now parts.items }
         ensures write { IfErr result (λ fault. fault ≢ Fault.Write) }
     {
         if self.workers == 1 {
-            return run_alone(alloc, self.gate, parts, bound, window, scenario, links);
+            return run_alone(alloc, self.gate, parts, window, scenario, links);
         }
-        let dealt = self.deal(rt, alloc, parts, bound, window, scenario, links);
+        let dealt = self.deal(rt, alloc, parts, window, scenario, links);
         self.hold.0.awaited.wait(rt);
         let Dealt { tickets, fault } = dealt;
-        gather(begun(alloc, fault), tickets, bound, scenario)
+        let so_far = begun(alloc, fault, tickets.len());
+        gather(so_far, tickets, scenario)
     }
 
     /// Deals the parts, until one can't be dealt.
@@ -103,23 +103,25 @@ impl<'b, 'a, Q: EventQueue<Event> + Drop, G: Gate, J: Site> Crew<'b, 'a, Q, G, J
         &mut self,
         rt: &impl Wait,
         alloc: Global,
-        parts: Vec<Part<Q>>,
-        bound: Moment,
+        parts: Vec<Bounded<Q>>,
         window: u64,
         scenario: &'a Scenario,
         links: &'a Links,
     ) -> Dealt<Q>
         requires fits { AreLinksOf links.now scenario.now }
-        requires in_time { bound ≤ scenario.now.end + 1 }
-        requires consistent { AllByRecursion (λ (part : APart Q). IsConsistentPart scenario.now (world_of Q.set part)) parts.items }
-        ensures windows { AllByRecursion (IsOfWindow scenario.now bound) result.tickets.items }
-        ensures whole { IfNone result.fault (parts_of result.tickets.items ≡ parts.items) }
-        ensures beginning { (rest : List (APart Q)) × (parts.items ≡ parts_of result.tickets.items ++ rest) }
+        requires in_time { AllByRecursion (λ (b : ABounded Q). b.bound ≤ scenario.now.end + 1) parts.items }
+        requires consistent { AllByRecursion (λ (b : ABounded Q). IsConsistentPart scenario.now (world_of Q.set b.part)) parts.items }
+        ensures windows { AllByRecursion (IsOfScenario scenario.now) result.tickets.items }
+        ensures whole { IfNone result.fault (all_bounded result.tickets.items ≡ parts.items) }
+        ensures beginning { (rest : List (ABounded Q)) × (parts.items ≡ all_bounded result.tickets.items ++ rest) }
         ensures causes { IfSome result.fault (λ fault. (fault ≢ Fault.Worn) × (fault ≢ Fault.Write)) }
     {
-        let mut tickets = Vec::new(alloc);
-        for part in parts {
-            let (ticket, errand) = match ask(alloc, part, bound, window, scenario, links) {
+        let mut tickets = match room_for(alloc, parts.len()) {
+            Ok(tickets) => tickets,
+            Err(fault) => return stopped(Vec::new(alloc), fault),
+        };
+        for bounded in parts {
+            let (ticket, errand) = match ask(alloc, bounded, window, scenario, links) {
                 Ok(pair) => pair,
                 Err(Memory) => return stopped(tickets, Fault::Memory),
             };
@@ -170,15 +172,14 @@ fn stopped<Q: EventQueue<Event>>(tickets: Vec<Ticket<Q>>, fault: Fault) -> Dealt
 fn gather<Q: EventQueue<Event> + Drop>(
     begun: Result<Vec<Done<Q>>, Fault>,
     tickets: Vec<Ticket<Q>>,
-    bound: Moment,
     scenario: &Scenario,
 ) -> Result<Vec<Done<Q>>, Fault>
     requires none { IfOk begun (λ all. all.items ≡ []) }
     requires causes { IfErr begun (λ fault. (fault ≢ Fault.Worn) × (fault ≢ Fault.Write)) }
-    requires windows { AllByRecursion (IsOfWindow scenario.now bound) tickets.items }
-    ensures ok { IfOk result (λ done. RanWindows Q.set scenario.now bound (parts_of tickets.items) done.items) }
+    requires windows { AllByRecursion (IsOfScenario scenario.now) tickets.items }
+    ensures ok { IfOk result (λ done. RanWindows Q.set scenario.now (all_bounded tickets.items) done.items) }
     ensures whole { OnOk result (IsOk begun) }
-    ensures worn { IsErrOf result Fault.Worn → OneWears Q.set scenario.now bound (parts_of tickets.items) }
+    ensures worn { IsErrOf result Fault.Worn → OneWears Q.set scenario.now (all_bounded tickets.items) }
     ensures write { IfErr result (λ fault. fault ≢ Fault.Write) }
 {
     let _scenario = scenario;
@@ -189,37 +190,48 @@ fn gather<Q: EventQueue<Event> + Drop>(
     so_far
 }
 
-/// No window came yet: the fault, where there is one already.
-fn begun<T: Drop>(alloc: Global, fault: Option<Fault>) -> Result<Vec<T>, Fault>
+/// No window came yet, with room for so many: the fault, where there is one already.
+fn begun<T: Drop>(alloc: Global, fault: Option<Fault>, count: usize) -> Result<Vec<T>, Fault>
     ensures ok { IfOk result (λ none. (none.items ≡ []) × (fault ≡ None)) }
-    ensures err { IfErr result (λ error. fault ≡ Some error) }
+    ensures err { IfErr result (λ error. (fault ≡ Some error) ⊎ (error ≡ Fault.Memory)) }
 {
     match fault {
-        None => Ok(Vec::new(alloc)),
+        None => room_for(alloc, count),
         Some(fault) => Err(fault),
     }
 }
 
-/// Runs the window of each part below the bound, one after another, as worker 0.
+/// An empty list with room for so many.
+fn room_for<T: Drop>(alloc: Global, count: usize) -> Result<Vec<T>, Fault>
+    ensures ok { IfOk result (λ none. none.items ≡ []) }
+    ensures err { IfErr result (λ fault. fault ≡ Fault.Memory) }
+{
+    match Vec::with_capacity(alloc, count) {
+        Ok(none) => Ok(none),
+        Err(_) => Err(Fault::Memory),
+    }
+}
+
+/// Runs the window of each part below its bound, one after another, as worker 0.
 fn run_alone<Q: EventQueue<Event> + Drop, G: Gate>(
     alloc: Global,
     gate: &G,
-    parts: Vec<Part<Q>>,
-    bound: Moment,
+    parts: Vec<Bounded<Q>>,
     window: u64,
     scenario: &Scenario,
     links: &Links,
 ) -> Result<Vec<Done<Q>>, Fault>
     requires sound { IsSound scenario.now }
     requires fits { AreLinksOf links.now scenario.now }
-    requires in_time { bound ≤ scenario.now.end + 1 }
-    requires consistent { AllByRecursion (λ (part : APart Q). IsConsistentPart scenario.now (world_of Q.set part)) parts.items }
-    ensures ok { IfOk result (λ done. RanWindows Q.set scenario.now bound parts.items done.items) }
-    ensures worn { IsErrOf result Fault.Worn → OneWears Q.set scenario.now bound parts.items }
+    requires in_time { AllByRecursion (λ (b : ABounded Q). b.bound ≤ scenario.now.end + 1) parts.items }
+    requires consistent { AllByRecursion (λ (b : ABounded Q). IsConsistentPart scenario.now (world_of Q.set b.part)) parts.items }
+    ensures ok { IfOk result (λ done. RanWindows Q.set scenario.now parts.items done.items) }
+    ensures worn { IsErrOf result Fault.Worn → OneWears Q.set scenario.now parts.items }
     ensures write { IfErr result (λ fault. fault ≢ Fault.Write) }
 {
-    let mut so_far = begun(alloc, None);
-    for part in parts {
+    let mut so_far = room_for(alloc, parts.len());
+    for bounded in parts {
+        let Bounded { part, bound } = bounded;
         gate.enter(0, window, part.number);
         so_far = joined(so_far, told(part.run(alloc, bound, scenario, links)));
     }

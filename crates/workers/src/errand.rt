@@ -2,17 +2,18 @@ ghost use Rattle.std.specs.Prelude.{◌≡◌, ◌+◌, ◌≤◌, IfOk};
 ghost use Rattle.links.specs.Arrival.{AreLinksOf};
 ghost use Rattle.windows.specs.WorldOf.{world_of};
 ghost use Rattle.windows.specs.Window.{IsConsistentPart};
+ghost use Rattle.workers.specs.Crews.{bounded_of, IsOfScenario};
 
 use crate::gate::Gate;
 use crate::ring::{Reply, Ticket, ring_for};
 use crate::terms::Terms;
-use base::{Memory, Moment};
+use base::Memory;
 use links::Links;
 use member::Event;
 use scenario::Scenario;
 use std::alloc::Global;
 use std::snapshot::Snapshot;
-use windows::Part;
+use windows::{Bounded, Part};
 use worker_queue::EventQueue;
 
 /// What a worker takes: a part, and all that its window needs.
@@ -30,20 +31,20 @@ pub struct Errand<'a, Q: EventQueue<Event>> {
     ghost part_of_reply: { reply.before.value ≡ part },
 }
 
-/// The errand of a part, and the ticket for what comes of it.
+/// The errand of a part below its bound, and the ticket for what comes of it.
 pub(crate) fn ask<'a, Q: EventQueue<Event> + Drop>(
     alloc: Global,
-    part: Part<Q>,
-    bound: Moment,
+    bounded: Bounded<Q>,
     window: u64,
     scenario: &'a Scenario,
     links: &'a Links,
 ) -> Result<(Ticket<Q>, Errand<'a, Q>), Memory>
     requires fits { AreLinksOf links.now scenario.now }
-    requires in_time { bound ≤ scenario.now.end + 1 }
-    requires consistent { IsConsistentPart scenario.now (world_of Q.set part) }
-    ensures { IfOk result (λ r. (r.0.scenario.value ≡ scenario.now) × (r.0.bound ≡ bound) × (r.0.before.value ≡ part)) }
+    requires in_time { bounded.bound ≤ scenario.now.end + 1 }
+    requires consistent { IsConsistentPart scenario.now (world_of Q.set bounded.part) }
+    ensures { IfOk result (λ r. IsOfScenario scenario.now r.0 × (bounded_of r.0 ≡ bounded)) }
 {
+    let Bounded { part, bound } = bounded;
     let (ticket, reply) = match ring_for(alloc, scenario, bound, &part) {
         Ok(ends) => ends,
         Err(Memory) => return Err(Memory),

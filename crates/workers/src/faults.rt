@@ -52,8 +52,9 @@ fn added<T: Drop>(mut all: Vec<T>, one: T) -> Result<Vec<T>, Fault>
     }
 }
 
-/// Of two faults the one that a run answers: want of memory first, then a worn counter.
-fn first_of(one: Fault, other: Fault) -> Fault
+/// Of two faults the one that a run answers, whichever came first: want of memory goes before a worn
+/// counter, that before a sink that failed, and that before what threads lost.
+pub fn first_of(one: Fault, other: Fault) -> Fault
     ensures { result ≡ first_of one other }
 {
     if rank(other) < rank(one) { other } else { one }

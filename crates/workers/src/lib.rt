@@ -21,6 +21,7 @@ mod worker;
 pub use close::{SEATS, close_board};
 pub use crew::Crew;
 pub use errand::Errand;
+pub use faults::first_of;
 pub use gate::{Gate, OpenGate};
 pub use pieces::{ErrandBoard, ErrandPost, ErrandSeat, Errands};
 pub use signals::Signals;

@@ -1,5 +1,5 @@
 //! Two parts, of which one has all members and the other nobody, by one worker and by several.
-ghost use Rattle.std.specs.Prelude.{◌≡◌, length, IfOk};
+ghost use Rattle.std.specs.Prelude.{◌≡◌, ◌+◌, ◌≤◌, length, IfOk};
 ghost use Rattle.std.specs.List.{AllByRecursion};
 ghost use Rattle.std.specs.Thread.{IsSync};
 ghost use Rattle.board.specs.Deal.{whole};
@@ -27,7 +27,7 @@ use std::test::Fail;
 use std::thread;
 use std::thread::Threads;
 use trace::Row;
-use windows::{Done, Part};
+use windows::{Bounded, Done, Part};
 use worker_queue::TreeQueue;
 
 const TWO_MEMBERS: &str = "version = 1
@@ -80,19 +80,30 @@ fn nobody(alloc: Global, scenario: &Scenario) -> Part<TreeQueue<Event>>
     Part::new(alloc, 1, queue)
 }
 
-fn both(alloc: Global, scenario: &Scenario) -> Result<Vec<Part<TreeQueue<Event>>>, Memory>
-    ensures { IfOk result (λ parts. AllByRecursion (λ part. IsConsistentPart scenario.now (world_of set_of part)) parts.items) }
+/// Both parts, that with all members below this bound, the other below the end.
+fn both(
+    alloc: Global,
+    scenario: &Scenario,
+    bound: Moment,
+) -> Result<Vec<Bounded<TreeQueue<Event>>>, Memory>
+    requires { bound ≤ scenario.now.end }
+    ensures in_time { IfOk result (λ parts. AllByRecursion (λ b. b.bound ≤ scenario.now.end + 1) parts.items) }
+    ensures consistent { IfOk result (λ parts. AllByRecursion (λ b. IsConsistentPart scenario.now (world_of set_of b.part)) parts.items) }
 {
     let first = match everybody(alloc, scenario) {
         Ok(part) => part,
         Err(Memory) => return Err(Memory),
     };
     let mut parts = Vec::new(alloc);
-    match parts.push(first) {
+    match parts.push(Bounded { part: first, bound }) {
         Ok(()) => {}
         Err(_) => return Err(Memory),
     }
-    match parts.push(nobody(alloc, scenario)) {
+    let second = Bounded {
+        part: nobody(alloc, scenario),
+        bound: scenario.end(),
+    };
+    match parts.push(second) {
         Ok(()) => Ok(parts),
         Err(_) => Err(Memory),
     }
@@ -127,19 +138,11 @@ fn drive<'b, 'a, G: Gate, J: Site>(
     let mut rows = Vec::new(alloc);
     for window in 0..WINDOWS {
         let bound = (window + 1).min(scenario.end().ticks());
-        let parts = match both(alloc, scenario) {
+        let parts = match both(alloc, scenario, Moment(bound)) {
             Ok(parts) => parts,
             Err(Memory) => return Err(Fault::Memory),
         };
-        let done = match crew.run_windows(
-            rt,
-            alloc,
-            parts,
-            Moment(bound),
-            window + 1,
-            scenario,
-            links,
-        ) {
+        let done = match crew.run_windows(rt, alloc, parts, window + 1, scenario, links) {
             Ok(done) => done,
             Err(fault) => return Err(fault),
         };

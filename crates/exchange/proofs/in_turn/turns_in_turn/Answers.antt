@@ -1,5 +1,6 @@
-use Rattle.std.proofs.Common.{sym, subst, arith}
-use Rattle.exchange.proofs.Goes.{IsUnderWay, not_yet, consistent, in_time, came, further, goes_on, one_wears, ends_here, ends_past}
+use Rattle.std.proofs.Common.{◌+◌, [], sym, subst, arith}
+use Rattle.exchange.specs.Bounds.{IsFirstMoment}
+use Rattle.exchange.proofs.Goes.{IsUnderWay, not_yet, consistent, came, further, goes_on, one_wears, ends_here, ends_past}
 use Rattle.exchange.proofs.in_turn.turns_in_turn.Goals as goal
 
 pub loop-from-init : goal.loop-from-init
@@ -7,41 +8,35 @@ loop-from-init g c =
     let course = c.args.course.now in
     record {
       run =
-          subst (IsUnderWay g.Q.EventQueue.set course.scenario.now course.division.now 0 c.args.parts.items) (sym c.new-rows.ensures.items)
-          (not_yet g.Q.EventQueue.set course c.requires.course c.args.parts.items c.requires.opened);
+          subst (λ l. IsUnderWay g.Q.EventQueue.set course.scenario.now course.division.now 0 c.args.parts.items c.new-rows.result.items l) (sym c.new-kept.ensures.items)
+          (subst (λ l. IsUnderWay g.Q.EventQueue.set course.scenario.now course.division.now 0 c.args.parts.items l []) (sym c.new-rows.ensures.items)
+          (not_yet g.Q.EventQueue.set course c.requires.course c.args.parts.items c.requires.opened));
     }
 
 pub returns-in_default-clause-run : goal.returns-in_default-clause-run
-returns-in_default-clause-run g c =
-    (ends_here g.Q.EventQueue.set c.args.course.now c.requires.course c.loop-from.parts.items c.loop-from.rows.items c.loop-from.from c.loop-from.invariant.run c.deref.result.now c.deref.ensures.value c.in_default.ensures.over).0
+returns-in_default-clause-run g c = (ends_here g.Q.EventQueue.set c.args.course.now c.requires.course c.loop-from.parts.items c.loop-from.rows.items c.loop-from.kept.items c.loop-from.from c.loop-from.invariant.run c.deref.result.now c.deref.ensures.value c.in_default.ensures.over).0
 
 pub returns-in_default-clause-lasts : goal.returns-in_default-clause-lasts
-returns-in_default-clause-lasts g c =
-    (ends_here g.Q.EventQueue.set c.args.course.now c.requires.course c.loop-from.parts.items c.loop-from.rows.items c.loop-from.from c.loop-from.invariant.run c.deref.result.now c.deref.ensures.value c.in_default.ensures.over).1
+returns-in_default-clause-lasts g c = (ends_here g.Q.EventQueue.set c.args.course.now c.requires.course c.loop-from.parts.items c.loop-from.rows.items c.loop-from.kept.items c.loop-from.from c.loop-from.invariant.run c.deref.result.now c.deref.ensures.value c.in_default.ensures.over).1
+
+pub bounded_in_common-requires-clause-first : goal.bounded_in_common-requires-clause-first
+bounded_in_common-requires-clause-first g c = subst (λ l. IsFirstMoment g.Q.EventQueue.set l c.args.course.now.end c.in-Some.first) c.deref.ensures.value c.in-Some.ensures.first
 
 pub windows_in_turn-requires-clause-consistent : goal.windows_in_turn-requires-clause-consistent
-windows_in_turn-requires-clause-consistent g c =
-    consistent g.Q.EventQueue.set c.args.course.now c.requires.course c.loop-from.parts.items c.loop-from.rows.items c.loop-from.from c.loop-from.invariant.run
+windows_in_turn-requires-clause-consistent g c = consistent g.Q.EventQueue.set c.args.course.now c.requires.course c.loop-from.parts.items c.loop-from.rows.items c.loop-from.kept.items c.loop-from.from c.loop-from.invariant.run c.in-Some.first c.in-Ok.bounded.items c.in-Ok.ensures
 
 pub windows_in_turn-requires-clause-in_time : goal.windows_in_turn-requires-clause-in_time
-windows_in_turn-requires-clause-in_time g c =
-    in_time g.Q.EventQueue.set c.args.course.now c.requires.course c.loop-from.parts.items c.loop-from.rows.items c.loop-from.from c.loop-from.invariant.run
-    c.in-Some.bound c.deref.result.now c.deref.ensures.value c.in-Some.ensures.bound
+windows_in_turn-requires-clause-in_time g c = c.in-Ok.ensures.in_time
 
 pub returns-in-Err-Worn-clause-worn : goal.returns-in-Err-Worn-clause-worn
-returns-in-Err-Worn-clause-worn g c = λ h.
-    one_wears g.Q.EventQueue.set c.args.course.now c.requires.course c.loop-from.parts.items c.loop-from.rows.items c.loop-from.from c.loop-from.invariant.run
-    c.in-Some.bound c.deref.result.now c.deref.ensures.value c.in-Some.ensures.bound (c.windows_in_turn.ensures.worn cc)
+returns-in-Err-Worn-clause-worn g c = λ h. one_wears g.Q.EventQueue.set c.args.course.now c.requires.course c.loop-from.parts.items c.loop-from.rows.items c.loop-from.kept.items c.loop-from.from c.loop-from.invariant.run c.in-Some.first c.in-Ok.bounded.items c.in-Ok.ensures (c.windows_in_turn.ensures.worn cc)
 
 pub exchanged-requires-clause-came : goal.exchanged-requires-clause-came
-exchanged-requires-clause-came g c = λ loans lives.
-    came g.Q.EventQueue.set c.args.course.now c.requires.course c.loop-from.parts.items c.loop-from.rows.items c.loop-from.from c.loop-from.invariant.run
-    c.in-Some.bound c.deref.result.now c.deref.ensures.value c.in-Some.ensures.bound c.in-Ok.done.items c.in-Ok.ensures.ok
+exchanged-requires-clause-came g c = λ loans lives. came g.Q.EventQueue.set c.args.course.now c.requires.course c.loop-from.parts.items c.loop-from.rows.items c.loop-from.kept.items c.loop-from.from c.loop-from.invariant.run c.in-Some.first c.in-Ok.bounded.items c.in-Ok.ensures c.in-Ok-windows_in_turn.done.items c.in-Ok-windows_in_turn.ensures.ok
 
 pub loop-from-smaller : goal.loop-from-smaller
 loop-from-smaller g c =
-    let on = further g.Q.EventQueue.set c.args.course.now c.requires.course c.loop-from.parts.items c.loop-from.rows.items c.loop-from.from c.loop-from.invariant.run
-    c.in-Some.bound c.deref.result.now c.deref.ensures.value c.in-Some.ensures.bound in
+    let on = further g.Q.EventQueue.set c.args.course.now c.requires.course c.loop-from.parts.items c.loop-from.rows.items c.loop-from.kept.items c.loop-from.from c.loop-from.invariant.run c.in-Some.first c.deref.result.now c.deref.ensures.value c.in-Some.ensures.first in
     let up = on.0 in
     let low = on.1 in
     omega (arith, up, low, c.ticks-last.ensures, c.ticks-from.ensures)
@@ -50,21 +45,18 @@ pub loop-from-preserved : goal.loop-from-preserved
 loop-from-preserved g c =
     let course = c.args.course.now in
     let set = g.Q.EventQueue.set in
-    let after = c.in-Ok-exchanged.turned.parts.items in
-    let made = c.in-Ok-exchanged.turned.rows.items in
+    let turned = c.in-Ok-exchanged.turned in
     let on =
-    goes_on set course c.requires.course c.loop-from.parts.items c.loop-from.rows.items c.loop-from.from c.loop-from.invariant.run
-    c.in-Some.bound c.deref.result.now c.deref.ensures.value c.in-Some.ensures.bound c.in-Ok.done.items c.in-Ok.ensures.ok after made c.in-Ok-exchanged.ensures in
+    goes_on g.Q.EventQueue.set c.args.course.now c.requires.course c.loop-from.parts.items c.loop-from.rows.items c.loop-from.kept.items c.loop-from.from c.loop-from.invariant.run c.in-Some.first c.in-Ok.bounded.items c.in-Ok.ensures c.in-Ok-windows_in_turn.done.items c.in-Ok-windows_in_turn.ensures.ok
+    turned.parts.items turned.rows.items turned.kept.items c.in-Ok-exchanged.ensures in
     record {
       run =
-          subst (λ t. IsUnderWay set course.scenario.now course.division.now t after c.join.new.all.items) (sym c.ticks-from.ensures)
-          (subst (λ l. IsUnderWay set course.scenario.now course.division.now c.in-Some.bound after l) (sym c.in-Ok-join.ensures.ok) on);
+          subst (λ t. IsUnderWay set course.scenario.now course.division.now t turned.parts.items c.join.new.all.items turned.kept.items) (omega (arith, c.ticks-from.ensures))
+          (subst (λ l. IsUnderWay set course.scenario.now course.division.now (c.in-Some.first + 1) turned.parts.items l turned.kept.items) (sym c.in-Ok-join.ensures.ok) on);
     }
 
 pub returns-clause-run : goal.returns-clause-run
-returns-clause-run g c =
-    (ends_past g.Q.EventQueue.set c.args.course.now c.requires.course c.loop-from.parts.items c.loop-from.rows.items c.loop-from.from c.loop-from.invariant.run (omega arith)).0
+returns-clause-run g c = (ends_past g.Q.EventQueue.set c.args.course.now c.requires.course c.loop-from.parts.items c.loop-from.rows.items c.loop-from.kept.items c.loop-from.from c.loop-from.invariant.run (omega arith)).0
 
 pub returns-clause-lasts : goal.returns-clause-lasts
-returns-clause-lasts g c =
-    (ends_past g.Q.EventQueue.set c.args.course.now c.requires.course c.loop-from.parts.items c.loop-from.rows.items c.loop-from.from c.loop-from.invariant.run (omega arith)).1
+returns-clause-lasts g c = (ends_past g.Q.EventQueue.set c.args.course.now c.requires.course c.loop-from.parts.items c.loop-from.rows.items c.loop-from.kept.items c.loop-from.from c.loop-from.invariant.run (omega arith)).1

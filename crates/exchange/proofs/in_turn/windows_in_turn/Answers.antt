@@ -1,4 +1,4 @@
-use Rattle.std.proofs.Common.{◌≡◌, ◌+◌, ◌++◌, ◌∷◌, [], min, append_assoc, ap, ◌∙◌, sym, subst, arith}
+use Rattle.std.proofs.Common.{◌≡◌, ◌+◌, ◌≤◌, ◌++◌, ◌∷◌, [], min, append_assoc, ap, ◌∙◌, sym, subst, arith}
 use Rattle.std.specs.List.{AllByRecursion}
 use Rattle.windows.specs.WorldOf.{world_of}
 use Rattle.windows.specs.Window.{IsConsistentPart, RunsWindow}
@@ -9,30 +9,34 @@ use Rattle.exchange.proofs.in_turn.windows_in_turn.Goals as goal
 
 pub run-requires-clause-consistent : goal.run-requires-clause-consistent
 run-requires-clause-consistent g c =
-    (subst (AllByRecursion (λ part. IsConsistentPart c.args.course.now.scenario.now (world_of g.Q.EventQueue.set part))) c.in-Some.ensures.steps.0 c.loop-part.invariant.consistent).0
+    (subst (AllByRecursion (λ b. IsConsistentPart c.args.course.now.scenario.now (world_of g.Q.EventQueue.set b.part))) c.in-Some.ensures.steps.0 c.loop-bounded.invariant.consistent).0
 
 pub returns-in-Err-clause-worn : goal.returns-in-Err-clause-worn
 returns-in-Err-clause-worn g c = λ h.
-    let in_time : min c.args.bound (c.args.course.now.scenario.now.end + 1) ≡ c.args.bound = omega (arith, c.requires.in_time) in
+    let one = (subst (AllByRecursion (λ b. b.bound ≤ c.args.course.now.scenario.now.end + 1)) c.in-Some.ensures.steps.0 c.loop-bounded.invariant.in_time).0 in
+    let in_time : min c.in-Some.bounded.bound (c.args.course.now.scenario.now.end + 1) ≡ c.in-Some.bounded.bound = omega (arith, one) in
     record {
-      before = c.loop-part.yielded;
-      part = c.in-Some.part;
+      before = c.loop-bounded.yielded;
+      one = c.in-Some.bounded;
       after = c.next.new.self.rest.items;
-      there = sym (ap (λ ps. c.loop-part.yielded ++ ps) (sym c.in-Some.ensures.steps.0) ∙ c.loop-part.invariant.left);
-      wears = subst (λ b. WearsInWindow c.args.course.now.scenario.now b (world_of g.Q.EventQueue.set c.in-Some.part)) in_time (c.run.ensures.worn cc);
+      there = sym (ap (λ ps. c.loop-bounded.yielded ++ ps) (sym c.in-Some.ensures.steps.0) ∙ c.loop-bounded.invariant.left);
+      wears = subst (λ b. WearsInWindow c.args.course.now.scenario.now b (world_of g.Q.EventQueue.set c.in-Some.bounded.part)) in_time (c.run.ensures.worn cc);
     }
 
-pub loop-part-preserved : goal.loop-part-preserved
-loop-part-preserved g c =
+pub loop-bounded-preserved : goal.loop-bounded-preserved
+loop-bounded-preserved g c =
     let s = c.args.course.now.scenario.now in
-    let in_time : min c.args.bound (s.end + 1) ≡ c.args.bound = omega (arith, c.requires.in_time) in
+    let times = subst (AllByRecursion (λ b. b.bound ≤ s.end + 1)) c.in-Some.ensures.steps.0 c.loop-bounded.invariant.in_time in
+    let one = times.0 in
+    let in_time : min c.in-Some.bounded.bound (s.end + 1) ≡ c.in-Some.bounded.bound = omega (arith, one) in
     record {
       left =
-          append_assoc c.loop-part.yielded (c.in-Some.part ∷ []) c.next.new.self.rest.items
-          ∙ ap (λ ps. c.loop-part.yielded ++ ps) (sym c.in-Some.ensures.steps.0) ∙ c.loop-part.invariant.left;
+          append_assoc c.loop-bounded.yielded (c.in-Some.bounded ∷ []) c.next.new.self.rest.items
+          ∙ ap (λ ps. c.loop-bounded.yielded ++ ps) (sym c.in-Some.ensures.steps.0) ∙ c.loop-bounded.invariant.left;
       windows =
-          subst (RanWindows g.Q.EventQueue.set s c.args.bound (c.loop-part.yielded ++ c.in-Some.part ∷ [])) (sym c.in-Ok-push.ensures.items)
-          (one_window_more g.Q.EventQueue.set s c.args.bound c.loop-part.yielded c.loop-part.all.items c.in-Some.part c.in-Ok.done c.loop-part.invariant.windows
-          (subst (λ b. RunsWindow s b (world_of g.Q.EventQueue.set c.in-Some.part) c.in-Ok.done.out.items c.in-Ok.done.rows.items (world_of g.Q.EventQueue.set c.in-Ok.done.part)) in_time c.in-Ok.ensures.ok));
-      consistent = (subst (AllByRecursion (λ part. IsConsistentPart s (world_of g.Q.EventQueue.set part))) c.in-Some.ensures.steps.0 c.loop-part.invariant.consistent).1;
+          subst (RanWindows g.Q.EventQueue.set s (c.loop-bounded.yielded ++ c.in-Some.bounded ∷ [])) (sym c.in-Ok-push.ensures.items)
+          (one_window_more g.Q.EventQueue.set s c.loop-bounded.yielded c.loop-bounded.all.items c.in-Some.bounded c.in-Ok.done c.loop-bounded.invariant.windows
+          (subst (λ b. RunsWindow s b (world_of g.Q.EventQueue.set c.in-Some.bounded.part) c.in-Ok.done.out.items c.in-Ok.done.rows.items (world_of g.Q.EventQueue.set c.in-Ok.done.part)) in_time c.in-Ok.ensures.ok));
+      in_time = times.1;
+      consistent = (subst (AllByRecursion (λ b. IsConsistentPart s (world_of g.Q.EventQueue.set b.part))) c.in-Some.ensures.steps.0 c.loop-bounded.invariant.consistent).1;
     }

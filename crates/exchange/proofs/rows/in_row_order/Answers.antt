@@ -5,8 +5,8 @@ use Rattle.windows.proofs.Order.{by_place}
 use Rattle.exchange.proofs.RowOrders.{in_order_already}
 use Rattle.exchange.proofs.rows.in_row_order.Goals as goal
 
-pub returns-then-writers-lt2 : goal.returns-then-writers-lt2
-returns-then-writers-lt2 g c =
+pub returns-then-ordered : goal.returns-then-ordered
+returns-then-ordered g c =
     in_order_already ghosts.cmp total-law (λ a b before. by_place a b _ before) c.args.rows.items (search rules)
 
 pub returns-in-Ok : goal.returns-in-Ok

@@ -1,5 +1,5 @@
-use Rattle.std.proofs.Common.{◌<◌, length, map, All, count_by, ap, ◌∙◌, sym, subst}
-use Rattle.std.specs.List.{slice_get}
+use Rattle.std.proofs.Common.{◌≡◌, ◌<◌, ◌++◌, eqb, not, vec_len, length, map, All, count_by, ap, ◌∙◌, sym, subst}
+use Rattle.std.specs.List.{slice_get, flat_map, filter}
 use Rattle.std.proofs.lemmas.List.Elements.{All-from_recursion}
 use Rattle.base.specs.Rising.{IsRising, IsPlaceBefore, AreNew}
 use Rattle.member.specs.Places.{place_of}
@@ -7,40 +7,58 @@ use Rattle.member.specs.declared.event.Event.{Event}
 use Rattle.member.specs.StateOf.{pair_of}
 use Rattle.windows.specs.Parts.{for_own, is_in}
 use Rattle.windows.specs.WorldOf.{world_of}
-use Rattle.exchange.specs.Parts.{part_number, HaveTheirMembers}
-use Rattle.exchange.proofs.RowOrders.{wrote, one_alone, windows_rise}
+use Rattle.exchange.specs.Parts.{part_number, is_before, IsLeastMoment, IsInRowOrder, HaveCome, HaveTheirMembers}
+use Rattle.exchange.proofs.RowOrders.{when_true, one_alone, windows_rise}
 use Rattle.exchange.proofs.Turned.{new_to_parts, members_after, named_out, count_after}
 use Rattle.exchange.proofs.turns.exchanged.Goals as goal
 
-pub in_row_order-requires-clause-alone : goal.in_row_order-requires-clause-alone
-in_row_order-requires-clause-alone g c = λ loans lives few.
+pub in_row_order-requires-clause-already : goal.in_row_order-requires-clause-already
+in_row_order-requires-clause-already g c = λ loans lives ordered.
     let came = c.requires.came in
-    subst (λ l. IsRising IsPlaceBefore (map place_of l)) (sym c.in-Ok.ensures.rows)
-    (one_alone c.args.done.items (subst (λ n. n < 2) (c.writers-wrote.ensures ∙ ap (count_by wrote) c.deref.ensures.value) few)
-    (windows_rise g.Q.EventQueue.set came.setup came.sound came.bound came.before c.args.done.items came.windows))
+    let none = sym c.deref.ensures.value ∙ when_true c.stand_in_order-ordered.result ordered c.stand_in_order-ordered.ensures.none in
+    let one = subst (λ l. count_by (λ d. not (eqb (vec_len d.rows) 0)) l < 2) c.deref-2.ensures.value (when_true c.stand_in_order-ordered.result ordered c.stand_in_order-ordered.ensures.one) in
+    subst (λ l. IsRising IsPlaceBefore (map place_of l)) (sym (c.in-Ok.ensures.rows ∙ ap (λ l. l ++ flat_map (λ d. d.rows.items) c.args.done.items) none))
+    (one_alone c.args.done.items one (windows_rise g.Q.EventQueue.set came.setup came.sound came.before c.args.done.items came.windows))
 
 pub deliver-requires-clause-count : goal.deliver-requires-clause-count
 deliver-requires-clause-count g c =
     let came = c.requires.came in
     ap length c.in-Ok.ensures.parts
-    ∙ count_after g.Q.EventQueue.set came.setup came.sound c.args.division.now came.bound came.before c.args.done.items came.divides came.ready came.windows
+    ∙ count_after g.Q.EventQueue.set came.setup came.sound c.args.division.now came.before c.args.done.items came.divides came.ready came.windows
 
 pub deliver-requires-clause-named : goal.deliver-requires-clause-named
 deliver-requires-clause-named g c =
     let came = c.requires.came in
     subst (All (λ (e : Event). e.key.to < length c.args.division.now.part_of)) (sym c.in-Ok.ensures.out)
     (All-from_recursion (λ (e : Event). e.key.to < length c.args.division.now.part_of) _
-    (named_out g.Q.EventQueue.set came.setup came.sound c.args.division.now came.bound came.before c.args.done.items came.divides came.ready came.windows))
+    (named_out g.Q.EventQueue.set came.setup came.sound c.args.division.now came.before c.args.done.items came.divides came.ready came.windows))
 
 pub deliver-requires-clause-members : goal.deliver-requires-clause-members
 deliver-requires-clause-members g c =
     let came = c.requires.came in
     subst (HaveTheirMembers g.Q.EventQueue.set c.args.division.now) (sym c.in-Ok.ensures.parts)
-    (members_after g.Q.EventQueue.set came.setup came.sound c.args.division.now came.bound came.before c.args.done.items came.divides came.ready came.windows)
+    (members_after g.Q.EventQueue.set came.setup came.sound c.args.division.now came.before c.args.done.items came.divides came.ready came.windows)
 
 pub deliver-requires-clause-new : goal.deliver-requires-clause-new
 deliver-requires-clause-new g c = λ i part here.
     let came = c.requires.came in
     subst (λ l. AreNew (world_of g.Q.EventQueue.set part).pending (for_own (is_in (part_number c.args.division.now) i) (map pair_of l))) (sym c.in-Ok.ensures.out)
-    (new_to_parts g.Q.EventQueue.set came.setup came.sound c.args.division.now came.bound came.before c.args.done.items came.divides came.ready came.windows
+    (new_to_parts g.Q.EventQueue.set came.setup came.sound c.args.division.now came.before c.args.done.items came.divides came.ready came.windows
     i part (ap (λ l. slice_get l i) (sym c.in-Ok.ensures.parts) ∙ here))
+
+pub returns : goal.returns
+returns g c =
+    let set = g.Q.EventQueue.set in
+    let division = part_number c.args.division.now in
+    let after = c.deliver.new.parts.items in
+    record {
+      come =
+          subst (λ l. HaveCome set division l after (map pair_of (flat_map (λ d. d.out.items) c.args.done.items))) c.in-Ok.ensures.parts
+          (subst (λ l. HaveCome set division c.in-Ok.gathered.parts.items after (map pair_of l)) c.in-Ok.ensures.out c.in-Ok-deliver.ensures);
+      sorted = c.in-Ok-in_row_order.rows.items;
+      order = subst (λ l. IsInRowOrder l c.in-Ok-in_row_order.rows.items) c.in-Ok.ensures.rows c.in-Ok-in_row_order.ensures;
+      least = c.least_moment-first.result;
+      first = subst (λ l. IsLeastMoment set l c.least_moment-first.result) c.deref-3.ensures.value c.least_moment-first.ensures;
+      released_are = c.in-Ok-released.ensures.before ∙ ap (filter (is_before c.least_moment-first.result)) c.deref-4.ensures.value;
+      kept_are = c.in-Ok-released.ensures.others ∙ ap (filter (λ row. not (is_before c.least_moment-first.result row))) c.deref-4.ensures.value;
+    }

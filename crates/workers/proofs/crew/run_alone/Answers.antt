@@ -1,4 +1,4 @@
-use Rattle.std.proofs.Common.{◌≡◌, ◌+◌, ◌++◌, ◌∷◌, [], min, append_assoc, ap, ◌∙◌, sym, subst, arith}
+use Rattle.std.proofs.Common.{◌≡◌, ◌+◌, ◌≤◌, ◌++◌, ◌∷◌, [], min, append_assoc, ap, ◌∙◌, sym, subst, arith}
 use Rattle.std.specs.List.{AllByRecursion}
 use Rattle.windows.specs.WorldOf.{world_of}
 use Rattle.windows.specs.Window.{IsConsistentPart}
@@ -7,16 +7,19 @@ use Rattle.workers.proofs.crew.run_alone.Goals as goal
 
 pub run-requires-clause-consistent : goal.run-requires-clause-consistent
 run-requires-clause-consistent g c =
-    (subst (AllByRecursion (λ part. IsConsistentPart c.args.scenario.now (world_of g.Q.EventQueue.set part))) c.in-Some.ensures.steps.0 c.loop-part.invariant.consistent).0
+    (subst (AllByRecursion (λ b. IsConsistentPart c.args.scenario.now (world_of g.Q.EventQueue.set b.part))) c.in-Some.ensures.steps.0 c.loop-bounded.invariant.consistent).0
 
-pub loop-part-preserved : goal.loop-part-preserved
-loop-part-preserved g c =
+pub loop-bounded-preserved : goal.loop-bounded-preserved
+loop-bounded-preserved g c =
     let s = c.args.scenario.now in
-    let in_time : min c.args.bound (s.end + 1) ≡ c.args.bound = omega (arith, c.requires.in_time) in
+    let b = c.in-Some.bounded in
+    let in_time = subst (AllByRecursion (λ b. b.bound ≤ s.end + 1)) c.in-Some.ensures.steps.0 c.loop-bounded.invariant.in_time in
+    let clipped : min b.bound (s.end + 1) ≡ b.bound = omega (arith, in_time.0) in
     record {
-      left = append_assoc c.loop-part.yielded (c.in-Some.part ∷ []) c.next.new.self.rest.items ∙ ap (λ ps. c.loop-part.yielded ++ ps) (sym c.in-Some.ensures.steps.0) ∙ c.loop-part.invariant.left;
+      left = append_assoc c.loop-bounded.yielded (b ∷ []) c.next.new.self.rest.items ∙ ap (λ bs. c.loop-bounded.yielded ++ bs) (sym c.in-Some.ensures.steps.0) ∙ c.loop-bounded.invariant.left;
       so_far =
-          so_far_run g.Q.EventQueue.set s c.args.bound _ c.loop-part.yielded c.in-Some.part c.loop-part.so_far c.joined-so_far.result c.run.result c.told.result in_time c.loop-part.invariant.so_far
+          so_far_run g.Q.EventQueue.set s _ c.loop-bounded.yielded b c.loop-bounded.so_far c.joined-so_far.result c.run.result c.told.result clipped c.loop-bounded.invariant.so_far
           c.run.ensures.ok c.run.ensures.worn c.told.ensures.ok c.told.ensures.worn c.told.ensures.write c.joined-so_far.ensures.ok c.joined-so_far.ensures.worn c.joined-so_far.ensures.write;
-      consistent = (subst (AllByRecursion (λ part. IsConsistentPart s (world_of g.Q.EventQueue.set part))) c.in-Some.ensures.steps.0 c.loop-part.invariant.consistent).1;
+      in_time = in_time.1;
+      consistent = (subst (AllByRecursion (λ b. IsConsistentPart s (world_of g.Q.EventQueue.set b.part))) c.in-Some.ensures.steps.0 c.loop-bounded.invariant.consistent).1;
     }

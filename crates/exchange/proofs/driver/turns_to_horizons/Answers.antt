@@ -1,0 +1,114 @@
+use Rattle.std.proofs.Common.{All, ◌+◌, [], ap, ◌∙◌, sym, subst, refl, arith}
+use Rattle.trace.specs.Text.{NamesMembers}
+use Rattle.exchange.specs.Streams.{rows_so_far}
+use Rattle.exchange.specs.Bounds.{IsFirstMoment}
+use Rattle.exchange.proofs.Goes.{IsUnderWay, not_yet, consistent, came, further, goes_on, one_wears, begins, ends_here, ends_past, names_on, begins_on}
+use Rattle.exchange.proofs.driver.turns_to_horizons.Goals as goal
+
+pub loop-from-init : goal.loop-from-init
+loop-from-init g c =
+    let course = c.args.course.now in
+    record {
+      run =
+          subst (λ l. IsUnderWay g.Q.EventQueue.set course.scenario.now course.division.now 0 c.args.parts.items (rows_so_far c.args.stream.now) l) (sym c.new-kept.ensures.items)
+          (subst (λ l. IsUnderWay g.Q.EventQueue.set course.scenario.now course.division.now 0 c.args.parts.items l []) (sym c.requires.none_yet)
+          (not_yet g.Q.EventQueue.set course c.requires.course c.args.parts.items c.requires.opened));
+      open_still = c.requires.open;
+      one = c.requires.one;
+      relay = refl;
+    }
+
+pub returns-in_default-clause-run : goal.returns-in_default-clause-run
+returns-in_default-clause-run g c = (ends_here g.Q.EventQueue.set c.args.course.now c.requires.course c.loop-from.parts.items (rows_so_far c.loop-from.stream) c.loop-from.kept.items c.loop-from.from c.loop-from.invariant.run c.deref.result.now c.deref.ensures.value c.in_default.ensures.over).0
+
+pub returns-in_default-clause-lasts : goal.returns-in_default-clause-lasts
+returns-in_default-clause-lasts g c = (ends_here g.Q.EventQueue.set c.args.course.now c.requires.course c.loop-from.parts.items (rows_so_far c.loop-from.stream) c.loop-from.kept.items c.loop-from.from c.loop-from.invariant.run c.deref.result.now c.deref.ensures.value c.in_default.ensures.over).1
+
+pub bounded_by_horizons-requires-clause-count : goal.bounded_by_horizons-requires-clause-count
+bounded_by_horizons-requires-clause-count g c = c.loop-from.invariant.run.stand.count
+
+pub bounded_by_horizons-requires-clause-first : goal.bounded_by_horizons-requires-clause-first
+bounded_by_horizons-requires-clause-first g c = subst (λ l. IsFirstMoment g.Q.EventQueue.set l c.args.course.now.end c.in-Some.first) c.deref.ensures.value c.in-Some.ensures.first
+
+pub run_windows-requires-clause-sound : goal.run_windows-requires-clause-sound
+run_windows-requires-clause-sound g c = λ loans lives. c.requires.course.sound
+
+pub run_windows-requires-clause-fits : goal.run_windows-requires-clause-fits
+run_windows-requires-clause-fits g c = λ loans lives. c.requires.course.fits
+
+pub run_windows-requires-clause-in_time : goal.run_windows-requires-clause-in_time
+run_windows-requires-clause-in_time g c = λ loans lives. c.in-Ok.ensures.in_time
+
+pub run_windows-requires-clause-consistent : goal.run_windows-requires-clause-consistent
+run_windows-requires-clause-consistent g c = λ loans lives. consistent g.Q.EventQueue.set c.args.course.now c.requires.course c.loop-from.parts.items (rows_so_far c.loop-from.stream) c.loop-from.kept.items c.loop-from.from c.loop-from.invariant.run c.in-Some.first c.in-Ok.bounded.items c.in-Ok.ensures
+
+pub returns-in-Err-clause-beginning : goal.returns-in-Err-clause-beginning
+returns-in-Err-clause-beginning g c = begins g.Q.EventQueue.set c.args.course.now c.requires.course c.loop-from.parts.items (rows_so_far c.loop-from.stream) c.loop-from.kept.items c.loop-from.from c.loop-from.invariant.run
+
+pub returns-in-Err-run_windows-clause-beginning : goal.returns-in-Err-run_windows-clause-beginning
+returns-in-Err-run_windows-clause-beginning g c = begins g.Q.EventQueue.set c.args.course.now c.requires.course c.loop-from.parts.items (rows_so_far c.loop-from.stream) c.loop-from.kept.items c.loop-from.from c.loop-from.invariant.run
+
+pub returns-in-Err-run_windows-clause-worn : goal.returns-in-Err-run_windows-clause-worn
+returns-in-Err-run_windows-clause-worn g c = λ h. one_wears g.Q.EventQueue.set c.args.course.now c.requires.course c.loop-from.parts.items (rows_so_far c.loop-from.stream) c.loop-from.kept.items c.loop-from.from c.loop-from.invariant.run c.in-Some.first c.in-Ok.bounded.items c.in-Ok.ensures (c.run_windows.ensures.worn cc)
+
+pub exchanged-requires-clause-came : goal.exchanged-requires-clause-came
+exchanged-requires-clause-came g c = λ loans lives. came g.Q.EventQueue.set c.args.course.now c.requires.course c.loop-from.parts.items (rows_so_far c.loop-from.stream) c.loop-from.kept.items c.loop-from.from c.loop-from.invariant.run c.in-Some.first c.in-Ok.bounded.items c.in-Ok.ensures c.in-Ok-run_windows.done.items c.in-Ok-run_windows.ensures.ok
+
+pub returns-in-Err-exchanged-clause-beginning : goal.returns-in-Err-exchanged-clause-beginning
+returns-in-Err-exchanged-clause-beginning g c = begins g.Q.EventQueue.set c.args.course.now c.requires.course c.loop-from.parts.items (rows_so_far c.loop-from.stream) c.loop-from.kept.items c.loop-from.from c.loop-from.invariant.run
+
+pub take-requires-clause-open : goal.take-requires-clause-open
+take-requires-clause-open g c = c.loop-from.invariant.open_still
+
+pub take-requires-clause-named : goal.take-requires-clause-named
+take-requires-clause-named g c =
+    let course = c.args.course.now in
+    let set = g.Q.EventQueue.set in
+    let turned = c.in-Ok-exchanged.turned in
+    let rows = rows_so_far c.loop-from.stream in
+    let on =
+    goes_on g.Q.EventQueue.set c.args.course.now c.requires.course c.loop-from.parts.items (rows_so_far c.loop-from.stream) c.loop-from.kept.items c.loop-from.from c.loop-from.invariant.run c.in-Some.first c.in-Ok.bounded.items c.in-Ok.ensures c.in-Ok-run_windows.done.items c.in-Ok-run_windows.ensures.ok
+    turned.parts.items turned.rows.items turned.kept.items c.in-Ok-exchanged.ensures in
+    subst (λ s. All (NamesMembers s) turned.rows.items) (sym c.loop-from.invariant.one) (names_on set course c.requires.course rows turned.rows.items turned.kept.items (c.in-Some.first + 1) turned.parts.items on)
+
+pub returns-in-Err-take-clause-beginning : goal.returns-in-Err-take-clause-beginning
+returns-in-Err-take-clause-beginning g c =
+    let course = c.args.course.now in
+    let set = g.Q.EventQueue.set in
+    let turned = c.in-Ok-exchanged.turned in
+    let rows = rows_so_far c.loop-from.stream in
+    let on =
+    goes_on g.Q.EventQueue.set c.args.course.now c.requires.course c.loop-from.parts.items (rows_so_far c.loop-from.stream) c.loop-from.kept.items c.loop-from.from c.loop-from.invariant.run c.in-Some.first c.in-Ok.bounded.items c.in-Ok.ensures c.in-Ok-run_windows.done.items c.in-Ok-run_windows.ensures.ok
+    turned.parts.items turned.rows.items turned.kept.items c.in-Ok-exchanged.ensures in
+    begins_on set course c.requires.course rows turned.rows.items turned.kept.items (c.in-Some.first + 1) turned.parts.items on (rows_so_far c.take.new.self) c.in-Err-take.ensures.beginning
+
+pub loop-from-smaller : goal.loop-from-smaller
+loop-from-smaller g c =
+    let on = further g.Q.EventQueue.set c.args.course.now c.requires.course c.loop-from.parts.items (rows_so_far c.loop-from.stream) c.loop-from.kept.items c.loop-from.from c.loop-from.invariant.run c.in-Some.first c.deref.result.now c.deref.ensures.value c.in-Some.ensures.first in
+    let up = on.0 in
+    let low = on.1 in
+    omega (arith, up, low, c.ticks-last.ensures, c.ticks-from.ensures)
+
+pub loop-from-preserved : goal.loop-from-preserved
+loop-from-preserved g c =
+    let course = c.args.course.now in
+    let set = g.Q.EventQueue.set in
+    let turned = c.in-Ok-exchanged.turned in
+    let rows = rows_so_far c.loop-from.stream in
+    let on =
+    goes_on g.Q.EventQueue.set c.args.course.now c.requires.course c.loop-from.parts.items (rows_so_far c.loop-from.stream) c.loop-from.kept.items c.loop-from.from c.loop-from.invariant.run c.in-Some.first c.in-Ok.bounded.items c.in-Ok.ensures c.in-Ok-run_windows.done.items c.in-Ok-run_windows.ensures.ok
+    turned.parts.items turned.rows.items turned.kept.items c.in-Ok-exchanged.ensures in
+    record {
+      run =
+          subst (λ t. IsUnderWay set course.scenario.now course.division.now t turned.parts.items (rows_so_far c.take.new.self) turned.kept.items) (omega (arith, c.ticks-from.ensures))
+          (subst (λ l. IsUnderWay set course.scenario.now course.division.now (c.in-Some.first + 1) turned.parts.items l turned.kept.items) (sym c.in-Ok-take.ensures.ok) on);
+      open_still = c.take.ensures.open;
+      one = ap (λ s. s.now) c.take.ensures.same.0 ∙ c.loop-from.invariant.one;
+      relay = c.take.ensures.same.1 ∙ c.loop-from.invariant.relay;
+    }
+
+pub returns-clause-run : goal.returns-clause-run
+returns-clause-run g c = (ends_past g.Q.EventQueue.set c.args.course.now c.requires.course c.loop-from.parts.items (rows_so_far c.loop-from.stream) c.loop-from.kept.items c.loop-from.from c.loop-from.invariant.run (omega arith)).0
+
+pub returns-clause-lasts : goal.returns-clause-lasts
+returns-clause-lasts g c = (ends_past g.Q.EventQueue.set c.args.course.now c.requires.course c.loop-from.parts.items (rows_so_far c.loop-from.stream) c.loop-from.kept.items c.loop-from.from c.loop-from.invariant.run (omega arith)).1
