@@ -5,7 +5,9 @@
 
 The gate's output is passed on as it comes, and its status is this command's. At the end stand the processor minutes of
 each crate: its proof; its tests, with the second proof of the crate that they take; and its must-fail edits, how many
-there are and what one cost on average, the first check of the crate over nothing included. Linux only.
+there are and what one cost on average, the first check of the crate over nothing included. After it come the edits
+that took longest, in seconds of a processor; a crate's first edit by name has the check of the crate over nothing in
+its figure. Linux only.
 
 Each command that the gate starts is looked at several times a second. What it used since the last look is known once it
 has ended, by what the gate's own process then has of ended children, so nothing is lost: of commands that end between
@@ -24,6 +26,7 @@ from pathlib import Path
 TOP = Path(__file__).resolve().parent.parent
 SECONDS_BETWEEN_LOOKS = 0.2
 TICKS_A_MINUTE = 60 * os.sysconf('SC_CLK_TCK')
+SLOWEST_EDITS = 20
 OTHER = ('other', 'proof')
 
 
@@ -61,6 +64,11 @@ def purpose_of(process):
     return (crate[1], kind) if crate else OTHER
 
 
+def edits_of(crate):
+    """The must-fail edits of a crate, in the order in which the gate tries them."""
+    return sorted((TOP / 'crates' / crate / 'must-fail').glob('*.edit'))
+
+
 class Account:
     """What the commands of the gate have used so far, by crate and purpose, in clock ticks."""
 
@@ -70,23 +78,39 @@ class Account:
         # of each command that runs: its purpose and its time at the last look
         self.running = {}
         self.dealt = 0
+        # what the must-fail edits took that have ended, by name, those that run, and how many each crate has begun
+        self.edits = Counter()
+        self.edit_of = {}
+        self.begun = Counter()
 
     def look(self):
         """Sees which commands run, and books those that have ended."""
         present = children_of(self.gate)
         # read after the children, so that it has the time of each that is missing there
         ended = times_of(self.gate)[1]
-        gone = [self.running.pop(it) for it in list(self.running) if it not in present]
-        rest = ended - self.dealt - sum(seen for _, seen in gone)
-        for purpose, seen in gone:
+        gone = [it for it in self.running if it not in present]
+        rest = ended - self.dealt - sum(self.running[it][1] for it in gone)
+        for process in gone:
+            purpose, seen = self.running.pop(process)
             self.used[purpose] += seen + rest / len(gone)
+            if process in self.edit_of:
+                self.edits[self.edit_of.pop(process)] += seen + rest / len(gone)
         if gone:
             self.dealt = ended
         for process in present:
             try:
-                self.running[process] = purpose_of(process), sum(times_of(process))
+                purpose = purpose_of(process)
+                if process not in self.edit_of and purpose[1] == 'edits':
+                    self.edit_of[process] = self.next_edit(purpose[0])
+                self.running[process] = purpose, sum(times_of(process))
             except OSError:
                 pass
+
+    def next_edit(self, crate):
+        """The edit for which the gate starts a crate's next check: by name, then the crate itself over what they left."""
+        names = [it.stem for it in edits_of(crate)] + ['(none)']
+        self.begun[crate] += 1
+        return f'{crate}/{names[self.begun[crate] - 1] if self.begun[crate] <= len(names) else "(again)"}'
 
     def close(self, usage):
         """Books what is left of all that the gate has used."""
@@ -101,7 +125,7 @@ def run_gate():
         process, status, usage = os.wait4(gate.pid, os.WNOHANG)
         if process:
             account.close(usage)
-            return os.waitstatus_to_exitcode(status), account.used
+            return os.waitstatus_to_exitcode(status), account
         try:
             account.look()
         except OSError:
@@ -117,7 +141,7 @@ def print_table(used, seconds):
     sums = {crate: sum(used[crate, kind] for kind in kinds) for crate in crates}
     for crate in sorted(crates, key=lambda it: (it == OTHER[0], -sums[it])):
         line = ''.join(f'{used[crate, kind] / TICKS_A_MINUTE:>8.1f}' for kind in kinds)
-        edits = len(list((TOP / 'crates' / crate / 'must-fail').glob('*.edit')))
+        edits = len(edits_of(crate))
         each = f'   {edits:>3}, {60 * used[crate, "edits"] / TICKS_A_MINUTE / edits:.0f} s each' if edits else ''
         print(f'{crate:<20}{line}{sums[crate] / TICKS_A_MINUTE:>8.1f}{each}')
     whole = [sum(used[crate, kind] for crate in crates) for kind in kinds]
@@ -127,10 +151,18 @@ def print_table(used, seconds):
     print(f'{seconds / 60:.1f} minutes by the clock, with {os.cpu_count()} processors')
 
 
+def print_slowest(edits):
+    """Prints the must-fail edits that took longest, and their seconds."""
+    print(f'\n{"seconds":>8}  edit')
+    for name, ticks in edits.most_common(SLOWEST_EDITS):
+        print(f'{60 * ticks / TICKS_A_MINUTE:>8.0f}  {name}')
+
+
 def main():
     begin = time.monotonic()
-    status, used = run_gate()
-    print_table(used, time.monotonic() - begin)
+    status, account = run_gate()
+    print_table(account.used, time.monotonic() - begin)
+    print_slowest(account.edits)
     sys.exit(status)
 
 
