@@ -175,7 +175,7 @@ nack_heard seq o = on_state (λ t. record t { probe = nacked seq t.probe }) o
 unfoldable pub ping_heard : Setup → Key → ℕ → ℕ → List Update → Effect → Effect
 ping_heard s k initiator seq updates o = ack_sent s k k.from initiator seq (all_applied s true k updates o)
 
--- LHA-Probe: a helper owes the initiator an answer, and gives it before the initiator's time is up.
+-- LHA-Probe: a helper owes the initiator an answer: the ack that it passes on, or a nack once the nack delay is over.
 abbrev pub with_relay : Setup → Key → ℕ → Effect → Effect
 with_relay s k seq o =
     with_timer k (nack_delay_of s.lifeguard.nack_percent s.swim.timeout) (NackTimer k.from seq)
