@@ -11,71 +11,51 @@ use Rattle.incarnation.specs.declared.Claim.{Claim}
 use Rattle.incarnation.specs.declared.Claim.TheVariants.{Confirm}
 use Rattle.incarnation.specs.declared.Update.{Update}
 use Rattle.member.specs.declared.content.Content.{Content}
+use Rattle.lifeguard.specs.Health.{LocalHealth}
+use Rattle.member.specs.declared.member.Phase.{Phase}
 use Rattle.member.specs.declared.member.Phase.TheVariants.{Waiting}
 use Rattle.membership.specs.Table.{Known}
 use Rattle.member.specs.State.{State}
 use Rattle.member.specs.Opening.{opening_state}
-use Rattle.member.specs.Apply.{claim_kept}
+use Rattle.member.specs.Apply.{with_claim}
 use Rattle.member.specs.Step.{step}
 use Rattle.member_laws.specs.Words.{WaitsAsOpened}
-use Rattle.member_laws.proofs.Moves.{is_news, IsNews, NewsMoves, Moves, kept_either, Anyone}
+use Rattle.member_laws.proofs.Moves.{is_news, IsNews, FactOf, OwnMoves, keeps_news, keeps_moves, Anyone}
 use Rattle.member_laws.proofs.Walk.{on_step, anyone_named}
 
 -- what a table has at a member after another or the same was put
 pub get_put : (table : Known) (k q : ℕ) (v : Claim × ℕ) → get (insert table k v) q ≡ cond (eqb q k) (Some v) (get table q)
 get_put table k q v = get-insert nat_cmp_total table k v q ∙ ap (λ b. cond b (Some v) (get table q)) (unsigned_tied q k)
 
-abbrev Holds : ℕ → ℕ → State → Type 0
-Holds q i t = (get t.table q ≡ Some (Confirm, i)) × ¬ (t.phase ≡ Waiting)
+abbrev Holds : ℕ → ℕ → Phase → ℕ → LocalHealth → Known → Type 0
+Holds q i phase number health table = (get table q ≡ Some (Confirm, i)) × ¬ (phase ≡ Waiting)
 
 -- nothing overrides it
-unlike : (me q i : ℕ) (t : State) (u : Update) → IsNews me t u → Holds q i t → q ≡ u.subject → ⊥
+unlike : (me q i : ℕ) (t : State) (u : Update) → IsNews me t u → FactOf (Holds q i) t → q ≡ u.subject → ⊥
 unlike me q i t u says h same =
     false≢true (subst (λ held. is_news (u.claim, u.inc) held ≡ true) (ap (get t.table) (sym same) ∙ h.0) says.news)
 
-put_cases : (me q i : ℕ) (t : State) (u : Update) (b : Bool) → eqb q u.subject ≡ b → IsNews me t u → Holds q i t
+put_cases : (me q i : ℕ) (t : State) (u : Update) (b : Bool) → eqb q u.subject ≡ b → IsNews me t u → FactOf (Holds q i) t
     → cond b (Some (u.claim, u.inc)) (get t.table q) ≡ Some (Confirm, i)
 put_cases me q i t u true e says h = absurd (unlike me q i t u says h (eqb-true q u.subject e))
 put_cases me q i t u false e says h = h.0
 
-put_keeps : (me q i : ℕ) (t : State) (u : Update) → IsNews me t u → Holds q i t → get (insert t.table u.subject (u.claim, u.inc)) q ≡ Some (Confirm, i)
+put_keeps : (me q i : ℕ) (t : State) (u : Update) → IsNews me t u → FactOf (Holds q i) t → get (insert t.table u.subject (u.claim, u.inc)) q ≡ Some (Confirm, i)
 put_keeps me q i t u says h = get_put t.table u.subject q (u.claim, u.inc) ∙ put_cases me q i t u (eqb q u.subject) refl says h
 
-module _ (s : Setup) (k : Key) (q i : ℕ) where
-  kept : (t : State) (u : Update) → IsNews k.to t u → Holds q i t → Holds q i (claim_kept u t)
-  kept t u says h = kept_either (Holds q i) u t (put_keeps k.to q i t u says h, h.1) (put_keeps k.to q i t u says h, h.1)
+claimed : (me q i : ℕ) (t : State) (u : Update) → IsNews me t u → FactOf (Holds q i) t → FactOf (Holds q i) (with_claim u t)
+claimed me q i t u says h = (put_keeps me q i t u says h, h.1)
 
-  news : NewsMoves s k Anyone (Holds q i)
-  news = record {
-    counted = λ t h. h;
-    put = λ t u named h. h;
-    alive = λ t u named says e h. kept t u says h;
-    suspect = λ t u x named says e begins h. kept t u says h;
-    confirm = λ t u named says e h. kept t u says h;
-    accused = λ t u h. h;
-  }
-
-  moves : Moves s k Anyone (Holds q i)
-  moves = record {
-    own = tt;
-    aimed = λ t probe h is. tt;
-    targets = λ t target h is. tt;
-    known = λ t q held h here. tt;
-    drawn = λ t rest is h. h;
-    picked = λ t buddy h. h;
-    probing = λ t seq probe aim h. h;
-    turned = λ t h. h;
-    relay_added = λ t relay on h. h;
-    relay_removed = λ t relay h. h;
-    heard_dead = λ t h. h;
-    refuted = λ t h. h;
-    weakened = λ t h. h;
-    weighed = λ t probe h. h;
-    welcomed = λ t h. (h.0, λ is. absurd (let e = is in cc));
-    downed = λ t h. (h.0, λ is. absurd (let e = is in cc));
-    began = λ t waits h. absurd (h.1 waits);
-    late = λ t waits h. absurd (h.1 waits);
-  }
+moves : (s : Setup) (k : Key) (q i : ℕ) → OwnMoves s k (FactOf (Holds q i))
+moves s k q i = record {
+  refuted = λ t h. h;
+  weakened = λ t h. h;
+  weighed = λ t probe h. h;
+  welcomed = λ t h. (h.0, λ is. absurd (let e = is in cc));
+  downed = λ t h. (h.0, λ is. absurd (let e = is in cc));
+  began = λ t waits h. absurd (h.1 waits);
+  late = λ t waits h. absurd (h.1 waits);
+}
 
 opened : (s : Setup) (m q : ℕ) → get (opening_state s m).table q ≡ None
 unfolding opening_state
@@ -84,5 +64,5 @@ opened s m q = get-empty nat_cmp q
 pub stays_confirmed : (s : Setup) (k : Key) (c : Content) (t : State) (q i : ℕ) → WaitsAsOpened s k.to t → get t.table q ≡ Some (Confirm, i)
     → get (step s k c t).state.table q ≡ Some (Confirm, i)
 stays_confirmed s k c t q i waits here =
-    (on_step s k Anyone (Holds q i) (news s k q i) (moves s k q i) c t tt (anyone_named c)
+    (on_step s k Anyone (FactOf (Holds q i)) (keeps_news s k (Holds q i) (claimed k.to q i)) (keeps_moves s k (Holds q i) (moves s k q i)) c t tt (anyone_named c)
     (here, λ is. false≢true (ap is_some (sym (ap (λ (t : State). get t.table q) (waits is) ∙ opened s k.to q) ∙ here)))).0

@@ -9,14 +9,15 @@ use Rattle.incarnation.specs.declared.Claim.{Claim}
 use Rattle.incarnation.specs.declared.Claim.TheVariants.{Alive, Suspect, Confirm}
 use Rattle.incarnation.specs.declared.Update.{Update}
 use Rattle.lifeguard.specs.declared.probe.Probe.{Probe}
-use Rattle.lifeguard.specs.Health.{raised}
+use Rattle.lifeguard.specs.Health.{LocalHealth, raised}
 use Rattle.lifeguard.specs.Probe.{after_probe}
 use Rattle.probing.specs.ProbeOrder.{round_over, next_of, remove_of}
 use Rattle.suspicion.specs.Settings.{terms_of}
 use Rattle.suspicion.specs.Suspicions.{HeldSuspicion, after_accusation}
+use Rattle.member.specs.declared.member.Phase.{Phase}
 use Rattle.member.specs.declared.member.Phase.TheVariants.{Waiting, Joining, Running, Down}
 use Rattle.member.specs.State.{State}
-use Rattle.membership.specs.Table.{is_confirm, does_override, live_count, all_alive}
+use Rattle.membership.specs.Table.{Known, is_confirm, does_override, live_count, all_alive}
 use Rattle.member.specs.Send.{with_picks}
 use Rattle.member.specs.Apply.{with_claim, with_place, placed_unless_known, claim_kept}
 use Rattle.member.specs.Step.{first_others}
@@ -95,3 +96,55 @@ kept_either P u t plain placed = of_held (get t.table u.subject)
 -- nobody is left out
 abbrev pub Anyone : ℕ → Type 0
 Anyone q = Unit {0}
+
+-- ---- facts of a phase, an incarnation number, a health and a table alone
+
+abbrev pub FactOf : (Phase → ℕ → LocalHealth → Known → Type 0) → State → Type 0
+FactOf P t = P t.phase t.incarnation t.health t.table
+
+-- News keep such a fact where a claim that is taken in does.
+pub keeps_news : (s : Setup) (k : Key) (P : Phase → ℕ → LocalHealth → Known → Type 0)
+    → ((t : State) (u : Update) → IsNews k.to t u → FactOf P t → FactOf P (with_claim u t)) → NewsMoves s k Anyone (FactOf P)
+keeps_news s k P claimed = record {
+  counted = λ t h. h;
+  put = λ t u named h. h;
+  alive = λ t u named says e h. kept t u says h;
+  suspect = λ t u x named says e begins h. kept t u says h;
+  confirm = λ t u named says e h. kept t u says h;
+  accused = λ t u h. h;
+}
+  where
+    kept : (t : State) (u : Update) → IsNews k.to t u → FactOf P t → FactOf P (claim_kept u t)
+    kept t u says h = kept_either (FactOf P) u t (claimed t u says h) (claimed t u says h)
+
+-- The other changes that there are to these four.
+pub record OwnMoves (s : Setup) (k : Key) (R : State → Type 0) : Type 0 where
+  pub refuted : (t : State) → R t → R (record t { incarnation = t.incarnation + 1 })
+  pub weakened : (t : State) → R t → R (record t { health = raised t.health 1 })
+  pub weighed : (t : State) (probe : Probe) → R t → R (record t { health = after_probe t.health probe })
+  pub welcomed : (t : State) → R t → R (record t { phase = Running })
+  pub downed : (t : State) → R t → R (record t { phase = Down })
+  pub began : (t : State) → t.phase ≡ Waiting → R t → R (at_once s k t)
+  pub late : (t : State) → t.phase ≡ Waiting → R t → R (at_late t)
+
+pub keeps_moves : (s : Setup) (k : Key) (P : Phase → ℕ → LocalHealth → Known → Type 0) → OwnMoves s k (FactOf P) → Moves s k Anyone (FactOf P)
+keeps_moves s k P own = record {
+  own = tt;
+  known = λ t q held h here. tt;
+  drawn = λ t rest is h. h;
+  picked = λ t buddy h. h;
+  aimed = λ t probe h is. tt;
+  targets = λ t target h is. tt;
+  probing = λ t seq probe aim h. h;
+  turned = λ t h. h;
+  relay_added = λ t relay on h. h;
+  relay_removed = λ t relay h. h;
+  heard_dead = λ t h. h;
+  refuted = own.refuted;
+  weakened = own.weakened;
+  weighed = own.weighed;
+  welcomed = own.welcomed;
+  downed = own.downed;
+  began = own.began;
+  late = own.late;
+}

@@ -10,6 +10,8 @@ use Rattle.incarnation.specs.declared.Claim.TheVariants.{Alive, Suspect, Confirm
 use Rattle.incarnation.specs.declared.Update.{Update}
 use Rattle.lifeguard.specs.Health.{LocalHealth}
 use Rattle.member.specs.declared.content.Content.{Content}
+use Rattle.membership.specs.Table.{Known}
+use Rattle.member.specs.declared.member.Phase.{Phase}
 use Rattle.member.specs.declared.member.Phase.TheVariants.{Waiting}
 use Rattle.member.specs.State.{State}
 use Rattle.member.specs.Turn.{Effect, on_state, with_row}
@@ -17,20 +19,16 @@ use Rattle.member.specs.Opening.{opening_state}
 use Rattle.member.specs.Apply.{with_put, with_health, refuted, heard_dead, own_applied, other_applied, applied}
 use Rattle.member.specs.Step.{step}
 use Rattle.member_laws.specs.Words.{AccusesOneself, WaitsAsOpened}
-use Rattle.member_laws.proofs.Moves.{NewsMoves, Moves, kept_either, Anyone}
+use Rattle.member_laws.proofs.Moves.{NewsMoves, FactOf, OwnMoves, keeps_news, keeps_moves, Anyone}
 use Rattle.member_laws.proofs.Walk.{on_other, on_step, anyone_named}
 
 -- ---- an update
 
-same_news : (s : Setup) (k : Key) (n : ℕ) → NewsMoves s k Anyone (λ t. t.incarnation ≡ n)
-same_news s k n = record {
-  counted = λ t h. h;
-  put = λ t u named h. h;
-  alive = λ t u named news e h. kept_either (λ t. t.incarnation ≡ n) u t h h;
-  suspect = λ t u x named news e begins h. kept_either (λ t. t.incarnation ≡ n) u t h h;
-  confirm = λ t u named news e h. kept_either (λ t. t.incarnation ≡ n) u t h h;
-  accused = λ t u h. h;
-}
+abbrev Same : ℕ → Phase → ℕ → LocalHealth → Known → Type 0
+Same n phase number health table = number ≡ n
+
+same_news : (s : Setup) (k : Key) (n : ℕ) → NewsMoves s k Anyone (FactOf (Same n))
+same_news s k n = keeps_news s k (Same n) (λ t u says h. h)
 
 after_row : (k : Key) (tells : What) (about : Option ℕ) (value : ℕ) (lost : Bool) (o : Effect) → (with_row k tells about value lost o).state ≡ o.state
 unfolding with_row
@@ -77,37 +75,16 @@ else_same s loud k u o other = either (nat_eq u.subject k.to) refl
         own_same k u.claim u.inc (nat_eq u.inc o.state.incarnation) o refl
         (λ is. other (record { own = eqb-true u.subject k.to e; claim = is.0; present = is.1 }))
     either false e =
-        on_other s k Anyone (λ t. t.incarnation ≡ o.state.incarnation) (same_news s k o.state.incarnation) loud u (get o.state.table u.subject) o tt (eqb-false u.subject k.to e) refl refl
+        on_other s k Anyone (FactOf (Same o.state.incarnation)) (same_news s k o.state.incarnation) loud u (get o.state.table u.subject) o tt (eqb-false u.subject k.to e) refl refl
 
 -- ---- a step
 
 -- it is no less than it was at first, when only a waiting member was at 0 for sure
-abbrev NoLess : ℕ → State → Type 0
-NoLess n t = (n ≤ t.incarnation) × (t.phase ≡ Waiting → n ≡ 0)
+abbrev NoLess : ℕ → Phase → ℕ → LocalHealth → Known → Type 0
+NoLess n phase number health table = (n ≤ number) × (phase ≡ Waiting → n ≡ 0)
 
-news : (s : Setup) (k : Key) (n : ℕ) → NewsMoves s k Anyone (NoLess n)
-news s k n = record {
-  counted = λ t h. h;
-  put = λ t u named h. h;
-  alive = λ t u named news e h. kept_either (NoLess n) u t h h;
-  suspect = λ t u x named news e begins h. kept_either (NoLess n) u t h h;
-  confirm = λ t u named news e h. kept_either (NoLess n) u t h h;
-  accused = λ t u h. h;
-}
-
-moves : (s : Setup) (k : Key) (n : ℕ) → Moves s k Anyone (NoLess n)
+moves : (s : Setup) (k : Key) (n : ℕ) → OwnMoves s k (FactOf (NoLess n))
 moves s k n = record {
-  own = tt;
-  aimed = λ t probe h is. tt;
-  targets = λ t target h is. tt;
-  known = λ t q held h here. tt;
-  drawn = λ t rest is h. h;
-  picked = λ t buddy h. h;
-  probing = λ t seq probe aim h. h;
-  turned = λ t h. h;
-  relay_added = λ t relay on h. h;
-  relay_removed = λ t relay h. h;
-  heard_dead = λ t h. h;
   refuted = λ t h. (let low = h.0 in omega arith, h.1);
   weakened = λ t h. h;
   weighed = λ t probe h. h;
@@ -123,5 +100,5 @@ opened s m = refl
 
 pub never_falls : (s : Setup) (k : Key) (c : Content) (t : State) → WaitsAsOpened s k.to t → t.incarnation ≤ (step s k c t).state.incarnation
 never_falls s k c t waits =
-    (on_step s k Anyone (NoLess t.incarnation) (news s k t.incarnation) (moves s k t.incarnation) c t tt (anyone_named c)
+    (on_step s k Anyone (FactOf (NoLess t.incarnation)) (keeps_news s k (NoLess t.incarnation) (λ t u says h. h)) (keeps_moves s k (NoLess t.incarnation) (moves s k t.incarnation)) c t tt (anyone_named c)
     (omega arith, λ is. ap (λ (t : State). t.incarnation) (waits is) ∙ opened s k.to)).0
