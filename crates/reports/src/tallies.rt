@@ -1,6 +1,5 @@
 //! What is kept of a run for its report.
-ghost use Rattle.std.specs.Prelude.{◌≡◌, ◌≤◌, [], ◌∷◌, ◌++◌, ◌⊎◌, length, Ok, OnOk, OnErr, IfErr};
-ghost use Rattle.base.specs.declared.limits.TheConstants.{COUNTER_LIMIT};
+ghost use Rattle.std.specs.Prelude.{◌≡◌, ◌≤◌, ◌^◌, [], ◌∷◌, ◌++◌, ◌⊎◌, length, Ok, OnOk, OnErr, IfErr};
 ghost use Rattle.trace.specs.Text.{NamesMembers};
 ghost use Rattle.reports.specs.Rows.{count_of, losses_of, worst_health};
 ghost use Rattle.reports.specs.Crashes.{crashes_of};
@@ -69,7 +68,7 @@ impl Tallies {
         requires { NamesMembers _scenario.now row.now }
         ensures ok { OnOk result (self.new ≡ self.old ++ row.now ∷ []) }
         ensures err { OnErr result (self.new ≡ self.old) }
-        ensures worn { IfErr result (λ error. error ≡ AddError.Worn → COUNTER_LIMIT ≤ length self.old) }
+        ensures worn { IfErr result (λ error. error ≡ AddError.Worn → 2 ^ 63 ≤ length self.old) }
     {
         if self.counts.rows >= COUNTER_LIMIT {
             return Err(AddError::Worn);
