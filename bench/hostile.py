@@ -1,0 +1,199 @@
+#!/usr/bin/env python3
+"""Uses the program as nobody should, and sees that no use loses data or answers a wrong status.
+
+    bench/hostile.py [--program FILE]
+
+The program is the one that ./swimsim has built, or FILE; nothing of it is built here. Each use has a folder of its
+own, with a scenario that takes, prints what it tried, and is wrong where it ends by a signal, answers another status than
+is wanted, or leaves other bytes. The command's status is then 1. Linux only; it takes seconds.
+"""
+
+import argparse
+import os
+import shutil
+import subprocess
+import sys
+import tempfile
+import threading
+import time
+from pathlib import Path
+
+BUILT = Path(__file__).resolve().parent.parent / 'crates' / 'swimsim' / 'out' / 'swimsim'
+SCENARIO = '''version = 1
+seed = 7
+end = 3
+[swim]
+period = 1000
+timeout = 300
+[link]
+delay = 1
+[[group]]
+name = "n"
+count = 2
+'''
+RUN = ('run', 's.toml', '--trace')
+OLD = b'an older result\n'
+
+
+class Uses:
+    """Runs the uses, and counts those that went wrong."""
+
+    def __init__(self, program):
+        self.program, self.wrong = program, 0
+
+    def call(self, folder, words, **how):
+        """Status, standard output and error of the program; None where it didn't end within 20 seconds."""
+        try:
+            ran = subprocess.run([self.program, *words], cwd=folder, capture_output='stdout' not in how, timeout=20, **how)
+        except subprocess.TimeoutExpired:
+            return None, b'', b''
+        return ran.returncode, ran.stdout or b'', ran.stderr or b''
+
+    def judge(self, what, is_well, seen=''):
+        """Prints what was tried, and whether it went well."""
+        print(f'{"well " if is_well else "WRONG"} {what}{"" if is_well else f": {seen}"}')
+        self.wrong += not is_well
+
+
+def folder_of(room, name):
+    """A folder with the scenario."""
+    folder = room / name
+    folder.mkdir()
+    (folder / 's.toml').write_text(SCENARIO)
+    return folder
+
+
+def names(uses, room, whole):
+    """One file under two names: nothing is made, and nothing is lost."""
+    ways = {'the same name': lambda f: 'x', './x': lambda f: './x', 'a link': lambda f: os.symlink('x', f / 'l') or 'l',
+            'a hard link': lambda f: os.link(f / 'x', f / 'h') or 'h'}
+    for number, (way, name_in) in enumerate(ways.items()):
+        folder = folder_of(room, f'names-{number}')
+        (folder / 'x').write_bytes(OLD)
+        left = uses.call(folder, [*RUN, 'x', '--report', name_in(folder)])
+        uses.judge(f'trace and report by {way}', left[0] == 1 and (folder / 'x').read_bytes() == OLD, left)
+        (folder / 'x').write_text(SCENARIO)
+        for option in (['--trace', name_in_again(folder, way)], ['--trace', 't', '--report', name_in_again(folder, way)]):
+            left = uses.call(folder, ['run', 'x', *option])
+            is_well = left[0] == 1 and (folder / 'x').read_text() == SCENARIO and not (folder / 't').exists()
+            uses.judge(f'the scenario as {option[-2][2:]} by {way}', is_well, left)
+    folder = folder_of(room, 'output')
+    with open(folder / 'out', 'wb') as out:
+        left = uses.call(folder, [*RUN, 'out'], stdout=out, stderr=subprocess.PIPE)
+    uses.judge('the trace as standard output', left[0] == 1 and left[2] == b'swimsim: file out\n', left)
+
+
+def name_in_again(folder, way):
+    """The second name of x in the folder, once it is there."""
+    return {'the same name': 'x', './x': './x', 'a link': 'l', 'a hard link': 'h'}[way]
+
+
+def texts(uses, room, whole):
+    """Texts that no scenario is: deep, long, or no text."""
+    folder = folder_of(room, 'texts')
+    for what, text in (('100,000 lists within each other', b'a = ' + b'[' * 100_000), ('100 MB', b'#' + b'x' * 100_000_000),
+                       ('bytes that are no text', bytes(range(256))), ('nothing', b'')):
+        (folder / 'f').write_bytes(text)
+        left = uses.call(folder, ['check', 'f'])
+        uses.judge(what, left[0] in (3, 5) and left[1] == b'', left)
+    for what, name in (('a folder', '.'), ('no file', 'absent'), ('a file below a file', 's.toml/x')):
+        left = uses.call(folder, ['check', name])
+        uses.judge(f'{what} as the scenario', left[0] == 1, left)
+
+
+def outputs(uses, room, whole):
+    """Files and outputs that take nothing."""
+    folder = folder_of(room, 'outputs')
+    (folder / 't').write_bytes(OLD)
+    left = uses.call(folder, [*RUN, '/dev/full'])
+    uses.judge('a full disk for the trace', left[0] == 5 and left[1] == b'', left)
+    left = uses.call(folder, [*RUN, 'u', '--report', '/dev/full'])
+    uses.judge('a full disk for the report', left[0] == 5 and (folder / 'u').read_bytes() == whole, left)
+    for report in ('no/folder', '.'):
+        left = uses.call(folder, [*RUN, 't', '--report', report])
+        uses.judge(f'{report} for the report', left[0] == 1 and (folder / 't').read_bytes() == OLD, left)
+    with open('/dev/full', 'wb') as full:
+        left = uses.call(folder, [*RUN, 'u'], stdout=full, stderr=subprocess.PIPE)
+        uses.judge('standard output that is full', left[0] == 1, left)
+        ran = subprocess.run([uses.program, 'check', 'absent'], cwd=folder, stderr=full, stdout=subprocess.PIPE)
+        uses.judge('standard error that is full', ran.returncode == 1, ran)
+    for closed in ('>&-', '2>&-', '>&- 2>&-', '<&-'):
+        ran = subprocess.run(['sh', '-c', f'"$0" run s.toml --trace u {closed}', uses.program], cwd=folder, capture_output=True)
+        wanted = 1 if closed.startswith('>') else 0
+        uses.judge(f'outputs closed by {closed}', ran.returncode == wanted and (folder / 'u').read_bytes() == whole, ran)
+
+
+def pipes(uses, room, whole):
+    """Pipes with names, for what is read and what is written."""
+    folder = folder_of(room, 'pipes')
+    for name in ('in', 'out'):
+        os.mkfifo(folder / name)
+    taken = []
+    threads = [threading.Thread(target=lambda: (folder / 'in').write_text(SCENARIO), daemon=True),
+               threading.Thread(target=lambda: taken.append((folder / 'out').read_bytes()), daemon=True)]
+    for thread in threads:
+        thread.start()
+    left = uses.call(folder, ['run', 'in', '--trace', 'out'])
+    for thread in threads:
+        thread.join(10)
+    uses.judge('pipes as scenario and trace', left[0] == 0 and taken == [whole], left)
+
+
+def ends(uses, room, whole):
+    """Runs that are killed, short of memory, or two at once."""
+    folder = folder_of(room, 'ends')
+    long_run = SCENARIO.replace('end = 3', 'end = 400000').replace('count = 2', 'count = 500')
+    (folder / 'long.toml').write_text(long_run)
+    started = subprocess.Popen([uses.program, 'run', 'long.toml', '--trace', 'k'], cwd=folder, stdout=subprocess.PIPE)
+    time.sleep(0.3)
+    started.kill()
+    out = started.communicate()[0]
+    uses.judge('a run that is killed', started.returncode in (-9, 0) and (out == b'') == (started.returncode == -9), started)
+    for kilobytes in (4_000, 8_000, 16_000, 32_000, 64_000, 256_000):
+        (folder / 'm').unlink(missing_ok=True)
+        line = f'ulimit -v {kilobytes}; exec "$0" run s.toml --trace m --workers 2 --parts 2'
+        ran = subprocess.run(['sh', '-c', line, uses.program], cwd=folder, capture_output=True)
+        left = (folder / 'm').read_bytes() if (folder / 'm').exists() else b''
+        # below some size the system itself can't start a program
+        is_well = (left == whole) if ran.returncode == 0 else whole.startswith(left) and (ran.returncode in (5, 127, 126) or not left)
+        uses.judge(f'{kilobytes} kB of memory (status {ran.returncode})', is_well, ran)
+    both = [subprocess.Popen([uses.program, *RUN, 'b'], cwd=folder, stdout=subprocess.PIPE) for _ in range(2)]
+    statuses = [it.wait(20) for it in both]
+    uses.judge('two runs on one file', statuses == [0, 0] and (folder / 'b').read_bytes() == whole, statuses)
+
+
+def words(uses, room, whole):
+    """Words that are no text, and the program under a name that is none."""
+    folder = folder_of(room, 'words')
+    left = uses.call(folder, [b'check', b'\xff.toml'])
+    uses.judge('a word that is no text', left[0] == 2, left)
+    odd = os.fsencode(folder) + b'/\xff'
+    shutil.copy(uses.program, odd)
+    ran = subprocess.run([odd, b'check', b's.toml'], cwd=folder, capture_output=True)
+    uses.judge('the program under a name that is no text', ran.returncode == 0, ran)
+    left = uses.call(folder, ['check', 'a\nb'])
+    uses.judge('a name of two lines is told in one', left[0] == 1 and left[2].count(b'\n') == 1, left)
+
+
+def main():
+    parser = argparse.ArgumentParser(description=__doc__, formatter_class=argparse.RawDescriptionHelpFormatter)
+    parser.add_argument('--program', type=Path, default=BUILT)
+    program = shutil.which(parser.parse_args().program)
+    if program is None:
+        sys.exit('hostile: the program is not there; ./swimsim --help builds it')
+    uses = Uses(Path(program).resolve())
+    with tempfile.TemporaryDirectory() as name:
+        room = Path(name)
+        folder = folder_of(room, 'whole')
+        status = uses.call(folder, [*RUN, 't'])[0]
+        if status != 0:
+            sys.exit(f'hostile: status {status} of a plain run')
+        whole = (folder / 't').read_bytes()
+        for group in (names, texts, outputs, pipes, ends, words):
+            group(uses, room, whole)
+    print(f'{uses.wrong} went wrong')
+    sys.exit(1 if uses.wrong else 0)
+
+
+if __name__ == '__main__':
+    main()
