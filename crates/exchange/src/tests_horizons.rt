@@ -1,10 +1,12 @@
-//! Each part runs up to its own horizon: how many windows that takes, as a gate counts them.
+//! Each part runs up to its own horizon: how many windows that takes, as a gate counts them, and that any division by
+//! site writes the same.
 
 use crate::by_workers::run;
-use crate::sequential::{Summary, run_one};
-use crate::testing::CRASH_DETECTED;
+use crate::sequential::Summary;
+use crate::testing::{CRASH_DETECTED, scenario_text};
+use crate::tests_turns::{Way, assert_writes, divided, run_by};
 use base::Fault;
-use scenario::{Division, Workers, read};
+use scenario::{Workers, read};
 use std::marker::Sync;
 use std::process::Abort;
 use std::sync::Wait;
@@ -32,7 +34,7 @@ fn run_counted(
     rt: &(impl Abort + AllocGlobal + Threads + Wait + Sync),
     gate: &Counting,
     text: &str,
-    parts: usize,
+    parts: u8,
     part_of: &[u8],
     trace: &mut MemorySink,
 ) -> Result<Summary, Fault> {
@@ -44,9 +46,8 @@ fn run_counted(
         Ok(()) => {}
         Err(_) => return Err(Fault::Memory),
     }
-    let division = match Division::new(&scenario, parts, numbers) {
-        Ok(division) => division,
-        Err(_) => panic!(rt; "there is no such division"),
+    let Ok(division) = divided(rt, &scenario, parts, numbers) else {
+        return Err(Fault::Memory);
     };
     assert_eq!(rt; division.members(), scenario.members());
     assert!(rt; trace.failures() < 1 << 62);
@@ -78,33 +79,15 @@ fn one_part_has_one_window(rt: HostRuntime) {
     assert_eq!(rt; gate.entered.load(Ordering::SeqCst), 1);
 }
 
-/// Two sites a hundred ticks apart, in each of which a message takes one tick.
-const SITES: &str = "version = 1
-seed = 5
-end = 3000
-[swim]
-period = 100
-timeout = 30
-spread = 100
-[link]
-delay = 100
-[[group]]
-name = \"a\"
-count = 4
-[[group]]
-name = \"b\"
-count = 4
-[[path]]
-from = \"a\"
-to = \"a\"
-delay = 1
-[[path]]
-from = \"b\"
-to = \"b\"
-delay = 1
-";
+/// Four sites of two members a hundred ticks apart, in each of which a message takes one tick.
+const FOUR_SITES: &str = scenario_text!(
+    end 3000, seed 5, period 100, timeout 30, spread 100, delay 100;
+    group "a" of 2; group "b" of 2; group "c" of 2; group "d" of 2;
+    path "a" to "a" with "delay" 1; path "b" to "b" with "delay" 1;
+    path "c" to "c" with "delay" 1; path "d" to "d" with "delay" 1
+);
 
-/// By site each of the two parts runs some hundred ticks by itself, so there are some thirty windows of each. Below
+/// By site each of the four parts runs some hundred ticks by itself, so there are some thirty windows of each. Below
 /// a common bound, one tick past what pends first, there would be hundreds.
 #[test]
 fn parts_of_far_sites_have_few_windows(rt: HostRuntime) -> Result<(), Fail> {
@@ -112,17 +95,32 @@ fn parts_of_far_sites_have_few_windows(rt: HostRuntime) -> Result<(), Fail> {
         entered: AtomicU64::new(0),
     };
     let mut trace = MemorySink::new(rt.alloc());
-    let by_site = [0, 0, 0, 0, 1, 1, 1, 1];
-    let outcome = run_counted(&rt, &gate, SITES, 2, &by_site, &mut trace);
+    let by_site = [0, 0, 1, 1, 2, 2, 3, 3];
+    let outcome = run_counted(&rt, &gate, FOUR_SITES, 4, &by_site, &mut trace);
     assert!(rt; outcome.is_ok());
-    let scenario = read(rt.alloc(), SITES.as_bytes())?;
+    let scenario = read(rt.alloc(), FOUR_SITES.as_bytes())?;
     let mut one_trace = MemorySink::new(rt.alloc());
     let mut one_report = MemorySink::new(rt.alloc());
-    assert!(rt; one_trace.failures() < 1 << 62);
-    assert!(rt; one_report.failures() < 1 << 62);
-    let as_one = run_one(rt.alloc(), &scenario, &mut one_trace, &mut one_report);
+    let as_one = run_by(&rt, Way::AsOne, &scenario, &mut one_trace, &mut one_report);
     assert_eq!(rt; as_one, outcome);
     assert!(rt; trace.bytes() == one_trace.bytes());
-    assert!(rt; gate.entered.load(Ordering::SeqCst) < 400);
+    assert!(rt; gate.entered.load(Ordering::SeqCst) < 200);
+    Ok(())
+}
+
+/// Every way to deal four sites to four parts, by two to four workers.
+#[test]
+fn each_division_by_site_is_the_same(rt: HostRuntime) -> Result<(), Fail> {
+    let scenario = read(rt.alloc(), FOUR_SITES.as_bytes())?;
+    let mut trace = MemorySink::new(rt.alloc());
+    let mut report = MemorySink::new(rt.alloc());
+    let outcome = run_by(&rt, Way::AsOne, &scenario, &mut trace, &mut report);
+    assert!(rt; outcome.is_ok());
+    for deal in 0..=255 {
+        for workers in 2..=4 {
+            let way = Way::BySite(deal, workers);
+            assert_writes(&rt, way, &scenario, outcome, &trace, &report);
+        }
+    }
     Ok(())
 }

@@ -2,91 +2,75 @@
 //! from the protocol's rules.
 
 use crate::sequential::run_one;
+use crate::testing::{crash_detected, scenario_text, slow_member, trace_text};
 use scenario::read;
 use std::process::Abort;
 use std::test::Fail;
 use trace::testing::MemorySink;
 
-/// The seeds for which a run was worked out, a scenario without its first two lines, and the lines of its
-/// trace.
-type Meeting = (&'static [u64], &'static str, &'static str);
+/// A scenario with seed 7, the seeds for which its run was worked out, and the run's trace.
+#[derive(Clone, Copy)]
+pub(crate) struct Meeting {
+    pub(crate) seeds: &'static [u64],
+    pub(crate) scenario: &'static str,
+    trace: &'static str,
+}
 
 /// Nothing in these runs depends on the seed.
 const ANY: &[u64] = &[0, 1, 2, 3, 4, 5, 6, 7];
 
+/// The trace of a contact whose first two welcomes go astray, so that it takes the joiner for silent, and then
+/// these lines.
+macro_rules! welcomes_astray {
+    ($more:literal) => {
+        trace_text!(
+            "0,n-0,n-0,0,start,,0,0
+100,j-0,j-0,0,start,,0,0
+100,j-0,j-0,0,join,n-0,0,0
+160,n-0,j-0,1,alive,j-0,0,0
+160,n-0,j-0,1,welcome,j-0,0,0
+1001,n-0,n-0,2,ping,j-0,1,0
+1100,j-0,j-0,2,join,n-0,0,0
+1160,n-0,j-0,3,welcome,j-0,0,0
+2001,n-0,n-0,6,fail,j-0,1,0
+2001,n-0,n-0,6,health,,1,0
+2001,n-0,n-0,6,suspect,j-0,0,0
+2001,n-0,n-0,6,ping,j-0,2,0
+2100,j-0,j-0,4,join,n-0,0,0
+",
+            $more
+        )
+    };
+}
+
 /// The join reaches the contact in the moment of its crash. The crash's sender is n-0 (0), the join's
 /// j-0 (1): the crash goes first.
-const CRASH_BEFORE_JOIN: Meeting = (
-    ANY,
-    "end = 1105
-[swim]
-period = 1000
-timeout = 300
-spread = 1
-[link]
-delay = 10
-[[group]]
-name = \"n\"
-count = 1
-[[group]]
-name = \"j\"
-count = 1
-start = 100
-contact = \"n-0\"
-[[crash]]
-member = \"n-0\"
-at = 110
-",
-    "0,n-0,n-0,0,start,,0,0
+const CRASH_BEFORE_JOIN: Meeting = Meeting {
+    seeds: ANY,
+    scenario: scenario_text!(
+        end 1105;
+        group "n" of 1; group "j" of 1 joins "n-0" at 100; crash "n-0" at 110
+    ),
+    trace: trace_text!(
+        "0,n-0,n-0,0,start,,0,0
 100,j-0,j-0,0,start,,0,0
 100,j-0,j-0,0,join,n-0,0,0
 110,n-0,n-0,1,crash,,0,0
 1100,j-0,j-0,2,join,n-0,0,0
-",
-);
+"
+    ),
+};
 
 /// Somebody joins after a member was declared dead. The welcome counts the dead one, and the joiner
 /// never probes it.
-const JOIN_AFTER_CONFIRM: Meeting = (
-    ANY,
-    "end = 11011
-[swim]
-period = 1000
-timeout = 300
-spread = 1
-[link]
-delay = 10
-[[group]]
-name = \"n\"
-count = 2
-[[group]]
-name = \"j\"
-count = 1
-start = 7500
-contact = \"n-0\"
-[[crash]]
-member = \"n-1\"
-at = 500
-",
-    "0,n-0,n-0,0,start,,0,0
-0,n-1,n-1,0,start,,0,0
-1,n-0,n-0,1,ping,n-1,1,0
-1,n-1,n-1,2,ping,n-0,1,0
-11,n-0,n-1,3,ack,n-1,1,0
-11,n-1,n-0,2,ack,n-0,1,0
-500,n-1,n-1,1,crash,,0,0
-1001,n-0,n-0,4,ping,n-1,2,0
-2001,n-0,n-0,8,fail,n-1,2,0
-2001,n-0,n-0,8,health,,1,0
-2001,n-0,n-0,8,suspect,n-1,0,0
-2001,n-0,n-0,8,ping,n-1,3,0
-4001,n-0,n-0,12,fail,n-1,3,0
-4001,n-0,n-0,12,health,,2,0
-4001,n-0,n-0,12,ping,n-1,4,0
-7001,n-0,n-0,9,confirm,n-1,0,0
-7001,n-0,n-0,15,fail,n-1,4,0
-7001,n-0,n-0,15,health,,3,0
-7500,j-0,j-0,0,start,,0,0
+const JOIN_AFTER_CONFIRM: Meeting = Meeting {
+    seeds: ANY,
+    scenario: scenario_text!(
+        end 11011;
+        group "n" of 2; group "j" of 1 joins "n-0" at 7500; crash "n-1" at 500
+    ),
+    trace: crash_detected!(
+        "7500,j-0,j-0,0,start,,0,0
 7500,j-0,j-0,0,join,n-0,0,0
 7510,n-0,j-0,1,alive,j-0,0,0
 7510,n-0,j-0,1,welcome,j-0,0,0
@@ -101,33 +85,20 @@ at = 500
 10531,n-0,j-0,13,ack,j-0,4,0
 11001,n-0,n-0,16,ping,j-0,5,0
 11011,j-0,n-0,22,ack,n-0,5,0
-",
-);
+"
+    ),
+};
 
-/// The same with the groups the other way round: now j-0 is member 0 and n-0 member 1, so the join
-/// goes first.
-const JOIN_BEFORE_CRASH: Meeting = (
-    ANY,
-    "end = 1105
-[swim]
-period = 1000
-timeout = 300
-spread = 1
-[link]
-delay = 10
-[[group]]
-name = \"j\"
-count = 1
-start = 100
-contact = \"n-0\"
-[[group]]
-name = \"n\"
-count = 1
-[[crash]]
-member = \"n-0\"
-at = 110
-",
-    "0,n-0,n-0,0,start,,0,0
+/// As `CRASH_BEFORE_JOIN` with the groups the other way round: now j-0 is member 0 and n-0 member 1, so the
+/// join goes first.
+const JOIN_BEFORE_CRASH: Meeting = Meeting {
+    seeds: ANY,
+    scenario: scenario_text!(
+        end 1105;
+        group "j" of 1 joins "n-0" at 100; group "n" of 1; crash "n-0" at 110
+    ),
+    trace: trace_text!(
+        "0,n-0,n-0,0,start,,0,0
 100,j-0,j-0,0,start,,0,0
 100,j-0,j-0,0,join,n-0,0,0
 110,n-0,j-0,1,alive,j-0,0,0
@@ -135,32 +106,19 @@ at = 110
 110,n-0,n-0,1,crash,,0,0
 120,j-0,n-0,4,joined,n-0,1,0
 121,j-0,j-0,3,ping,n-0,1,0
-",
-);
+"
+    ),
+};
 
 /// The joiner crashes while its welcome is under way. The contact knows it, and finds out.
-const JOINER_CRASHES: Meeting = (
-    ANY,
-    "end = 8000
-[swim]
-period = 1000
-timeout = 300
-spread = 1
-[link]
-delay = 10
-[[group]]
-name = \"n\"
-count = 1
-[[group]]
-name = \"j\"
-count = 1
-start = 100
-contact = \"n-0\"
-[[crash]]
-member = \"j-0\"
-at = 115
-",
-    "0,n-0,n-0,0,start,,0,0
+const JOINER_CRASHES: Meeting = Meeting {
+    seeds: ANY,
+    scenario: scenario_text!(
+        end 8000;
+        group "n" of 1; group "j" of 1 joins "n-0" at 100; crash "j-0" at 115
+    ),
+    trace: trace_text!(
+        "0,n-0,n-0,0,start,,0,0
 100,j-0,j-0,0,start,,0,0
 100,j-0,j-0,0,join,n-0,0,0
 110,n-0,j-0,2,alive,j-0,0,0
@@ -177,34 +135,19 @@ at = 115
 7001,n-0,n-0,7,confirm,j-0,0,0
 7001,n-0,n-0,13,fail,j-0,3,0
 7001,n-0,n-0,13,health,,3,0
-",
-);
+"
+    ),
+};
 
 /// An ack that comes after its probe has failed doesn't count for the next probe.
-const LATE_ACK: Meeting = (
-    ANY,
-    "end = 6001
-[swim]
-period = 1000
-timeout = 300
-spread = 1
-[link]
-delay = 10
-[[group]]
-name = \"a\"
-count = 1
-[[group]]
-name = \"b\"
-count = 1
-[[path]]
-from = \"b\"
-to = \"a\"
-delay = 995
-[[crash]]
-member = \"b-0\"
-at = 12
-",
-    "0,a-0,a-0,0,start,,0,0
+const LATE_ACK: Meeting = Meeting {
+    seeds: ANY,
+    scenario: scenario_text!(
+        end 6001;
+        group "a" of 1; group "b" of 1; path "b" to "a" with "delay" 995; crash "b-0" at 12
+    ),
+    trace: trace_text!(
+        "0,a-0,a-0,0,start,,0,0
 0,b-0,b-0,0,start,,0,0
 1,a-0,a-0,1,ping,b-0,1,0
 1,b-0,b-0,2,ping,a-0,1,0
@@ -221,33 +164,19 @@ at = 12
 6001,a-0,a-0,6,confirm,b-0,0,0
 6001,a-0,a-0,12,fail,b-0,3,0
 6001,a-0,a-0,12,health,,3,0
-",
-);
+"
+    ),
+};
 
 /// Each refutation is under way when its own confirm is made, and comes to nothing.
-const LATE_REFUTATION: Meeting = (
-    ANY,
-    "end = 10000
-[swim]
-period = 1000
-timeout = 300
-spread = 1
-[link]
-delay = 10
-[suspicion]
-alpha = 1
-[[group]]
-name = \"a\"
-count = 1
-[[group]]
-name = \"b\"
-count = 1
-[[path]]
-from = \"b\"
-to = \"a\"
-delay = 995
-",
-    "0,a-0,a-0,0,start,,0,0
+const LATE_REFUTATION: Meeting = Meeting {
+    seeds: ANY,
+    scenario: scenario_text!(
+        end 10000; text "[suspicion]\nalpha = 1\n";
+        group "a" of 1; group "b" of 1; path "b" to "a" with "delay" 995
+    ),
+    trace: trace_text!(
+        "0,a-0,a-0,0,start,,0,0
 0,b-0,b-0,0,start,,0,0
 1,a-0,a-0,1,ping,b-0,1,0
 1,b-0,b-0,1,ping,a-0,1,0
@@ -271,30 +200,19 @@ delay = 995
 2001,b-0,b-0,6,confirm,a-0,0,0
 3001,a-0,a-0,9,health,,1,0
 3001,b-0,b-0,9,health,,1,0
-",
-);
+"
+    ),
+};
 
 /// A second accuser comes later than the shortest timeout: the suspicion is due in the next moment. n
 /// = 3, alpha 1: Min 1000, Max 6000, K' = 1.
-const LATE_SECOND_ACCUSER: Meeting = (
-    &[30],
-    "end = 4100
-[swim]
-period = 1000
-timeout = 300
-spread = 1
-[link]
-delay = 10
-[suspicion]
-alpha = 1
-[[group]]
-name = \"n\"
-count = 3
-[[crash]]
-member = \"n-2\"
-at = 500
-",
-    "0,n-0,n-0,0,start,,0,0
+const LATE_SECOND_ACCUSER: Meeting = Meeting {
+    seeds: &[30],
+    scenario: scenario_text!(
+        end 4100; text "[suspicion]\nalpha = 1\n"; group "n" of 3; crash "n-2" at 500
+    ),
+    trace: trace_text!(
+        "0,n-0,n-0,0,start,,0,0
 0,n-1,n-1,0,start,,0,0
 0,n-2,n-2,0,start,,0,0
 1,n-0,n-0,1,ping,n-1,1,0
@@ -332,60 +250,21 @@ at = 500
 4011,n-0,n-1,23,accuse,n-2,1,0
 4011,n-0,n-1,23,ack,n-1,5,0
 4012,n-0,n-0,21,confirm,n-2,0,0
-",
-);
+"
+    ),
+};
 
 /// Suspected at 2001 (due at 7001), refuted at 2021, suspected again at 6001 (due at 11001): the first
 /// timer still comes at 7001, and has no effect.
-const OLD_SUSPICION_TIMER: Meeting = (
-    ANY,
-    "end = 9000
-[swim]
-period = 1000
-timeout = 300
-spread = 1
-[link]
-delay = 10
-[[group]]
-name = \"n\"
-count = 2
-[[slow]]
-member = \"n-1\"
-from = 500
-until = 2005
-extra = 1200
-[[slow]]
-member = \"n-1\"
-from = 3900
-until = 6500
-extra = 5000
-",
-    "0,n-0,n-0,0,start,,0,0
-0,n-1,n-1,0,start,,0,0
-1,n-0,n-0,1,ping,n-1,1,0
-1,n-1,n-1,1,ping,n-0,1,0
-11,n-0,n-1,2,ack,n-1,1,0
-11,n-1,n-0,2,ack,n-0,1,0
-1001,n-0,n-0,4,ping,n-1,2,0
-1001,n-1,n-1,4,ping,n-0,2,0
-2001,n-0,n-0,8,fail,n-1,2,0
-2001,n-0,n-0,8,health,,1,0
-2001,n-0,n-0,8,suspect,n-1,0,0
-2001,n-0,n-0,8,ping,n-1,3,0
-2001,n-1,n-1,8,fail,n-0,2,0
-2001,n-1,n-1,8,health,,1,0
-2001,n-1,n-1,8,suspect,n-0,0,0
-2001,n-1,n-1,8,ping,n-0,3,0
-2011,n-1,n-0,10,refute,n-1,1,0
-2011,n-1,n-0,10,health,,2,0
-2011,n-1,n-0,10,ack,n-0,3,0
-2021,n-0,n-1,13,alive,n-1,1,0
-2021,n-0,n-1,13,refute,n-0,1,0
-2021,n-0,n-1,13,health,,2,0
-2211,n-0,n-1,6,ack,n-1,2,0
-2211,n-1,n-0,6,ack,n-0,2,0
-2221,n-1,n-0,13,alive,n-0,1,0
-3211,n-0,n-1,10,ack,n-1,3,0
+const OLD_SUSPICION_TIMER: Meeting = Meeting {
+    seeds: ANY,
+    scenario: scenario_text!(
+        end 9000;
+        group "n" of 2;
+        slow "n-1" from 500 until 2005 by 1200; slow "n-1" from 3900 until 6500 by 5000
+    ),
+    trace: slow_member!(
+        "3211,n-0,n-1,10,ack,n-1,3,0
 4001,n-0,n-0,12,health,,1,0
 4001,n-0,n-0,12,ping,n-1,4,0
 4001,n-1,n-1,12,health,,1,0
@@ -398,28 +277,17 @@ extra = 5000
 6001,n-1,n-1,17,health,,2,0
 6001,n-1,n-1,17,suspect,n-0,1,0
 6001,n-1,n-1,17,ping,n-0,5,0
-",
-);
+"
+    ),
+};
 
 /// Two survivors fail a crashed member in the same moment. One hears of the other's accusation, and
-/// thereby loses the news of its own. Timeouts are
-const SAME_MOMENT_ACCUSERS: Meeting = (
-    &[9],
-    "end = 7600
-[swim]
-period = 1000
-timeout = 300
-spread = 1
-[link]
-delay = 10
-[[group]]
-name = \"n\"
-count = 3
-[[crash]]
-member = \"n-2\"
-at = 500
-",
-    "0,n-0,n-0,0,start,,0,0
+/// thereby loses the news of its own.
+const SAME_MOMENT_ACCUSERS: Meeting = Meeting {
+    seeds: &[9],
+    scenario: scenario_text!(end 7600; group "n" of 3; crash "n-2" at 500),
+    trace: trace_text!(
+        "0,n-0,n-0,0,start,,0,0
 0,n-1,n-1,0,start,,0,0
 0,n-2,n-2,0,start,,0,0
 1,n-0,n-0,1,ping,n-1,1,0
@@ -473,34 +341,20 @@ at = 500
 7301,n-0,n-0,29,ping-req,n-1,6,0
 7311,n-1,n-0,32,ping,n-2,6,0
 7551,n-1,n-1,32,nack,n-0,6,0
-",
-);
+"
+    ),
+};
 
-/// The same with the groups the other way round: the timer (sender j-0, 0) goes first, so j-0 asks
-/// again, and is then let in by the first welcome.
-const TIMER_BEFORE_WELCOME: Meeting = (
-    ANY,
-    "end = 1101
-[swim]
-period = 1000
-timeout = 300
-spread = 1
-[link]
-delay = 10
-[[group]]
-name = \"j\"
-count = 1
-start = 100
-contact = \"n-0\"
-[[group]]
-name = \"n\"
-count = 1
-[[path]]
-from = \"n\"
-to = \"j\"
-delay = 990
-",
-    "0,n-0,n-0,0,start,,0,0
+/// As `WELCOME_BEFORE_TIMER` with the groups the other way round: the timer (sender j-0, 0) goes first, so j-0
+/// asks again, and is then let in by the first welcome.
+const TIMER_BEFORE_WELCOME: Meeting = Meeting {
+    seeds: ANY,
+    scenario: scenario_text!(
+        end 1101;
+        group "j" of 1 joins "n-0" at 100; group "n" of 1; path "n" to "j" with "delay" 990
+    ),
+    trace: trace_text!(
+        "0,n-0,n-0,0,start,,0,0
 100,j-0,j-0,0,start,,0,0
 100,j-0,j-0,0,join,n-0,0,0
 110,n-0,j-0,1,alive,j-0,0,0
@@ -509,34 +363,20 @@ delay = 990
 1100,j-0,j-0,2,join,n-0,0,0
 1100,j-0,n-0,3,joined,n-0,1,0
 1101,j-0,j-0,5,ping,n-0,1,0
-",
-);
+"
+    ),
+};
 
 /// The welcome arrives in the moment of the join timer: 110 + 990 = 100 + 1000. Its sender n-0 (0) is
 /// smaller than the timer's j-0 (1), so j-0 is in and doesn't ask again.
-const WELCOME_BEFORE_TIMER: Meeting = (
-    ANY,
-    "end = 1101
-[swim]
-period = 1000
-timeout = 300
-spread = 1
-[link]
-delay = 10
-[[group]]
-name = \"n\"
-count = 1
-[[group]]
-name = \"j\"
-count = 1
-start = 100
-contact = \"n-0\"
-[[path]]
-from = \"n\"
-to = \"j\"
-delay = 990
-",
-    "0,n-0,n-0,0,start,,0,0
+const WELCOME_BEFORE_TIMER: Meeting = Meeting {
+    seeds: ANY,
+    scenario: scenario_text!(
+        end 1101;
+        group "n" of 1; group "j" of 1 joins "n-0" at 100; path "n" to "j" with "delay" 990
+    ),
+    trace: trace_text!(
+        "0,n-0,n-0,0,start,,0,0
 100,j-0,j-0,0,start,,0,0
 100,j-0,j-0,0,join,n-0,0,0
 110,n-0,j-0,1,alive,j-0,0,0
@@ -544,75 +384,24 @@ delay = 990
 1001,n-0,n-0,2,ping,j-0,1,0
 1100,j-0,n-0,3,joined,n-0,1,0
 1101,j-0,j-0,3,ping,n-0,1,0
-",
-);
+"
+    ),
+};
 
-/// As welcome-holds-suspect, but three welcomes go astray and the suspicion lasts 1000 only: the
+/// As `WELCOME_HOLDS_SUSPECT`, but three welcomes go astray and the suspicion lasts 1000 only: the
 /// fourth welcome holds a Confirm of the joiner.
-const WELCOME_HOLDS_CONFIRM: Meeting = (
-    ANY,
-    "end = 4100
-[swim]
-period = 1000
-timeout = 300
-spread = 1
-[link]
-delay = 10
-[suspicion]
-alpha = 1
-[[group]]
-name = \"n\"
-count = 1
-[[group]]
-name = \"j\"
-count = 1
-start = 100
-contact = \"n-0\"
-[[slow]]
-member = \"n-0\"
-from = 110
-until = 111
-extra = 50
-[[slow]]
-member = \"n-0\"
-from = 160
-until = 161
-extra = 1000000
-[[slow]]
-member = \"n-0\"
-from = 1110
-until = 1111
-extra = 50
-[[slow]]
-member = \"n-0\"
-from = 1160
-until = 1161
-extra = 1000000
-[[slow]]
-member = \"n-0\"
-from = 2110
-until = 2111
-extra = 50
-[[slow]]
-member = \"n-0\"
-from = 2160
-until = 2161
-extra = 1000000
-",
-    "0,n-0,n-0,0,start,,0,0
-100,j-0,j-0,0,start,,0,0
-100,j-0,j-0,0,join,n-0,0,0
-160,n-0,j-0,1,alive,j-0,0,0
-160,n-0,j-0,1,welcome,j-0,0,0
-1001,n-0,n-0,2,ping,j-0,1,0
-1100,j-0,j-0,2,join,n-0,0,0
-1160,n-0,j-0,3,welcome,j-0,0,0
-2001,n-0,n-0,6,fail,j-0,1,0
-2001,n-0,n-0,6,health,,1,0
-2001,n-0,n-0,6,suspect,j-0,0,0
-2001,n-0,n-0,6,ping,j-0,2,0
-2100,j-0,j-0,4,join,n-0,0,0
-2160,n-0,j-0,5,welcome,j-0,0,0
+const WELCOME_HOLDS_CONFIRM: Meeting = Meeting {
+    seeds: ANY,
+    scenario: scenario_text!(
+        end 4100;
+        text "[suspicion]\nalpha = 1\n";
+        group "n" of 1; group "j" of 1 joins "n-0" at 100;
+        slow "n-0" from 110 until 111 by 50; slow "n-0" from 160 until 161 by 1000000;
+        slow "n-0" from 1110 until 1111 by 50; slow "n-0" from 1160 until 1161 by 1000000;
+        slow "n-0" from 2110 until 2111 by 50; slow "n-0" from 2160 until 2161 by 1000000
+    ),
+    trace: welcomes_astray!(
+        "2160,n-0,j-0,5,welcome,j-0,0,0
 3001,n-0,n-0,8,confirm,j-0,0,0
 3100,j-0,j-0,6,join,n-0,0,0
 3110,n-0,j-0,7,welcome,j-0,0,0
@@ -622,71 +411,31 @@ extra = 1000000
 3131,n-0,j-0,10,ack,j-0,1,0
 4001,n-0,n-0,11,fail,j-0,2,0
 4001,n-0,n-0,11,health,,2,0
-",
-);
+"
+    ),
+};
 
 /// Two welcomes go astray. The contact takes the joiner for silent and suspects it; the third welcome
 /// tells the joiner so.
-const WELCOME_HOLDS_SUSPECT: Meeting = (
-    ANY,
-    "end = 4000
-[swim]
-period = 1000
-timeout = 300
-spread = 1
-[link]
-delay = 10
-[[group]]
-name = \"n\"
-count = 1
-[[group]]
-name = \"j\"
-count = 1
-start = 100
-contact = \"n-0\"
-[[slow]]
-member = \"n-0\"
-from = 110
-until = 111
-extra = 50
-[[slow]]
-member = \"n-0\"
-from = 160
-until = 161
-extra = 1000000
-[[slow]]
-member = \"n-0\"
-from = 1110
-until = 1111
-extra = 50
-[[slow]]
-member = \"n-0\"
-from = 1160
-until = 1161
-extra = 1000000
-",
-    "0,n-0,n-0,0,start,,0,0
-100,j-0,j-0,0,start,,0,0
-100,j-0,j-0,0,join,n-0,0,0
-160,n-0,j-0,1,alive,j-0,0,0
-160,n-0,j-0,1,welcome,j-0,0,0
-1001,n-0,n-0,2,ping,j-0,1,0
-1100,j-0,j-0,2,join,n-0,0,0
-1160,n-0,j-0,3,welcome,j-0,0,0
-2001,n-0,n-0,6,fail,j-0,1,0
-2001,n-0,n-0,6,health,,1,0
-2001,n-0,n-0,6,suspect,j-0,0,0
-2001,n-0,n-0,6,ping,j-0,2,0
-2100,j-0,j-0,4,join,n-0,0,0
-2110,n-0,j-0,5,welcome,j-0,0,0
+const WELCOME_HOLDS_SUSPECT: Meeting = Meeting {
+    seeds: ANY,
+    scenario: scenario_text!(
+        end 4000;
+        group "n" of 1; group "j" of 1 joins "n-0" at 100;
+        slow "n-0" from 110 until 111 by 50; slow "n-0" from 160 until 161 by 1000000;
+        slow "n-0" from 1110 until 1111 by 50; slow "n-0" from 1160 until 1161 by 1000000
+    ),
+    trace: welcomes_astray!(
+        "2110,n-0,j-0,5,welcome,j-0,0,0
 2120,j-0,n-0,12,joined,n-0,1,0
 2120,j-0,n-0,12,refute,j-0,1,0
 2120,j-0,n-0,12,health,,1,0
 2121,j-0,j-0,7,ping,n-0,1,0
 2131,n-0,j-0,8,alive,j-0,1,0
 2131,n-0,j-0,8,ack,j-0,1,0
-",
-);
+"
+    ),
+};
 
 pub(crate) const MEETINGS: [Meeting; 13] = [
     CRASH_BEFORE_JOIN,
@@ -704,18 +453,19 @@ pub(crate) const MEETINGS: [Meeting; 13] = [
     WELCOME_HOLDS_SUSPECT,
 ];
 
-/// The text of the scenario with its first two lines.
+/// The scenario's text with that seed.
 pub(crate) fn text_of(rt: &impl AllocGlobal, seed: u64, text: &str) -> Result<String, Fail> {
-    let whole = format!(in rt.alloc(); "version = 1\nseed = {seed}\n{text}")?;
+    let line = format!(in rt.alloc(); "seed = {seed}")?;
+    let whole = text.replace(rt.alloc(), "seed = 7", line.as_str())?;
     Ok(whole)
 }
 
-/// Asserts that the scenario's run under the seed has these rows.
-fn assert_rows(
+/// Asserts that the scenario's run under the seed writes this trace.
+fn assert_trace(
     rt: &(impl Abort + AllocGlobal),
     seed: u64,
     text: &str,
-    rows: &str,
+    lines: &str,
 ) -> Result<(), Fail> {
     let text = text_of(rt, seed, text)?;
     let scenario = read(rt.alloc(), text.as_bytes())?;
@@ -723,16 +473,15 @@ fn assert_rows(
     let mut report = MemorySink::new(rt.alloc());
     let outcome = run_one(rt.alloc(), &scenario, &mut trace, &mut report);
     assert!(rt; outcome.is_ok());
-    let whole = format!(in rt.alloc(); "moment,member,from,number,what,about,value,lost\n{rows}")?;
-    assert_eq!(rt; trace.bytes(), whole.as_bytes(), "{text}");
+    assert_eq!(rt; trace.bytes(), lines.as_bytes(), "{text}");
     Ok(())
 }
 
 #[test]
 fn each_meeting_is_byte_for_byte(rt: HostRuntime) -> Result<(), Fail> {
-    for (seeds, text, rows) in MEETINGS {
-        for seed in seeds {
-            assert_rows(&rt, *seed, text, rows)?;
+    for meeting in MEETINGS {
+        for seed in meeting.seeds {
+            assert_trace(&rt, *seed, meeting.scenario, meeting.trace)?;
         }
     }
     Ok(())

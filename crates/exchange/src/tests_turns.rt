@@ -40,6 +40,19 @@ const BY_PARTS: [Way; 20] = [
     Way::ByWorkers(64, 64),
 ];
 
+/// The division into so many parts with these members in each. `Memory` where it is refused.
+pub(crate) fn divided(
+    rt: &impl Abort,
+    scenario: &Scenario,
+    parts: u8,
+    part_of: Vec<u8>,
+) -> Result<Division, Memory> {
+    match Division::new(scenario, usize::from(parts), part_of) {
+        Ok(division) => Ok(division),
+        Err(_) => panic!(rt; "there is no such division"),
+    }
+}
+
 /// The division that puts the members into so many parts by turns: member m into part m mod parts.
 /// `Memory` where it is refused.
 pub(crate) fn dealt(
@@ -57,10 +70,27 @@ pub(crate) fn dealt(
         }
         part = if part < last { part + 1 } else { 0 };
     }
-    match Division::new(scenario, usize::from(parts), part_of) {
-        Ok(division) => Ok(division),
-        Err(_) => panic!(rt; "there is no such division"),
+    divided(rt, scenario, parts, part_of)
+}
+
+/// The division of sites of two members each into four parts, where digit s of `deal` to base 4 says which part
+/// has site s. `Memory` where it is refused.
+fn dealt_by_site(
+    rt: &(impl Abort + AllocGlobal),
+    scenario: &Scenario,
+    deal: u8,
+) -> Result<Division, Memory> {
+    let mut part_of = Vec::new(rt.alloc());
+    let mut deals = deal;
+    for _ in 0..scenario.members() / 2 {
+        let part = deals % 4;
+        match part_of.extend_from_slice(&[part, part]) {
+            Ok(()) => {}
+            Err(_) => return Err(Memory),
+        }
+        deals /= 4;
     }
+    divided(rt, scenario, 4, part_of)
 }
 
 /// How a test runs a scenario.
@@ -72,6 +102,8 @@ pub(crate) enum Way {
     InTurn(u8),
     /// By so many parts, and so many workers.
     ByWorkers(u8, u8),
+    /// By four parts of whole sites of two members each, dealt by the digits of this number, and so many workers.
+    BySite(u8, u8),
 }
 
 /// The ways in which tests of whole runs and of failing sinks run their scenarios.
@@ -82,12 +114,16 @@ pub(crate) const WAYS: [Way; 4] = [
     Way::ByWorkers(2, 2),
 ];
 
-/// Into how many parts that way divides a scenario.
-fn parts_of(way: Way) -> u8 {
+/// How that way divides the scenario.
+fn division_of(
+    rt: &(impl Abort + AllocGlobal),
+    way: Way,
+    scenario: &Scenario,
+) -> Result<Division, Memory> {
     match way {
-        Way::AsOne => 1,
-        Way::InTurn(parts) => parts,
-        Way::ByWorkers(parts, _) => parts,
+        Way::AsOne => dealt(rt, scenario, 1),
+        Way::InTurn(parts) | Way::ByWorkers(parts, _) => dealt(rt, scenario, parts),
+        Way::BySite(deal, _) => dealt_by_site(rt, scenario, deal),
     }
 }
 
@@ -99,7 +135,7 @@ pub(crate) fn run_by(
     trace: &mut MemorySink,
     report: &mut MemorySink,
 ) -> Result<Summary, Fault> {
-    let Ok(division) = dealt(rt, scenario, parts_of(way)) else {
+    let Ok(division) = division_of(rt, way, scenario) else {
         return Err(Fault::Memory);
     };
     assert_eq!(rt; division.members(), scenario.members());
@@ -109,13 +145,30 @@ pub(crate) fn run_by(
     match way {
         Way::AsOne => run_one(alloc, scenario, trace, report),
         Way::InTurn(_) => run_in_turn(rt, alloc, scenario, &division, trace, report),
-        Way::ByWorkers(_, workers) => {
+        Way::ByWorkers(_, workers) | Way::BySite(_, workers) => {
             let workers = Workers::new(usize::from(workers)).expect(rt, "workers");
             run(
                 rt, alloc, scenario, &division, workers, &OpenGate, trace, report,
             )
         }
     }
+}
+
+/// Asserts that the scenario's run that way has this outcome, and writes what these sinks hold.
+pub(crate) fn assert_writes(
+    rt: &(impl Abort + AllocGlobal + Threads + Wait + Sync),
+    way: Way,
+    scenario: &Scenario,
+    outcome: Result<Summary, Fault>,
+    trace: &MemorySink,
+    report: &MemorySink,
+) {
+    let mut trace_of_way = MemorySink::new(rt.alloc());
+    let mut report_of_way = MemorySink::new(rt.alloc());
+    let same = run_by(rt, way, scenario, &mut trace_of_way, &mut report_of_way);
+    assert_eq!(rt; same, outcome);
+    assert!(rt; trace_of_way.bytes() == trace.bytes());
+    assert_eq!(rt; report_of_way.bytes(), report.bytes());
 }
 
 /// Asserts that the run by any number of parts and workers writes what `run_one` writes.
@@ -129,18 +182,7 @@ fn assert_same(
     let outcome = run_by(rt, Way::AsOne, &scenario, &mut trace, &mut report);
     assert!(rt; outcome.is_ok());
     for way in BY_PARTS {
-        let mut trace_of_parts = MemorySink::new(rt.alloc());
-        let mut report_of_parts = MemorySink::new(rt.alloc());
-        let by_parts = run_by(
-            rt,
-            way,
-            &scenario,
-            &mut trace_of_parts,
-            &mut report_of_parts,
-        );
-        assert_eq!(rt; by_parts, outcome);
-        assert_eq!(rt; trace_of_parts.bytes(), trace.bytes(), "{text}");
-        assert_eq!(rt; report_of_parts.bytes(), report.bytes());
+        assert_writes(rt, way, &scenario, outcome, &trace, &report);
     }
     Ok(())
 }
@@ -156,9 +198,9 @@ fn each_worked_run_is_the_same_by_any_parts_and_workers(rt: HostRuntime) -> Resu
 
 #[test]
 fn each_meeting_is_the_same_by_any_parts_and_workers(rt: HostRuntime) -> Result<(), Fail> {
-    for (seeds, text, _) in MEETINGS {
-        for seed in seeds {
-            let text = text_of(&rt, *seed, text)?;
+    for meeting in MEETINGS {
+        for seed in meeting.seeds {
+            let text = text_of(&rt, *seed, meeting.scenario)?;
             assert_same(&rt, text.as_str())?;
         }
     }

@@ -2,8 +2,8 @@
 
 use crate::by_workers::run;
 use crate::sequential::Summary;
-use crate::testing::CRASH_DETECTED;
-use crate::tests_turns::{Way, dealt, run_by};
+use crate::testing::{CRASH_DETECTED, scenario_text};
+use crate::tests_turns::{Way, assert_writes, dealt, run_by};
 use base::Fault;
 use scenario::{Workers, read};
 use std::marker::Sync;
@@ -91,34 +91,18 @@ fn gate_two_parts(rt: HostRuntime) {
 }
 
 /// A quiet cluster whose trace is several batches long.
-const MANY_ROWS: &str = "version = 1
-seed = 3
-end = 12000
-[swim]
-period = 100
-timeout = 30
-spread = 1
-[link]
-delay = 2
-[[group]]
-name = \"n\"
-count = 64
-";
+const MANY_ROWS: &str =
+    scenario_text!(end 12000, seed 3, period 100, timeout 30, delay 2; group "n" of 64);
 
 #[test]
 fn a_trace_of_many_batches_is_the_same(rt: HostRuntime) -> Result<(), Fail> {
     let scenario = read(rt.alloc(), MANY_ROWS.as_bytes())?;
     let mut trace = MemorySink::new(rt.alloc());
     let mut report = MemorySink::new(rt.alloc());
-    let outcome = run_by(&rt, Way::AsOne, &scenario, &mut trace, &mut report)?;
-    assert!(rt; outcome.rows > 15_000);
-    let mut by_workers = MemorySink::new(rt.alloc());
-    let mut report_by_workers = MemorySink::new(rt.alloc());
+    let summary = run_by(&rt, Way::AsOne, &scenario, &mut trace, &mut report)?;
+    assert!(rt; summary.rows > 15_000);
     let way = Way::ByWorkers(3, 2);
-    let same = run_by(&rt, way, &scenario, &mut by_workers, &mut report_by_workers)?;
-    assert_eq!(rt; same, outcome);
-    assert!(rt; by_workers.bytes() == trace.bytes());
-    assert_eq!(rt; report_by_workers.bytes(), report.bytes());
+    assert_writes(&rt, way, &scenario, Ok(summary), &trace, &report);
     Ok(())
 }
 
