@@ -99,12 +99,17 @@ class Account:
             self.dealt = ended
         for process in present:
             try:
-                purpose = purpose_of(process)
+                purpose = self.known(process) or purpose_of(process)
                 if process not in self.edit_of and purpose[1] == 'edits':
                     self.edit_of[process] = self.next_edit(purpose[0])
                 self.running[process] = purpose, sum(times_of(process))
             except OSError:
                 pass
+
+    def known(self, process):
+        """What a command was started for, once that was seen: of one that has just ended it can't be read any more."""
+        purpose, _ = self.running.get(process, (OTHER, 0))
+        return purpose if purpose != OTHER else None
 
     def next_edit(self, crate):
         """The edit for which the gate starts a crate's next check: by name, then the crate itself over what they left."""
