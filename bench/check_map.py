@@ -1,11 +1,13 @@
 #!/usr/bin/env python3
-"""Tells of each name in docs/MAP.md that does not stand where the map says.
+"""Tells what is wrong in docs/MAP.md; the status is 1 where something is, else 0.
 
     bench/check_map.py
 
-The status is 0 where all names are there. A definition `crate/File: name` has to begin a line of
-crates/crate/specs/File.antt; code `crate/file.name` has to be a function of
-crates/crate/src/file.rt; a test has to be a function in some tests of the repository.
+Each row of a table has four cells: the rule, and where its definition, its code and its tests stand. A
+place is `crate/File: names` for definitions, `crate/file.names` for code and tests; several are parted by
+semicolons. Where there is none the cell is `-` with the reason in parentheses. A definition has to be
+declared in crates/crate/specs/File.antt, code has to be a function of crates/crate/src/file.rt that is no
+test, and a test one with #[test]. No rule stands twice.
 """
 
 import re
@@ -14,43 +16,87 @@ from pathlib import Path
 
 TOP = Path(__file__).resolve().parent.parent
 CRATES = TOP / 'crates'
+COLUMNS = ('definition', 'code', 'test')
+NAMES = r'`[^`]+`(?:, `[^`]+`)*'
+PLACES = {
+    'definition': re.compile(rf'(\w+)/(\w+): ({NAMES})'),
+    'code': re.compile(rf'(\w+)/(\w+)\.({NAMES})'),
+    'test': re.compile(rf'(\w+)/(\w+)\.({NAMES})'),
+}
+NONE = re.compile(r'- \([^()]+\)')
+DECLARED = re.compile(r'^ *(?:(?:abbrev|unfoldable) pub|pub (?:record|data)|pub(?= \S+ :)) (\S+)', re.M)
+FUNCTION = re.compile(r'((?:^[ \t]*#\[[^\n]*\]\n)*)^[ \t]*(?:pub(?:\([a-z]+\))? )?fn (\w+)', re.M)
 
 
-def names_in(text):
-    """The names between backquotes."""
-    return re.findall(r'`([^`]+)`', text)
+def files_of(column, crate, file):
+    """The file in which a place stands."""
+    folder, ending = ('specs', 'antt') if column == 'definition' else ('src', 'rt')
+    return CRATES / crate / folder / f'{file}.{ending}'
 
 
-def missing_names(cell, mark, folder, ending, begins):
-    """Names of a cell, each as `crate/file`, the mark and names, that the crate's file does not have."""
-    for place in cell.split(';'):
-        named = re.match(rf'\s*(\w+)/(\w+){mark}(.*)', place)
-        if not named:
+def names_there(column, path):
+    """What a file declares of a column: definitions, functions, or tests."""
+    if not path.exists():
+        return set()
+    text = path.read_text()
+    if column == 'definition':
+        return set(DECLARED.findall(text))
+    is_test = column == 'test'
+    return {name for marks, name in FUNCTION.findall(text) if ('#[test]' in marks) == is_test}
+
+
+def faults_of_place(column, place):
+    """What is wrong with one place."""
+    match = PLACES[column].fullmatch(place)
+    if not match:
+        yield f'no place of a {column}: {place!r}'
+        return
+    crate, file, names = match.groups()
+    path = files_of(column, crate, file)
+    there = names_there(column, path)
+    for name in re.findall(r'`([^`]+)`', names):
+        if name not in there:
+            yield f'no {column} {name} in {path.relative_to(TOP)}'
+
+
+def faults_of_row(cells):
+    """What is wrong with the cells of one row."""
+    if len(cells) != 4 or not cells[0]:
+        yield 'a row needs a rule, a definition, code and tests'
+        return
+    for column, cell in zip(COLUMNS, cells[1:]):
+        if not NONE.fullmatch(cell):
+            for place in cell.split('; '):
+                yield from faults_of_place(column, place)
+
+
+def is_head(cells):
+    """Whether these cells are a table's head, or the line below it."""
+    return cells[1:] == ['Definition', 'Code', 'Tests'] or set(cells) == {'---'}
+
+
+def faults_of(lines):
+    """What is wrong in the map, line by line."""
+    rules = {}
+    for number, line in enumerate(lines, 1):
+        if not line.startswith('|'):
             continue
-        path = CRATES / named[1] / folder / f'{named[2]}{ending}'
-        text = path.read_text() if path.exists() else ''
-        for name in names_in(named[3]):
-            if not re.search(rf'{begins}\b{re.escape(name)}\b', text):
-                yield f'{path.relative_to(CRATES)}: {name}'
-
-
-def missing_tests(cell, tests):
-    """Tests of a cell that nobody has."""
-    return (f'test {name}' for name in names_in(cell) if not re.search(rf'\bfn {name}\b', tests))
+        cells = [cell.strip() for cell in line.strip().strip('|').split('|')]
+        if is_head(cells):
+            continue
+        if cells[0] in rules:
+            yield f'line {number}: the rule of line {rules[cells[0]]} again: {cells[0]}'
+        rules[cells[0]] = number
+        yield from (f'line {number}: {fault}' for fault in faults_of_row(cells))
+    if not rules:
+        yield 'no rules'
 
 
 def main():
-    """Looks at each line of the map's tables."""
-    tests = '\n'.join(path.read_text() for path in CRATES.glob('*/src/**/*.rt'))
-    found = []
-    for line in (TOP / 'docs' / 'MAP.md').read_text().splitlines():
-        cells = [cell.strip() for cell in line.strip('|').split('|')]
-        if line.startswith('|') and len(cells) == 4 and '`' in line:
-            found += missing_names(cells[1], ': ', 'specs', '.antt', r'(?m)^\s*[a-z ]*')
-            found += missing_names(cells[2], r'\.', 'src', '.rt', r'\bfn ')
-            found += missing_tests(cells[3], tests)
-    for place in found:
-        print(place)
+    """Prints what is wrong in the map."""
+    found = list(faults_of((TOP / 'docs' / 'MAP.md').read_text().splitlines()))
+    for fault in found:
+        print(fault)
     return 1 if found else 0
 
 
