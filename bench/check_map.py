@@ -24,7 +24,7 @@ PLACES = {
     'test': re.compile(rf'(\w+)/(\w+)\.({NAMES})'),
 }
 NONE = re.compile(r'- \([^()]+\)')
-DECLARED = re.compile(r'^ *(?:(?:abbrev|unfoldable) pub|pub (?:record|data)|pub(?= \S+ :)) (\S+)', re.M)
+DECLARED = re.compile(r'^(?: *(?:(?:abbrev|unfoldable) pub|pub (?:record|data))|pub(?= \S+ :)) (\S+)', re.M)
 FUNCTION = re.compile(r'((?:^[ \t]*#\[[^\n]*\]\n)*)^[ \t]*(?:pub(?:\([a-z]+\))? )?fn (\w+)', re.M)
 
 
