@@ -25,7 +25,8 @@ use Rattle.windows.proofs.Cuts.{get_retained, retain_insert, retain_insert_other
 use Rattle.windows.specs.Admitting.{AreFromBelow, with_member, opened_below}
 use Rattle.windows.proofs.Admitting.{scripts_from_below, one_more_opened}
 use Rattle.windows.proofs.Wholes.{pending_kept}
-use Rattle.exchange.specs.Parts.{nobody, part_number, StandFor}
+use Rattle.horizons.specs.Between.{part_number}
+use Rattle.exchange.specs.Parts.{nobody, StandFor}
 use Rattle.exchange.proofs.Coming.{same_count, at_place, elsewhere}
 use Rattle.exchange.proofs.Turning.{world_at}
 

@@ -17,8 +17,9 @@ use Rattle.relay.specs.Lots.{rows_in, has_last}
 use Rattle.relay.specs.Seats.{sent_by, taken_by, IsSender}
 use Rattle.exchange.specs.declared.driver.Driven.{Driven}
 use Rattle.exchange.specs.declared.driver.Ended.{Ended}
-use Rattle.exchange.specs.Promise.{IsBeginning, BeginsRun, BeginsTrace, WearsOutReport}
-use Rattle.exchange.specs.Streams.{failures_of, HasWritten, IsDriven, HasEnded}
+use Rattle.windows.specs.Play.{IsBeginning}
+use Rattle.exchange.specs.Promise.{BeginsRun, BeginsTrace, WearsOutReport}
+use Rattle.exchange.specs.Streams.{sink_failures, HasWritten, IsDriven, HasEnded}
 use Rattle.exchange.proofs.Goes.{begins_with, wears_report}
 use Rattle.exchange.proofs.Runs.{some_run}
 use Rattle.exchange.proofs.Streaming.{text_on}
@@ -115,7 +116,7 @@ module _ (s : Setup) (sound : IsSound s) (relay : ARelay) (held_old held_new : O
     pub unfailed : failed_new ≡ failed_old
     unfailed = let none = no_failure ended.written wrote in let all = is.failures in omega (arith, none, all)
       where
-        no_failure : (o : Result (Unit {0}) Fault) → IsOk o → failures_of o ≡ 0
+        no_failure : (o : Result (Unit {0}) Fault) → IsOk o → sink_failures o ≡ 0
         no_failure (Ok x) h = refl
         no_failure (Err e) h = absurd (false≢true h)
 
@@ -126,7 +127,7 @@ module _ (s : Setup) (sound : IsSound s) (relay : ARelay) (held_old held_new : O
 
   pub write_ended : IsErrOf ended.driven.outcome Write ⊎ IsErrOf ended.written Write → failed_old < failed_new
   write_ended (inl e) = absurd (IfErr-at_err (λ f. f ≢ Write) e is.driven.few refl)
-  write_ended (inr e) = let one : failures_of ended.written ≡ 1 = ap failures_of e in let all = is.failures in omega (arith, one, all)
+  write_ended (inr e) = let one : sink_failures ended.written ≡ 1 = ap sink_failures e in let all = is.failures in omega (arith, one, all)
 
-  pub relay_ended : failures_of ended.written ≡ 0 → failed_new ≡ failed_old
+  pub relay_ended : sink_failures ended.written ≡ 0 → failed_new ≡ failed_old
   relay_ended none = let all = is.failures in omega (arith, none, all)

@@ -47,11 +47,13 @@ use Rattle.windows.specs.WorldOf.{world_of}
 use Rattle.windows.proofs.Cuts.{get_retained}
 use Rattle.member_laws.specs.Runs.{IsRunOf, WearsOut}
 use Rattle.windows.specs.Several.{RanWindows, OneWears, parts_of}
-use Rattle.exchange.specs.Parts.{part_number, is_before, IsUpTo, NonePendsBefore, StandFor, MayTurn, AreBounded, Came, HaveExchanged}
+use Rattle.horizons.specs.Between.{part_number}
+use Rattle.exchange.specs.Parts.{is_before, IsUpTo, NonePendsBefore, StandFor, MayTurn, AreBounded, Came, HaveExchanged}
 use Rattle.exchange.specs.Bounds.{IsFirstMoment}
 use Rattle.exchange.specs.declared.turns.Course.{Course}
 use Rattle.exchange.specs.Course.{IsCourse}
-use Rattle.exchange.specs.Promise.{IsBeginning, BeginsRun, WearsOutReport}
+use Rattle.windows.specs.Play.{IsBeginning}
+use Rattle.exchange.specs.Promise.{BeginsRun, WearsOutReport}
 use Rattle.exchange.proofs.Coming.{behind}
 use Rattle.exchange.proofs.Releasing.{IsAmong, AreItemsOf, at_one, own_items, items_moved, no_items, rest_in_two, items_left}
 use Rattle.exchange.proofs.Turning.{all_places, at_parts, many, of_parts, world_at, parts_consistent, own_by_part}

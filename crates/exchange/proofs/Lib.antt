@@ -8,6 +8,7 @@ mod RowOrders
 mod Turned
 mod Goes
 mod Ends
+mod Faults
 mod Wearing
 mod Lasting
 mod Admitted

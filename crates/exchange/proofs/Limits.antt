@@ -24,14 +24,14 @@ use Rattle.windows.specs.WorldOf.{world_of}
 use Rattle.windows.proofs.Members.{receiver_low, some_delay}
 use Rattle.windows.proofs.Cuts.{get_retained}
 use Rattle.horizons.specs.declared.table.Horizons.{Horizons}
-use Rattle.horizons.specs.Between.{IsLeastBetween}
+use Rattle.horizons.specs.Between.{part_number, IsLeastBetween}
 use Rattle.horizons.specs.Bounds.{PendsFirst, IsHorizon, NonePendsEarlier}
 use Rattle.horizons.specs.Walks.{Table, AreWalksOf}
 use Rattle.horizons.proofs.Bounding.{all_horizons}
 use Rattle.horizons.proofs.Progress.{past_the_first}
 use Rattle.exchange.specs.declared.turns.Course.{Course}
 use Rattle.exchange.specs.Course.{IsCourse}
-use Rattle.exchange.specs.Parts.{part_number, IsUpTo, NonePendsBefore, PendsFrom, AreFirstMoments, StandFor, HaveHorizons, AreBounded}
+use Rattle.exchange.specs.Parts.{IsUpTo, NonePendsBefore, PendsFrom, AreFirstMoments, StandFor, HaveHorizons, AreBounded}
 use Rattle.exchange.specs.Bounds.{IsFirstMoment, AreLimitedHorizons, AreHorizonsOf}
 use Rattle.exchange.proofs.Coming.{behind}
 use Rattle.exchange.proofs.Turning.{all_places, many}

@@ -36,7 +36,8 @@ use Rattle.windows.specs.WorldOf.{world_of}
 use Rattle.windows.specs.Window.{is_own}
 use Rattle.windows.specs.Several.{RanWindows, parts_of}
 use Rattle.windows.proofs.PartRuns.{own_run}
-use Rattle.exchange.specs.Parts.{part_number, HaveTheirMembers, StandFor, MayTurn, HaveCome}
+use Rattle.horizons.specs.Between.{part_number}
+use Rattle.exchange.specs.Parts.{HaveTheirMembers, StandFor, MayTurn, HaveCome}
 use Rattle.exchange.proofs.Coming.{behind}
 use Rattle.exchange.proofs.Turning.{many, windows_from, rows_same, has_window, out_same, same_count, are_windows, fact_by_number, own_by_part}
 use Rattle.exchange.proofs.Ends.{schedule_end, whole_after}

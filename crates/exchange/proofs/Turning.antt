@@ -27,7 +27,8 @@ use Rattle.windows.specs.Window.{is_own, IsConsistentPart, RunsWindow}
 use Rattle.windows.specs.Cluster.{IsWholeCluster}
 use Rattle.windows.proofs.Wholes.{part_consistent, own_here, window_by_number}
 use Rattle.windows.specs.Several.{RanWindows, parts_of}
-use Rattle.exchange.specs.Parts.{part_number, StandFor}
+use Rattle.horizons.specs.Between.{part_number}
+use Rattle.exchange.specs.Parts.{StandFor}
 
 pub all_places : {A : Type 0} (P : A → Type 0) (xs : List A) → ((i : ℕ) (x : A) → slice_get xs i ≡ Some x → P x) → AllByRecursion P xs
 all_places P [] each = tt

@@ -8,10 +8,10 @@ use Rattle.windows.specs.declared.bounded.Bounded.{Bounded}
 use Rattle.windows.specs.declared.part.Part.{Part}
 use Rattle.scenario.specs.Setup.{Setup}
 use Rattle.scenario.specs.Division.{Deal}
-use Rattle.horizons.specs.Between.{IsLeastBetween}
+use Rattle.horizons.specs.Between.{part_number, IsLeastBetween}
 use Rattle.horizons.specs.Walks.{Table, AreWalksOf}
 use Rattle.horizons.specs.Bounds.{IsHorizon}
-use Rattle.exchange.specs.Parts.{part_number, NonePendsBefore}
+use Rattle.exchange.specs.Parts.{NonePendsBefore}
 
 -- the first moment at which something pends in these parts, no later than the end
 pub record IsFirstMoment {Q : Type 0} (set : Q → FinMap key_cmp Event) (parts : List (Part Q)) (end first : ℕ) : Type 0 where

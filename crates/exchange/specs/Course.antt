@@ -5,7 +5,7 @@ use Rattle.scenario.specs.Division.{Deal}
 use Rattle.links.specs.declared.table.Links.{Links}
 use Rattle.links.specs.Arrival.{AreLinksOf}
 use Rattle.exchange.specs.declared.turns.Course.{Course}
-use Rattle.exchange.specs.Parts.{part_number}
+use Rattle.horizons.specs.Between.{part_number}
 
 -- The links, the end and the division are those of the scenario, and each member has a part.
 pub record IsCourse (course : Course) : Type 0 where

@@ -1,5 +1,5 @@
 -- A cluster that is divided into parts, and what the windows of all parts make of it.
-use Rattle.std.specs.Prelude.{◌≡◌, ◌↔◌, ℕ, ◌+◌, ◌<◌, ◌≤◌, Bool, true, not, nat_lt, List, [], ◌∷◌, ◌++◌, map, length, unwrap_or, Option, Some, None}
+use Rattle.std.specs.Prelude.{◌≡◌, ◌↔◌, ℕ, ◌+◌, ◌<◌, ◌≤◌, Bool, true, not, nat_lt, List, [], ◌∷◌, ◌++◌, map, length, Option, Some, None}
 use Rattle.std.specs.List.{AllByRecursion, slice_get, flat_map, filter}
 use Rattle.std.specs.List.Sorted.{IsPermutation, IsSorted}
 use Rattle.std.specs.Option.{option_map}
@@ -26,10 +26,7 @@ use Rattle.windows.specs.Horizon.{AreHorizons}
 use Rattle.windows.specs.WorldOf.{world_of}
 use Rattle.windows.specs.Window.{is_own}
 use Rattle.windows.specs.Several.{RanWindows, parts_of}
-
--- the part of a member, and for whoever is none a number that no part has
-abbrev pub part_number : Deal → ℕ → ℕ
-part_number deal m = unwrap_or (slice_get deal.part_of m) deal.parts
+use Rattle.horizons.specs.Between.{part_number}
 
 -- a cluster of nobody, in which nothing pends
 abbrev pub nobody : Cluster

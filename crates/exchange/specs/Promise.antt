@@ -1,5 +1,5 @@
 -- What a run writes, and how far it has come.
-use Rattle.std.specs.Prelude.{◌≡◌, ℕ, ◌⊎◌, List, ◌++◌, ◌^◌, ◌≤◌, Option, length}
+use Rattle.std.specs.Prelude.{◌≡◌, ℕ, ◌⊎◌, List, ◌^◌, ◌≤◌, Option, length}
 use Rattle.std.specs.Io.KnownBytes.{Appends, Keeps}
 use Rattle.scenario.specs.Setup.{Setup}
 use Rattle.trace.specs.declared.row.Row.{Row}
@@ -7,6 +7,7 @@ use Rattle.trace.specs.Text.{trace_text}
 use Rattle.trace.specs.Sinks.{AppendsBeginning}
 use Rattle.reports.specs.Text.{report_text}
 use Rattle.member_laws.specs.Runs.{IsRunOf}
+use Rattle.windows.specs.Play.{IsBeginning}
 
 -- the trace and the report of the scenario's run were appended, each to the bytes of its sink; the run has so many rows
 pub record WritesRun (s : Setup) (trace_old trace_new report_old report_new : Option (List ℕ)) (count : ℕ) : Type 0 where
@@ -28,10 +29,6 @@ pub record BeginsTrace (s : Setup) (trace_old trace_new : Option (List ℕ)) : T
   pub rows : List Row
   pub run : IsRunOf s rows
   pub written : AppendsBeginning trace_old trace_new (trace_text s rows)
-
--- these rows are the first of those
-abbrev pub IsBeginning : List Row → List Row → Type 0
-IsBeginning front rows = (rest : List Row) × (rows ≡ front ++ rest)
 
 -- these rows are the first of the scenario's run
 abbrev pub BeginsRun : Setup → List Row → Type 0

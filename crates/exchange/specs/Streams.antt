@@ -43,12 +43,12 @@ pub record IsOpen {R : Type 0} (stream : Stream R) : Type 0 where
   pub named : All (NamesMembers stream.scenario.now) stream.rows.items
 
 -- one failure of a sink where a write failed, and none else
-abbrev pub failures_of : {T : Type 0} → Result T Fault → ℕ
-failures_of (Ok _) = 0
-failures_of (Err fault.Memory) = 0
-failures_of (Err fault.Worn) = 0
-failures_of (Err fault.Write) = 1
-failures_of (Err fault.Relay) = 0
+abbrev pub sink_failures : {T : Type 0} → Result T Fault → ℕ
+sink_failures (Ok _) = 0
+sink_failures (Err fault.Memory) = 0
+sink_failures (Err fault.Worn) = 0
+sink_failures (Err fault.Write) = 1
+sink_failures (Err fault.Relay) = 0
 
 -- The trace of these rows was written, and they were tallied; or after a fault a beginning of it was. The report's counts
 -- are full only where there are so many rows.
@@ -73,4 +73,4 @@ pub record HasEnded (s : Setup) (relay : Relay) (held_old held_new : Option (Lis
   pub taker : IsTaker relay ended.taker
   pub last : OnOk ended.written (has_last (taken_by ended.taker) ≡ true)
   pub written : HasWritten s (rows_in (taken_by ended.taker)) held_old held_new ended.tallied.tallies ended.written
-  pub failures : failed_new ≡ failed_old + failures_of ended.written
+  pub failures : failed_new ≡ failed_old + sink_failures ended.written

@@ -5,7 +5,8 @@ ghost use Rattle.member.specs.Opening.{opening};
 ghost use Rattle.worker_queue.specs.SetOf.{set_of};
 ghost use Rattle.windows.specs.WorldOf.{world_of};
 ghost use Rattle.windows.specs.Admitting.{opened_below};
-ghost use Rattle.exchange.specs.Parts.{nobody, part_number, StandFor};
+ghost use Rattle.horizons.specs.Between.{part_number};
+ghost use Rattle.exchange.specs.Parts.{nobody, StandFor};
 ghost use Rattle.exchange.specs.Wheels.{wheel_set};
 
 use base::{MemberId, Memory};

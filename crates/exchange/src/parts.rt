@@ -8,7 +8,8 @@ ghost use Rattle.windows.specs.Parts.{for_own, is_in};
 ghost use Rattle.windows.specs.WorldOf.{world_of};
 ghost use Rattle.std.specs.Option.{option_map};
 ghost use Rattle.links.specs.Least.{lesser_of};
-ghost use Rattle.exchange.specs.Parts.{part_number, IsLeastMoment, HaveTheirMembers, HaveCome};
+ghost use Rattle.horizons.specs.Between.{part_number};
+ghost use Rattle.exchange.specs.Parts.{IsLeastMoment, HaveTheirMembers, HaveCome};
 
 use base::{Key, Memory, Moment};
 use member::Event;

@@ -2,7 +2,7 @@ ghost use Rattle.std.specs.Prelude.{◌≡◌, ◌≢◌, ◌⊎◌, ◌++◌, [
 ghost use Rattle.trace.specs.Text.{NamesMembers};
 ghost use Rattle.relay.specs.Lots.{rows_in, has_last};
 ghost use Rattle.relay.specs.Seats.{sent_by, IsSender};
-ghost use Rattle.exchange.specs.Promise.{IsBeginning};
+ghost use Rattle.windows.specs.Play.{IsBeginning};
 ghost use Rattle.exchange.specs.Streams.{rows_so_far, IsOpen, MaySend};
 
 use crate::driver::Driven;

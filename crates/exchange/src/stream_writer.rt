@@ -5,7 +5,7 @@ ghost use Rattle.trace.specs.Sinks.{AppendsBeginning};
 ghost use Rattle.trace.specs.declared.row.Row.{Row as ARow};
 ghost use Rattle.relay.specs.Lots.{rows_in, has_last};
 ghost use Rattle.relay.specs.Seats.{scenario_of, taken_by, IsTaker};
-ghost use Rattle.exchange.specs.Streams.{failures_of, HasWritten};
+ghost use Rattle.exchange.specs.Streams.{sink_failures, HasWritten};
 
 use crate::outputs::fault_of;
 use crate::stream::lost;
@@ -16,6 +16,7 @@ use scenario::Scenario;
 use std::alloc::Global;
 use std::sync::Wait;
 use trace::{Row, Sink, write_head, write_rows};
+use workers::first_of;
 
 /// Writes the trace as its rows come over the relay, up to the last batch, and tallies them. After a fault it
 /// goes on receiving, so that whoever sends can come to an end, but puts nothing more.
@@ -39,7 +40,7 @@ pub(crate) fn write_stream<A: Sink>(
     ensures seat { IsTaker relay.now seat.new }
     ensures last { OnOk result (has_last (taken_by seat.new) ≡ true) }
     ensures written { HasWritten scenario.now (rows_in (taken_by seat.new)) (A.held trace.old) (A.held trace.new) tallied.new.tallies result }
-    ensures failures { A.failed trace.new ≡ A.failed trace.old + failures_of result }
+    ensures failures { A.failed trace.new ≡ A.failed trace.old + sink_failures result }
 {
     let mut so_far = begin(trace);
     for _ in rt.forever() {
@@ -58,7 +59,7 @@ pub(crate) fn write_stream<A: Sink>(
 fn begin<A: Sink>(trace: &mut A) -> Result<(), Fault>
     requires countable { A.failed trace.old < 2 ^ 63 }
     ensures written { (s : _) → HasWritten s [] (A.held trace.old) (A.held trace.new) [] result }
-    ensures failures { A.failed trace.new ≡ A.failed trace.old + failures_of result }
+    ensures failures { A.failed trace.new ≡ A.failed trace.old + sink_failures result }
 {
     match write_head(trace) {
         Ok(()) => Ok(()),
@@ -79,7 +80,7 @@ fn go_on<A: Sink>(
     requires countable { OnOk so_far (A.failed trace.old < 2 ^ 63) }
     ensures written { (before : List ARow) (held : Option (List ℕ)) → HasWritten scenario.now before held (A.held trace.old) tallied.old.tallies so_far
         → HasWritten scenario.now (before ++ rows.now) held (A.held trace.new) tallied.new.tallies result }
-    ensures failures { A.failed trace.new + failures_of so_far ≡ A.failed trace.old + failures_of result }
+    ensures failures { A.failed trace.new + sink_failures so_far ≡ A.failed trace.old + sink_failures result }
 {
     match so_far {
         Ok(()) => write_batch(alloc, rows, scenario, tallied, trace),
@@ -101,7 +102,7 @@ fn write_batch<A: Sink>(
     ensures tallied { OnOk result (tallied.new.tallies ≡ tallied.old.tallies ++ rows.now) }
     ensures part { OnErr result (AppendsBeginning (A.held trace.old) (A.held trace.new) (rows_text scenario.now rows.now)) }
     ensures worn { IsErrOf result Fault.Worn → 2 ^ 63 ≤ length (tallied.old.tallies ++ rows.now) }
-    ensures failures { A.failed trace.new ≡ A.failed trace.old + failures_of result }
+    ensures failures { A.failed trace.new ≡ A.failed trace.old + sink_failures result }
 {
     match tally(rows, scenario, tallied) {
         Ok(()) => {}
@@ -130,13 +131,14 @@ fn tally(rows: &[Row], scenario: &Scenario, tallied: &mut Tallied) -> Result<(),
 }
 
 /// Of the faults of the two sides of a run the first in the order in which faults are answered.
+#[tactic(auto, using(crate::proofs::Faults::first_either, crate::proofs::Faults::first_relay))]
 pub(crate) fn first_fault(
     driven: Result<(), Fault>,
     written: Result<(), Fault>,
 ) -> Result<(), Fault>
     ensures both { OnOk result (IsOk driven × IsOk written) }
     ensures one { IfErr result (λ fault. IsErrOf driven fault ⊎ IsErrOf written fault) }
-    ensures relay { IsErrOf result Fault.Relay → failures_of written ≡ 0 }
+    ensures relay { IsErrOf result Fault.Relay → sink_failures written ≡ 0 }
 {
     match driven {
         Ok(()) => written,
@@ -144,25 +146,5 @@ pub(crate) fn first_fault(
             Ok(()) => Err(fault),
             Err(other) => Err(first_of(fault, other)),
         },
-    }
-}
-
-/// Of two faults the first in that order.
-fn first_of(one: Fault, other: Fault) -> Fault
-    ensures either { (result ≡ one) ⊎ (result ≡ other) }
-    ensures relay { result ≡ Fault.Relay → other ≡ Fault.Relay }
-{
-    match one {
-        Fault::Memory => one,
-        Fault::Worn => match other {
-            Fault::Memory => other,
-            _ => one,
-        },
-        Fault::Write => match other {
-            Fault::Memory => other,
-            Fault::Worn => other,
-            _ => one,
-        },
-        Fault::Relay => other,
     }
 }

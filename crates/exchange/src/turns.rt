@@ -2,7 +2,8 @@ ghost use Rattle.std.specs.Prelude.{◌≡◌, ◌<◌, ◌++◌, map, flat_map,
 ghost use Rattle.scenario.specs.Setup.{member_count};
 ghost use Rattle.links.specs.Arrival.{AreLinksOf};
 ghost use Rattle.windows.specs.declared.part.Done.{Done as ADone};
-ghost use Rattle.exchange.specs.Parts.{part_number, Came, HaveExchanged};
+ghost use Rattle.horizons.specs.Between.{part_number};
+ghost use Rattle.exchange.specs.Parts.{Came, HaveExchanged};
 ghost use Rattle.exchange.specs.Course.{IsCourse};
 
 use crate::parts::{deliver, least_moment};

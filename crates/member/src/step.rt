@@ -157,7 +157,7 @@ impl Member {
             scenario,
             links,
         };
-        let mut turn = Turn::new(alloc);
+        let mut turn = Turn::over(alloc, out);
         self.handle(&mut turn, &here, &content)?;
         append(turn, out)
     }

@@ -6,12 +6,13 @@ ghost use Rattle.member.specs.Worn.{IsWorn};
 ghost use Rattle.member.specs.declared.turn.StepError.TheVariants as step_error;
 
 use crate::content::Content;
-use crate::event::Event;
+use crate::event::{Effects, Event};
 use crate::here::Here;
 use crate::member::Member;
 use base::limits::COUNTER_LIMIT;
 use base::{Key, MemberId, Memory, Moment};
 use std::alloc::{AllocError, AllocFailed, Global};
+use std::mem::replace;
 use trace::{Row, What};
 
 /// Why a step was refused.
@@ -55,15 +56,31 @@ pub(crate) struct Turn {
 }
 
 impl Turn {
-    /// A turn that has made nothing.
-    pub(crate) fn new(alloc: Global) -> Self
+    /// A turn that has made nothing. Its lists are those of `out` where they are empty, so that what these
+    /// have room for takes no memory again.
+    pub(crate) fn over(alloc: Global, out: &mut Effects) -> Self
         ensures events { result.events.items ≡ [] }
         ensures rows { result.rows.items ≡ [] }
+        ensures same_events { out.new.events.items ≡ out.old.events.items }
+        ensures same_rows { out.new.rows.items ≡ out.old.rows.items }
     {
         Turn {
-            events: Vec::new(alloc),
-            rows: Vec::new(alloc),
+            events: empty_list(alloc, &mut out.events),
+            rows: empty_list(alloc, &mut out.rows),
         }
+    }
+}
+
+/// An empty list: this one where it is empty, which is then left without its room, or else a new one.
+fn empty_list<T: Drop>(alloc: Global, list: &mut Vec<T>) -> Vec<T>
+    ensures empty { result.items ≡ [] }
+    ensures same { list.new.items ≡ list.old.items }
+{
+    let nothing = Vec::new(alloc);
+    if list.is_empty() {
+        replace(list, nothing)
+    } else {
+        nothing
     }
 }
 

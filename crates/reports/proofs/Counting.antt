@@ -12,13 +12,13 @@ use Rattle.trace.specs.contracts.row.What.{the_type}
 use Rattle.trace.specs.declared.row.What.{What}
 use Rattle.trace.specs.declared.row.What.TheVariants as what
 use Rattle.trace.specs.declared.row.Row.{Row}
-use Rattle.reports.specs.Rows.{tells, tells_lost, count_of, losses_of, worst_health}
-use Rattle.reports.specs.Counts.{place_of}
+use Rattle.reports.specs.Rows.{has_kind, tells_lost, count_of, losses_of, worst_health}
+use Rattle.reports.specs.Counts.{count_place}
 use Rattle.reports.proofs.Detections.{and-true}
 
 -- ---- places of kinds
 
-pub place_within : (kind : What) → place_of kind < 17
+pub place_within : (kind : What) → count_place kind < 17
 place_within what.Start = lit< tt
 place_within what.Crash = lit< tt
 place_within what.Joined = lit< tt
@@ -43,30 +43,30 @@ kinds = what.Start ∷ what.Crash ∷ what.Joined ∷ what.Join ∷ what.Welcome
 abbrev kind_at : ℕ → What
 kind_at place = get_or kinds place what.Start
 
-kind_at-place_of : (kind : What) → kind_at (place_of kind) ≡ kind
-kind_at-place_of what.Start = refl
-kind_at-place_of what.Crash = refl
-kind_at-place_of what.Joined = refl
-kind_at-place_of what.Join = refl
-kind_at-place_of what.Welcome = refl
-kind_at-place_of what.Ping = refl
-kind_at-place_of what.PingReq = refl
-kind_at-place_of what.Ack = refl
-kind_at-place_of what.Nack = refl
-kind_at-place_of what.Fail = refl
-kind_at-place_of what.Health = refl
-kind_at-place_of what.Alive = refl
-kind_at-place_of what.Suspect = refl
-kind_at-place_of what.Confirm = refl
-kind_at-place_of what.Accuse = refl
-kind_at-place_of what.Refute = refl
-kind_at-place_of what.Dead = refl
+kind_at-count_place : (kind : What) → kind_at (count_place kind) ≡ kind
+kind_at-count_place what.Start = refl
+kind_at-count_place what.Crash = refl
+kind_at-count_place what.Joined = refl
+kind_at-count_place what.Join = refl
+kind_at-count_place what.Welcome = refl
+kind_at-count_place what.Ping = refl
+kind_at-count_place what.PingReq = refl
+kind_at-count_place what.Ack = refl
+kind_at-count_place what.Nack = refl
+kind_at-count_place what.Fail = refl
+kind_at-count_place what.Health = refl
+kind_at-count_place what.Alive = refl
+kind_at-count_place what.Suspect = refl
+kind_at-count_place what.Confirm = refl
+kind_at-count_place what.Accuse = refl
+kind_at-count_place what.Refute = refl
+kind_at-count_place what.Dead = refl
 
 -- kinds of one place are one
-one_place : (a b : What) → place_of a ≡ place_of b → a ≡ b
-one_place a b same = sym (kind_at-place_of a) ∙ ap kind_at same ∙ kind_at-place_of b
+one_place : (a b : What) → count_place a ≡ count_place b → a ≡ b
+one_place a b same = sym (kind_at-count_place a) ∙ ap kind_at same ∙ kind_at-count_place b
 
-pub none_counted : (kind : What) → slice_index (replicate 17 0) (place_of kind) ≡ 0
+pub none_counted : (kind : What) → slice_index (replicate 17 0) (count_place kind) ≡ 0
 none_counted what.Start = refl
 none_counted what.Crash = refl
 none_counted what.Joined = refl
@@ -88,44 +88,44 @@ none_counted what.Dead = refl
 -- ---- one row more
 
 abbrev raised : List ℕ → What → Bool → List ℕ
-raised counts kind does_count = if does_count then slice_set counts (place_of kind) (slice_index counts (place_of kind) + 1) else counts
+raised counts kind does_count = if does_count then slice_set counts (count_place kind) (slice_index counts (count_place kind) + 1) else counts
 
-raised_at : (counts : List ℕ) (row : Row) (kind : What) (n : ℕ) → length counts ≡ 17 → slice_index counts (place_of kind) ≡ n
-    → slice_index (raised counts row.what true) (place_of kind) ≡ n + cond (tells kind row && true) 1 0
+raised_at : (counts : List ℕ) (row : Row) (kind : What) (n : ℕ) → length counts ≡ 17 → slice_index counts (count_place kind) ≡ n
+    → slice_index (raised counts row.what true) (count_place kind) ≡ n + cond (has_kind kind row && true) 1 0
 raised_at counts row kind n long is =
     elim (cases_Bool (sameb the_type row.what kind)) [
       | inl same ↦
           rw same (let one : row.what ≡ kind = same_true the_type tt row.what kind same in
-          rw one (get_or-set_same counts (place_of kind) (slice_index counts (place_of kind) + 1) 0 (subst (λ n. place_of kind < n) (sym long) (place_within kind)) ∙ ap (λ m. m + 1) is))
+          rw one (get_or-set_same counts (count_place kind) (slice_index counts (count_place kind) + 1) 0 (subst (λ n. count_place kind < n) (sym long) (place_within kind)) ∙ ap (λ m. m + 1) is))
       | inr other ↦
-          rw other (get_or-set_other counts (place_of row.what) (place_of kind) (slice_index counts (place_of row.what) + 1) 0
+          rw other (get_or-set_other counts (count_place row.what) (count_place kind) (slice_index counts (count_place row.what) + 1) 0
           (λ at. same_false the_type row.what kind other (sym (one_place kind row.what at))) ∙ is ∙ sym (add-zero n))
     ]
 
-raised_if : (does_count : Bool) (counts : List ℕ) (row : Row) (kind : What) (n : ℕ) → length counts ≡ 17 → slice_index counts (place_of kind) ≡ n
-    → slice_index (raised counts row.what does_count) (place_of kind) ≡ n + cond (tells kind row && does_count) 1 0
+raised_if : (does_count : Bool) (counts : List ℕ) (row : Row) (kind : What) (n : ℕ) → length counts ≡ 17 → slice_index counts (count_place kind) ≡ n
+    → slice_index (raised counts row.what does_count) (count_place kind) ≡ n + cond (has_kind kind row && does_count) 1 0
 raised_if true counts row kind n long is = raised_at counts row kind n long is
-raised_if false counts row kind n long is = is ∙ sym (ap (λ b. n + cond b 1 0) (and-false (tells kind row)) ∙ add-zero n)
+raised_if false counts row kind n long is = is ∙ sym (ap (λ b. n + cond b 1 0) (and-false (has_kind kind row)) ∙ add-zero n)
 
 -- a count of rows with one more
 count-push : (test : Row → Bool) (rows : List Row) (row : Row) → count_by test (rows ++ row ∷ []) ≡ count_by test rows + cond (test row) 1 0
 count-push test rows row = sum_by_push (λ r. cond (test r) 1 0) rows row
 
-pub told-push : (counts new : List ℕ) (rows : List Row) (row : Row) (place : ℕ) → length counts ≡ 17 → place ≡ place_of row.what
+pub told-push : (counts new : List ℕ) (rows : List Row) (row : Row) (place : ℕ) → length counts ≡ 17 → place ≡ count_place row.what
     → new ≡ (if true then slice_set counts place (slice_index counts place + 1) else counts)
-    → ((kind : What) → slice_index counts (place_of kind) ≡ count_of kind rows)
-    → (kind : What) → slice_index new (place_of kind) ≡ count_of kind (rows ++ row ∷ [])
+    → ((kind : What) → slice_index counts (count_place kind) ≡ count_of kind rows)
+    → (kind : What) → slice_index new (count_place kind) ≡ count_of kind (rows ++ row ∷ [])
 told-push counts new rows row place long at is so_far kind =
-    ap (λ l. slice_index l (place_of kind)) (is ∙ ap (λ p. if true then slice_set counts p (slice_index counts p + 1) else counts) at)
+    ap (λ l. slice_index l (count_place kind)) (is ∙ ap (λ p. if true then slice_set counts p (slice_index counts p + 1) else counts) at)
     ∙ raised_if true counts row kind (count_of kind rows) long (so_far kind)
-    ∙ ap (λ b. count_of kind rows + cond b 1 0) (and-true (tells kind row)) ∙ sym (count-push (tells kind) rows row)
+    ∙ ap (λ b. count_of kind rows + cond b 1 0) (and-true (has_kind kind row)) ∙ sym (count-push (has_kind kind) rows row)
 
-pub lost-push : (counts new : List ℕ) (rows : List Row) (row : Row) (place : ℕ) → length counts ≡ 17 → place ≡ place_of row.what
+pub lost-push : (counts new : List ℕ) (rows : List Row) (row : Row) (place : ℕ) → length counts ≡ 17 → place ≡ count_place row.what
     → new ≡ (if row.lost then slice_set counts place (slice_index counts place + 1) else counts)
-    → ((kind : What) → slice_index counts (place_of kind) ≡ losses_of kind rows)
-    → (kind : What) → slice_index new (place_of kind) ≡ losses_of kind (rows ++ row ∷ [])
+    → ((kind : What) → slice_index counts (count_place kind) ≡ losses_of kind rows)
+    → (kind : What) → slice_index new (count_place kind) ≡ losses_of kind (rows ++ row ∷ [])
 lost-push counts new rows row place long at is so_far kind =
-    ap (λ l. slice_index l (place_of kind)) (is ∙ ap (λ p. if row.lost then slice_set counts p (slice_index counts p + 1) else counts) at)
+    ap (λ l. slice_index l (count_place kind)) (is ∙ ap (λ p. if row.lost then slice_set counts p (slice_index counts p + 1) else counts) at)
     ∙ raised_if row.lost counts row kind (losses_of kind rows) long (so_far kind) ∙ sym (count-push (tells_lost kind) rows row)
 
 -- ---- the worst health
@@ -146,7 +146,7 @@ health-one : (test : Bool) (rows : List Row) (row : Row)
 health-one true rows row = ap (λ l. unwrap_or (reduce max l) 0) (map-append value_in rows (row ∷ [])) ∙ greatest-push (map value_in rows) row.value
 health-one false rows row = ap (λ l. unwrap_or (reduce max (map value_in l)) 0) (append-nil rows)
 
-pub health-push : (rows : List Row) (row : Row) (old new : ℕ) → new ≡ (if tells what.Health row then max old row.value else old) → old ≡ worst_health rows → new ≡ worst_health (rows ++ row ∷ [])
+pub health-push : (rows : List Row) (row : Row) (old new : ℕ) → new ≡ (if has_kind what.Health row then max old row.value else old) → old ≡ worst_health rows → new ≡ worst_health (rows ++ row ∷ [])
 health-push rows row old new is so_far =
-    is ∙ ap (λ n. if tells what.Health row then max n row.value else n) so_far
-    ∙ sym (ap (λ l. unwrap_or (reduce max (map value_in l)) 0) (filter-append (tells what.Health) rows (row ∷ [])) ∙ health-one (tells what.Health row) (filter (tells what.Health) rows) row)
+    is ∙ ap (λ n. if has_kind what.Health row then max n row.value else n) so_far
+    ∙ sym (ap (λ l. unwrap_or (reduce max (map value_in l)) 0) (filter-append (has_kind what.Health) rows (row ∷ [])) ∙ health-one (has_kind what.Health row) (filter (has_kind what.Health) rows) row)

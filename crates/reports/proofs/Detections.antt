@@ -13,7 +13,7 @@ use Rattle.trace.specs.declared.row.What.{What}
 use Rattle.trace.specs.declared.row.What.TheVariants as what
 use Rattle.trace.specs.declared.row.Row.{Row}
 use Rattle.reports.specs.declared.crash.Detection.{Detection}
-use Rattle.reports.specs.Rows.{tells, is_about, tells_of}
+use Rattle.reports.specs.Rows.{has_kind, is_about, tells_of}
 use Rattle.reports.specs.Crashes.{moment_of, detection_of}
 use Rattle.reports.specs.Failures.{moment_if, detection_if, detection_with}
 
@@ -61,21 +61,21 @@ detection-push member rows row =
 
 -- a row about others tells nothing of it
 pub tells_of-other : (kind : What) (member : ℕ) (row : Row) → is_about member row ≡ false → tells_of kind member row ≡ false
-tells_of-other kind member row other = ap (λ b. tells kind row && b) other ∙ and-false (tells kind row)
+tells_of-other kind member row other = ap (λ b. has_kind kind row && b) other ∙ and-false (has_kind kind row)
 
 pub and-true : (b : Bool) → (b && true) ≡ b
 and-true true = refl
 and-true false = refl
 
 -- one about it tells of it what it tells
-pub tells_of-it : (kind : What) (member : ℕ) (row : Row) → is_about member row ≡ true → tells_of kind member row ≡ tells kind row
-tells_of-it kind member row it = ap (λ b. tells kind row && b) it ∙ and-true (tells kind row)
+pub tells_of-it : (kind : What) (member : ℕ) (row : Row) → is_about member row ≡ true → tells_of kind member row ≡ has_kind kind row
+tells_of-it kind member row it = ap (λ b. has_kind kind row && b) it ∙ and-true (has_kind kind row)
 
-pub tells-same : (kind other : What) (row : Row) → row.what ≡ kind → tells other row ≡ sameb the_type kind other
-tells-same kind other row is = ap (λ w. sameb the_type w other) is
+pub has_kind-same : (kind other : What) (row : Row) → row.what ≡ kind → has_kind other row ≡ sameb the_type kind other
+has_kind-same kind other row is = ap (λ w. sameb the_type w other) is
 
-pub tells-not : (kind : What) (row : Row) → (row.what ≡ kind → ⊥) → tells kind row ≡ false
-tells-not kind row not_it = false_same the_type tt row.what kind not_it
+pub has_kind-not : (kind : What) (row : Row) → (row.what ≡ kind → ⊥) → has_kind kind row ≡ false
+has_kind-not kind row not_it = false_same the_type tt row.what kind not_it
 
 -- ---- what is then told
 

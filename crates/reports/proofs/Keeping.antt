@@ -11,7 +11,7 @@ use Rattle.trace.specs.declared.row.What.TheVariants as what
 use Rattle.trace.specs.declared.row.Row.{Row}
 use Rattle.reports.specs.declared.crash.CrashTold.{CrashTold}
 use Rattle.reports.specs.declared.false_positives.Maker.{Maker}
-use Rattle.reports.specs.Rows.{tells, is_about, tells_of}
+use Rattle.reports.specs.Rows.{has_kind, is_about, tells_of}
 use Rattle.reports.specs.Crashes.{crashes_of}
 use Rattle.reports.specs.FalsePositives.{crashed_in, is_about_one}
 use Rattle.reports.specs.Failures.{crash_with, crash_at, is_about_crash, maker_of, makers_of}
@@ -24,7 +24,7 @@ untold : (row : Row) (crash : CrashTold) → tells_of what.Suspect crash.member 
 untold row crash s c = ap (λ d. record crash { detection = d }) (sym (same_detection crash.member row crash.detection s c))
 
 -- a row that is no claim tells nothing of any crash
-unclaimed : (row : Row) (crashes : List CrashTold) → tells what.Suspect row ≡ false → tells what.Confirm row ≡ false → map (crash_with row) crashes ≡ crashes
+unclaimed : (row : Row) (crashes : List CrashTold) → has_kind what.Suspect row ≡ false → has_kind what.Confirm row ≡ false → map (crash_with row) crashes ≡ crashes
 unclaimed row [] s c = refl
 unclaimed row (crash ∷ crashes) s c =
     ap (λ x. x ∷ map (crash_with row) crashes) (untold row crash (ap (λ b. b && is_about crash.member row) s) (ap (λ b. b && is_about crash.member row) c))
@@ -77,7 +77,7 @@ few_here row these now i x lt so_far few =
 -- ---- kinds of rows
 
 -- the claim of which a row doesn't tell has no new maker
-pub other_claim : (claim : What) (rows : List Row) (row : Row) → tells claim row ≡ false → makers_of claim (rows ++ row ∷ []) ≡ makers_of claim rows
+pub other_claim : (claim : What) (rows : List Row) (row : Row) → has_kind claim row ≡ false → makers_of claim (rows ++ row ∷ []) ≡ makers_of claim rows
 other_claim claim rows row other =
     makers_of-push claim rows row ∙ ap (λ b. makers_of claim rows ++ cond (b && not (is_about_one (crashed_in rows) row)) (maker_of row ∷ []) []) other ∙ append-nil (makers_of claim rows)
 
@@ -99,7 +99,7 @@ not_then true maker = refl
 not_then false maker = refl
 
 -- a claim has a new maker, if it is about none of those who crashed
-pub own_claim : (claim : What) (rows : List Row) (row : Row) (crashes : List CrashTold) (old new : List Maker) → tells claim row ≡ true → crashes ≡ crashes_of rows
+pub own_claim : (claim : What) (rows : List Row) (row : Row) (crashes : List CrashTold) (old new : List Maker) → has_kind claim row ≡ true → crashes ≡ crashes_of rows
     → new ≡ old ++ (if is_about_crash crashes row then [] else maker_of row ∷ []) → old ≡ makers_of claim rows → new ≡ makers_of claim (rows ++ row ∷ [])
 own_claim claim rows row crashes old new told are is so_far =
     is ∙ ap (λ l. l ++ (if is_about_crash crashes row then [] else maker_of row ∷ [])) so_far
@@ -109,16 +109,16 @@ own_claim claim rows row crashes old new told are is so_far =
     ∙ ap (λ l. makers_of claim rows ++ l) (not_then (is_about_crash (crashes_of rows) row) (maker_of row)))
 
 -- a row that isn't of a crash makes none
-pub no_crash : (rows : List Row) (row : Row) → tells what.Crash row ≡ false → crashes_of (rows ++ row ∷ []) ≡ map (crash_with row) (crashes_of rows)
+pub no_crash : (rows : List Row) (row : Row) → has_kind what.Crash row ≡ false → crashes_of (rows ++ row ∷ []) ≡ map (crash_with row) (crashes_of rows)
 no_crash rows row other =
     crashes_of-push rows row ∙ ap (λ b. map (crash_with row) (crashes_of rows) ++ cond b (crash_at row ∷ []) []) other ∙ append-nil (map (crash_with row) (crashes_of rows))
 
 -- a row that is no claim leaves the crashes
-pub same_crashes : (rows : List Row) (row : Row) → tells what.Crash row ≡ false → tells what.Suspect row ≡ false → tells what.Confirm row ≡ false → crashes_of (rows ++ row ∷ []) ≡ crashes_of rows
+pub same_crashes : (rows : List Row) (row : Row) → has_kind what.Crash row ≡ false → has_kind what.Suspect row ≡ false → has_kind what.Confirm row ≡ false → crashes_of (rows ++ row ∷ []) ≡ crashes_of rows
 same_crashes rows row crash suspect confirm = no_crash rows row crash ∙ unclaimed row (crashes_of rows) suspect confirm
 
 -- a row of a crash adds it
-pub one_crash : (rows : List Row) (row : Row) → tells what.Crash row ≡ true → tells what.Suspect row ≡ false → tells what.Confirm row ≡ false → crashes_of (rows ++ row ∷ []) ≡ crashes_of rows ++ crash_at row ∷ []
+pub one_crash : (rows : List Row) (row : Row) → has_kind what.Crash row ≡ true → has_kind what.Suspect row ≡ false → has_kind what.Confirm row ≡ false → crashes_of (rows ++ row ∷ []) ≡ crashes_of rows ++ crash_at row ∷ []
 one_crash rows row crash suspect confirm =
     crashes_of-push rows row ∙ ap (λ b. map (crash_with row) (crashes_of rows) ++ cond b (crash_at row ∷ []) []) crash
     ∙ ap (λ l. l ++ crash_at row ∷ []) (unclaimed row (crashes_of rows) suspect confirm)

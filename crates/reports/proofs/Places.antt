@@ -5,7 +5,7 @@ use Rattle.std.proofs.lemmas.List.Elements.{All-nil, All-cons, All-head, All-tai
 use Rattle.scenario.specs.Setup.{Setup, member_count}
 use Rattle.trace.specs.declared.row.Row.{Row}
 use Rattle.trace.specs.Text.{NamesMembers}
-use Rattle.reports.specs.Rows.{placed, placed_after}
+use Rattle.reports.specs.Rows.{rows_in_place, placed_after}
 use Rattle.reports.specs.Crashes.{crash_told, is_crash, crashes_of}
 
 -- what holds of each row holds of each in its place
@@ -18,6 +18,6 @@ All-placed_after P earlier (row ∷ later) all =
 -- those who crash are members where the rows name members alone
 pub crashed_are_members : (s : Setup) (rows : List Row) → All (NamesMembers s) rows → All (λ crash. crash.member < member_count s) (crashes_of rows)
 crashed_are_members s rows named =
-    All-map (λ crash. crash.member < member_count s) crash_told (filter is_crash (placed rows))
-    (All-filter is_crash (λ p. p.row.member < member_count s) (placed rows)
+    All-map (λ crash. crash.member < member_count s) crash_told (filter is_crash (rows_in_place rows))
+    (All-filter is_crash (λ p. p.row.member < member_count s) (rows_in_place rows)
     (All-placed_after (λ row. row.member < member_count s) [] rows (All-weaker (NamesMembers s) (λ row. row.member < member_count s) (λ row names. names.member) rows named)))

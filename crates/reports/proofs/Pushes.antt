@@ -10,7 +10,7 @@ use Rattle.trace.specs.declared.row.Row.{Row}
 use Rattle.reports.specs.declared.crash.Detection.{Detection}
 use Rattle.reports.specs.declared.crash.CrashTold.{CrashTold}
 use Rattle.reports.specs.declared.false_positives.Maker.{Maker}
-use Rattle.reports.specs.Rows.{Placed, placed, placed_after, tells, tells_of}
+use Rattle.reports.specs.Rows.{Placed, rows_in_place, placed_after, has_kind, tells_of}
 use Rattle.reports.specs.Crashes.{crash_told, is_crash, crashes_of}
 use Rattle.reports.specs.FalsePositives.{crashed_in, is_false_claim, is_false_positive}
 use Rattle.reports.specs.Failures.{crash_with, crash_at, maker_of, makers_of}
@@ -46,11 +46,11 @@ kept-later test row same (p ∷ ps) =
     ∙ kept-one (test p) row p (filter test (map (with_later row) ps)) (filter test ps) (kept-later test row same ps)
 
 kept-push : (test : Placed → Bool) (rows : List Row) (row : Row) → ((p : Placed) → test (with_later row p) ≡ test p)
-    → filter test (placed (rows ++ row ∷ [])) ≡ map (with_later row) (filter test (placed rows)) ++ cond (test (last_placed rows row)) (last_placed rows row ∷ []) []
+    → filter test (rows_in_place (rows ++ row ∷ [])) ≡ map (with_later row) (filter test (rows_in_place rows)) ++ cond (test (last_placed rows row)) (last_placed rows row ∷ []) []
 kept-push test rows row same =
     ap (filter test) (placed_after-push [] rows row)
-    ∙ filter-append test (map (with_later row) (placed rows)) (last_placed rows row ∷ [])
-    ∙ ap (λ l. l ++ cond (test (last_placed rows row)) (last_placed rows row ∷ []) []) (kept-later test row same (placed rows))
+    ∙ filter-append test (map (with_later row) (rows_in_place rows)) (last_placed rows row ∷ [])
+    ∙ ap (λ l. l ++ cond (test (last_placed rows row)) (last_placed rows row ∷ []) []) (kept-later test row same (rows_in_place rows))
 
 -- what is made of the last row, where it is kept
 made-one : {X : Type 0} (make : Placed → X) (keep : Bool) (p : Placed) → map make (cond keep (p ∷ []) []) ≡ cond keep (make p ∷ []) []
@@ -68,12 +68,12 @@ crashes-later row (p ∷ ps) =
     ap (λ d. crash p.row.member p.row.at d ∷ map crash_told (map (with_later row) ps)) (detection-push p.row.member p.later row)
     ∙ ap (λ cs. crash_with row (crash_told p) ∷ cs) (crashes-later row ps)
 
-pub crashes_of-push : (rows : List Row) (row : Row) → crashes_of (rows ++ row ∷ []) ≡ map (crash_with row) (crashes_of rows) ++ cond (tells what.Crash row) (crash_at row ∷ []) []
+pub crashes_of-push : (rows : List Row) (row : Row) → crashes_of (rows ++ row ∷ []) ≡ map (crash_with row) (crashes_of rows) ++ cond (has_kind what.Crash row) (crash_at row ∷ []) []
 crashes_of-push rows row =
     ap (map crash_told) (kept-push is_crash rows row (λ p. refl))
-    ∙ map-append crash_told (map (with_later row) (filter is_crash (placed rows))) (cond (tells what.Crash row) (last_placed rows row ∷ []) [])
-    ∙ ap (λ l. l ++ map crash_told (cond (tells what.Crash row) (last_placed rows row ∷ []) [])) (crashes-later row (filter is_crash (placed rows)))
-    ∙ ap (λ l. map (crash_with row) (crashes_of rows) ++ l) (made-one crash_told (tells what.Crash row) (last_placed rows row))
+    ∙ map-append crash_told (map (with_later row) (filter is_crash (rows_in_place rows))) (cond (has_kind what.Crash row) (last_placed rows row ∷ []) [])
+    ∙ ap (λ l. l ++ map crash_told (cond (has_kind what.Crash row) (last_placed rows row ∷ []) [])) (crashes-later row (filter is_crash (rows_in_place rows)))
+    ∙ ap (λ l. map (crash_with row) (crashes_of rows) ++ l) (made-one crash_told (has_kind what.Crash row) (last_placed rows row))
 
 -- ---- who made false claims
 
@@ -88,8 +88,8 @@ pub makers_of-push : (claim : What) (rows : List Row) (row : Row)
     → makers_of claim (rows ++ row ∷ []) ≡ makers_of claim rows ++ cond (is_false_claim claim (crashed_in rows) row) (maker_of row ∷ []) []
 makers_of-push claim rows row =
     ap (map placed_maker) (kept-push (is_false_positive claim) rows row (λ p. refl))
-    ∙ map-append placed_maker (map (with_later row) (filter (is_false_positive claim) (placed rows))) (cond (is_false_claim claim (crashed_in rows) row) (last_placed rows row ∷ []) [])
-    ∙ ap (λ l. l ++ map placed_maker (cond (is_false_claim claim (crashed_in rows) row) (last_placed rows row ∷ []) [])) (makers-later row (filter (is_false_positive claim) (placed rows)))
+    ∙ map-append placed_maker (map (with_later row) (filter (is_false_positive claim) (rows_in_place rows))) (cond (is_false_claim claim (crashed_in rows) row) (last_placed rows row ∷ []) [])
+    ∙ ap (λ l. l ++ map placed_maker (cond (is_false_claim claim (crashed_in rows) row) (last_placed rows row ∷ []) [])) (makers-later row (filter (is_false_positive claim) (rows_in_place rows)))
     ∙ ap (λ l. makers_of claim rows ++ l) (made-one placed_maker (is_false_claim claim (crashed_in rows) row) (last_placed rows row))
 
 -- ---- who crashed
@@ -108,7 +108,7 @@ crashed-one false p ps rows is = is
 crashed_after : (earlier rows : List Row) → map crash_member (map crash_told (filter is_crash (placed_after earlier rows))) ≡ crashed_in rows
 crashed_after earlier [] = refl
 crashed_after earlier (row ∷ rows) =
-    crashed-one (tells what.Crash row) (record { earlier = earlier; row = row; later = rows }) (filter is_crash (placed_after (earlier ++ row ∷ []) rows)) (filter (tells what.Crash) rows)
+    crashed-one (has_kind what.Crash row) (record { earlier = earlier; row = row; later = rows }) (filter is_crash (placed_after (earlier ++ row ∷ []) rows)) (filter (has_kind what.Crash) rows)
     (crashed_after (earlier ++ row ∷ []) rows)
 
 -- those whose crashes there are are those who crash
@@ -125,7 +125,7 @@ few_later n earlier (row ∷ rows) few =
 -- a crash has no more confirmers than there are rows
 pub few_confirmers : (rows : List Row) → length rows < 2 ^ 63 → All (λ c. c.detection.confirmers < 2 ^ 63) (crashes_of rows)
 few_confirmers rows few =
-    All-map (λ c. c.detection.confirmers < 2 ^ 63) crash_told (filter is_crash (placed rows))
-    (All-filter is_crash (λ p. (crash_told p).detection.confirmers < 2 ^ 63) (placed rows)
+    All-map (λ c. c.detection.confirmers < 2 ^ 63) crash_told (filter is_crash (rows_in_place rows))
+    (All-filter is_crash (λ p. (crash_told p).detection.confirmers < 2 ^ 63) (rows_in_place rows)
     (All-weaker (λ p. length p.later ≤ length rows) (λ p. (crash_told p).detection.confirmers < 2 ^ 63)
-    (λ p later. omega (arith, later, few, count_by-le-length (tells_of what.Confirm p.row.member) p.later)) (placed rows) (few_later (length rows) [] rows (omega arith))))
+    (λ p later. omega (arith, later, few, count_by-le-length (tells_of what.Confirm p.row.member) p.later)) (rows_in_place rows) (few_later (length rows) [] rows (omega arith))))

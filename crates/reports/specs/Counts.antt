@@ -7,28 +7,28 @@ use Rattle.reports.specs.declared.counts.Counts.{Counts}
 use Rattle.reports.specs.Rows.{count_of, losses_of, worst_health}
 
 -- the place of a kind of row among the counts
-abbrev pub place_of : What → ℕ
-place_of what.Start = 0
-place_of what.Crash = 1
-place_of what.Joined = 2
-place_of what.Join = 3
-place_of what.Welcome = 4
-place_of what.Ping = 5
-place_of what.PingReq = 6
-place_of what.Ack = 7
-place_of what.Nack = 8
-place_of what.Fail = 9
-place_of what.Health = 10
-place_of what.Alive = 11
-place_of what.Suspect = 12
-place_of what.Confirm = 13
-place_of what.Accuse = 14
-place_of what.Refute = 15
-place_of what.Dead = 16
+abbrev pub count_place : What → ℕ
+count_place what.Start = 0
+count_place what.Crash = 1
+count_place what.Joined = 2
+count_place what.Join = 3
+count_place what.Welcome = 4
+count_place what.Ping = 5
+count_place what.PingReq = 6
+count_place what.Ack = 7
+count_place what.Nack = 8
+count_place what.Fail = 9
+count_place what.Health = 10
+count_place what.Alive = 11
+count_place what.Suspect = 12
+count_place what.Confirm = 13
+count_place what.Accuse = 14
+count_place what.Refute = 15
+count_place what.Dead = 16
 
 -- the counts are those of these rows
 pub record AreCountsOf (counts : Counts) (rows : List Row) : Type 0 where
   pub all : counts.rows ≡ length rows
-  pub told : (kind : What) → slice_index counts.told (place_of kind) ≡ count_of kind rows
-  pub lost : (kind : What) → slice_index counts.lost (place_of kind) ≡ losses_of kind rows
+  pub told : (kind : What) → slice_index counts.told (count_place kind) ≡ count_of kind rows
+  pub lost : (kind : What) → slice_index counts.lost (count_place kind) ≡ losses_of kind rows
   pub health : counts.worst_health ≡ worst_health rows

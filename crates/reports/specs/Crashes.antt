@@ -6,7 +6,7 @@ use Rattle.trace.specs.declared.row.What.TheVariants as what
 use Rattle.trace.specs.declared.row.Row.{Row}
 use Rattle.reports.specs.declared.crash.Detection.{Detection}
 use Rattle.reports.specs.declared.crash.CrashTold.{CrashTold}
-use Rattle.reports.specs.Rows.{Placed, placed, tells, tells_of}
+use Rattle.reports.specs.Rows.{Placed, rows_in_place, has_kind, tells_of}
 
 -- the moment of a row, if there is one
 abbrev pub moment_of : Option Row → Option ℕ
@@ -28,11 +28,11 @@ crash_told p = record { member = p.row.member; at = p.row.at; detection = detect
 
 -- the row tells of a crash
 abbrev pub is_crash : Placed → Bool
-is_crash p = tells what.Crash p.row
+is_crash p = has_kind what.Crash p.row
 
 -- the crashes of a trace, in its order
 abbrev pub crashes_of : List Row → List CrashTold
-crashes_of rows = map crash_told (filter is_crash (placed rows))
+crashes_of rows = map crash_told (filter is_crash (rows_in_place rows))
 
 -- how long it took until a first member confirmed a crash, where one did
 abbrev pub latency_of : CrashTold → Option ℕ

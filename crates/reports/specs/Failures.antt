@@ -10,7 +10,7 @@ use Rattle.reports.specs.declared.crash.Detection.{Detection}
 use Rattle.reports.specs.declared.crash.CrashTold.{CrashTold}
 use Rattle.reports.specs.declared.false_positives.Maker.{Maker}
 use Rattle.reports.specs.declared.failures.Failures.{Failures}
-use Rattle.reports.specs.Rows.{placed, tells_of}
+use Rattle.reports.specs.Rows.{rows_in_place, tells_of}
 use Rattle.reports.specs.Crashes.{detection_of, crashes_of}
 use Rattle.reports.specs.FalsePositives.{is_false_positive}
 
@@ -50,7 +50,7 @@ maker_of row = record { member = row.member; at = row.at }
 
 -- who made the false positives of a claim, in the order of the trace
 abbrev pub makers_of : What → List Row → List Maker
-makers_of claim rows = map (λ p. maker_of p.row) (filter (is_false_positive claim) (placed rows))
+makers_of claim rows = map (λ p. maker_of p.row) (filter (is_false_positive claim) (rows_in_place rows))
 
 -- the maker of a claim wasn't slow when it made it
 abbrev pub is_healthy_maker : Setup → Maker → Bool

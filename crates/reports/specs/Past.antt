@@ -5,6 +5,6 @@ use Rattle.reports.specs.declared.past.Link.{Link}
 use Rattle.reports.specs.declared.past.Link.TheVariants.{Start, After}
 
 -- the rows so far, in order
-abbrev pub rows_of : Link → List Row
-rows_of Start = []
-rows_of (After before last) = before.value ++ last.value ∷ []
+abbrev pub linked_rows : Link → List Row
+linked_rows Start = []
+linked_rows (After before last) = before.value ++ last.value ∷ []

@@ -9,8 +9,8 @@ use Rattle.trace.specs.declared.row.What.TheVariants as what
 use Rattle.trace.specs.declared.row.Row.{Row}
 
 -- the row tells of this
-abbrev pub tells : What → Row → Bool
-tells kind row = sameb the_type row.what kind
+abbrev pub has_kind : What → Row → Bool
+has_kind kind row = sameb the_type row.what kind
 
 -- the row is about the member
 abbrev pub is_about : ℕ → Row → Bool
@@ -18,15 +18,15 @@ is_about member row = option_map_or (λ about. about == member) row.about false
 
 -- the row tells this of the member
 abbrev pub tells_of : What → ℕ → Row → Bool
-tells_of kind member row = tells kind row && is_about member row
+tells_of kind member row = has_kind kind row && is_about member row
 
 -- the row tells of this, and that it was lost
 abbrev pub tells_lost : What → Row → Bool
-tells_lost kind row = tells kind row && row.lost
+tells_lost kind row = has_kind kind row && row.lost
 
 -- how many rows tell of this
 abbrev pub count_of : What → List Row → ℕ
-count_of kind rows = count_by (tells kind) rows
+count_of kind rows = count_by (has_kind kind) rows
 
 -- how many sendings of this kind were lost
 abbrev pub losses_of : What → List Row → ℕ
@@ -34,7 +34,7 @@ losses_of kind rows = count_by (tells_lost kind) rows
 
 -- the highest local health counter that any member reached (Lifeguard's LHA-Probe): the greatest value of a health row, 0 without one
 abbrev pub worst_health : List Row → ℕ
-worst_health rows = unwrap_or (reduce max (map (λ row. row.value) (filter (tells what.Health) rows))) 0
+worst_health rows = unwrap_or (reduce max (map (λ row. row.value) (filter (has_kind what.Health) rows))) 0
 
 -- a row in its place: what stands before it in the trace, and what after
 pub record Placed : Type 0 where
@@ -48,5 +48,5 @@ placed_after earlier [] = []
 placed_after earlier (row ∷ later) = record { earlier = earlier; row = row; later = later } ∷ placed_after (earlier ++ row ∷ []) later
 
 -- each row of a trace in its place
-abbrev pub placed : List Row → List Placed
-placed rows = placed_after [] rows
+abbrev pub rows_in_place : List Row → List Placed
+rows_in_place rows = placed_after [] rows

@@ -1,10 +1,10 @@
 //! How many rows came, how many of each kind, and how bad a member's health got.
 ghost use Rattle.std.specs.Prelude.{◌≡◌, ◌<◌, ◌+◌, ◌^◌, ◌++◌, ◌∷◌, [], List, length, slice_index, slice_set, max, if◌then◌else◌};
 ghost use Rattle.trace.specs.declared.row.Row.{Row as AnyRow};
-ghost use Rattle.reports.specs.Rows.{tells};
-ghost use Rattle.reports.specs.Counts.{place_of, AreCountsOf};
+ghost use Rattle.reports.specs.Rows.{has_kind};
+ghost use Rattle.reports.specs.Counts.{count_place, AreCountsOf};
 
-use crate::rows::tells;
+use crate::rows::has_kind;
 use trace::{Row, What};
 
 /// How many kinds of row there are.
@@ -42,7 +42,7 @@ impl Counts {
         requires counted { (rows : List AnyRow) × AreCountsOf self.old rows }
         ensures { (rows : List AnyRow) → AreCountsOf self.old rows → AreCountsOf self.new (rows ++ row.now ∷ []) }
     {
-        let place = place_of(row.what);
+        let place = count_place(row.what);
         self.rows += 1;
         raise(&mut self.told, place, true);
         raise(&mut self.lost, place, row.lost);
@@ -51,16 +51,16 @@ impl Counts {
 
     /// How many rows tell of this.
     pub(crate) fn told(&self, kind: What) -> u64
-        ensures { result ≡ slice_index self.now.told (place_of kind) }
+        ensures { result ≡ slice_index self.now.told (count_place kind) }
     {
-        self.told[place_of(kind)]
+        self.told[count_place(kind)]
     }
 
     /// How many rows tell of this, and that it was lost.
     pub(crate) fn lost(&self, kind: What) -> u64
-        ensures { result ≡ slice_index self.now.lost (place_of kind) }
+        ensures { result ≡ slice_index self.now.lost (count_place kind) }
     {
-        self.lost[place_of(kind)]
+        self.lost[count_place(kind)]
     }
 }
 
@@ -78,9 +78,9 @@ fn raise(counts: &mut [u64; KINDS], place: usize, does_count: bool)
 
 /// The worse of a health counter and that of a row, where the row tells of one.
 fn worse(health: u64, row: &Row) -> u64
-    ensures { result ≡ (if tells What.Health row.now then max health row.now.value else health) }
+    ensures { result ≡ (if has_kind What.Health row.now then max health row.now.value else health) }
 {
-    if tells(row, What::Health) {
+    if has_kind(row, What::Health) {
         health.max(row.value)
     } else {
         health
@@ -88,8 +88,8 @@ fn worse(health: u64, row: &Row) -> u64
 }
 
 /// The place of a kind of row among the counts.
-fn place_of(kind: What) -> usize
-    ensures place { result ≡ place_of kind }
+fn count_place(kind: What) -> usize
+    ensures place { result ≡ count_place kind }
     ensures within { result < 17 }
 {
     match kind {

@@ -27,10 +27,10 @@ impl Model for Past {
 
     ghost Value = { List Row };
 
-    ghost use Rattle.reports.specs.Past.{rows_of};
+    ghost use Rattle.reports.specs.Past.{linked_rows};
     ghost use Rattle.std.proofs.Common.{arith, length-append};
 
-    ghost view = { λ past. rows_of past.link };
+    ghost view = { λ past. linked_rows past.link };
 
     ghost size = { length };
 

@@ -1,13 +1,13 @@
 //! Which rows a figure counts.
 ghost use Rattle.std.specs.Prelude.{◌≡◌};
-ghost use Rattle.reports.specs.Rows.{tells, is_about};
+ghost use Rattle.reports.specs.Rows.{has_kind, is_about};
 
 use base::MemberId;
 use trace::{Row, What};
 
 /// Whether a row tells of this.
-pub(crate) fn tells(row: &Row, kind: What) -> bool
-    ensures { result ≡ tells kind row.now }
+pub(crate) fn has_kind(row: &Row, kind: What) -> bool
+    ensures { result ≡ has_kind kind row.now }
 {
     row.what == kind
 }

@@ -30,20 +30,22 @@ module _ (s : Setup) (event : Event) (members : FinMap nat_cmp State) where
   pub own_after : (after : FinMap nat_cmp State) → after ≡ members_after members event (made_of s members event) → ◌≡◌ {A = ℕ → Bool} (contains_key after) (contains_key members)
   own_after after is = λ i q. (ap (λ m. contains_key m q) is ∙ own_either (get members event.key.to) refl q) i
 
--- what the receiver made of the event, alone on its list, is delivered behind what was sent before
-pub taken_handled : (s : Setup) (event : Event) (p : World State Content) (n : FinMap nat_cmp State) (q : FinMap key_cmp Content) (before alone made after : Effects) (mine sent : List Event)
-    → alone.events.items ≡ [] → alone.rows.items ≡ before.rows.items → Handles s event p.members n alone made → mine ≡ made.events.items → sent ≡ before.events.items
-    → q ≡ with_events p.pending (for_own (contains_key n) (map pair_of mine)) → map pair_of after.events.items ≡ map pair_of sent ++ for_others (contains_key n) (map pair_of mine)
-    → after.rows.items ≡ made.rows.items → HandlesTaken s event p (record { members = n; pending = q }) before after
-taken_handled s event p n q before alone made after mine sent none kept handles is_mine is_sent delivered goes_out written =
+-- what the receiver made of the event, alone on its lists, is delivered behind what was sent before
+pub taken_handled : (s : Setup) (event : Event) (p : World State Content) (n : FinMap nat_cmp State) (q : FinMap key_cmp Content) (before alone made after : Effects)
+    → alone.events.items ≡ [] → alone.rows.items ≡ [] → Handles s event p.members n alone made
+    → q ≡ with_events p.pending (for_own (contains_key n) (map pair_of made.events.items))
+    → map pair_of after.events.items ≡ map pair_of before.events.items ++ for_others (contains_key n) (map pair_of made.events.items)
+    → after.rows.items ≡ before.rows.items ++ made.rows.items → HandlesTaken s event p (record { members = n; pending = q }) before after
+taken_handled s event p n q before alone made after no_events no_rows handles delivered goes_out written =
+    let mine = made.events.items in
     let own : ◌≡◌ {A = ℕ → Bool} (contains_key n) (is_own p) = own_after s event p.members n handles.members in
-    let events : map pair_of mine ≡ events_of (made_of s p.members event) = ap (map pair_of) is_mine ∙ handles.events ∙ ap (λ l. map pair_of l ++ events_of (made_of s p.members event)) none in
+    let events : map pair_of mine ≡ events_of (made_of s p.members event) = handles.events ∙ ap (λ l. map pair_of l ++ events_of (made_of s p.members event)) no_events in
     record {
       members = handles.members;
       pending = delivered ∙ ap (λ (f : ℕ → Bool). with_events p.pending (for_own f (map pair_of mine))) own ∙ ap (λ es. with_events p.pending (for_own (is_own p) es)) events;
-      out = goes_out ∙ ap (λ l. map pair_of l ++ for_others (contains_key n) (map pair_of mine)) is_sent
-          ∙ ap (λ (f : ℕ → Bool). map pair_of before.events.items ++ for_others f (map pair_of mine)) own ∙ ap (λ es. map pair_of before.events.items ++ for_others (is_own p) es) events;
-      rows = written ∙ handles.rows ∙ ap (λ rows. rows ++ rows_of (made_of s p.members event)) kept;
+      out = goes_out ∙ ap (λ (f : ℕ → Bool). map pair_of before.events.items ++ for_others f (map pair_of mine)) own
+          ∙ ap (λ es. map pair_of before.events.items ++ for_others (is_own p) es) events;
+      rows = written ∙ ap (λ rows. before.rows.items ++ rows) (handles.rows ∙ ap (λ rows. rows ++ rows_of (made_of s p.members event)) no_rows);
     }
 
 -- ---- a step

@@ -17,7 +17,7 @@ ghost use Rattle.windows.specs.WorldOf.{world_of};
 
 use crate::part::Part;
 use crate::setting::Setting;
-use crate::steps::handle_taken;
+use crate::steps::{handle_taken, nothing};
 use base::{Fault, MemberId, Moment};
 use links::Links;
 use member::{Effects, Event, StepError};
@@ -90,10 +90,7 @@ fn play_out(alloc: Global, scenario: &Scenario, choices: &[MemberId]) -> Result<
         scenario,
         links: &links,
     };
-    let mut made = Effects {
-        events: Vec::new(alloc),
-        rows: Vec::new(alloc),
-    };
+    let mut made = nothing(alloc);
     let least_delay = links.least_delay();
     let handled = choose_all(alloc, &mut part, &setting, least_delay, choices, &mut made)?;
     let Effects { rows, events: _ } = made;
@@ -154,7 +151,8 @@ fn choose(
         Some(event) => event,
         None => return Ok(false),
     };
-    handle_taken(alloc, part, event, setting, made)?;
+    let mut spare = nothing(alloc);
+    handle_taken(alloc, part, event, setting, &mut spare, made)?;
     Ok(true)
 }
 

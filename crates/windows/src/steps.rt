@@ -23,7 +23,6 @@ use crate::setting::Setting;
 use base::Memory;
 use member::{Effects, Event, StepError};
 use std::alloc::Global;
-use std::mem::replace;
 use worker_queue::EventQueue;
 
 /// Runs the window that begins in this part.
@@ -44,20 +43,31 @@ pub(crate) fn run_from<Q: EventQueue<Event> + Drop>(
     ensures far { IfOk result (λ done. TakeTheirLinks setting.now.scenario.now (world_of Q.set part) done.out.items) }
     ensures worn { IsErrOf result StepError.Worn → WearsInWindow setting.now.scenario.now setting.now.bound (world_of Q.set part) }
 {
-    let mut made = Effects {
-        events: Vec::new(alloc),
-        rows: Vec::new(alloc),
-    };
-    while advance(alloc, &mut part, setting, &mut made)? {}
+    let mut made = nothing(alloc);
+    let mut spare = nothing(alloc);
+    while advance(alloc, &mut part, setting, &mut spare, &mut made)? {}
     let Effects { events: out, rows } = made;
     Ok(Done { part, out, rows })
 }
 
+/// Empty lists. They take no memory.
+pub(crate) fn nothing(alloc: Global) -> Effects
+    ensures events { result.events.items ≡ [] }
+    ensures rows { result.rows.items ≡ [] }
+{
+    Effects {
+        events: Vec::new(alloc),
+        rows: Vec::new(alloc),
+    }
+}
+
 /// The next step of the window: the least pending event is handled, if its moment is before the bound.
+/// The spare lists serve the step, as in `handle_taken`.
 fn advance<Q: EventQueue<Event>>(
     alloc: Global,
     part: &mut Part<Q>,
     setting: &Setting,
+    spare: &mut Effects,
     out: &mut Effects,
 ) -> Result<bool, StepError>
     requires sound { IsSound setting.now.scenario.now }
@@ -76,17 +86,19 @@ fn advance<Q: EventQueue<Event>>(
         Some(event) => event,
         None => return Ok(false),
     };
-    handle_taken(alloc, part, event, setting, out)?;
+    handle_taken(alloc, part, event, setting, spare, out)?;
     Ok(true)
 }
 
 /// Handles an event that was just taken out of the part's queue. What its receiver makes for members of
-/// the part pends there, and the rest goes out.
+/// the part pends there, and the rest goes out. The spare lists are emptied, and then hold what the receiver
+/// makes: as long as they are handed in again, their room serves step after step.
 pub(crate) fn handle_taken<Q: EventQueue<Event>>(
     alloc: Global,
     part: &mut Part<Q>,
     event: Event,
     setting: &Setting,
+    spare: &mut Effects,
     out: &mut Effects,
 ) -> Result<(), StepError>
     requires here { IsSoundSetting setting.now.scenario.now setting.now.links.now event.key }
@@ -97,28 +109,33 @@ pub(crate) fn handle_taken<Q: EventQueue<Event>>(
     ensures number { OnOk result (part.new.number ≡ part.old.number) }
     ensures worn { IsErrOf result StepError.Worn → WearsReceiver setting.now.scenario.now event (world_of Q.set part.old).members }
 {
-    // While the step appends its rows where they stay, the events that it makes are on a list of their own.
-    let sent = replace(&mut out.events, Vec::new(alloc));
-    part.members.handle(alloc, event, setting, out)?;
-    let made = replace(&mut out.events, sent);
-    deliver(&part.members, &mut part.queue, made, &mut out.events)?;
+    spare.events.clear();
+    spare.rows.clear();
+    part.members.handle(alloc, event, setting, spare)?;
+    out.rows.append(&mut spare.rows)?;
+    deliver(
+        &part.members,
+        &mut part.queue,
+        &mut spare.events,
+        &mut out.events,
+    )?;
     Ok(())
 }
 
-/// Lets the events for these members pend, and sends the others out.
+/// Lets the events for these members pend, and sends the others out. They leave their list.
 fn deliver<Q: EventQueue<Event>>(
     members: &OwnMembers,
     queue: &mut Q,
-    events: Vec<Event>,
+    events: &mut Vec<Event>,
     out: &mut Vec<Event>,
 ) -> Result<(), Memory>
-    requires new { AreNew (contents_in (Q.set queue.old)) (map pair_of events.items) }
+    requires new { AreNew (contents_in (Q.set queue.old)) (map pair_of events.old.items) }
     ensures own { let own = contains_key (states_in members.now) in
-        OnOk result (contents_in (Q.set queue.new) ≡ with_events (contents_in (Q.set queue.old)) (for_own own (map pair_of events.items))) }
+        OnOk result (contents_in (Q.set queue.new) ≡ with_events (contents_in (Q.set queue.old)) (for_own own (map pair_of events.old.items))) }
     ensures others { let own = contains_key (states_in members.now) in
-        OnOk result (map pair_of out.new.items ≡ map pair_of out.old.items ++ for_others own (map pair_of events.items)) }
+        OnOk result (map pair_of out.new.items ≡ map pair_of out.old.items ++ for_others own (map pair_of events.old.items)) }
 {
-    for event in events {
+    for event in events.drain(..) {
         place(members, queue, event, out)?;
     }
     Ok(())

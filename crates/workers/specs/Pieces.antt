@@ -8,8 +8,8 @@ use Rattle.windows.specs.Window.{IsConsistentPart}
 use Rattle.workers.specs.declared.errand.Errand.{Errand}
 
 -- an errand stands for the part that it is of
-abbrev pub part_of : {Q : Type 0} → {g : _} → Errand Q g → Part Q
-part_of errand = errand.part
+abbrev pub errand_part : {Q : Type 0} → {g : _} → Errand Q g → Part Q
+errand_part errand = errand.part
 
 -- the part belongs to the errand's scenario: it is one of the cluster, wherever a run has come
 abbrev pub IsOfCluster : {Q : Type 0} (set : Q → FinMap key_cmp Event) → {g : _} → Errand Q g → Type 0

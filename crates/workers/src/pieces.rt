@@ -10,9 +10,9 @@ use worker_queue::EventQueue;
 pub struct Errands;
 
 impl<'a, Q: EventQueue<Event>> Setting<Errand<'a, Q>, Part<Q>> for Errands {
-    ghost use Rattle.workers.specs.Pieces.{part_of, IsOfCluster};
+    ghost use Rattle.workers.specs.Pieces.{errand_part, IsOfCluster};
 
-    ghost stands_for = { part_of };
+    ghost stands_for = { errand_part };
 
     ghost belongs = { IsOfCluster Q.set };
 }

@@ -1,6 +1,7 @@
 use Rattle.std.proofs.Common.{ℕ, ◌<◌}
 use Rattle.windows.specs.Admitting.{opened_below}
-use Rattle.exchange.specs.Parts.{part_number, StandFor}
+use Rattle.horizons.specs.Between.{part_number}
+use Rattle.exchange.specs.Parts.{StandFor}
 use Rattle.exchange.proofs.opening.admit_all.Given as goal
 
 abbrev pub invariant-loop-number : goal.invariant-loop-number

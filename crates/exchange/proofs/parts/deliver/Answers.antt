@@ -2,7 +2,8 @@ use Rattle.std.proofs.Common.{◌++◌, ◌∷◌, [], map, append_assoc, ap, �
 use Rattle.std.specs.FinMap.{contains_key}
 use Rattle.std.proofs.lemmas.List.{map-append}
 use Rattle.member.specs.StateOf.{pair_of}
-use Rattle.exchange.specs.Parts.{part_number, HaveCome}
+use Rattle.horizons.specs.Between.{part_number}
+use Rattle.exchange.specs.Parts.{HaveCome}
 use Rattle.exchange.proofs.Coming.{none_come, more_come, new_in_turn, members_stay}
 use Rattle.exchange.proofs.parts.deliver.Goals as goal
 

@@ -1,6 +1,7 @@
 use Rattle.std.proofs.Common.{◌≡◌, ◌++◌, map}
 use Rattle.member.specs.StateOf.{pair_of}
-use Rattle.exchange.specs.Parts.{part_number, HaveCome}
+use Rattle.horizons.specs.Between.{part_number}
+use Rattle.exchange.specs.Parts.{HaveCome}
 use Rattle.exchange.proofs.parts.deliver.Given as goal
 
 abbrev pub invariant-loop-event : goal.invariant-loop-event

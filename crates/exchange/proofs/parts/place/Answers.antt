@@ -1,7 +1,7 @@
 use Rattle.std.proofs.Common.{ap, refl, arith}
 use Rattle.std.specs.Option.{unwrap_or}
 use Rattle.std.proofs.lemmas.Option.{slice_get_read}
-use Rattle.exchange.specs.Parts.{part_number}
+use Rattle.horizons.specs.Between.{part_number}
 use Rattle.exchange.proofs.Coming.{one_comes, absent_at_place}
 use Rattle.exchange.proofs.parts.place.Goals as goal
 

@@ -7,7 +7,8 @@ use Rattle.member.specs.declared.event.Event.{Event}
 use Rattle.member.specs.StateOf.{pair_of}
 use Rattle.windows.specs.Parts.{for_own, is_in}
 use Rattle.windows.specs.WorldOf.{world_of}
-use Rattle.exchange.specs.Parts.{part_number, is_before, IsLeastMoment, IsInRowOrder, HaveCome, HaveTheirMembers}
+use Rattle.horizons.specs.Between.{part_number}
+use Rattle.exchange.specs.Parts.{is_before, IsLeastMoment, IsInRowOrder, HaveCome, HaveTheirMembers}
 use Rattle.exchange.proofs.RowOrders.{when_true, one_alone, windows_rise}
 use Rattle.exchange.proofs.Turned.{new_to_parts, members_after, named_out, count_after}
 use Rattle.exchange.proofs.turns.exchanged.Goals as goal

@@ -1,0 +1,37 @@
+-- Of two faults the one that a run answers.
+use Rattle.std.proofs.Common.{◌≡◌, ◌≢◌, ◌⊎◌, inl, inr, Bool, true, false, nat_lt, if◌then◌else◌, refl}
+use Rattle.base.specs.declared.fault.Fault.{Fault}
+use Rattle.base.specs.declared.fault.Fault.TheVariants.{Memory, Worn, Write, Relay}
+use Rattle.workers.specs.Faults.{rank_of, first_of}
+
+either_way : {A : Type 0} (test : Bool) (one other : A) → ((if test then other else one) ≡ one) ⊎ ((if test then other else one) ≡ other)
+either_way true one other = inr refl
+either_way false one other = inl refl
+
+pub first_either : (one other : Fault) → (first_of one other ≡ one) ⊎ (first_of one other ≡ other)
+first_either one other = either_way (nat_lt (rank_of other) (rank_of one)) one other
+
+memory≢relay : Memory ≢ Relay
+memory≢relay is = cc
+
+worn≢relay : Worn ≢ Relay
+worn≢relay is = cc
+
+write≢relay : Write ≢ Relay
+write≢relay is = cc
+
+-- what threads lost is answered only where nothing else went wrong
+pub first_relay : (one other : Fault) → first_of one other ≡ Relay → other ≡ Relay
+first_relay one Relay is = refl
+first_relay Memory Memory is = absurd (memory≢relay is)
+first_relay Memory Worn is = absurd (memory≢relay is)
+first_relay Memory Write is = absurd (memory≢relay is)
+first_relay Worn Memory is = absurd (memory≢relay is)
+first_relay Worn Worn is = absurd (worn≢relay is)
+first_relay Worn Write is = absurd (worn≢relay is)
+first_relay Write Memory is = absurd (memory≢relay is)
+first_relay Write Worn is = absurd (worn≢relay is)
+first_relay Write Write is = absurd (write≢relay is)
+first_relay Relay Memory is = absurd (memory≢relay is)
+first_relay Relay Worn is = absurd (worn≢relay is)
+first_relay Relay Write is = absurd (write≢relay is)
