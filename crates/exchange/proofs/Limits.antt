@@ -1,40 +1,36 @@
 -- Bounds of parts that are horizons: a common one, and each part's own.
-use Rattle.std.proofs.Common.{◌≡◌, ◌≢◌, ◌↔◌, ℕ, zero, suc, ◌+◌, ◌<◌, ◌≤◌, min, Bool, true, false, cond, List, [], ◌∷◌, ◌++◌, map, length, unwrap_or, Option, Some, None, IfSome, IfOk, Result, Ok, Err, ap, ◌∙◌, sym, subst, refl, arith}
+use Rattle.std.proofs.Common.{◌≡◌, ℕ, zero, suc, ◌+◌, ◌<◌, ◌≤◌, min, true, cond, List, [], ◌∷◌, ◌++◌, length, unwrap_or, Option, Some, None, IfSome, IfOk, Result, Ok, Err, ap, ◌∙◌, sym, subst, refl, arith}
 use Rattle.std.specs.Option.{option_map, is_some}
 use Rattle.std.specs.List.{AllByRecursion, slice_get}
 use Rattle.std.specs.FinMap.{FinMap, get, contains_key}
 use Rattle.std.proofs.lemmas.Bool.{false≢true, eq-eqb}
-use Rattle.std.proofs.lemmas.Option.{same_Some, slice_get-map, slice_get_within}
+use Rattle.std.proofs.lemmas.Option.{same_Some}
 use Rattle.base.specs.declared.key.Key.{Key}
 use Rattle.base.specs.Order.{key_cmp, key_total, key_exact}
 use Rattle.base.specs.World.{IsPending}
-use Rattle.scenario.specs.Setup.{Setup, IsSound, member_count}
+use Rattle.scenario.specs.Setup.{Setup, IsSound}
 use Rattle.scenario.specs.Division.{Deal}
-use Rattle.member.specs.declared.content.Content.{Content}
 use Rattle.member.specs.declared.event.Event.{Event}
 use Rattle.member_laws.specs.Runs.{Cluster}
-use Rattle.worker_queue.specs.Queue.{NoneIsBelow}
 use Rattle.windows.specs.declared.bounded.Bounded.{Bounded}
 use Rattle.windows.specs.declared.part.Part.{Part}
 use Rattle.windows.specs.Parts.{part_of, is_in}
-use Rattle.windows.specs.Horizon.{Walk, length_of, walk_length, AreHorizons}
-use Rattle.windows.specs.Cluster.{IsLeastDelay, IsPeopled, LiesBetween, IsWholeCluster, link_delay}
+use Rattle.windows.specs.Horizon.{length_of, AreHorizons}
+use Rattle.windows.specs.Cluster.{IsLeastDelay, IsPeopled, LiesBetween, IsWholeCluster}
 use Rattle.windows.specs.Several.{parts_of}
 use Rattle.windows.specs.WorldOf.{world_of}
 use Rattle.windows.proofs.Members.{receiver_low, some_delay}
 use Rattle.windows.proofs.Cuts.{get_retained}
-use Rattle.horizons.specs.declared.table.Horizons.{Horizons}
-use Rattle.horizons.specs.Between.{part_number, IsLeastBetween}
+use Rattle.horizons.specs.Between.{part_number}
 use Rattle.horizons.specs.Bounds.{PendsFirst, IsHorizon, NonePendsEarlier}
 use Rattle.horizons.specs.Walks.{Table, AreWalksOf}
-use Rattle.horizons.proofs.Bounding.{all_horizons}
 use Rattle.horizons.proofs.Progress.{past_the_first}
 use Rattle.exchange.specs.declared.turns.Course.{Course}
 use Rattle.exchange.specs.Course.{IsCourse}
-use Rattle.exchange.specs.Parts.{IsUpTo, NonePendsBefore, PendsFrom, AreFirstMoments, StandFor, HaveHorizons, AreBounded}
+use Rattle.exchange.specs.Parts.{IsUpTo, NonePendsBefore, PendsFrom, AreFirstMoments, StandFor, AreBounded}
 use Rattle.exchange.specs.Bounds.{IsFirstMoment, AreLimitedHorizons, AreHorizonsOf}
 use Rattle.exchange.proofs.Coming.{behind}
-use Rattle.exchange.proofs.Turning.{all_places, many}
+use Rattle.exchange.proofs.Turning.{all_places}
 use Rattle.exchange.proofs.Goes.{none_of_world}
 
 module _ {Q : Type 0} where

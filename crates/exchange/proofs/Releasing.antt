@@ -1,23 +1,21 @@
 -- Of the rows of a run, those that come before some moment.
-use Rattle.std.proofs.Common.{◌≡◌, ◌⊎◌, ℕ, ◌+◌, ◌<◌, ◌≤◌, Bool, true, false, cond, not, nat_lt, List, [], ◌∷◌, ◌++◌, map, length, Option, Some, None, ap, ◌∙◌, sym, subst, refl, arith, inl, inr}
+use Rattle.std.proofs.Common.{◌≡◌, ◌⊎◌, ℕ, ◌≤◌, Bool, true, false, cond, not, List, [], ◌∷◌, ◌++◌, Option, Some, None, ap, ◌∙◌, sym, subst, refl, arith, inl, inr}
 use Rattle.std.specs.List.{AllByRecursion, filter, sum_by}
 use Rattle.std.specs.List.Sorted.{IsPermutation, IsSorted}
 use Rattle.std.specs.Cmp.{IsTotalOrder}
 use Rattle.std.specs.declared.cmp.Ordering.{Ordering}
-use Rattle.std.specs.declared.cmp.Ordering.TheVariants.{Less, Equal}
+use Rattle.std.specs.declared.cmp.Ordering.TheVariants.{Less}
 use Rattle.std.proofs.lemmas.Bool.{false≢true, ltb-true, lt-ltb}
-use Rattle.std.proofs.lemmas.List.Sums.{sum_by-cons, sum_by-append}
+use Rattle.std.proofs.lemmas.List.Sums.{sum_by-cons}
 use Rattle.std.proofs.lemmas.List.Sorted.{All-permutation, sum_by-IsPermutation}
 use Rattle.std.proofs.lemmas.List.Elements.{recursion_from_All, All-from_recursion}
 use Rattle.base.specs.declared.key.Key.{Key}
 use Rattle.base.specs.Order.{moments-from_before}
 use Rattle.base.specs.Rising.{IsRising, IsPlaceBefore}
-use Rattle.base.proofs.Rising.{all_weaker, all_append}
+use Rattle.base.proofs.Rising.{all_weaker}
 use Rattle.trace.specs.declared.row.Row.{Row}
 use Rattle.member.specs.Places.{place_of}
-use Rattle.windows.proofs.Far.{all_both}
 use Rattle.windows.proofs.Numbers.{rising_kept}
-use Rattle.windows.proofs.Released.{rising_mapped}
 use Rattle.windows.proofs.Sorting.{IsLess, IsAtMost, Tells, rising_from_sorted, tells_itself, same_order}
 use Rattle.exchange.specs.Parts.{is_before}
 

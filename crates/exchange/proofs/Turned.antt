@@ -34,7 +34,7 @@ use Rattle.windows.proofs.Members.{sent_new, receiver_low}
 use Rattle.windows.proofs.Horizons.{clear_windows, clear_none_left, clear_rows, clear_met}
 use Rattle.windows.specs.WorldOf.{world_of}
 use Rattle.windows.specs.Window.{is_own}
-use Rattle.windows.specs.Several.{RanWindows, parts_of}
+use Rattle.windows.specs.Several.{RanWindows}
 use Rattle.windows.proofs.PartRuns.{own_run}
 use Rattle.horizons.specs.Between.{part_number}
 use Rattle.exchange.specs.Parts.{HaveTheirMembers, StandFor, MayTurn, HaveCome}

@@ -1,6 +1,6 @@
 //! A run by threads that live as long as it does: workers run the windows of the parts, a driver deals and
 //! exchanges, and the calling thread writes.
-ghost use Rattle.std.specs.Prelude.{◌≡◌, ◌≢◌, ◌<◌, ◌^◌, ◌⊎◌, [], length, IfOk, OnOk, IfErr, OnErr, IsErrOf};
+ghost use Rattle.std.specs.Prelude.{◌≡◌, ◌<◌, ◌^◌, ◌⊎◌, [], length, IfOk, OnOk, OnErr, IsErrOf};
 ghost use Rattle.std.specs.Io.KnownBytes.{Appends};
 ghost use Rattle.board.specs.Deal.{whole};
 ghost use Rattle.board.specs.Seats.{AreAllSeats};
@@ -12,7 +12,7 @@ ghost use Rattle.member_laws.specs.Runs.{IsRunOf, WearsOut};
 ghost use Rattle.exchange.specs.Course.{GoTogether};
 ghost use Rattle.exchange.specs.Parts.{StandFor};
 ghost use Rattle.exchange.specs.Streams.{MaySend, MayTake};
-ghost use Rattle.exchange.specs.Promise.{WritesRun, WritesBeginning, BeginsTrace, WearsOutReport};
+ghost use Rattle.exchange.specs.Promise.{KeepsPromise, BeginsTrace, WearsOutReport};
 
 use crate::driver::Ended;
 use crate::opening::open_wheels;
@@ -59,26 +59,12 @@ pub fn run<A: Sink, B: Sink, G: Gate, R: Threads + Wait + Sync>(
     requires countable { A.failed trace.old < 2 ^ 63 }
     requires countable_report { B.failed report.old < 2 ^ 63 }
 
-    // The sinks get exactly the trace of the scenario's run, and the report on it.
-    ensures written { IfOk result (λ summary. WritesRun scenario.now (A.held trace.old) (A.held trace.new)
-        (B.held report.old) (B.held report.new) summary.rows) }
-    ensures beginning { OnErr result (WritesBeginning scenario.now (A.held trace.old) (A.held trace.new)
-        (B.held report.old) (B.held report.new)) }
-
-    // Where the trace's sink fails, at its flush too, the report's is left as it was.
-    ensures first { A.failed trace.old < A.failed trace.new → report.new ≡ report.old }
-
-    // No counter of a run that succeeds passes 2^63.
-    ensures lasts { OnOk result (¬ (WearsOut scenario.now)) }
+    // The sinks get exactly the trace of the scenario's run, and the report on it; after a fault a beginning of that.
+    ensures promise { KeepsPromise A.held A.failed B.held B.failed scenario.now trace.old trace.new report.old report.new result }
 
     // No fault comes without its cause.
     ensures worn { IsErrOf result Fault.Worn → WearsOut scenario.now ⊎ WearsOutReport scenario.now }
-    ensures write { IsErrOf result Fault.Write
-        → (A.failed trace.old < A.failed trace.new) ⊎ (B.failed report.old < B.failed report.new) }
-    ensures whole { OnOk result (A.failed trace.new ≡ A.failed trace.old) }
-    ensures whole_report { OnOk result (B.failed report.new ≡ B.failed report.old) }
     ensures others { IsErrOf result Fault.Relay → A.failed trace.new ≡ A.failed trace.old }
-    ensures others_report { IfErr result (λ fault. fault ≢ Fault.Write → B.failed report.new ≡ B.failed report.old) }
 {
     let tallied = match run_into(rt, alloc, scenario, division, workers, gate, trace) {
         Ok(tallied) => tallied,

@@ -1,4 +1,4 @@
-ghost use Rattle.std.specs.Prelude.{◌≡◌, ◌≢◌, ◌+◌, ◌<◌, ◌≤◌, ◌^◌, ◌⊎◌, length, IfOk, OnOk, IfErr, OnErr, IsErrOf, All};
+ghost use Rattle.std.specs.Prelude.{◌≡◌, ◌≢◌, ◌+◌, ◌<◌, ◌≤◌, ◌^◌, length, IfOk, OnOk, IfErr, IsErrOf, All};
 ghost use Rattle.std.specs.List.{AllByRecursion};
 ghost use Rattle.scenario.specs.Setup.{IsSound, member_count};
 ghost use Rattle.trace.specs.Text.{NamesMembers};
@@ -11,7 +11,7 @@ ghost use Rattle.windows.specs.Window.{IsConsistentPart};
 ghost use Rattle.windows.specs.Several.{RanWindows, OneWears};
 ghost use Rattle.exchange.specs.Course.{IsCourse};
 ghost use Rattle.exchange.specs.Parts.{StandFor};
-ghost use Rattle.exchange.specs.Promise.{WritesRun, WritesBeginning};
+ghost use Rattle.exchange.specs.Promise.{KeepsPromise};
 
 use crate::bounds::{bounded_in_common, first_moment};
 use crate::opening::open_parts;
@@ -49,26 +49,12 @@ pub fn run_in_turn<A: Sink, B: Sink>(
     requires countable { A.failed trace.old < 2 ^ 63 }
     requires countable_report { B.failed report.old < 2 ^ 63 }
 
-    // The sinks get exactly the trace of the scenario's run, and the report on it.
-    ensures written { IfOk result (λ summary. WritesRun scenario.now (A.held trace.old) (A.held trace.new)
-        (B.held report.old) (B.held report.new) summary.rows) }
-    ensures beginning { OnErr result (WritesBeginning scenario.now (A.held trace.old) (A.held trace.new)
-        (B.held report.old) (B.held report.new)) }
-
-    // Where the trace's sink fails, at its flush too, the report's is left as it was.
-    ensures first { A.failed trace.old < A.failed trace.new → report.new ≡ report.old }
-
-    // No counter of a run that succeeds passes 2^63.
-    ensures lasts { OnOk result (¬ (WearsOut scenario.now)) }
+    // The sinks get exactly the trace of the scenario's run, and the report on it; after a fault a beginning of that.
+    ensures promise { KeepsPromise A.held A.failed B.held B.failed scenario.now trace.old trace.new report.old report.new result }
 
     // No fault comes without its cause.
     ensures worn { IsErrOf result Fault.Worn → WearsOut scenario.now }
-    ensures write { IsErrOf result Fault.Write
-        → (A.failed trace.old < A.failed trace.new) ⊎ (B.failed report.old < B.failed report.new) }
-    ensures whole { OnOk result (A.failed trace.new ≡ A.failed trace.old) }
-    ensures whole_report { OnOk result (B.failed report.new ≡ B.failed report.old) }
     ensures others { IfErr result (λ fault. fault ≢ Fault.Write → A.failed trace.new ≡ A.failed trace.old) }
-    ensures others_report { IfErr result (λ fault. fault ≢ Fault.Write → B.failed report.new ≡ B.failed report.old) }
     ensures relay { IfErr result (λ fault. fault ≢ Fault.Relay) }
 {
     let outcome = rows_in_turn(rt, alloc, scenario, division);

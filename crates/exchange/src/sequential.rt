@@ -1,8 +1,8 @@
-ghost use Rattle.std.specs.Prelude.{◌≡◌, ◌≢◌, ◌+◌, ◌<◌, ◌^◌, ◌⊎◌, IfOk, OnOk, IfErr, OnErr, IsErrOf, All};
+ghost use Rattle.std.specs.Prelude.{◌≡◌, ◌≢◌, ◌+◌, ◌<◌, ◌^◌, IfOk, OnOk, IfErr, IsErrOf, All};
 ghost use Rattle.scenario.specs.Setup.{IsSound};
 ghost use Rattle.trace.specs.Text.{NamesMembers};
 ghost use Rattle.member_laws.specs.Runs.{IsRunOf, WearsOut};
-ghost use Rattle.exchange.specs.Promise.{WritesRun, WritesBeginning};
+ghost use Rattle.exchange.specs.Promise.{KeepsPromise};
 
 use crate::outputs::write_run;
 use base::{Fault, Memory, Moment};
@@ -35,26 +35,12 @@ pub fn run_one<A: Sink, B: Sink>(
     requires countable { A.failed trace.old < 2 ^ 63 }
     requires countable_report { B.failed report.old < 2 ^ 63 }
 
-    // The sinks get exactly the trace of the scenario's run, and the report on it.
-    ensures written { IfOk result (λ summary. WritesRun scenario.now (A.held trace.old) (A.held trace.new)
-        (B.held report.old) (B.held report.new) summary.rows) }
-    ensures beginning { OnErr result (WritesBeginning scenario.now (A.held trace.old) (A.held trace.new)
-        (B.held report.old) (B.held report.new)) }
-
-    // Where the trace's sink fails, at its flush too, the report's is left as it was.
-    ensures first { A.failed trace.old < A.failed trace.new → report.new ≡ report.old }
-
-    // No counter of a run that succeeds passes 2^63.
-    ensures lasts { OnOk result (¬ (WearsOut scenario.now)) }
+    // The sinks get exactly the trace of the scenario's run, and the report on it; after a fault a beginning of that.
+    ensures promise { KeepsPromise A.held A.failed B.held B.failed scenario.now trace.old trace.new report.old report.new result }
 
     // No fault comes without its cause.
     ensures worn { IsErrOf result Fault.Worn → WearsOut scenario.now }
-    ensures write { IsErrOf result Fault.Write
-        → (A.failed trace.old < A.failed trace.new) ⊎ (B.failed report.old < B.failed report.new) }
-    ensures whole { OnOk result (A.failed trace.new ≡ A.failed trace.old) }
-    ensures whole_report { OnOk result (B.failed report.new ≡ B.failed report.old) }
     ensures others { IfErr result (λ fault. fault ≢ Fault.Write → A.failed trace.new ≡ A.failed trace.old) }
-    ensures others_report { IfErr result (λ fault. fault ≢ Fault.Write → B.failed report.new ≡ B.failed report.old) }
     ensures relay { IfErr result (λ fault. fault ≢ Fault.Relay) }
 {
     let outcome = rows_of_whole(alloc, scenario);

@@ -3,7 +3,7 @@ ghost use Rattle.std.specs.Prelude.{◌<◌, ◌≤◌, ◌^◌};
 use base::Moment;
 
 /// How many ticks the first turn of a run may take.
-const FIRST_TICKS: u64 = 16_384;
+const FIRST_TICKS: u64 = 8_192;
 
 /// A turn that writes fewer rows than these may be longer.
 const FEW_ROWS: usize = 4_096;

@@ -17,9 +17,10 @@ use Rattle.std.proofs.lemmas.List.Elements.{All-from_get_or}
 use Rattle.std.proofs.lemmas.List.Folds.{list_any-append, list_any_none, fold-map}
 use Rattle.scenario.specs.Setup.{Group, names_in, names_below, group_at}
 use Rattle.scenario.specs.Reading.{names_of_all, member_named}
-use Rattle.scenario.specs.Rules.{is_name_byte, is_group_name, any_two}
-use Rattle.scenario.specs.Roster.{named_group, AreNumberedFrom, start_in}
+use Rattle.scenario.specs.Rules.{is_name_byte, is_group_name, any_two, breaks_names}
+use Rattle.scenario.specs.Roster.{named_group, roster_of, AreNumberedFrom, IsRoster, start_in}
 use Rattle.scenario.specs.declared.roster.Block.{Block}
+use Rattle.scenario.specs.declared.roster.Roster.TheInside.{Inside}
 
 module _ (name : List ℕ) (test : String Global → Bool) (same : (k : String Global) → test k ≡ bytes_eq name (string_bytes k)) where
   place_same : (es : List (String Global × Block)) → position_or_len test (keys_of es) ≡ position_or_len (λ (g : Group). bytes_eq name g.name) (map named_group es)
@@ -320,6 +321,19 @@ not_dash b h = grind (arith, nat_tests)
 
 pub dash_free : (bs : List ℕ) → ((i : ℕ) → i < length bs → get_or bs i 0 ≢ 45) → list_any dash bs ≡ false
 dash_free bs h = list_any_none dash bs (All-from_get_or (λ b. dash b ≡ false) bs 0 (λ i within. not_dash (get_or bs i 0) (h i within)))
+
+pub named_parts : (gs : List Group) → breaks_names gs ≡ false → (list_any bad gs ≡ false) × (any_two bytes_eq (map (λ (g : Group). g.name) gs) ≡ false)
+unfolding breaks_names
+named_parts gs h = neither (list_any bad gs) (any_two bytes_eq (map (λ (g : Group). g.name) gs)) h
+
+-- where a roster has the member of a name whose parts are these
+pub in_roster : (r : Inside) → IsRoster r → (name pre tail : List ℕ) → name ≡ pre ++ 45 ∷ tail → ((i : ℕ) → i < length pre → get_or pre i 0 ≢ 45)
+    → (test : String Global → Bool) → ((k : String Global) → test k ≡ bytes_eq pre (string_bytes k)) → (b : Block) (i : ℕ) → lookup test r.groups.entries ≡ Some b → tail ≡ decimal i → i < b.count
+    → IsPlace name 0 r.groups.entries b i
+in_roster r is name pre tail parts dashless test same b i found index below =
+    let plain = dash_free pre dashless in
+    let small = small_count name pre tail parts plain test same r.groups.entries 0 b is.numbered found in
+    place_found name pre tail parts plain test same r.groups.entries 0 b i is.numbered (named_parts (roster_of r) is.named).0 found index below (omega (arith, small))
 
 has_dash : (group : List ℕ) (i : ℕ) → list_any dash (spelt group i) ≡ true
 has_dash group i =

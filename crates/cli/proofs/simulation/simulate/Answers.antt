@@ -3,7 +3,11 @@ use Rattle.std.proofs.Common.{rules}
 use Rattle.cli.proofs.simulation.simulate.Goals as goal
 
 pub returns-clause-written : goal.returns-clause-written
-returns-clause-written g c = search rules fits 100
+returns-clause-written g c =
+    let written = c.run-outcome.ensures.promise.written in
+    search rules fits 100
 
 pub returns-clause-beginning : goal.returns-clause-beginning
-returns-clause-beginning g c = search rules fits 100
+returns-clause-beginning g c =
+    let beginning = c.run-outcome.ensures.promise.beginning in
+    search rules fits 100

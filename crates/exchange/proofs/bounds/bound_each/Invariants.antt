@@ -1,4 +1,4 @@
-use Rattle.std.proofs.Common.{◌≡◌, ◌++◌, ◌<◌, ℕ}
+use Rattle.std.proofs.Common.{◌≡◌, ◌++◌, ℕ}
 use Rattle.scenario.specs.Setup.{Setup}
 use Rattle.windows.specs.Cluster.{IsPeopled}
 use Rattle.windows.specs.Several.{parts_of}

@@ -1,4 +1,4 @@
-use Rattle.std.proofs.Common.{◌≡◌, length, ap, ◌∙◌, sym, subst, arith}
+use Rattle.std.proofs.Common.{length, ap, ◌∙◌, sym, subst}
 use Rattle.exchange.specs.Parts.{AreFirstMoments}
 use Rattle.exchange.proofs.Limits.{both_ok, as_many, by_horizons}
 use Rattle.exchange.proofs.bounds.bounded_by_horizons.Goals as goal

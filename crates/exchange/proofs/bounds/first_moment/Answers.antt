@@ -1,4 +1,4 @@
-use Rattle.std.proofs.Common.{◌+◌, ◌≤◌, arith}
+use Rattle.std.proofs.Common.{◌+◌, arith}
 use Rattle.exchange.proofs.bounds.first_moment.Goals as goal
 
 pub returns-in-None-clause-over : goal.returns-in-None-clause-over

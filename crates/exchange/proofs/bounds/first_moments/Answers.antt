@@ -1,6 +1,5 @@
-use Rattle.std.proofs.Common.{◌+◌, ◌++◌, ◌∷◌, [], take, ap, ◌∙◌, sym, subst, arith}
+use Rattle.std.proofs.Common.{◌+◌, ◌++◌, ◌∷◌, [], take, ap, ◌∙◌, sym, arith}
 use Rattle.std.proofs.lemmas.List.{take_more}
-use Rattle.exchange.specs.Parts.{AreFirstMoments}
 use Rattle.exchange.proofs.Limits.{first_more}
 use Rattle.exchange.proofs.bounds.first_moments.Goals as goal
 

@@ -1,4 +1,4 @@
-use Rattle.std.proofs.Common.{[], ◌++◌, sym, subst, refl}
+use Rattle.std.proofs.Common.{[], sym, subst}
 use Rattle.exchange.specs.Promise.{BeginsRun}
 use Rattle.exchange.proofs.Goes.{not_yet, begins}
 use Rattle.exchange.proofs.driver.turns_by_crew.Goals as goal

@@ -1,4 +1,4 @@
-use Rattle.std.proofs.Common.{◌≡◌, ◌<◌, ◌++◌, eqb, not, vec_len, length, map, All, count_by, ap, ◌∙◌, sym, subst}
+use Rattle.std.proofs.Common.{◌<◌, ◌++◌, eqb, not, vec_len, length, map, All, count_by, ap, ◌∙◌, sym, subst}
 use Rattle.std.specs.List.{slice_get, flat_map, filter}
 use Rattle.std.proofs.lemmas.List.Elements.{All-from_recursion}
 use Rattle.base.specs.Rising.{IsRising, IsPlaceBefore, AreNew}
