@@ -8,6 +8,7 @@ use Rattle.scenario.specs.declared.division.DivisionFault.TheVariants as divisio
 use Rattle.clap.specs.Words.{Text}
 use Rattle.base.specs.declared.fault.Fault.{Fault}
 use Rattle.base.specs.declared.fault.Fault.TheVariants as fault
+use Rattle.command_line.specs.Shown.{shown_name}
 use Rattle.command_line.specs.Division.{AreParts, AsksForWorkers, DivisionFails, ListFails}
 use Rattle.command_line.specs.declared.words.Split.{Split}
 use Rattle.command_line.specs.declared.failure.Failure.{Failure}
@@ -39,7 +40,7 @@ division_number division.Parts = 3
 
 -- what failed, in words
 abbrev pub message_of : Failure → List ℕ
-message_of (File name) = codes "file " ++ name.now
+message_of (File name) = codes "file " ++ shown_name name.now
 message_of Usage = codes "usage"
 message_of (Rule number) = codes "scenario rule " ++ decimal number
 message_of Workers = codes "workers"

@@ -2,3 +2,4 @@ pub mod Failures
 pub mod Words
 pub mod Division
 pub mod Printed
+pub mod Shown

@@ -3,6 +3,7 @@ ghost use Rattle.std.specs.Prelude.{◌≡◌, ◌≤◌, Some, OnOk};
 ghost use Rattle.std.specs.Io.KnownBytes.{Appends};
 ghost use Rattle.command_line.specs.Failures.{status_of, message_of, failure_line, fault_number, division_number};
 
+use crate::shown::write_name;
 use base::Fault;
 use scenario::DivisionFault;
 use std::io::Write;
@@ -73,7 +74,10 @@ impl fmt::Display for Failure<'_> {
 
     fn fmt<W: fmt::Write>(&self, f: &mut fmt::Formatter<W>) -> fmt::Result {
         match self {
-            Failure::File(name) => write!(f, "file {name}"),
+            Failure::File(name) => {
+                write!(f, "file ")?;
+                write_name(f, name)
+            }
             Failure::Usage => write!(f, "usage"),
             Failure::Rule(rule) => write!(f, "scenario rule {rule}"),
             Failure::Workers => write!(f, "workers"),
@@ -91,9 +95,10 @@ impl fmt::Display for Failure<'_> {
     }
 }
 
-/// Writes the line that tells users of a failure. There is none for standard output that failed.
+/// Writes the line that tells users of a failure, a name in it as `write_name` does. There is none for standard
+/// output that failed.
 fn tell<E: Write>(failure: &Failure<'_>, err: &mut E) -> io::Result<()>
-    ensures { OnOk result (Appends (E.contents err.old) (E.contents err.new) (failure_line failure.now)) }
+    ensures told { OnOk result (Appends (E.contents err.old) (E.contents err.new) (failure_line failure.now)) }
 {
     match failure {
         Failure::Output => Ok(()),

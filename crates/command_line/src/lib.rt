@@ -4,6 +4,7 @@
 mod division;
 mod failure;
 mod printing;
+mod shown;
 pub mod system;
 mod words;
 

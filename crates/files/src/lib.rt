@@ -8,6 +8,8 @@ ghost use Rattle.files.specs.Files.{KnownFile, Holds, HoldsNow, IsAbsent, Closes
 mod identity;
 mod reading;
 pub mod system;
+#[cfg(test)]
+mod system_tests;
 pub mod testing;
 
 pub use reading::read_whole;

@@ -1,0 +1,28 @@
+-- What a line shows of a name.
+use Rattle.std.specs.Prelude.{ℕ, List, ◌++◌, Bool, ◌||◌, ◌==◌, false, if◌then◌else◌, codes, encode_utf8}
+use Rattle.std.specs.Char.{is_control}
+use Rattle.std.specs.Fmt.{digits}
+use Rattle.std.specs.List.{flat_map}
+use Rattle.std.specs.Str.{chars}
+
+-- the character can end the line or change what stands there: a control character, or a separator of lines or paragraphs
+abbrev pub breaks_line : ℕ → Bool
+breaks_line c = is_control c || (c == 0x2028 || c == 0x2029)
+
+-- its number in base 16
+abbrev pub escaped_number : ℕ → List ℕ
+escaped_number c = codes "\\u{" ++ digits 16 false c ++ codes "}"
+
+-- the character as Rust's texts escape it, where it breaks a line or is what escapes begin with; else itself
+abbrev pub shown_char : ℕ → List ℕ
+shown_char c =
+    if c == 9 then codes "\\t"
+    else if c == 10 then codes "\\n"
+    else if c == 13 then codes "\\r"
+    else if c == 92 then codes "\\\\"
+    else if breaks_line c then escaped_number c
+    else encode_utf8 c
+
+-- each character of the name, shown so
+abbrev pub shown_name : List ℕ → List ℕ
+shown_name name = flat_map shown_char (chars name)

@@ -1,0 +1,155 @@
+//! What the system's files do. Each test works in a folder of its own below the one that it runs in.
+
+use crate::system::SystemFiles;
+use crate::{FileFault, Files};
+use std::io::Write;
+use std::os::unix::fs::symlink;
+use std::test::Fail;
+use std::{fs, io};
+
+/// Makes a folder with nothing in it, whatever an earlier test left there.
+fn begin_in(rt: &HostRuntime, folder: &str) -> io::Result<()> {
+    let _ = fs::remove_dir_all(rt, folder);
+    fs::create_dir(rt, folder)
+}
+
+/// Whether the system's files read these bytes under a name.
+fn reads(rt: &HostRuntime, name: &str, bytes: &[u8]) -> bool {
+    let mut files = SystemFiles::new(rt);
+    match files.read(rt.alloc(), name) {
+        Ok(held) => held.as_slice() == bytes,
+        Err(_) => false,
+    }
+}
+
+#[test]
+fn a_file_is_read_whole(rt: HostRuntime) -> Result<(), Fail> {
+    begin_in(&rt, "reading")?;
+    let mut bytes = Vec::new(rt.alloc());
+    for place in 0..100_000u32 {
+        bytes.push((place % 251) as u8)?;
+    }
+    fs::write(&rt, "reading/long", bytes.as_slice())?;
+    fs::write(&rt, "reading/empty", "")?;
+    assert!(rt; reads(&rt, "reading/long", bytes.as_slice()));
+    assert!(rt; reads(&rt, "reading/empty", b""));
+    fs::remove_dir_all(&rt, "reading")?;
+    Ok(())
+}
+
+#[test]
+fn what_cannot_be_read_is_refused(rt: HostRuntime) {
+    let mut files = SystemFiles::new(&rt);
+    for name in ["no-such-file", "no-such-folder/file", "."] {
+        assert!(rt; matches!(files.read(rt.alloc(), name), Err(FileFault::Refused)));
+    }
+}
+
+/// Makes a file, writes the bytes to it where there are some, and closes it. Answers whether it was made.
+fn store(rt: &HostRuntime, name: &str, bytes: &[u8]) -> io::Result<bool> {
+    let mut files = SystemFiles::new(rt);
+    match files.make(name) {
+        Ok(mut made) => {
+            if !bytes.is_empty() {
+                made.write_all(bytes)?;
+            }
+            files.close(name, made);
+            Ok(true)
+        }
+        Err(_) => Ok(false),
+    }
+}
+
+#[test]
+fn what_is_made_holds_what_was_written(rt: HostRuntime) -> Result<(), Fail> {
+    begin_in(&rt, "making")?;
+    for bytes in [
+        b"first".as_slice(),
+        b"a longer second".as_slice(),
+        b"".as_slice(),
+    ] {
+        assert!(rt; store(&rt, "making/file", bytes)?);
+        assert!(rt; reads(&rt, "making/file", bytes));
+    }
+    fs::remove_dir_all(&rt, "making")?;
+    Ok(())
+}
+
+#[test]
+fn an_older_file_stays_until_it_is_written(rt: HostRuntime) -> Result<(), Fail> {
+    begin_in(&rt, "older")?;
+    fs::write(&rt, "older/file", "held before")?;
+    let mut files = SystemFiles::new(&rt);
+    let mut made = files.make("older/file").ok().ok_or("not made")?;
+    assert!(rt; reads(&rt, "older/file", b"held before"));
+    made.write_all(b"new")?;
+    assert!(rt; reads(&rt, "older/file", b"new"));
+    files.close("older/file", made);
+    fs::remove_dir_all(&rt, "older")?;
+    Ok(())
+}
+
+#[test]
+fn no_file_is_made_without_its_folder(rt: HostRuntime) -> Result<(), Fail> {
+    begin_in(&rt, "folders")?;
+    for name in ["folders/none/file", "folders", "folders/file/"] {
+        assert!(rt; !store(&rt, name, b"bytes")?);
+    }
+    // an empty folder, as it was
+    assert!(rt; fs::remove_dir(&rt, "folders").is_ok());
+    Ok(())
+}
+
+/// Names of the file that was read, of one to be made, and of a second; the first that can't be made.
+const NAMES: [(&str, &str, &str, u8); 9] = [
+    ("names/old", "names/new", "names/./new", 2),
+    ("names/old", "names/old", "names/new", 1),
+    ("names/old", "names/./old", "names/new", 1),
+    ("names/old", "names/link", "names/new", 1),
+    ("names/old", "names/hard", "names/new", 1),
+    ("names/old", "names/new", "names/hard", 2),
+    ("names/old", "names/new", "names/none/file", 2),
+    ("names/old", "names/to-new", "names/new", 2),
+    ("names/old", "names/new", "names/to-new", 2),
+];
+
+/// Makes the files of two names after a third is read, and answers which is the first that can't be made, 0
+/// where both can.
+fn first_refused(rt: &HostRuntime, source: &str, first: &str, second: &str) -> u8 {
+    let mut files = SystemFiles::new(rt);
+    if files.read(rt.alloc(), source).is_err() {
+        return 3;
+    }
+    match files.make(first) {
+        Ok(_made) => match files.make(second) {
+            Ok(_other) => 0,
+            Err(_) => 2,
+        },
+        Err(_) => 1,
+    }
+}
+
+/// Makes a file, and three other names for it or for one that isn't there.
+fn name_files(rt: &HostRuntime) -> io::Result<()> {
+    fs::write(rt, "names/old", "held before")?;
+    fs::hard_link(rt, "names/old", "names/hard")?;
+    symlink(rt, "old", "names/link")?;
+    symlink(rt, "new", "names/to-new")
+}
+
+#[test]
+fn one_file_under_two_names_is_not_made(rt: HostRuntime) -> Result<(), Fail> {
+    begin_in(&rt, "names")?;
+    name_files(&rt)?;
+    for (source, first, second, refused) in NAMES {
+        assert!(rt;
+            first_refused(&rt, source, first, second) == refused,
+            "{first} {second}"
+        );
+        assert!(rt; reads(&rt, "names/old", b"held before"));
+        assert!(rt; !fs::exists(&rt, "names/new")?);
+    }
+    assert!(rt; first_refused(&rt, "names/old", "/dev/null", "/dev/null") == 0);
+    fs::remove_dir_all(&rt, "names")?;
+    Ok(())
+}
