@@ -1,3 +1,34 @@
-//! The system's files, and the words that it hands to a program.
+//! The program over the system: its files, and the words that it hands to a program.
+ghost use Rattle.std.specs.Prelude.{◌≡◌, ◌≤◌};
+ghost use Rattle.std.specs.Process.{exit_status};
+
+use crate::program::command;
+use command_line::refuse;
 pub use command_line::system::words;
 pub use files::system::SystemFiles;
+use std::io::Write;
+use std::process::ExitCode;
+use std::rt::{Env, Files};
+use std::sync::Wait;
+use std::thread::Threads;
+
+/// Does what the words of the program's command line ask for, and answers the status that the program ends with.
+/// `out` and `err` are its streams.
+pub fn run_program<R: Threads + Wait + Sync + Env + Files + AllocGlobal, O: Write, E: Write>(
+    rt: &R,
+    out: &mut O,
+    err: &mut E,
+) -> ExitCode
+    ensures range { exit_status result ≤ 5 }
+    ensures silent { 2 ≤ exit_status result → out.new ≡ out.old }
+    ensures quiet { exit_status result ≡ 0 → err.new ≡ err.old }
+{
+    let status = match words(rt) {
+        Ok(words) => {
+            let mut files = SystemFiles::new(rt);
+            command(rt, rt.alloc(), words.as_slice(), &mut files, out, err)
+        }
+        Err(failure) => refuse(&failure, err),
+    };
+    ExitCode::from(status)
+}

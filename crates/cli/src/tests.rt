@@ -90,7 +90,7 @@ fn three_files(rt: &impl AllocGlobal) -> Result<MemoryFiles, Fail> {
 }
 
 /// Status, standard output and standard error of a command over `three_files`, and the words that end so.
-const OUTCOMES: [(u8, &str, &str, &[&str]); 10] = [
+const OUTCOMES: [(u8, &str, &str, &[&str]); 11] = [
     (0, "members 2\n", "", &["check two.toml"]),
     (0, "members 3\n", "", &["check three.toml"]),
     (
@@ -118,6 +118,12 @@ const OUTCOMES: [(u8, &str, &str, &[&str]); 10] = [
         "",
         "swimsim: file absent\n",
         &["check absent", "run absent --trace t.csv"],
+    ),
+    (
+        1,
+        "",
+        "swimsim: file a\\u{1b}[2J\n",
+        &["check a\u{1b}[2J", "run a\u{1b}[2J --trace t.csv"],
     ),
     (
         2,
@@ -314,7 +320,7 @@ fn help_is_printed(rt: HostRuntime) -> Result<(), Fail> {
 }
 
 /// What of the text of two members is replaced by what, and the line of the rule that this breaks.
-const BROKEN: [(&str, &str, &str); 8] = [
+const BROKEN: [(&str, &str, &str); 10] = [
     ("seed = 7", "seed = = 7", "swimsim: scenario rule 1\n"),
     ("seed = 7", "", "swimsim: scenario rule 2\n"),
     (
@@ -325,6 +331,16 @@ const BROKEN: [(&str, &str, &str); 8] = [
     ("seed = 7", "seed = \"7\"", "swimsim: scenario rule 4\n"),
     ("seed = 7", "seed = -1", "swimsim: scenario rule 5\n"),
     ("name = \"n\"", "name = \"N\"", "swimsim: scenario rule 6\n"),
+    (
+        "count = 2\n",
+        "count = 2\n[[crash]]\nmember = \"m-0\"\nat = 1\n",
+        "swimsim: scenario rule 7\n",
+    ),
+    (
+        "count = 2\n",
+        "count = 2\n[[crash]]\nmember = \"n-0\"\nat = 1\n[[crash]]\nmember = \"n-0\"\nat = 2\n",
+        "swimsim: scenario rule 8\n",
+    ),
     (
         "timeout = 300",
         "timeout = 1000",
@@ -414,5 +430,36 @@ fn each_failure_has_its_line_and_status(rt: HostRuntime) {
         assert_eq!(rt; err.bytes(), line.as_bytes());
         let mut closed = MemoryWriter::new(rt.alloc(), Failing::AtWrite(1));
         assert_eq!(rt; refuse(&failure, &mut closed), status);
+    }
+}
+
+/// Names of files, and the lines that tell them.
+const NAMES: [(&str, &str); 9] = [
+    ("", "swimsim: file \n"),
+    (
+        "na\u{ef}ve \"\u{2713}\"",
+        "swimsim: file na\u{ef}ve \"\u{2713}\"\n",
+    ),
+    ("a\nb", "swimsim: file a\\nb\n"),
+    ("a\\nb", "swimsim: file a\\\\nb\n"),
+    ("\t\r\n", "swimsim: file \\t\\r\\n\n"),
+    ("\u{0}\u{b}\u{1f} ", "swimsim: file \\u{0}\\u{b}\\u{1f} \n"),
+    (
+        "~\u{7f}\u{80}\u{85}",
+        "swimsim: file ~\\u{7f}\\u{80}\\u{85}\n",
+    ),
+    ("\u{9f}\u{a0}", "swimsim: file \\u{9f}\u{a0}\n"),
+    (
+        "\u{2027}\u{2028}\u{2029}\u{202a}",
+        "swimsim: file \u{2027}\\u{2028}\\u{2029}\u{202a}\n",
+    ),
+];
+
+#[test]
+fn each_name_is_told_in_one_line(rt: HostRuntime) {
+    for (name, line) in NAMES {
+        let mut err = MemoryWriter::new(rt.alloc(), Failing::Never);
+        assert!(rt; refuse(&Failure::File(name), &mut err) == 1);
+        assert!(rt; err.bytes() == line.as_bytes(), "{line}");
     }
 }
