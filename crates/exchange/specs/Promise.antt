@@ -37,7 +37,7 @@ pub record KeepsPromise {A B : Type 0} (held : A → Option (List ℕ)) (failed 
   pub first : failed trace_old < failed trace_new → report_new ≡ report_old
   -- no counter of a run that succeeds passes 2^63
   pub lasts : OnOk result (¬ (WearsOut s))
-  -- a sink is said to have failed only if one did, and where a run succeeds or another fault comes no sink has
+  -- a sink is said to have failed only if one did; where a run succeeds no sink has, where another fault comes the report's hasn't
   pub write : IsErrOf result fault.Write → (failed trace_old < failed trace_new) ⊎ (failed_report report_old < failed_report report_new)
   pub whole : OnOk result (failed trace_new ≡ failed trace_old)
   pub whole_report : OnOk result (failed_report report_new ≡ failed_report report_old)

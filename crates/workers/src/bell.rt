@@ -12,7 +12,7 @@ pub(crate) struct Bell {
 }
 
 impl Bell {
-    /// It has not rung yet.
+    /// No errand was dealt yet.
     pub(crate) const fn new() -> Self {
         Bell {
             rings: AtomicU64::new(0),
@@ -41,12 +41,12 @@ impl Bell {
         self.over.load(Ordering::SeqCst)
     }
 
-    /// How often it has rung.
+    /// How often it rang.
     pub(crate) fn rings(&self) -> u64 {
         self.rings.load(Ordering::SeqCst)
     }
 
-    /// Waits until it has rung again after so many times.
+    /// Waits until it rings again after so many times.
     pub(crate) fn wait(&self, rt: &impl Wait, heard: u64) {
         if self.rings_soon(heard) {
             return;
