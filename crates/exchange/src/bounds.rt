@@ -88,10 +88,7 @@ fn bound_all<Q: EventQueue<Event> + Drop>(
 {
     let mut bounded = Vec::new(alloc);
     for part in parts {
-        match bounded.push(Bounded { part, bound }) {
-            Ok(()) => {}
-            Err(_) => return Err(Memory),
-        }
+        bounded.push(Bounded { part, bound })?;
     }
     Ok(bounded)
 }
@@ -113,10 +110,7 @@ pub(crate) fn bounded_by_horizons<Q: EventQueue<Event> + Drop>(
     requires horizons { AreHorizonsOf horizons.now course.now.scenario.now course.now.division.now }
     ensures { IfOk result (λ bounded. AreBounded Q.set course.now.scenario.now course.now.division.now parts.items first bounded.items) }
 {
-    let firsts = match first_moments(alloc, &parts) {
-        Ok(firsts) => firsts,
-        Err(Memory) => return Err(Memory),
-    };
+    let firsts = first_moments(alloc, &parts)?;
     bound_each(alloc, parts, &firsts, limit, horizons, course.end)
 }
 
@@ -129,10 +123,7 @@ fn first_moments<Q: EventQueue<Event> + Drop>(
 {
     let mut firsts = Vec::new(alloc);
     for part in parts {
-        match firsts.push(first_of(part)) {
-            Ok(()) => {}
-            Err(_) => return Err(Memory),
-        }
+        firsts.push(first_of(part))?;
     }
     Ok(firsts)
 }
@@ -167,10 +158,7 @@ fn bound_each<Q: EventQueue<Event> + Drop>(
     for part in parts {
         let horizon = horizons.bound(bounded.len(), firsts, end);
         let bound = Moment(horizon.ticks().min(limit.ticks()));
-        match bounded.push(Bounded { part, bound }) {
-            Ok(()) => {}
-            Err(_) => return Err(Memory),
-        }
+        bounded.push(Bounded { part, bound })?;
     }
     Ok(bounded)
 }

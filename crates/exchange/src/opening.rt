@@ -40,10 +40,7 @@ fn empty_parts(alloc: Global, count: usize) -> Result<Vec<Part<TreeQueue<Event>>
     let mut parts = Vec::new(alloc);
     for number in 0..count {
         let part = Part::new(alloc, number, TreeQueue::new(alloc));
-        match parts.push(part) {
-            Ok(()) => {}
-            Err(_) => return Err(Memory),
-        }
+        parts.push(part)?;
     }
     Ok(parts)
 }
@@ -72,10 +69,7 @@ fn empty_wheels(alloc: Global, count: usize) -> Result<Vec<Part<WheelQueue<Event
     for number in 0..count {
         let wheel = WheelQueue::new(alloc)?;
         let part = Part::new(alloc, number, wheel);
-        match parts.push(part) {
-            Ok(()) => {}
-            Err(_) => return Err(Memory),
-        }
+        parts.push(part)?;
     }
     Ok(parts)
 }
@@ -94,10 +88,7 @@ fn admit_all<Q: EventQueue<Event> + Drop>(
 {
     for number in 0..scenario.members() {
         let member = MemberId(number as u16);
-        match admit_one(alloc, parts, scenario, division, member) {
-            Ok(()) => {}
-            Err(Memory) => return Err(Memory),
-        }
+        admit_one(alloc, parts, scenario, division, member)?;
     }
     Ok(())
 }
@@ -118,8 +109,5 @@ fn admit_one<Q: EventQueue<Event> + Drop>(
 {
     let place = division.part(member);
     let part = &mut parts[place];
-    match part.admit(alloc, scenario, member) {
-        Ok(()) => Ok(()),
-        Err(Memory) => Err(Memory),
-    }
+    part.admit(alloc, scenario, member)
 }

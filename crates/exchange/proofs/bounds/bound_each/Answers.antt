@@ -17,8 +17,8 @@ pub loop-part-preserved : goal.loop-part-preserved
 loop-part-preserved g c =
     record {
       left = append_assoc c.loop-part.yielded (c.in-Some.part ∷ []) c.next.new.self.rest.items ∙ ap (λ ps. c.loop-part.yielded ++ ps) (sym c.in-Some.ensures.steps.0) ∙ c.loop-part.invariant.left;
-      parts = ap (λ l. map (λ b. b.part) l) c.in-Ok.ensures.items ∙ map-append (λ b. b.part) c.loop-part.bounded.items _ ∙ ap (λ l. l ++ c.in-Some.part ∷ []) c.loop-part.invariant.parts;
+      parts = ap (λ l. map (λ b. b.part) l) c.in_ok-push.ensures.items ∙ map-append (λ b. b.part) c.loop-part.bounded.items _ ∙ ap (λ l. l ++ c.in-Some.part ∷ []) c.loop-part.invariant.parts;
       bounds = λ s division between walks.
-          limited_more _ between c.args.firsts.now c.args.end c.args.limit c.loop-part.bounded.items c.push.new.self.items _ c.in-Ok.ensures.items (c.loop-part.invariant.bounds s division between walks)
+          limited_more _ between c.args.firsts.now c.args.end c.args.limit c.loop-part.bounded.items c.push.new.self.items _ c.in_ok-push.ensures.items (c.loop-part.invariant.bounds s division between walks)
           (c.bound-horizon.result, subst (λ n. IsHorizon (IsPeopled s division) between c.args.firsts.now c.args.end n c.bound-horizon.result) (omega (arith, c.len.ensures)) (c.bound-horizon.ensures s division between walks), omega (arith, c.min.ensures, c.ticks.ensures, c.ticks-in-loop-part.ensures));
     }

@@ -11,7 +11,7 @@ pub admit_one-requires-clause-so_far : goal.admit_one-requires-clause-so_far
 admit_one-requires-clause-so_far g c = c.loop-number.invariant.opened
 
 pub loop-number-preserved : goal.loop-number-preserved
-loop-number-preserved g c = record { opened = c.in-Ok.ensures.opened; below = below_more _ _ c.loop-number.invariant.below c.admit_one.ensures.below }
+loop-number-preserved g c = record { opened = c.in_ok-admit_one.ensures.opened; below = below_more _ _ c.loop-number.invariant.below c.admit_one.ensures.below }
 
 pub returns-clause-opened : goal.returns-clause-opened
 returns-clause-opened g c =

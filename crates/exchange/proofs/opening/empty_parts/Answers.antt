@@ -10,9 +10,9 @@ use Rattle.exchange.proofs.opening.empty_parts.Goals as goal
 
 pub loop-number-preserved : goal.loop-number-preserved
 loop-number-preserved c = record {
-  count = omega (arith, c.in-Ok.ensures.len);
+  count = omega (arith, c.in_ok-push.ensures.len);
   empty =
-      subst (AllByRecursion (λ part. world_of set_of part ≡ nobody)) (sym c.in-Ok.ensures.items)
+      subst (AllByRecursion (λ part. world_of set_of part ≡ nobody)) (sym c.in_ok-push.ensures.items)
       (all_append (λ part. world_of set_of part ≡ nobody) c.loop-number.parts.items (c.new-part.result ∷ []) c.loop-number.invariant.empty
       (c.new-part.ensures.world ∙ ap (λ events. record { members = empty; pending = events }) (ap contents_in c.new.ensures ∙ contents_by-empty content_of), tt));
 }

@@ -10,9 +10,9 @@ use Rattle.exchange.proofs.opening.empty_wheels.Goals as goal
 
 pub loop-number-preserved : goal.loop-number-preserved
 loop-number-preserved c = record {
-  count = omega (arith, c.in-Ok.ensures.len);
+  count = omega (arith, c.in_ok-push.ensures.len);
   empty =
-      subst (AllByRecursion (λ part. world_of wheel_set part ≡ nobody)) (sym c.in-Ok.ensures.items)
+      subst (AllByRecursion (λ part. world_of wheel_set part ≡ nobody)) (sym c.in_ok-push.ensures.items)
       (all_append (λ part. world_of wheel_set part ≡ nobody) c.loop-number.parts.items (c.new-part.result ∷ []) c.loop-number.invariant.empty
       (c.new-part.ensures.world ∙ ap (λ events. record { members = empty; pending = events }) (ap contents_in c.in_ok-wheel.ensures ∙ contents_by-empty content_of), tt));
 }
