@@ -2,7 +2,7 @@
 //! less than it is given.
 
 use crate::tests::{REPORTED, RUN, expect_refusal, files_with, holds, left_by, older_files};
-use exchange::testing::TWO_MEMBERS;
+use worked_runs::TWO_MEMBERS;
 use files::testing::Failing;
 use std::test::Fail;
 

@@ -1,6 +1,6 @@
 use crate::{Failure, command, refuse};
 use base::Fault;
-use exchange::testing::TWO_MEMBERS;
+use worked_runs::TWO_MEMBERS;
 use files::testing::{Failing, MemoryFiles, MemoryWriter};
 use scenario::DivisionFault;
 use std::process::Abort;

@@ -1,7 +1,7 @@
 //! The worked runs, by the words that ask for them: what the program prints, and the files that it leaves.
 
 use crate::tests::{Left, REPORTED, holds, left_by, older_files};
-use exchange::testing::{CRASH_DETECTED, JOIN, LOST_PATH, THREE_HELPERS, WORKED, Worked};
+use worked_runs::{CRASH_DETECTED, JOIN, LOST_PATH, THREE_HELPERS, WORKED, Worked};
 use files::testing::Failing;
 use std::process::Abort;
 use std::sync::Wait;

@@ -16,21 +16,6 @@ mod slice;
 mod stream;
 mod stream_writer;
 mod tallied;
-pub mod testing;
-#[cfg(test)]
-mod tests;
-#[cfg(test)]
-mod tests_horizons;
-#[cfg(test)]
-mod tests_meeting;
-#[cfg(test)]
-mod tests_reports;
-#[cfg(test)]
-mod tests_seeds;
-#[cfg(test)]
-mod tests_turns;
-#[cfg(test)]
-mod tests_workers;
 mod threads;
 mod turns;
 

@@ -1,9 +1,9 @@
 //! The reports of worked runs, byte for byte, and every way in which a report's sink fails.
 
-use crate::sequential::Summary;
-use crate::testing::{TWO_MEMBERS, WORKED};
-use crate::tests_turns::{WAYS, Way, run_by};
+use crate::texts::{TWO_MEMBERS, WORKED};
+use crate::turns_tests::{WAYS, Way, run_by};
 use base::Fault;
+use exchange::Summary;
 use scenario::read;
 use std::marker::Sync;
 use std::process::Abort;

@@ -1,11 +1,9 @@
 //! Runs by parts: whatever the division is, and whoever runs them, they write what `run_one` writes.
 
-use crate::by_workers::run;
-use crate::in_turn::run_in_turn;
-use crate::sequential::{Summary, run_one};
-use crate::testing::{LOST_PATH, THREE_HELPERS, WORKED};
-use crate::tests_meeting::{MEETINGS, text_of};
+use crate::meeting_tests::{MEETINGS, text_of};
+use crate::texts::{LOST_PATH, THREE_HELPERS, WORKED};
 use base::{Fault, Memory};
+use exchange::{Summary, run, run_in_turn, run_one};
 use scenario::{Division, Scenario, Workers, read};
 use std::marker::Sync;
 use std::process::Abort;

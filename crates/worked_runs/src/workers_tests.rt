@@ -1,10 +1,9 @@
 //! Runs by threads: two workers meet at a gate in each window, so they run at once; and a trace of many batches.
 
-use crate::by_workers::run;
-use crate::sequential::Summary;
-use crate::testing::{CRASH_DETECTED, scenario_text};
-use crate::tests_turns::{Way, assert_writes, dealt, run_by};
+use crate::texts::{CRASH_DETECTED, scenario_text};
+use crate::turns_tests::{Way, assert_writes, dealt, run_by};
 use base::Fault;
+use exchange::{Summary, run};
 use scenario::{Workers, read};
 use std::marker::Sync;
 use std::process::Abort;

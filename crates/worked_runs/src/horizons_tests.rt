@@ -1,11 +1,10 @@
 //! Each part runs up to its own horizon: how many windows that takes, as a gate counts them, and that any division by
 //! site writes the same.
 
-use crate::by_workers::run;
-use crate::sequential::Summary;
-use crate::testing::{CRASH_DETECTED, scenario_text};
-use crate::tests_turns::{Way, assert_writes, divided, run_by};
+use crate::texts::{CRASH_DETECTED, scenario_text};
+use crate::turns_tests::{Way, assert_writes, divided, run_by};
 use base::Fault;
+use exchange::{Summary, run};
 use scenario::{Workers, read};
 use std::marker::Sync;
 use std::process::Abort;

@@ -1,14 +1,17 @@
 //! What holds of a run under every seed.
 
-use crate::sequential::{Summary, rows_of_whole, run_one};
-use crate::testing::{LOST_PATH, SLOW_MEMBER, THREE_HELPERS};
+use crate::texts::{LOST_PATH, SLOW_MEMBER, THREE_HELPERS};
 use base::{MemberId, Moment};
+use exchange::{Summary, run_one};
+use links::Links;
 use scenario::{Scenario, read};
 use std::alloc::Global;
 use std::process::Abort;
 use streams::Stream;
 use trace::testing::MemorySink;
 use trace::{Row, What};
+use windows::Part;
+use worker_queue::TreeQueue;
 
 /// The other one of two members.
 const OTHER: [MemberId; 2] = [MemberId(1), MemberId(0)];
@@ -57,8 +60,11 @@ fn seeded(rt: &impl Abort, alloc: Global, seed: u64, text: &str, more: &str) -> 
 /// The rows of its run.
 fn rows_of(rt: &impl Abort, alloc: Global, seed: u64, text: &str, more: &str) -> Vec<Row> {
     let scenario = seeded(rt, alloc, seed, text, more);
-    match rows_of_whole(alloc, &scenario) {
-        Ok(rows) => rows,
+    let past_the_end = Moment(scenario.end().ticks() + 1);
+    let links = Links::of(alloc, &scenario).expect(rt, "memory");
+    let part = Part::whole(alloc, &scenario, TreeQueue::new(alloc)).expect(rt, "memory");
+    match part.run(alloc, past_the_end, &scenario, &links) {
+        Ok(done) => done.rows,
         Err(_) => panic!(rt; "the run was refused"),
     }
 }

@@ -1,8 +1,8 @@
 //! Small clusters in which several mechanisms meet, and the whole traces of their runs, worked out by hand
 //! from the protocol's rules.
 
-use crate::sequential::run_one;
-use crate::testing::{crash_detected, scenario_text, slow_member, trace_text};
+use crate::texts::{crash_detected, scenario_text, slow_member, trace_text};
+use exchange::run_one;
 use scenario::read;
 use std::process::Abort;
 use std::test::Fail;

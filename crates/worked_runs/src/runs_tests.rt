@@ -1,9 +1,9 @@
 //! Whole runs byte for byte, and every way in which a run is refused.
 
-use crate::sequential::Summary;
-use crate::testing::{JOIN, START_ONLY, WORKED};
-use crate::tests_turns::{WAYS, Way, run_by};
+use crate::texts::{JOIN, START_ONLY, WORKED};
+use crate::turns_tests::{WAYS, Way, run_by};
 use base::Fault;
+use exchange::Summary;
 use scenario::{Scenario, read};
 use std::marker::Sync;
 use std::process::Abort;
