@@ -2,9 +2,9 @@
 //! less than it is given.
 
 use crate::tests::{REPORTED, RUN, expect_refusal, files_with, holds, left_by, older_files};
-use worked_runs::TWO_MEMBERS;
 use files::testing::Failing;
 use std::test::Fail;
+use worked_runs::TWO_MEMBERS;
 
 /// Words, a name of which no file can be made, and what is told and left as the trace. A trace is made before
 /// its report, so it is replaced by nothing where the report can't be made. One file doesn't take both.

@@ -1,12 +1,12 @@
 use crate::{Failure, command, refuse};
 use base::Fault;
-use worked_runs::TWO_MEMBERS;
 use files::testing::{Failing, MemoryFiles, MemoryWriter};
 use scenario::DivisionFault;
 use std::process::Abort;
 use std::sync::Wait;
 use std::test::Fail;
 use std::thread::Threads;
+use worked_runs::TWO_MEMBERS;
 
 /// The words that run the scenario of two members.
 pub(crate) const RUN: &str = "run two.toml --trace t.csv";

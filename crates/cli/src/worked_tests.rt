@@ -1,12 +1,12 @@
 //! The worked runs, by the words that ask for them: what the program prints, and the files that it leaves.
 
 use crate::tests::{Left, REPORTED, holds, left_by, older_files};
-use worked_runs::{CRASH_DETECTED, JOIN, LOST_PATH, THREE_HELPERS, WORKED, Worked};
 use files::testing::Failing;
 use std::process::Abort;
 use std::sync::Wait;
 use std::test::Fail;
 use std::thread::Threads;
+use worked_runs::{CRASH_DETECTED, JOIN, LOST_PATH, THREE_HELPERS, WORKED, Worked};
 
 /// What the command leaves that runs this text, where an older trace and an older report stand.
 fn run_of(rt: &(impl Threads + Wait + Sync + AllocGlobal), text: &str) -> Result<Left, Fail> {
