@@ -5,7 +5,8 @@ use Rattle.std.specs.Result.{OnOk, IfErr}
 use Rattle.std.specs.Prelude.{IsErrAnd}
 use Rattle.std.specs.Io.KnownBytes.{Appends}
 use Rattle.clap.specs.Words.{Text}
-use Rattle.cli.specs.Outcomes.{Shelf, FailsCheck, RunFails, CheckFails, Empties, EmptiesTrace, RunsAll, HasDone, report_word, Fails}
+use Rattle.cli.specs.Outcomes.{Shelf, FailsCheck, RunFails, CheckFails, RunsAll, HasDone, Fails}
+use Rattle.files.specs.Files.{Making}
 use Rattle.command_line.specs.Printed.{rows_line}
 use Rattle.command_line.specs.Words.{Answers, AsksForRun, AsksForCheck, IsCommand}
 use Rattle.command_line.specs.declared.words.Asked.{Asked}
@@ -26,65 +27,60 @@ check_usage before run (inl count) = count
 check_usage before run (inr (inl file)) = file.2
 check_usage before run (inr (inr split)) = split.4
 
-run_usage : (before after : Shelf) (makes : Text → Bool) (run : RunWords) → RunFails before after makes run Usage → ⊥
-run_usage before after makes run (inl refused) = check_usage before run refused.cause
-run_usage before after makes run (inr store) = store.cause
+run_usage : (before after : Shelf) (making : Making) (run : RunWords) → RunFails before after making run Usage → ⊥
+run_usage before after making run (inl refused) = check_usage before run refused.cause
+run_usage before after making run (inr store) = store.cause
 
 check_output : (before : Shelf) (run : RunWords) → FailsCheck before run Output → ⊥
 check_output before run (inl count) = count
 check_output before run (inr (inl file)) = file.2
 check_output before run (inr (inr split)) = split.4
 
-run_output : (before after : Shelf) (makes : Text → Bool) (run : RunWords) → RunFails before after makes run Output → ⊥
-run_output before after makes run (inl refused) = check_output before run refused.cause
-run_output before after makes run (inr store) = store.cause
+run_output : (before after : Shelf) (making : Making) (run : RunWords) → RunFails before after making run Output → ⊥
+run_output before after making run (inl refused) = check_output before run refused.cause
+run_output before after making run (inr store) = store.cause
 
--- where memory was refused, no file has changed, but that the trace's may have been made
-run_memory : (words : List Text) (before after : Shelf) (makes : Text → Bool) (run : RunWords) → AsksForRun words run → RunFails before after makes run Memory
-    → (after ≡ before) ⊎ EmptiesTrace words before after
-run_memory words before after makes run asks (inl refused) = inl refused.same
-run_memory words before after makes run asks (inr store) = go store.cause
-  where
-    go : (after ≡ before) ⊎ ((report_word run ≢ None) × Empties before after run.trace.now) → (after ≡ before) ⊎ EmptiesTrace words before after
-    go (inl same) = inl same
-    go (inr emptied) = inr (run, asks, emptied.0, emptied.1)
+-- where memory was refused, no file has changed
+run_memory : (before after : Shelf) (making : Making) (run : RunWords) → RunFails before after making run Memory → after ≡ before
+run_memory before after making run (inl refused) = refused.same
+run_memory before after making run (inr store) = store.cause
 
 -- why a run that the words ask for was not done
-pub run_fails : (words : List Text) (before after : Shelf) (makes : Text → Bool) (run : RunWords) (failure : Failure)
-    → AsksForRun words run → RunFails before after makes run failure → Fails words before after makes failure
-run_fails words before after makes run (File name) asks fails = inl (run, asks, fails)
-run_fails words before after makes run (Rule rule) asks fails = inl (run, asks, fails)
-run_fails words before after makes run Workers asks fails = inl (run, asks, fails)
-run_fails words before after makes run (Division cause) asks fails = inl (run, asks, fails)
-run_fails words before after makes run (Run cause) asks fails = inl (run, asks, fails)
-run_fails words before after makes run Usage asks fails = absurd (run_usage before after makes run fails)
-run_fails words before after makes run Output asks fails = absurd (run_output before after makes run fails)
-run_fails words before after makes run Memory asks fails = run_memory words before after makes run asks fails
+pub run_fails : (words : List Text) (before after : Shelf) (making : Making) (run : RunWords) (failure : Failure)
+    → AsksForRun words run → RunFails before after making run failure → Fails words before after making failure
+run_fails words before after making run (File name) asks fails = inl (run, asks, fails)
+run_fails words before after making run (Rule rule) asks fails = inl (run, asks, fails)
+run_fails words before after making run Workers asks fails = inl (run, asks, fails)
+run_fails words before after making run (Division cause) asks fails = inl (run, asks, fails)
+run_fails words before after making run (Run cause) asks fails = inl (run, asks, fails)
+run_fails words before after making run Usage asks fails = absurd (run_usage before after making run fails)
+run_fails words before after making run Output asks fails = absurd (run_output before after making run fails)
+run_fails words before after making run Memory asks fails = run_memory before after making run fails
 
 -- why a check that the words ask for was not done
-pub check_fails : (words : List Text) (before after : Shelf) (makes : Text → Bool) (file : Text) (failure : Failure)
-    → AsksForCheck words file → CheckFails before after file failure → Fails words before after makes failure
-check_fails words before after makes file (File name) asks fails = inr (file, asks, fails)
-check_fails words before after makes file (Rule rule) asks fails = inr (file, asks, fails)
-check_fails words before after makes file Memory asks fails = inl fails.same
-check_fails words before after makes file Usage asks fails = absurd fails.cause
-check_fails words before after makes file Workers asks fails = absurd fails.cause
-check_fails words before after makes file (Division cause) asks fails = absurd fails.cause
-check_fails words before after makes file (Run cause) asks fails = absurd fails.cause
-check_fails words before after makes file Output asks fails = absurd fails.cause
+pub check_fails : (words : List Text) (before after : Shelf) (making : Making) (file : Text) (failure : Failure)
+    → AsksForCheck words file → CheckFails before after file failure → Fails words before after making failure
+check_fails words before after making file (File name) asks fails = inr (file, asks, fails)
+check_fails words before after making file (Rule rule) asks fails = inr (file, asks, fails)
+check_fails words before after making file Memory asks fails = fails.same
+check_fails words before after making file Usage asks fails = absurd fails.cause
+check_fails words before after making file Workers asks fails = absurd fails.cause
+check_fails words before after making file (Division cause) asks fails = absurd fails.cause
+check_fails words before after making file (Run cause) asks fails = absurd fails.cause
+check_fails words before after making file Output asks fails = absurd fails.cause
 
 -- the same of an answer that is a run
-pub asked_run_fails : (words : List Text) (before after : Shelf) (makes : Text → Bool) (answer : Asked) (run : RunWords) (failure : Failure)
-    → answer ≡ asked.Run run → Answers words answer → RunFails before after makes run failure → Fails words before after makes failure
-asked_run_fails words before after makes answer run failure is h fails =
+pub asked_run_fails : (words : List Text) (before after : Shelf) (making : Making) (answer : Asked) (run : RunWords) (failure : Failure)
+    → answer ≡ asked.Run run → Answers words answer → RunFails before after making run failure → Fails words before after making failure
+asked_run_fails words before after making answer run failure is h fails =
     let asks : Answers words (asked.Run run) = subst (Answers words) is h in
-    run_fails words before after makes run failure asks.1 fails
+    run_fails words before after making run failure asks.1 fails
 
 -- a run that the words ask for was done, and the number of its rows printed
-pub asked_run_done : {E : Type 0} (words : List Text) (before after : Shelf) (old new : Option (List ℕ)) (answer : Asked) (run : RunWords) (count : ℕ)
-    (printed : Result (Unit {0}) E) → answer ≡ asked.Run run → Answers words answer → RunsAll before after run count
-    → OnOk printed (Appends old new (rows_line count)) → OnOk printed (HasDone words before after old new)
-asked_run_done words before after old new answer run count printed is h ran told =
+pub asked_run_done : {E : Type 0} (words : List Text) (before after : Shelf) (making : Making) (old new : Option (List ℕ)) (answer : Asked) (run : RunWords) (count : ℕ)
+    (printed : Result (Unit {0}) E) → answer ≡ asked.Run run → Answers words answer → RunsAll before after making run count
+    → OnOk printed (Appends old new (rows_line count)) → OnOk printed (HasDone words before after making old new)
+asked_run_done words before after making old new answer run count printed is h ran told =
     let asks : Answers words (asked.Run run) = subst (Answers words) is h in
     on_ok_weaker printed (λ appended. inl (count, (run, asks.1, ran), appended)) told
 

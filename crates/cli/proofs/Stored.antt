@@ -1,11 +1,21 @@
 -- What the files hold that a run was written to.
-use Rattle.std.proofs.Common.{◌≡◌, ◌≢◌, ◌∙◌, ◌⊎◌, ℕ, List, [], Option, Some, None, IfSome, ap, sym, subst, inl, inr}
+use Rattle.std.proofs.Common.{◌≡◌, ◌≢◌, ◌∙◌, ◌⊎◌, ℕ, List, [], Option, Some, None, Result, Ok, Err, IfSome, IfOk, IfErr, OnErr, ap, sym, subst, refl, inl, inr}
 use Rattle.std.specs.Io.KnownBytes.{Appends, Keeps}
 use Rattle.clap.specs.Words.{Text}
 use Rattle.trace.specs.Sinks.{AppendsBeginning}
 use Rattle.trace.proofs.Beginnings.{Appends-none}
-use Rattle.files.specs.Files.{KnownFile, HoldsNow, ClosesAs, KeepsOthers}
-use Rattle.cli.specs.Outcomes.{Shelf, HoldsBeginning, HoldsReport, BeginsReport, KeepsRest}
+use Rattle.files.specs.Files.{KnownFile, HoldsNow, ClosesAs, KeepsOthers, KeepsAllOthers}
+use Rattle.base.specs.declared.fault.Fault.{Fault}
+use Rattle.base.specs.declared.fault.Fault.TheVariants as fault
+use Rattle.scenario.specs.Setup.{Setup}
+use Rattle.trace.specs.Text.{trace_text}
+use Rattle.reports.specs.Text.{report_text}
+use Rattle.exchange.specs.Runs.{WearsOut}
+use Rattle.exchange.specs.Promise.{WritesRun, WritesBeginning, WearsOutReport}
+use Rattle.command_line.specs.declared.failure.Failure.{Failure}
+use Rattle.command_line.specs.declared.failure.Failure.TheVariants as failure
+use Rattle.cli.specs.Told.{run_told}
+use Rattle.cli.specs.Outcomes.{Shelf, HoldsBeginning, HoldsReport, BeginsReport, KeepsRest, StoresRun, BreaksOff}
 
 -- an empty file, closed after a text was written to it, holds the text
 pub holds_text : (before made after : KnownFile) (old new : Option (List ℕ)) (text : List ℕ) → HoldsNow before made []
@@ -34,61 +44,184 @@ pub holds_nothing : (before made after : KnownFile) (old new : Option (List ℕ)
 holds_nothing before made after old new empty fresh kept closed =
     holds_text before made after old new [] empty fresh (Appends-none old new kept) closed
 
--- two files, of which the one was made before the other, and closed before it
-module _ (start first second third end : Shelf) (trace report : Text) (apart : report ≢ trace)
-    (trace_made : KeepsOthers start first trace) (report_made : KeepsOthers first second report)
-    (trace_closed : KeepsOthers second third trace) (report_closed : KeepsOthers third end report) where
+-- a run's answer is told as done where it is, and as its own fault where it isn't
+pub told_done : {T : Type 0} (Q : T → Type 0) (outcome : Result T Fault) (told : Result T Failure) → told ≡ run_told outcome → IfOk outcome Q → IfOk told Q
+told_done {T} Q outcome told is done = subst (λ r. IfOk r Q) (sym is) (go outcome done)
+  where
+    go : (r : Result T Fault) → IfOk r Q → IfOk (run_told r) Q
+    go (Ok x) h = h
+    go (Err e) h = tt
+
+pub told_failed : {T : Type 0} (Q : Failure → Type 0) (outcome : Result T Fault) (told : Result T Failure) → told ≡ run_told outcome
+    → IfErr outcome (λ cause. Q (failure.Run cause)) → IfErr told Q
+told_failed {T} Q outcome told is failed = subst (λ r. IfErr r Q) (sym is) (go outcome failed)
+  where
+    go : (r : Result T Fault) → IfErr r (λ cause. Q (failure.Run cause)) → IfErr (run_told r) Q
+    go (Ok x) h = tt
+    go (Err e) h = h
+
+pub each_ok : {T E : Type 0} {P Q : T → Type 0} (r : Result T E) → IfOk r P → ((x : T) → P x → Q x) → IfOk r Q
+each_ok (Ok x) h more = more x h
+each_ok (Err e) h more = tt
+
+pub each_err : {T E P : Type 0} {Q : E → Type 0} (r : Result T E) → OnErr r P → ((e : E) → r ≡ Err e → P → Q e) → IfErr r Q
+each_err (Ok x) h more = tt
+each_err (Err e) h more = more e refl h
+
+-- the file of a trace alone, after a run that was done, and after one that broke off
+module _ (s : Setup) (start made end : Shelf) (trace : Text) (old new held report_old report_new : Option (List ℕ))
+    (trace_made : KeepsOthers start made trace) (trace_closed : KeepsOthers made end trace)
+    (empty : HoldsNow (start trace) (made trace) []) (fresh : IfSome (start trace) (λ _. old ≡ Some []))
+    (closed : ClosesAs (made trace) (end trace) held) where
+  rest_kept : KeepsRest start end trace None
+  rest_kept other differs _ = trace_closed other differs ∙ trace_made other differs
+
+  closes : held ≡ new → ClosesAs (made trace) (end trace) new
+  closes same = subst (λ h. ClosesAs (made trace) (end trace) h) same closed
+
+  pub trace_stored : (count : ℕ) → WritesRun s old new report_old report_new count → held ≡ new → StoresRun s start end trace None count
+  trace_stored count writes same = record {
+    rows = writes.rows;
+    run = writes.run;
+    counted = writes.counted;
+    traced = holds_text (start trace) (made trace) (end trace) old new (trace_text s writes.rows) empty fresh writes.trace (closes same);
+    reported = tt;
+    others = rest_kept;
+  }
+
+  pub trace_begun : (cause : Fault) → WritesBeginning s old new report_old report_new → (cause ≡ fault.Worn → WearsOut s ⊎ WearsOutReport s) → held ≡ new
+      → BreaksOff s start end trace None cause
+  trace_begun cause begins worn same = record {
+    rows = begins.rows;
+    run = begins.run;
+    written = go begins.written;
+    others = rest_kept;
+    worn = worn;
+  }
+    where
+      text : List ℕ
+      text = trace_text s begins.rows
+
+      go : (AppendsBeginning old new text × Keeps report_old report_new) ⊎ (Appends old new text × AppendsBeginning report_old report_new (report_text s begins.rows))
+          → (HoldsBeginning (start trace) (end trace) text × HoldsReport start end None []) ⊎ (HoldsNow (start trace) (end trace) text × BeginsReport start end None (report_text s begins.rows))
+      go (inl written) = inl (holds_beginning (start trace) (made trace) (end trace) old new text empty fresh written.0 (closes same), tt)
+      go (inr written) = inr (holds_text (start trace) (made trace) (end trace) old new text empty fresh written.0 (closes same), tt)
+
+-- what holds of a file of which something is known
+known_or : {P : Type 0} (known : KnownFile) (X : Option (List ℕ) → Type 0) → IfSome known (λ _. P) → (P → IfSome known X) → IfSome known X
+known_or None X p then = tt
+known_or (Some held) X p then = then p
+
+-- two files that were made at once, of which the one was closed before the other
+module _ (start made between end : Shelf) (trace report : Text) (apart : IfSome (start trace) (λ _. report ≢ trace))
+    (both_made : KeepsAllOthers start made trace report) (trace_closed : KeepsOthers made between trace) (report_closed : KeepsOthers between end report) where
+  -- the same of the second: names of which different things are known are different
+  apart_too : IfSome (start report) (λ _. report ≢ trace)
+  apart_too = go (start report) refl
+    where
+      go : (known : KnownFile) → start report ≡ known → IfSome known (λ _. report ≢ trace)
+      go None is = tt
+      go (Some held) is = λ same. subst (λ k. IfSome k (λ _. report ≢ trace)) (ap start (sym same) ∙ is) apart same
+
   -- what the closing of the first leaves in it
-  first_closes : (new : Option (List ℕ)) → ClosesAs (second trace) (third trace) new → ClosesAs (first trace) (end trace) new
-  first_closes new closed =
-      let differs : trace ≢ report = λ e. apart (sym e) in
-      subst (λ k. ClosesAs (first trace) k new) (sym (report_closed trace differs)) (subst (λ k. ClosesAs k (third trace) new) (report_made trace differs) closed)
+  first_closes : (new : Option (List ℕ)) → report ≢ trace → ClosesAs (made trace) (between trace) new → ClosesAs (made trace) (end trace) new
+  first_closes new differs closed = subst (λ k. ClosesAs (made trace) k new) (sym (report_closed trace (λ e. differs (sym e)))) closed
 
   -- what the closing of the second leaves in it
-  second_closes : (new : Option (List ℕ)) → ClosesAs (third report) (end report) new → ClosesAs (second report) (end report) new
-  second_closes new closed = subst (λ k. ClosesAs k (end report) new) (trace_closed report apart) closed
-
-  -- the second was empty when it was made
-  second_empty : HoldsNow (first report) (second report) [] → HoldsNow (start report) (second report) []
-  second_empty empty = subst (λ k. HoldsNow k (second report) []) (trace_made report apart) empty
-
-  second_fresh : (old : Option (List ℕ)) → IfSome (first report) (λ _. old ≡ Some []) → IfSome (start report) (λ _. old ≡ Some [])
-  second_fresh old fresh = subst (λ k. IfSome k (λ _. old ≡ Some [])) (trace_made report apart) fresh
+  second_closes : (new : Option (List ℕ)) → report ≢ trace → ClosesAs (between report) (end report) new → ClosesAs (made report) (end report) new
+  second_closes new differs closed = subst (λ k. ClosesAs k (end report) new) (trace_closed report differs) closed
 
   -- no other file has changed
   pub others_kept : KeepsRest start end trace (Some report)
   others_kept other differs differs_too =
       let far : other ≢ report = λ e. differs_too (ap Some (sym e)) in
-      report_closed other far ∙ (trace_closed other differs ∙ (report_made other far ∙ trace_made other differs))
+      report_closed other far ∙ (trace_closed other differs ∙ both_made other differs far)
+
+  -- what the first holds of a text
+  first_holds : (text : List ℕ) (old new : Option (List ℕ)) → HoldsNow (start trace) (made trace) [] → IfSome (start trace) (λ _. old ≡ Some [])
+      → ClosesAs (made trace) (between trace) new → Appends old new text → HoldsNow (start trace) (end trace) text
+  first_holds text old new empty fresh closed written =
+      known_or (start trace) (λ _. end trace ≡ Some (Some text)) apart
+      (λ differs. holds_text (start trace) (made trace) (end trace) old new text empty fresh written (first_closes new differs closed))
+
+  -- what the second holds of a text
+  second_holds : (text : List ℕ) (old new : Option (List ℕ)) → HoldsNow (start report) (made report) [] → IfSome (start report) (λ _. old ≡ Some [])
+      → ClosesAs (between report) (end report) new → Appends old new text → HoldsNow (start report) (end report) text
+  second_holds text old new empty fresh closed written =
+      known_or (start report) (λ _. end report ≡ Some (Some text)) apart_too
+      (λ differs. holds_text (start report) (made report) (end report) old new text empty fresh written (second_closes new differs closed))
 
   -- what they hold of two texts that were written whole
   pub both_hold : (told report_told : List ℕ) (old new report_old report_new : Option (List ℕ))
-      → HoldsNow (start trace) (first trace) [] → IfSome (start trace) (λ _. old ≡ Some [])
-      → HoldsNow (first report) (second report) [] → IfSome (first report) (λ _. report_old ≡ Some [])
-      → ClosesAs (second trace) (third trace) new → ClosesAs (third report) (end report) report_new
+      → HoldsNow (start trace) (made trace) [] → IfSome (start trace) (λ _. old ≡ Some [])
+      → HoldsNow (start report) (made report) [] → IfSome (start report) (λ _. report_old ≡ Some [])
+      → ClosesAs (made trace) (between trace) new → ClosesAs (between report) (end report) report_new
       → Appends old new told → Appends report_old report_new report_told
       → HoldsNow (start trace) (end trace) told × HoldsReport start end (Some report) report_told
   both_hold told report_told old new report_old report_new empty fresh report_empty report_fresh closed report_ends whole report_whole = (
-    holds_text (start trace) (first trace) (end trace) old new told empty fresh whole (first_closes new closed),
-    holds_text (start report) (second report) (end report) report_old report_new report_told (second_empty report_empty)
-        (second_fresh report_old report_fresh) report_whole (second_closes report_new report_ends),
+    first_holds told old new empty fresh closed whole,
+    second_holds report_told report_old report_new report_empty report_fresh report_ends report_whole,
   )
 
   -- what they hold of two texts that were not written whole
   pub both_begin : (told report_told : List ℕ) (old new report_old report_new : Option (List ℕ))
-      → HoldsNow (start trace) (first trace) [] → IfSome (start trace) (λ _. old ≡ Some [])
-      → HoldsNow (first report) (second report) [] → IfSome (first report) (λ _. report_old ≡ Some [])
-      → ClosesAs (second trace) (third trace) new → ClosesAs (third report) (end report) report_new
+      → HoldsNow (start trace) (made trace) [] → IfSome (start trace) (λ _. old ≡ Some [])
+      → HoldsNow (start report) (made report) [] → IfSome (start report) (λ _. report_old ≡ Some [])
+      → ClosesAs (made trace) (between trace) new → ClosesAs (between report) (end report) report_new
       → (AppendsBeginning old new told × Keeps report_old report_new) ⊎ (Appends old new told × AppendsBeginning report_old report_new report_told)
       → (HoldsBeginning (start trace) (end trace) told × HoldsReport start end (Some report) [])
       ⊎ (HoldsNow (start trace) (end trace) told × BeginsReport start end (Some report) report_told)
   both_begin told report_told old new report_old report_new empty fresh report_empty report_fresh closed report_ends (inl written) = inl (
-    holds_beginning (start trace) (first trace) (end trace) old new told empty fresh written.0 (first_closes new closed),
-    holds_nothing (start report) (second report) (end report) report_old report_new (second_empty report_empty) (second_fresh report_old report_fresh)
-        written.1 (second_closes report_new report_ends),
+    record {
+      front = written.0.front;
+      rest = written.0.rest;
+      whole = written.0.whole;
+      written = first_holds written.0.front old new empty fresh closed written.0.appends;
+    },
+    second_holds [] report_old report_new report_empty report_fresh report_ends (Appends-none report_old report_new written.1),
   )
   both_begin told report_told old new report_old report_new empty fresh report_empty report_fresh closed report_ends (inr written) = inr (
-    holds_text (start trace) (first trace) (end trace) old new told empty fresh written.0 (first_closes new closed),
-    holds_beginning (start report) (second report) (end report) report_old report_new report_told (second_empty report_empty)
-        (second_fresh report_old report_fresh) written.1 (second_closes report_new report_ends),
+    first_holds told old new empty fresh closed written.0,
+    record {
+      front = written.1.front;
+      rest = written.1.rest;
+      whole = written.1.whole;
+      written = second_holds written.1.front report_old report_new report_empty report_fresh report_ends written.1.appends;
+    },
   )
+
+  -- the run was done
+  pub both_stored : (s : Setup) (count : ℕ) (old new held report_old report_new report_held : Option (List ℕ))
+      → HoldsNow (start trace) (made trace) [] → IfSome (start trace) (λ _. old ≡ Some [])
+      → HoldsNow (start report) (made report) [] → IfSome (start report) (λ _. report_old ≡ Some [])
+      → ClosesAs (made trace) (between trace) held → ClosesAs (between report) (end report) report_held
+      → WritesRun s old new report_old report_new count → held ≡ new → report_held ≡ report_new → StoresRun s start end trace (Some report) count
+  both_stored s count old new held report_old report_new report_held empty fresh report_empty report_fresh closed report_ends writes same report_same =
+      let holds = both_hold (trace_text s writes.rows) (report_text s writes.rows) old new report_old report_new empty fresh report_empty report_fresh
+      (subst (λ h. ClosesAs (made trace) (between trace) h) same closed) (subst (λ h. ClosesAs (between report) (end report) h) report_same report_ends)
+      writes.trace writes.report in
+      record {
+        rows = writes.rows;
+        run = writes.run;
+        counted = writes.counted;
+        traced = holds.0;
+        reported = holds.1;
+        others = others_kept;
+      }
+
+  -- it broke off
+  pub both_begun : (s : Setup) (cause : Fault) (old new held report_old report_new report_held : Option (List ℕ))
+      → HoldsNow (start trace) (made trace) [] → IfSome (start trace) (λ _. old ≡ Some [])
+      → HoldsNow (start report) (made report) [] → IfSome (start report) (λ _. report_old ≡ Some [])
+      → ClosesAs (made trace) (between trace) held → ClosesAs (between report) (end report) report_held
+      → WritesBeginning s old new report_old report_new → (cause ≡ fault.Worn → WearsOut s ⊎ WearsOutReport s) → held ≡ new → report_held ≡ report_new
+      → BreaksOff s start end trace (Some report) cause
+  both_begun s cause old new held report_old report_new report_held empty fresh report_empty report_fresh closed report_ends begins worn same report_same = record {
+    rows = begins.rows;
+    run = begins.run;
+    written = both_begin (trace_text s begins.rows) (report_text s begins.rows) old new report_old report_new empty fresh report_empty report_fresh
+        (subst (λ h. ClosesAs (made trace) (between trace) h) same closed) (subst (λ h. ClosesAs (between report) (end report) h) report_same report_ends)
+        begins.written;
+    others = others_kept;
+    worn = worn;
+  }

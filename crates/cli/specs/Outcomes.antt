@@ -12,7 +12,7 @@ use Rattle.reports.specs.Text.{report_text}
 use Rattle.exchange.specs.Runs.{IsRunOf, WearsOut}
 use Rattle.exchange.specs.Promise.{WearsOutReport}
 use Rattle.clap.specs.Words.{Text}
-use Rattle.files.specs.Files.{KnownFile, Holds, HoldsNow, IsAbsent, KeepsOthers}
+use Rattle.files.specs.Files.{KnownFile, Making, Holds, HoldsNow, IsAbsent, CannotMake, CannotMakeSecond, AreApart}
 use Rattle.command_line.specs.Words.{AsksForRun, AsksForCheck, AsksForHelp, IsNoCommand}
 use Rattle.command_line.specs.Division.{AsksForWorkers, Divides}
 use Rattle.command_line.specs.Printed.{rows_line, members_line}
@@ -65,12 +65,18 @@ pub record PassesChecks (before : Shelf) (run : RunWords) (workers : ℕ) (s : S
   pub accepted : HasVerdict (before run.file.now) (Ok s)
   pub divided : Divides (member_count s) workers run.split deal
 
+-- the scenario's file, the trace's and the report's, where one is asked for, are different files
+abbrev pub DifferentFiles : Making → Text → Text → Option Text → Type 0
+DifferentFiles making file trace None = making.are_one file trace ≡ false
+DifferentFiles making file trace (Some report) = AreApart making file trace report
+
 -- the run that the words of `run` ask for passed its checks and was done, and has so many rows
-pub record RunsAll (before after : Shelf) (run : RunWords) (count : ℕ) : Type 0 where
+pub record RunsAll (before after : Shelf) (making : Making) (run : RunWords) (count : ℕ) : Type 0 where
   pub workers : ℕ
   pub scenario : Setup
   pub deal : Deal
   pub checks : PassesChecks before run workers scenario deal
+  pub apart : DifferentFiles making run.file.now run.trace.now (report_word run)
   pub stored : StoresRun scenario before after run.trace.now (report_word run) count
 
 -- the file holds a scenario of so many members
@@ -80,8 +86,8 @@ pub record HoldsScenario (known : KnownFile) (members : ℕ) : Type 0 where
   pub counted : members ≡ member_count scenario
 
 -- a run that the words ask for was done, and has so many rows
-abbrev pub DoesRun : List Text → Shelf → Shelf → ℕ → Type 0
-DoesRun words before after count = (run : RunWords) × AsksForRun words run × RunsAll before after run count
+abbrev pub DoesRun : List Text → Shelf → Shelf → Making → ℕ → Type 0
+DoesRun words before after making count = (run : RunWords) × AsksForRun words run × RunsAll before after making run count
 
 -- the file that the words ask to check holds a scenario of so many members
 abbrev pub DoesCheck : List Text → Shelf → Shelf → ℕ → Type 0
@@ -92,14 +98,14 @@ DoesHelp words before after = AsksForHelp words × (after ≡ before)
 
 -- what the words ask for was done: a run, and the number of its rows printed; a check, and the number of members
 -- printed; or help was printed
-abbrev pub HasDone : List Text → Shelf → Shelf → Option (List ℕ) → Option (List ℕ) → Type 0
-HasDone words before after old new = ((count : ℕ) × DoesRun words before after count × Appends old new (rows_line count))
+abbrev pub HasDone : List Text → Shelf → Shelf → Making → Option (List ℕ) → Option (List ℕ) → Type 0
+HasDone words before after making old new = ((count : ℕ) × DoesRun words before after making count × Appends old new (rows_line count))
     ⊎ (((members : ℕ) × DoesCheck words before after members × Appends old new (members_line members))
     ⊎ DoesHelp words before after)
 
 -- the same, but that standard output took less than it was given
-abbrev pub DoneUnprinted : List Text → Shelf → Shelf → Type 0
-DoneUnprinted words before after = ((count : ℕ) × DoesRun words before after count)
+abbrev pub DoneUnprinted : List Text → Shelf → Shelf → Making → Type 0
+DoneUnprinted words before after making = ((count : ℕ) × DoesRun words before after making count)
     ⊎ (((members : ℕ) × DoesCheck words before after members) ⊎ DoesHelp words before after)
 
 -- ---- what was not done
@@ -125,24 +131,19 @@ pub record BreaksOff (s : Setup) (before after : Shelf) (trace : Text) (report :
   pub others : KeepsRest before after trace report
   pub worn : cause ≡ fault.Worn → WearsOut s ⊎ WearsOutReport s
 
--- the file is empty now, and no other has changed
-pub record Empties (before after : Shelf) (name : Text) : Type 0 where
-  pub empty : HoldsNow (before name) (after name) []
-  pub others : KeepsOthers before after name
+-- The file of this name can't be made: it is the trace's; or it is the report's, and may be the trace's too. Nor can one that is
+-- the scenario's.
+abbrev pub IsUnmade : Making → Text → Text → Option Text → Text → Type 0
+IsUnmade making file trace report name = ((name ≡ trace) × CannotMake making file trace)
+    ⊎ ((report ≡ Some name) × CannotMakeSecond making file trace name)
 
--- The file of this name can't be made. It is the trace's; or the report's, and has the trace's name; or the report's, and that of the
--- trace is empty, since it was made before.
-abbrev pub CannotMake : Shelf → Shelf → (Text → Bool) → Text → Option Text → Text → Type 0
-CannotMake before after makes trace report name = ((name ≡ trace) × (makes name ≡ false) × (after ≡ before))
-    ⊎ (((name ≡ trace) × (report ≡ Some name) × (after ≡ before))
-    ⊎ ((report ≡ Some name) × (makes name ≡ false) × Empties before after trace))
-
--- no whole run of the scenario was stored: a file can't be made, memory was refused, or the run broke off
-abbrev pub StoreFails : Setup → Shelf → Shelf → (Text → Bool) → Text → Option Text → Failure → Type 0
-StoreFails s before after makes trace report (File name) = CannotMake before after makes trace report name.now
-StoreFails s before after makes trace report Memory = (after ≡ before) ⊎ ((report ≢ None) × Empties before after trace)
-StoreFails s before after makes trace report (Run cause) = BreaksOff s before after trace report cause
-StoreFails s before after makes trace report _ = ⊥
+-- No whole run of the scenario was stored: a file can't be made, memory was refused, or the run broke off. Before it began no file
+-- has changed.
+abbrev pub StoreFails : Setup → Shelf → Shelf → Making → Text → Text → Option Text → Failure → Type 0
+StoreFails s before after making file trace report (File name) = IsUnmade making file trace report name.now × (after ≡ before)
+StoreFails s before after making file trace report Memory = after ≡ before
+StoreFails s before after making file trace report (Run cause) = DifferentFiles making file trace report × BreaksOff s before after trace report cause
+StoreFails s before after making file trace report _ = ⊥
 
 -- no scenario was read from the file of this name: it can't be read, its text breaks a rule, or memory was refused
 abbrev pub LoadFails : KnownFile → Text → Failure → Type 0
@@ -165,42 +166,38 @@ pub record IsRefused (before after : Shelf) (Cause : Type 0) : Type 0 where
   pub same : after ≡ before
 
 -- all checks passed, but the run was not stored whole
-pub record FailsToStore (before after : Shelf) (makes : Text → Bool) (run : RunWords) (failure : Failure) : Type 0 where
+pub record FailsToStore (before after : Shelf) (making : Making) (run : RunWords) (failure : Failure) : Type 0 where
   pub workers : ℕ
   pub scenario : Setup
   pub deal : Deal
   pub checks : PassesChecks before run workers scenario deal
-  pub cause : StoreFails scenario before after makes run.trace.now (report_word run) failure
+  pub cause : StoreFails scenario before after making run.file.now run.trace.now (report_word run) failure
 
 -- why the run that the words of `run` ask for was not done: the first check that failed, and after all checks what befell the files
-abbrev pub RunFails : Shelf → Shelf → (Text → Bool) → RunWords → Failure → Type 0
-RunFails before after makes run failure = IsRefused before after (FailsCheck before run failure) ⊎ FailsToStore before after makes run failure
+abbrev pub RunFails : Shelf → Shelf → Making → RunWords → Failure → Type 0
+RunFails before after making run failure = IsRefused before after (FailsCheck before run failure) ⊎ FailsToStore before after making run failure
 
 -- why the file was not checked
 abbrev pub CheckFails : Shelf → Shelf → Text → Failure → Type 0
 CheckFails before after file failure = IsRefused before after (LoadFails (before file) file failure)
 
 -- why a run or a check that the words ask for was not done
-abbrev pub DoesNot : List Text → Shelf → Shelf → (Text → Bool) → Failure → Type 0
-DoesNot words before after makes failure =
-    ((run : RunWords) × AsksForRun words run × RunFails before after makes run failure)
+abbrev pub DoesNot : List Text → Shelf → Shelf → Making → Failure → Type 0
+DoesNot words before after making failure =
+    ((run : RunWords) × AsksForRun words run × RunFails before after making run failure)
     ⊎ ((file : Text) × AsksForCheck words file × CheckFails before after file failure)
 
--- the words ask for a run, and the file of its trace was made, but not that of its report
-abbrev pub EmptiesTrace : List Text → Shelf → Shelf → Type 0
-EmptiesTrace words before after = (run : RunWords) × AsksForRun words run × (report_word run ≢ None) × Empties before after run.trace.now
-
 -- why what the words ask for wasn't done
-abbrev pub Fails : List Text → Shelf → Shelf → (Text → Bool) → Failure → Type 0
-Fails words before after makes Usage = IsNoCommand words × (after ≡ before)
-Fails words before after makes Output = DoneUnprinted words before after
-Fails words before after makes Memory = (after ≡ before) ⊎ EmptiesTrace words before after
-Fails words before after makes failure = DoesNot words before after makes failure
+abbrev pub Fails : List Text → Shelf → Shelf → Making → Failure → Type 0
+Fails words before after making Usage = IsNoCommand words × (after ≡ before)
+Fails words before after making Output = DoneUnprinted words before after making
+Fails words before after making Memory = after ≡ before
+Fails words before after making failure = DoesNot words before after making failure
 
 -- How a command ended that answered this status, which isn't 0: by a failure of that status. Standard output is as it was,
 -- unless it failed itself.
-pub record Ends {O : Type 0} (words : List Text) (before after : Shelf) (makes : Text → Bool) (old new : O) (status : ℕ) : Type 0 where
+pub record Ends {O : Type 0} (words : List Text) (before after : Shelf) (making : Making) (old new : O) (status : ℕ) : Type 0 where
   pub failure : Failure
   pub told : status ≡ status_of failure
-  pub cause : Fails words before after makes failure
+  pub cause : Fails words before after making failure
   pub silent : failure ≢ Output → new ≡ old

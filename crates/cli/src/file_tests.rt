@@ -6,37 +6,45 @@ use files::testing::Failing;
 use std::test::Fail;
 use worked_runs::TWO_MEMBERS;
 
-/// Words, a name of which no file can be made, and what is told and left as the trace. A trace is made before
-/// its report, so it is replaced by nothing where the report can't be made. One file doesn't take both.
-const UNMADE: [(&str, &str, &str, &str); 3] = [
+/// Words, a name of which no file can be made, and what is told. One file doesn't take two texts, nor in the place
+/// of the scenario's.
+const UNMADE: [(&str, &str, &str); 5] = [
     (
         "run two.toml --trace t.csv --report r.txt",
         "r.txt",
         "swimsim: file r.txt\n",
-        "",
     ),
     (
         "run two.toml --trace t.csv --report r.txt",
         "t.csv",
         "swimsim: file t.csv\n",
-        "an older trace, which is replaced",
     ),
     (
         "run two.toml --trace t.csv --report t.csv",
         "",
         "swimsim: file t.csv\n",
-        "an older trace, which is replaced",
+    ),
+    (
+        "run two.toml --trace two.toml",
+        "",
+        "swimsim: file two.toml\n",
+    ),
+    (
+        "run two.toml --trace t.csv --report two.toml",
+        "",
+        "swimsim: file two.toml\n",
     ),
 ];
 
 #[test]
 fn files_that_cannot_be_made_are_told(rt: HostRuntime) -> Result<(), Fail> {
-    for (line, locked, told, trace) in UNMADE {
+    for (line, locked, told) in UNMADE {
         let files = older_files(&rt, TWO_MEMBERS.scenario)?.refusing_to_make(locked);
         let left = left_by(&rt, line, files, Failing::Never)?;
         expect_refusal(&rt, &left, 1, told);
-        assert!(rt; holds(&left, "t.csv", trace));
+        assert!(rt; holds(&left, "t.csv", "an older trace, which is replaced"));
         assert!(rt; holds(&left, "r.txt", "an older report"));
+        assert!(rt; holds(&left, "two.toml", TWO_MEMBERS.scenario));
     }
     Ok(())
 }

@@ -9,7 +9,7 @@ pub mod system;
 pub use command_line::{
     Asked, Failure, RunWords, Split, division_asked, parse, refuse, workers_asked,
 };
-pub use files::{FileFault, Files, testing};
+pub use files::{FileFault, Files, PairFault, testing};
 pub use program::command;
 pub use simulation::{check, simulate};
 

@@ -2,15 +2,17 @@
 ghost use Rattle.std.specs.Prelude.{◌≡◌, ◌≢◌, ◌⊎◌, ◌≤◌, map, Ok, Some, None, IfOk, IfErr, OnOk, IsErrOf, length};
 ghost use Rattle.scenario.specs.Setup.{member_count};
 ghost use Rattle.command_line.specs.Words.{IsCommand, IsNoCommand};
-ghost use Rattle.cli.specs.Outcomes.{HasDone, Fails, Ends, RunsAll, RunFails, PassesChecks, FailsCheck, StoresRun, StoreFails, HasVerdict, LoadFails};
+ghost use Rattle.cli.specs.Told.{run_told};
+ghost use Rattle.cli.specs.Outcomes.{HasDone, Fails, Ends, RunsAll, RunFails, PassesChecks, FailsCheck, StoresRun, StoreFails, DifferentFiles, HasVerdict, LoadFails};
 
 use crate::simulation::{check, simulate};
+use base::Fault;
 use command_line::{
     Asked, Failure, RunWords, division_asked, parse, print_help, print_members, print_rows, refuse,
     workers_asked,
 };
 use exchange::Summary;
-use files::{FileFault, Files};
+use files::{FileFault, Files, PairFault};
 use scenario::{Division, Scenario, Workers};
 use std::alloc::Global;
 use std::convert::AsStr;
@@ -37,12 +39,12 @@ pub fn command<S: AsStr, F: Files, O: Write, E: Write>(
     // Status 0: what the words ask for was done. A run has left its trace in the file of that name, and its
     // report where one is asked for, and told standard output the number of its rows; a check, the number
     // of members.
-    ensures done { result ≡ 0 → HasDone (map S.text words.now) (F.known files.old) (F.known files.new)
+    ensures done { result ≡ 0 → HasDone (map S.text words.now) (F.known files.old) (F.known files.new) (F.making files.old)
         (O.contents out.old) (O.contents out.new) }
 
     // Any other status has its cause, which the files and the words bear out.
     ensures failed { result ≢ 0
-        → Ends (map S.text words.now) (F.known files.old) (F.known files.new) (F.makes files.old)
+        → Ends (map S.text words.now) (F.known files.old) (F.known files.new) (F.making files.old)
         out.old out.new result }
 
     // Status 2 is for words that are no command. They get it, unless memory is refused.
@@ -67,10 +69,10 @@ fn perform<'a, S: AsStr, F: Files, O: Write>(
     files: &mut F,
     out: &mut O,
 ) -> Result<(), Failure<'a>>
-    ensures done { OnOk result (HasDone (map S.text words.entry.now) (F.known files.old) (F.known files.new)
+    ensures done { OnOk result (HasDone (map S.text words.entry.now) (F.known files.old) (F.known files.new) (F.making files.old)
         (O.contents out.old) (O.contents out.new)) }
     ensures failed { IfErr result
-        (Fails (map S.text words.entry.now) (F.known files.old) (F.known files.new) (F.makes files.old)) }
+        (Fails (map S.text words.entry.now) (F.known files.old) (F.known files.new) (F.making files.old)) }
     ensures command { OnOk result (IsCommand (map S.text words.entry.now)) }
     ensures other { ¬ (IsCommand (map S.text words.entry.now))
         → IfErr result (λ failure. (failure ≡ Failure.Usage) ⊎ (failure ≡ Failure.Memory)) }
@@ -99,14 +101,14 @@ fn run<'a, F: Files>(
     files: &mut F,
 ) -> Result<Summary, Failure<'a>>
     ensures done { IfOk result
-        (λ summary. RunsAll (F.known files.old) (F.known files.new) words.entry summary.rows) }
+        (λ summary. RunsAll (F.known files.old) (F.known files.new) (F.making files.old) words.entry summary.rows) }
     ensures failed { IfErr result
-        (RunFails (F.known files.old) (F.known files.new) (F.makes files.old) words.entry) }
+        (RunFails (F.known files.old) (F.known files.new) (F.making files.old) words.entry) }
 {
     let prepared = prepare(alloc, words, files)?;
     match words.report {
-        Some(report) => store_both(rt, alloc, &prepared, words.trace, report, files),
-        None => store_trace(rt, alloc, &prepared, words.trace, files),
+        Some(report) => store_both(rt, alloc, &prepared, words, report, files),
+        None => store_trace(rt, alloc, &prepared, words, files),
     }
 }
 
@@ -128,7 +130,7 @@ fn prepare<'a, F: Files>(
     ensures failed { IfErr result (FailsCheck (F.known files.old) words.entry) }
     ensures divided { IfOk result (λ p. length p.division.part_of ≡ member_count p.scenario) }
     ensures same { F.known files.new ≡ F.known files.old }
-    ensures makes { F.makes files.new ≡ F.makes files.old }
+    ensures making { F.making files.new ≡ F.making files.old }
 {
     let workers = workers_asked(words.workers)?;
     let scenario = load(alloc, words.file, files)?;
@@ -145,7 +147,7 @@ fn load<'a, F: Files>(alloc: Global, name: &'a str, files: &mut F) -> Result<Sce
     ensures accepted { IfOk result (λ scenario. HasVerdict (F.known files.old name.entry.now) (Ok scenario)) }
     ensures failed { IfErr result (LoadFails (F.known files.old name.entry.now) name.entry.now) }
     ensures same { F.known files.new ≡ F.known files.old }
-    ensures makes { F.makes files.new ≡ F.makes files.old }
+    ensures making { F.making files.new ≡ F.making files.old }
 {
     match files.read(alloc, name) {
         Ok(bytes) => check(alloc, bytes.as_slice()),
@@ -153,23 +155,24 @@ fn load<'a, F: Files>(alloc: Global, name: &'a str, files: &mut F) -> Result<Sce
     }
 }
 
-/// Runs a scenario, and writes its trace to the file of a name. Its report goes nowhere.
+/// Runs a scenario, and writes its trace to the file that the words name. Its report goes nowhere.
 fn store_trace<'a, F: Files>(
     rt: &(impl Threads + Wait + Sync),
     alloc: Global,
     prepared: &Prepared,
-    name: &'a str,
+    words: RunWords<'a>,
     files: &mut F,
 ) -> Result<Summary, Failure<'a>>
     requires divided { length prepared.now.division.part_of ≡ member_count prepared.now.scenario }
     ensures done { IfOk result (λ summary. StoresRun prepared.now.scenario (F.known files.old) (F.known files.new)
-        name.entry.now None summary.rows) }
+        words.entry.trace.now None summary.rows) }
+    ensures apart { OnOk result (DifferentFiles (F.making files.old) words.entry.file.now words.entry.trace.now None) }
     ensures failed { IfErr result (StoreFails prepared.now.scenario (F.known files.old) (F.known files.new)
-        (F.makes files.old) name.entry.now None) }
+        (F.making files.old) words.entry.file.now words.entry.trace.now None) }
 {
-    let made = match files.make(name) {
+    let made = match files.make(words.file, words.trace) {
         Ok(made) => made,
-        Err(fault) => return Err(file_failure(fault, name)),
+        Err(fault) => return Err(file_failure(fault, words.trace)),
     };
     let (made, _nowhere, outcome) = simulate(
         rt,
@@ -180,39 +183,33 @@ fn store_trace<'a, F: Files>(
         made,
         io::sink(),
     );
-    files.close(name, made);
-    match outcome {
-        Ok(summary) => Ok(summary),
-        Err(fault) => Err(Failure::Run(fault)),
-    }
+    files.close(words.trace, made.into_inner());
+    run_told(outcome)
 }
 
-/// Runs a scenario, and writes its trace and its report to the files of two names, which are made in that
-/// order. One name for both is refused before either is made, since one file can't hold both.
+/// Runs a scenario, and writes its trace to the file that the words name and its report to another. Either both
+/// are made or neither is.
 fn store_both<'a, F: Files>(
     rt: &(impl Threads + Wait + Sync),
     alloc: Global,
     prepared: &Prepared,
-    trace: &'a str,
+    words: RunWords<'a>,
     report: &'a str,
     files: &mut F,
 ) -> Result<Summary, Failure<'a>>
     requires divided { length prepared.now.division.part_of ≡ member_count prepared.now.scenario }
     ensures done { IfOk result (λ summary. StoresRun prepared.now.scenario (F.known files.old) (F.known files.new)
-        trace.entry.now (Some report.entry.now) summary.rows) }
+        words.entry.trace.now (Some report.entry.now) summary.rows) }
+    ensures apart { OnOk result (DifferentFiles (F.making files.old) words.entry.file.now words.entry.trace.now
+        (Some report.entry.now)) }
     ensures failed { IfErr result (StoreFails prepared.now.scenario (F.known files.old) (F.known files.new)
-        (F.makes files.old) trace.entry.now (Some report.entry.now)) }
+        (F.making files.old) words.entry.file.now words.entry.trace.now (Some report.entry.now)) }
 {
-    if report == trace {
-        return Err(Failure::File(report));
-    }
-    let made_trace = match files.make(trace) {
+    let (made_trace, made_report) = match files.make_both(words.file, words.trace, report) {
         Ok(made) => made,
-        Err(fault) => return Err(file_failure(fault, trace)),
-    };
-    let made_report = match files.make(report) {
-        Ok(made) => made,
-        Err(fault) => return Err(file_failure(fault, report)),
+        Err(PairFault::First) => return Err(Failure::File(words.trace)),
+        Err(PairFault::Second) => return Err(Failure::File(report)),
+        Err(PairFault::Memory) => return Err(Failure::Memory),
     };
     let (made_trace, made_report, outcome) = simulate(
         rt,
@@ -223,8 +220,15 @@ fn store_both<'a, F: Files>(
         made_trace,
         made_report,
     );
-    files.close(trace, made_trace);
-    files.close(report, made_report);
+    files.close(words.trace, made_trace.into_inner());
+    files.close(report, made_report.into_inner());
+    run_told(outcome)
+}
+
+/// What came of a run, its fault as a failure.
+fn run_told(outcome: Result<Summary, Fault>) -> Result<Summary, Failure<'static>>
+    ensures { result ≡ run_told outcome }
+{
     match outcome {
         Ok(summary) => Ok(summary),
         Err(cause) => Err(Failure::Run(cause)),

@@ -1,9 +1,11 @@
 //! From a scenario's bytes to its trace and its report.
-ghost use Rattle.std.specs.Prelude.{◌≡◌, ◌⊎◌, Ok, IfOk, IfErr, OnErr, IsErrOf, length};
+ghost use Rattle.std.specs.Prelude.{◌≡◌, ◌≢◌, ◌<◌, ◌⊎◌, Ok, IfOk, IfErr, OnOk, OnErr, IsErrOf, length};
 ghost use Rattle.scenario.specs.Setup.{member_count};
 ghost use Rattle.scenario.specs.Rules.{verdict};
 ghost use Rattle.exchange.specs.Runs.{WearsOut};
 ghost use Rattle.command_line.specs.Failures.{RefusesText};
+ghost use Rattle.cli.specs.Told.{text_failure};
+ghost use Rattle.trace.specs.Writers.{writer_under, put_failures};
 ghost use Rattle.exchange.specs.Promise.{WritesRun, WritesBeginning, WearsOutReport};
 
 use base::Fault;
@@ -28,14 +30,23 @@ pub fn check(alloc: Global, bytes: &[u8]) -> Result<Scenario, Failure<'static>>
 {
     match scenario::read(alloc, bytes) {
         Ok(scenario) => Ok(scenario),
-        Err(refusal) if refusal.rule == MEMORY_RULE => Err(Failure::Memory),
-        Err(refusal) => Err(Failure::Rule(refusal.rule)),
+        Err(refusal) => Err(text_failure(refusal.rule)),
     }
 }
 
+/// The failure that a text is told by which is refused by this rule.
+fn text_failure(rule: u8) -> Failure<'static>
+    ensures { result ≡ text_failure rule }
+{
+    if rule == MEMORY_RULE {
+        return Failure::Memory;
+    }
+    Failure::Rule(rule)
+}
+
 /// Runs a scenario by the parts of a division of its members and so many workers, writes its trace to one
-/// writer and then its report to the other, and gives both back. After a fault they have got a beginning of
-/// that.
+/// writer and then its report to the other, and gives both back, with the failures that were counted. After a
+/// fault they have got a beginning of that.
 pub fn simulate<T: Write, R: Write>(
     rt: &(impl Threads + Wait + Sync),
     alloc: Global,
@@ -44,13 +55,22 @@ pub fn simulate<T: Write, R: Write>(
     workers: Workers,
     trace: T,
     report: R,
-) -> (T, R, Result<Summary, Fault>)
+) -> (Put<T>, Put<R>, Result<Summary, Fault>)
     requires divided { length division.now.part_of ≡ member_count scenario.now }
-    ensures written { IfOk result.2 (λ summary. WritesRun scenario.now (T.contents trace) (T.contents result.0)
-        (R.contents report) (R.contents result.1) summary.rows) }
-    ensures beginning { OnErr result.2 (WritesBeginning scenario.now (T.contents trace) (T.contents result.0)
-        (R.contents report) (R.contents result.1)) }
+    ensures written { IfOk result.2 (λ summary. WritesRun scenario.now (T.contents trace) (T.contents (writer_under result.0))
+        (R.contents report) (R.contents (writer_under result.1)) summary.rows) }
+    ensures beginning { OnErr result.2 (WritesBeginning scenario.now (T.contents trace) (T.contents (writer_under result.0))
+        (R.contents report) (R.contents (writer_under result.1))) }
+    ensures first { 0 < put_failures result.0 → writer_under result.1 ≡ report }
+    ensures whole { OnOk result.2 (put_failures result.0 ≡ 0) }
+    ensures whole_report { OnOk result.2 (put_failures result.1 ≡ 0) }
+    ensures lasts { OnOk result.2 (¬ (WearsOut scenario.now)) }
+
+    // no fault comes without its cause
     ensures worn { IsErrOf result.2 Fault.Worn → WearsOut scenario.now ⊎ WearsOutReport scenario.now }
+    ensures write { IsErrOf result.2 Fault.Write → (0 < put_failures result.0) ⊎ (0 < put_failures result.1) }
+    ensures relay { IsErrOf result.2 Fault.Relay → put_failures result.0 ≡ 0 }
+    ensures others_report { IfErr result.2 (λ cause. cause ≢ Fault.Write → put_failures result.1 ≡ 0) }
 {
     let mut trace = Put::new(trace);
     let mut report = Put::new(report);
@@ -64,5 +84,5 @@ pub fn simulate<T: Write, R: Write>(
         &mut trace,
         &mut report,
     );
-    (trace.into_inner(), report.into_inner(), outcome)
+    (trace, report, outcome)
 }

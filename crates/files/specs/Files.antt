@@ -1,5 +1,5 @@
 -- What files tell of the names that they are asked for.
-use Rattle.std.specs.Prelude.{◌≡◌, ◌≢◌, ℕ, List, Option, Some, None, IfSome}
+use Rattle.std.specs.Prelude.{◌≡◌, ◌≢◌, ◌⊎◌, ℕ, Bool, true, false, List, [], Option, Some, None, IfSome}
 
 -- what is known of a name: nothing, that no file has it, or what its file holds
 abbrev pub KnownFile : Type 0
@@ -24,3 +24,27 @@ ClosesAs old new written = IfSome old (λ held. IfSome held (λ _. IfSome writte
 -- no file changes but that of this name
 abbrev pub KeepsOthers : {K : Type 0} → (List ℕ → K) → (List ℕ → K) → List ℕ → Type 0
 KeepsOthers old new name = (other : List ℕ) → other ≢ name → new other ≡ old other
+
+-- no file changes but those of these names
+abbrev pub KeepsAllOthers : {K : Type 0} → (List ℕ → K) → (List ℕ → K) → List ℕ → List ℕ → Type 0
+KeepsAllOthers old new first second = (other : List ℕ) → other ≢ first → other ≢ second → new other ≡ old other
+
+-- What is known of the making of files: whether one of a name can be made, else false; and whether two names stand for one
+-- file that keeps what it is given, else false.
+pub record Making : Type 0 where
+  pub can_make : List ℕ → Bool
+  pub are_one : List ℕ → List ℕ → Bool
+
+-- a file of the name can't be made, or it is that of the source
+abbrev pub CannotMake : Making → List ℕ → List ℕ → Type 0
+CannotMake making source name = (making.can_make name ≡ false) ⊎ (making.are_one source name ≡ true)
+
+-- the same of the second of two files, which may be the first too
+abbrev pub CannotMakeSecond : Making → List ℕ → List ℕ → List ℕ → Type 0
+CannotMakeSecond making source first second = CannotMake making source second ⊎ (making.are_one first second ≡ true)
+
+-- the files of a source and of two names are three
+pub record AreApart (making : Making) (source first second : List ℕ) : Type 0 where
+  pub from_first : making.are_one source first ≡ false
+  pub from_second : making.are_one source second ≡ false
+  pub from_each_other : making.are_one first second ≡ false

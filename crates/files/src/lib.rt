@@ -2,8 +2,8 @@
 //! system.
 #![tactic(auto)]
 
-ghost use Rattle.std.specs.Prelude.{◌≡◌, ℕ, List, [], Bool, Option, Some, false, IfOk, IfSome, IsErrOf, OnOk, OnErr};
-ghost use Rattle.files.specs.Files.{KnownFile, Holds, HoldsNow, IsAbsent, ClosesAs, KeepsOthers};
+ghost use Rattle.std.specs.Prelude.{◌≡◌, ◌≢◌, ℕ, List, [], Option, Some, false, IfOk, IfSome, IsErrOf, OnOk, OnErr};
+ghost use Rattle.files.specs.Files.{KnownFile, Making, Holds, HoldsNow, IsAbsent, ClosesAs, KeepsOthers, KeepsAllOthers, CannotMake, CannotMakeSecond, AreApart};
 
 mod identity;
 mod reading;
@@ -25,7 +25,20 @@ pub enum FileFault {
     Memory,
 }
 
-/// Files by their names, as the command line gives them.
+/// Why neither of two files was made.
+#[derive(Clone, Copy, Debug, PartialEq, Eq)]
+pub enum PairFault {
+    /// The first can't be made.
+    First,
+    /// The second can't.
+    Second,
+    /// Memory was refused.
+    Memory,
+}
+
+/// Files by their names, as the command line gives them. A file may have several names: two stand for one
+/// where what is written to the one is lost by what is written to the other, so never those of a terminal or
+/// of `/dev/null`.
 pub trait Files {
     /// A file that was made and is not closed yet.
     type Made: Write + Drop;
@@ -33,24 +46,49 @@ pub trait Files {
     // what is known of each name
     ghost known: { Self → List ℕ → KnownFile };
 
-    // whether a file of the name can be made, where that is known; else it is false
-    ghost makes: { Self → List ℕ → Bool };
+    // what is known of the making of files
+    ghost making: { Self → Making };
 
     /// All bytes of a file. `Refused` where it can't be read; `Memory`.
     fn read(&mut self, alloc: Global, name: &str) -> Result<Vec<u8>, FileFault>
         ensures bytes { IfOk result (λ bytes. Holds (known self.old name.now) bytes.items) }
         ensures refused { IsErrOf result FileFault.Refused → IsAbsent (known self.old name.now) }
         ensures same { known self.new ≡ known self.old }
-        ensures makes { makes self.new ≡ makes self.old };
+        ensures making { making self.new ≡ making self.old };
 
-    /// Makes an empty file, in the place of one that has the name already. After a fault, which is
-    /// `Refused` where it can't be made, or `Memory`, no file has changed.
-    fn make(&mut self, name: &str) -> Result<Self::Made, FileFault>
+    /// Makes an empty file, in the place of one that has the name already. After a fault no file has changed.
+    ///
+    /// Faults: `Refused` where it can't be made, or is the file of `source` or that of standard output; `Memory`.
+    fn make(&mut self, source: &str, name: &str) -> Result<Self::Made, FileFault>
         ensures empty { OnOk result (HoldsNow (known self.old name.now) (known self.new name.now) []) }
         ensures made { IfOk result (λ made. IfSome (known self.old name.now) (λ _. Self.Made.contents made ≡ Some [])) }
+        ensures apart { OnOk result ((making self.old).are_one source.now name.now ≡ false) }
         ensures others { KeepsOthers (known self.old) (known self.new) name.now }
-        ensures refused { IsErrOf result FileFault.Refused → makes self.old name.now ≡ false }
-        ensures makes { makes self.new ≡ makes self.old }
+        ensures refused { IsErrOf result FileFault.Refused → CannotMake (making self.old) source.now name.now }
+        ensures making { making self.new ≡ making self.old }
+        ensures same { OnErr result (known self.new ≡ known self.old) };
+
+    /// Makes two empty files, as `make` does. After a fault no file has changed, neither the one nor the other.
+    ///
+    /// Faults: `First` or `Second` where that one can't be made, or is the file of `source` or that of standard
+    /// output; `Second` also where it is the first; `Memory`.
+    fn make_both(
+        &mut self,
+        source: &str,
+        first: &str,
+        second: &str,
+    ) -> Result<(Self::Made, Self::Made), PairFault>
+        ensures empty { OnOk result (HoldsNow (known self.old first.now) (known self.new first.now) []) }
+        ensures empty_too { OnOk result (HoldsNow (known self.old second.now) (known self.new second.now) []) }
+        ensures made { IfOk result (λ made. IfSome (known self.old first.now) (λ _. Self.Made.contents made.0 ≡ Some [])) }
+        ensures made_too { IfOk result (λ made. IfSome (known self.old second.now) (λ _. Self.Made.contents made.1 ≡ Some [])) }
+        ensures apart { OnOk result (AreApart (making self.old) source.now first.now second.now) }
+        ensures differ { OnOk result (IfSome (known self.old first.now) (λ _. second.now ≢ first.now)) }
+        ensures others { KeepsAllOthers (known self.old) (known self.new) first.now second.now }
+        ensures refused { IsErrOf result PairFault.First → CannotMake (making self.old) source.now first.now }
+        ensures refused_too { IsErrOf result PairFault.Second
+            → CannotMakeSecond (making self.old) source.now first.now second.now }
+        ensures making { making self.new ≡ making self.old }
         ensures same { OnErr result (known self.new ≡ known self.old) };
 
     /// Closes a file that was made under the name: it holds what was written.

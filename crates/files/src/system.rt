@@ -1,29 +1,33 @@
 //! The system's files.
-ghost use Rattle.std.specs.Prelude.{◌≡◌, None, false};
-ghost use Rattle.files.specs.System.{runtime_of};
+ghost use Rattle.std.specs.Prelude.{◌≡◌, None};
+ghost use Rattle.files.specs.System.{runtime_of, unknown};
 
 use crate::identity::Identity;
 use crate::reading::{fault_of, read_whole};
-use crate::{FileFault, Files};
+use crate::{FileFault, Files, PairFault};
 use std::alloc::Global;
 use std::fs::{OpenFile, OpenOptions};
 use std::io::{ErrorKind, Write};
-use std::path::PathBuf;
 use std::{fs, io};
 
 /// The name of standard output among the system's files.
 const STANDARD_OUTPUT: &str = "/dev/stdout";
 
-/// The files of a runtime's system. No file is made that is the one read last, the one made last, or that of
-/// standard output, whatever its names are. What is made keeps what it held before until it is written or
-/// closed; where a second file can't be made, a first that was not there before is removed.
+/// The files of a runtime's system. None is made that is the file of the source, that of standard output or one
+/// made beside it, whatever its names are.
 #[derive(Drop)]
 pub struct SystemFiles<'r, R> {
     runtime: &'r R,
-    // standard output, the file read last and the file made last
-    taken: [Option<Identity>; 3],
-    // the file made last, where there was none before
-    fresh: Option<PathBuf>,
+    // the file that standard output goes to
+    output: Option<Identity>,
+}
+
+/// A file that is open to be written, and holds what it held before.
+#[derive(Drop)]
+struct Opened<F> {
+    file: F,
+    is_new: bool,
+    identity: Option<Identity>,
 }
 
 /// A file that was made. It holds what it held before until it is written, flushed or closed.
@@ -58,17 +62,23 @@ impl<F: OpenFile + Write> Write for SystemFile<F> {
     }
 }
 
+impl<F: OpenFile + Write> Opened<F> {
+    /// The file, to be written.
+    fn made(self) -> SystemFile<F> {
+        SystemFile {
+            file: self.file,
+            is_empty: self.is_new,
+        }
+    }
+}
+
 impl<'r, R: std::rt::Files + AllocGlobal> SystemFiles<'r, R> {
     /// The files that the runtime reaches. Where standard output goes is seen now, before any file is opened.
     pub fn new(runtime: &'r R) -> SystemFiles<'r, R>
         ensures { runtime_of result ≡ runtime.entry }
     {
         let output = Identity::of_name(runtime, STANDARD_OUTPUT);
-        SystemFiles {
-            runtime,
-            taken: [output, None, None],
-            fresh: None,
-        }
+        SystemFiles { runtime, output }
     }
 
     /// Opens a file to be written, and tells whether it is new.
@@ -96,32 +106,40 @@ impl<'r, R: std::rt::Files + AllocGlobal> SystemFiles<'r, R> {
         }
     }
 
-    /// Opens a file to be written, unless it is taken.
-    fn open_apart(&mut self, name: &str) -> Result<SystemFile<R::File>, FileFault> {
+    /// Opens a file to be written, unless it is one of these.
+    fn open_apart(
+        &self,
+        name: &str,
+        others: &[Option<Identity>],
+    ) -> Result<Opened<R::File>, FileFault> {
         let (file, is_new) = match self.open(name) {
             Ok(opened) => opened,
             Err(error) => return Err(fault_of(&error)),
         };
         let identity = Identity::of_file(&file);
-        if identity.is_some() && self.taken.contains(&identity) {
+        if identity.is_some() && others.contains(&identity) {
             return Err(FileFault::Refused);
         }
-        self.taken[2] = identity;
-        self.fresh = None;
-        if is_new {
-            self.fresh = fs::canonicalize(self.runtime, name).ok();
-        }
-        Ok(SystemFile {
+        Ok(Opened {
             file,
-            is_empty: is_new,
+            is_new,
+            identity,
         })
     }
 
-    /// Removes the file made last, where there was none before.
-    fn undo(&mut self) {
-        if let Some(path) = self.fresh.take() {
-            let _ = fs::remove_file(self.runtime, path);
+    /// Removes a file that was opened under the name, where there was none before.
+    fn undo(&self, name: &str, opened: Opened<R::File>) {
+        if opened.is_new {
+            // the name may be a link, which stays
+            if let Ok(path) = fs::canonicalize(self.runtime, name) {
+                let _ = fs::remove_file(self.runtime, path);
+            }
         }
+    }
+
+    /// The file of a name, which is that of the source, and that of standard output.
+    fn taken(&self, source: &str) -> [Option<Identity>; 2] {
+        [Identity::of_name(self.runtime, source), self.output]
     }
 }
 
@@ -131,29 +149,48 @@ impl<R: std::rt::Files + AllocGlobal> Files for SystemFiles<'_, R> {
     // no contract can say what a system's files hold
     ghost known = { λ files name. None };
 
-    ghost makes = { λ files name. false };
+    ghost making = { λ files. unknown };
 
     fn read(&mut self, alloc: Global, name: &str) -> Result<Vec<u8>, FileFault> {
         match fs::open(self.runtime, name) {
-            Ok(mut file) => {
-                self.taken[1] = Identity::of_file(&file);
-                read_whole(alloc, &mut file)
-            }
+            Ok(mut file) => read_whole(alloc, &mut file),
             Err(error) => Err(fault_of(&error)),
         }
     }
 
-    fn make(&mut self, name: &str) -> Result<SystemFile<R::File>, FileFault> {
-        let made = self.open_apart(name);
-        if made.is_err() {
-            self.undo();
+    fn make(&mut self, source: &str, name: &str) -> Result<SystemFile<R::File>, FileFault> {
+        match self.open_apart(name, &self.taken(source)) {
+            Ok(opened) => Ok(opened.made()),
+            Err(fault) => Err(fault),
         }
-        made
+    }
+
+    fn make_both(
+        &mut self,
+        source: &str,
+        first: &str,
+        second: &str,
+    ) -> Result<(SystemFile<R::File>, SystemFile<R::File>), PairFault> {
+        let [read, output] = self.taken(source);
+        let opened = match self.open_apart(first, &[read, output]) {
+            Ok(opened) => opened,
+            Err(FileFault::Refused) => return Err(PairFault::First),
+            Err(FileFault::Memory) => return Err(PairFault::Memory),
+        };
+        match self.open_apart(second, &[read, output, opened.identity]) {
+            Ok(other) => Ok((opened.made(), other.made())),
+            Err(fault) => {
+                self.undo(first, opened);
+                match fault {
+                    FileFault::Refused => Err(PairFault::Second),
+                    FileFault::Memory => Err(PairFault::Memory),
+                }
+            }
+        }
     }
 
     fn close(&mut self, name: &str, mut made: SystemFile<R::File>) {
         let _ = name;
         let _ = made.begin();
-        self.fresh = None;
     }
 }

@@ -1,7 +1,7 @@
 //! What the system's files do. Each test works in a folder of its own below the one that it runs in.
 
 use crate::system::SystemFiles;
-use crate::{FileFault, Files};
+use crate::{FileFault, Files, PairFault};
 use std::io::Write;
 use std::os::unix::fs::symlink;
 use std::test::Fail;
@@ -48,7 +48,7 @@ fn what_cannot_be_read_is_refused(rt: HostRuntime) {
 /// Makes a file, writes the bytes to it where there are some, and closes it. Answers whether it was made.
 fn store(rt: &HostRuntime, name: &str, bytes: &[u8]) -> io::Result<bool> {
     let mut files = SystemFiles::new(rt);
-    match files.make(name) {
+    match files.make("no-such-file", name) {
         Ok(mut made) => {
             if !bytes.is_empty() {
                 made.write_all(bytes)?;
@@ -80,7 +80,10 @@ fn an_older_file_stays_until_it_is_written(rt: HostRuntime) -> Result<(), Fail> 
     begin_in(&rt, "older")?;
     fs::write(&rt, "older/file", "held before")?;
     let mut files = SystemFiles::new(&rt);
-    let mut made = files.make("older/file").ok().ok_or("not made")?;
+    let mut made = files
+        .make("no-such-file", "older/file")
+        .ok()
+        .ok_or("not made")?;
     assert!(rt; reads(&rt, "older/file", b"held before"));
     made.write_all(b"new")?;
     assert!(rt; reads(&rt, "older/file", b"new"));
@@ -100,32 +103,30 @@ fn no_file_is_made_without_its_folder(rt: HostRuntime) -> Result<(), Fail> {
     Ok(())
 }
 
-/// Names of the file that was read, of one to be made, and of a second; the first that can't be made.
-const NAMES: [(&str, &str, &str, u8); 9] = [
+/// Names of a source, and of two files to be made; the first that can't be made.
+const NAMES: [(&str, &str, &str, u8); 12] = [
+    ("names/old", "names/new", "names/new", 2),
     ("names/old", "names/new", "names/./new", 2),
     ("names/old", "names/old", "names/new", 1),
     ("names/old", "names/./old", "names/new", 1),
     ("names/old", "names/link", "names/new", 1),
     ("names/old", "names/hard", "names/new", 1),
     ("names/old", "names/new", "names/hard", 2),
+    ("names/link", "names/new", "names/./old", 2),
     ("names/old", "names/new", "names/none/file", 2),
+    ("names/old", "names/none/file", "names/new", 1),
     ("names/old", "names/to-new", "names/new", 2),
     ("names/old", "names/new", "names/to-new", 2),
 ];
 
-/// Makes the files of two names after a third is read, and answers which is the first that can't be made, 0
-/// where both can.
+/// Makes the files of two names beside a source, and answers which is the first that can't be made, 0 where both
+/// can.
 fn first_refused(rt: &HostRuntime, source: &str, first: &str, second: &str) -> u8 {
-    let mut files = SystemFiles::new(rt);
-    if files.read(rt.alloc(), source).is_err() {
-        return 3;
-    }
-    match files.make(first) {
-        Ok(_made) => match files.make(second) {
-            Ok(_other) => 0,
-            Err(_) => 2,
-        },
-        Err(_) => 1,
+    match SystemFiles::new(rt).make_both(source, first, second) {
+        Ok(_made) => 0,
+        Err(PairFault::First) => 1,
+        Err(PairFault::Second) => 2,
+        Err(PairFault::Memory) => 3,
     }
 }
 
@@ -148,6 +149,10 @@ fn one_file_under_two_names_is_not_made(rt: HostRuntime) -> Result<(), Fail> {
         );
         assert!(rt; reads(&rt, "names/old", b"held before"));
         assert!(rt; !fs::exists(&rt, "names/new")?);
+    }
+    for name in ["names/old", "names/./old", "names/link", "names/hard"] {
+        assert!(rt; SystemFiles::new(&rt).make("names/old", name).is_err());
+        assert!(rt; reads(&rt, "names/old", b"held before"));
     }
     assert!(rt; first_refused(&rt, "names/old", "/dev/null", "/dev/null") == 0);
     fs::remove_dir_all(&rt, "names")?;

@@ -1,9 +1,9 @@
 //! Files and writers over memory, which fail where a test wants them to.
-ghost use Rattle.std.specs.Prelude.{◌≡◌, ◌≤◌, ℕ, List, [], Some, None, true, false, option_map, position, IfSome, OnOk, OnErr};
-ghost use Rattle.files.specs.Files.{KeepsOthers};
-ghost use Rattle.files.specs.Memory.{written_by, writer_fails, has_name, kept_bytes, can_make, made_fail, with_locked, with_fails};
+ghost use Rattle.std.specs.Prelude.{◌≡◌, ◌≢◌, ◌≤◌, ℕ, List, [], Some, None, true, false, bytes_eq, find, option_map, position, IfOk, IfSome, OnOk, OnErr};
+ghost use Rattle.files.specs.Files.{KeepsOthers, KeepsAllOthers, CannotMake};
+ghost use Rattle.files.specs.Memory.{written_by, writer_fails, has_name, has_place, kept_bytes, can_make, making_of, made_fail, with_locked, with_fails, KeepsPlaces};
 
-use crate::{FileFault, Files};
+use crate::{FileFault, Files, PairFault};
 use std::alloc::{AllocError, Global};
 use std::io;
 use std::io::Write;
@@ -86,11 +86,11 @@ impl Write for MemoryWriter {
     }
 }
 
-/// A file in memory.
+/// A place for a file in memory, and its bytes once there is one.
 #[derive(Drop)]
 struct Kept {
     name: String,
-    bytes: Vec<u8>,
+    bytes: Option<Vec<u8>>,
 }
 
 /// Files in memory.
@@ -160,34 +160,83 @@ impl MemoryFiles {
     pub fn bytes(&self, name: &str) -> Option<&[u8]>
         ensures { option_map (λ bytes. bytes.now) result ≡ kept_bytes self.now name.now }
     {
-        let file = self.kept.iter().find(|file| file.name.as_str() == name)?;
-        Some(file.bytes.as_slice())
+        match &self.file(name)?.bytes {
+            Some(bytes) => Some(bytes.as_slice()),
+            None => None,
+        }
     }
 
-    /// Where the file of a name stands.
+    /// What is kept at the place for a file of a name, if there is one.
+    fn file(&self, name: &str) -> Option<&Kept>
+        ensures { option_map (λ file. file.now) result ≡ find (has_name name.now) self.now.kept.items }
+    {
+        self.kept.iter().find(|file| file.name.as_str() == name)
+    }
+
+    /// The place for a file of a name.
     fn place(&self, name: &str) -> Option<usize>
         ensures { result ≡ position (has_name name.now) self.now.kept.items }
     {
         self.kept.iter().position(|file| file.name.as_str() == name)
     }
 
-    /// Stores the bytes under the name. A name that is there takes no memory, and nothing changes
+    /// The place for a file of a name, which is made where there is none yet. No file changes.
+    fn hold_place(&mut self, name: &str) -> Result<usize, AllocError>
+        ensures held { IfOk result (λ place. position (has_name name.now) self.new.kept.items ≡ Some place) }
+        ensures there { OnErr result (has_place self.old name.now ≡ false) }
+        ensures places { KeepsPlaces self.old self.new }
+        ensures same { kept_bytes self.new ≡ kept_bytes self.old }
+        ensures makes { can_make self.new ≡ can_make self.old }
+        ensures fails { made_fail self.new ≡ made_fail self.old }
+    {
+        if let Some(place) = self.place(name) {
+            return Ok(place);
+        }
+        let place = self.kept.len();
+        let name = String::from_str(self.alloc, name)?;
+        self.kept.push(Kept { name, bytes: None })?;
+        Ok(place)
+    }
+
+    /// Stores the bytes under the name. A name that has its place takes no memory, and nothing changes
     /// where memory is refused.
     fn store(&mut self, name: &str, bytes: Vec<u8>) -> Result<(), AllocError>
         ensures stored { OnOk result (kept_bytes self.new name.now ≡ Some bytes.items) }
         ensures others { KeepsOthers (kept_bytes self.old) (kept_bytes self.new) name.now }
         ensures same { OnErr result (kept_bytes self.new ≡ kept_bytes self.old) }
-        ensures there { OnErr result (kept_bytes self.old name.now ≡ None) }
+        ensures there { OnErr result (has_place self.old name.now ≡ false) }
+        ensures places { KeepsPlaces self.old self.new }
         ensures makes { can_make self.new ≡ can_make self.old }
         ensures fails { made_fail self.new ≡ made_fail self.old }
     {
-        match self.place(name) {
-            Some(place) => self.kept[place].bytes = bytes,
-            None => {
-                let name = String::from_str(self.alloc, name)?;
-                self.kept.push(Kept { name, bytes })?;
-            }
-        }
+        let place = self.hold_place(name)?;
+        self.kept[place].bytes = Some(bytes);
+        Ok(())
+    }
+
+    /// Whether a file of the name can be made, and isn't that of the source.
+    fn may_make(&self, source: &str, name: &str) -> bool
+        ensures apart { result ≡ true → bytes_eq source.now name.now ≡ false }
+        ensures refused { result ≡ false → CannotMake (making_of self.now) source.now name.now }
+    {
+        source != name && self.can_make(name)
+    }
+
+    /// Makes empty files under two names that differ. Nothing changes where memory is refused.
+    fn empty_both(&mut self, first: &str, second: &str) -> Result<(), AllocError>
+        requires differ { second.now ≢ first.now }
+        ensures empty { OnOk result (kept_bytes self.new first.now ≡ Some []) }
+        ensures empty_too { OnOk result (kept_bytes self.new second.now ≡ Some []) }
+        ensures others { KeepsAllOthers (kept_bytes self.old) (kept_bytes self.new) first.now second.now }
+        ensures same { OnErr result (kept_bytes self.new ≡ kept_bytes self.old) }
+        ensures makes { can_make self.new ≡ can_make self.old }
+        ensures fails { made_fail self.new ≡ made_fail self.old }
+    {
+        // both places first, so that no memory is asked for any more once a file changes
+        self.hold_place(first)?;
+        self.hold_place(second)?;
+        let _ = self.store(first, Vec::new(self.alloc));
+        let _ = self.store(second, Vec::new(self.alloc));
         Ok(())
     }
 }
@@ -198,7 +247,7 @@ impl Files for MemoryFiles {
     // all is known
     ghost known = { λ files name. Some (kept_bytes files name) };
 
-    ghost makes = { can_make };
+    ghost making = { making_of };
 
     fn read(&mut self, alloc: Global, name: &str) -> Result<Vec<u8>, FileFault> {
         match self.bytes(name) {
@@ -210,13 +259,34 @@ impl Files for MemoryFiles {
         }
     }
 
-    fn make(&mut self, name: &str) -> Result<MemoryWriter, FileFault> {
-        if !self.can_make(name) {
+    fn make(&mut self, source: &str, name: &str) -> Result<MemoryWriter, FileFault> {
+        if !self.may_make(source, name) {
             return Err(FileFault::Refused);
         }
         match self.keep(name, b"") {
             Ok(()) => Ok(MemoryWriter::new(self.alloc, self.fails)),
             Err(_) => Err(FileFault::Memory),
+        }
+    }
+
+    fn make_both(
+        &mut self,
+        source: &str,
+        first: &str,
+        second: &str,
+    ) -> Result<(MemoryWriter, MemoryWriter), PairFault> {
+        if !self.may_make(source, first) {
+            return Err(PairFault::First);
+        }
+        if first == second || !self.may_make(source, second) {
+            return Err(PairFault::Second);
+        }
+        match self.empty_both(first, second) {
+            Ok(()) => Ok((
+                MemoryWriter::new(self.alloc, self.fails),
+                MemoryWriter::new(self.alloc, self.fails),
+            )),
+            Err(_) => Err(PairFault::Memory),
         }
     }
 
