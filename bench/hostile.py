@@ -81,6 +81,8 @@ def names(uses, room, whole):
     with open(folder / 'out', 'wb') as out:
         left = uses.call(folder, [*RUN, 'out'], stdout=out, stderr=subprocess.PIPE)
     uses.judge('the trace as standard output', left[0] == 1 and left[2] == b'swimsim: file out\n', left)
+    left = uses.call(folder, [*RUN, '/dev/null', '--report', '/dev/null'])
+    uses.judge('/dev/null twice', left[0] == 0 and left[1] == b'rows 6\n', left)
 
 
 def name_in_again(folder, way):

@@ -1,3 +1,4 @@
+use crate::simulation::text_failure;
 use crate::{Failure, command, refuse};
 use base::Fault;
 use files::testing::{Failing, MemoryFiles, MemoryWriter};
@@ -394,6 +395,15 @@ fn want_of_memory_is_no_success(rt: HostRuntime) -> Result<(), Fail> {
         }
     }
     Ok(())
+}
+
+/// A text can't ask for want of memory, which is rule 11.
+#[test]
+fn each_rule_is_told_by_its_number_but_memory(rt: HostRuntime) {
+    for rule in 1..=10u8 {
+        assert!(rt; text_failure(rule) == Failure::Rule(rule), "{rule}");
+    }
+    assert!(rt; text_failure(11) == Failure::Memory);
 }
 
 #[test]
