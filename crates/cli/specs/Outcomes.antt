@@ -12,7 +12,7 @@ use Rattle.reports.specs.Text.{report_text}
 use Rattle.exchange.specs.Runs.{IsRunOf, WearsOut}
 use Rattle.exchange.specs.Promise.{WearsOutReport}
 use Rattle.clap.specs.Words.{Text}
-use Rattle.files.specs.Files.{KnownFile, Making, Holds, HoldsNow, IsAbsent, CannotMake, CannotMakeSecond, AreApart}
+use Rattle.files.specs.Files.{KnownFile, Making, Holds, HoldsNow, IsAbsent, CannotMake, CannotMakeSecond, AreThreeFiles}
 use Rattle.command_line.specs.Words.{AsksForRun, AsksForCheck, AsksForHelp, IsNoCommand}
 use Rattle.command_line.specs.Division.{AsksForWorkers, Divides}
 use Rattle.command_line.specs.Printed.{rows_line, members_line}
@@ -68,7 +68,7 @@ pub record PassesChecks (before : Shelf) (run : RunWords) (workers : ℕ) (s : S
 -- the scenario's file, the trace's and the report's, where one is asked for, are different files
 abbrev pub DifferentFiles : Making → Text → Text → Option Text → Type 0
 DifferentFiles making file trace None = making.are_one file trace ≡ false
-DifferentFiles making file trace (Some report) = AreApart making file trace report
+DifferentFiles making file trace (Some report) = AreThreeFiles making file trace report
 
 -- the run that the words of `run` ask for passed its checks and was done, and has so many rows
 pub record RunsAll (before after : Shelf) (making : Making) (run : RunWords) (count : ℕ) : Type 0 where

@@ -44,7 +44,7 @@ abbrev pub CannotMakeSecond : Making → List ℕ → List ℕ → List ℕ → 
 CannotMakeSecond making source first second = CannotMake making source second ⊎ (making.are_one first second ≡ true)
 
 -- the files of a source and of two names are three
-pub record AreApart (making : Making) (source first second : List ℕ) : Type 0 where
+pub record AreThreeFiles (making : Making) (source first second : List ℕ) : Type 0 where
   pub from_first : making.are_one source first ≡ false
   pub from_second : making.are_one source second ≡ false
   pub from_each_other : making.are_one first second ≡ false

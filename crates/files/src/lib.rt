@@ -3,7 +3,7 @@
 #![tactic(auto)]
 
 ghost use Rattle.std.specs.Prelude.{◌≡◌, ◌≢◌, ℕ, List, [], Option, Some, false, IfOk, IfSome, IsErrOf, OnOk, OnErr};
-ghost use Rattle.files.specs.Files.{KnownFile, Making, Holds, HoldsNow, IsAbsent, ClosesAs, KeepsOthers, KeepsAllOthers, CannotMake, CannotMakeSecond, AreApart};
+ghost use Rattle.files.specs.Files.{KnownFile, Making, Holds, HoldsNow, IsAbsent, ClosesAs, KeepsOthers, KeepsAllOthers, CannotMake, CannotMakeSecond, AreThreeFiles};
 
 mod identity;
 mod reading;
@@ -82,7 +82,7 @@ pub trait Files {
         ensures empty_too { OnOk result (HoldsNow (known self.old second.now) (known self.new second.now) []) }
         ensures made { IfOk result (λ made. IfSome (known self.old first.now) (λ _. Self.Made.contents made.0 ≡ Some [])) }
         ensures made_too { IfOk result (λ made. IfSome (known self.old second.now) (λ _. Self.Made.contents made.1 ≡ Some [])) }
-        ensures apart { OnOk result (AreApart (making self.old) source.now first.now second.now) }
+        ensures apart { OnOk result (AreThreeFiles (making self.old) source.now first.now second.now) }
         ensures differ { OnOk result (IfSome (known self.old first.now) (λ _. second.now ≢ first.now)) }
         ensures others { KeepsAllOthers (known self.old) (known self.new) first.now second.now }
         ensures refused { IsErrOf result PairFault.First → CannotMake (making self.old) source.now first.now }
