@@ -1,7 +1,7 @@
 -- Decimal logarithms in whole thousandths, by a number's decimal text.
 use Rattle.std.specs.Prelude.{ℕ, ◌+◌, ◌-◌, ◌*◌, List, [], ◌∷◌, length, slice_index, decimal}
 
--- the decimal logarithms of 1 to 10, in thousandths, rounded down
+-- the decimal logarithms of 1 to 10, in thousandths, rounded to the nearest
 abbrev pub thousandths_table : List ℕ
 thousandths_table = 0 ∷ 301 ∷ 477 ∷ 602 ∷ 699 ∷ 778 ∷ 845 ∷ 903 ∷ 954 ∷ 1000 ∷ []
 

@@ -1,3 +1,6 @@
+ghost use Rattle.std.specs.Prelude.{◌≡◌};
+ghost use Rattle.base.specs.declared.fault.Fault.TheVariants as fault;
+
 use std::alloc::{AllocError, AllocFailed};
 use thiserror::Error;
 
@@ -33,4 +36,12 @@ pub enum Fault {
     /// The threads of a parallel run did not hand on what they were given.
     #[error("F4")]
     Relay,
+}
+
+impl From<Memory> for Fault {
+    ghost from_gives = { λ _ f. f ≡ fault.Memory };
+
+    fn from(_memory: Memory) -> Self {
+        Fault::Memory
+    }
 }

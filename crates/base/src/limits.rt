@@ -1,7 +1,7 @@
 //! The limits of a simulation.
 
 /// The most members of a cluster.
-pub const MOST_MEMBERS: usize = 1024;
+pub const MOST_MEMBERS: usize = 4096;
 
 /// The latest moment that a scenario may name, in ticks: 2^40.
 pub const LATEST_MOMENT: u64 = 1 << 40;

@@ -1,7 +1,7 @@
 ghost use Rattle.std.specs.Prelude.{◌≡◌, ◌-◌, ◌≤◌};
 ghost use Rattle.base.specs.Logarithm.{digit_count, leading_digit, log_of};
 
-/// The decimal logarithms of 1 to 10, in thousandths, rounded down.
+/// The decimal logarithms of 1 to 10, in thousandths, rounded to the nearest.
 const THOUSANDTHS: [u32; 10] = [0, 301, 477, 602, 699, 778, 845, 903, 954, 1000];
 
 /// A number's leading decimal digit, and how many digits follow it.

@@ -1,21 +1,22 @@
 -- Members that are put into their parts, one after the other.
-use Rattle.std.proofs.Common.{◌≡◌, ℕ, zero, suc, ◌+◌, ◌<◌, Bool, true, false, cond, eqb, List, [], ◌∷◌, length, Option, Some, None, slice_set, ap, ◌∙◌, sym, subst, refl, arith}
+use Rattle.std.proofs.Common.{◌≡◌, ℕ, zero, suc, ◌+◌, ◌<◌, Bool, true, false, cond, eqb, List, [], ◌∷◌, ◌++◌, length, Option, Some, None, slice_set, ap, ◌∙◌, sym, subst, refl, arith}
 use Rattle.std.specs.Option.{option_map}
 use Rattle.std.specs.List.{AllByRecursion, slice_get}
 use Rattle.std.specs.Cmp.{IsTotalOrder, nat_cmp_total}
 use Rattle.std.specs.declared.cmp.Ordering.{Ordering}
 use Rattle.std.specs.FinMap.{FinMap, IsAntisymmetric, nat_cmp-IsAntisymmetric, empty, insert, retain_keys, get-empty, same_map}
 use Rattle.std.proofs.lemmas.Bool.{eqb-true, eqb-false, eq-eqb}
+use Rattle.std.proofs.lemmas.List.Elements.{filter-append}
 use Rattle.std.proofs.lemmas.Option.{slice_get_within}
 use Rattle.base.specs.declared.key.Key.{Key}
 use Rattle.base.specs.Order.{key_cmp, key_total, key_exact}
 use Rattle.base.specs.World.{IsPending, with_events}
-use Rattle.scenario.specs.Setup.{Setup, start_of, crash_of}
+use Rattle.scenario.specs.Setup.{Setup, start_of, crash_of, leave_of}
 use Rattle.scenario.specs.Division.{Deal}
 use Rattle.member.specs.declared.content.Content.{Content}
-use Rattle.member.specs.declared.content.Content.TheVariants.{Start}
+use Rattle.member.specs.declared.content.Content.TheVariants.{Start, Crash, Leave}
 use Rattle.member.specs.declared.event.Event.{Event}
-use Rattle.member.specs.Opening.{opening_state, script_key, crash_event, script_of}
+use Rattle.member.specs.Opening.{opening_state, script_key, ending_event, script_of}
 use Rattle.member.specs.State.{State}
 use Rattle.member_laws.specs.Runs.{Cluster}
 use Rattle.windows.specs.declared.part.Part.{Part}
@@ -61,20 +62,29 @@ module _ {C : Type 0} (owns : ℕ → Bool) where
   retain_events (e ∷ es) pending = retain_events es (insert pending e.0 e.1) ∙ retain_either pending e es (owns e.0.to) refl
 
 module _ (owns : ℕ → Bool) (m : ℕ) where
-  crash_own : (b : Bool) → owns m ≡ b → (crash : Option ℕ) → for_own owns (crash_event m crash) ≡ cond b (crash_event m crash) []
-  crash_own true is None = refl
-  crash_own false is None = refl
-  crash_own true is (Some at) = ap (λ b. cond b (crash_event m (Some at)) []) is
-  crash_own false is (Some at) = ap (λ b. cond b (crash_event m (Some at)) []) is
+  ending_own : (content : Content) (b : Bool) → owns m ≡ b → (ending : Option ℕ) → for_own owns (ending_event content m ending) ≡ cond b (ending_event content m ending) []
+  ending_own content true is None = refl
+  ending_own content false is None = refl
+  ending_own content true is (Some at) = ap (λ b. cond b (ending_event content m (Some at)) []) is
+  ending_own content false is (Some at) = ap (λ b. cond b (ending_event content m (Some at)) []) is
+
+  abbrev endings : Setup → List (Key × Content)
+  endings s = ending_event Crash m (crash_of s m) ++ ending_event Leave m (leave_of s m)
+
+  endings_in_two : (s : Setup) (b : Bool) → owns m ≡ b → for_own owns (endings s) ≡ cond b (ending_event Crash m (crash_of s m)) [] ++ cond b (ending_event Leave m (leave_of s m)) []
+  endings_in_two s b is =
+      filter-append (λ e. owns e.0.to) (ending_event Crash m (crash_of s m)) (ending_event Leave m (leave_of s m))
+      ∙ ap (λ l. l ++ for_own owns (ending_event Leave m (leave_of s m))) (ending_own Crash b is (crash_of s m))
+      ∙ ap (λ l. cond b (ending_event Crash m (crash_of s m)) [] ++ l) (ending_own Leave b is (leave_of s m))
 
   -- a member's script is for it alone
   script_own : (s : Setup) (b : Bool) → owns m ≡ b → for_own owns (script_of s m) ≡ cond b (script_of s m) []
   script_own s true is =
-      ap (λ b. cond b ((script_key m (start_of s m) 0, Start) ∷ for_own owns (crash_event m (crash_of s m))) (for_own owns (crash_event m (crash_of s m)))) is
-      ∙ ap (λ l. (script_key m (start_of s m) 0, Start) ∷ l) (crash_own true is (crash_of s m))
+      ap (λ b. cond b ((script_key m (start_of s m) 0, Start) ∷ for_own owns (endings s)) (for_own owns (endings s))) is
+      ∙ ap (λ l. (script_key m (start_of s m) 0, Start) ∷ l) (endings_in_two s true is)
   script_own s false is =
-      ap (λ b. cond b ((script_key m (start_of s m) 0, Start) ∷ for_own owns (crash_event m (crash_of s m))) (for_own owns (crash_event m (crash_of s m)))) is
-      ∙ crash_own false is (crash_of s m)
+      ap (λ b. cond b ((script_key m (start_of s m) 0, Start) ∷ for_own owns (endings s)) (for_own owns (endings s))) is
+      ∙ endings_in_two s false is
 
   -- who comes to a cluster comes to its own part, and to no other
   pub part_admits : (s : Setup) (w : Cluster) → owns m ≡ true → part_of owns (with_member s m w) ≡ with_member s m (part_of owns w)

@@ -16,3 +16,4 @@ mod Whole
 mod Streaming
 mod Endings
 mod Sent
+mod FirstVersion

@@ -1,22 +1,22 @@
 -- A counter past its limit stays so through every step.
 use Rattle.std.proofs.Common.{◌≡◌, ℕ, ◌<◌, Bool, true, false, cond, List, Option, Some, None, subst, refl, arith, inl, inr}
-use Rattle.std.specs.Option.{option_map_or}
+use Rattle.std.specs.Option.{option_map_or, option_or}
 use Rattle.base.specs.declared.key.Key.{Key}
-use Rattle.scenario.specs.Setup.{Setup, crash_of}
+use Rattle.scenario.specs.Setup.{Setup, crash_of, leave_of}
 use Rattle.incarnation.specs.declared.Claim.{Claim}
 use Rattle.incarnation.specs.declared.Update.{Update}
 use Rattle.lifeguard.specs.declared.probe.Probe.{Probe}
 use Rattle.member.specs.declared.member.Phase.{Phase}
 use Rattle.member.specs.declared.member.Phase.TheVariants.{Waiting, Joining, Running, Down}
 use Rattle.member.specs.declared.content.Content.{Content}
-use Rattle.member.specs.declared.content.Content.TheVariants.{Start, Crash, JoinTimer, PeriodTimer, TimeoutTimer, NackTimer, SuspicionTimer, Join, Welcome, Ping, PingReq, Ack, Nack}
+use Rattle.member.specs.declared.content.Content.TheVariants.{Start, Crash, Leave, JoinTimer, PeriodTimer, TimeoutTimer, NackTimer, SuspicionTimer, Join, Welcome, Ping, PingReq, Ack, Nack, Bye}
 use Rattle.member.specs.State.{State}
 use Rattle.member.specs.Turn.{Effect, unchanged}
-use Rattle.member.specs.Send.{nack_sent}
+use Rattle.member.specs.Send.{ping_req_sent, nack_sent, bye_sent}
 use Rattle.member.specs.Opening.{opening_state}
-use Rattle.member.specs.Step.{crashed, join_asked, join_handled, joined, period_begun, timed_out, help_asked, ping_heard, ping_req_heard, ack_heard, nack_due, nack_heard, confirmed, suspicion_over, handled, step}
+use Rattle.member.specs.Step.{crashed, join_asked, join_handled, joined, period_begun, timed_out, help_asked, ping_heard, ping_req_heard, ack_heard, nack_due, nack_heard, confirmed, suspicion_over, withdrawn, byes_said, departed, plain_handled, handled, step}
 use Rattle.member.specs.Worn.{IsWorn}
-use Rattle.member.proofs.Worn.{kept_row, kept_timer, kept_sent, kept_ping, kept_ack, kept_join, kept_welcome, kept_applied, kept_all, kept_asked, kept_probe_ended, kept_next, kept_owed, kept_taken, kept_first_period}
+use Rattle.member.proofs.Worn.{kept_row, kept_timer, kept_sent, kept_ping, kept_ping_req, kept_ack, kept_join, kept_welcome, kept_bye, kept_each, kept_applied, kept_all, kept_probe_ended, kept_next, kept_owed, kept_taken, kept_first_period}
 use Rattle.member_laws.specs.Words.{WaitsAsOpened}
 
 either_worn : (b : Bool) (o p : Effect) → IsWorn o.state → IsWorn p.state → IsWorn (cond b o p).state
@@ -45,7 +45,10 @@ kept_period s k o worn = kept_timer k _ _ _ (kept_next s k _ (kept_probe_ended s
 
 kept_help : (s : Setup) (k : Key) (probe : Probe) (o : Effect) → IsWorn o.state → IsWorn (help_asked s k probe o).state
 unfolding help_asked
-kept_help s k probe o worn = either_worn s.lifeguard.probe _ _ (kept_asked s k _ _ _ _ worn) (kept_asked s k _ _ _ _ worn)
+kept_help s k probe o worn =
+    either_worn s.lifeguard.probe _ _
+    (kept_each (ping_req_sent s k probe.target probe.seq) (kept_ping_req s k probe.target probe.seq) _ _ worn)
+    (kept_each (ping_req_sent s k probe.target probe.seq) (kept_ping_req s k probe.target probe.seq) _ _ worn)
 
 kept_timed_out : (s : Setup) (k : Key) (seq : ℕ) (probe : Option Probe) (o : Effect) → IsWorn o.state → IsWorn (timed_out s k seq probe o).state
 unfolding timed_out
@@ -80,68 +83,50 @@ kept_suspicion_over : (s : Setup) (k : Key) (subject : ℕ) (o : Effect) → IsW
 unfolding suspicion_over
 kept_suspicion_over s k subject o worn = either_worn _ _ _ (kept_confirmed s k subject _ o worn) worn
 
+kept_withdrawn : (k : Key) (o : Effect) → IsWorn o.state → IsWorn (withdrawn k o).state
+unfolding withdrawn
+kept_withdrawn k o worn = kept_row k _ _ _ _ _ worn
+
+kept_byes : (s : Setup) (k : Key) (o : Effect) → IsWorn o.state → IsWorn (byes_said s k o).state
+unfolding byes_said
+kept_byes s k o worn = kept_each (bye_sent s k) (kept_bye s k) _ _ worn
+
+kept_departed : (s : Setup) (k : Key) (o : Effect) → IsWorn o.state → IsWorn (departed s k o).state
+unfolding departed
+kept_departed s k o worn = kept_byes s k _ (kept_row k _ _ _ _ _ worn)
+
+kept_plain : (s : Setup) (k : Key) (c : Content) (phase : Phase) (o : Effect) → (phase ≡ Waiting → ¬ (IsWorn o.state)) → IsWorn o.state → IsWorn (plain_handled s k c phase o).state
+unfolding plain_handled
+kept_plain s k Start Waiting o waits worn = absurd (waits refl worn)
+kept_plain s k Crash Joining o waits worn = kept_crashed k o worn
+kept_plain s k Crash Running o waits worn = kept_crashed k o worn
+kept_plain s k JoinTimer Joining o waits worn = kept_join_asked s k o worn
+kept_plain s k PeriodTimer Running o waits worn = kept_period s k o worn
+kept_plain s k (TimeoutTimer seq) Running o waits worn = kept_timed_out s k seq o.state.probe o worn
+kept_plain s k (NackTimer initiator seq) Running o waits worn = kept_nack_due s k initiator seq o worn
+kept_plain s k (SuspicionTimer subject) Running o waits worn = kept_suspicion_over s k subject o worn
+kept_plain s k Join Running o waits worn = kept_join_handled s k o worn
+kept_plain s k (Welcome entries) Joining o waits worn = kept_joined s k entries o worn
+kept_plain s k (Ping initiator seq updates) Running o waits worn = kept_ping_heard s k initiator seq updates o worn
+kept_plain s k (PingReq seq target updates) Running o waits worn = kept_ping_req_heard s k seq target updates o worn
+kept_plain s k (Ack initiator seq updates) Running o waits worn = kept_ack_heard s k initiator seq updates o worn
+kept_plain s k (Nack seq) Running o waits worn = kept_nack_heard seq o worn
+kept_plain s k _ _ o waits worn = worn
+
 kept_handled : (s : Setup) (k : Key) (c : Content) (phase : Phase) (o : Effect) → (phase ≡ Waiting → ¬ (IsWorn o.state)) → IsWorn o.state → IsWorn (handled s k c phase o).state
 unfolding handled
-kept_handled s k Start Waiting o waits worn = absurd (waits refl worn)
-kept_handled s k Start Joining o waits worn = worn
-kept_handled s k Start Running o waits worn = worn
-kept_handled s k Start Down o waits worn = worn
-kept_handled s k Crash Waiting o waits worn = worn
-kept_handled s k Crash Joining o waits worn = kept_crashed k o worn
-kept_handled s k Crash Running o waits worn = kept_crashed k o worn
-kept_handled s k Crash Down o waits worn = worn
-kept_handled s k JoinTimer Waiting o waits worn = worn
-kept_handled s k JoinTimer Joining o waits worn = kept_join_asked s k o worn
-kept_handled s k JoinTimer Running o waits worn = worn
-kept_handled s k JoinTimer Down o waits worn = worn
-kept_handled s k PeriodTimer Waiting o waits worn = worn
-kept_handled s k PeriodTimer Joining o waits worn = worn
-kept_handled s k PeriodTimer Running o waits worn = kept_period s k o worn
-kept_handled s k PeriodTimer Down o waits worn = worn
-kept_handled s k (TimeoutTimer seq) Waiting o waits worn = worn
-kept_handled s k (TimeoutTimer seq) Joining o waits worn = worn
-kept_handled s k (TimeoutTimer seq) Running o waits worn = kept_timed_out s k seq o.state.probe o worn
-kept_handled s k (TimeoutTimer seq) Down o waits worn = worn
-kept_handled s k (NackTimer initiator seq) Waiting o waits worn = worn
-kept_handled s k (NackTimer initiator seq) Joining o waits worn = worn
-kept_handled s k (NackTimer initiator seq) Running o waits worn = kept_nack_due s k initiator seq o worn
-kept_handled s k (NackTimer initiator seq) Down o waits worn = worn
-kept_handled s k (SuspicionTimer subject) Waiting o waits worn = worn
-kept_handled s k (SuspicionTimer subject) Joining o waits worn = worn
-kept_handled s k (SuspicionTimer subject) Running o waits worn = kept_suspicion_over s k subject o worn
-kept_handled s k (SuspicionTimer subject) Down o waits worn = worn
-kept_handled s k Join Waiting o waits worn = worn
-kept_handled s k Join Joining o waits worn = worn
-kept_handled s k Join Running o waits worn = kept_join_handled s k o worn
-kept_handled s k Join Down o waits worn = worn
-kept_handled s k (Welcome entries) Waiting o waits worn = worn
-kept_handled s k (Welcome entries) Joining o waits worn = kept_joined s k entries o worn
-kept_handled s k (Welcome entries) Running o waits worn = worn
-kept_handled s k (Welcome entries) Down o waits worn = worn
-kept_handled s k (Ping initiator seq updates) Waiting o waits worn = worn
-kept_handled s k (Ping initiator seq updates) Joining o waits worn = worn
-kept_handled s k (Ping initiator seq updates) Running o waits worn = kept_ping_heard s k initiator seq updates o worn
-kept_handled s k (Ping initiator seq updates) Down o waits worn = worn
-kept_handled s k (PingReq seq target updates) Waiting o waits worn = worn
-kept_handled s k (PingReq seq target updates) Joining o waits worn = worn
-kept_handled s k (PingReq seq target updates) Running o waits worn = kept_ping_req_heard s k seq target updates o worn
-kept_handled s k (PingReq seq target updates) Down o waits worn = worn
-kept_handled s k (Ack initiator seq updates) Waiting o waits worn = worn
-kept_handled s k (Ack initiator seq updates) Joining o waits worn = worn
-kept_handled s k (Ack initiator seq updates) Running o waits worn = kept_ack_heard s k initiator seq updates o worn
-kept_handled s k (Ack initiator seq updates) Down o waits worn = worn
-kept_handled s k (Nack seq) Waiting o waits worn = worn
-kept_handled s k (Nack seq) Joining o waits worn = worn
-kept_handled s k (Nack seq) Running o waits worn = kept_nack_heard seq o worn
-kept_handled s k (Nack seq) Down o waits worn = worn
+kept_handled s k Leave Joining o waits worn = kept_withdrawn k o worn
+kept_handled s k Leave Running o waits worn = kept_departed s k o worn
+kept_handled s k Bye Running o waits worn = kept_confirmed s k k.from _ o worn
+kept_handled s k c phase o waits worn = kept_plain s k c phase o waits worn
 
-fresh_number : (crash : Option ℕ) → option_map_or (λ at. 2) crash 1 < 3
+fresh_number : (ending : Option ℕ) → option_map_or (λ at. 2) ending 1 < 3
 fresh_number None = omega arith
 fresh_number (Some at) = omega arith
 
 opened_unworn : (s : Setup) (m : ℕ) → ¬ (IsWorn (opening_state s m))
 unfolding opening_state
-opened_unworn s m worn = let few = fresh_number (crash_of s m) in elim worn [ inl h ↦ omega arith | inr more ↦ elim more [ inl h ↦ omega arith | inr h ↦ omega arith ] ]
+opened_unworn s m worn = let few = fresh_number (option_or (crash_of s m) (leave_of s m)) in elim worn [ inl h ↦ omega arith | inr more ↦ elim more [ inl h ↦ omega arith | inr h ↦ omega arith ] ]
 
 pub worn_stays : (s : Setup) (k : Key) (c : Content) (t : State) → WaitsAsOpened s k.to t → IsWorn t → IsWorn (step s k c t).state
 unfolding step

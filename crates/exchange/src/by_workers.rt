@@ -106,14 +106,8 @@ fn run_into<A: Sink, G: Gate, R: Threads + Wait + Sync>(
     ensures sound { IsSound scenario.now }
 {
     let _end = scenario.end();
-    let links = match Links::of(alloc, scenario) {
-        Ok(links) => links,
-        Err(Memory) => return Err(Fault::Memory),
-    };
-    let parts = match open_wheels(alloc, scenario, division) {
-        Ok(parts) => parts,
-        Err(Memory) => return Err(Fault::Memory),
-    };
+    let links = Links::of(alloc, scenario)?;
+    let parts = open_wheels(alloc, scenario, division)?;
     let hands = workers.count().min(division.parts());
     by_crew(
         rt, alloc, parts, hands, gate, scenario, &links, division, trace,
@@ -145,33 +139,19 @@ fn by_crew<'a, A: Sink, Q: EventQueue<Event> + Drop + Send, G: Gate, R: Threads 
     ensures unfailed { OnOk result (A.failed trace.new ≡ A.failed trace.old) }
     ensures relay { IsErrOf result Fault.Relay → A.failed trace.new ≡ A.failed trace.old }
 {
-    let tallied = match Tallied::new(alloc) {
-        Ok(tallied) => tallied,
-        Err(Memory) => return Err(Fault::Memory),
-    };
-    let (relay, sender, taker) = match Relay::new(alloc, scenario) {
-        Ok(made) => made,
-        Err(Memory) => return Err(Fault::Memory),
-    };
-    let (board, seats): (ErrandBoard<'a, Q>, Vec<ErrandSeat<'a, Q>>) = match Board::new(
+    let tallied = Tallied::new(alloc)?;
+    let (relay, sender, taker) = Relay::new(alloc, scenario)?;
+    let (board, seats): (ErrandBoard<'a, Q>, Vec<ErrandSeat<'a, Q>>) = Board::new(
         alloc,
         division.parts(),
         SEATS,
-    ) {
-        Ok(made) => made,
-        Err(Memory) => return Err(Fault::Memory),
-    };
-    let (tallied, seats) = match at_board::<A, Q, G, Brand, R>(
+    )?;
+    let (tallied, seats) = at_board::<A, Q, G, Brand, R>(
         rt, alloc, &board, seats, parts, workers, gate, scenario, links, division, relay, sender,
         taker, tallied, trace,
-    ) {
-        Ok(made) => made,
-        Err(fault) => return Err(fault),
-    };
-    match close_board(rt, board, seats) {
-        Ok(()) => Ok(tallied),
-        Err(fault) => Err(fault),
-    }
+    )?;
+    close_board(rt, board, seats)?;
+    Ok(tallied)
 }
 
 /// The same over this board, with a post at each of its seats: the rows' tallies, and the seats.
@@ -220,21 +200,15 @@ fn at_board<
     ensures relay { IsErrOf result Fault.Relay → A.failed trace.new ≡ A.failed trace.old }
 {
     let signals = Signals::new();
-    let mut posts: Vec<ErrandPost<Q, J>> = match posts_at(alloc, board, seats) {
-        Ok(posts) => posts,
-        Err(Memory) => return Err(Fault::Memory),
-    };
+    let mut posts: Vec<ErrandPost<Q, J>> = posts_at(alloc, board, seats)?;
     let Some(own) = posts.pop() else {
         return Err(Fault::Relay);
     };
     let crew = Crew::new(workers, own, &signals, gate);
-    let (ended, posts) = match within(
+    let (ended, posts) = within(
         rt, alloc, workers, posts, crew, &signals, gate, parts, scenario, links, division, &relay,
         sender, taker, tallied, trace,
-    ) {
-        Ok(left) => left,
-        Err(fault) => return Err(fault),
-    };
+    )?;
     let seats = match posts {
         Ok(posts) => seats_of(alloc, board, posts),
         Err(Memory) => Err(Memory),
@@ -246,12 +220,7 @@ fn at_board<
         written,
     } = ended;
     close(relay, driven.seat, taker);
-    let seats = match seats {
-        Ok(seats) => seats,
-        Err(Memory) => return Err(Fault::Memory),
-    };
-    match first_fault(driven.outcome, written) {
-        Ok(()) => Ok((tallied, seats)),
-        Err(fault) => Err(fault),
-    }
+    let seats = seats?;
+    first_fault(driven.outcome, written)?;
+    Ok((tallied, seats))
 }

@@ -12,7 +12,7 @@ use crate::slice::Slice;
 use crate::stream::Stream;
 use crate::tallied::Tallied;
 use crate::turns::{Course, Turned, course_of, exchanged};
-use base::{Fault, Memory};
+use base::Fault;
 use board::Site;
 use horizons::{Horizons, horizons};
 use links::Links;
@@ -125,10 +125,7 @@ fn turns_by_crew<'b, 'a, Q: EventQueue<Event> + Drop, G: Gate, J: Site, R: Threa
     ensures worn { IsErrOf result Fault.Worn → WearsOut course.now.scenario.now }
     ensures write { IfErr result (λ fault. fault ≢ Fault.Write) }
 {
-    let horizons = match horizons(alloc, course.scenario, course.division, course.links) {
-        Ok(horizons) => horizons,
-        Err(Memory) => return Err(Fault::Memory),
-    };
+    let horizons = horizons(alloc, course.scenario, course.division, course.links)?;
     turns_to_horizons(rt, alloc, parts, crew, stream, &horizons, course)
 }
 
@@ -173,36 +170,17 @@ fn turns_to_horizons<
             return Ok(());
         };
         let limit = slice.end(first);
-        let bounded = match bounded_by_horizons(alloc, parts, first, limit, horizons, course) {
-            Ok(bounded) => bounded,
-            Err(Memory) => return Err(Fault::Memory),
-        };
+        let bounded = bounded_by_horizons(alloc, parts, first, limit, horizons, course)?;
         window = window.saturating_add(1);
-        let done = match crew.run_windows(
-            rt,
-            alloc,
-            bounded,
-            window,
-            course.scenario,
-            course.links,
-        ) {
-            Ok(done) => done,
-            Err(fault) => return Err(fault),
-        };
-        let turned = match exchanged(rt, alloc, done, kept, course.division) {
-            Ok(turned) => turned,
-            Err(Memory) => return Err(Fault::Memory),
-        };
+        let done = crew.run_windows(rt, alloc, bounded, window, course.scenario, course.links)?;
+        let turned = exchanged(rt, alloc, done, kept, course.division)?;
         let Turned {
             parts: after,
             rows,
             kept: still_kept,
         } = turned;
         slice.adapt(rows.len());
-        match stream.take(rows) {
-            Ok(()) => {}
-            Err(fault) => return Err(fault),
-        }
+        stream.take(rows)?;
         parts = after;
         kept = still_kept;
         from = first.ticks() + 1;

@@ -19,7 +19,7 @@ use crate::outputs::write_run;
 use crate::rows::join;
 use crate::sequential::Summary;
 use crate::turns::{Course, Turned, course_of, exchanged};
-use base::{Fault, Memory, Moment};
+use base::{Fault, Moment};
 use links::Links;
 use member::{Event, StepError};
 use scenario::{Division, Scenario};
@@ -77,14 +77,8 @@ fn rows_in_turn(
     ensures sound { IsSound scenario.now }
 {
     let _end = scenario.end();
-    let links = match Links::of(alloc, scenario) {
-        Ok(links) => links,
-        Err(Memory) => return Err(Fault::Memory),
-    };
-    let parts = match open_parts(alloc, scenario, division) {
-        Ok(parts) => parts,
-        Err(Memory) => return Err(Fault::Memory),
-    };
+    let links = Links::of(alloc, scenario)?;
+    let parts = open_parts(alloc, scenario, division)?;
     let least_delay = links.least_delay();
     let course = course_of(scenario, &links, division);
     turns_in_turn(rt, alloc, parts, least_delay, &course)
@@ -114,28 +108,15 @@ fn turns_in_turn<Q: EventQueue<Event> + Drop>(
         let Some(first) = first_moment(&parts, course.end) else {
             return Ok(rows);
         };
-        let bounded = match bounded_in_common(alloc, parts, first, least_delay, course) {
-            Ok(bounded) => bounded,
-            Err(Memory) => return Err(Fault::Memory),
-        };
-        let done = match windows_in_turn(alloc, bounded, course) {
-            Ok(done) => done,
-            Err(StepError::Memory) => return Err(Fault::Memory),
-            Err(StepError::Worn) => return Err(Fault::Worn),
-        };
-        let turned = match exchanged(rt, alloc, done, kept, course.division) {
-            Ok(turned) => turned,
-            Err(Memory) => return Err(Fault::Memory),
-        };
+        let bounded = bounded_in_common(alloc, parts, first, least_delay, course)?;
+        let done = windows_in_turn(alloc, bounded, course)?;
+        let turned = exchanged(rt, alloc, done, kept, course.division)?;
         let Turned {
             parts: after,
             rows: made,
             kept: still_kept,
         } = turned;
-        match join(&mut rows, made) {
-            Ok(()) => {}
-            Err(Memory) => return Err(Fault::Memory),
-        }
+        join(&mut rows, made)?;
         parts = after;
         kept = still_kept;
         from = first.ticks() + 1;
@@ -158,14 +139,8 @@ fn windows_in_turn<Q: EventQueue<Event> + Drop>(
     let mut all = Vec::new(alloc);
     for bounded in parts {
         let Bounded { part, bound } = bounded;
-        let done = match part.run(alloc, bound, course.scenario, course.links) {
-            Ok(done) => done,
-            Err(error) => return Err(error),
-        };
-        match all.push(done) {
-            Ok(()) => {}
-            Err(_) => return Err(StepError::Memory),
-        }
+        let done = part.run(alloc, bound, course.scenario, course.links)?;
+        all.push(done)?;
     }
     Ok(all)
 }

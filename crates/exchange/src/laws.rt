@@ -6,6 +6,7 @@ ghost use Rattle.base.specs.Order.{IsBefore};
 ghost use Rattle.base.specs.World.{World, Run, SequentialRun, events_of, outcome};
 ghost use Rattle.base.specs.Rising.{IsRising, IsPlaceBefore, AreNew};
 ghost use Rattle.base.specs.declared.key.Key.{Key};
+ghost use Rattle.schema.specs.declared.schema.Version.TheVariants.{One};
 ghost use Rattle.scenario.specs.Setup.{Setup, IsSound};
 ghost use Rattle.trace.specs.declared.row.Row.{Row};
 ghost use Rattle.member.specs.declared.content.Content.{Content};
@@ -13,7 +14,8 @@ ghost use Rattle.member.specs.State.{State};
 ghost use Rattle.member.specs.Step.{step};
 ghost use Rattle.member.specs.Opening.{opening};
 ghost use Rattle.member.specs.Places.{place_of};
-ghost use Rattle.member_laws.specs.Runs.{IsRunOf};
+ghost use Rattle.member_laws.specs.Runs.{IsRunOf, IsPlainRunOf};
+ghost use Rattle.reports.specs.Text.{report_text, first_report_text};
 ghost use Rattle.windows.specs.Parts.{PartWindow};
 ghost use Rattle.windows.specs.Window.{is_own};
 
@@ -25,6 +27,14 @@ pub fn a_run_exists()
 /// No scenario has two.
 pub fn the_run_is_one()
     ensures { (s : Setup) (first second : List Row) → IsSound s → IsRunOf s first → IsRunOf s second → first ≡ second }
+{}
+
+/// A scenario of the format's first version has the run, and the report on it, that the first version
+/// defined.
+pub fn the_first_version_is_kept()
+    ensures runs { (s : Setup) (rows : List Row) → IsSound s → s.version ≡ One → IsRunOf s rows → IsPlainRunOf s rows }
+    ensures report { (s : Setup) (rows : List Row) → IsSound s → s.version ≡ One → IsRunOf s rows
+        → report_text s rows ≡ first_report_text s rows }
 {}
 
 /// The run is the window, up to the end, of one part that owns every member.

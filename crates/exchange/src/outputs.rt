@@ -81,14 +81,8 @@ fn write_trace<A: Sink>(
     ensures part { OnErr result (AppendsBeginning (A.held trace.old) (A.held trace.new) (trace_text scenario.now rows.now)) }
     ensures failures { A.failed trace.new ≡ A.failed trace.old + failures_of_write result }
 {
-    match write_head(trace) {
-        Ok(()) => {}
-        Err(error) => return Err(error),
-    }
-    match write_rows(alloc, rows, scenario, trace) {
-        Ok(()) => {}
-        Err(error) => return Err(error),
-    }
+    write_head(trace)?;
+    write_rows(alloc, rows, scenario, trace)?;
     flush(trace)
 }
 

@@ -55,10 +55,7 @@ pub(crate) fn deliver<Q: EventQueue<Event> + Drop>(
     ensures { OnOk result (HaveCome Q.set (part_number division.now) parts.old.items parts.new.items (map pair_of events.items)) }
 {
     for event in events {
-        match place(parts, event, division) {
-            Ok(()) => {}
-            Err(Memory) => return Err(Memory),
-        }
+        place(parts, event, division)?;
     }
     Ok(())
 }
@@ -80,8 +77,5 @@ fn place<Q: EventQueue<Event> + Drop>(
     let place = division.part(key.to);
     let event = Event { key, content };
     let part = &mut parts[place];
-    match part.receive(event) {
-        Ok(()) => Ok(()),
-        Err(Memory) => Err(Memory),
-    }
+    part.receive(event)
 }

@@ -35,10 +35,8 @@ pub(crate) fn in_row_order(
     if ordered {
         return Ok(rows);
     }
-    match sort(rt, alloc, &mut rows) {
-        Ok(()) => Ok(rows),
-        Err(_) => Err(Memory),
-    }
+    sort(rt, alloc, &mut rows)?;
+    Ok(rows)
 }
 
 /// Sorts rows into row order.
@@ -100,10 +98,8 @@ pub(crate) fn released(alloc: Global, rows: &[Row], first: Option<Moment>) -> Re
 fn copy_to(rows: &mut Vec<Row>, row: &Row) -> Result<(), Memory>
     ensures { OnOk result (rows.new.items ≡ rows.old.items ++ row.now ∷ []) }
 {
-    match rows.extend_from_slice(slice::from_ref(row)) {
-        Ok(()) => Ok(()),
-        Err(_) => Err(Memory),
-    }
+    rows.extend_from_slice(slice::from_ref(row))?;
+    Ok(())
 }
 
 /// Whether the row comes before the moment, if there is one.
@@ -126,8 +122,6 @@ pub(crate) fn join<T: Drop>(all: &mut Vec<T>, mut more: Vec<T>) -> Result<(), Me
         *all = more;
         return Ok(());
     }
-    match all.append(&mut more) {
-        Ok(()) => Ok(()),
-        Err(_) => Err(Memory),
-    }
+    all.append(&mut more)?;
+    Ok(())
 }

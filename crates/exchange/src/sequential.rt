@@ -5,9 +5,8 @@ ghost use Rattle.member_laws.specs.Runs.{IsRunOf, WearsOut};
 ghost use Rattle.exchange.specs.Promise.{KeepsPromise};
 
 use crate::outputs::write_run;
-use base::{Fault, Memory, Moment};
+use base::{Fault, Moment};
 use links::Links;
-use member::StepError;
 use scenario::Scenario;
 use std::alloc::Global;
 use trace::{Row, Sink};
@@ -58,24 +57,13 @@ pub(crate) fn rows_of_whole(alloc: Global, scenario: &Scenario) -> Result<Vec<Ro
     ensures sound { IsSound scenario.now }
 {
     let past_the_end = Moment(scenario.end().ticks() + 1);
-    let links = match Links::of(alloc, scenario) {
-        Ok(links) => links,
-        Err(Memory) => return Err(Fault::Memory),
-    };
-    let part = match Part::whole(alloc, scenario, TreeQueue::new(alloc)) {
-        Ok(part) => part,
-        Err(Memory) => return Err(Fault::Memory),
-    };
-    match part.run(alloc, past_the_end, scenario, &links) {
-        Ok(done) => {
-            let Done {
-                part: _,
-                out: _,
-                rows,
-            } = done;
-            Ok(rows)
-        }
-        Err(StepError::Memory) => Err(Fault::Memory),
-        Err(StepError::Worn) => Err(Fault::Worn),
-    }
+    let links = Links::of(alloc, scenario)?;
+    let part = Part::whole(alloc, scenario, TreeQueue::new(alloc))?;
+    let done = part.run(alloc, past_the_end, scenario, &links)?;
+    let Done {
+        part: _,
+        out: _,
+        rows,
+    } = done;
+    Ok(rows)
 }

@@ -7,7 +7,7 @@ ghost use Rattle.exchange.specs.Streams.{rows_so_far, IsOpen, MaySend};
 
 use crate::driver::Driven;
 use crate::rows::join;
-use base::{Fault, Memory};
+use base::Fault;
 use relay::{Batch, Relay, SendSeat};
 use scenario::Scenario;
 use std::alloc::Global;
@@ -68,10 +68,7 @@ impl<'a, R: Wait> Stream<'a, R> {
         ensures causes { IfErr result (λ fault. (fault ≢ Fault.Worn) × (fault ≢ Fault.Write)) }
         ensures same { (self.new.scenario ≡ self.old.scenario) × (self.new.relay ≡ self.old.relay) }
     {
-        match join(&mut self.rows, rows) {
-            Ok(()) => {}
-            Err(Memory) => return Err(Fault::Memory),
-        }
+        join(&mut self.rows, rows)?;
         if self.rows.len() < ROWS_OF_A_BATCH {
             return Ok(());
         }
@@ -124,10 +121,8 @@ impl<'a, R: Wait> Stream<'a, R> {
         ensures causes { IfErr result (λ fault. (IsErrOf outcome fault) ⊎ (fault ≡ Fault.Relay)) }
         ensures same { self.new.relay ≡ self.old.relay }
     {
-        match outcome {
-            Ok(()) => self.send(),
-            Err(fault) => Err(fault),
-        }
+        outcome?;
+        self.send()
     }
 
     /// Sends the last batch.

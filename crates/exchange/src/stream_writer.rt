@@ -104,10 +104,7 @@ fn write_batch<A: Sink>(
     ensures worn { IsErrOf result Fault.Worn → 2 ^ 63 ≤ length (tallied.old.tallies ++ rows.now) }
     ensures failures { A.failed trace.new ≡ A.failed trace.old + sink_failures result }
 {
-    match tally(rows, scenario, tallied) {
-        Ok(()) => {}
-        Err(fault) => return Err(fault),
-    }
+    tally(rows, scenario, tallied)?;
     match write_rows(alloc, rows, scenario, trace) {
         Ok(()) => Ok(()),
         Err(error) => Err(fault_of(error)),
@@ -122,10 +119,7 @@ fn tally(rows: &[Row], scenario: &Scenario, tallied: &mut Tallied) -> Result<(),
     ensures causes { IfErr result (λ fault. (fault ≢ Fault.Write) × (fault ≢ Fault.Relay)) }
 {
     for row in rows {
-        match tallied.add(row, scenario) {
-            Ok(()) => {}
-            Err(fault) => return Err(fault),
-        }
+        tallied.add(row, scenario)?;
     }
     Ok(())
 }

@@ -21,10 +21,7 @@ impl Tallied {
     pub(crate) fn new(alloc: Global) -> Result<Self, Memory>
         ensures { IfOk result (λ none. none.tallies ≡ []) }
     {
-        let tallies = match Tallies::new(alloc) {
-            Ok(tallies) => tallies,
-            Err(Memory) => return Err(Memory),
-        };
+        let tallies = Tallies::new(alloc)?;
         Ok(Tallied { tallies, count: 0 })
     }
 

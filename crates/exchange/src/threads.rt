@@ -165,10 +165,7 @@ fn gather<'b, 'a, Q: EventQueue<Event> + Drop, J: Site>(
     mut posts: Vec<ErrandPost<'b, 'a, Q, J>>,
 ) -> Result<Vec<ErrandPost<'b, 'a, Q, J>>, Memory> {
     for thread in threads {
-        match posts.push(thread.join(rt)) {
-            Ok(()) => {}
-            Err(_) => return Err(Memory),
-        }
+        posts.push(thread.join(rt))?;
     }
     Ok(posts)
 }
@@ -178,12 +175,7 @@ fn joined<'b, 'a, Q: EventQueue<Event> + Drop, J: Site>(
     posts: Result<Vec<ErrandPost<'b, 'a, Q, J>>, Memory>,
     one: ErrandPost<'b, 'a, Q, J>,
 ) -> Result<Vec<ErrandPost<'b, 'a, Q, J>>, Memory> {
-    let mut posts = match posts {
-        Ok(posts) => posts,
-        Err(Memory) => return Err(Memory),
-    };
-    match posts.push(one) {
-        Ok(()) => Ok(posts),
-        Err(_) => Err(Memory),
-    }
+    let mut posts = posts?;
+    posts.push(one)?;
+    Ok(posts)
 }

@@ -75,28 +75,16 @@ pub(crate) fn exchanged<Q: EventQueue<Event> + Drop>(
     ensures { IfOk result (λ turned. HaveExchanged Q.set division.now done.items kept.items turned.parts.items turned.rows.items turned.kept.items) }
 {
     let ordered = stand_in_order(&kept, &done);
-    let gathered = match gather(alloc, done, kept) {
-        Ok(gathered) => gathered,
-        Err(Memory) => return Err(Memory),
-    };
+    let gathered = gather(alloc, done, kept)?;
     let Gathered {
         mut parts,
         out,
         rows,
     } = gathered;
-    let rows = match in_row_order(rt, alloc, rows, ordered) {
-        Ok(rows) => rows,
-        Err(Memory) => return Err(Memory),
-    };
-    match deliver(&mut parts, out, division) {
-        Ok(()) => {}
-        Err(Memory) => return Err(Memory),
-    }
+    let rows = in_row_order(rt, alloc, rows, ordered)?;
+    deliver(&mut parts, out, division)?;
     let first = least_moment(&parts);
-    let split = match released(alloc, &rows, first) {
-        Ok(split) => split,
-        Err(Memory) => return Err(Memory),
-    };
+    let split = released(alloc, &rows, first)?;
     let Split { rows, kept } = split;
     Ok(Turned { parts, rows, kept })
 }
@@ -126,10 +114,7 @@ fn gather<Q: EventQueue<Event> + Drop>(
     let mut out = Vec::new(alloc);
     let mut rows = kept;
     for one in done {
-        match parts.push(one.part) {
-            Ok(()) => {}
-            Err(_) => return Err(Memory),
-        }
+        parts.push(one.part)?;
         join(&mut out, one.out)?;
         join(&mut rows, one.rows)?;
     }

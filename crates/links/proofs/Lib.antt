@@ -3,3 +3,4 @@ pub mod Served
 pub mod Arrivals
 pub mod Pairs
 pub mod Search
+pub mod Cuts

@@ -1,8 +1,11 @@
-//! The links of a scenario: whether and when a message arrives.
+//! The links of a scenario: whether and when a message arrives. What is sent while a link is cut is
+//! lost.
 #![tactic(auto)]
 
+pub mod laws;
 mod least;
 mod links;
+mod outages;
 mod routes;
 mod spans;
 mod table;

@@ -1,14 +1,15 @@
-ghost use Rattle.std.specs.Prelude.{◌≡◌, ℕ, ◌+◌, ◌^◌, ◌<◌, ◌≤◌, ◌↔◌, length, map, None, IfOk, IfSome, unwrap_or};
-ghost use Rattle.std.specs.Option.{option_copied};
+ghost use Rattle.std.specs.Prelude.{◌≡◌, ℕ, ◌+◌, ◌^◌, ◌<◌, ◌≤◌, ◌↔◌, [], length, map, None, IfOk, IfSome, unwrap_or};
+ghost use Rattle.std.specs.Option.{option_copied, option_map_or};
 ghost use Rattle.std.specs.List.{range_with_len};
 ghost use Rattle.streams.specs.Draw.{words_of};
 ghost use Rattle.scenario.specs.Setup.{Setup, member_count, group_at, link_between, IsSoundLink};
 ghost use Rattle.links.specs.Arrival.{arrival_of, AreLinksOf};
-ghost use Rattle.links.specs.Entries.{link_of_pair};
-ghost use Rattle.links.specs.Table.{link_at, extra_at};
+ghost use Rattle.links.specs.Entries.{link_of_pair, outages_of_pair};
+ghost use Rattle.links.specs.Table.{link_at, extra_at, is_cut_at};
 ghost use Rattle.links.specs.Least.{IsDelayOfAPair, IsNoGreater};
 
 use crate::least::least_delay;
+use crate::outages::{Outage, is_any_during, outages_of};
 use crate::routes::routes_of;
 use crate::spans::{extra_in, spans_of};
 use crate::table::Links;
@@ -27,11 +28,12 @@ impl Links {
             link: scenario.link(),
             routes: routes_of(alloc, scenario.paths())?,
             spans: spans_of(alloc, scenario.slows())?,
+            outages: outages_of(alloc, scenario.cuts())?,
         })
     }
 
-    /// When a message that one member sends to another now arrives, or None where it is lost: a loss
-    /// is drawn first, and then the jitter.
+    /// When a message that one member sends to another now arrives, or None where it is lost. Where the
+    /// link is cut nothing is drawn; else a loss is drawn first, and then the jitter.
     pub fn arrival(
         &self,
         from: MemberId,
@@ -46,6 +48,9 @@ impl Links {
             → IfSome result (λ at. now + (link_between s from to).delay ≤ at) }
         ensures soon { IfSome result (λ at. at < 2 ^ 42) }
     {
+        if self.is_cut(from.index(), to.index(), now.ticks()) {
+            return None;
+        }
         let link = self.link_between(from.index(), to.index());
         if stream.lost(link.loss as u32) {
             return None;
@@ -95,6 +100,28 @@ impl Links {
         let from = self.groups.get(from)?;
         let to = self.groups.get(to)?;
         self.routes.get(&(*from, *to))
+    }
+
+    /// Whether the link from one member to another is cut at a moment.
+    fn is_cut(&self, from: usize, to: usize, at: u64) -> bool
+        ensures { result ≡ is_cut_at self.now from to at }
+    {
+        if self.outages.is_empty() {
+            return false;
+        }
+        match self.outages(from, to) {
+            Some(outages) => is_any_during(outages.as_slice(), at),
+            None => false,
+        }
+    }
+
+    /// The times in which the link from one member's group to the other's is cut.
+    fn outages(&self, from: usize, to: usize) -> Option<&Vec<Outage>>
+        ensures { option_map_or (λ v. v.items) (option_copied result) [] ≡ outages_of_pair self.now.groups.items self.now.outages.entries from to }
+    {
+        let from = self.groups.get(from)?;
+        let to = self.groups.get(to)?;
+        self.outages.get(&(*from, *to))
     }
 
     /// By how many ticks a member is slow at a moment.

@@ -2,13 +2,14 @@ ghost use Rattle.std.specs.Prelude.{ℕ, ◌≤◌, ◌^◌};
 ghost use Rattle.scenario.specs.Setup.{IsSoundLink};
 ghost use Rattle.links.specs.Entries.{link_of_pair, spans_in, extra_in};
 
+use crate::outages::Outage;
 use crate::spans::SlowSpan;
 use base::MemberId;
 use scenario::Link;
 use std::collections::BTreeMap;
 
-/// How messages travel among the members of a scenario: by the link of their groups, and slower
-/// where the sender or the receiver is slow.
+/// How messages travel among the members of a scenario: by the link of their groups, unless it is
+/// cut, and slower where the sender or the receiver is slow.
 #[derive(Drop)]
 pub struct Links {
     /// The number of each member's group.
@@ -19,6 +20,8 @@ pub struct Links {
     pub(crate) routes: BTreeMap<(usize, usize), Link>,
     /// The times in which members are slow.
     pub(crate) spans: BTreeMap<MemberId, Vec<SlowSpan>>,
+    /// The times in which the link from one group to another is cut.
+    pub(crate) outages: BTreeMap<(usize, usize), Vec<Outage>>,
     ghost links_sound: { (i j : ℕ) → IsSoundLink (link_of_pair groups.items link routes.entries i j) },
     ghost extras_sound: { (m t : ℕ) → extra_in (spans_in spans.entries m) t ≤ 2 ^ 24 },
 }

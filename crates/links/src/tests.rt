@@ -16,10 +16,15 @@ const TWO: &str = "[[group]]\nname = \"n\"\ncount = 2\n";
 /// Groups of one member each.
 const SINGLES: &str = "[[group]]\nname = \"a\"\ncount = 1\n[[group]]\nname = \"b\"\ncount = 1\n";
 
-/// The links of a text with these keys of `[link]`, and these groups and paths.
+/// The links of a text of version 1 with these keys of `[link]`, and these groups and paths.
 fn links_of(alloc: Global, link: &str, rest: &str) -> Result<Links, Fail> {
+    links_of_version(alloc, 1, link, rest)
+}
+
+/// The links of such a text of this version.
+fn links_of_version(alloc: Global, version: u8, link: &str, rest: &str) -> Result<Links, Fail> {
     let text = format!(in alloc;
-        "version = 1\nseed = 42\nend = 0\n[swim]\nperiod = 1000\ntimeout = 300\n[link]\n{link}\n{rest}"
+        "version = {version}\nseed = 42\nend = 0\n[swim]\nperiod = 1000\ntimeout = 300\n[link]\n{link}\n{rest}"
     )?;
     let scenario = scenario::read(alloc, text.as_bytes())?;
     Ok(Links::of(alloc, &scenario)?)
@@ -160,6 +165,61 @@ fn slow_members_delay_what_they_send_and_get(rt: HostRuntime) -> Result<(), Fail
         assert_eq!(rt;
             arrival,
             Some(Moment(wanted)),
+            "sent at {now} from {from:?}"
+        );
+    }
+    Ok(())
+}
+
+/// The link from `a` to `b` is cut in two times, and that within `a` in one.
+const CUTS: &str = "[[cut]]
+from = \"a\"
+to = \"b\"
+at = 500
+until = 1500
+[[cut]]
+from = \"a\"
+to = \"a\"
+at = 1600
+until = 1700
+[[cut]]
+from = \"a\"
+to = \"b\"
+at = 2000
+until = 2001
+";
+
+#[test]
+fn what_is_sent_over_a_cut_link_is_lost_and_draws_nothing(rt: HostRuntime) -> Result<(), Fail> {
+    let text = format!(in rt.alloc(); "{SINGLES}{CUTS}")?;
+    let links = links_of_version(rt.alloc(), 2, "delay = 10\njitter = 5", text.as_str())?;
+    let mut stream = reference();
+    for now in [500, 1499, 2000] {
+        assert_eq!(rt;
+            links.arrival(FIRST, SECOND, Moment(now), &mut stream),
+            None,
+            "sent at {now}"
+        );
+    }
+    assert_eq!(rt; stream.below(1_000_000), 630_310, "no word was drawn");
+    Ok(())
+}
+
+#[test]
+fn cut_is_one_way_and_ends(rt: HostRuntime) -> Result<(), Fail> {
+    let text = format!(in rt.alloc(); "{SINGLES}{CUTS}")?;
+    let links = links_of_version(rt.alloc(), 2, "delay = 10", text.as_str())?;
+    for (from, to, now) in [
+        (FIRST, SECOND, 499),
+        (FIRST, SECOND, 1500),
+        (FIRST, SECOND, 1600),
+        (SECOND, FIRST, 500),
+        (FIRST, FIRST, 500),
+    ] {
+        let arrival = links.arrival(from, to, Moment(now), &mut reference());
+        assert_eq!(rt;
+            arrival,
+            Some(Moment(now + 10)),
             "sent at {now} from {from:?}"
         );
     }

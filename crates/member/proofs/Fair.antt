@@ -14,7 +14,8 @@ use Rattle.scenario.specs.Setup.{Setup, IsSound, link_between, contact_of, extra
 use Rattle.trace.specs.declared.row.Row.{Row}
 use Rattle.trace.specs.declared.row.What.{What}
 use Rattle.streams.specs.Draw.{Words, below_of, lost_of}
-use Rattle.links.specs.Arrival.{arrival_of}
+use Rattle.links.specs.Arrival.{uncut_arrival_of, arrival_of}
+use Rattle.links.proofs.Arrivals.{whether_cut}
 use Rattle.incarnation.specs.declared.Claim.{Claim}
 use Rattle.incarnation.specs.declared.Claim.TheVariants.{Alive, Suspect, Confirm}
 use Rattle.incarnation.specs.declared.Update.{Update}
@@ -28,13 +29,13 @@ use Rattle.suspicion.proofs.Timeouts.{min-le-timeout}
 use Rattle.member.specs.declared.member.Phase.{Phase}
 use Rattle.member.specs.declared.member.Phase.TheVariants.{Waiting, Joining, Running}
 use Rattle.member.specs.declared.content.Content.{Content}
-use Rattle.member.specs.declared.content.Content.TheVariants.{Start, Crash, JoinTimer, PeriodTimer, TimeoutTimer, NackTimer, SuspicionTimer, Join, Welcome, Ping, PingReq, Ack, Nack}
+use Rattle.member.specs.declared.content.Content.TheVariants.{Start, Crash, Leave, JoinTimer, PeriodTimer, TimeoutTimer, NackTimer, SuspicionTimer, Join, Welcome, Ping, PingReq, Ack, Nack, Bye}
 use Rattle.member.specs.State.{State}
 use Rattle.membership.specs.Table.{is_confirm, does_override, live_count}
 use Rattle.member.specs.Turn.{Effect, on_state, unchanged, with_row, with_number, with_event, with_timer}
-use Rattle.member.specs.Send.{sent, sent_off, ping_sent, ping_req_sent, ack_sent, nack_sent, join_sent, join_sent_to, welcome_sent}
+use Rattle.member.specs.Send.{sent, sent_off, sent_to_each, ping_sent, ping_req_sent, ack_sent, nack_sent, join_sent, join_sent_to, welcome_sent, bye_sent}
 use Rattle.member.specs.Apply.{with_put, passed_on, with_health, refuted, heard_dead, own_applied, with_told, with_place, placed_unless_known, with_claim, claim_kept, alive_heard, suspect_heard, confirm_heard, claim_heard, news_heard, accusation_counted, accusation_heard, is_repeated, other_applied, applied, all_applied}
-use Rattle.member.specs.Step.{first_period_set, began, join_asked, joining_begun, started, crashed, join_handled, joined, suspected, probe_failed, probe_ended, probe_begun, target_probed, next_probed, period_begun, all_asked, help_asked, timed_out, nack_heard, ping_heard, ping_req_heard, ack_taken, ack_heard, nack_due, confirmed, suspicion_over, handled, step}
+use Rattle.member.specs.Step.{first_period_set, began, join_asked, joining_begun, started, crashed, join_handled, joined, suspected, probe_failed, probe_ended, probe_begun, target_probed, next_probed, period_begun, help_asked, timed_out, nack_heard, ping_heard, ping_req_heard, ack_taken, ack_heard, nack_due, confirmed, suspicion_over, withdrawn, byes_said, departed, plain_handled, handled, step}
 use Rattle.member.specs.Places.{place_of}
 use Rattle.member.specs.Fair.{IsWellMade}
 
@@ -42,15 +43,19 @@ arrives_later : (b : Bool) (rest last : Words) (at d : ℕ) → d ≤ at → IfS
 arrives_later true rest last at d h = tt
 arrives_later false rest last at d h = h
 
--- a message arrives no earlier than the link lets it
-pub arrival_later : (s : Setup) (from to now : ℕ) (words : Words) → IfSome (arrival_of s from to now words).0 (λ at. now + (link_between s from to).delay ≤ at)
-unfolding arrival_of
-arrival_later s from to now words =
+uncut_later : (s : Setup) (from to now : ℕ) (words : Words) → IfSome (uncut_arrival_of s from to now words).0 (λ at. now + (link_between s from to).delay ≤ at)
+unfolding uncut_arrival_of
+uncut_later s from to now words =
     let link = link_between s from to in
     let lost = lost_of words link.loss in
     let jitter = below_of lost.1 (link.jitter + 1) in
     let coming = now + link.delay + jitter.0 + extra_of s from now in
     arrives_later lost.0 lost.1 jitter.1 (coming + extra_of s to coming) (now + link.delay) (omega arith)
+
+-- a message arrives no earlier than the link lets it
+pub arrival_later : (s : Setup) (from to now : ℕ) (words : Words) → IfSome (arrival_of s from to now words).0 (λ at. now + (link_between s from to).delay ≤ at)
+arrival_later s from to now words =
+    whether_cut (λ p. IfSome p.0 (λ at. now + (link_between s from to).delay ≤ at)) s from to now words tt (uncut_later s from to now words)
 
 terms_sound : (s : Setup) → IsSound s → AreSound (terms_of s)
 terms_sound s sound = record { period = sound.period; alpha = sound.alpha.1; beta = sound.beta; accusers_wanted = sound.confirmations }
@@ -166,6 +171,16 @@ module _ (s : Setup) (sound : IsSound s) (k : Key) (n : ℕ) where
   fair_welcome : (to : ℕ) (o : Effect) → IsWellMade s k n o → IsWellMade s k n (welcome_sent s k to o)
   unfolding welcome_sent
   fair_welcome to o fair = fair_sent _ to 0 _ o fair
+
+  fair_bye : (to : ℕ) (o : Effect) → IsWellMade s k n o → IsWellMade s k n (bye_sent s k to o)
+  unfolding bye_sent
+  fair_bye to o fair = fair_sent _ to 0 _ o fair
+
+  fair_each : (send : ℕ → Effect → Effect) → ((to : ℕ) (o : Effect) → IsWellMade s k n o → IsWellMade s k n (send to o)) → (others : List ℕ) (o : Effect) → IsWellMade s k n o
+      → IsWellMade s k n (sent_to_each send others o)
+  unfolding sent_to_each
+  fair_each send well [] o fair = fair
+  fair_each send well (to ∷ others) o fair = fair_each send well others (send to o) (well to o fair)
 
   -- ---- updates
 
@@ -305,15 +320,10 @@ module _ (s : Setup) (sound : IsSound s) (k : Key) (n : ℕ) where
   unfolding period_begun
   fair_period o fair = fair_timer _ _ _ (omega (arith, sound.timeout.0, sound.timeout.1)) (fair_next _ (fair_ended o.state.probe o fair))
 
-  fair_asked : (target seq : ℕ) (helpers : List ℕ) (o : Effect) → IsWellMade s k n o → IsWellMade s k n (all_asked s k target seq helpers o)
-  unfolding all_asked
-  fair_asked target seq [] o fair = fair
-  fair_asked target seq (helper ∷ helpers) o fair = fair_asked target seq helpers _ (fair_ping_req target seq helper o fair)
-
   fair_help : (probe : Probe) (o : Effect) → IsWellMade s k n o → IsWellMade s k n (help_asked s k probe o)
   unfolding help_asked
   fair_help probe o fair =
-      let asked = fair_asked probe.target probe.seq _ _ (fair_state _ o refl fair) in
+      let asked = fair_each _ (fair_ping_req probe.target probe.seq) _ _ (fair_state _ o refl fair) in
       fair_choice s.lifeguard.probe _ _ (fair_state _ _ refl asked) asked
 
   fair_timed_out : (seq : ℕ) (probe : Option Probe) (o : Effect) → IsWellMade s k n o → IsWellMade s k n (timed_out s k seq probe o)
@@ -357,23 +367,46 @@ module _ (s : Setup) (sound : IsSound s) (k : Key) (n : ℕ) where
   fair_over subject o fair =
       fair_choice (is_due o.state.suspicions subject k.number) _ _ (fair_confirmed subject (get o.state.table subject) o fair) fair
 
+  -- ---- leaves
+
+  fair_withdrawn : (o : Effect) → IsWellMade s k n o → IsWellMade s k n (withdrawn k o)
+  unfolding withdrawn with_row
+  fair_withdrawn o fair = fair_state _ _ refl (fair_row _ _ _ _ o fair)
+
+  fair_byes : (o : Effect) → IsWellMade s k n o → IsWellMade s k n (byes_said s k o)
+  unfolding byes_said
+  fair_byes o fair = fair_each _ fair_bye _ _ (fair_state _ o refl fair)
+
+  fair_departed : (o : Effect) → IsWellMade s k n o → IsWellMade s k n (departed s k o)
+  unfolding departed
+  fair_departed o fair = fair_state _ _ refl (fair_byes _ (fair_row _ _ _ _ o fair))
+
+  -- ---- the step
+
+  fair_plain : (content : Content) (phase : Phase) (o : Effect) → IsWellMade s k n o → IsWellMade s k n (plain_handled s k content phase o)
+  unfolding plain_handled
+  fair_plain Start Waiting o fair = fair_started o fair
+  fair_plain Crash Joining o fair = fair_crashed o fair
+  fair_plain Crash Running o fair = fair_crashed o fair
+  fair_plain JoinTimer Joining o fair = fair_asked_join o fair
+  fair_plain Join Running o fair = fair_join_handled o fair
+  fair_plain (Welcome entries) Joining o fair = fair_joined entries o fair
+  fair_plain PeriodTimer Running o fair = fair_period o fair
+  fair_plain (TimeoutTimer seq) Running o fair = fair_timed_out seq o.state.probe o fair
+  fair_plain (Ping initiator seq us) Running o fair = fair_ping_heard initiator seq us o fair
+  fair_plain (PingReq seq target us) Running o fair = fair_ping_req_heard seq target us o fair
+  fair_plain (Ack initiator seq us) Running o fair = fair_ack_heard initiator seq us o fair
+  fair_plain (NackTimer initiator seq) Running o fair = fair_nack_due initiator seq o fair
+  fair_plain (Nack seq) Running o fair = fair_nack_heard seq o fair
+  fair_plain (SuspicionTimer subject) Running o fair = fair_over subject o fair
+  fair_plain _ _ o fair = fair
+
   fair_handled : (content : Content) (phase : Phase) (o : Effect) → IsWellMade s k n o → IsWellMade s k n (handled s k content phase o)
   unfolding handled
-  fair_handled Start Waiting o fair = fair_started o fair
-  fair_handled Crash Joining o fair = fair_crashed o fair
-  fair_handled Crash Running o fair = fair_crashed o fair
-  fair_handled JoinTimer Joining o fair = fair_asked_join o fair
-  fair_handled Join Running o fair = fair_join_handled o fair
-  fair_handled (Welcome entries) Joining o fair = fair_joined entries o fair
-  fair_handled PeriodTimer Running o fair = fair_period o fair
-  fair_handled (TimeoutTimer seq) Running o fair = fair_timed_out seq o.state.probe o fair
-  fair_handled (Ping initiator seq us) Running o fair = fair_ping_heard initiator seq us o fair
-  fair_handled (PingReq seq target us) Running o fair = fair_ping_req_heard seq target us o fair
-  fair_handled (Ack initiator seq us) Running o fair = fair_ack_heard initiator seq us o fair
-  fair_handled (NackTimer initiator seq) Running o fair = fair_nack_due initiator seq o fair
-  fair_handled (Nack seq) Running o fair = fair_nack_heard seq o fair
-  fair_handled (SuspicionTimer subject) Running o fair = fair_over subject o fair
-  fair_handled _ _ o fair = fair
+  fair_handled Leave Joining o fair = fair_withdrawn o fair
+  fair_handled Leave Running o fair = fair_departed o fair
+  fair_handled Bye Running o fair = fair_confirmed k.from (get o.state.table k.from) o fair
+  fair_handled content phase o fair = fair_plain content phase o fair
 
 pub fair_step : (s : Setup) → IsSound s → (k : Key) (c : Content) (t : State) → IsWellMade s k t.next_number (step s k c t)
 unfolding step

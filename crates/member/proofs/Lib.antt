@@ -1,3 +1,4 @@
+pub mod Members
 pub mod Worn
 pub mod Holds
 pub mod Lists

@@ -1,4 +1,4 @@
--- Updates applied and helpers asked one after another.
+-- Updates applied and messages sent one after another.
 use Rattle.std.proofs.Common.{◌≡◌, ℕ, ◌+◌, ◌<◌, Bool, List, [], ◌∷◌, ◌++◌, length, get_or, take, drop, refl, sym, ap, subst, ◌∙◌}
 use Rattle.std.proofs.lemmas.List.{take_more, take-append-drop}
 use Rattle.base.specs.declared.key.Key.{Key}
@@ -6,10 +6,9 @@ use Rattle.scenario.specs.Setup.{Setup}
 use Rattle.incarnation.specs.declared.Update.{Update}
 use Rattle.member.specs.Turn.{Effect}
 use Rattle.member.specs.Apply.{applied, all_applied}
-use Rattle.member.specs.Step.{all_asked}
-use Rattle.member.specs.Send.{ping_req_sent}
+use Rattle.member.specs.Send.{sent_to_each}
 use Rattle.member.specs.Worn.{IsWorn}
-use Rattle.member.proofs.Worn.{kept_all, kept_asked}
+use Rattle.member.proofs.Worn.{kept_all, kept_each}
 
 -- the items up to the one at a place, with it
 take_item : {A : Type 0} (xs : List A) (i : ℕ) (x : A) → i < length xs → x ≡ get_or xs i x → take (i + 1) xs ≡ take i xs ++ x ∷ []
@@ -39,25 +38,26 @@ module _ (s : Setup) (loud : Bool) (k : Key) where
       subst (λ l. IsWorn (all_applied s loud k l o).state) (take-append-drop (i + 1) us)
       (subst (λ (q : Effect). IsWorn q.state) (sym (all_append (take (i + 1) us) (drop (i + 1) us) o)) (kept_all s loud k (drop (i + 1) us) _ there))
 
-module _ (s : Setup) (k : Key) (target seq : ℕ) where
-  asked_append : (hs gs : List ℕ) (o : Effect) → all_asked s k target seq (hs ++ gs) o ≡ all_asked s k target seq gs (all_asked s k target seq hs o)
-  unfolding all_asked
-  asked_append [] gs o = refl
-  asked_append (h ∷ hs) gs o = asked_append hs gs (ping_req_sent s k target seq h o)
+module _ (send : ℕ → Effect → Effect) where
+  each_append : (hs gs : List ℕ) (o : Effect) → sent_to_each send (hs ++ gs) o ≡ sent_to_each send gs (sent_to_each send hs o)
+  unfolding sent_to_each
+  each_append [] gs o = refl
+  each_append (h ∷ hs) gs o = each_append hs gs (send h o)
 
-  asked_one : (hs : List ℕ) (h : ℕ) (o : Effect) → all_asked s k target seq (hs ++ h ∷ []) o ≡ ping_req_sent s k target seq h (all_asked s k target seq hs o)
-  unfolding all_asked
-  asked_one hs h o = asked_append hs (h ∷ []) o
+  each_one : (hs : List ℕ) (h : ℕ) (o : Effect) → sent_to_each send (hs ++ h ∷ []) o ≡ send h (sent_to_each send hs o)
+  unfolding sent_to_each
+  each_one hs h o = each_append hs (h ∷ []) o
 
-  -- the next helper is asked
-  pub asked_next : (hs : List ℕ) (i : ℕ) (h : ℕ) (o p q : Effect) → i < length hs → h ≡ get_or hs i h
-      → p ≡ all_asked s k target seq (take i hs) o → q ≡ ping_req_sent s k target seq h p → q ≡ all_asked s k target seq (take (i + 1) hs) o
-  asked_next hs i h o p q lt is so_far next =
-      next ∙ ap (ping_req_sent s k target seq h) so_far ∙ sym (asked_one (take i hs) h o) ∙ ap (λ l. all_asked s k target seq l o) (sym (take_item hs i h lt is))
+  -- the next message is sent
+  pub sent_next : (hs : List ℕ) (i : ℕ) (h : ℕ) (o p q : Effect) → i < length hs → h ≡ get_or hs i h
+      → p ≡ sent_to_each send (take i hs) o → q ≡ send h p → q ≡ sent_to_each send (take (i + 1) hs) o
+  sent_next hs i h o p q lt is so_far next =
+      next ∙ ap (send h) so_far ∙ sym (each_one (take i hs) h o) ∙ ap (λ l. sent_to_each send l o) (sym (take_item hs i h lt is))
 
-  pub asked_worn : (hs : List ℕ) (i : ℕ) (h : ℕ) (o p : Effect) → i < length hs → h ≡ get_or hs i h
-      → p ≡ all_asked s k target seq (take i hs) o → IsWorn (ping_req_sent s k target seq h p).state → IsWorn (all_asked s k target seq hs o).state
-  asked_worn hs i h o p lt is so_far worn =
-      let there : IsWorn (all_asked s k target seq (take (i + 1) hs) o).state = subst (λ (q : Effect). IsWorn q.state) (asked_next hs i h o p _ lt is so_far refl) worn in
-      subst (λ l. IsWorn (all_asked s k target seq l o).state) (take-append-drop (i + 1) hs)
-      (subst (λ (q : Effect). IsWorn q.state) (sym (asked_append (take (i + 1) hs) (drop (i + 1) hs) o)) (kept_asked s k target seq (drop (i + 1) hs) _ there))
+  -- a counter that is worn by one of the messages is worn by all
+  pub sent_worn : ((to : ℕ) (o : Effect) → IsWorn o.state → IsWorn (send to o).state) → (hs : List ℕ) (i : ℕ) (h : ℕ) (o p : Effect) → i < length hs → h ≡ get_or hs i h
+      → p ≡ sent_to_each send (take i hs) o → IsWorn (send h p).state → IsWorn (sent_to_each send hs o).state
+  sent_worn kept hs i h o p lt is so_far worn =
+      let there : IsWorn (sent_to_each send (take (i + 1) hs) o).state = subst (λ (q : Effect). IsWorn q.state) (sent_next hs i h o p _ lt is so_far refl) worn in
+      subst (λ l. IsWorn (sent_to_each send l o).state) (take-append-drop (i + 1) hs)
+      (subst (λ (q : Effect). IsWorn q.state) (sym (each_append (take (i + 1) hs) (drop (i + 1) hs) o)) (kept_each send kept (drop (i + 1) hs) _ there))

@@ -14,7 +14,7 @@ use Rattle.member.specs.declared.turn.StepError.TheVariants.{Worn}
 use Rattle.member.specs.Makes.{Makes}
 use Rattle.member.specs.State.{State}
 use Rattle.member.specs.Turn.{Effect, on_state, with_row, with_number, with_event, with_timer}
-use Rattle.member.specs.Send.{sent, sent_off, ping_sent, ping_req_sent, ack_sent, join_sent, join_sent_to, welcome_sent}
+use Rattle.member.specs.Send.{sent, sent_off, sent_to_each, ping_sent, ping_req_sent, ack_sent, join_sent, join_sent_to, welcome_sent, bye_sent}
 use Rattle.incarnation.specs.declared.Claim.{Claim}
 use Rattle.incarnation.specs.declared.Claim.TheVariants.{Alive, Suspect, Confirm}
 use Rattle.incarnation.specs.declared.Update.{Update}
@@ -24,7 +24,7 @@ use Rattle.membership.specs.Table.{is_confirm, does_override}
 use Rattle.member.specs.Apply.{with_put, passed_on, with_health, refuted, heard_dead, own_applied, with_told, with_place, placed_unless_known, with_claim, claim_kept, alive_heard, suspect_heard, confirm_heard, claim_heard, news_heard, accusation_counted, accusation_heard, is_repeated, other_applied, applied, all_applied}
 use Rattle.lifeguard.specs.declared.probe.Probe.{Probe}
 use Rattle.lifeguard.specs.Probe.{fresh_probe}
-use Rattle.member.specs.Step.{all_asked, suspected, probe_failed, probe_ended, probe_begun, target_probed, next_probed, with_relay, ack_taken, first_period_set}
+use Rattle.member.specs.Step.{suspected, probe_failed, probe_ended, probe_begun, target_probed, next_probed, with_relay, ack_taken, first_period_set}
 use Rattle.member.specs.StateOf.{state_of, effect_of}
 use Rattle.member.specs.Worn.{IsWorn}
 
@@ -102,6 +102,17 @@ kept_join s k o worn = kept_join_to s k (contact_of s k.to) o worn
 pub kept_welcome : (s : Setup) (k : Key) (to : ℕ) (o : Effect) → IsWorn o.state → IsWorn (welcome_sent s k to o).state
 unfolding welcome_sent
 kept_welcome s k to o worn = kept_sent s k _ _ _ _ _ worn
+
+pub kept_bye : (s : Setup) (k : Key) (to : ℕ) (o : Effect) → IsWorn o.state → IsWorn (bye_sent s k to o).state
+unfolding bye_sent
+kept_bye s k to o worn = kept_sent s k _ _ _ _ _ worn
+
+-- messages one after another, of which each leaves worn what is worn
+pub kept_each : (send : ℕ → Effect → Effect) → ((to : ℕ) (o : Effect) → IsWorn o.state → IsWorn (send to o).state) → (others : List ℕ) (o : Effect) → IsWorn o.state
+    → IsWorn (sent_to_each send others o).state
+unfolding sent_to_each
+kept_each send kept [] o worn = worn
+kept_each send kept (to ∷ others) o worn = kept_each send kept others (send to o) (kept to o worn)
 
 -- ---- updates
 
@@ -193,11 +204,6 @@ kept_all s loud k [] o worn = worn
 kept_all s loud k (u ∷ us) o worn = kept_all s loud k us (applied s loud k u o) (kept_applied s loud k u o worn)
 
 -- ---- probes
-
-pub kept_asked : (s : Setup) (k : Key) (target seq : ℕ) (helpers : List ℕ) (o : Effect) → IsWorn o.state → IsWorn (all_asked s k target seq helpers o).state
-unfolding all_asked
-kept_asked s k target seq [] o worn = worn
-kept_asked s k target seq (helper ∷ helpers) o worn = kept_asked s k target seq helpers _ (kept_ping_req s k target seq helper o worn)
 
 kept_suspected : (s : Setup) (k : Key) (target : ℕ) (held : Option (Claim × ℕ)) (o : Effect) → IsWorn o.state → IsWorn (suspected s k target held o).state
 kept_suspected s k target None o worn = worn

@@ -5,6 +5,7 @@ pub mod Apply
 pub mod Step
 pub mod Opening
 pub mod StateOf
+pub mod Faults
 pub mod Worn
 pub mod Here
 pub mod Makes

@@ -1,28 +1,28 @@
 -- The world in which a run begins.
-use Rattle.std.specs.Prelude.{ℕ, List, [], ◌∷◌, map, flat_map, false, Option, Some, None, if◌then◌else◌}
+use Rattle.std.specs.Prelude.{ℕ, List, [], ◌∷◌, ◌++◌, map, flat_map, false, Option, Some, None, if◌then◌else◌}
 use Rattle.std.specs.List.{range_with_len}
-use Rattle.std.specs.Option.{option_map_or}
+use Rattle.std.specs.Option.{option_map_or, option_or}
 use Rattle.std.specs.FinMap.{from_entries, empty}
 use Rattle.std.specs.FinSet as set
 use Rattle.base.specs.declared.key.Key.{Key}
 use Rattle.base.specs.World.{World, with_events}
-use Rattle.scenario.specs.Setup.{Setup, member_count, start_of, crash_of}
+use Rattle.scenario.specs.Setup.{Setup, member_count, start_of, crash_of, leave_of}
 use Rattle.lifeguard.specs.Health.{LocalHealth, full_health}
 use Rattle.probing.specs.ProbeOrder.{round_over}
 use Rattle.streams.specs.Draw.{member_words}
 use Rattle.member.specs.declared.member.Phase.TheVariants.{Waiting}
 use Rattle.member.specs.declared.content.Content.{Content}
-use Rattle.member.specs.declared.content.Content.TheVariants.{Start, Crash}
+use Rattle.member.specs.declared.content.Content.TheVariants.{Start, Crash, Leave}
 use Rattle.member.specs.State.{State}
 
 -- LHA-Probe off: the health stays full
 abbrev pub opening_health : Setup → LocalHealth
 opening_health s = full_health (if s.lifeguard.probe then s.lifeguard.ceiling else 0)
 
--- the first number that a member uses for an event of its making: its start has number 0, and its crash, if it
--- has one, number 1
+-- the first number that a member uses for an event of its making: its start has number 0, and its crash or its
+-- leave, if it has one, number 1
 abbrev pub first_number : Setup → ℕ → ℕ
-first_number s m = option_map_or (λ at. 2) (crash_of s m) 1
+first_number s m = option_map_or (λ at. 2) (option_or (crash_of s m) (leave_of s m)) 1
 
 -- A member before its start knows nobody.
 unfoldable pub opening_state : Setup → ℕ → State
@@ -46,13 +46,14 @@ opening_state s m = record {
 abbrev pub script_key : ℕ → ℕ → ℕ → Key
 script_key m at number = record { at = at; to = m; from = m; number = number }
 
-abbrev pub crash_event : ℕ → Option ℕ → List (Key × Content)
-crash_event m None = []
-crash_event m (Some at) = (script_key m at 1, Crash) ∷ []
+-- the event with which a member's part ends, if the script has one
+abbrev pub ending_event : Content → ℕ → Option ℕ → List (Key × Content)
+ending_event content m None = []
+ending_event content m (Some at) = (script_key m at 1, content) ∷ []
 
--- what the script has for a member
+-- what the script has for a member, which crashes or leaves but once
 abbrev pub script_of : Setup → ℕ → List (Key × Content)
-script_of s m = (script_key m (start_of s m) 0, Start) ∷ crash_event m (crash_of s m)
+script_of s m = (script_key m (start_of s m) 0, Start) ∷ (ending_event Crash m (crash_of s m) ++ ending_event Leave m (leave_of s m))
 
 -- members are numbered from 0
 abbrev pub numbers : Setup → List ℕ

@@ -1,5 +1,5 @@
 -- How messages are sent, and what rides on them.
-use Rattle.std.specs.Prelude.{ℕ, ◌*◌, if◌then◌else◌, List, Option, Some, None}
+use Rattle.std.specs.Prelude.{ℕ, ◌*◌, if◌then◌else◌, List, [], ◌∷◌, Option, Some, None}
 use Rattle.std.specs.Option.{option_map, is_none}
 use Rattle.std.specs.FinMap.{get, insert}
 use Rattle.base.specs.declared.key.Key.{Key}
@@ -14,7 +14,7 @@ use Rattle.piggyback.specs.Picked.{picked, left_by_pick}
 use Rattle.suspicion.specs.Suspicions.{first_accuser_of}
 use Rattle.links.specs.Arrival.{arrival_of}
 use Rattle.member.specs.declared.content.Content.{Content}
-use Rattle.member.specs.declared.content.Content.TheVariants.{Join, Welcome, Ping, PingReq, Ack, Nack}
+use Rattle.member.specs.declared.content.Content.TheVariants.{Join, Welcome, Ping, PingReq, Ack, Nack, Bye}
 use Rattle.member.specs.State.{State}
 use Rattle.membership.specs.Table.{Known, is_suspect, live_count, updates_by}
 use Rattle.member.specs.Turn.{Effect, on_state, with_row, with_number, with_event}
@@ -87,3 +87,12 @@ whole_table me incarnation table = updates_by me (insert table me (Alive, incarn
 -- The contact answers by all that it knows.
 unfoldable pub welcome_sent : Setup → Key → ℕ → Effect → Effect
 welcome_sent s k to o = sent s k what.Welcome to 0 (Welcome (whole_table k.to o.state.incarnation o.state.table)) o
+
+-- A member that leaves says bye. Nothing rides on it.
+unfoldable pub bye_sent : Setup → Key → ℕ → Effect → Effect
+bye_sent s k to o = sent s k what.Bye to 0 Bye o
+
+-- messages to these members, one after another
+unfoldable pub sent_to_each : (ℕ → Effect → Effect) → List ℕ → Effect → Effect
+sent_to_each send [] o = o
+sent_to_each send (to ∷ others) o = sent_to_each send others (send to o)

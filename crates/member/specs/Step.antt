@@ -1,5 +1,5 @@
 -- What a member makes of an event, by cases on the event and the member's phase (SWIM, sections 3 and 4; Lifeguard).
-use Rattle.std.specs.Prelude.{ℕ, ◌+◌, ◌&&◌, Bool, true, false, not, nat_eq, nat_lt, if◌then◌else◌, List, [], ◌∷◌, length, filter, Option, Some, None}
+use Rattle.std.specs.Prelude.{ℕ, ◌+◌, ◌&&◌, Bool, true, false, not, max, nat_eq, nat_lt, if◌then◌else◌, List, [], ◌∷◌, length, filter, Option, Some, None}
 use Rattle.std.specs.List.{range_with_len}
 use Rattle.std.specs.FinMap.{get, empty}
 use Rattle.std.specs.FinSet as set
@@ -21,11 +21,11 @@ use Rattle.suspicion.specs.Suspicions.{is_due}
 use Rattle.member.specs.declared.member.Phase.{Phase}
 use Rattle.member.specs.declared.member.Phase.TheVariants.{Waiting, Joining, Running, Down}
 use Rattle.member.specs.declared.content.Content.{Content}
-use Rattle.member.specs.declared.content.Content.TheVariants.{Start, Crash, JoinTimer, PeriodTimer, TimeoutTimer, NackTimer, SuspicionTimer, Join, Welcome, Ping, PingReq, Ack, Nack}
+use Rattle.member.specs.declared.content.Content.TheVariants.{Start, Crash, Leave, JoinTimer, PeriodTimer, TimeoutTimer, NackTimer, SuspicionTimer, Join, Welcome, Ping, PingReq, Ack, Nack, Bye}
 use Rattle.membership.specs.Table.{is_confirm, alive_but, all_alive}
 use Rattle.member.specs.State.{State}
 use Rattle.member.specs.Turn.{Effect, unchanged, on_state, with_row, with_timer}
-use Rattle.member.specs.Send.{ping_sent, ping_req_sent, ack_sent, nack_sent, join_sent, welcome_sent}
+use Rattle.member.specs.Send.{sent_to_each, ping_sent, ping_req_sent, ack_sent, nack_sent, join_sent, welcome_sent, bye_sent}
 use Rattle.member.specs.Apply.{with_health, applied, all_applied}
 
 -- ---- start, crash and join
@@ -129,9 +129,8 @@ period_begun s k o =
     with_timer k (scaled probing.state.health s.swim.period) PeriodTimer probing
 
 -- Requests to the helpers, one after another.
-unfoldable pub all_asked : Setup → Key → ℕ → ℕ → List ℕ → Effect → Effect
-all_asked s k target seq [] o = o
-all_asked s k target seq (helper ∷ helpers) o = all_asked s k target seq helpers (ping_req_sent s k target seq helper o)
+abbrev pub all_asked : Setup → Key → ℕ → ℕ → List ℕ → Effect → Effect
+all_asked s k target seq helpers o = sent_to_each (ping_req_sent s k target seq) helpers o
 
 -- LHA-Probe: the probe expects an answer of each helper that was asked, also where the request was lost.
 abbrev pub with_expected : Setup → Probe → ℕ → Effect → Effect
@@ -217,6 +216,31 @@ unfoldable pub suspicion_over : Setup → Key → ℕ → Effect → Effect
 suspicion_over s k subject o =
     if is_due o.state.suspicions subject k.number then confirmed s k subject (get o.state.table subject) o else o
 
+-- ---- leaves, of the format's second version
+
+-- a member that leaves is down, for good
+abbrev pub downed : State → State
+downed t = record t { phase = Down }
+
+-- A member that joins leaves. It knows nobody whom it could tell.
+unfoldable pub withdrawn : Key → Effect → Effect
+withdrawn k o = on_state downed (with_row k what.Leave None 0 false o)
+
+-- Byes to members that are held to be alive, as many as help with a probe but one at least: chance decides which,
+-- and in which order.
+unfoldable pub byes_said : Setup → Key → Effect → Effect
+byes_said s k o =
+    let drawn = helpers_of o.state.words (max 1 s.swim.helpers) (alive_but k.to o.state.table) in
+    sent_to_each (bye_sent s k) drawn.0 (on_state (λ t. record t { words = drawn.1 }) o)
+
+-- A member that runs says bye, and leaves.
+unfoldable pub departed : Setup → Key → Effect → Effect
+departed s k o = on_state downed (byes_said s k (with_row k what.Leave None 0 false o))
+
+-- Who says bye is confirmed, as if its suspicion were over. To Confirm it adds nothing.
+abbrev pub bye_heard : Setup → Key → Effect → Effect
+bye_heard s k o = confirmed s k k.from (get o.state.table k.from) o
+
 -- ---- the step
 
 -- the messages of a probe, at a member that runs
@@ -226,23 +250,34 @@ probing_handled s k (PingReq seq target updates) o = ping_req_heard s k seq targ
 probing_handled s k (Ack initiator seq updates) o = ack_heard s k initiator seq updates o
 probing_handled s k _ o = o
 
--- By cases on the event and the phase of its receiver. An event in another phase has no effect.
+-- Where nobody leaves, as in the format's first version: by cases on the event and the phase of its receiver. An event
+-- in another phase has no effect.
+unfoldable pub plain_handled : Setup → Key → Content → Phase → Effect → Effect
+plain_handled s k Start Waiting o = started s k o
+plain_handled s k Crash Joining o = crashed k o
+plain_handled s k Crash Running o = crashed k o
+plain_handled s k JoinTimer Joining o = join_asked s k o
+plain_handled s k Join Running o = join_handled s k o
+plain_handled s k (Welcome entries) Joining o = joined s k entries o
+plain_handled s k PeriodTimer Running o = period_begun s k o
+plain_handled s k (TimeoutTimer seq) Running o = timed_out s k seq o.state.probe o
+plain_handled s k (Ping initiator seq updates) Running o = ping_heard s k initiator seq updates o
+plain_handled s k (PingReq seq target updates) Running o = ping_req_heard s k seq target updates o
+plain_handled s k (Ack initiator seq updates) Running o = ack_heard s k initiator seq updates o
+plain_handled s k (NackTimer initiator seq) Running o = nack_due s k initiator seq o
+plain_handled s k (Nack seq) Running o = nack_heard seq o
+plain_handled s k (SuspicionTimer subject) Running o = suspicion_over s k subject o
+plain_handled s k _ _ o = o
+
+unfoldable pub plain_step : Setup → Machine State Content Row
+plain_step s k content t = plain_handled s k content t.phase (unchanged t)
+
+-- What the format's second version adds: leaves and byes.
 unfoldable pub handled : Setup → Key → Content → Phase → Effect → Effect
-handled s k Start Waiting o = started s k o
-handled s k Crash Joining o = crashed k o
-handled s k Crash Running o = crashed k o
-handled s k JoinTimer Joining o = join_asked s k o
-handled s k Join Running o = join_handled s k o
-handled s k (Welcome entries) Joining o = joined s k entries o
-handled s k PeriodTimer Running o = period_begun s k o
-handled s k (TimeoutTimer seq) Running o = timed_out s k seq o.state.probe o
-handled s k (Ping initiator seq updates) Running o = ping_heard s k initiator seq updates o
-handled s k (PingReq seq target updates) Running o = ping_req_heard s k seq target updates o
-handled s k (Ack initiator seq updates) Running o = ack_heard s k initiator seq updates o
-handled s k (NackTimer initiator seq) Running o = nack_due s k initiator seq o
-handled s k (Nack seq) Running o = nack_heard seq o
-handled s k (SuspicionTimer subject) Running o = suspicion_over s k subject o
-handled s k _ _ o = o
+handled s k Leave Joining o = withdrawn k o
+handled s k Leave Running o = departed s k o
+handled s k Bye Running o = bye_heard s k o
+handled s k content phase o = plain_handled s k content phase o
 
 unfoldable pub step : Setup → Machine State Content Row
 step s k content t = handled s k content t.phase (unchanged t)

@@ -10,8 +10,13 @@ use base::MemberId;
 use incarnation::{Claim, Update};
 
 impl Member {
-    /// Confirms a suspect at the number at which the table holds it.
-    fn confirm(&mut self, turn: &mut Turn, here: &Here, subject: MemberId) -> Result<(), StepError>
+    /// Confirms a member at the number at which the table holds it.
+    pub(crate) fn confirm(
+        &mut self,
+        turn: &mut Turn,
+        here: &Here,
+        subject: MemberId,
+    ) -> Result<(), StepError>
         requires { KnowsMembers here.now self.old }
         ensures { Makes here.now result self.old turn.old self.new turn.new (confirmed here.now.scenario.now here.now.key subject (get (state_of self.old).table subject)) }
     {

@@ -8,6 +8,8 @@ pub enum Content {
     Start,
     /// The member crashes.
     Crash,
+    /// The member leaves.
+    Leave,
     /// The time for a welcome is up.
     JoinTimer,
     /// A protocol period begins (SWIM, section 3.1).
@@ -53,4 +55,6 @@ pub enum Content {
     Nack {
         seq: u64,
     },
+    /// The sender leaves.
+    Bye,
 }

@@ -13,19 +13,24 @@ use lifeguard::Probe;
 use probing::helpers;
 
 impl Member {
-    /// Whom to ask for help with a probe (SWIM, section 3.1).
-    fn draw_helpers(&mut self, here: &Here, target: MemberId) -> Result<Vec<MemberId>, StepError>
-        requires { KnowsMembers here.now self.old }
+    /// Members that are held to be alive, but for one of them: so many, or all (SWIM, section 3.1).
+    pub(crate) fn draw_helpers(
+        &mut self,
+        here: &Here,
+        but: MemberId,
+        count: u64,
+    ) -> Result<Vec<MemberId>, StepError>
+        requires few { count ≤ 16 }
+        requires known { KnowsMembers here.now self.old }
         ensures drawn { IfOk result (λ helpers. Draws helpers.items self.old self.new
-            (helpers_of (state_of self.old).words here.now.scenario.now.swim.helpers (alive_but target (state_of self.old).table))) }
+            (helpers_of (state_of self.old).words count (alive_but but (state_of self.old).table))) }
         ensures members { IfOk result (λ helpers. All (IsMember here.now) helpers.items) }
         ensures helpers_within { IfOk result (λ helpers. length helpers.items ≤ 16) }
         ensures err { IfErr result (λ e. e ≡ StepError.Memory) }
         ensures kept { OnOk result (KnowsMembers here.now self.new) }
     {
-        let candidates = self.table.alive_but(here.alloc, target)?;
-        let count = here.scenario.swim().helpers as usize;
-        Ok(helpers(candidates, count, &mut self.stream))
+        let candidates = self.table.alive_but(here.alloc, but)?;
+        Ok(helpers(candidates, count as usize, &mut self.stream))
     }
 
     /// Asks helpers, one after another, to ping the target.
@@ -53,7 +58,8 @@ impl Member {
         requires { KnowsMembers here.now self.old }
         ensures { Makes here.now result self.old turn.old self.new turn.new (help_asked here.now.scenario.now here.now.key probe.now) }
     {
-        let helpers = self.draw_helpers(here, probe.target)?;
+        let count = here.scenario.swim().helpers;
+        let helpers = self.draw_helpers(here, probe.target, count)?;
         self.ask_all(turn, here, probe.target, probe.seq, &helpers)?;
         if here.scenario.lifeguard().probe {
             let mut expecting = *probe;

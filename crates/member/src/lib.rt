@@ -10,6 +10,7 @@ mod help;
 mod here;
 mod join;
 pub mod laws;
+mod leave;
 mod member;
 mod news;
 mod opening;
@@ -25,6 +26,8 @@ mod tests_draws;
 mod tests_fixture;
 #[cfg(test)]
 mod tests_joins;
+#[cfg(test)]
+mod tests_leaves;
 #[cfg(test)]
 mod tests_messages;
 #[cfg(test)]

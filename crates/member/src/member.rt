@@ -16,7 +16,7 @@ pub enum Phase {
     Joining,
     /// It takes part.
     Running,
-    /// It has crashed.
+    /// It has crashed or left.
     Down,
 }
 

@@ -29,12 +29,12 @@ fn opening_health(scenario: &Scenario) -> Health
     }
 }
 
-/// The first number that a member uses: its start has number 0, its crash, if it has one, number 1.
+/// The first number that a member uses: its start has number 0, its crash or leave, if it has one, number 1.
 fn first_number(scenario: &Scenario, member: MemberId) -> u64
     requires { member < member_count scenario.now }
     ensures { result ≡ first_number scenario.now member }
 {
-    match scenario.crash(member) {
+    match scenario.crash(member).or(scenario.leave(member)) {
         Some(_) => 2,
         None => 1,
     }

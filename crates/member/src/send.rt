@@ -2,7 +2,7 @@ ghost use Rattle.std.specs.Prelude.{◌≡◌, ◌<◌, ◌≤◌, OnOk, IfOk};
 ghost use Rattle.links.specs.Arrival.{arrival_of};
 ghost use Rattle.member.specs.Makes.{Draws, IsMade, IsMember, KnowsMembers, Makes};
 ghost use Rattle.membership.specs.Table.{live_count};
-ghost use Rattle.member.specs.Send.{whole_table, sent, sent_off, carried, with_picks, buddy_of, ping_sent, ping_req_sent, ack_sent, nack_sent, join_sent, welcome_sent};
+ghost use Rattle.member.specs.Send.{whole_table, sent, sent_off, carried, with_picks, buddy_of, ping_sent, ping_req_sent, ack_sent, nack_sent, join_sent, welcome_sent, bye_sent};
 ghost use Rattle.member.specs.StateOf.{state_of};
 
 use crate::content::Content;
@@ -70,7 +70,7 @@ impl Member {
         requires { KnowsMembers here.now self.now }
         ensures value { result ≡ live_count self.now.table }
         ensures some { 1 ≤ result }
-        ensures live_within { result ≤ 1024 }
+        ensures live_within { result ≤ 4096 }
     {
         self.table.live_count() as u32
     }
@@ -243,5 +243,19 @@ impl Member {
             0,
             Content::Welcome { entries },
         )
+    }
+    /// Says bye to a member.
+    #[tactic(auto, unfolding(crate::specs::Send::bye_sent))]
+    pub(crate) fn send_bye(
+        &mut self,
+        turn: &mut Turn,
+        here: &Here,
+        to: MemberId,
+    ) -> Result<(), StepError>
+        requires to { IsMember here.now to }
+        requires known { KnowsMembers here.now self.old }
+        ensures { Makes here.now result self.old turn.old self.new turn.new (bye_sent here.now.scenario.now here.now.key to) }
+    {
+        self.send(turn, here, What::Bye, to, 0, Content::Bye)
     }
 }

@@ -3,7 +3,7 @@ ghost use Rattle.scenario.specs.Setup.{member_count};
 ghost use Rattle.member.specs.Here.{IsSoundSetting, HoldsMembers};
 ghost use Rattle.member.specs.Makes.{KnowsMembers, Makes};
 ghost use Rattle.member.specs.Here.{MentionsMembers};
-ghost use Rattle.member.specs.Step.{step, handled, probing_handled};
+ghost use Rattle.member.specs.Step.{step, handled, plain_handled, probing_handled};
 ghost use Rattle.member.specs.Steps.{Steps};
 ghost use Rattle.member.specs.StateOf.{state_of};
 ghost use Rattle.member.specs.Worn.{IsWorn};
@@ -19,7 +19,7 @@ use std::alloc::Global;
 
 impl Member {
     /// A member that waits heeds its start alone.
-    #[tactic(auto, unfolding(crate::specs::Step::handled))]
+    #[tactic(auto, unfolding(crate::specs::Step::handled, crate::specs::Step::plain_handled))]
     fn handle_waiting(
         &mut self,
         turn: &mut Turn,
@@ -35,8 +35,8 @@ impl Member {
         }
     }
 
-    /// A member that joins heeds a crash, its join timer and a welcome.
-    #[tactic(auto, unfolding(crate::specs::Step::handled))]
+    /// A member that joins heeds a crash, a leave, its join timer and a welcome.
+    #[tactic(auto, unfolding(crate::specs::Step::handled, crate::specs::Step::plain_handled))]
     fn handle_joining(
         &mut self,
         turn: &mut Turn,
@@ -49,6 +49,7 @@ impl Member {
     {
         match content {
             Content::Crash => self.crash(turn, here),
+            Content::Leave => self.withdraw(turn, here),
             Content::JoinTimer => self.ask_join(turn, here),
             Content::Welcome { entries } => self.join(turn, here, entries.as_slice()),
             _ => Ok(()),
@@ -56,7 +57,7 @@ impl Member {
     }
 
     /// A member that runs heeds all but its start, its join timer and a second welcome.
-    #[tactic(auto, unfolding(crate::specs::Step::handled))]
+    #[tactic(auto, unfolding(crate::specs::Step::handled, crate::specs::Step::plain_handled))]
     fn handle_running(
         &mut self,
         turn: &mut Turn,
@@ -69,6 +70,7 @@ impl Member {
     {
         match content {
             Content::Crash => self.crash(turn, here),
+            Content::Leave => self.depart(turn, here),
             Content::PeriodTimer => self.begin_period(turn, here),
             Content::TimeoutTimer { seq } => self.time_out(turn, here, *seq),
             Content::NackTimer { initiator, seq } => self.end_relay(turn, here, *initiator, *seq),
@@ -78,6 +80,7 @@ impl Member {
                 self.hear_nack(turn, here, *seq);
                 Ok(())
             }
+            Content::Bye => self.confirm(turn, here, here.key.from),
             _ => self.handle_probing(turn, here, content),
         }
     }
@@ -114,7 +117,7 @@ impl Member {
     }
 
     /// By the phase of the member.
-    #[tactic(auto, unfolding(crate::specs::Step::handled))]
+    #[tactic(auto, unfolding(crate::specs::Step::handled, crate::specs::Step::plain_handled))]
     fn handle(&mut self, turn: &mut Turn, here: &Here, content: &Content) -> Result<(), StepError>
         requires known { KnowsMembers here.now self.old }
         requires names { MentionsMembers (member_count here.now.scenario.now) content.now }

@@ -1,11 +1,11 @@
 //! What a member draws, and in which order: the words are those of its stream from the first on.
 
 use crate::tests_fixture::Asks::{
-    Ack, Crash, Join, JoinTimer, Nack, NackTimer, PeriodTimer, Ping, PingReq, Start,
+    Ack, Crash, Join, JoinTimer, Leave, Nack, NackTimer, PeriodTimer, Ping, PingReq, Start,
     SuspicionTimer, TimeoutTimer, Welcome,
 };
 use crate::tests_fixture::{
-    BOUND, GROWING, Input, Outcome, Setting, TIMES, assert_text, outcome_of,
+    BOUND, GROWING, Input, Outcome, PAIR, Setting, assert_text, outcome_of,
 };
 use base::MemberId;
 use incarnation::Claim::{Alive, Confirm, Suspect};
@@ -445,9 +445,9 @@ fn moments_are_drawn_in_the_order_of_the_sentences(rt: HostRuntime) -> Result<()
 
 /// Members 0, 1 and 2 from the beginning, and messages that take up to 5 ticks more.
 const THREE: Setting = Setting {
-    swim: TIMES,
     rest: "jitter = 5",
     groups: "[[group]]\nname = \"n\"\ncount = 3\n",
+    ..PAIR
 };
 
 /// It starts and begins its first period.
@@ -557,6 +557,50 @@ fn assert_helpers(rt: &(impl Abort + AllocGlobal), outcome: &Outcome) -> Result<
 fn helpers_are_drawn_before_the_arrivals(rt: HostRuntime) -> Result<(), Fail> {
     let outcome = outcome_of(&rt, JITTER, 0, ASKS, None)?;
     assert_helpers(&rt, &outcome)
+}
+
+/// Two members in the order in which they're told of a leave, and when each bye arrives.
+#[derive(Drop)]
+struct Byes {
+    first: u16,
+    soon: u32,
+    second: u16,
+    late: u32,
+}
+
+/// The byes that member 0 draws.
+fn drawn_byes(rt: &impl Abort) -> Byes {
+    let mut stream = stream_after(rt, 0, &[]);
+    let mut order = [MemberId(1), MemberId(2)];
+    stream.shuffle(&mut order);
+    let [first, second] = order;
+    Byes {
+        first: first.0,
+        second: second.0,
+        soon: 510 + stream.below(6),
+        late: 510 + stream.below(6),
+    }
+}
+
+/// Appends the line of a bye.
+fn push_bye(text: &mut String, number: u64, at: u32, to: u16) -> Result<(), AllocError> {
+    writeln!(text, "{number} at {at} to {to} bye")
+}
+
+/// Asserts that these are the byes of a leave.
+fn assert_byes(rt: &(impl Abort + AllocGlobal), events: &str) -> Result<(), Fail> {
+    let byes = drawn_byes(rt);
+    let mut wanted = String::new(rt.alloc());
+    push_bye(&mut wanted, 2, byes.soon, byes.first)?;
+    push_bye(&mut wanted, 3, byes.late, byes.second)?;
+    assert_text(rt, "the byes", events, wanted.as_str());
+    Ok(())
+}
+
+#[test]
+fn who_hears_a_bye_is_drawn_before_the_arrivals(rt: HostRuntime) -> Result<(), Fail> {
+    let outcome = outcome_of(&rt, THREE, 0, &[START, (500, 0, 1, Leave)], None)?;
+    assert_byes(&rt, outcome.events.as_str())
 }
 
 /// The first period of member 0 with this loss.

@@ -26,6 +26,8 @@ use trace::Row;
 /// A scenario: what it says beside its seed, its end and the link's delay of 10.
 #[derive(Clone, Copy)]
 pub(crate) struct Setting<'a> {
+    /// The version of the text's format.
+    pub(crate) version: u8,
     /// The keys of the table `swim`.
     pub(crate) swim: &'a str,
     /// Further keys of the table `link`, and then tables.
@@ -39,6 +41,7 @@ pub(crate) const TIMES: &str = "period = 1000\ntimeout = 300";
 
 /// Member 0 alone.
 pub(crate) const ALONE: Setting = Setting {
+    version: 1,
     swim: TIMES,
     rest: "",
     groups: "[[group]]\nname = \"n\"\ncount = 1\n",
@@ -83,6 +86,7 @@ pub(crate) type Told = (u16, Claim, u64, u16);
 pub(crate) enum Asks<'a> {
     Start,
     Crash,
+    Leave,
     JoinTimer,
     PeriodTimer,
     /// Of the probe of this number.
@@ -101,6 +105,7 @@ pub(crate) enum Asks<'a> {
     Ack(u16, u64, &'a [Told]),
     /// For the probe of this number.
     Nack(u64),
+    Bye,
 }
 
 /// An event: its moment, its sender, the sender's number of it, and what it asks.
@@ -180,6 +185,7 @@ fn content_of(alloc: Global, asks: Asks) -> Result<Content, AllocError> {
     let content = match asks {
         Asks::Start => Content::Start,
         Asks::Crash => Content::Crash,
+        Asks::Leave => Content::Leave,
         Asks::JoinTimer => Content::JoinTimer,
         Asks::PeriodTimer => Content::PeriodTimer,
         Asks::TimeoutTimer(seq) => Content::TimeoutTimer { seq },
@@ -210,6 +216,7 @@ fn content_of(alloc: Global, asks: Asks) -> Result<Content, AllocError> {
             updates: updates_of(alloc, told)?,
         },
         Asks::Nack(seq) => Content::Nack { seq },
+        Asks::Bye => Content::Bye,
     };
     Ok(content)
 }
@@ -303,9 +310,14 @@ fn handle_gladly(
 
 /// The scenario of a setting.
 fn scenario_of(alloc: Global, setting: Setting) -> Result<Scenario, Fail> {
-    let Setting { swim, rest, groups } = setting;
+    let Setting {
+        version,
+        swim,
+        rest,
+        groups,
+    } = setting;
     let text = format!(in alloc;
-        "version = 1\nseed = 7\nend = 0\n[swim]\n{swim}\n[link]\ndelay = 10\n{rest}\n{groups}"
+        "version = {version}\nseed = 7\nend = 0\n[swim]\n{swim}\n[link]\ndelay = 10\n{rest}\n{groups}"
     )?;
     Ok(scenario::read(alloc, text.as_bytes())?)
 }

@@ -110,6 +110,7 @@ fn word_of(content: &Content) -> &'static str {
     match content {
         Content::Start => "start",
         Content::Crash => "crash",
+        Content::Leave => "leave",
         Content::JoinTimer => "join-timer",
         Content::PeriodTimer => "period",
         Content::TimeoutTimer { .. } => "timeout",
@@ -121,6 +122,7 @@ fn word_of(content: &Content) -> &'static str {
         Content::PingReq { .. } => "ping-req",
         Content::Ack { .. } => "ack",
         Content::Nack { .. } => "nack",
+        Content::Bye => "bye",
     }
 }
 

@@ -4,13 +4,14 @@ ghost use Rattle.member.specs.Turn.{with_row, with_event, with_number, with_time
 ghost use Rattle.member.specs.StateOf.{effect_of, state_of};
 ghost use Rattle.member.specs.Worn.{IsWorn};
 ghost use Rattle.member.specs.declared.turn.StepError.TheVariants as step_error;
+ghost use Rattle.member.specs.Faults.{fault_of};
 
 use crate::content::Content;
 use crate::event::{Effects, Event};
 use crate::here::Here;
 use crate::member::Member;
 use base::limits::COUNTER_LIMIT;
-use base::{Key, MemberId, Memory, Moment};
+use base::{Fault, Key, MemberId, Memory, Moment};
 use std::alloc::{AllocError, AllocFailed, Global};
 use std::mem::replace;
 use trace::{Row, What};
@@ -45,6 +46,17 @@ impl<T: Drop> From<AllocFailed<T>> for StepError {
 
     fn from(_error: AllocFailed<T>) -> Self {
         StepError::Memory
+    }
+}
+
+impl From<StepError> for Fault {
+    ghost from_gives = { λ e f. f ≡ fault_of e };
+
+    fn from(error: StepError) -> Self {
+        match error {
+            StepError::Memory => Fault::Memory,
+            StepError::Worn => Fault::Worn,
+        }
     }
 }
 

@@ -1,5 +1,5 @@
 -- What every state keeps.
-use Rattle.member.specs.declared.content.Content.TheVariants.{Start, Crash, JoinTimer, PeriodTimer, TimeoutTimer, NackTimer, SuspicionTimer, Join, Welcome, Ping, PingReq, Ack, Nack}
+use Rattle.member.specs.declared.content.Content.TheVariants.{Start, Crash, Leave, JoinTimer, PeriodTimer, TimeoutTimer, NackTimer, SuspicionTimer, Join, Welcome, Ping, PingReq, Ack, Nack, Bye}
 use Rattle.std.proofs.lemmas.List.Elements.{All-from_recursion, recursion_from_All}
 use Rattle.std.specs.List.{AllByRecursion}
 use Rattle.member.specs.Here.{MentionsMembers}
@@ -37,6 +37,7 @@ use Rattle.member.specs.Opening.{opening_state, opening_health}
 use Rattle.member.specs.Step.{step, first_others}
 use Rattle.member_laws.specs.Words.{holds, is_live, IsConsistent, IsAmongMembers, SendsOfMembers, ProbesAMember}
 use Rattle.member_laws.proofs.Moves.{is_news, IsNews, Begins, NewsMoves, Moves, at_once, at_late}
+use Rattle.member.proofs.Members.{few_members}
 use Rattle.member_laws.proofs.Walk.{on_any_step, NamesOnly}
 use Rattle.member_laws.proofs.Carried.{all_put, all_left}
 use Rattle.member_laws.proofs.Tables.{HoldsOthers, others_put, SuspectsAlike, suspected, cleared, accusation, ProbesAlike, next_probes, placed, stays_probed, taken_out, first_known, first_suspected, first_probed, none_known, none_suspects, none_probed, known_held}
@@ -111,7 +112,7 @@ module _ (s : Setup) (sound : IsSound s) (k : Key) where
       → P (claim_kept u t)
   unfolding claim_kept
   claimed t u None none named news live fit probes P plain place =
-      rw (none, not_confirm u.claim live) (place (rest_fits t.words (insert_of t.words u.subject t.rota).1 fit (inserted t.words u.subject t.rota)) (placed t.table t.rota t.words u.subject (u.claim, u.inc) fit (let few = sound.members.1 in omega arith) none live probes))
+      rw (none, not_confirm u.claim live) (place (rest_fits t.words (insert_of t.words u.subject t.rota).1 fit (inserted t.words u.subject t.rota)) (placed t.table t.rota t.words u.subject (u.claim, u.inc) fit (let few = few_members s sound in omega arith) none live probes))
     where
       not_confirm : (c : Claim) → is_live c ≡ true → is_confirm c ≡ false
       not_confirm Alive h = refl
@@ -294,7 +295,7 @@ module _ (s : Setup) (sound : IsSound s) (k : Key) (t : State) (h : IsConsistent
     up = λ is. absurd (let e = is in cc);
     others = first_known s k.to;
     suspects = subst (λ v. SuspectsAlike (all_alive (first_others s k.to)) v (terms_of s)) (sym (ap (λ (t : State). t.suspicions) (h.waits waits) ∙ none_opened s k.to)) (first_suspected s k.to (terms_of s));
-    probes = first_probed s k.to sound.members.1;
+    probes = first_probed s k.to (few_members s sound);
     health = record { within = h.health; same = h.ceiling };
     relays = h.relays;
     words = h.words;
@@ -347,7 +348,7 @@ consistent s m t h = record {
 all_named : (n : ℕ) (us : List Update) → All (λ (u : Update). u.subject < n) us → AllByRecursion (λ (u : Update). u.subject < n) us
 all_named n us h = recursion_from_All (λ (u : Update). u.subject < n) us h
 
-pub names_only : (n : ℕ) (c : Content) → MentionsMembers n c → NamesOnly (λ q. q < n) c
+pub names_only : (n : ℕ) (c : Content) → MentionsMembers n c → NamesOnly (λ q. q < n) (Unit {0}) c
 names_only n Start h = tt
 names_only n Crash h = tt
 names_only n JoinTimer h = tt
@@ -361,8 +362,10 @@ names_only n (Ping initiator seq updates) h = (h.0, all_named n updates h.1)
 names_only n (PingReq seq target updates) h = (h.0, all_named n updates h.1)
 names_only n (Ack initiator seq updates) h = (h.0, all_named n updates h.1)
 names_only n (Nack seq) h = tt
+names_only n Leave h = tt
+names_only n Bye h = tt
 
-pub names_members : (n : ℕ) (c : Content) → NamesOnly (λ q. q < n) c → MentionsMembers n c
+pub names_members : (n : ℕ) (c : Content) → NamesOnly (λ q. q < n) (Unit {0}) c → MentionsMembers n c
 names_members n Start h = tt
 names_members n Crash h = tt
 names_members n JoinTimer h = tt
@@ -376,6 +379,8 @@ names_members n (Ping initiator seq updates) h = (h.0, All-from_recursion (λ (u
 names_members n (PingReq seq target updates) h = (h.0, All-from_recursion (λ (u : Update). u.subject < n) updates h.1)
 names_members n (Ack initiator seq updates) h = (h.0, All-from_recursion (λ (u : Update). u.subject < n) updates h.1)
 names_members n (Nack seq) h = tt
+names_members n Leave h = tt
+names_members n Bye h = tt
 
 pub step_consistent : (s : Setup) (k : Key) (c : Content) (t : State) → IsSound s → IsAmongMembers s k c → IsConsistent s k.to t → IsConsistent s k.to (step s k c t).state
 step_consistent s k c t sound among h =

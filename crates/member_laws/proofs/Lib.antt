@@ -13,3 +13,4 @@ pub mod Carried
 pub mod Reached
 pub mod Moments
 pub mod Opened
+pub mod Leaves

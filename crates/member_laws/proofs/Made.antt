@@ -1,7 +1,7 @@
 -- The events and rows of which each step makes its own: what each of them keeps of an effect, every step keeps.
 use Rattle.std.specs.List.{AllByRecursion}
 use Rattle.streams.proofs.PlaceLemmas.{shuffle_rest}
-use Rattle.std.proofs.Common.{◌≡◌, ℕ, ◌+◌, Bool, true, false, cond, not, nat_eq, nat_lt, ◌&&◌, List, [], ◌∷◌, length, Option, Some, None, option_map, refl}
+use Rattle.std.proofs.Common.{◌≡◌, ℕ, ◌+◌, Bool, true, false, cond, not, max, nat_eq, nat_lt, ◌&&◌, List, [], ◌∷◌, length, Option, Some, None, option_map, refl}
 use Rattle.std.specs.Option.{is_none, IfSome}
 use Rattle.std.specs.FinMap.{get, insert}
 use Rattle.std.specs.FinSet as set
@@ -26,28 +26,30 @@ use Rattle.suspicion.specs.Times.{timeout}
 use Rattle.member.specs.declared.member.Phase.{Phase}
 use Rattle.member.specs.declared.member.Phase.TheVariants.{Waiting, Joining, Running, Down}
 use Rattle.member.specs.declared.content.Content.{Content}
-use Rattle.member.specs.declared.content.Content.TheVariants.{Start, Crash, JoinTimer, PeriodTimer, TimeoutTimer, NackTimer, SuspicionTimer, Join, Welcome, Ping, PingReq, Ack, Nack}
+use Rattle.member.specs.declared.content.Content.TheVariants.{Start, Crash, Leave, JoinTimer, PeriodTimer, TimeoutTimer, NackTimer, SuspicionTimer, Join, Welcome, Ping, PingReq, Ack, Nack, Bye}
 use Rattle.member.specs.State.{State}
 use Rattle.membership.specs.Table.{is_confirm, does_override, live_count, alive_but}
-use Rattle.member.specs.Send.{whole_table, carried, sent_off, sent, with_picks, buddy_of, ping_sent, ping_req_sent, ack_sent, nack_sent, join_sent_to, join_sent, welcome_sent}
+use Rattle.member.specs.Send.{whole_table, carried, sent_off, sent, sent_to_each, with_picks, buddy_of, ping_sent, ping_req_sent, ack_sent, nack_sent, join_sent_to, join_sent, welcome_sent, bye_sent}
 use Rattle.member.specs.Turn.{Effect, unchanged, on_state, with_row, with_number, with_event, with_timer}
 use Rattle.member.specs.Apply.{with_put, with_health, with_told, passed_on, own_claim, refuted, heard_dead, own_applied, suspicion_begun, claim_kept, alive_heard, suspect_heard, confirm_heard, claim_heard, news_heard, accusation_counted, accusation_heard, is_repeated, other_applied, applied, all_applied}
-use Rattle.member.specs.Step.{about_others, first_period_set, began, join_asked, joining_begun, started, crashed, join_handled, joined, suspected, probe_failed, probe_ended, probe_begun, target_probed, next_probed, period_begun, all_asked, with_expected, help_asked, timed_out, nack_heard, answered, ping_heard, with_relay, ping_req_heard, ack_taken, ack_heard, nack_due, confirmed, suspicion_over, handled, step}
+use Rattle.member.specs.Step.{about_others, first_period_set, began, join_asked, joining_begun, started, crashed, join_handled, joined, suspected, probe_failed, probe_ended, probe_begun, target_probed, next_probed, period_begun, with_expected, help_asked, timed_out, nack_heard, answered, ping_heard, with_relay, ping_req_heard, ack_taken, ack_heard, nack_due, confirmed, suspicion_over, withdrawn, byes_said, departed, plain_handled, handled, step}
 use Rattle.member_laws.proofs.Moves.{IsNews, NewsMoves, Moves, at_once, at_late, kept_either}
-use Rattle.member_laws.proofs.Walk.{AllNamed, on_row, on_health, on_applied, on_all, on_ended, on_next, on_ping, on_ping_req, NamesOnly, one_target}
+use Rattle.member_laws.proofs.Walk.{AllNamed, on_row, on_health, on_applied, on_all, on_ended, on_next, on_ping, on_ping_req, on_bye, NamesOnly, one_target}
 
 -- ---- the parts
 
--- a row of neither of Lifeguard's mechanisms
-abbrev pub IsPlain : What → Type 0
-IsPlain what.Accuse = ⊥
-IsPlain what.Nack = ⊥
-IsPlain what.Health = ⊥
-IsPlain _ = Unit {0}
+-- a row of neither of Lifeguard's mechanisms, which tells of a leave or a bye only where some members leave
+abbrev pub IsPlain : Type 0 → What → Type 0
+IsPlain SomeLeave what.Accuse = ⊥
+IsPlain SomeLeave what.Nack = ⊥
+IsPlain SomeLeave what.Health = ⊥
+IsPlain SomeLeave what.Leave = SomeLeave
+IsPlain SomeLeave what.Bye = SomeLeave
+IsPlain SomeLeave _ = Unit {0}
 
 -- which rows may be written, in states of which a fact holds
-pub record MayTell (R : State → Type 0) (Tells : What → Type 0) : Type 0 where
-  pub plain : (tells : What) → IsPlain tells → Tells tells
+pub record MayTell (R : State → Type 0) (SomeLeave : Type 0) (Tells : What → Type 0) : Type 0 where
+  pub plain : (tells : What) → IsPlain SomeLeave tells → Tells tells
   pub nacks : (t : State) (relay : ℕ × ℕ) → R t → set.contains t.relays relay ≡ true → Tells what.Nack
   pub accuses : (t : State) (u : Update) (x : HeldSuspicion) → R t → accused_of t.suspicions u.subject u.accuser t.next_number ≡ Some x → Tells what.Accuse
   pub healths : (t : State) (h : LocalHealth) → R t → R (record t { health = h }) → nat_eq h.counter t.health.counter ≡ false → Tells what.Health
@@ -57,7 +59,7 @@ pub record Carries (s : Setup) (k : Key) (Named : ℕ → Type 0) (R : State →
   pub plain : (t : State) → R t → AllNamed Named (carried s None t)
   pub ping : (t : State) (to : ℕ) → R t → AllNamed Named (carried s (buddy_of s to t) t)
   pub contact : (c : ℕ) → contact_of s k.to ≡ Some c → Named c
-  pub helpers : (t : State) (target : ℕ) → R t → AllByRecursion Named (helpers_of t.words s.swim.helpers (alive_but target t.table)).0
+  pub helpers : (t : State) (but count : ℕ) → R t → AllByRecursion Named (helpers_of t.words count (alive_but but t.table)).0
   pub whole : (t : State) → R t → AllNamed Named (whole_table k.to t.incarnation t.table)
 
 -- when the events come that are made in such states
@@ -88,9 +90,9 @@ any_time s k R = record {
 }
 
 -- what each part keeps
-pub record Makes (k : Key) (Named : ℕ → Type 0) (Tells : What → Type 0) (Timed : ℕ → Type 0) (P : Effect → Type 0) : Type 0 where
+pub record Makes (k : Key) (Named : ℕ → Type 0) (SomeLeave : Type 0) (Tells : What → Type 0) (Timed : ℕ → Type 0) (P : Effect → Type 0) : Type 0 where
   pub row : (tells : What) (about : Option ℕ) (value : ℕ) (lost : Bool) (o : Effect) → Tells tells → IfSome about Named → P o → P (with_row k tells about value lost o)
-  pub event : (at to : ℕ) (content : Content) (o : Effect) → Timed at → Named to → NamesOnly Named content → P o → P (with_event k at to content o)
+  pub event : (at to : ℕ) (content : Content) (o : Effect) → Timed at → Named to → NamesOnly Named SomeLeave content → P o → P (with_event k at to content o)
   pub lost : (o : Effect) → P o → P (on_state with_number o)
   pub state : (t : State) (o : Effect) → t.next_number ≡ o.state.next_number → P o → P (record o { state = t })
 
@@ -117,23 +119,23 @@ kept_number : (u : Update) (t : State) → (claim_kept u t).next_number ≡ t.ne
 kept_number u t = kept_either (λ v. v.next_number ≡ t.next_number) u t refl refl
 
 module _ (s : Setup) (k : Key) (Named : ℕ → Type 0) (R : State → Type 0) (news : NewsMoves s k Named R) (moves : Moves s k Named R)
-    (Tells : What → Type 0) (may : MayTell R Tells) (carries : Carries s k Named R)
-    (Timed : ℕ → Type 0) (times : Times s k Timed R) (P : Effect → Type 0) (makes : Makes k Named Tells Timed P) where
+    (SomeLeave : Type 0) (Tells : What → Type 0) (may : MayTell R SomeLeave Tells) (carries : Carries s k Named R)
+    (Timed : ℕ → Type 0) (times : Times s k Timed R) (P : Effect → Type 0) (makes : Makes k Named SomeLeave Tells Timed P) where
   by_either : (b : Bool) (o p : Effect) → (b ≡ true → P o) → (b ≡ false → P p) → P (cond b o p)
   by_either true o p a b = a refl
   by_either false o p a b = b refl
 
-  by_timer : (ticks : ℕ) (content : Content) (o : Effect) → Timed (k.at + ticks) → NamesOnly Named content → P o → P (with_timer k ticks content o)
+  by_timer : (ticks : ℕ) (content : Content) (o : Effect) → Timed (k.at + ticks) → NamesOnly Named SomeLeave content → P o → P (with_timer k ticks content o)
   unfolding with_timer
   by_timer ticks content o timed named h = makes.event (k.at + ticks) k.to content o timed moves.own named h
 
   -- ---- messages
 
-  by_sent_off : (to : ℕ) (content : Content) (arrival : Option ℕ) (o : Effect) → ((at : ℕ) → arrival ≡ Some at → Timed at) → Named to → NamesOnly Named content → P o → P (sent_off k to content arrival o)
+  by_sent_off : (to : ℕ) (content : Content) (arrival : Option ℕ) (o : Effect) → ((at : ℕ) → arrival ≡ Some at → Timed at) → Named to → NamesOnly Named SomeLeave content → P o → P (sent_off k to content arrival o)
   by_sent_off to content None o timed there named h = makes.lost o h
   by_sent_off to content (Some at) o timed there named h = makes.event at to content o (timed at refl) there named h
 
-  by_sent : (tells : What) (to value : ℕ) (content : Content) (o : Effect) → Tells tells → Named to → NamesOnly Named content → R o.state → P o → P (sent s k tells to value content o)
+  by_sent : (tells : What) (to value : ℕ) (content : Content) (o : Effect) → Tells tells → Named to → NamesOnly Named SomeLeave content → R o.state → P o → P (sent s k tells to value content o)
   unfolding sent
   by_sent tells to value content o told there named r h =
       let arrival = arrival_of s k.to to k.at o.state.words in
@@ -170,6 +172,17 @@ module _ (s : Setup) (k : Key) (Named : ℕ → Type 0) (R : State → Type 0) (
   by_welcome : (to : ℕ) (o : Effect) → Named to → R o.state → P o → P (welcome_sent s k to o)
   unfolding welcome_sent
   by_welcome to o there r h = by_sent _ to 0 _ o (may.plain _ tt) there (carries.whole o.state r) r h
+
+  by_bye : SomeLeave → (to : ℕ) (o : Effect) → Named to → R o.state → P o → P (bye_sent s k to o)
+  unfolding bye_sent
+  by_bye some to o there r h = by_sent what.Bye to 0 Bye o (may.plain what.Bye some) there some r h
+
+  -- messages one after another, to members that are named
+  by_each : (send : ℕ → Effect → Effect) → ((to : ℕ) (o : Effect) → R o.state → R (send to o).state) → ((to : ℕ) (o : Effect) → Named to → R o.state → P o → P (send to o))
+      → (others : List ℕ) (o : Effect) → AllByRecursion Named others → R o.state → P o → P (sent_to_each send others o)
+  unfolding sent_to_each
+  by_each send keeps each [] o there r h = h
+  by_each send keeps each (to ∷ others) o there r h = by_each send keeps each others (send to o) there.1 (keeps to o r) (each to o there.0 r h)
 
   -- ---- updates
 
@@ -335,20 +348,13 @@ module _ (s : Setup) (k : Key) (Named : ℕ → Type 0) (R : State → Type 0) (
       let there = on_ended s k Named R news moves o.state.probe o r in
       by_timer _ PeriodTimer _ (times.period_timer _ (on_next s k Named R news moves _ there)) tt (by_next _ there (by_ended o.state.probe o refl r h))
 
-  by_all_asked : (target seq : ℕ) (helpers : List ℕ) (o : Effect) → Named target → AllByRecursion Named helpers → R o.state → P o → P (all_asked s k target seq helpers o)
-  unfolding all_asked
-  by_all_asked target seq [] o named there r h = h
-  by_all_asked target seq (helper ∷ helpers) o named there r h =
-      by_all_asked target seq helpers (ping_req_sent s k target seq helper o) named there.1 (on_ping_req s k Named R news moves target seq helper o r)
-      (by_ping_req target seq helper o named there.0 r h)
-
   by_expected : (probe : Probe) (count : ℕ) (o : Effect) → P o → P (with_expected s probe count o)
   by_expected probe count o h = by_either s.lifeguard.probe _ o (λ _. makes.state _ o refl h) (λ _. h)
 
   by_help : (probe : Probe) (o : Effect) → Named probe.target → R o.state → P o → P (help_asked s k probe o)
   unfolding help_asked
   by_help probe o named r h =
-      by_expected probe _ _ (by_all_asked probe.target probe.seq _ _ named (carries.helpers o.state probe.target r)
+      by_expected probe _ _ (by_each (ping_req_sent s k probe.target probe.seq) (on_ping_req s k Named R news moves probe.target probe.seq) (λ to o there r h. by_ping_req probe.target probe.seq to o named there r h) _ _ (carries.helpers o.state probe.target s.swim.helpers r)
       (moves.drawn o.state _ (helpers_rest o.state.words s.swim.helpers (alive_but probe.target o.state.table)) r) (makes.state _ o refl h))
 
   by_timed_out : (seq : ℕ) (probe : Option Probe) (o : Effect) → o.state.probe ≡ probe → R o.state → P o → P (timed_out s k seq probe o)
@@ -404,66 +410,93 @@ module _ (s : Setup) (k : Key) (Named : ℕ → Type 0) (R : State → Type 0) (
       by_either (is_due o.state.suspicions subject k.number) (confirmed s k subject (get o.state.table subject) o) o
       (λ _. by_confirmed subject (get o.state.table subject) o refl r h) (λ _. h)
 
+  -- ---- leaves
+
+  by_withdrawn : SomeLeave → (o : Effect) → P o → P (withdrawn k o)
+  unfolding withdrawn
+  by_withdrawn some o h = makes.state _ _ refl (makes.row what.Leave None 0 false o (may.plain what.Leave some) tt h)
+
+  by_byes : SomeLeave → (o : Effect) → R o.state → P o → P (byes_said s k o)
+  unfolding byes_said
+  by_byes some o r h =
+      by_each (bye_sent s k) (on_bye s k Named R news moves) (by_bye some) _ _ (carries.helpers o.state k.to (max 1 s.swim.helpers) r)
+      (moves.drawn o.state _ (helpers_rest o.state.words (max 1 s.swim.helpers) (alive_but k.to o.state.table)) r) (makes.state _ o refl h)
+
+  by_departed : SomeLeave → (o : Effect) → R o.state → P o → P (departed s k o)
+  unfolding departed
+  by_departed some o r h =
+      makes.state _ _ refl (by_byes some (with_row k what.Leave None 0 false o) (on_row s k Named R news what.Leave None 0 false o r) (makes.row what.Leave None 0 false o (may.plain what.Leave some) tt h))
+
   -- ---- the step
 
-  by_handled : (content : Content) (phase : Phase) (o : Effect) → Named k.from → NamesOnly Named content → (¬ (phase ≡ Waiting) → R o.state)
+  by_plain : (content : Content) (phase : Phase) (o : Effect) → Named k.from → NamesOnly Named SomeLeave content → (¬ (phase ≡ Waiting) → R o.state)
+      → (phase ≡ Waiting → R (at_once s k o.state)) → (phase ≡ Waiting → R (at_late o.state)) → P o → P (plain_handled s k content phase o)
+  unfolding plain_handled
+  by_plain Start Waiting o sender named r once late h = by_started o (once refl) (late refl) h
+  by_plain Start Joining o sender named r once late h = h
+  by_plain Start Running o sender named r once late h = h
+  by_plain Start Down o sender named r once late h = h
+  by_plain Crash Waiting o sender named r once late h = h
+  by_plain Crash Joining o sender named r once late h = by_crashed o h
+  by_plain Crash Running o sender named r once late h = by_crashed o h
+  by_plain Crash Down o sender named r once late h = h
+  by_plain JoinTimer Waiting o sender named r once late h = h
+  by_plain JoinTimer Joining o sender named r once late h = by_join_asked o (r joins) h
+  by_plain JoinTimer Running o sender named r once late h = h
+  by_plain JoinTimer Down o sender named r once late h = h
+  by_plain PeriodTimer Waiting o sender named r once late h = h
+  by_plain PeriodTimer Joining o sender named r once late h = h
+  by_plain PeriodTimer Running o sender named r once late h = by_period o (r runs) h
+  by_plain PeriodTimer Down o sender named r once late h = h
+  by_plain (TimeoutTimer seq) Waiting o sender named r once late h = h
+  by_plain (TimeoutTimer seq) Joining o sender named r once late h = h
+  by_plain (TimeoutTimer seq) Running o sender named r once late h = by_timed_out seq o.state.probe o refl (r runs) h
+  by_plain (TimeoutTimer seq) Down o sender named r once late h = h
+  by_plain (NackTimer initiator seq) Waiting o sender named r once late h = h
+  by_plain (NackTimer initiator seq) Joining o sender named r once late h = h
+  by_plain (NackTimer initiator seq) Running o sender named r once late h = by_nack_due initiator seq o named (r runs) h
+  by_plain (NackTimer initiator seq) Down o sender named r once late h = h
+  by_plain (SuspicionTimer subject) Waiting o sender named r once late h = h
+  by_plain (SuspicionTimer subject) Joining o sender named r once late h = h
+  by_plain (SuspicionTimer subject) Running o sender named r once late h = by_over subject o (r runs) h
+  by_plain (SuspicionTimer subject) Down o sender named r once late h = h
+  by_plain Join Waiting o sender named r once late h = h
+  by_plain Join Joining o sender named r once late h = h
+  by_plain Join Running o sender named r once late h = by_join_handled o sender (r runs) h
+  by_plain Join Down o sender named r once late h = h
+  by_plain (Welcome entries) Waiting o sender named r once late h = h
+  by_plain (Welcome entries) Joining o sender named r once late h = by_joined entries o sender named (r joins) h
+  by_plain (Welcome entries) Running o sender named r once late h = h
+  by_plain (Welcome entries) Down o sender named r once late h = h
+  by_plain (Ping initiator seq updates) Waiting o sender named r once late h = h
+  by_plain (Ping initiator seq updates) Joining o sender named r once late h = h
+  by_plain (Ping initiator seq updates) Running o sender named r once late h = by_ping_heard initiator seq updates o sender named.0 named.1 (r runs) h
+  by_plain (Ping initiator seq updates) Down o sender named r once late h = h
+  by_plain (PingReq seq target updates) Waiting o sender named r once late h = h
+  by_plain (PingReq seq target updates) Joining o sender named r once late h = h
+  by_plain (PingReq seq target updates) Running o sender named r once late h = by_ping_req_heard seq target updates o sender named.0 named.1 (r runs) h
+  by_plain (PingReq seq target updates) Down o sender named r once late h = h
+  by_plain (Ack initiator seq updates) Waiting o sender named r once late h = h
+  by_plain (Ack initiator seq updates) Joining o sender named r once late h = h
+  by_plain (Ack initiator seq updates) Running o sender named r once late h = by_ack_heard initiator seq updates o named.0 named.1 (r runs) h
+  by_plain (Ack initiator seq updates) Down o sender named r once late h = h
+  by_plain (Nack seq) Waiting o sender named r once late h = h
+  by_plain (Nack seq) Joining o sender named r once late h = h
+  by_plain (Nack seq) Running o sender named r once late h = by_nack_heard seq o h
+  by_plain (Nack seq) Down o sender named r once late h = h
+  by_plain Leave phase o sender named r once late h = h
+  by_plain Bye phase o sender named r once late h = h
+
+  by_handled : (content : Content) (phase : Phase) (o : Effect) → Named k.from → NamesOnly Named SomeLeave content → (¬ (phase ≡ Waiting) → R o.state)
       → (phase ≡ Waiting → R (at_once s k o.state)) → (phase ≡ Waiting → R (at_late o.state)) → P o → P (handled s k content phase o)
   unfolding handled
-  by_handled Start Waiting o sender named r once late h = by_started o (once refl) (late refl) h
-  by_handled Start Joining o sender named r once late h = h
-  by_handled Start Running o sender named r once late h = h
-  by_handled Start Down o sender named r once late h = h
-  by_handled Crash Waiting o sender named r once late h = h
-  by_handled Crash Joining o sender named r once late h = by_crashed o h
-  by_handled Crash Running o sender named r once late h = by_crashed o h
-  by_handled Crash Down o sender named r once late h = h
-  by_handled JoinTimer Waiting o sender named r once late h = h
-  by_handled JoinTimer Joining o sender named r once late h = by_join_asked o (r joins) h
-  by_handled JoinTimer Running o sender named r once late h = h
-  by_handled JoinTimer Down o sender named r once late h = h
-  by_handled PeriodTimer Waiting o sender named r once late h = h
-  by_handled PeriodTimer Joining o sender named r once late h = h
-  by_handled PeriodTimer Running o sender named r once late h = by_period o (r runs) h
-  by_handled PeriodTimer Down o sender named r once late h = h
-  by_handled (TimeoutTimer seq) Waiting o sender named r once late h = h
-  by_handled (TimeoutTimer seq) Joining o sender named r once late h = h
-  by_handled (TimeoutTimer seq) Running o sender named r once late h = by_timed_out seq o.state.probe o refl (r runs) h
-  by_handled (TimeoutTimer seq) Down o sender named r once late h = h
-  by_handled (NackTimer initiator seq) Waiting o sender named r once late h = h
-  by_handled (NackTimer initiator seq) Joining o sender named r once late h = h
-  by_handled (NackTimer initiator seq) Running o sender named r once late h = by_nack_due initiator seq o named (r runs) h
-  by_handled (NackTimer initiator seq) Down o sender named r once late h = h
-  by_handled (SuspicionTimer subject) Waiting o sender named r once late h = h
-  by_handled (SuspicionTimer subject) Joining o sender named r once late h = h
-  by_handled (SuspicionTimer subject) Running o sender named r once late h = by_over subject o (r runs) h
-  by_handled (SuspicionTimer subject) Down o sender named r once late h = h
-  by_handled Join Waiting o sender named r once late h = h
-  by_handled Join Joining o sender named r once late h = h
-  by_handled Join Running o sender named r once late h = by_join_handled o sender (r runs) h
-  by_handled Join Down o sender named r once late h = h
-  by_handled (Welcome entries) Waiting o sender named r once late h = h
-  by_handled (Welcome entries) Joining o sender named r once late h = by_joined entries o sender named (r joins) h
-  by_handled (Welcome entries) Running o sender named r once late h = h
-  by_handled (Welcome entries) Down o sender named r once late h = h
-  by_handled (Ping initiator seq updates) Waiting o sender named r once late h = h
-  by_handled (Ping initiator seq updates) Joining o sender named r once late h = h
-  by_handled (Ping initiator seq updates) Running o sender named r once late h = by_ping_heard initiator seq updates o sender named.0 named.1 (r runs) h
-  by_handled (Ping initiator seq updates) Down o sender named r once late h = h
-  by_handled (PingReq seq target updates) Waiting o sender named r once late h = h
-  by_handled (PingReq seq target updates) Joining o sender named r once late h = h
-  by_handled (PingReq seq target updates) Running o sender named r once late h = by_ping_req_heard seq target updates o sender named.0 named.1 (r runs) h
-  by_handled (PingReq seq target updates) Down o sender named r once late h = h
-  by_handled (Ack initiator seq updates) Waiting o sender named r once late h = h
-  by_handled (Ack initiator seq updates) Joining o sender named r once late h = h
-  by_handled (Ack initiator seq updates) Running o sender named r once late h = by_ack_heard initiator seq updates o named.0 named.1 (r runs) h
-  by_handled (Ack initiator seq updates) Down o sender named r once late h = h
-  by_handled (Nack seq) Waiting o sender named r once late h = h
-  by_handled (Nack seq) Joining o sender named r once late h = h
-  by_handled (Nack seq) Running o sender named r once late h = by_nack_heard seq o h
-  by_handled (Nack seq) Down o sender named r once late h = h
+  by_handled Leave Joining o sender named r once late h = by_withdrawn named o h
+  by_handled Leave Running o sender named r once late h = by_departed named o (r runs) h
+  by_handled Bye Running o sender named r once late h = by_confirmed k.from (get o.state.table k.from) o refl (r runs) h
+  by_handled content phase o sender named r once late h = by_plain content phase o sender named r once late h
 
   -- Of a member that waits the fact is needed where it starts alone.
-  pub by_step : (content : Content) (t : State) → Named k.from → NamesOnly Named content → (¬ (t.phase ≡ Waiting) → R t)
+  pub by_step : (content : Content) (t : State) → Named k.from → NamesOnly Named SomeLeave content → (¬ (t.phase ≡ Waiting) → R t)
       → (t.phase ≡ Waiting → R (at_once s k t)) → (t.phase ≡ Waiting → R (at_late t)) → P (unchanged t) → P (step s k content t)
   unfolding step
   by_step content t sender named r once late h = by_handled content t.phase (unchanged t) sender named r once late h

@@ -1,5 +1,5 @@
 -- No moment of a run reaches 2^42.
-use Rattle.std.proofs.Common.{◌≡◌, ℕ, ◌+◌, ◌*◌, ◌/◌, ◌<◌, ◌≤◌, ◌^◌, Bool, true, false, cond, List, [], ◌∷◌, flat_map, Option, Some, None, All, sym, ap, subst, ◌∙◌, arith}
+use Rattle.std.proofs.Common.{◌≡◌, ℕ, ◌+◌, ◌*◌, ◌/◌, ◌<◌, ◌≤◌, ◌^◌, Bool, true, false, cond, List, [], ◌∷◌, ◌++◌, flat_map, Option, Some, None, All, sym, ap, subst, ◌∙◌, arith}
 use Rattle.std.proofs.lemmas.Option.{same_Some}
 use Rattle.std.specs.Option.{is_some, IfSome}
 use Rattle.std.specs.List.{AllByRecursion}
@@ -11,11 +11,12 @@ use Rattle.std.proofs.lemmas.Nat.{mul-le}
 use Rattle.base.specs.declared.key.Key.{Key}
 use Rattle.base.proofs.Rising.{all_append}
 use Rattle.base.proofs.Kept.{all_with_events}
-use Rattle.scenario.specs.Setup.{Setup, IsSound, member_count, start_of, crash_of, link_between, extra_of}
+use Rattle.scenario.specs.Setup.{Setup, IsSound, member_count, start_of, crash_of, leave_of, link_between, extra_of}
 use Rattle.streams.specs.Draw.{Words, AreWords, below_of, lost_of}
 use Rattle.streams.proofs.PlaceLemmas.{lost_rest}
 use Rattle.streams.proofs.RangeLemmas.{rest_fits, below_fits}
-use Rattle.links.specs.Arrival.{arrival_of}
+use Rattle.links.specs.Arrival.{uncut_arrival_of, arrival_of}
+use Rattle.links.proofs.Arrivals.{whether_cut}
 use Rattle.incarnation.specs.declared.Update.{Update}
 use Rattle.lifeguard.specs.Health.{scaled}
 use Rattle.lifeguard.specs.NackDelay.{nack_delay_of}
@@ -28,12 +29,14 @@ use Rattle.suspicion.proofs.Tables.{log_of-le}
 use Rattle.suspicion.proofs.Timeouts.{min_timeout-lt, max_timeout-le, timeout-le-max}
 use Rattle.base.specs.Logarithm.{log_of}
 use Rattle.member.specs.declared.content.Content.{Content}
+use Rattle.member.specs.declared.content.Content.TheVariants.{Crash, Leave}
 use Rattle.member.specs.State.{State}
 use Rattle.membership.specs.Table.{live_count}
 use Rattle.membership.proofs.Few.{live_count-le, live_count-positive}
 use Rattle.member.specs.Turn.{Effect, with_row, with_event}
+use Rattle.member.proofs.Members.{few_members}
 use Rattle.member.specs.Apply.{claim_kept}
-use Rattle.member.specs.Opening.{opening_state, opening, numbers, crash_event, script_of}
+use Rattle.member.specs.Opening.{opening_state, opening, numbers, ending_event, script_of}
 use Rattle.member.specs.Step.{step}
 use Rattle.member_laws.specs.Words.{IsTimely, IsConsistent, IsAmongMembers}
 use Rattle.member_laws.specs.Runs.{Cluster, IsReached}
@@ -52,7 +55,7 @@ Soon at = at < 2 ^ 42
 -- ---- times
 
 -- no suspicion lasts longer
-timeout-le : (terms : Terms) (n c : ℕ) → AreSound terms → n ≤ 1024 → timeout terms n c ≤ 2 ^ 40
+timeout-le : (terms : Terms) (n c : ℕ) → AreSound terms → n ≤ 4096 → timeout terms n c ≤ 2 ^ 40
 timeout-le terms n c sound few =
     let shortest = min_timeout-lt terms.alpha (log_of n) terms.period sound.alpha (log_of-le n few) sound.period in
     let longest = max_timeout-le terms.beta (min_timeout terms n) sound.beta.1 shortest in
@@ -77,9 +80,9 @@ abbrev InTime : Setup → ℕ → State → Type 0
 InTime s m t = Keeps s m t × IsTimely s t
 
 module _ (s : Setup) (sound : IsSound s) (k : Key) (here : k.to < member_count s) (in_time : k.at ≤ s.end) where
-  arrival_soon : (words : Words) (to at : ℕ) → AreWords words → (arrival_of s k.to to k.at words).0 ≡ Some at → Soon at
-  unfolding arrival_of
-  arrival_soon words to at fit =
+  uncut_soon : (words : Words) (to at : ℕ) → AreWords words → (uncut_arrival_of s k.to to k.at words).0 ≡ Some at → Soon at
+  unfolding uncut_arrival_of
+  uncut_soon words to at fit =
       let link = link_between s k.to to in
       let lost = lost_of words link.loss in
       let bounds = sound.between k.to to in
@@ -88,6 +91,10 @@ module _ (s : Setup) (sound : IsSound s) (k : Key) (here : k.to < member_count s
       let coming = k.at + link.delay + jitter.0 + extra_of s k.to k.at in
       arrives_soon lost.0 lost.1 jitter.1 (coming + extra_of s to coming) at
       (omega (arith, in_time, sound.end, bounds.delay.1, bounds.jitter, drawn, sound.extras k.to k.at, sound.extras to coming))
+
+  arrival_soon : (words : Words) (to at : ℕ) → AreWords words → (arrival_of s k.to to k.at words).0 ≡ Some at → Soon at
+  arrival_soon words to at fit =
+      whether_cut (λ p. p.0 ≡ Some at → Soon at) s k.to to k.at words (λ is. absurd (false≢true (ap is_some is))) (uncut_soon words to at fit)
 
   scaled_soon : (t : State) (base : ℕ) → base ≤ 2 ^ 24 → Keeps s k.to t → Soon (k.at + scaled t.health base)
   scaled_soon t base short r =
@@ -111,7 +118,7 @@ module _ (s : Setup) (sound : IsSound s) (k : Key) (here : k.to < member_count s
       let began : Began s x = of_confirmed (Began s) (λ x accuser g h. h) (get t.suspicions u.subject) u.accuser t.next_number (r.1 u.subject) x is in
       let settled : x.terms ≡ terms_of s =
       of_confirmed (λ x. x.terms ≡ terms_of s) (λ x accuser g h. h) (get t.suspicions u.subject) u.accuser t.next_number (r.0.suspects.settled u.subject) x is in
-      let lasts = timeout-le x.terms x.members (accusers_counted x) (subst AreSound (sym settled) terms_sound) (omega (arith, began.2, sound.members.1)) in
+      let lasts = timeout-le x.terms x.members (accusers_counted x) (subst AreSound (sym settled) terms_sound) (omega (arith, began.2, few_members s sound)) in
       omega (arith, in_time, sound.end, began.0, lasts)
 
   times : Times s k Soon (InTime s k.to)
@@ -123,7 +130,7 @@ module _ (s : Setup) (sound : IsSound s) (k : Key) (here : k.to < member_count s
     period_timer = λ t r. scaled_soon t s.swim.period sound.period r.0;
     timeout_timer = λ t r. scaled_soon t s.swim.timeout (omega (arith, sound.timeout.1, sound.period)) r.0;
     nack_timer = nack_soon;
-    suspicion_timer = λ t r. omega (arith, in_time, sound.end, timeout-le (terms_of s) (live_count t.table) 0 terms_sound (omega (arith, few t r.0, sound.members.1)));
+    suspicion_timer = λ t r. omega (arith, in_time, sound.end, timeout-le (terms_of s) (live_count t.table) 0 terms_sound (omega (arith, few t r.0, few_members s sound)));
     accusation_timer = accused_soon;
   }
 
@@ -182,7 +189,7 @@ module _ (s : Setup) (sound : IsSound s) (k : Key) (here : k.to < member_count s
     plain = λ t r. kept.plain t r.0;
     ping = λ t to r. kept.ping t to r.0;
     contact = kept.contact;
-    helpers = λ t target r. kept.helpers t target r.0;
+    helpers = λ t but count r. kept.helpers t but count r.0;
     whole = λ t r. kept.whole t r.0;
   }
     where
@@ -192,7 +199,7 @@ module _ (s : Setup) (sound : IsSound s) (k : Key) (here : k.to < member_count s
   abbrev AllSoon : Effect → Type 0
   AllSoon o = AllByRecursion (λ e. Soon e.0.at) o.events
 
-  makes : Makes k (Below s) AnyRow Soon AllSoon
+  makes : Makes k (Below s) (Unit {0}) AnyRow Soon AllSoon
   unfolding with_row with_event
   makes = record {
     row = λ tells about value lost o told named h. h;
@@ -204,7 +211,7 @@ module _ (s : Setup) (sound : IsSound s) (k : Key) (here : k.to < member_count s
   module _ (c : Content) (t : State) (ours : IsAmongMembers s k c) (h : IsConsistent s k.to t) (timely : IsTimely s t) where
     pub step_soon : AllSoon (step s k c t)
     step_soon =
-        by_step s k (Below s) (InTime s k.to) timely_news timely_moves AnyRow (any_row (InTime s k.to)) timely_carries Soon times AllSoon makes c t ours.sender (names_only (member_count s) c ours.names)
+        by_step s k (Below s) (InTime s k.to) timely_news timely_moves (Unit {0}) AnyRow (any_row (InTime s k.to) (Unit {0})) timely_carries Soon times AllSoon makes c t ours.sender (names_only (member_count s) c ours.names)
         (λ up. (keeps s sound k t h up, timely)) (λ waits. (started_at_once s sound k t h waits, timely)) (λ waits. (started_late s sound k t h waits, timely)) tt
 
     pub step_timely : IsTimely s (step s k c t).state
@@ -228,14 +235,19 @@ opening_timely : (s : Setup) (m : ℕ) → IsTimely s (opening_state s m)
 unfolding opening_state
 opening_timely s m q x at = absurd (false≢true (sym (ap is_some (get-empty nat_cmp q)) ∙ ap is_some at))
 
-crash_soon : (s : Setup) (m : ℕ) (at : Option ℕ) → IfSome at (λ t. (start_of s m < t) × (t ≤ 2 ^ 40)) → AllByRecursion (λ e. Soon e.0.at) (crash_event m at)
-crash_soon s m None h = tt
-crash_soon s m (Some at) h = (omega (arith, h.1), tt)
+ending_soon : (s : Setup) (m : ℕ) (content : Content) (at : Option ℕ) → IfSome at (λ t. (start_of s m < t) × (t ≤ 2 ^ 40)) → AllByRecursion (λ e. Soon e.0.at) (ending_event content m at)
+ending_soon s m content None h = tt
+ending_soon s m content (Some at) h = (omega (arith, h.1), tt)
+
+endings_soon : (s : Setup) → IsSound s → (m : ℕ) → AllByRecursion (λ e. Soon e.0.at) (ending_event Crash m (crash_of s m) ++ ending_event Leave m (leave_of s m))
+endings_soon s sound m =
+    all_append (λ e. Soon e.0.at) (ending_event Crash m (crash_of s m)) (ending_event Leave m (leave_of s m))
+    (ending_soon s m Crash (crash_of s m) (sound.crashes m)) (ending_soon s m Leave (leave_of s m) (sound.leaves m))
 
 script_soon : (s : Setup) → IsSound s → (xs : List ℕ) → AllByRecursion (λ e. Soon e.0.at) (flat_map (script_of s) xs)
 script_soon s sound [] = tt
 script_soon s sound (x ∷ xs) =
-    all_append (λ e. Soon e.0.at) (script_of s x) (flat_map (script_of s) xs) (omega (arith, sound.starts x), crash_soon s x (crash_of s x) (sound.crashes x)) (script_soon s sound xs)
+    all_append (λ e. Soon e.0.at) (script_of s x) (flat_map (script_of s) xs) (omega (arith, sound.starts x), endings_soon s sound x) (script_soon s sound xs)
 
 abbrev IsInTime : Setup → ℕ → State → Type 0
 IsInTime s m t = IsMember s m t × IsTimely s t

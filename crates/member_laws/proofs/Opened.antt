@@ -1,6 +1,6 @@
 -- The numbers of the events that pend at the beginning of a run.
-use Rattle.std.proofs.Common.{◌≡◌, ℕ, zero, suc, ◌+◌, ◌<◌, ◌≤◌, Bool, true, false, cond, eqb, map, flat_map, Option, Some, None, ap, ◌∙◌, sym, refl, arith}
-use Rattle.std.specs.Option.{is_some, option_map_or}
+use Rattle.std.proofs.Common.{◌≡◌, ℕ, zero, suc, ◌+◌, ◌<◌, ◌≤◌, Bool, true, false, cond, eqb, ◌⊎◌, inl, inr, ◌++◌, map, flat_map, Option, Some, None, ap, ◌∙◌, sym, refl, arith}
+use Rattle.std.specs.Option.{is_some, option_map_or, option_or}
 use Rattle.std.specs.List.{AllByRecursion, range_with_len}
 use Rattle.std.specs.Ordering.{nat_cmp, eq_by_cmp}
 use Rattle.std.specs.Cmp.{nat_cmp_total, unsigned_tied}
@@ -11,10 +11,11 @@ use Rattle.base.specs.Order.{key_cmp}
 use Rattle.base.specs.Run.{holds-with_events}
 use Rattle.base.specs.Rising.{IsNumbered}
 use Rattle.base.proofs.Rising.{all_append}
-use Rattle.scenario.specs.Setup.{Setup, member_count, start_of, crash_of}
+use Rattle.scenario.specs.Setup.{Setup, member_count, start_of, crash_of, leave_of}
 use Rattle.member.specs.declared.content.Content.{Content}
+use Rattle.member.specs.declared.content.Content.TheVariants.{Crash, Leave}
 use Rattle.member.specs.State.{State}
-use Rattle.member.specs.Opening.{opening, opening_state, first_number, numbers, script_key, crash_event, script_of}
+use Rattle.member.specs.Opening.{opening, opening_state, first_number, numbers, script_key, ending_event, script_of}
 
 module _ (s : Setup) where
   next_find : (m a : ℕ) (rest : Option State) (b : Bool) → eqb m a ≡ b → (¬ (m ≡ a) → rest ≡ Some (opening_state s m))
@@ -42,17 +43,30 @@ module _ (s : Setup) where
   number_used : (m at number : ℕ) → m < member_count s → number < first_number s m → Numbered (script_key m at number)
   number_used m at number there used = (opening_state s m, member_there m there, omega (arith, used, opened_number m))
 
-  first_after : (crash : Option ℕ) → 0 < option_map_or (λ at. 2) crash 1
+  first_after : (ending : Option ℕ) → 0 < option_map_or (λ at. 2) ending 1
   first_after None = omega arith
   first_after (Some at) = omega arith
 
-  crash_numbered : (m : ℕ) (crash : Option ℕ) → crash_of s m ≡ crash → m < member_count s → AllByRecursion {X = Key × Content} (λ e. Numbered e.0) (crash_event m crash)
-  crash_numbered m None is there = tt
-  crash_numbered m (Some at) is there =
-      (number_used m at 1 there (let two : first_number s m ≡ 2 = ap (λ o. option_map_or (λ at. 2) o 1) is in omega arith), tt)
+  -- a member whose part ends uses 2 first
+  pub two_after : (crash leave : Option ℕ) (at : ℕ) → (crash ≡ Some at) ⊎ (leave ≡ Some at) → ◌≡◌ {A = ℕ} (option_map_or (λ at. 2) (option_or crash leave) 1) 2
+  two_after (Some c) leave at is = refl
+  two_after None (Some l) at is = refl
+  two_after None None at (inl is) = absurd (false≢true (ap is_some is))
+  two_after None None at (inr is) = absurd (false≢true (ap is_some is))
+
+  ending_numbered : (m : ℕ) (content : Content) (ending : Option ℕ) → ((at : ℕ) → ending ≡ Some at → first_number s m ≡ 2) → m < member_count s
+      → AllByRecursion {X = Key × Content} (λ e. Numbered e.0) (ending_event content m ending)
+  ending_numbered m content None two there = tt
+  ending_numbered m content (Some at) two there = (number_used m at 1 there (let is = two at refl in omega arith), tt)
+
+  endings_numbered : (m : ℕ) → m < member_count s → AllByRecursion {X = Key × Content} (λ e. Numbered e.0) (ending_event Crash m (crash_of s m) ++ ending_event Leave m (leave_of s m))
+  endings_numbered m there =
+      all_append (λ e. Numbered e.0) (ending_event Crash m (crash_of s m)) (ending_event Leave m (leave_of s m))
+      (ending_numbered m Crash (crash_of s m) (λ at is. two_after (crash_of s m) (leave_of s m) at (inl is)) there)
+      (ending_numbered m Leave (leave_of s m) (λ at is. two_after (crash_of s m) (leave_of s m) at (inr is)) there)
 
   script_numbered : (m : ℕ) → m < member_count s → AllByRecursion {X = Key × Content} (λ e. Numbered e.0) (script_of s m)
-  script_numbered m there = (number_used m (start_of s m) 0 there (first_after (crash_of s m)), crash_numbered m (crash_of s m) refl there)
+  script_numbered m there = (number_used m (start_of s m) 0 there (first_after (option_or (crash_of s m) (leave_of s m))), endings_numbered m there)
 
   scripts_numbered : (a n : ℕ) → a + n ≤ member_count s → AllByRecursion {X = Key × Content} (λ e. Numbered e.0) (flat_map (script_of s) (range_with_len a n))
   scripts_numbered a zero h = tt

@@ -2,7 +2,7 @@
 use Rattle.membership.proofs.Few.{entries_below, few_entries}
 use Rattle.member.proofs.Helpers.{helpers_below}
 use Rattle.member_laws.proofs.Walk.{NamesOnly}
-use Rattle.std.proofs.Common.{◌≡◌, ℕ, zero, suc, ◌+◌, ◌<◌, ◌≤◌, Bool, true, false, cond, eqb, List, [], ◌∷◌, map, flat_map, Option, Some, None, All, option_map, refl, sym, ap, subst, ◌∙◌, arith, ◌-◌, ◌^◌, length, filter, not, nat_eq, ◌&&◌}
+use Rattle.std.proofs.Common.{◌≡◌, ℕ, zero, suc, ◌+◌, ◌<◌, ◌≤◌, Bool, true, false, cond, eqb, List, [], ◌∷◌, ◌++◌, map, flat_map, Option, Some, None, All, option_map, refl, sym, ap, subst, ◌∙◌, arith, ◌-◌, ◌^◌, length, filter, not, nat_eq, ◌&&◌}
 use Rattle.std.proofs.lemmas.Option.{same_Some}
 use Rattle.std.specs.Option.{is_some, IfSome}
 use Rattle.std.specs.List.{AllByRecursion, range_with_len}
@@ -17,7 +17,7 @@ use Rattle.base.specs.Order.{key_cmp}
 use Rattle.base.specs.World.{Run}
 use Rattle.base.proofs.Rising.{all_append}
 use Rattle.base.proofs.Kept.{HoldsOfAll, all_with_events}
-use Rattle.scenario.specs.Setup.{Setup, IsSound, member_count, crash_of, start_of, contact_of}
+use Rattle.scenario.specs.Setup.{Setup, IsSound, member_count, crash_of, leave_of, start_of, contact_of}
 use Rattle.trace.specs.declared.row.Row.{Row}
 use Rattle.trace.specs.declared.row.What.{What}
 use Rattle.trace.specs.Text.{NamesMembers}
@@ -26,11 +26,14 @@ use Rattle.incarnation.specs.declared.Claim.TheVariants.{Suspect}
 use Rattle.incarnation.specs.declared.Update.{Update}
 use Rattle.suspicion.specs.Suspicions.{first_accuser_of}
 use Rattle.member.specs.declared.content.Content.{Content}
+use Rattle.member.specs.declared.content.Content.TheVariants.{Crash, Leave}
+use Rattle.member.specs.Here.{MentionsMembers}
+use Rattle.member.proofs.Members.{few_members}
 use Rattle.member.specs.State.{State}
 use Rattle.membership.specs.Table.{is_suspect, alive_but, is_alive}
 use Rattle.member.specs.Turn.{Effect, with_row, with_event}
 use Rattle.member.specs.Send.{limit_of, suspicion_told, buddy_of}
-use Rattle.member.specs.Opening.{opening_state, opening, numbers, crash_event, script_of}
+use Rattle.member.specs.Opening.{opening_state, opening, numbers, ending_event, script_of}
 use Rattle.member.specs.Step.{step}
 use Rattle.member_laws.specs.Words.{IsConsistent, IsAmongMembers}
 use Rattle.member_laws.specs.Rows.{IsOn}
@@ -67,8 +70,8 @@ told_subject s t to (Some held) u here known is = suspect_either (is_suspect hel
 abbrev pub AnyRow : What → Type 0
 AnyRow tells = Unit {0}
 
-pub any_row : (R : State → Type 0) → MayTell R AnyRow
-any_row R = record { plain = λ tells h. tt; nacks = λ t relay r here. tt; accuses = λ t u x r here. tt; healths = λ t h r r' differs. tt }
+pub any_row : (R : State → Type 0) (SomeLeave : Type 0) → MayTell R SomeLeave AnyRow
+any_row R SomeLeave = record { plain = λ tells h. tt; nacks = λ t relay r here. tt; accuses = λ t u x r here. tt; healths = λ t h r r' differs. tt }
 
 module _ (s : Setup) (sound : IsSound s) (k : Key) (here : k.to < member_count s) where
   buddy_subject : (t : State) (to : ℕ) (b : Bool) (u : Update) → Keeps s k.to t → cond b (suspicion_told t to (get t.table to)) None ≡ Some u → u.subject < member_count s
@@ -98,7 +101,7 @@ module _ (s : Setup) (sound : IsSound s) (k : Key) (here : k.to < member_count s
   few t target r =
       let short = few_entries (member_count s) t.table (λ q at. (r.others.others q at).0) in
       let live : ℕ × (Claim × ℕ) → Bool = λ e. is_alive e.1.0 && not (nat_eq e.0 target) in
-      let most = sound.members.1 in
+      let most = few_members s sound in
       omega (
         arith,
         short,
@@ -113,8 +116,8 @@ module _ (s : Setup) (sound : IsSound s) (k : Key) (here : k.to < member_count s
     plain = λ t r. all_picked (Below s) t.buffer s.swim.carry (limit_of s t) None r.buffer (λ u is. absurd (false≢true (ap is_some is)));
     ping = λ t to r. all_picked (Below s) t.buffer s.swim.carry (limit_of s t) (buddy_of s to t) r.buffer (ping_subjects t to r);
     contact = contact_low (start_of s k.to) refl;
-    helpers = λ t target r.
-        recursion_from_All (Below s) _ (helpers_below (member_count s) s.swim.helpers t.words (alive_but target t.table) r.words (few t target r) (All-from_recursion (Below s) _ (alive_low t target r)));
+    helpers = λ t target count r.
+        recursion_from_All (Below s) _ (helpers_below (member_count s) count t.words (alive_but target t.table) r.words (few t target r) (All-from_recursion (Below s) _ (alive_low t target r)));
     whole = λ t r. all_whole (Below s) k.to t.incarnation t.table here (λ q at. (r.others.others q at).0);
   }
 
@@ -125,17 +128,17 @@ module _ (s : Setup) (sound : IsSound s) (k : Key) (here : k.to < member_count s
   unfolding with_row
   ours_row tells about value lost o told named h = h
 
-  ours_event : (at to : ℕ) (content : Content) (o : Effect) → AnyTime at → Below s to → NamesOnly (Below s) content → AllOurs o → AllOurs (with_event k at to content o)
+  ours_event : (at to : ℕ) (content : Content) (o : Effect) → AnyTime at → Below s to → NamesOnly (Below s) (Unit {0}) content → AllOurs o → AllOurs (with_event k at to content o)
   unfolding with_event
   ours_event at to content o timed there named h =
       all_append (λ e. IsAmongMembers s e.0 e.1) o.events _ h (record { receiver = there; sender = here; names = names_members (member_count s) content named }, tt)
 
-  makes : Makes k (Below s) AnyRow AnyTime AllOurs
+  makes : Makes k (Below s) (Unit {0}) AnyRow AnyTime AllOurs
   makes = record { row = ours_row; event = ours_event; lost = λ o h. h; state = λ t o same h. h }
 
   step_ours : (c : Content) (t : State) → IsAmongMembers s k c → IsConsistent s k.to t → AllByRecursion (λ e. IsAmongMembers s e.0 e.1) (step s k c t).events
   step_ours c t ours h =
-      by_step s k (Below s) (Keeps s k.to) (news s sound k) (moves s sound k here) AnyRow (any_row (Keeps s k.to)) carries AnyTime (any_time s k (Keeps s k.to)) AllOurs makes c t ours.sender (names_only (member_count s) c ours.names)
+      by_step s k (Below s) (Keeps s k.to) (news s sound k) (moves s sound k here) (Unit {0}) AnyRow (any_row (Keeps s k.to) (Unit {0})) carries AnyTime (any_time s k (Keeps s k.to)) AllOurs makes c t ours.sender (names_only (member_count s) c ours.names)
       (keeps s sound k t h) (started_at_once s sound k t h) (started_late s sound k t h) tt
 
   -- and its rows
@@ -152,12 +155,12 @@ module _ (s : Setup) (sound : IsSound s) (k : Key) (here : k.to < member_count s
     unfolding with_event
     naming_event at to content o h = h
 
-    names : Makes k (Below s) AnyRow AnyTime AllNaming
+    names : Makes k (Below s) (Unit {0}) AnyRow AnyTime AllNaming
     names = record { row = naming_row; event = λ at to content o timed there named h. naming_event at to content o h; lost = λ o h. h; state = λ t o same h. h }
 
     step_names : (c : Content) (t : State) → IsAmongMembers s k c → IsConsistent s k.to t → AllNaming (step s k c t)
     step_names c t ours h =
-        by_step s k (Below s) (Keeps s k.to) (news s sound k) (moves s sound k here) AnyRow (any_row (Keeps s k.to)) carries AnyTime (any_time s k (Keeps s k.to)) AllNaming names c t maker (names_only (member_count s) c ours.names)
+        by_step s k (Below s) (Keeps s k.to) (news s sound k) (moves s sound k here) (Unit {0}) AnyRow (any_row (Keeps s k.to) (Unit {0})) carries AnyTime (any_time s k (Keeps s k.to)) AllNaming names c t maker (names_only (member_count s) c ours.names)
         (keeps s sound k t h) (started_at_once s sound k t h) (started_late s sound k t h) tt
 
 pub step_among : (s : Setup) (k : Key) (c : Content) (t : State) → IsSound s → IsAmongMembers s k c → IsConsistent s k.to t
@@ -181,14 +184,19 @@ range_low : (s : Setup) (a n : ℕ) → a + n ≤ member_count s → AllByRecurs
 range_low s a zero h = tt
 range_low s a (suc n) h = (omega arith, range_low s (a + 1) n (omega arith))
 
-crash_ours : (s : Setup) (m : ℕ) (at : Option ℕ) → m < member_count s → AllByRecursion (λ e. IsAmongMembers s e.0 e.1) (crash_event m at)
-crash_ours s m None low = tt
-crash_ours s m (Some at) low = (record { receiver = low; sender = low; names = tt }, tt)
+ending_ours : (s : Setup) (m : ℕ) (content : Content) (at : Option ℕ) → MentionsMembers (member_count s) content → m < member_count s → AllByRecursion (λ e. IsAmongMembers s e.0 e.1) (ending_event content m at)
+ending_ours s m content None _ low = tt
+ending_ours s m content (Some at) names low = (record { receiver = low; sender = low; names = names }, tt)
+
+endings_ours : (s : Setup) (m : ℕ) → m < member_count s → AllByRecursion (λ e. IsAmongMembers s e.0 e.1) (ending_event Crash m (crash_of s m) ++ ending_event Leave m (leave_of s m))
+endings_ours s m low =
+    all_append (λ e. IsAmongMembers s e.0 e.1) (ending_event Crash m (crash_of s m)) (ending_event Leave m (leave_of s m))
+    (ending_ours s m Crash (crash_of s m) tt low) (ending_ours s m Leave (leave_of s m) tt low)
 
 script_ours : (s : Setup) (xs : List ℕ) → AllByRecursion (Below s) xs → AllByRecursion (λ e. IsAmongMembers s e.0 e.1) (flat_map (script_of s) xs)
 script_ours s [] low = tt
 script_ours s (x ∷ xs) low =
-    all_append (λ e. IsAmongMembers s e.0 e.1) (script_of s x) (flat_map (script_of s) xs) (record { receiver = low.0; sender = low.0; names = tt }, crash_ours s x (crash_of s x) low.0) (script_ours s xs low.1)
+    all_append (λ e. IsAmongMembers s e.0 e.1) (script_of s x) (flat_map (script_of s) xs) (record { receiver = low.0; sender = low.0; names = tt }, endings_ours s x low.0) (script_ours s xs low.1)
 
 pub none_pending : (E : Key → Content → Type 0) → HoldsOfAll E empty
 none_pending E k c here = absurd (false≢true (ap is_some (sym (get-empty key_cmp k) ∙ here)))

@@ -4,13 +4,13 @@ use Rattle.base.specs.declared.key.Key.{Key}
 use Rattle.scenario.specs.Setup.{Setup}
 use Rattle.member.specs.declared.member.Phase.TheVariants.{Waiting, Down}
 use Rattle.member.specs.declared.content.Content.{Content}
-use Rattle.member.specs.declared.content.Content.TheVariants.{Start, Crash, JoinTimer, PeriodTimer, TimeoutTimer, NackTimer, SuspicionTimer, Join, Welcome, Ping, PingReq, Ack, Nack}
+use Rattle.member.specs.declared.content.Content.TheVariants.{Start, Crash, Leave, JoinTimer, PeriodTimer, TimeoutTimer, NackTimer, SuspicionTimer, Join, Welcome, Ping, PingReq, Ack, Nack, Bye}
 use Rattle.member.specs.State.{State}
 use Rattle.member.specs.Turn.{Effect, unchanged}
-use Rattle.member.specs.Step.{handled, step}
+use Rattle.member.specs.Step.{plain_handled, handled, step}
 
 down : (s : Setup) (k : Key) (c : Content) (o : Effect) → handled s k c Down o ≡ o
-unfolding handled
+unfolding handled plain_handled
 down s k Start o = refl
 down s k Crash o = refl
 down s k JoinTimer o = refl
@@ -24,9 +24,11 @@ down s k (Ping initiator seq updates) o = refl
 down s k (PingReq seq target updates) o = refl
 down s k (Ack initiator seq updates) o = refl
 down s k (Nack seq) o = refl
+down s k Leave o = refl
+down s k Bye o = refl
 
 waiting : (s : Setup) (k : Key) (c : Content) (o : Effect) → ¬ (c ≡ Start) → handled s k c Waiting o ≡ o
-unfolding handled
+unfolding handled plain_handled
 waiting s k Start o other = absurd (other refl)
 waiting s k Crash o other = refl
 waiting s k JoinTimer o other = refl
@@ -40,6 +42,8 @@ waiting s k (Ping initiator seq updates) o other = refl
 waiting s k (PingReq seq target updates) o other = refl
 waiting s k (Ack initiator seq updates) o other = refl
 waiting s k (Nack seq) o other = refl
+waiting s k Leave o other = refl
+waiting s k Bye o other = refl
 
 pub down_step : (s : Setup) (k : Key) (c : Content) (t : State) → t.phase ≡ Down → step s k c t ≡ unchanged t
 unfolding step

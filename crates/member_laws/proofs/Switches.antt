@@ -111,7 +111,7 @@ module _ (s : Setup) (k : Key) where
 
 -- ---- rows
 
-on_plain : (s : Setup) (tells : What) → IsPlain tells → IsOn s tells
+on_plain : (s : Setup) (tells : What) → IsPlain (Unit {0}) tells → IsOn s tells
 on_plain s what.Accuse h = absurd h
 on_plain s what.Nack h = absurd h
 on_plain s what.Health h = absurd h
@@ -145,7 +145,7 @@ on_health s t h true e is as' differs = refl
 on_health s t h false e is as' differs =
     absurd (false≢true (sym differs ∙ none_differs (opening_health s) t.health h (ap (λ b. cond b s.lifeguard.ceiling 0) e) is as'))
 
-may : (s : Setup) → MayTell (IsSet s) (IsOn s)
+may : (s : Setup) → MayTell (IsSet s) (Unit {0}) (IsOn s)
 may s = record {
   plain = on_plain s;
   nacks = λ t relay h here. on_nack s t relay s.lifeguard.probe refl h here;
@@ -157,12 +157,13 @@ each_anyone : (xs : List ℕ) → AllByRecursion Anyone xs
 each_anyone [] = tt
 each_anyone (x ∷ xs) = (tt, each_anyone xs)
 
-carries : (s : Setup) (k : Key) → Carries s k Anyone (IsSet s)
-carries s k = record {
+-- anyone may be named
+pub carries_anyone : (s : Setup) (k : Key) (R : State → Type 0) → Carries s k Anyone R
+carries_anyone s k R = record {
   plain = λ t h. all_anyone _;
   ping = λ t to h. all_anyone _;
   contact = λ c is. tt;
-  helpers = λ t target h. each_anyone _;
+  helpers = λ t but count h. each_anyone _;
   whole = λ t h. all_anyone _;
 }
 
@@ -177,7 +178,7 @@ same_rows : (s : Setup) (k : Key) (at to : ℕ) (content : Content) (o : Effect)
 unfolding with_event
 same_rows s k at to content o h = h
 
-makes : (s : Setup) (k : Key) → Makes k Anyone (IsOn s) AnyTime (AllOn s)
+makes : (s : Setup) (k : Key) → Makes k Anyone (Unit {0}) (IsOn s) AnyTime (AllOn s)
 makes s k = record {
   row = one_row s k;
   event = λ at to content o timed there named h. same_rows s k at to content o h;
@@ -188,7 +189,7 @@ makes s k = record {
 pub each_row_is_on : (s : Setup) (k : Key) (c : Content) (t : State) → IsConsistent s k.to t → AllByRecursion (λ (row : Row). IsOn s row.what) (step s k c t).rows
 each_row_is_on s k c t h =
     let is : IsSet s t = record { terms = h.terms; relays = h.relays; health = record { within = h.health; same = h.ceiling } } in
-    by_step s k Anyone (IsSet s) (news s k) (moves s k) (IsOn s) (may s) (carries s k) AnyTime (any_time s k (IsSet s)) (AllOn s) (makes s k) c t tt (anyone_named c)
+    by_step s k Anyone (IsSet s) (news s k) (moves s k) (Unit {0}) (IsOn s) (may s) (carries_anyone s k (IsSet s)) AnyTime (any_time s k (IsSet s)) (AllOn s) (makes s k) c t tt (anyone_named c)
     (λ _. is) (λ waits. (moves s k).began t waits is) (λ waits. (moves s k).late t waits is) tt
 
 pub rows_are_on : (s : Setup) (k : Key) (c : Content) (t : State) → IsConsistent s k.to t → All (λ (row : Row). IsOn s row.what) (step s k c t).rows

@@ -10,8 +10,9 @@ use Rattle.base.specs.declared.key.Key.{Key}
 use Rattle.scenario.specs.Setup.{Setup, start_of, contact_of, link_between}
 use Rattle.trace.specs.declared.row.What.{What}
 use Rattle.streams.specs.Draw.{Words, IsRestOf, rest_after, below_of, lost_of}
-use Rattle.streams.proofs.PlaceLemmas.{below_rest, lost_rest, shuffle_rest, rest-rest}
-use Rattle.links.specs.Arrival.{arrival_of}
+use Rattle.streams.proofs.PlaceLemmas.{below_rest, lost_rest, shuffle_rest, rest-rest, rest_after-zero}
+use Rattle.links.specs.Arrival.{uncut_arrival_of, arrival_of}
+use Rattle.links.proofs.Arrivals.{whether_cut}
 use Rattle.incarnation.specs.declared.Claim.{Claim}
 use Rattle.incarnation.specs.declared.Claim.TheVariants.{Alive, Suspect, Confirm}
 use Rattle.incarnation.specs.declared.Update.{Update}
@@ -24,13 +25,13 @@ use Rattle.suspicion.specs.declared.suspicions.Accused.{Accused}
 use Rattle.member.specs.declared.member.Phase.{Phase}
 use Rattle.member.specs.declared.member.Phase.TheVariants.{Waiting, Joining, Running, Down}
 use Rattle.member.specs.declared.content.Content.{Content}
-use Rattle.member.specs.declared.content.Content.TheVariants.{Start, Crash, JoinTimer, PeriodTimer, TimeoutTimer, NackTimer, SuspicionTimer, Join, Welcome, Ping, PingReq, Ack, Nack}
+use Rattle.member.specs.declared.content.Content.TheVariants.{Start, Crash, Leave, JoinTimer, PeriodTimer, TimeoutTimer, NackTimer, SuspicionTimer, Join, Welcome, Ping, PingReq, Ack, Nack, Bye}
 use Rattle.member.specs.State.{State}
 use Rattle.membership.specs.Table.{is_confirm, does_override, alive_but}
 use Rattle.member.specs.Turn.{Effect, unchanged, on_state, with_row, with_number, with_event, with_timer}
-use Rattle.member.specs.Send.{sent_off, sent, with_picks, buddy_of, ping_sent, ping_req_sent, ack_sent, nack_sent, join_sent_to, join_sent, welcome_sent}
+use Rattle.member.specs.Send.{sent_off, sent, sent_to_each, with_picks, buddy_of, ping_sent, ping_req_sent, ack_sent, nack_sent, join_sent_to, join_sent, welcome_sent, bye_sent}
 use Rattle.member.specs.Apply.{with_put, with_health, with_told, passed_on, refuted, heard_dead, own_applied, claim_kept, alive_heard, suspect_heard, confirm_heard, claim_heard, news_heard, accusation_counted, accusation_heard, is_repeated, other_applied, applied, all_applied}
-use Rattle.member.specs.Step.{first_period_set, began, join_asked, joining_begun, started, crashed, join_handled, joined, suspected, probe_failed, probe_ended, probe_begun, target_probed, next_probed, period_begun, all_asked, with_expected, help_asked, timed_out, nack_heard, nacked, answered, ping_heard, with_relay, ping_req_heard, ack_taken, ack_heard, nack_due, confirmed, suspicion_over, handled, step}
+use Rattle.member.specs.Step.{first_period_set, began, join_asked, joining_begun, started, crashed, join_handled, joined, suspected, probe_failed, probe_ended, probe_begun, target_probed, next_probed, period_begun, with_expected, help_asked, timed_out, nack_heard, nacked, answered, ping_heard, with_relay, ping_req_heard, ack_taken, ack_heard, nack_due, confirmed, suspicion_over, withdrawn, byes_said, departed, plain_handled, handled, step}
 use Rattle.member_laws.proofs.Moves.{IsNews, NewsMoves, Moves, at_once, at_late, Anyone}
 
 -- the rest of a rest
@@ -41,27 +42,32 @@ lost_or_not : (words : Words) (lost : Bool) (a b : Option ℕ × Words) → IsRe
 lost_or_not words true a b h g = h
 lost_or_not words false a b h g = g
 
--- the words that the link of a message leaves
-arrival_rest : (s : Setup) (from to now : ℕ) (words : Words) → IsRestOf words (arrival_of s from to now words).1
-unfolding arrival_of
-arrival_rest s from to now words =
+uncut_rest : (s : Setup) (from to now : ℕ) (words : Words) → IsRestOf words (uncut_arrival_of s from to now words).1
+unfolding uncut_arrival_of
+uncut_rest s from to now words =
     let link = link_between s from to in
     let left = (lost_of words link.loss).1 in
     let once = lost_rest words link.loss in
     lost_or_not words (lost_of words link.loss).0 _ _ once (rest_of_rest words left (below_of left (link.jitter + 1)).1 once (below_rest left (link.jitter + 1)))
 
+-- the words that the link of a message leaves
+arrival_rest : (s : Setup) (from to now : ℕ) (words : Words) → IsRestOf words (arrival_of s from to now words).1
+arrival_rest s from to now words = whether_cut (λ p. IsRestOf words p.1) s from to now words (0, rest_after-zero words) (uncut_rest s from to now words)
+
 -- whom the updates of an event are about
 abbrev pub AllNamed : (ℕ → Type 0) → List Update → Type 0
 AllNamed Named us = AllByRecursion (λ u. Named u.subject) us
 
--- whom an event names
-abbrev pub NamesOnly : (ℕ → Type 0) → Content → Type 0
-NamesOnly Named (NackTimer initiator seq) = Named initiator
-NamesOnly Named (Welcome entries) = AllNamed Named entries
-NamesOnly Named (Ping initiator seq updates) = Named initiator × AllNamed Named updates
-NamesOnly Named (PingReq seq target updates) = Named target × AllNamed Named updates
-NamesOnly Named (Ack initiator seq updates) = Named initiator × AllNamed Named updates
-NamesOnly Named _ = Unit {0}
+-- whom an event names; and it is a leave or a bye only where some members leave
+abbrev pub NamesOnly : (ℕ → Type 0) → Type 0 → Content → Type 0
+NamesOnly Named SomeLeave (NackTimer initiator seq) = Named initiator
+NamesOnly Named SomeLeave (Welcome entries) = AllNamed Named entries
+NamesOnly Named SomeLeave (Ping initiator seq updates) = Named initiator × AllNamed Named updates
+NamesOnly Named SomeLeave (PingReq seq target updates) = Named target × AllNamed Named updates
+NamesOnly Named SomeLeave (Ack initiator seq updates) = Named initiator × AllNamed Named updates
+NamesOnly Named SomeLeave Leave = SomeLeave
+NamesOnly Named SomeLeave Bye = SomeLeave
+NamesOnly Named SomeLeave _ = Unit {0}
 
 same_target : (P : ℕ → Type 0) (a b : Probe) → a.target ≡ b.target → P a.target → P b.target
 same_target P a b same h = subst P same h
@@ -90,7 +96,7 @@ pub all_anyone : (us : List Update) → AllNamed Anyone us
 all_anyone [] = tt
 all_anyone (u ∷ us) = (tt, all_anyone us)
 
-pub anyone_named : (c : Content) → NamesOnly Anyone c
+pub anyone_named : (c : Content) → NamesOnly Anyone (Unit {0}) c
 anyone_named Start = tt
 anyone_named Crash = tt
 anyone_named JoinTimer = tt
@@ -104,6 +110,8 @@ anyone_named (Ping initiator seq updates) = (tt, all_anyone updates)
 anyone_named (PingReq seq target updates) = (tt, all_anyone updates)
 anyone_named (Ack initiator seq updates) = (tt, all_anyone updates)
 anyone_named (Nack seq) = tt
+anyone_named Leave = tt
+anyone_named Bye = tt
 
 module _ (s : Setup) (k : Key) (Named : ℕ → Type 0) (R : State → Type 0) (news : NewsMoves s k Named R) where
   pub on_either : (b : Bool) (o p : Effect) → R o.state → R p.state → R (cond b o p).state
@@ -208,6 +216,17 @@ module _ (s : Setup) (k : Key) (Named : ℕ → Type 0) (R : State → Type 0) (
     pub on_welcome : (to : ℕ) (o : Effect) → R o.state → R (welcome_sent s k to o).state
     unfolding welcome_sent
     on_welcome to o h = on_sent _ to 0 _ o h
+
+    pub on_bye : (to : ℕ) (o : Effect) → R o.state → R (bye_sent s k to o).state
+    unfolding bye_sent
+    on_bye to o h = on_sent _ to 0 Bye o h
+
+    -- messages one after another
+    pub on_each : (send : ℕ → Effect → Effect) → ((to : ℕ) (o : Effect) → R o.state → R (send to o).state) → (others : List ℕ) (o : Effect) → R o.state
+        → R (sent_to_each send others o).state
+    unfolding sent_to_each
+    on_each send each [] o h = h
+    on_each send each (to ∷ others) o h = on_each send each others (send to o) (each to o h)
 
     -- ---- updates
 
@@ -318,11 +337,6 @@ module _ (s : Setup) (k : Key) (Named : ℕ → Type 0) (R : State → Type 0) (
     unfolding period_begun
     on_period o h = on_timer _ PeriodTimer _ (on_next _ (on_ended o.state.probe o h))
 
-    pub on_all_asked : (target seq : ℕ) (helpers : List ℕ) (o : Effect) → R o.state → R (all_asked s k target seq helpers o).state
-    unfolding all_asked
-    on_all_asked target seq [] o h = h
-    on_all_asked target seq (helper ∷ helpers) o h = on_all_asked target seq helpers (ping_req_sent s k target seq helper o) (on_ping_req target seq helper o h)
-
     pub on_expected : (probe : Probe) (count : ℕ) (o : Effect) → Named probe.target → R o.state → R (with_expected s probe count o).state
     on_expected probe count o named h =
         on_either s.lifeguard.probe _ o (moves.probing o.state o.state.sequence _ (one_target Named (record probe { expected = count }) named) h) h
@@ -330,7 +344,7 @@ module _ (s : Setup) (k : Key) (Named : ℕ → Type 0) (R : State → Type 0) (
     pub on_help : (probe : Probe) (o : Effect) → Named probe.target → R o.state → R (help_asked s k probe o).state
     unfolding help_asked helpers_of
     on_help probe o named h =
-        on_expected probe _ _ named (on_all_asked probe.target probe.seq _ _
+        on_expected probe _ _ named (on_each (ping_req_sent s k probe.target probe.seq) (on_ping_req probe.target probe.seq) _ _
         (moves.drawn o.state _ (shuffle_rest o.state.words (alive_but probe.target o.state.table)) h))
 
     pub on_timed_out : (seq : ℕ) (probe : Option Probe) (o : Effect) → o.state.probe ≡ probe → R o.state → R (timed_out s k seq probe o).state
@@ -382,64 +396,87 @@ module _ (s : Setup) (k : Key) (Named : ℕ → Type 0) (R : State → Type 0) (
     on_over subject o h =
         on_either (is_due o.state.suspicions subject k.number) (confirmed s k subject (get o.state.table subject) o) o (on_confirmed subject (get o.state.table subject) o refl h) h
 
+    -- ---- leaves
+
+    pub on_withdrawn : (o : Effect) → R o.state → R (withdrawn k o).state
+    unfolding withdrawn
+    on_withdrawn o h = moves.downed _ (on_row _ None 0 false o h)
+
+    pub on_byes : (o : Effect) → R o.state → R (byes_said s k o).state
+    unfolding byes_said helpers_of
+    on_byes o h = on_each (bye_sent s k) on_bye _ _ (moves.drawn o.state _ (shuffle_rest o.state.words (alive_but k.to o.state.table)) h)
+
+    pub on_departed : (o : Effect) → R o.state → R (departed s k o).state
+    unfolding departed
+    on_departed o h = moves.downed _ (on_byes _ (on_row _ None 0 false o h))
+
     -- ---- the step
 
-    pub on_handled : (content : Content) (phase : Phase) (o : Effect) → o.state.phase ≡ phase → Named k.from → NamesOnly Named content → R o.state → R (handled s k content phase o).state
-    unfolding handled
-    on_handled Start Waiting o is sender named h = on_started o (moves.began o.state is h) (moves.late o.state is h)
-    on_handled Start Joining o is sender named h = h
-    on_handled Start Running o is sender named h = h
-    on_handled Start Down o is sender named h = h
-    on_handled Crash Waiting o is sender named h = h
-    on_handled Crash Joining o is sender named h = on_crashed o h
-    on_handled Crash Running o is sender named h = on_crashed o h
-    on_handled Crash Down o is sender named h = h
-    on_handled JoinTimer Waiting o is sender named h = h
-    on_handled JoinTimer Joining o is sender named h = on_join_asked o h
-    on_handled JoinTimer Running o is sender named h = h
-    on_handled JoinTimer Down o is sender named h = h
-    on_handled PeriodTimer Waiting o is sender named h = h
-    on_handled PeriodTimer Joining o is sender named h = h
-    on_handled PeriodTimer Running o is sender named h = on_period o h
-    on_handled PeriodTimer Down o is sender named h = h
-    on_handled (TimeoutTimer seq) Waiting o is sender named h = h
-    on_handled (TimeoutTimer seq) Joining o is sender named h = h
-    on_handled (TimeoutTimer seq) Running o is sender named h = on_timed_out seq o.state.probe o refl h
-    on_handled (TimeoutTimer seq) Down o is sender named h = h
-    on_handled (NackTimer initiator seq) Waiting o is sender named h = h
-    on_handled (NackTimer initiator seq) Joining o is sender named h = h
-    on_handled (NackTimer initiator seq) Running o is sender named h = on_nack_due initiator seq o h
-    on_handled (NackTimer initiator seq) Down o is sender named h = h
-    on_handled (SuspicionTimer subject) Waiting o is sender named h = h
-    on_handled (SuspicionTimer subject) Joining o is sender named h = h
-    on_handled (SuspicionTimer subject) Running o is sender named h = on_over subject o h
-    on_handled (SuspicionTimer subject) Down o is sender named h = h
-    on_handled Join Waiting o is sender named h = h
-    on_handled Join Joining o is sender named h = h
-    on_handled Join Running o is sender named h = on_join_handled o sender h
-    on_handled Join Down o is sender named h = h
-    on_handled (Welcome entries) Waiting o is sender named h = h
-    on_handled (Welcome entries) Joining o is sender named h = on_joined entries o named h
-    on_handled (Welcome entries) Running o is sender named h = h
-    on_handled (Welcome entries) Down o is sender named h = h
-    on_handled (Ping initiator seq updates) Waiting o is sender named h = h
-    on_handled (Ping initiator seq updates) Joining o is sender named h = h
-    on_handled (Ping initiator seq updates) Running o is sender named h = on_ping_heard initiator seq updates o named.1 h
-    on_handled (Ping initiator seq updates) Down o is sender named h = h
-    on_handled (PingReq seq target updates) Waiting o is sender named h = h
-    on_handled (PingReq seq target updates) Joining o is sender named h = h
-    on_handled (PingReq seq target updates) Running o is sender named h = on_ping_req_heard seq target updates o named.1 h
-    on_handled (PingReq seq target updates) Down o is sender named h = h
-    on_handled (Ack initiator seq updates) Waiting o is sender named h = h
-    on_handled (Ack initiator seq updates) Joining o is sender named h = h
-    on_handled (Ack initiator seq updates) Running o is sender named h = on_ack_heard initiator seq updates o named.1 h
-    on_handled (Ack initiator seq updates) Down o is sender named h = h
-    on_handled (Nack seq) Waiting o is sender named h = h
-    on_handled (Nack seq) Joining o is sender named h = h
-    on_handled (Nack seq) Running o is sender named h = on_nack_heard seq o h
-    on_handled (Nack seq) Down o is sender named h = h
+    pub on_plain : (content : Content) (phase : Phase) (o : Effect) → o.state.phase ≡ phase → Named k.from → NamesOnly Named (Unit {0}) content → R o.state → R (plain_handled s k content phase o).state
+    unfolding plain_handled
+    on_plain Start Waiting o is sender named h = on_started o (moves.began o.state is h) (moves.late o.state is h)
+    on_plain Start Joining o is sender named h = h
+    on_plain Start Running o is sender named h = h
+    on_plain Start Down o is sender named h = h
+    on_plain Crash Waiting o is sender named h = h
+    on_plain Crash Joining o is sender named h = on_crashed o h
+    on_plain Crash Running o is sender named h = on_crashed o h
+    on_plain Crash Down o is sender named h = h
+    on_plain JoinTimer Waiting o is sender named h = h
+    on_plain JoinTimer Joining o is sender named h = on_join_asked o h
+    on_plain JoinTimer Running o is sender named h = h
+    on_plain JoinTimer Down o is sender named h = h
+    on_plain PeriodTimer Waiting o is sender named h = h
+    on_plain PeriodTimer Joining o is sender named h = h
+    on_plain PeriodTimer Running o is sender named h = on_period o h
+    on_plain PeriodTimer Down o is sender named h = h
+    on_plain (TimeoutTimer seq) Waiting o is sender named h = h
+    on_plain (TimeoutTimer seq) Joining o is sender named h = h
+    on_plain (TimeoutTimer seq) Running o is sender named h = on_timed_out seq o.state.probe o refl h
+    on_plain (TimeoutTimer seq) Down o is sender named h = h
+    on_plain (NackTimer initiator seq) Waiting o is sender named h = h
+    on_plain (NackTimer initiator seq) Joining o is sender named h = h
+    on_plain (NackTimer initiator seq) Running o is sender named h = on_nack_due initiator seq o h
+    on_plain (NackTimer initiator seq) Down o is sender named h = h
+    on_plain (SuspicionTimer subject) Waiting o is sender named h = h
+    on_plain (SuspicionTimer subject) Joining o is sender named h = h
+    on_plain (SuspicionTimer subject) Running o is sender named h = on_over subject o h
+    on_plain (SuspicionTimer subject) Down o is sender named h = h
+    on_plain Join Waiting o is sender named h = h
+    on_plain Join Joining o is sender named h = h
+    on_plain Join Running o is sender named h = on_join_handled o sender h
+    on_plain Join Down o is sender named h = h
+    on_plain (Welcome entries) Waiting o is sender named h = h
+    on_plain (Welcome entries) Joining o is sender named h = on_joined entries o named h
+    on_plain (Welcome entries) Running o is sender named h = h
+    on_plain (Welcome entries) Down o is sender named h = h
+    on_plain (Ping initiator seq updates) Waiting o is sender named h = h
+    on_plain (Ping initiator seq updates) Joining o is sender named h = h
+    on_plain (Ping initiator seq updates) Running o is sender named h = on_ping_heard initiator seq updates o named.1 h
+    on_plain (Ping initiator seq updates) Down o is sender named h = h
+    on_plain (PingReq seq target updates) Waiting o is sender named h = h
+    on_plain (PingReq seq target updates) Joining o is sender named h = h
+    on_plain (PingReq seq target updates) Running o is sender named h = on_ping_req_heard seq target updates o named.1 h
+    on_plain (PingReq seq target updates) Down o is sender named h = h
+    on_plain (Ack initiator seq updates) Waiting o is sender named h = h
+    on_plain (Ack initiator seq updates) Joining o is sender named h = h
+    on_plain (Ack initiator seq updates) Running o is sender named h = on_ack_heard initiator seq updates o named.1 h
+    on_plain (Ack initiator seq updates) Down o is sender named h = h
+    on_plain (Nack seq) Waiting o is sender named h = h
+    on_plain (Nack seq) Joining o is sender named h = h
+    on_plain (Nack seq) Running o is sender named h = on_nack_heard seq o h
+    on_plain (Nack seq) Down o is sender named h = h
+    on_plain Leave phase o is sender named h = h
+    on_plain Bye phase o is sender named h = h
 
-    pub on_step : (content : Content) (t : State) → Named k.from → NamesOnly Named content → R t → R (step s k content t).state
+    pub on_handled : (content : Content) (phase : Phase) (o : Effect) → o.state.phase ≡ phase → Named k.from → NamesOnly Named (Unit {0}) content → R o.state → R (handled s k content phase o).state
+    unfolding handled
+    on_handled Leave Joining o is sender named h = on_withdrawn o h
+    on_handled Leave Running o is sender named h = on_departed o h
+    on_handled Bye Running o is sender named h = on_confirmed k.from (get o.state.table k.from) o refl h
+    on_handled content phase o is sender named h = on_plain content phase o is sender named h
+
+    pub on_step : (content : Content) (t : State) → Named k.from → NamesOnly Named (Unit {0}) content → R t → R (step s k content t).state
     unfolding step
     on_step content t sender named h = on_handled content t.phase (unchanged t) refl sender named h
 
@@ -447,7 +484,7 @@ module _ (s : Setup) (k : Key) (Named : ℕ → Type 0) (R : State → Type 0) (
     module _ (Q : State → Type 0) (content : Content) (t : State) (to_Q : (v : State) → R v → Q v) (before : Q t) (up : ¬ (t.phase ≡ Waiting) → R t)
         (once : t.phase ≡ Waiting → R (at_once s k t)) (late : t.phase ≡ Waiting → R (at_late t)) (sender : Named k.from) where
       on_waiting : (c : Content) → t.phase ≡ Waiting → Q (handled s k c Waiting (unchanged t)).state
-      unfolding handled
+      unfolding handled plain_handled
       on_waiting Start is = to_Q _ (on_started (unchanged t) (once is) (late is))
       on_waiting Crash is = before
       on_waiting JoinTimer is = before
@@ -461,13 +498,15 @@ module _ (s : Setup) (k : Key) (Named : ℕ → Type 0) (R : State → Type 0) (
       on_waiting (PingReq seq target updates) is = before
       on_waiting (Ack initiator seq updates) is = before
       on_waiting (Nack seq) is = before
+      on_waiting Leave is = before
+      on_waiting Bye is = before
 
-      on_phase : (phase : Phase) → t.phase ≡ phase → NamesOnly Named content → Q (handled s k content phase (unchanged t)).state
+      on_phase : (phase : Phase) → t.phase ≡ phase → NamesOnly Named (Unit {0}) content → Q (handled s k content phase (unchanged t)).state
       on_phase Waiting is named = on_waiting content is
       on_phase Joining is named = to_Q _ (on_handled content Joining (unchanged t) is sender named (up (λ waits. absurd (let e = waits in cc))))
       on_phase Running is named = to_Q _ (on_handled content Running (unchanged t) is sender named (up (λ waits. absurd (let e = waits in cc))))
       on_phase Down is named = to_Q _ (on_handled content Down (unchanged t) is sender named (up (λ waits. absurd (let e = waits in cc))))
 
-      pub on_any_step : NamesOnly Named content → Q (step s k content t).state
+      pub on_any_step : NamesOnly Named (Unit {0}) content → Q (step s k content t).state
       unfolding step
       on_any_step named = on_phase t.phase refl named

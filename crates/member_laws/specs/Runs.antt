@@ -8,7 +8,7 @@ use Rattle.trace.specs.declared.row.Row.{Row}
 use Rattle.member.specs.declared.content.Content.{Content}
 use Rattle.member.specs.State.{State}
 use Rattle.member.specs.Opening.{opening}
-use Rattle.member.specs.Step.{step}
+use Rattle.member.specs.Step.{step, plain_step}
 use Rattle.member.specs.Worn.{IsWorn}
 use Rattle.member_laws.specs.Words.{IsConsistent, IsAmongMembers}
 
@@ -19,6 +19,10 @@ Cluster = World State Content
 -- these are the rows of the scenario's run, in the order made
 abbrev pub IsRunOf : Setup → List Row → Type 0
 IsRunOf s rows = (keys : List Key) × SequentialRun (step s) s.end (opening s) keys rows
+
+-- these are the rows of the run in which a leave and a bye have no effect, as in the format's first version
+abbrev pub IsPlainRunOf : Setup → List Row → Type 0
+IsPlainRunOf s rows = (keys : List Key) × SequentialRun (plain_step s) s.end (opening s) keys rows
 
 -- next steps lead from the one world to the other, none later than the end
 abbrev pub LeadsTo : Setup → Cluster → Cluster → Type 0

@@ -1,28 +1,29 @@
 //! What holds of every step, stated over the definitions alone.
 
-ghost use Rattle.std.specs.Prelude.{◌≡◌, ◌≢◌, ◌<◌, ◌≤◌, ◌+◌, ◌^◌, ℕ, Bool, false, Some, None, List, All};
+ghost use Rattle.std.specs.Prelude.{◌≡◌, ◌≢◌, ◌<◌, ◌≤◌, ◌+◌, ◌^◌, ℕ, Bool, false, Some, None, List, [], All};
 ghost use Rattle.std.specs.FinMap.{get};
 ghost use Rattle.std.specs.FinSet as set;
 ghost use Rattle.base.specs.declared.key.Key.{Key};
 ghost use Rattle.base.specs.World.{Run};
 ghost use Rattle.scenario.specs.Setup.{Setup, IsSound};
 ghost use Rattle.trace.specs.declared.row.Row.{Row};
+ghost use Rattle.trace.specs.declared.row.What.TheVariants as what;
 ghost use Rattle.trace.specs.Text.{NamesMembers};
 ghost use Rattle.incarnation.specs.declared.Claim.{Claim};
 ghost use Rattle.incarnation.specs.declared.Claim.TheVariants.{Confirm};
 ghost use Rattle.incarnation.specs.declared.Update.{Update};
 ghost use Rattle.member.specs.declared.content.Content.{Content};
-ghost use Rattle.member.specs.declared.content.Content.TheVariants.{Start};
+ghost use Rattle.member.specs.declared.content.Content.TheVariants.{Start, Leave, Bye};
 ghost use Rattle.member.specs.declared.member.Phase.TheVariants.{Waiting, Down};
 ghost use Rattle.member.specs.State.{State};
 ghost use Rattle.member.specs.Opening.{opening_state, opening};
 ghost use Rattle.member.specs.Turn.{Effect, unchanged};
 ghost use Rattle.member.specs.Send.{buddy_of};
 ghost use Rattle.member.specs.Apply.{applied};
-ghost use Rattle.member.specs.Step.{step};
+ghost use Rattle.member.specs.Step.{step, plain_step};
 ghost use Rattle.member_laws.specs.Words.{AccusesOneself, WaitsAsOpened, IsWithinCeiling, IsTimely, IsConsistent, IsAmongMembers};
 ghost use Rattle.member_laws.specs.Rows.{IsOn};
-ghost use Rattle.member_laws.specs.Runs.{Cluster, LeadsTo, IsReached};
+ghost use Rattle.member_laws.specs.Runs.{Cluster, IsRunOf, IsPlainRunOf, LeadsTo, IsReached};
 
 /// A member's incarnation number rises by one where it hears itself suspected at its present
 /// number, and stays at whatever else it hears. No step lowers it.
@@ -143,4 +144,18 @@ pub fn a_run_keeps_moments_in_range()
         → get w.pending k ≡ Some c → k.at < 2 ^ 42 }
     ensures states { (s : Setup) (w : Cluster) (m : ℕ) (t : State) → IsSound s → IsReached s w
         → get w.members m ≡ Some t → IsTimely s t }
+{}
+
+/// Where nobody leaves, as in each scenario of the format's first version, no run has a leave or a bye
+/// among its events, and no row tells of one. On all other events the step is that of the first version, and so
+/// the runs are the same.
+pub fn where_nobody_leaves_runs_are_plain()
+    ensures step { (s : Setup) (k : Key) (c : Content) (t : State) → c ≢ Leave → c ≢ Bye
+        → step s k c t ≡ plain_step s k c t }
+    ensures events { (s : Setup) (w : Cluster) (k : Key) (c : Content) → s.leaves ≡ [] → IsReached s w
+        → get w.pending k ≡ Some c → (c ≢ Leave) × (c ≢ Bye) }
+    ensures runs { (s : Setup) (rows : List Row) → s.leaves ≡ [] → IsRunOf s rows → IsPlainRunOf s rows }
+    ensures plain_runs { (s : Setup) (rows : List Row) → s.leaves ≡ [] → IsPlainRunOf s rows → IsRunOf s rows }
+    ensures rows { (s : Setup) (rows : List Row) → s.leaves ≡ [] → IsRunOf s rows
+        → All (λ (row : Row). (row.what ≢ what.Leave) × (row.what ≢ what.Bye)) rows }
 {}

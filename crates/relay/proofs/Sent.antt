@@ -12,6 +12,8 @@ use Rattle.scenario.specs.contracts.settings.Group as group
 use Rattle.scenario.specs.contracts.settings.Path as path
 use Rattle.scenario.specs.contracts.settings.Slow as slow
 use Rattle.scenario.specs.contracts.settings.Crash as crash
+use Rattle.scenario.specs.contracts.settings.Leave as leave
+use Rattle.scenario.specs.contracts.settings.Cut as cut
 use Rattle.trace.specs.contracts.row.Row as row
 use Rattle.relay.specs.contracts.batch.Batch as batch
 use Rattle.relay.specs.contracts.relay.Relay as relay
@@ -25,7 +27,7 @@ pub take_seat_send : IsSend take_seat.the_row
 take_seat_send = search (seat.the_send, badge.the_send, crosses, sendable) depth 60
 
 row_send : IsSend row.the_row
-row_send = search (crosses, sendable) depth 60
+row_send = search (crosses, sendable) depth 60 fits 10000
 
 pub batch_send : IsSend batch.the_row
 batch_send = search (row_send, crosses, sendable) depth 60
@@ -45,5 +47,11 @@ slow_sync = search (crosses, sendable) depth 60
 crash_sync : IsSync crash.the_row
 crash_sync = search (crosses, sendable) depth 60
 
+leave_sync : IsSync leave.the_row
+leave_sync = search (crosses, sendable) depth 60
+
+cut_sync : IsSync cut.the_row
+cut_sync = search (crosses, sendable) depth 60
+
 pub scenario_sync : IsSync scenario.the_row
-scenario_sync = search (group_sync, path_sync, slow_sync, crash_sync, crosses, sendable) depth 60
+scenario_sync = search (group_sync, path_sync, slow_sync, crash_sync, leave_sync, cut_sync, crosses, sendable) depth 60

@@ -1,4 +1,4 @@
--- What one row more tells of a crash.
+-- What one row more tells of a departure.
 use Rattle.std.proofs.Common.{◌≡◌, ℕ, ◌+◌, Bool, true, false, cond, ◌&&◌, List, [], ◌∷◌, ◌++◌, Option, Some, None, refl, sym, ap, ◌∙◌, add-zero, append-nil}
 use Rattle.std.specs.Prelude.{filter, find}
 use Rattle.std.specs.Option.{option_or}
@@ -12,9 +12,9 @@ use Rattle.trace.specs.contracts.row.What.{the_type}
 use Rattle.trace.specs.declared.row.What.{What}
 use Rattle.trace.specs.declared.row.What.TheVariants as what
 use Rattle.trace.specs.declared.row.Row.{Row}
-use Rattle.reports.specs.declared.crash.Detection.{Detection}
+use Rattle.reports.specs.declared.departure.Detection.{Detection}
 use Rattle.reports.specs.Rows.{has_kind, is_about, tells_of}
-use Rattle.reports.specs.Crashes.{moment_of, detection_of}
+use Rattle.reports.specs.Departures.{moment_of, detection_of}
 use Rattle.reports.specs.Failures.{moment_if, detection_if, detection_with}
 
 -- ---- the first and the last of rows with one more

@@ -1,4 +1,4 @@
--- What one row more makes of the crashes and of the makers of false claims that are kept.
+-- What one row more makes of the departures and of the makers of false claims that are kept.
 use Rattle.std.proofs.Common.{◌≡◌, ℕ, ◌+◌, ◌-◌, ◌<◌, ◌^◌, ◌==◌, Bool, true, false, cond, ◌&&◌, ◌||◌, not, List, [], ◌∷◌, ◌++◌, length, get_or, set, take, drop, map, Option, Some, None, refl, sym, ap, subst, ◌∙◌, arith, add-zero, append-nil}
 use Rattle.std.specs.Prelude.{Result, Ok, Err, All, OnOk, OnErr, if◌then◌else◌}
 use Rattle.std.specs.Option.{option_map_or}
@@ -9,119 +9,145 @@ use Rattle.std.proofs.lemmas.List.Elements.{All-get_or}
 use Rattle.trace.specs.declared.row.What.{What}
 use Rattle.trace.specs.declared.row.What.TheVariants as what
 use Rattle.trace.specs.declared.row.Row.{Row}
-use Rattle.reports.specs.declared.crash.CrashTold.{CrashTold}
+use Rattle.reports.specs.declared.departure.Departure.{Departure}
 use Rattle.reports.specs.declared.false_positives.Maker.{Maker}
 use Rattle.reports.specs.Rows.{has_kind, is_about, tells_of}
-use Rattle.reports.specs.Crashes.{crashes_of}
-use Rattle.reports.specs.FalsePositives.{crashed_in, is_about_one}
-use Rattle.reports.specs.Failures.{crash_with, crash_at, is_about_crash, maker_of, makers_of}
+use Rattle.reports.specs.Departures.{departures_of, crashes_of, leaves_of}
+use Rattle.reports.specs.FalsePositives.{ways_to_depart, departed_by, departed_in, is_about_one}
+use Rattle.reports.specs.Failures.{departure_with, departure_at, is_about_departed, maker_of, makers_of}
 use Rattle.reports.proofs.Detections.{tells_of-other, same_detection}
-use Rattle.reports.proofs.Pushes.{crashes_of-push, makers_of-push, crash_member, crashed_members}
+use Rattle.reports.proofs.Pushes.{departures_of-push, makers_of-push, departed_member, departed_members}
 
--- ---- crashes of which a row tells nothing
+-- ---- departures of which a row tells nothing
 
-untold : (row : Row) (crash : CrashTold) → tells_of what.Suspect crash.member row ≡ false → tells_of what.Confirm crash.member row ≡ false → crash_with row crash ≡ crash
-untold row crash s c = ap (λ d. record crash { detection = d }) (sym (same_detection crash.member row crash.detection s c))
+untold : (row : Row) (departure : Departure) → tells_of what.Suspect departure.member row ≡ false → tells_of what.Confirm departure.member row ≡ false → departure_with row departure ≡ departure
+untold row departure s c = ap (λ d. record departure { detection = d }) (sym (same_detection departure.member row departure.detection s c))
 
--- a row that is no claim tells nothing of any crash
-unclaimed : (row : Row) (crashes : List CrashTold) → has_kind what.Suspect row ≡ false → has_kind what.Confirm row ≡ false → map (crash_with row) crashes ≡ crashes
+-- a row that is no claim tells nothing of any departure
+unclaimed : (row : Row) (departures : List Departure) → has_kind what.Suspect row ≡ false → has_kind what.Confirm row ≡ false → map (departure_with row) departures ≡ departures
 unclaimed row [] s c = refl
-unclaimed row (crash ∷ crashes) s c =
-    ap (λ x. x ∷ map (crash_with row) crashes) (untold row crash (ap (λ b. b && is_about crash.member row) s) (ap (λ b. b && is_about crash.member row) c))
-    ∙ ap (λ l. crash ∷ l) (unclaimed row crashes s c)
+unclaimed row (departure ∷ departures) s c =
+    ap (λ x. x ∷ map (departure_with row) departures) (untold row departure (ap (λ b. b && is_about departure.member row) s) (ap (λ b. b && is_about departure.member row) c))
+    ∙ ap (λ l. departure ∷ l) (unclaimed row departures s c)
 
-or-left : (a b : Bool) → (a || b) ≡ false → a ≡ false
+pub or-left : (a b : Bool) → (a || b) ≡ false → a ≡ false
 or-left false b none = refl
 or-left true b none = none
 
-or-right : (a b : Bool) → (a || b) ≡ false → b ≡ false
+pub or-right : (a b : Bool) → (a || b) ≡ false → b ≡ false
 or-right false b none = none
 or-right true b none = cc
 
--- no crash is of a member that the row is about
-about_none : (row : Row) (about : Option ℕ) (crash : CrashTold) (crashes : List CrashTold)
-    → option_map_or (λ a. list_any (λ c. c.member == a) (crash ∷ crashes)) about false ≡ false
-    → (option_map_or (λ a. a == crash.member) about false ≡ false) × (option_map_or (λ a. list_any (λ c. c.member == a) crashes) about false ≡ false)
-about_none row None crash crashes none = (refl, refl)
-about_none row (Some a) crash crashes none = (other crash.member a (or-left (crash.member == a) _ none), or-right (crash.member == a) _ none)
+-- no departure is of a member that the row is about
+about_none : (row : Row) (about : Option ℕ) (departure : Departure) (departures : List Departure)
+    → option_map_or (λ a. list_any (λ c. c.member == a) (departure ∷ departures)) about false ≡ false
+    → (option_map_or (λ a. a == departure.member) about false ≡ false) × (option_map_or (λ a. list_any (λ c. c.member == a) departures) about false ≡ false)
+about_none row None departure departures none = (refl, refl)
+about_none row (Some a) departure departures none = (other departure.member a (or-left (departure.member == a) _ none), or-right (departure.member == a) _ none)
   where
     other : (m a : ℕ) → (m == a) ≡ false → (a == m) ≡ false
     other m a h = grind (arith)
 
--- a row that is about none of those who crashed tells nothing of their crashes
-pub unrelated : (row : Row) (crashes : List CrashTold) → is_about_crash crashes row ≡ false → map (crash_with row) crashes ≡ crashes
+-- a row that is about none of those who departed tells nothing of their departures
+pub unrelated : (row : Row) (departures : List Departure) → is_about_departed departures row ≡ false → map (departure_with row) departures ≡ departures
 unrelated row [] none = refl
-unrelated row (crash ∷ crashes) none =
-    let both = about_none row row.about crash crashes none in
-    ap (λ x. x ∷ map (crash_with row) crashes) (untold row crash (tells_of-other what.Suspect crash.member row both.0) (tells_of-other what.Confirm crash.member row both.0))
-    ∙ ap (λ l. crash ∷ l) (unrelated row crashes both.1)
+unrelated row (departure ∷ departures) none =
+    let both = about_none row row.about departure departures none in
+    ap (λ x. x ∷ map (departure_with row) departures) (untold row departure (tells_of-other what.Suspect departure.member row both.0) (tells_of-other what.Confirm departure.member row both.0))
+    ∙ ap (λ l. departure ∷ l) (unrelated row departures both.1)
 
--- ---- a loop over all crashes
+-- ---- a loop over all departures
 
-pub seen_more : (row : Row) (these now : List CrashTold) (i : ℕ) (x y : CrashTold) → i < length these → now ≡ map (crash_with row) (take i these) ++ drop i these
-    → x ≡ get_or now i x → y ≡ crash_with row (get_or now i x) → set now i y ≡ map (crash_with row) (take (i + 1) these) ++ drop (i + 1) these
+pub seen_more : (row : Row) (these now : List Departure) (i : ℕ) (x y : Departure) → i < length these → now ≡ map (departure_with row) (take i these) ++ drop i these
+    → x ≡ get_or now i x → y ≡ departure_with row (get_or now i x) → set now i y ≡ map (departure_with row) (take (i + 1) these) ++ drop (i + 1) these
 seen_more row these now i x y lt so_far is seen =
-    ap (set now i) (seen ∙ ap (crash_with row) (sym is)) ∙ map_over_more (crash_with row) these now i x lt so_far is
+    ap (set now i) (seen ∙ ap (departure_with row) (sym is)) ∙ map_over_more (departure_with row) these now i x lt so_far is
 
--- the next crash has few confirmers, where all have that few before
-pub few_here : (row : Row) (these now : List CrashTold) (i : ℕ) (x : CrashTold) → i < length these → now ≡ map (crash_with row) (take i these) ++ drop i these
+-- the next departure has few confirmers, where all have that few before
+pub few_here : (row : Row) (these now : List Departure) (i : ℕ) (x : Departure) → i < length these → now ≡ map (departure_with row) (take i these) ++ drop i these
     → All (λ c. c.detection.confirmers < 2 ^ 63) these → (get_or now i x).detection.confirmers < 2 ^ 63
 few_here row these now i x lt so_far few =
-    let long : length (map (crash_with row) (take i these)) ≡ i = length-map (take i these) (crash_with row) ∙ length-take-le i these (omega (arith, lt)) in
+    let long : length (map (departure_with row) (take i these)) ≡ i = length-map (take i these) (departure_with row) ∙ length-take-le i these (omega (arith, lt)) in
     let none : i - i ≡ 0 = omega arith in
     let here : get_or now i x ≡ get_or these i x =
-    ap (λ l. get_or l i x) so_far ∙ get_or-append_right (map (crash_with row) (take i these)) (drop i these) i i x long (omega arith)
+    ap (λ l. get_or l i x) so_far ∙ get_or-append_right (map (departure_with row) (take i these)) (drop i these) i i x long (omega arith)
     ∙ ap (λ k. get_or (drop i these) k x) none ∙ get_or-drop i these 0 x ∙ ap (λ k. get_or these k x) (add-zero i) in
-    subst (λ (c : CrashTold). c.detection.confirmers < 2 ^ 63) (sym here) (All-get_or (λ c. c.detection.confirmers < 2 ^ 63) these i x lt few)
+    subst (λ (c : Departure). c.detection.confirmers < 2 ^ 63) (sym here) (All-get_or (λ c. c.detection.confirmers < 2 ^ 63) these i x lt few)
 
 -- ---- kinds of rows
 
 -- the claim of which a row doesn't tell has no new maker
 pub other_claim : (claim : What) (rows : List Row) (row : Row) → has_kind claim row ≡ false → makers_of claim (rows ++ row ∷ []) ≡ makers_of claim rows
 other_claim claim rows row other =
-    makers_of-push claim rows row ∙ ap (λ b. makers_of claim rows ++ cond (b && not (is_about_one (crashed_in rows) row)) (maker_of row ∷ []) []) other ∙ append-nil (makers_of claim rows)
+    makers_of-push claim rows row ∙ ap (λ b. makers_of claim rows ++ cond (b && not (is_about_one (departed_in ways_to_depart rows) row)) (maker_of row ∷ []) []) other ∙ append-nil (makers_of claim rows)
 
--- whether a row is about one of those who crashed
-list_any-members : (crashes : List CrashTold) (about : ℕ) → list_any (λ m. m == about) (map crash_member crashes) ≡ list_any (λ c. c.member == about) crashes
+-- whether a row is about one of those who departed
+list_any-members : (departures : List Departure) (about : ℕ) → list_any (λ m. m == about) (map departed_member departures) ≡ list_any (λ d. d.member == about) departures
 list_any-members [] about = refl
-list_any-members (crash ∷ crashes) about = ap (λ b. crash.member == about || b) (list_any-members crashes about)
+list_any-members (departure ∷ departures) about = ap (λ b. departure.member == about || b) (list_any-members departures about)
 
-about_one : (crashes : List CrashTold) (about : Option ℕ)
-    → option_map_or (λ a. list_any (λ m. m == a) (map crash_member crashes)) about false ≡ option_map_or (λ a. list_any (λ c. c.member == a) crashes) about false
-about_one crashes None = refl
-about_one crashes (Some a) = list_any-members crashes a
+about_these : (departures : List Departure) (row : Row) → is_about_one (map departed_member departures) row ≡ is_about_departed departures row
+about_these departures row = about_one departures row.about
+  where
+    about_one : (departures : List Departure) (about : Option ℕ)
+        → option_map_or (λ a. list_any (λ m. m == a) (map departed_member departures)) about false ≡ option_map_or (λ a. list_any (λ d. d.member == a) departures) about false
+    about_one departures None = refl
+    about_one departures (Some a) = list_any-members departures a
 
-about_crashed : (rows : List Row) (row : Row) → is_about_one (crashed_in rows) row ≡ is_about_crash (crashes_of rows) row
-about_crashed rows row = ap (λ members. is_about_one members row) (sym (crashed_members rows)) ∙ about_one (crashes_of rows) row.about
+any_of_two : (test : ℕ → Bool) (first second : List ℕ) → list_any test (first ++ (second ++ [])) ≡ (list_any test first || list_any test second)
+any_of_two test [] second = ap (list_any test) (append-nil second)
+any_of_two test (x ∷ first) second = ap (λ b. test x || b) (any_of_two test first second) ∙ regrouped (test x) (list_any test first) (list_any test second)
+  where
+    regrouped : (a b c : Bool) → (a || (b || c)) ≡ ((a || b) || c)
+    regrouped true b c = refl
+    regrouped false b c = refl
+
+about_two : (first second : List ℕ) (about : Option ℕ)
+    → option_map_or (λ a. list_any (λ m. m == a) (first ++ (second ++ []))) about false
+    ≡ (option_map_or (λ a. list_any (λ m. m == a) first) about false || option_map_or (λ a. list_any (λ m. m == a) second) about false)
+about_two first second None = refl
+about_two first second (Some a) = any_of_two (λ m. m == a) first second
+
+about_departed : (rows : List Row) (row : Row) → is_about_one (departed_in ways_to_depart rows) row ≡ (is_about_departed (crashes_of rows) row || is_about_departed (leaves_of rows) row)
+about_departed rows row =
+    about_two (departed_by rows what.Crash) (departed_by rows what.Leave) row.about
+    ∙ ap (λ b. b || is_about_one (departed_by rows what.Leave) row) (these what.Crash)
+    ∙ ap (λ b. is_about_departed (crashes_of rows) row || b) (these what.Leave)
+  where
+    these : (way : What) → is_about_one (departed_by rows way) row ≡ is_about_departed (departures_of way rows) row
+    these way = ap (λ members. is_about_one members row) (sym (departed_members way rows)) ∙ about_these (departures_of way rows) row
 
 not_then : (b : Bool) (maker : Maker) → cond (not b) (maker ∷ []) [] ≡ (if b then [] else maker ∷ [])
 not_then true maker = refl
 not_then false maker = refl
 
--- a claim has a new maker, if it is about none of those who crashed
-pub own_claim : (claim : What) (rows : List Row) (row : Row) (crashes : List CrashTold) (old new : List Maker) → has_kind claim row ≡ true → crashes ≡ crashes_of rows
-    → new ≡ old ++ (if is_about_crash crashes row then [] else maker_of row ∷ []) → old ≡ makers_of claim rows → new ≡ makers_of claim (rows ++ row ∷ [])
-own_claim claim rows row crashes old new told are is so_far =
-    is ∙ ap (λ l. l ++ (if is_about_crash crashes row then [] else maker_of row ∷ [])) so_far
-    ∙ ap (λ cs. makers_of claim rows ++ (if is_about_crash cs row then [] else maker_of row ∷ [])) are
-    ∙ sym (makers_of-push claim rows row ∙ ap (λ b. makers_of claim rows ++ cond (b && not (is_about_one (crashed_in rows) row)) (maker_of row ∷ []) []) told
-    ∙ ap (λ b. makers_of claim rows ++ cond (not b) (maker_of row ∷ []) []) (about_crashed rows row)
-    ∙ ap (λ l. makers_of claim rows ++ l) (not_then (is_about_crash (crashes_of rows) row) (maker_of row)))
+-- a claim has a new maker, if it is about none of those who departed
+pub own_claim : (claim : What) (rows : List Row) (row : Row) (crashes leaves : List Departure) (old new : List Maker) → has_kind claim row ≡ true → crashes ≡ crashes_of rows → leaves ≡ leaves_of rows
+    → new ≡ old ++ (if is_about_departed crashes row || is_about_departed leaves row then [] else maker_of row ∷ []) → old ≡ makers_of claim rows → new ≡ makers_of claim (rows ++ row ∷ [])
+own_claim claim rows row crashes leaves old new told crashed left is so_far =
+    is ∙ ap (λ l. l ++ (if is_about_departed crashes row || is_about_departed leaves row then [] else maker_of row ∷ [])) so_far
+    ∙ ap (λ ds. makers_of claim rows ++ (if is_about_departed ds row || is_about_departed leaves row then [] else maker_of row ∷ [])) crashed
+    ∙ ap (λ ds. makers_of claim rows ++ (if is_about_departed (crashes_of rows) row || is_about_departed ds row then [] else maker_of row ∷ [])) left
+    ∙ sym (makers_of-push claim rows row ∙ ap (λ b. makers_of claim rows ++ cond (b && not (is_about_one (departed_in ways_to_depart rows) row)) (maker_of row ∷ []) []) told
+    ∙ ap (λ b. makers_of claim rows ++ cond (not b) (maker_of row ∷ []) []) (about_departed rows row)
+    ∙ ap (λ l. makers_of claim rows ++ l) (not_then (is_about_departed (crashes_of rows) row || is_about_departed (leaves_of rows) row) (maker_of row)))
 
--- a row that isn't of a crash makes none
-pub no_crash : (rows : List Row) (row : Row) → has_kind what.Crash row ≡ false → crashes_of (rows ++ row ∷ []) ≡ map (crash_with row) (crashes_of rows)
-no_crash rows row other =
-    crashes_of-push rows row ∙ ap (λ b. map (crash_with row) (crashes_of rows) ++ cond b (crash_at row ∷ []) []) other ∙ append-nil (map (crash_with row) (crashes_of rows))
+-- a row that isn't of a departure makes none
+pub no_departure : (way : What) (rows : List Row) (row : Row) → has_kind way row ≡ false → departures_of way (rows ++ row ∷ []) ≡ map (departure_with row) (departures_of way rows)
+no_departure way rows row other =
+    departures_of-push way rows row ∙ ap (λ b. map (departure_with row) (departures_of way rows) ++ cond b (departure_at row ∷ []) []) other ∙ append-nil (map (departure_with row) (departures_of way rows))
 
--- a row that is no claim leaves the crashes
-pub same_crashes : (rows : List Row) (row : Row) → has_kind what.Crash row ≡ false → has_kind what.Suspect row ≡ false → has_kind what.Confirm row ≡ false → crashes_of (rows ++ row ∷ []) ≡ crashes_of rows
-same_crashes rows row crash suspect confirm = no_crash rows row crash ∙ unclaimed row (crashes_of rows) suspect confirm
+-- a row that is no claim leaves the departures
+pub same_departures : (way : What) (rows : List Row) (row : Row) → has_kind way row ≡ false → has_kind what.Suspect row ≡ false → has_kind what.Confirm row ≡ false
+    → departures_of way (rows ++ row ∷ []) ≡ departures_of way rows
+same_departures way rows row other suspect confirm = no_departure way rows row other ∙ unclaimed row (departures_of way rows) suspect confirm
 
--- a row of a crash adds it
-pub one_crash : (rows : List Row) (row : Row) → has_kind what.Crash row ≡ true → has_kind what.Suspect row ≡ false → has_kind what.Confirm row ≡ false → crashes_of (rows ++ row ∷ []) ≡ crashes_of rows ++ crash_at row ∷ []
-one_crash rows row crash suspect confirm =
-    crashes_of-push rows row ∙ ap (λ b. map (crash_with row) (crashes_of rows) ++ cond b (crash_at row ∷ []) []) crash
-    ∙ ap (λ l. l ++ crash_at row ∷ []) (unclaimed row (crashes_of rows) suspect confirm)
+-- a row of a departure adds it
+pub one_departure : (way : What) (rows : List Row) (row : Row) → has_kind way row ≡ true → has_kind what.Suspect row ≡ false → has_kind what.Confirm row ≡ false
+    → departures_of way (rows ++ row ∷ []) ≡ departures_of way rows ++ departure_at row ∷ []
+one_departure way rows row departs suspect confirm =
+    departures_of-push way rows row ∙ ap (λ b. map (departure_with row) (departures_of way rows) ++ cond b (departure_at row ∷ []) []) departs
+    ∙ ap (λ l. l ++ departure_at row ∷ []) (unclaimed row (departures_of way rows) suspect confirm)
 
 -- ---- a clause of what succeeds, and one of what fails
 
@@ -133,10 +159,10 @@ pub on_err : {A E : Type 0} (r : Result A E) {P Q : Type 0} → (P → Q) → On
 on_err (Ok x) f held = tt
 on_err (Err e) f held = f held
 
-pub on_ok_two : {A E : Type 0} (r : Result A E) {P S Q : Type 0} → (P → S → Q) → OnOk r P → OnOk r S → OnOk r Q
-on_ok_two (Ok x) f held too = f held too
-on_ok_two (Err e) f held too = tt
+pub on_ok_three : {A E : Type 0} (r : Result A E) {P S T Q : Type 0} → (P → S → T → Q) → OnOk r P → OnOk r S → OnOk r T → OnOk r Q
+on_ok_three (Ok x) f held too also = f held too also
+on_ok_three (Err e) f held too also = tt
 
-pub on_err_two : {A E : Type 0} (r : Result A E) {P S Q : Type 0} → (P → S → Q) → OnErr r P → OnErr r S → OnErr r Q
-on_err_two (Ok x) f held too = tt
-on_err_two (Err e) f held too = f held too
+pub on_err_three : {A E : Type 0} (r : Result A E) {P S T Q : Type 0} → (P → S → T → Q) → OnErr r P → OnErr r S → OnErr r T → OnErr r Q
+on_err_three (Ok x) f held too also = tt
+on_err_three (Err e) f held too also = f held too also

@@ -4,3 +4,4 @@ pub mod Places
 pub mod Pushes
 pub mod Keeping
 pub mod Makers
+pub mod Versions

@@ -9,7 +9,7 @@ use Rattle.trace.specs.declared.row.What.{What}
 use Rattle.trace.specs.declared.row.Row.{Row}
 use Rattle.trace.specs.Text.{NamesMembers}
 use Rattle.reports.specs.Rows.{rows_in_place}
-use Rattle.reports.specs.FalsePositives.{is_false_positive, is_healthy_false_positive, false_positives, healthy_false_positives}
+use Rattle.reports.specs.FalsePositives.{ways_to_depart, is_false_positive, is_healthy_false_positive, false_positives, healthy_false_positives}
 use Rattle.reports.specs.Failures.{makers_of, is_healthy_maker}
 use Rattle.reports.proofs.Places.{All-placed_after}
 use Rattle.reports.proofs.Pushes.{placed_maker}
@@ -30,18 +30,18 @@ module _ {X Y : Type 0} (make : X → Y) (kept : X → Bool) (test : Y → Bool)
       ap length (made_one (kept x) x (filter kept xs))
       ∙ longer (kept x && test (make x)) (make x) x (filter test (map make (filter kept xs))) (filter (λ x. kept x && test (make x)) xs) (count_made xs)
 
-pub all_makers : (claim : What) (rows : List Row) → length (makers_of claim rows) ≡ false_positives claim rows
-all_makers claim rows = length-map (filter (is_false_positive claim) (rows_in_place rows)) placed_maker ∙ length-filter (is_false_positive claim) (rows_in_place rows)
+pub all_makers : (claim : What) (rows : List Row) → length (makers_of claim rows) ≡ false_positives ways_to_depart claim rows
+all_makers claim rows = length-map (filter (is_false_positive ways_to_depart claim) (rows_in_place rows)) placed_maker ∙ length-filter (is_false_positive ways_to_depart claim) (rows_in_place rows)
 
-pub healthy_makers : (s : Setup) (claim : What) (rows : List Row) → count_by (is_healthy_maker s) (makers_of claim rows) ≡ healthy_false_positives s claim rows
+pub healthy_makers : (s : Setup) (claim : What) (rows : List Row) → count_by (is_healthy_maker s) (makers_of claim rows) ≡ healthy_false_positives s ways_to_depart claim rows
 healthy_makers s claim rows =
     sym (length-filter (is_healthy_maker s) (makers_of claim rows))
-    ∙ count_made placed_maker (is_false_positive claim) (is_healthy_maker s) (rows_in_place rows)
-    ∙ length-filter (is_healthy_false_positive s claim) (rows_in_place rows)
+    ∙ count_made placed_maker (is_false_positive ways_to_depart claim) (is_healthy_maker s) (rows_in_place rows)
+    ∙ length-filter (is_healthy_false_positive s ways_to_depart claim) (rows_in_place rows)
 
 -- who makes a false claim is a member where the rows name members alone
 pub makers_are_members : (s : Setup) (claim : What) (rows : List Row) → All (NamesMembers s) rows → All (λ maker. maker.member < member_count s) (makers_of claim rows)
 makers_are_members s claim rows named =
-    All-map (λ maker. maker.member < member_count s) placed_maker (filter (is_false_positive claim) (rows_in_place rows))
-    (All-filter (is_false_positive claim) (λ p. p.row.member < member_count s) (rows_in_place rows)
+    All-map (λ maker. maker.member < member_count s) placed_maker (filter (is_false_positive ways_to_depart claim) (rows_in_place rows))
+    (All-filter (is_false_positive ways_to_depart claim) (λ p. p.row.member < member_count s) (rows_in_place rows)
     (All-placed_after (λ row. row.member < member_count s) [] rows (All-weaker (NamesMembers s) (λ row. row.member < member_count s) (λ row names. names.member) rows named)))

@@ -3,10 +3,11 @@ use Rattle.std.proofs.Common.{◌<◌, List, [], ◌∷◌, ◌++◌}
 use Rattle.std.specs.Prelude.{All, filter}
 use Rattle.std.proofs.lemmas.List.Elements.{All-nil, All-cons, All-head, All-tail, All-map, All-filter, All-weaker}
 use Rattle.scenario.specs.Setup.{Setup, member_count}
+use Rattle.trace.specs.declared.row.What.{What}
 use Rattle.trace.specs.declared.row.Row.{Row}
 use Rattle.trace.specs.Text.{NamesMembers}
 use Rattle.reports.specs.Rows.{rows_in_place, placed_after}
-use Rattle.reports.specs.Crashes.{crash_told, is_crash, crashes_of}
+use Rattle.reports.specs.Departures.{departure_told, is_departure, departures_of}
 
 -- what holds of each row holds of each in its place
 pub All-placed_after : (P : Row → Type 0) (earlier rows : List Row) → All P rows → All (λ p. P p.row) (placed_after earlier rows)
@@ -15,9 +16,9 @@ All-placed_after P earlier (row ∷ later) all =
     All-cons (λ p. P p.row) (record { earlier = earlier; row = row; later = later }) (placed_after (earlier ++ row ∷ []) later)
     (All-head P row later all) (All-placed_after P (earlier ++ row ∷ []) later (All-tail P row later all))
 
--- those who crash are members where the rows name members alone
-pub crashed_are_members : (s : Setup) (rows : List Row) → All (NamesMembers s) rows → All (λ crash. crash.member < member_count s) (crashes_of rows)
-crashed_are_members s rows named =
-    All-map (λ crash. crash.member < member_count s) crash_told (filter is_crash (rows_in_place rows))
-    (All-filter is_crash (λ p. p.row.member < member_count s) (rows_in_place rows)
+-- those who depart are members where the rows name members alone
+pub departed_are_members : (s : Setup) (way : What) (rows : List Row) → All (NamesMembers s) rows → All (λ departure. departure.member < member_count s) (departures_of way rows)
+departed_are_members s way rows named =
+    All-map (λ departure. departure.member < member_count s) departure_told (filter (is_departure way) (rows_in_place rows))
+    (All-filter (is_departure way) (λ p. p.row.member < member_count s) (rows_in_place rows)
     (All-placed_after (λ row. row.member < member_count s) [] rows (All-weaker (NamesMembers s) (λ row. row.member < member_count s) (λ row names. names.member) rows named)))

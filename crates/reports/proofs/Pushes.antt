@@ -7,13 +7,13 @@ use Rattle.std.proofs.lemmas.List.Sums.{count_by-le-length}
 use Rattle.trace.specs.declared.row.What.{What}
 use Rattle.trace.specs.declared.row.What.TheVariants as what
 use Rattle.trace.specs.declared.row.Row.{Row}
-use Rattle.reports.specs.declared.crash.Detection.{Detection}
-use Rattle.reports.specs.declared.crash.CrashTold.{CrashTold}
+use Rattle.reports.specs.declared.departure.Detection.{Detection}
+use Rattle.reports.specs.declared.departure.Departure.{Departure}
 use Rattle.reports.specs.declared.false_positives.Maker.{Maker}
 use Rattle.reports.specs.Rows.{Placed, rows_in_place, placed_after, has_kind, tells_of}
-use Rattle.reports.specs.Crashes.{crash_told, is_crash, crashes_of}
-use Rattle.reports.specs.FalsePositives.{crashed_in, is_false_claim, is_false_positive}
-use Rattle.reports.specs.Failures.{crash_with, crash_at, maker_of, makers_of}
+use Rattle.reports.specs.Departures.{departure_told, is_departure, departures_of}
+use Rattle.reports.specs.FalsePositives.{ways_to_depart, departed_by, departed_in, is_false_claim, is_false_positive}
+use Rattle.reports.specs.Failures.{departure_with, departure_at, maker_of, makers_of}
 use Rattle.reports.proofs.Detections.{detection-push}
 
 -- a row in its place, with one row more after it
@@ -57,23 +57,24 @@ made-one : {X : Type 0} (make : Placed → X) (keep : Bool) (p : Placed) → map
 made-one make true p = refl
 made-one make false p = refl
 
--- ---- crashes
+-- ---- departures
 
-abbrev crash : ℕ → ℕ → Detection → CrashTold
-crash member at told = record { member = member; at = at; detection = told }
+abbrev departure : ℕ → ℕ → Detection → Departure
+departure member at told = record { member = member; at = at; detection = told }
 
-crashes-later : (row : Row) (ps : List Placed) → map crash_told (map (with_later row) ps) ≡ map (crash_with row) (map crash_told ps)
-crashes-later row [] = refl
-crashes-later row (p ∷ ps) =
-    ap (λ d. crash p.row.member p.row.at d ∷ map crash_told (map (with_later row) ps)) (detection-push p.row.member p.later row)
-    ∙ ap (λ cs. crash_with row (crash_told p) ∷ cs) (crashes-later row ps)
+departures-later : (row : Row) (ps : List Placed) → map departure_told (map (with_later row) ps) ≡ map (departure_with row) (map departure_told ps)
+departures-later row [] = refl
+departures-later row (p ∷ ps) =
+    ap (λ d. departure p.row.member p.row.at d ∷ map departure_told (map (with_later row) ps)) (detection-push p.row.member p.later row)
+    ∙ ap (λ ds. departure_with row (departure_told p) ∷ ds) (departures-later row ps)
 
-pub crashes_of-push : (rows : List Row) (row : Row) → crashes_of (rows ++ row ∷ []) ≡ map (crash_with row) (crashes_of rows) ++ cond (has_kind what.Crash row) (crash_at row ∷ []) []
-crashes_of-push rows row =
-    ap (map crash_told) (kept-push is_crash rows row (λ p. refl))
-    ∙ map-append crash_told (map (with_later row) (filter is_crash (rows_in_place rows))) (cond (has_kind what.Crash row) (last_placed rows row ∷ []) [])
-    ∙ ap (λ l. l ++ map crash_told (cond (has_kind what.Crash row) (last_placed rows row ∷ []) [])) (crashes-later row (filter is_crash (rows_in_place rows)))
-    ∙ ap (λ l. map (crash_with row) (crashes_of rows) ++ l) (made-one crash_told (has_kind what.Crash row) (last_placed rows row))
+pub departures_of-push : (way : What) (rows : List Row) (row : Row)
+    → departures_of way (rows ++ row ∷ []) ≡ map (departure_with row) (departures_of way rows) ++ cond (has_kind way row) (departure_at row ∷ []) []
+departures_of-push way rows row =
+    ap (map departure_told) (kept-push (is_departure way) rows row (λ p. refl))
+    ∙ map-append departure_told (map (with_later row) (filter (is_departure way) (rows_in_place rows))) (cond (has_kind way row) (last_placed rows row ∷ []) [])
+    ∙ ap (λ l. l ++ map departure_told (cond (has_kind way row) (last_placed rows row ∷ []) [])) (departures-later row (filter (is_departure way) (rows_in_place rows)))
+    ∙ ap (λ l. map (departure_with row) (departures_of way rows) ++ l) (made-one departure_told (has_kind way row) (last_placed rows row))
 
 -- ---- who made false claims
 
@@ -85,47 +86,47 @@ makers-later row [] = refl
 makers-later row (p ∷ ps) = ap (λ l. maker_of p.row ∷ l) (makers-later row ps)
 
 pub makers_of-push : (claim : What) (rows : List Row) (row : Row)
-    → makers_of claim (rows ++ row ∷ []) ≡ makers_of claim rows ++ cond (is_false_claim claim (crashed_in rows) row) (maker_of row ∷ []) []
+    → makers_of claim (rows ++ row ∷ []) ≡ makers_of claim rows ++ cond (is_false_claim claim (departed_in ways_to_depart rows) row) (maker_of row ∷ []) []
 makers_of-push claim rows row =
-    ap (map placed_maker) (kept-push (is_false_positive claim) rows row (λ p. refl))
-    ∙ map-append placed_maker (map (with_later row) (filter (is_false_positive claim) (rows_in_place rows))) (cond (is_false_claim claim (crashed_in rows) row) (last_placed rows row ∷ []) [])
-    ∙ ap (λ l. l ++ map placed_maker (cond (is_false_claim claim (crashed_in rows) row) (last_placed rows row ∷ []) [])) (makers-later row (filter (is_false_positive claim) (rows_in_place rows)))
-    ∙ ap (λ l. makers_of claim rows ++ l) (made-one placed_maker (is_false_claim claim (crashed_in rows) row) (last_placed rows row))
+    ap (map placed_maker) (kept-push (is_false_positive ways_to_depart claim) rows row (λ p. refl))
+    ∙ map-append placed_maker (map (with_later row) (filter (is_false_positive ways_to_depart claim) (rows_in_place rows))) (cond (is_false_claim claim (departed_in ways_to_depart rows) row) (last_placed rows row ∷ []) [])
+    ∙ ap (λ l. l ++ map placed_maker (cond (is_false_claim claim (departed_in ways_to_depart rows) row) (last_placed rows row ∷ []) [])) (makers-later row (filter (is_false_positive ways_to_depart claim) (rows_in_place rows)))
+    ∙ ap (λ l. makers_of claim rows ++ l) (made-one placed_maker (is_false_claim claim (departed_in ways_to_depart rows) row) (last_placed rows row))
 
--- ---- who crashed
+-- ---- who departed
 
-abbrev pub crash_member : CrashTold → ℕ
-crash_member c = c.member
+abbrev pub departed_member : Departure → ℕ
+departed_member d = d.member
 
-abbrev row_member : Row → ℕ
+abbrev pub row_member : Row → ℕ
 row_member row = row.member
 
-crashed-one : (keep : Bool) (p : Placed) (ps : List Placed) (rows : List Row) → map crash_member (map crash_told ps) ≡ map row_member rows
-    → map crash_member (map crash_told (cond keep (p ∷ ps) ps)) ≡ map row_member (cond keep (p.row ∷ rows) rows)
-crashed-one true p ps rows is = ap (λ l. p.row.member ∷ l) is
-crashed-one false p ps rows is = is
+departed-one : (keep : Bool) (p : Placed) (ps : List Placed) (rows : List Row) → map departed_member (map departure_told ps) ≡ map row_member rows
+    → map departed_member (map departure_told (cond keep (p ∷ ps) ps)) ≡ map row_member (cond keep (p.row ∷ rows) rows)
+departed-one true p ps rows is = ap (λ l. p.row.member ∷ l) is
+departed-one false p ps rows is = is
 
-crashed_after : (earlier rows : List Row) → map crash_member (map crash_told (filter is_crash (placed_after earlier rows))) ≡ crashed_in rows
-crashed_after earlier [] = refl
-crashed_after earlier (row ∷ rows) =
-    crashed-one (has_kind what.Crash row) (record { earlier = earlier; row = row; later = rows }) (filter is_crash (placed_after (earlier ++ row ∷ []) rows)) (filter (has_kind what.Crash) rows)
-    (crashed_after (earlier ++ row ∷ []) rows)
+departed_after : (way : What) (earlier rows : List Row) → map departed_member (map departure_told (filter (is_departure way) (placed_after earlier rows))) ≡ departed_by rows way
+departed_after way earlier [] = refl
+departed_after way earlier (row ∷ rows) =
+    departed-one (has_kind way row) (record { earlier = earlier; row = row; later = rows }) (filter (is_departure way) (placed_after (earlier ++ row ∷ []) rows)) (filter (has_kind way) rows)
+    (departed_after way (earlier ++ row ∷ []) rows)
 
--- those whose crashes there are are those who crash
-pub crashed_members : (rows : List Row) → map crash_member (crashes_of rows) ≡ crashed_in rows
-crashed_members rows = crashed_after [] rows
+-- those whose departures there are are those who depart
+pub departed_members : (way : What) (rows : List Row) → map departed_member (departures_of way rows) ≡ departed_by rows way
+departed_members way rows = departed_after way [] rows
 
--- ---- how often a crash was confirmed
+-- ---- how often a departure was confirmed
 
 few_later : (n : ℕ) (earlier rows : List Row) → length rows ≤ n → All (λ p. length p.later ≤ n) (placed_after earlier rows)
 few_later n earlier [] few = All-nil (λ p. length p.later ≤ n)
 few_later n earlier (row ∷ rows) few =
     All-cons (λ p. length p.later ≤ n) (record { earlier = earlier; row = row; later = rows }) (placed_after (earlier ++ row ∷ []) rows) (omega (arith, few)) (few_later n (earlier ++ row ∷ []) rows (omega (arith, few)))
 
--- a crash has no more confirmers than there are rows
-pub few_confirmers : (rows : List Row) → length rows < 2 ^ 63 → All (λ c. c.detection.confirmers < 2 ^ 63) (crashes_of rows)
-few_confirmers rows few =
-    All-map (λ c. c.detection.confirmers < 2 ^ 63) crash_told (filter is_crash (rows_in_place rows))
-    (All-filter is_crash (λ p. (crash_told p).detection.confirmers < 2 ^ 63) (rows_in_place rows)
-    (All-weaker (λ p. length p.later ≤ length rows) (λ p. (crash_told p).detection.confirmers < 2 ^ 63)
+-- a departure has no more confirmers than there are rows
+pub few_confirmers : (way : What) (rows : List Row) → length rows < 2 ^ 63 → All (λ d. d.detection.confirmers < 2 ^ 63) (departures_of way rows)
+few_confirmers way rows few =
+    All-map (λ d. d.detection.confirmers < 2 ^ 63) departure_told (filter (is_departure way) (rows_in_place rows))
+    (All-filter (is_departure way) (λ p. (departure_told p).detection.confirmers < 2 ^ 63) (rows_in_place rows)
+    (All-weaker (λ p. length p.later ≤ length rows) (λ p. (departure_told p).detection.confirmers < 2 ^ 63)
     (λ p later. omega (arith, later, few, count_by-le-length (tells_of what.Confirm p.row.member) p.later)) (rows_in_place rows) (few_later (length rows) [] rows (omega arith))))

@@ -25,6 +25,8 @@ count_place what.Confirm = 13
 count_place what.Accuse = 14
 count_place what.Refute = 15
 count_place what.Dead = 16
+count_place what.Leave = 17
+count_place what.Bye = 18
 
 -- the counts are those of these rows
 pub record AreCountsOf (counts : Counts) (rows : List Row) : Type 0 where

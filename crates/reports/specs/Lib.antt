@@ -1,5 +1,5 @@
 pub mod Rows
-pub mod Crashes
+pub mod Departures
 pub mod FalsePositives
 pub mod Text
 pub mod Past

@@ -1,15 +1,17 @@
 -- The text of the report: its lines in order.
 use Rattle.std.specs.Prelude.{ℕ, Option, Some, None, List, [], ◌∷◌, ◌++◌, codes, decimal, length, flat_map, min, max}
 use Rattle.std.specs.List.{join_with_byte, reduce}
+use Rattle.schema.specs.declared.schema.Version.{Version}
+use Rattle.schema.specs.declared.schema.Version.TheVariants.{One, Two}
 use Rattle.scenario.specs.Setup.{Setup, member_count, name_of}
 use Rattle.trace.specs.Text.{word_of}
 use Rattle.trace.specs.declared.row.What.{What}
 use Rattle.trace.specs.declared.row.What.TheVariants as what
 use Rattle.trace.specs.declared.row.Row.{Row}
-use Rattle.reports.specs.declared.crash.CrashTold.{CrashTold}
+use Rattle.reports.specs.declared.departure.Departure.{Departure}
 use Rattle.reports.specs.Rows.{count_of, losses_of, worst_health}
-use Rattle.reports.specs.Crashes.{crashes_of, latency_of, latencies_of}
-use Rattle.reports.specs.FalsePositives.{false_positives, healthy_false_positives}
+use Rattle.reports.specs.Departures.{crashes_of, leaves_of, latency_of, latencies_of}
+use Rattle.reports.specs.FalsePositives.{ways_to_depart, first_ways_to_depart, false_positives, healthy_false_positives}
 
 -- a line: its fields, parted by one space, and a line feed
 abbrev pub line : List (List ℕ) → List ℕ
@@ -25,7 +27,7 @@ unfoldable pub count_line : List ℕ → ℕ → List ℕ
 count_line word n = line (word ∷ decimal n ∷ [])
 
 -- a crash: whose and when, the first suspicion, the first and the last confirmation and how many there were, and the latency
-unfoldable pub crash_line : Setup → CrashTold → List ℕ
+unfoldable pub crash_line : Setup → Departure → List ℕ
 crash_line s crash =
     line (codes "crash" ∷ name_of s crash.member ∷ decimal crash.at
     ∷ codes "suspect" ∷ figure crash.detection.suspect
@@ -33,6 +35,14 @@ crash_line s crash =
     ∷ codes "last" ∷ figure crash.detection.last
     ∷ codes "confirmers" ∷ decimal crash.detection.confirmers
     ∷ codes "latency" ∷ figure (latency_of crash) ∷ [])
+
+-- a leave: whose and when, the first and the last confirmation, and how many there were
+unfoldable pub leave_line : Setup → Departure → List ℕ
+leave_line s leave =
+    line (codes "leave" ∷ name_of s leave.member ∷ decimal leave.at
+    ∷ codes "confirm" ∷ figure leave.detection.confirm
+    ∷ codes "last" ∷ figure leave.detection.last
+    ∷ codes "confirmers" ∷ decimal leave.detection.confirmers ∷ [])
 
 -- the least and the greatest latency
 unfoldable pub latency_line : Option ℕ → Option ℕ → List ℕ
@@ -46,25 +56,35 @@ false_line word all healthy = line (codes "false" ∷ word ∷ decimal all ∷ c
 unfoldable pub sent_line : List ℕ → ℕ → ℕ → List ℕ
 sent_line word all lost = line (codes "sent" ∷ word ∷ decimal all ∷ codes "lost" ∷ decimal lost ∷ [])
 
--- the kinds of message
-abbrev pub message_kinds : List What
-message_kinds = what.Join ∷ what.Welcome ∷ what.Ping ∷ what.PingReq ∷ what.Ack ∷ what.Nack ∷ []
+-- the kinds of message that version 1 of the format has
+abbrev pub first_message_kinds : List What
+first_message_kinds = what.Join ∷ what.Welcome ∷ what.Ping ∷ what.PingReq ∷ what.Ack ∷ what.Nack ∷ []
+
+-- the kinds of message of a version
+abbrev pub message_kinds : Version → List What
+message_kinds One = first_message_kinds
+message_kinds Two = first_message_kinds ++ what.Bye ∷ []
 
 -- how large the cluster is, how long it ran, and how much there is to tell
 abbrev pub size_lines : Setup → List Row → List ℕ
 size_lines s rows = count_line (codes "members") (member_count s) ++ count_line (codes "end") s.end ++ count_line (codes "rows") (length rows)
 
 -- the least and the greatest of the latencies that are there
-abbrev pub latencies_line : List CrashTold → List ℕ
+abbrev pub latencies_line : List Departure → List ℕ
 latencies_line crashes = latency_line (reduce min (latencies_of crashes)) (reduce max (latencies_of crashes))
 
--- a line for each crash, and one on their latencies
+-- a line for each crash
 abbrev pub crash_lines : Setup → List Row → List ℕ
-crash_lines s rows = flat_map (crash_line s) (crashes_of rows) ++ latencies_line (crashes_of rows)
+crash_lines s rows = flat_map (crash_line s) (crashes_of rows)
 
--- false suspicions, and members that were falsely confirmed to have failed
-abbrev pub false_claim_line : Setup → List Row → What → List ℕ
-false_claim_line s rows claim = false_line (word_of claim) (false_positives claim rows) (healthy_false_positives s claim rows)
+-- a line for each leave, where a version of the format has them
+abbrev pub leave_lines : Version → Setup → List Departure → List ℕ
+leave_lines One s leaves = []
+leave_lines Two s leaves = flat_map (leave_line s) leaves
+
+-- false suspicions, and members that were falsely confirmed to have failed, where members depart in these ways
+abbrev pub false_claim_line : Setup → List What → List Row → What → List ℕ
+false_claim_line s ways rows claim = false_line (word_of claim) (false_positives ways claim rows) (healthy_false_positives s ways claim rows)
 
 -- how often members accused and refuted, how often probes failed, and how bad a member's health got
 abbrev pub protocol_lines : List Row → List ℕ
@@ -76,8 +96,17 @@ protocol_lines rows =
 abbrev pub message_line : List Row → What → List ℕ
 message_line rows kind = sent_line (word_of kind) (count_of kind rows) (losses_of kind rows)
 
+-- the lines that a version of the format has, where members depart in these ways
+abbrev pub report_lines : Version → List What → Setup → List Row → List ℕ
+report_lines version ways s rows =
+    size_lines s rows ++ crash_lines s rows ++ leave_lines version s (leaves_of rows) ++ latencies_line (crashes_of rows)
+    ++ false_claim_line s ways rows what.Suspect ++ false_claim_line s ways rows what.Confirm
+    ++ protocol_lines rows ++ flat_map (message_line rows) (message_kinds version)
+
 -- the report of a trace
 unfoldable pub report_text : Setup → List Row → List ℕ
-report_text s rows =
-    size_lines s rows ++ crash_lines s rows ++ false_claim_line s rows what.Suspect ++ false_claim_line s rows what.Confirm
-    ++ protocol_lines rows ++ flat_map (message_line rows) message_kinds
+report_text s rows = report_lines s.version ways_to_depart s rows
+
+-- the report as version 1 of the format defined it, when members crashed and none left
+unfoldable pub first_report_text : Setup → List Row → List ℕ
+first_report_text s rows = report_lines One first_ways_to_depart s rows

@@ -1,21 +1,23 @@
-//! The crashes of the rows so far, and who made false claims.
-ghost use Rattle.std.specs.Prelude.{◌≡◌, ◌<◌, ◌^◌, ◌++◌, ◌∷◌, [], List, length, map, OnOk, OnErr, All, if◌then◌else◌};
+//! The members that departed in the rows so far, and who made false claims.
+ghost use Rattle.std.specs.Prelude.{◌≡◌, ◌<◌, ◌^◌, ◌++◌, ◌∷◌, ◌||◌, [], List, length, map, OnOk, OnErr, All, if◌then◌else◌};
 ghost use Rattle.trace.specs.declared.row.Row.{Row as AnyRow};
-ghost use Rattle.reports.specs.Failures.{crash_with, maker_of, is_about_crash, AreFailuresOf};
+ghost use Rattle.reports.specs.Failures.{departure_with, maker_of, is_about_departed, AreFailuresOf};
 
-use crate::crash::{CrashTold, add_crash, is_about_crash, see_each};
+use crate::departure::{Departure, add_departure, is_about_departed, see_each};
 use crate::false_positives::Maker;
 use std::alloc::{AllocError, Global};
 use trace::{Row, What};
 
-/// What the rows so far tell of crashes, and of claims that a member failed.
+/// What the rows so far tell of departures, and of claims that a member failed.
 #[derive(Drop)]
 pub(crate) struct Failures {
     /// The crashes, in the order of the trace, and how each was detected.
-    pub(crate) crashes: Vec<CrashTold>,
-    /// Who suspected a member that had not crashed.
+    pub(crate) crashes: Vec<Departure>,
+    /// The leaves, likewise.
+    pub(crate) leaves: Vec<Departure>,
+    /// Who suspected a member that had not departed.
     pub(crate) suspicions: Vec<Maker>,
-    /// Who confirmed that a member failed which had not crashed.
+    /// Who confirmed that a member failed which had not departed.
     pub(crate) confirmations: Vec<Maker>,
 }
 
@@ -26,6 +28,7 @@ impl Failures {
     {
         Failures {
             crashes: Vec::new(alloc),
+            leaves: Vec::new(alloc),
             suspicions: Vec::new(alloc),
             confirmations: Vec::new(alloc),
         }
@@ -38,31 +41,54 @@ impl Failures {
         ensures err { OnErr result ((rows : List AnyRow) → AreFailuresOf self.old rows → AreFailuresOf self.new rows) }
     {
         match row.what {
-            What::Crash => add_crash(&mut self.crashes, row),
-            What::Suspect => add_claim(&mut self.suspicions, &mut self.crashes, row),
-            What::Confirm => add_claim(&mut self.confirmations, &mut self.crashes, row),
+            What::Crash => add_departure(&mut self.crashes, row),
+            What::Leave => add_departure(&mut self.leaves, row),
+            What::Suspect => add_claim(
+                &mut self.suspicions,
+                &mut self.crashes,
+                &mut self.leaves,
+                row,
+            ),
+            What::Confirm => add_claim(
+                &mut self.confirmations,
+                &mut self.crashes,
+                &mut self.leaves,
+                row,
+            ),
             _ => Ok(()),
         }
     }
 }
 
-/// Takes in a claim that a member failed: it is told of that member's crashes, or it is false.
+/// Takes in a claim that a member failed: it is told of that member's departures, or it is false.
 fn add_claim(
     makers: &mut Vec<Maker>,
-    crashes: &mut Vec<CrashTold>,
+    crashes: &mut Vec<Departure>,
+    leaves: &mut Vec<Departure>,
     row: &Row,
 ) -> Result<(), AllocError>
-    requires { All (λ crash. crash.detection.confirmers < 2 ^ 63) crashes.old.items }
-    ensures crashes { OnOk result (crashes.new.items ≡ map (crash_with row.now) crashes.old.items) }
-    ensures makers { OnOk result (makers.new.items
-        ≡ makers.old.items ++ (if is_about_crash crashes.old.items row.now then [] else maker_of row.now ∷ [])) }
-    ensures crashes_left { OnErr result (crashes.new.items ≡ crashes.old.items) }
-    ensures makers_left { OnErr result (makers.new.items ≡ makers.old.items) }
+    requires crashes { All (λ departure. departure.detection.confirmers < 2 ^ 63) crashes.old.items }
+    requires leaves { All (λ departure. departure.detection.confirmers < 2 ^ 63) leaves.old.items }
+    ensures crashes { OnOk result (crashes.new.items ≡ map (departure_with row.now) crashes.old.items) }
+    ensures leaves { OnOk result (leaves.new.items ≡ map (departure_with row.now) leaves.old.items) }
+    ensures makers { OnOk result (makers.new.items ≡ makers.old.items
+        ++ (if is_about_departed crashes.old.items row.now || is_about_departed leaves.old.items row.now then [] else maker_of row.now ∷ [])) }
+    ensures crashes_kept { OnErr result (crashes.new.items ≡ crashes.old.items) }
+    ensures leaves_kept { OnErr result (leaves.new.items ≡ leaves.old.items) }
+    ensures makers_kept { OnErr result (makers.new.items ≡ makers.old.items) }
 {
-    if is_about_crash(row, crashes) {
+    if is_about_either(row, crashes, leaves) {
         see_each(crashes, row);
+        see_each(leaves, row);
         return Ok(());
     }
     makers.push(Maker::new(row))?;
     Ok(())
+}
+
+/// Whether a row is about a member that crashed or left.
+fn is_about_either(row: &Row, crashes: &[Departure], leaves: &[Departure]) -> bool
+    ensures { result ≡ (is_about_departed crashes.now row.now || is_about_departed leaves.now row.now) }
+{
+    is_about_departed(row, crashes) || is_about_departed(row, leaves)
 }

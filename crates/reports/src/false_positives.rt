@@ -1,8 +1,8 @@
-//! False positives: claims that a member failed though it had not crashed.
+//! False positives: claims that a member failed though it had not departed.
 ghost use Rattle.std.specs.Prelude.{◌≡◌, ◌<◌, All, count_by, ◌⊎◌};
 ghost use Rattle.scenario.specs.Setup.{member_count};
 ghost use Rattle.trace.specs.Text.{NamesMembers};
-ghost use Rattle.reports.specs.FalsePositives.{false_positives, healthy_false_positives};
+ghost use Rattle.reports.specs.FalsePositives.{ways_to_depart, false_positives, healthy_false_positives};
 ghost use Rattle.reports.specs.Failures.{maker_of, is_healthy_maker};
 
 use crate::tallies::Tallies;
@@ -40,7 +40,7 @@ impl Maker {
 /// How many false positives of this claim, a suspicion or a confirmation, there are.
 pub(crate) fn false_positives(tallies: &Tallies, claim: What) -> usize
     requires { (claim ≡ What.Suspect) ⊎ (claim ≡ What.Confirm) }
-    ensures { result ≡ false_positives claim tallies.now }
+    ensures { result ≡ false_positives ways_to_depart claim tallies.now }
 {
     tallies.makers(claim).len()
 }
@@ -49,7 +49,7 @@ pub(crate) fn false_positives(tallies: &Tallies, claim: What) -> usize
 pub(crate) fn healthy_false_positives(tallies: &Tallies, claim: What, scenario: &Scenario) -> usize
     requires claim { (claim ≡ What.Suspect) ⊎ (claim ≡ What.Confirm) }
     requires named { All (NamesMembers scenario.now) tallies.now }
-    ensures { result ≡ healthy_false_positives scenario.now claim tallies.now }
+    ensures { result ≡ healthy_false_positives scenario.now ways_to_depart claim tallies.now }
 {
     count_healthy(tallies.makers(claim), scenario)
 }

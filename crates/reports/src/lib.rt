@@ -3,19 +3,23 @@
 #![tactic(auto)]
 
 mod counts;
-mod crash;
+mod departure;
 mod failures;
 mod false_positives;
+mod laws;
 mod past;
 mod reporting;
 mod rows;
 mod tallies;
 mod text;
 
+pub use laws::{first_reports_stay, second_reports_add_a_line};
 pub use reporting::{report, report_on};
 pub use tallies::{AddError, Tallies};
 
 #[cfg(test)]
 mod tests;
+#[cfg(test)]
+mod tests_leaves;
 #[cfg(test)]
 mod tests_plain;

@@ -2,25 +2,37 @@
 ghost use Rattle.std.specs.Prelude.{◌≡◌, IfOk, All};
 ghost use Rattle.std.specs.String.{string_bytes};
 ghost use Rattle.trace.specs.Text.{NamesMembers};
-ghost use Rattle.reports.specs.Text.{report_text};
+ghost use Rattle.reports.specs.Text.{message_kinds, report_text};
 
 use crate::tallies::Tallies;
 use crate::text::{
-    push_crashes, push_false_positives, push_latencies, push_messages, push_protocol, push_sizes,
+    push_crashes, push_false_positives, push_latencies, push_leaves, push_messages, push_protocol,
+    push_sizes,
 };
 use base::Memory;
-use scenario::Scenario;
+use scenario::{Scenario, Version};
 use std::alloc::{AllocError, Global};
 use trace::{Row, What};
 
-/// The kinds of message, in the order of the report.
-const MESSAGES: [What; 6] = [
+/// The kinds of message of version 1, in the order of the report.
+const MESSAGES_1: [What; 6] = [
     What::Join,
     What::Welcome,
     What::Ping,
     What::PingReq,
     What::Ack,
     What::Nack,
+];
+
+/// Those of version 2.
+const MESSAGES_2: [What; 7] = [
+    What::Join,
+    What::Welcome,
+    What::Ping,
+    What::PingReq,
+    What::Ack,
+    What::Nack,
+    What::Bye,
 ];
 
 /// The text of the report on the rows that were tallied. They must name members of the scenario's
@@ -73,10 +85,21 @@ fn text_of(alloc: Global, tallies: &Tallies, scenario: &Scenario) -> Result<Stri
     let mut text = String::new(alloc);
     push_sizes(&mut text, tallies, scenario)?;
     push_crashes(&mut text, tallies.crashes(), scenario)?;
+    push_leaves(&mut text, tallies.leaves(), scenario)?;
     push_latencies(&mut text, tallies.crashes())?;
     push_false_positives(&mut text, What::Suspect, tallies, scenario)?;
     push_false_positives(&mut text, What::Confirm, tallies, scenario)?;
     push_protocol(&mut text, tallies)?;
-    push_messages(&mut text, &MESSAGES, tallies)?;
+    push_messages(&mut text, message_kinds(scenario.version()), tallies)?;
     Ok(text)
+}
+
+/// The kinds of message of a version, in the order of the report.
+fn message_kinds(version: Version) -> &'static [What]
+    ensures { result.now ≡ message_kinds version }
+{
+    match version {
+        Version::One => &MESSAGES_1,
+        Version::Two => &MESSAGES_2,
+    }
 }

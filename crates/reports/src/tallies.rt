@@ -2,11 +2,11 @@
 ghost use Rattle.std.specs.Prelude.{◌≡◌, ◌≤◌, ◌^◌, [], ◌∷◌, ◌++◌, ◌⊎◌, length, Ok, OnOk, OnErr, IfErr};
 ghost use Rattle.trace.specs.Text.{NamesMembers};
 ghost use Rattle.reports.specs.Rows.{count_of, losses_of, worst_health};
-ghost use Rattle.reports.specs.Crashes.{crashes_of};
+ghost use Rattle.reports.specs.Departures.{crashes_of, leaves_of};
 ghost use Rattle.reports.specs.Failures.{makers_of};
 
 use crate::counts::Counts;
-use crate::crash::CrashTold;
+use crate::departure::Departure;
 use crate::failures::Failures;
 use crate::false_positives::Maker;
 use crate::past::Past;
@@ -29,7 +29,7 @@ pub enum AddError {
 }
 
 /// The rows of a run so far, in the order in which they came. It keeps of them what a report tells:
-/// counts, for each crash how it was detected, and who made which false claim.
+/// counts, for each crash and leave how it was detected, and who made which false claim.
 #[derive(Drop)]
 pub struct Tallies {
     past: Past,
@@ -112,10 +112,17 @@ impl Tallies {
     }
 
     /// The crashes, in the order of the rows.
-    pub(crate) fn crashes(&self) -> &[CrashTold]
+    pub(crate) fn crashes(&self) -> &[Departure]
         ensures { result.now ≡ crashes_of self.now }
     {
         self.failures.crashes.as_slice()
+    }
+
+    /// The leaves, in the order of the rows.
+    pub(crate) fn leaves(&self) -> &[Departure]
+        ensures { result.now ≡ leaves_of self.now }
+    {
+        self.failures.leaves.as_slice()
     }
 
     /// Who made the false positives of this claim, a suspicion or a confirmation.

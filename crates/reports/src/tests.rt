@@ -12,7 +12,7 @@ use std::test::Fail;
 use trace::{Row, What};
 
 /// All that a row can tell of.
-pub(crate) const KINDS: [What; 17] = [
+pub(crate) const KINDS: [What; 19] = [
     What::Start,
     What::Crash,
     What::Joined,
@@ -30,6 +30,8 @@ pub(crate) const KINDS: [What; 17] = [
     What::Accuse,
     What::Refute,
     What::Dead,
+    What::Leave,
+    What::Bye,
 ];
 
 /// What a word of the trace stands for.
@@ -110,7 +112,7 @@ fn tallies_of(
 }
 
 /// Asserts that the trace of a scenario, without its header, has this report.
-fn assert_report(
+pub(crate) fn assert_report(
     rt: &(impl Abort + AllocGlobal),
     scenario: &str,
     lines: &str,
@@ -124,7 +126,7 @@ fn assert_report(
 }
 
 /// Two members, `n-0` and `n-1`, up to moment 8000.
-const TWO: &str = "version = 1
+pub(crate) const TWO: &str = "version = 1
 seed = 7
 end = 8000
 [swim]

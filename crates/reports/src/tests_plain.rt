@@ -1,6 +1,6 @@
 //! Plain counts over the rows so far, by which the tallies are compared after each row.
 use crate::Tallies;
-use crate::crash::CrashTold;
+use crate::departure::Departure;
 use crate::tests::KINDS;
 use base::{MemberId, Moment};
 use std::process::Abort;
@@ -64,49 +64,52 @@ fn times_of(kind: What, member: MemberId, rows: &[Row]) -> u64 {
         .count() as u64
 }
 
-/// Whether a row is about a member of whose crash one of these rows tells.
-fn is_about_crashed(row: &Row, earlier: &[Row]) -> bool {
+/// Whether a row tells that the member departs, by a crash or a leave.
+fn tells_departure(row: &Row, member: MemberId) -> bool {
+    (row.what == What::Crash || row.what == What::Leave) && row.member == member
+}
+
+/// Whether a row is about a member of whose departure one of these rows tells.
+fn is_about_departed(row: &Row, earlier: &[Row]) -> bool {
     match row.about {
-        Some(about) => earlier
-            .iter()
-            .any(|row| row.what == What::Crash && row.member == about),
+        Some(about) => earlier.iter().any(|row| tells_departure(row, about)),
         None => false,
     }
 }
 
-/// How many of these rows make this claim of a member that has no crash row before it.
+/// How many of these rows make this claim of a member that has no row of a departure before it.
 fn false_claims(claim: What, rows: &[Row]) -> usize {
     let mut count: usize = 0;
     for place in 0..rows.len() {
-        if rows[place].what == claim && !is_about_crashed(&rows[place], &rows[..place]) {
+        if rows[place].what == claim && !is_about_departed(&rows[place], &rows[..place]) {
             count = count.saturating_add(1);
         }
     }
     count
 }
 
-/// Asserts that a crash is that of a row, detected as later rows tell.
-fn assert_crash(rt: &impl Abort, crash: Option<&CrashTold>, row: &Row, later: &[Row]) {
-    let crash = crash.expect(rt, "a crash for each row of one");
+/// Asserts that a departure is that of a row, detected as later rows tell.
+fn assert_departure(rt: &impl Abort, departure: Option<&Departure>, row: &Row, later: &[Row]) {
+    let departure = departure.expect(rt, "a departure for each row of one");
     let member = row.member;
-    let told = crash.detection;
-    assert!(rt; crash.member == member && crash.at == row.at);
+    let told = departure.detection;
+    assert!(rt; departure.member == member && departure.at == row.at);
     assert!(rt; told.suspect == first_of(What::Suspect, member, later));
     assert!(rt; told.confirm == first_of(What::Confirm, member, later));
     assert!(rt; told.last == last_of(What::Confirm, member, later));
     assert!(rt; told.confirmers == times_of(What::Confirm, member, later));
 }
 
-/// Asserts that the crashes are those of these rows.
-fn assert_crashes(rt: &impl Abort, crashes: &[CrashTold], rows: &[Row]) {
+/// Asserts that the departures are those of these rows that are of one way.
+fn assert_departures(rt: &impl Abort, way: What, departures: &[Departure], rows: &[Row]) {
     let mut count: usize = 0;
     for place in 0..rows.len() {
-        if rows[place].what == What::Crash {
-            assert_crash(rt, crashes.get(count), &rows[place], &rows[place + 1..]);
+        if rows[place].what == way {
+            assert_departure(rt, departures.get(count), &rows[place], &rows[place + 1..]);
             count = count.saturating_add(1);
         }
     }
-    assert!(rt; crashes.len() == count);
+    assert!(rt; departures.len() == count);
 }
 
 /// Asserts that the tallies tell what plain counts over these rows tell.
@@ -119,5 +122,6 @@ pub(crate) fn assert_tallied(rt: &impl Abort, tallies: &Tallies, rows: &[Row]) {
     assert!(rt; tallies.worst_health() == worst_health(rows));
     assert!(rt; tallies.makers(What::Suspect).len() == false_claims(What::Suspect, rows));
     assert!(rt; tallies.makers(What::Confirm).len() == false_claims(What::Confirm, rows));
-    assert_crashes(rt, tallies.crashes(), rows);
+    assert_departures(rt, What::Crash, tallies.crashes(), rows);
+    assert_departures(rt, What::Leave, tallies.leaves(), rows);
 }

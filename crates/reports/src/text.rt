@@ -4,14 +4,15 @@ ghost use Rattle.std.specs.List.{reduce};
 ghost use Rattle.std.specs.String.{string_bytes};
 ghost use Rattle.scenario.specs.Setup.{member_count};
 ghost use Rattle.trace.specs.Text.{NamesMembers};
-ghost use Rattle.reports.specs.Crashes.{latencies_of};
-ghost use Rattle.reports.specs.Text.{figure, count_line, size_lines, crash_line, latency_line, latencies_line, false_line, false_claim_line, sent_line, message_line, protocol_lines};
+ghost use Rattle.reports.specs.Departures.{latencies_of};
+ghost use Rattle.reports.specs.FalsePositives.{ways_to_depart};
+ghost use Rattle.reports.specs.Text.{figure, count_line, size_lines, crash_line, leave_line, leave_lines, latency_line, latencies_line, false_line, false_claim_line, sent_line, message_line, protocol_lines};
 
-use crate::crash::CrashTold;
+use crate::departure::Departure;
 use crate::false_positives::{false_positives, healthy_false_positives};
 use crate::tallies::Tallies;
 use base::Moment;
-use scenario::Scenario;
+use scenario::{Scenario, Version};
 use std::alloc::AllocError;
 use std::fmt;
 use trace::What;
@@ -64,7 +65,7 @@ pub(crate) fn push_sizes(
 
 /// Appends the line of a crash.
 #[tactic(auto, unfolding(crate::specs::Text::crash_line))]
-fn push_crash(text: &mut String, crash: &CrashTold, scenario: &Scenario) -> Result<(), AllocError>
+fn push_crash(text: &mut String, crash: &Departure, scenario: &Scenario) -> Result<(), AllocError>
     requires { crash.now.member < member_count scenario.now }
     ensures { OnOk result (string_bytes text.new ≡ string_bytes text.old ++ crash_line scenario.now crash.now) }
 {
@@ -85,7 +86,7 @@ fn push_crash(text: &mut String, crash: &CrashTold, scenario: &Scenario) -> Resu
 /// Appends a line for each crash.
 pub(crate) fn push_crashes(
     text: &mut String,
-    crashes: &[CrashTold],
+    crashes: &[Departure],
     scenario: &Scenario,
 ) -> Result<(), AllocError>
     requires { All (λ crash. crash.member < member_count scenario.now) crashes.now }
@@ -98,8 +99,55 @@ pub(crate) fn push_crashes(
     Ok(())
 }
 
+/// Appends a line for each leave, where the scenario's version has leaves.
+pub(crate) fn push_leaves(
+    text: &mut String,
+    leaves: &[Departure],
+    scenario: &Scenario,
+) -> Result<(), AllocError>
+    requires { All (λ leave. leave.member < member_count scenario.now) leaves.now }
+    ensures { OnOk result (string_bytes text.new
+        ≡ string_bytes text.old ++ leave_lines scenario.now.version scenario.now leaves.now) }
+{
+    match scenario.version() {
+        Version::One => Ok(()),
+        Version::Two => push_each_leave(text, leaves, scenario),
+    }
+}
+
+/// Appends a line for each of these leaves.
+fn push_each_leave(
+    text: &mut String,
+    leaves: &[Departure],
+    scenario: &Scenario,
+) -> Result<(), AllocError>
+    requires { All (λ leave. leave.member < member_count scenario.now) leaves.now }
+    ensures { OnOk result (string_bytes text.new
+        ≡ string_bytes text.old ++ flat_map (leave_line scenario.now) leaves.now) }
+{
+    for leave in leaves {
+        push_leave(text, leave, scenario)?;
+    }
+    Ok(())
+}
+
+/// Appends the line of a leave.
+#[tactic(auto, unfolding(crate::specs::Text::leave_line))]
+fn push_leave(text: &mut String, leave: &Departure, scenario: &Scenario) -> Result<(), AllocError>
+    requires { leave.now.member < member_count scenario.now }
+    ensures { OnOk result (string_bytes text.new ≡ string_bytes text.old ++ leave_line scenario.now leave.now) }
+{
+    let name = scenario.name(leave.member);
+    let at = leave.at.ticks();
+    let confirm = ticks(leave.detection.confirm);
+    let last = ticks(leave.detection.last);
+    let confirmers = leave.detection.confirmers;
+    write!(text, "leave {name} {at} confirm {confirm} last {last} ")?;
+    writeln!(text, "confirmers {confirmers}")
+}
+
 /// Appends the line of the latencies of crashes.
-pub(crate) fn push_latencies(text: &mut String, crashes: &[CrashTold]) -> Result<(), AllocError>
+pub(crate) fn push_latencies(text: &mut String, crashes: &[Departure]) -> Result<(), AllocError>
     ensures { OnOk result (string_bytes text.new
         ≡ string_bytes text.old ++ latencies_line crashes.now) }
 {
@@ -120,13 +168,13 @@ fn push_latency(
     writeln!(text, "latency least {least} greatest {greatest}")
 }
 
-fn least_latency(crashes: &[CrashTold]) -> Option<u64>
+fn least_latency(crashes: &[Departure]) -> Option<u64>
     ensures { result ≡ reduce min (latencies_of crashes.now) }
 {
     crashes.iter().filter_map(|crash| crash.latency()).min()
 }
 
-fn greatest_latency(crashes: &[CrashTold]) -> Option<u64>
+fn greatest_latency(crashes: &[Departure]) -> Option<u64>
     ensures { result ≡ reduce max (latencies_of crashes.now) }
 {
     crashes.iter().filter_map(|crash| crash.latency()).max()
@@ -143,7 +191,7 @@ pub(crate) fn push_false_positives(
     requires claim { (claim ≡ What.Suspect) ⊎ (claim ≡ What.Confirm) }
     requires named { All (NamesMembers scenario.now) tallies.now }
     ensures { OnOk result (string_bytes text.new
-        ≡ string_bytes text.old ++ false_claim_line scenario.now tallies.now claim) }
+        ≡ string_bytes text.old ++ false_claim_line scenario.now ways_to_depart tallies.now claim) }
 {
     let word = claim.word();
     let all = false_positives(tallies, claim);

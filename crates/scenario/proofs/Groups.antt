@@ -12,6 +12,7 @@ use Rattle.std.proofs.lemmas.Slice.Eq.{bytes_eq-Decides}
 use Rattle.indexmap.specs.IndexMap.{IndexMap, get, insert_entry}
 use Rattle.indexmap.proofs.CallerLemmas.{insert_entry-new}
 use Rattle.schema.proofs.Trees.{any-map}
+use Rattle.schema.specs.declared.schema.Version.{Version}
 use Rattle.scenario.specs.Setup.{Setup, Group}
 use Rattle.scenario.specs.declared.settings.Swim.{Swim}
 use Rattle.scenario.specs.declared.settings.Suspicion.{Suspicion}
@@ -20,6 +21,8 @@ use Rattle.scenario.specs.declared.settings.Link.{Link}
 use Rattle.scenario.specs.declared.settings.Path.{Path}
 use Rattle.scenario.specs.declared.settings.Slow.{Slow}
 use Rattle.scenario.specs.declared.settings.Crash.{Crash}
+use Rattle.scenario.specs.declared.settings.Leave.{Leave}
+use Rattle.scenario.specs.declared.settings.Cut.{Cut}
 use Rattle.scenario.specs.Roster.{named_group, AreNumberedFrom}
 use Rattle.scenario.specs.declared.roster.Block.{Block}
 use Rattle.scenario.specs.Rules.{is_group_name, breaks_name, breaks_names, any_two}
@@ -124,7 +127,7 @@ pub total_of : {V : Type 0} (group : V → Group) (vs : List V) (gs : List Group
 total_of group vs gs same = ap (sum_by (λ (g : Group). g.count)) (sym same) ∙ fold-map (λ (n : ℕ) (g : Group). n + g.count) group 0 vs
 
 -- a scenario is its fields
-pub same_setup : (s : Setup) (seed end : ℕ) (swim : Swim) (suspicion : Suspicion) (lifeguard : Lifeguard) (link : Link) (groups : List Group) (paths : List Path) (slows : List Slow) (crashes : List Crash)
-    → seed ≡ s.seed → end ≡ s.end → swim ≡ s.swim → suspicion ≡ s.suspicion → lifeguard ≡ s.lifeguard → link ≡ s.link → groups ≡ s.groups → paths ≡ s.paths → slows ≡ s.slows → crashes ≡ s.crashes
-    → record { seed = seed; end = end; swim = swim; suspicion = suspicion; lifeguard = lifeguard; link = link; groups = groups; paths = paths; slows = slows; crashes = crashes } ≡ s
-same_setup s seed end swim suspicion lifeguard link groups paths slows crashes a b c d e f g h i j = rw (a, b, c, d, e, f, g, h, i, j)
+pub same_setup : (s : Setup) (version : Version) (seed end : ℕ) (swim : Swim) (suspicion : Suspicion) (lifeguard : Lifeguard) (link : Link) (groups : List Group) (paths : List Path) (slows : List Slow) (crashes : List Crash) (leaves : List Leave) (cuts : List Cut)
+    → version ≡ s.version → seed ≡ s.seed → end ≡ s.end → swim ≡ s.swim → suspicion ≡ s.suspicion → lifeguard ≡ s.lifeguard → link ≡ s.link → groups ≡ s.groups → paths ≡ s.paths → slows ≡ s.slows → crashes ≡ s.crashes → leaves ≡ s.leaves → cuts ≡ s.cuts
+    → record { version = version; seed = seed; end = end; swim = swim; suspicion = suspicion; lifeguard = lifeguard; link = link; groups = groups; paths = paths; slows = slows; crashes = crashes; leaves = leaves; cuts = cuts } ≡ s
+same_setup s version seed end swim suspicion lifeguard link groups paths slows crashes leaves cuts v a b c d e f g h i j k l = rw (v, a, b, c, d, e, f, g, h, i, j, k, l)

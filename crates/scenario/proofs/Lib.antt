@@ -8,3 +8,4 @@ pub mod Moments
 pub mod Sweep
 pub mod Between
 pub mod Members
+pub mod First

@@ -1,5 +1,8 @@
 -- What is said of a member's contact and crash, from what every scenario keeps.
-use Rattle.std.proofs.Common.{◌≡◌, ℕ, zero, suc, ◌<◌, Option, Some, None, IfSome, subst, sym, refl, arith}
+use Rattle.std.proofs.Common.{◌≡◌, ℕ, zero, suc, ◌<◌, ◌≤◌, Option, Some, None, IfSome, subst, sym, refl, arith}
+use Rattle.schema.specs.Schema.{most_members}
+use Rattle.schema.specs.declared.schema.Version.{Version}
+use Rattle.schema.specs.declared.schema.Version.TheVariants.{One, Two}
 use Rattle.scenario.specs.Setup.{Setup, start_of, contact_of, member_count, IsSoundContact}
 
 by_start : (n k : ℕ) (o : Option ℕ) (P : ℕ → Type 0) → (n ≡ 0 → o ≡ None) → (0 < n → (c : ℕ) × (o ≡ Some c) × (c < k) × P c) → IfSome o (λ c. c < k)
@@ -13,3 +16,8 @@ contact_within s m sound = by_start (start_of s m) (member_count s) (contact_of 
 pub some_so : {A : Type 0} (P Q : A → Type 0) (o : Option A) → IfSome o P → ((x : A) → P x → Q x) → IfSome o Q
 some_so P Q None known so = tt
 some_so P Q (Some x) known so = so x known
+
+-- no version allows more members
+pub most_of_all : (v : Version) → most_members v ≤ 4096
+most_of_all One = omega arith
+most_of_all Two = omega arith

@@ -10,10 +10,10 @@ use Rattle.schema.specs.Values.{text_at}
 use Rattle.schema.specs.declared.schema.FormatKey.TheVariants as key
 use Rattle.schema.proofs.Trees.{any-map}
 use Rattle.scenario.specs.Setup.{Setup, Group, start_of}
-use Rattle.scenario.specs.Reading.{plain_group, plain_groups, group_in, slow_in, crash_in, member_named, setup_of_tree}
-use Rattle.scenario.specs.Rules.{names_no_member, breaks_references, is_bad_contact, is_over, is_early}
+use Rattle.scenario.specs.Reading.{version_of, added_items, plain_group, plain_groups, group_in, slow_in, crash_in, leave_in, cut_in, member_named, setup_of_tree}
+use Rattle.scenario.specs.Rules.{names_no_member, breaks_references, breaks_added_references, is_bad_contact, is_over, is_early, is_early_leave, is_cut_over}
 use Rattle.scenario.specs.Roster.{start_in}
-use Rattle.scenario.specs.Times.{is_bad_contact_in, is_over_in, is_early_in}
+use Rattle.scenario.specs.Times.{is_bad_contact_in, is_over_in, is_early_in, is_cut_over_in}
 use Rattle.scenario.proofs.Trees.{any_same}
 use Rattle.scenario.proofs.Find.{start_here, start_passed, neither}
 
@@ -75,3 +75,16 @@ earlies_same tree known =
     let gs = plain_groups tree in
     let crashes = (neither _ _ (neither _ _ (neither _ _ known).1).1).0 in
     any-map (is_early (setup_of_tree tree)) (crash_in gs) (items_at key.Crash tree) ∙ early_all (setup_of_tree tree) gs (starts_are tree) (items_at key.Crash tree) crashes
+
+-- where each leave is of a member
+pub early_leaves_same : (tree : Data) → breaks_added_references (version_of tree) tree (plain_groups tree) ≡ false
+    → list_any (is_early_leave (setup_of_tree tree)) (setup_of_tree tree).leaves ≡ list_any (is_early_in (plain_groups tree)) (added_items (version_of tree) key.Leave tree)
+unfolding setup_of_tree breaks_added_references
+early_leaves_same tree known =
+    let gs = plain_groups tree in
+    let items = added_items (version_of tree) key.Leave tree in
+    any-map (is_early_leave (setup_of_tree tree)) (leave_in gs) items ∙ early_all (setup_of_tree tree) gs (starts_are tree) items (neither _ _ known).0
+
+pub cuts_over_same : (tree : Data) → list_any is_cut_over (setup_of_tree tree).cuts ≡ list_any is_cut_over_in (added_items (version_of tree) key.Cut tree)
+unfolding setup_of_tree
+cuts_over_same tree = any-map is_cut_over (cut_in (plain_groups tree)) (added_items (version_of tree) key.Cut tree)

@@ -1,9 +1,11 @@
 -- The scenario that a TOML document says, key by key, with the format's defaults.
-use Rattle.std.specs.Prelude.{ℕ, List, Option, Some, None, map, flat_map, unwrap_or, option_and_then, bytes_eq}
+use Rattle.std.specs.Prelude.{ℕ, List, [], if◌then◌else◌, nat_eq, Option, Some, None, map, flat_map, unwrap_or, option_and_then, bytes_eq}
 use Rattle.std.specs.List.{position}
 use Rattle.toml.specs.Data.{Data}
 use Rattle.schema.specs.Tree.{value_at, items_at}
 use Rattle.schema.specs.Values.{whole_or, number_at, switch_at, text_if, text_at}
+use Rattle.schema.specs.declared.schema.Version.{Version}
+use Rattle.schema.specs.declared.schema.Version.TheVariants.{One, Two}
 use Rattle.schema.specs.declared.schema.FormatKey.{FormatKey}
 use Rattle.schema.specs.declared.schema.FormatKey.TheVariants as key
 use Rattle.schema.specs.declared.schema.Section.TheVariants as section
@@ -15,6 +17,17 @@ use Rattle.scenario.specs.declared.settings.Link.{Link}
 use Rattle.scenario.specs.declared.settings.Path.{Path}
 use Rattle.scenario.specs.declared.settings.Slow.{Slow}
 use Rattle.scenario.specs.declared.settings.Crash.{Crash}
+use Rattle.scenario.specs.declared.settings.Leave.{Leave}
+use Rattle.scenario.specs.declared.settings.Cut.{Cut}
+
+-- version 2 where the document's `version` is that whole number, else version 1
+unfoldable pub version_of : Data → Version
+version_of tree = if nat_eq (whole_or 0 (value_at key.Version tree)) 2 then Two else One
+
+-- the items of a list that version 2 adds
+abbrev pub added_items : Version → FormatKey → Data → List Data
+added_items One key tree = []
+added_items Two key tree = items_at key tree
 
 -- one item of the list of groups, its contact left out
 abbrev pub plain_group : Data → Group
@@ -81,13 +94,32 @@ slow_in groups d = record {
 
 -- one item of the list of crashes
 abbrev pub crash_in : List Group → Data → Crash
-crash_in groups d = record { member = member_at groups key.Member d; at = number_at section.Crash key.At (Some d) }
+crash_in groups d = record { member = member_at groups key.Member d; at = number_at section.Departure key.At (Some d) }
+
+-- one item of the list of leaves
+abbrev pub leave_in : List Group → Data → Leave
+leave_in groups d = record { member = member_at groups key.Member d; at = number_at section.Departure key.At (Some d) }
+
+-- one item of the list of cuts
+abbrev pub cut_in : List Group → Data → Cut
+cut_in groups d = record {
+  from = group_at_key groups key.From d;
+  to = group_at_key groups key.To d;
+  at = number_at section.Cut key.At (Some d);
+  until = number_at section.Cut key.Until (Some d);
+}
 
 abbrev pub slows_in : List Group → Data → List Slow
 slows_in groups tree = map (slow_in groups) (items_at key.Slow tree)
 
 abbrev pub crashes_in : List Group → Data → List Crash
 crashes_in groups tree = map (crash_in groups) (items_at key.Crash tree)
+
+abbrev pub leaves_in : Version → List Group → Data → List Leave
+leaves_in v groups tree = map (leave_in groups) (added_items v key.Leave tree)
+
+abbrev pub cuts_in : Version → List Group → Data → List Cut
+cuts_in v groups tree = map (cut_in groups) (added_items v key.Cut tree)
 
 -- how members probe and gossip
 abbrev pub swim_in : Option Data → Swim
@@ -122,6 +154,7 @@ link_in d = record { delay = number_at section.Link key.Delay d; jitter = number
 -- the scenario of a document
 unfoldable pub setup_of_tree : Data → Setup
 setup_of_tree tree = record {
+  version = version_of tree;
   seed = number_at section.Top key.Seed (Some tree);
   end = number_at section.Top key.End (Some tree);
   swim = swim_in (value_at key.Swim tree);
@@ -132,4 +165,6 @@ setup_of_tree tree = record {
   paths = map (path_in (plain_groups tree) (link_in (value_at key.Link tree))) (items_at key.Path tree);
   slows = slows_in (plain_groups tree) tree;
   crashes = crashes_in (plain_groups tree) tree;
+  leaves = leaves_in (version_of tree) (plain_groups tree) tree;
+  cuts = cuts_in (version_of tree) (plain_groups tree) tree;
 }

@@ -6,14 +6,19 @@ use Rattle.std.specs.Char.{is_ascii_lowercase, is_ascii_digit}
 use Rattle.std.specs.Str.{is_utf8}
 use Rattle.toml.specs.Data.{Data, table}
 use Rattle.toml.specs.Parse.{parse_document}
+use Rattle.schema.specs.Schema.{most_members}
 use Rattle.schema.specs.Tree.{items_at}
 use Rattle.schema.specs.Values.{text_if, text_at}
 use Rattle.schema.specs.Shape.{least_broken_of_shape}
+use Rattle.schema.specs.declared.schema.Version.{Version}
+use Rattle.schema.specs.declared.schema.Version.TheVariants.{One}
 use Rattle.schema.specs.declared.schema.FormatKey.TheVariants as key
 use Rattle.scenario.specs.Setup.{Setup, Group, start_of, member_count}
-use Rattle.scenario.specs.Reading.{plain_groups, member_named, group_named, setup_of_tree}
+use Rattle.scenario.specs.Reading.{version_of, added_items, plain_groups, member_named, group_named, setup_of_tree}
 use Rattle.scenario.specs.declared.settings.Slow.{Slow}
 use Rattle.scenario.specs.declared.settings.Crash.{Crash}
+use Rattle.scenario.specs.declared.settings.Leave.{Leave}
+use Rattle.scenario.specs.declared.settings.Cut.{Cut}
 
 abbrev pub starts_with_letter : List ℕ → Bool
 starts_with_letter [] = false
@@ -43,11 +48,11 @@ breaks_names groups = list_any (λ g. not (is_group_name g.name)) groups || any_
 abbrev pub has_lost_contact : List Group → Data → Bool
 has_lost_contact groups d = option_map_or (λ name. is_none (member_named groups name)) (text_if key.Contact d) false
 
--- a slow time or a crash of nobody
+-- a slow time, a crash or a leave of nobody
 abbrev pub names_no_member : List Group → Data → Bool
 names_no_member groups d = is_none (member_named groups (text_at key.Member d))
 
--- a path from or to a group that isn't there
+-- a path or a cut from or to a group that isn't there
 abbrev pub names_no_group : List Group → Data → Bool
 names_no_group groups d = is_none (group_named groups (text_at key.From d)) || is_none (group_named groups (text_at key.To d))
 
@@ -85,44 +90,83 @@ is_over e = nat_le e.until e.from
 unfoldable pub breaks_times : Setup → Bool
 breaks_times s = nat_le s.swim.period s.swim.timeout || (list_any (is_bad_contact s) s.groups || (list_any is_over s.slows || list_any (is_early s) s.crashes))
 
--- rule 10: more than 1,024 members
+-- ---- what version 2 adds
+
+-- to rule 7: a leave of nobody, or a cut from or to no group
+unfoldable pub breaks_added_references : Version → Data → List Group → Bool
+breaks_added_references v tree groups =
+    list_any (names_no_member groups) (added_items v key.Leave tree) || list_any (names_no_group groups) (added_items v key.Cut tree)
+
+-- two leaves of one member
+abbrev pub is_same_leaver : Leave → Leave → Bool
+is_same_leaver a b = nat_eq a.member b.member
+
+-- a leave of a member that crashes
+abbrev pub crashes_too : List Crash → Leave → Bool
+crashes_too crashes l = list_any (λ c. nat_eq c.member l.member) crashes
+
+-- to rule 8: two leaves, or a crash and a leave, of one member
+unfoldable pub breaks_departures : List Crash → List Leave → Bool
+breaks_departures crashes leaves = any_two is_same_leaver leaves || list_any (crashes_too crashes) leaves
+
+-- a leave that isn't after its member's start
+abbrev pub is_early_leave : Setup → Leave → Bool
+is_early_leave s l = nat_le l.at (start_of s l.member)
+
+-- a cut that is over when it begins
+abbrev pub is_cut_over : Cut → Bool
+is_cut_over c = nat_le c.until c.at
+
+-- to rule 9: one of these two
+unfoldable pub breaks_added_times : Setup → Bool
+breaks_added_times s = list_any (is_early_leave s) s.leaves || list_any is_cut_over s.cuts
+
+-- ---- the least rule, and the answer
+
+-- rule 10: more members than there may be in the version, 1,024 or 4,096
 abbrev pub breaks_size : Setup → Bool
-breaks_size s = nat_lt 1024 (member_count s)
+breaks_size s = nat_lt (most_members s.version) (member_count s)
 
 -- the document breaks none of the rules on its values, 6 to 10
 pub record KeepsValues (tree : Data) : Type 0 where
   pub names : breaks_names (plain_groups tree) ≡ false
   pub references : breaks_references tree (plain_groups tree) ≡ false
+  pub added_references : breaks_added_references (version_of tree) tree (plain_groups tree) ≡ false
   pub pairs : breaks_pairs (setup_of_tree tree).crashes (setup_of_tree tree).slows ≡ false
+  pub departures : breaks_departures (setup_of_tree tree).crashes (setup_of_tree tree).leaves ≡ false
   pub times : breaks_times (setup_of_tree tree) ≡ false
+  pub added_times : breaks_added_times (setup_of_tree tree) ≡ false
   pub size : breaks_size (setup_of_tree tree) ≡ false
+
+-- the least of the rules 6 to 10 that are broken
+abbrev pub least_of : Bool → Bool → Bool → Bool → Bool → Option ℕ
+least_of names references pairs times size =
+    if names then Some 6
+    else if references then Some 7
+    else if pairs then Some 8
+    else if times then Some 9
+    else if size then Some 10
+    else None
 
 -- the least broken of the rules on the values
 unfoldable pub least_broken_by : Data → Setup → Option ℕ
 least_broken_by tree s =
-    if breaks_names (plain_groups tree) then Some 6
-    else if breaks_references tree (plain_groups tree) then Some 7
-    else if breaks_pairs s.crashes s.slows then Some 8
-    else if breaks_times s then Some 9
-    else if breaks_size s then Some 10
-    else None
+    least_of (breaks_names (plain_groups tree)) (breaks_references tree (plain_groups tree) || breaks_added_references s.version tree (plain_groups tree))
+    (breaks_pairs s.crashes s.slows || breaks_departures s.crashes s.leaves) (breaks_times s || breaks_added_times s) (breaks_size s)
 
 -- the least broken rule of a document
 unfoldable pub least_broken : Data → Option ℕ
-least_broken tree = option_or (least_broken_of_shape tree) (least_broken_by tree (setup_of_tree tree))
+least_broken tree = option_or (least_broken_of_shape (version_of tree) tree) (least_broken_by tree (setup_of_tree tree))
 
 -- a document is answered with its scenario, or with the least rule that it breaks
 abbrev pub unless_broken : Setup → Option ℕ → Result Setup ℕ
 unless_broken s None = Ok s
 unless_broken s (Some rule) = Err rule
 
-unfoldable pub judged : Data → Result Setup ℕ
-judged tree = unless_broken (setup_of_tree tree) (least_broken tree)
-
 -- rule 1: the bytes are no TOML document
-abbrev pub judged_if_read : Option Data → Result Setup ℕ
-judged_if_read None = Err 1
-judged_if_read (Some tree) = judged tree
+abbrev pub judged_if_read : (Data → Option ℕ) → Option Data → Result Setup ℕ
+judged_if_read least None = Err 1
+judged_if_read least (Some tree) = unless_broken (setup_of_tree tree) (least tree)
 
 -- the document that the bytes are
 abbrev pub tree_of : List ℕ → Option Data
@@ -130,4 +174,22 @@ tree_of bytes = if is_utf8 bytes then option_map table (parse_document bytes) el
 
 -- what a text is answered
 unfoldable pub verdict : List ℕ → Result Setup ℕ
-verdict bytes = judged_if_read (tree_of bytes)
+verdict bytes = judged_if_read least_broken (tree_of bytes)
+
+-- ---- version 1 by itself
+
+-- the least broken of the rules on the values, as it was before there was a version 2
+unfoldable pub first_least_broken_by : Data → Setup → Option ℕ
+first_least_broken_by tree s =
+    least_of (breaks_names (plain_groups tree)) (breaks_references tree (plain_groups tree)) (breaks_pairs s.crashes s.slows) (breaks_times s) (nat_lt 1024 (member_count s))
+
+unfoldable pub first_least_broken : Data → Option ℕ
+first_least_broken tree = option_or (least_broken_of_shape One tree) (first_least_broken_by tree (setup_of_tree tree))
+
+-- what a text was answered
+unfoldable pub first_verdict : List ℕ → Result Setup ℕ
+first_verdict bytes = judged_if_read first_least_broken (tree_of bytes)
+
+-- the version of a text; 1 where it is no document
+abbrev pub version_in : List ℕ → Version
+version_in bytes = option_map_or version_of (tree_of bytes) One

@@ -1,7 +1,9 @@
 -- A scenario as its text says it, and what is said of its members.
-use Rattle.std.specs.Prelude.{◌≡◌, ℕ, ◌<◌, ◌≤◌, ◌^◌, ◌+◌, ◌-◌, Bool, ◌&&◌, if◌then◌else◌, nat_lt, nat_le, nat_eq, List, [], ◌∷◌, ◌++◌, map, filter, find, sum_by, flat_map, codes, decimal, Option, Some, None, IfSome, option_map, option_and_then, unwrap_or, slice_get}
-use Rattle.std.specs.List.{range_with_len}
-use Rattle.std.specs.Option.{option_map_or}
+use Rattle.std.specs.Prelude.{◌≡◌, ℕ, ◌<◌, ◌≤◌, ◌^◌, ◌+◌, ◌-◌, Bool, true, ◌&&◌, if◌then◌else◌, nat_lt, nat_le, nat_eq, List, [], ◌∷◌, ◌++◌, map, filter, find, sum_by, flat_map, codes, decimal, Option, Some, None, IfSome, option_map, option_and_then, unwrap_or, slice_get}
+use Rattle.std.specs.List.{range_with_len, list_any, AllByRecursion}
+use Rattle.std.specs.Option.{is_some, option_map_or}
+use Rattle.schema.specs.declared.schema.Version.{Version}
+use Rattle.schema.specs.declared.schema.Version.TheVariants.{One}
 use Rattle.scenario.specs.declared.settings.Swim.{Swim}
 use Rattle.scenario.specs.declared.settings.Suspicion.{Suspicion}
 use Rattle.scenario.specs.declared.settings.Lifeguard.{Lifeguard}
@@ -9,6 +11,8 @@ use Rattle.scenario.specs.declared.settings.Link.{Link}
 use Rattle.scenario.specs.declared.settings.Path.{Path}
 use Rattle.scenario.specs.declared.settings.Slow.{Slow}
 use Rattle.scenario.specs.declared.settings.Crash.{Crash}
+use Rattle.scenario.specs.declared.settings.Leave.{Leave}
+use Rattle.scenario.specs.declared.settings.Cut.{Cut}
 
 -- members of one name, told apart by an index
 pub record Group : Type 0 where
@@ -20,6 +24,8 @@ pub record Group : Type 0 where
   pub contact : Option ℕ
 
 pub record Setup : Type 0 where
+  -- of the text's format
+  pub version : Version
   pub seed : ℕ
   -- the last moment that is simulated
   pub end : ℕ
@@ -35,6 +41,10 @@ pub record Setup : Type 0 where
   pub slows : List Slow
   -- in the order of the text
   pub crashes : List Crash
+  -- in the order of the text
+  pub leaves : List Leave
+  -- in the order of the text
+  pub cuts : List Cut
 
 -- NAME-0 to NAME-(count - 1), the index in decimal without leading zeros
 abbrev pub names_below : List ℕ → ℕ → List (List ℕ)
@@ -89,6 +99,10 @@ contact_of s m = option_and_then (λ g. g.contact) (member_group s m)
 abbrev pub crash_of : Setup → ℕ → Option ℕ
 crash_of s m = option_map (λ c. c.at) (find (λ c. nat_eq c.member m) s.crashes)
 
+-- when a member leaves, if it does
+abbrev pub leave_of : Setup → ℕ → Option ℕ
+leave_of s m = option_map (λ l. l.at) (find (λ l. nat_eq l.member m) s.leaves)
+
 -- the entry says that the member is slow at the moment
 abbrev pub is_slow : ℕ → ℕ → Slow → Bool
 is_slow m t e = nat_eq e.member m && (nat_le e.from t && nat_lt t e.until)
@@ -96,6 +110,14 @@ is_slow m t e = nat_eq e.member m && (nat_le e.from t && nat_lt t e.until)
 -- by how many ticks a member is slow at a moment
 abbrev pub extra_of : Setup → ℕ → ℕ → ℕ
 extra_of s m t = option_map_or (λ e. e.extra) (find (is_slow m t) s.slows) 0
+
+-- the entry cuts what is sent from the one group to the other at the moment
+abbrev pub cuts_off : ℕ → ℕ → ℕ → Cut → Bool
+cuts_off from to t c = (nat_eq c.from from && nat_eq c.to to) && (nat_le c.at t && nat_lt t c.until)
+
+-- what one member sends to another at a moment is lost, since the link from the one's group to the other's is cut
+abbrev pub is_cut : Setup → ℕ → ℕ → ℕ → Bool
+is_cut s i j t = list_any (cuts_off (group_at s.groups i) (group_at s.groups j) t) s.cuts
 
 -- a link's numbers are in the format's ranges
 pub record IsSoundLink (l : Link) : Type 0 where
@@ -108,8 +130,13 @@ pub record IsSoundContact (s : Setup) (m : ℕ) : Type 0 where
   pub none : start_of s m ≡ 0 → contact_of s m ≡ None
   pub some : 0 < start_of s m → (c : ℕ) × (contact_of s m ≡ Some c) × (c < member_count s) × (start_of s c ≡ 0)
 
+-- Nobody leaves and no link is cut: so is every scenario of version 1.
+pub record IsPlain (s : Setup) : Type 0 where
+  pub leaves : s.leaves ≡ []
+  pub cuts : s.cuts ≡ []
+
 -- What every scenario keeps: the format's ranges of its numbers, the timeout below the period, who asks
--- whom to join, and crashes after the starts.
+-- whom to join, crashes and leaves after the starts, of each member at most one, and cuts that last.
 pub record IsSound (s : Setup) : Type 0 where
   pub end : s.end ≤ 2 ^ 40
   pub period : s.swim.period ≤ 2 ^ 24
@@ -127,8 +154,12 @@ pub record IsSound (s : Setup) : Type 0 where
   pub jitter : s.link.jitter ≤ 2 ^ 20
   pub loss : s.link.loss ≤ 1000000
   pub between : (i j : ℕ) → IsSoundLink (link_between s i j)
-  pub members : (0 < member_count s) × (member_count s ≤ 1024)
+  pub members : (0 < member_count s) × (member_count s ≤ 4096)
   pub starts : (m : ℕ) → start_of s m ≤ 2 ^ 40
   pub contacts : (m : ℕ) → m < member_count s → IsSoundContact s m
   pub crashes : (m : ℕ) → IfSome (crash_of s m) (λ t. (start_of s m < t) × (t ≤ 2 ^ 40))
   pub extras : (m t : ℕ) → extra_of s m t ≤ 2 ^ 24
+  pub leaves : (m : ℕ) → IfSome (leave_of s m) (λ t. (start_of s m < t) × (t ≤ 2 ^ 40))
+  pub once : (m : ℕ) → is_some (leave_of s m) ≡ true → crash_of s m ≡ None
+  pub cuts : AllByRecursion (λ c. (c.at < c.until) × (c.until ≤ 2 ^ 40)) s.cuts
+  pub first : s.version ≡ One → IsPlain s × (member_count s ≤ 1024)

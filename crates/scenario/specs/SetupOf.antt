@@ -9,7 +9,7 @@ abbrev pub group_of : Stored → Group
 group_of g = record { name = string_bytes g.name; count = g.count; start = g.start; contact = g.contact }
 
 abbrev pub setup_of : Inside → Setup
-setup_of s = record { seed = s.seed; end = s.end; swim = s.swim; suspicion = s.suspicion; lifeguard = s.lifeguard; link = s.link; groups = map group_of s.groups.items; paths = s.paths.items; slows = s.slows.items; crashes = s.crashes.items }
+setup_of s = record { version = s.version; seed = s.seed; end = s.end; swim = s.swim; suspicion = s.suspicion; lifeguard = s.lifeguard; link = s.link; groups = map group_of s.groups.items; paths = s.paths.items; slows = s.slows.items; crashes = s.crashes.items; leaves = s.leaves.items; cuts = s.cuts.items }
 
 -- the names are those of all members, at their numbers, and the numbers are in their ranges
 pub record IsScenario (s : Inside) : Type 0 where

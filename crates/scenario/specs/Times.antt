@@ -19,6 +19,10 @@ is_bad_contact_in groups d =
 abbrev pub is_over_in : Data → Bool
 is_over_in d = nat_le (number_at section.Slow key.Until (Some d)) (number_at section.Slow key.From (Some d))
 
--- a crash that isn't after its member's start
+-- a crash or a leave that isn't after its member's start
 abbrev pub is_early_in : List Group → Data → Bool
-is_early_in groups d = option_map_or (λ m. nat_le (number_at section.Crash key.At (Some d)) (start_in groups m)) (member_named groups (text_at key.Member d)) false
+is_early_in groups d = option_map_or (λ m. nat_le (number_at section.Departure key.At (Some d)) (start_in groups m)) (member_named groups (text_at key.Member d)) false
+
+-- a cut that is over when it begins
+abbrev pub is_cut_over_in : Data → Bool
+is_cut_over_in d = nat_le (number_at section.Cut key.Until (Some d)) (number_at section.Cut key.At (Some d))

@@ -1,6 +1,7 @@
 //! The scenario text: reads it, or refuses it by the least broken rule.
 #![tactic(auto)]
 
+mod additions;
 mod division;
 #[cfg(test)]
 mod division_tests;
@@ -22,9 +23,12 @@ mod tests;
 #[cfg(test)]
 mod tests_fixture;
 mod times;
+#[cfg(test)]
+mod version_tests;
 
 pub use division::{Division, DivisionFault, Workers};
 pub use reader::read;
 pub use refusal::Refusal;
 pub use scenario::Scenario;
-pub use settings::{Crash, Lifeguard, Link, Path, Slow, Suspicion, Swim};
+pub use schema::Version;
+pub use settings::{Crash, Cut, Leave, Lifeguard, Link, Path, Slow, Suspicion, Swim};

@@ -1,15 +1,16 @@
-//! The lists of a document that breaks no rule: groups, paths, slow times and crashes.
+//! The lists of a document that breaks no rule: groups, paths, slow times, crashes, leaves and cuts.
 ghost use Rattle.std.specs.Prelude.{◌≡◌, ◌≤◌, ◌<◌, ◌++◌, map, sum_by, flat_map, string_bytes, option_and_then, IfOk, OnOk};
 ghost use Rattle.toml.specs.View.{view};
 ghost use Rattle.schema.specs.Values.{text_if};
 ghost use Rattle.scenario.specs.Setup.{names_in, names_below};
 ghost use Rattle.scenario.specs.SetupOf.{group_of};
-ghost use Rattle.scenario.specs.Reading.{plain_group, group_in, member_named, group_named, group_at_key, member_at, link_over, path_in, slow_in, crash_in};
+ghost use Rattle.scenario.specs.Reading.{slows_in, crashes_in, leaves_in, cuts_in, plain_group, group_in, member_named, group_named, group_at_key, member_at, link_over, path_in, slow_in, crash_in, leave_in, cut_in};
 
+use crate::additions::added_items;
 use crate::roster::{Found, Roster};
-use crate::settings::{Crash, Group, Link, Path, Slow};
+use crate::settings::{Crash, Cut, Group, Leave, Link, Path, Slow};
 use base::{MemberId, Memory, Moment};
-use schema::{FormatKey, Section, number, text, text_if, whole_or};
+use schema::{FormatKey, Section, Version, items_at, number, text, text_if, whole_or};
 use std::alloc::Global;
 use toml::Value;
 
@@ -26,7 +27,7 @@ pub(crate) fn read_groups(
     roster: &Roster,
     list: &[Value],
 ) -> Result<Vec<Group>, Memory>
-    requires at_most_1024 { sum_by (λ g. g.count) roster.now ≤ 1024 }
+    requires at_most_4096 { sum_by (λ g. g.count) roster.now ≤ 4096 }
     ensures { IfOk result (λ groups. map group_of groups.items ≡ map (λ v. group_in roster.now (view v)) list.now) }
 {
     let mut groups = Vec::new(alloc);
@@ -41,7 +42,7 @@ pub(crate) fn read_groups(
 
 /// One group.
 fn read_group(alloc: Global, roster: &Roster, item: &Value) -> Result<Group, Memory>
-    requires at_most_1024 { sum_by (λ g. g.count) roster.now ≤ 1024 }
+    requires at_most_4096 { sum_by (λ g. g.count) roster.now ≤ 4096 }
     ensures { IfOk result (λ group. group_of group ≡ group_in roster.now (view item.now)) }
 {
     let Ok(name) = String::from_str(alloc, text(FormatKey::Name, item)) else {
@@ -57,7 +58,7 @@ fn read_group(alloc: Global, roster: &Roster, item: &Value) -> Result<Group, Mem
 
 /// Whom the members of a group ask to let them join.
 fn read_contact(roster: &Roster, group: &Value) -> Option<MemberId>
-    requires at_most_1024 { sum_by (λ g. g.count) roster.now ≤ 1024 }
+    requires at_most_4096 { sum_by (λ g. g.count) roster.now ≤ 4096 }
     ensures { result ≡ option_and_then (member_named roster.now) (text_if FormatKey.Contact (view group.now)) }
 {
     match text_if(FormatKey::Contact, group) {
@@ -117,13 +118,51 @@ fn link_over(link: Link, path: &Value) -> Link
     }
 }
 
-/// The times in which members are slow, in their order.
-pub(crate) fn read_slows(
+/// What happens to members and links at moments that the text names.
+#[derive(Drop)]
+pub(crate) struct Script {
+    pub(crate) slows: Vec<Slow>,
+    pub(crate) crashes: Vec<Crash>,
+    pub(crate) leaves: Vec<Leave>,
+    pub(crate) cuts: Vec<Cut>,
+}
+
+/// The slow times, crashes, leaves and cuts, each in their order.
+pub(crate) fn read_script(
     alloc: Global,
+    version: Version,
     roster: &Roster,
-    list: &[Value],
-) -> Result<Vec<Slow>, Memory>
-    requires at_most_1024 { sum_by (λ g. g.count) roster.now ≤ 1024 }
+    tree: &Value,
+) -> Result<Script, Memory>
+    requires at_most_4096 { sum_by (λ g. g.count) roster.now ≤ 4096 }
+    ensures slows { IfOk result (λ s. s.slows.items ≡ slows_in roster.now (view tree.now)) }
+    ensures crashes { IfOk result (λ s. s.crashes.items ≡ crashes_in roster.now (view tree.now)) }
+    ensures leaves { IfOk result (λ s. s.leaves.items ≡ leaves_in version roster.now (view tree.now)) }
+    ensures cuts { IfOk result (λ s. s.cuts.items ≡ cuts_in version roster.now (view tree.now)) }
+{
+    let Ok(slows) = read_slows(alloc, roster, items_at(FormatKey::Slow, tree)) else {
+        return Err(Memory);
+    };
+    let Ok(crashes) = read_crashes(alloc, roster, items_at(FormatKey::Crash, tree)) else {
+        return Err(Memory);
+    };
+    let Ok(leaves) = read_leaves(alloc, roster, added_items(version, FormatKey::Leave, tree)) else {
+        return Err(Memory);
+    };
+    let Ok(cuts) = read_cuts(alloc, roster, added_items(version, FormatKey::Cut, tree)) else {
+        return Err(Memory);
+    };
+    Ok(Script {
+        slows,
+        crashes,
+        leaves,
+        cuts,
+    })
+}
+
+/// The times in which members are slow, in their order.
+fn read_slows(alloc: Global, roster: &Roster, list: &[Value]) -> Result<Vec<Slow>, Memory>
+    requires at_most_4096 { sum_by (λ g. g.count) roster.now ≤ 4096 }
     ensures { IfOk result (λ slows. slows.items ≡ map (λ v. slow_in roster.now (view v)) list.now) }
 {
     let mut slows = Vec::new(alloc);
@@ -135,7 +174,7 @@ pub(crate) fn read_slows(
 
 /// One time in which a member is slow.
 fn read_slow(roster: &Roster, item: &Value) -> Slow
-    requires at_most_1024 { sum_by (λ g. g.count) roster.now ≤ 1024 }
+    requires at_most_4096 { sum_by (λ g. g.count) roster.now ≤ 4096 }
     ensures { result ≡ slow_in roster.now (view item.now) }
 {
     Slow {
@@ -147,12 +186,8 @@ fn read_slow(roster: &Roster, item: &Value) -> Slow
 }
 
 /// The crashes in their order.
-pub(crate) fn read_crashes(
-    alloc: Global,
-    roster: &Roster,
-    list: &[Value],
-) -> Result<Vec<Crash>, Memory>
-    requires at_most_1024 { sum_by (λ g. g.count) roster.now ≤ 1024 }
+fn read_crashes(alloc: Global, roster: &Roster, list: &[Value]) -> Result<Vec<Crash>, Memory>
+    requires at_most_4096 { sum_by (λ g. g.count) roster.now ≤ 4096 }
     ensures { IfOk result (λ crashes. crashes.items ≡ map (λ v. crash_in roster.now (view v)) list.now) }
 {
     let mut crashes = Vec::new(alloc);
@@ -164,18 +199,64 @@ pub(crate) fn read_crashes(
 
 /// One crash.
 fn read_crash(roster: &Roster, item: &Value) -> Crash
-    requires at_most_1024 { sum_by (λ g. g.count) roster.now ≤ 1024 }
+    requires at_most_4096 { sum_by (λ g. g.count) roster.now ≤ 4096 }
     ensures { result ≡ crash_in roster.now (view item.now) }
 {
     Crash {
         member: member_at(roster, item),
-        at: Moment(number(Section::Crash, FormatKey::At, Some(item))),
+        at: Moment(number(Section::Departure, FormatKey::At, Some(item))),
+    }
+}
+
+/// The leaves in their order.
+fn read_leaves(alloc: Global, roster: &Roster, list: &[Value]) -> Result<Vec<Leave>, Memory>
+    requires at_most_4096 { sum_by (λ g. g.count) roster.now ≤ 4096 }
+    ensures { IfOk result (λ leaves. leaves.items ≡ map (λ v. leave_in roster.now (view v)) list.now) }
+{
+    let mut leaves = Vec::new(alloc);
+    for item in list {
+        leaves.push(read_leave(roster, item))?;
+    }
+    Ok(leaves)
+}
+
+/// One leave.
+fn read_leave(roster: &Roster, item: &Value) -> Leave
+    requires at_most_4096 { sum_by (λ g. g.count) roster.now ≤ 4096 }
+    ensures { result ≡ leave_in roster.now (view item.now) }
+{
+    Leave {
+        member: member_at(roster, item),
+        at: Moment(number(Section::Departure, FormatKey::At, Some(item))),
+    }
+}
+
+/// The cuts in their order.
+fn read_cuts(alloc: Global, roster: &Roster, list: &[Value]) -> Result<Vec<Cut>, Memory>
+    ensures { IfOk result (λ cuts. cuts.items ≡ map (λ v. cut_in roster.now (view v)) list.now) }
+{
+    let mut cuts = Vec::new(alloc);
+    for item in list {
+        cuts.push(read_cut(roster, item))?;
+    }
+    Ok(cuts)
+}
+
+/// One cut.
+fn read_cut(roster: &Roster, item: &Value) -> Cut
+    ensures { result ≡ cut_in roster.now (view item.now) }
+{
+    Cut {
+        from: group_at(roster, FormatKey::From, item),
+        to: group_at(roster, FormatKey::To, item),
+        at: Moment(number(Section::Cut, FormatKey::At, Some(item))),
+        until: Moment(number(Section::Cut, FormatKey::Until, Some(item))),
     }
 }
 
 /// The member of which an item speaks.
 fn member_at(roster: &Roster, item: &Value) -> MemberId
-    requires at_most_1024 { sum_by (λ g. g.count) roster.now ≤ 1024 }
+    requires at_most_4096 { sum_by (λ g. g.count) roster.now ≤ 4096 }
     ensures { result ≡ member_at roster.now FormatKey.Member (view item.now) }
 {
     match roster.find(text(FormatKey::Member, item)) {

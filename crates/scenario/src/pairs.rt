@@ -36,8 +36,8 @@ pub(crate) fn check_pairs(alloc: Global, roster: &Roster, tree: &Value) -> Resul
     }
 }
 
-/// Refuses two crashes of one member.
-fn check_crashes(alloc: Global, roster: &Roster, list: &[Value]) -> Result<(), Refusal>
+/// Refuses two crashes of one member, or two leaves.
+pub(crate) fn check_crashes(alloc: Global, roster: &Roster, list: &[Value]) -> Result<(), Refusal>
     ensures ok { OnOk result (any_two is_same_member (map (λ v. crash_in roster.now (view v)) list.now) ≡ false) }
     ensures err { IfErr result (λ r. r.rule ≢ 11 → (r.rule ≡ 8) × (any_two is_same_member (map (λ v. crash_in roster.now (view v)) list.now) ≡ true)) }
 {
@@ -53,7 +53,7 @@ fn check_crashes(alloc: Global, roster: &Roster, list: &[Value]) -> Result<(), R
 }
 
 /// The number of the member of which an item speaks.
-fn member(roster: &Roster, item: &Value) -> u128
+pub(crate) fn member(roster: &Roster, item: &Value) -> u128
     ensures { result ≡ member_at roster.now FormatKey.Member (view item.now) }
 {
     match roster.find(text(FormatKey::Member, item)) {

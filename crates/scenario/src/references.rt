@@ -51,8 +51,8 @@ fn has_lost_contact(roster: &Roster, group: &Value) -> bool
     }
 }
 
-/// The index of the first slow time or crash of nobody.
-fn first_stranger(roster: &Roster, list: &[Value]) -> Option<usize>
+/// The index of the first slow time, crash or leave of nobody.
+pub(crate) fn first_stranger(roster: &Roster, list: &[Value]) -> Option<usize>
     ensures { is_some result ≡ list_any (λ v. names_no_member roster.now (view v)) list.now }
 {
     for (i, item) in list.iter().enumerate() {
@@ -63,15 +63,15 @@ fn first_stranger(roster: &Roster, list: &[Value]) -> Option<usize>
     None
 }
 
-/// Whether a slow time or a crash is of nobody.
+/// Whether a slow time, a crash or a leave is of nobody.
 fn names_no_member(roster: &Roster, item: &Value) -> bool
     ensures { result ≡ names_no_member roster.now (view item.now) }
 {
     roster.find(text(FormatKey::Member, item)).is_none()
 }
 
-/// The index of the first path from or to a group that isn't there.
-fn first_lost_path(roster: &Roster, list: &[Value]) -> Option<usize>
+/// The index of the first path or cut from or to a group that isn't there.
+pub(crate) fn first_lost_path(roster: &Roster, list: &[Value]) -> Option<usize>
     ensures { is_some result ≡ list_any (λ v. names_no_group roster.now (view v)) list.now }
 {
     for (i, item) in list.iter().enumerate() {
@@ -82,7 +82,7 @@ fn first_lost_path(roster: &Roster, list: &[Value]) -> Option<usize>
     None
 }
 
-/// Whether a path is from or to a group that isn't there.
+/// Whether a path or a cut is from or to a group that isn't there.
 fn names_no_group(roster: &Roster, path: &Value) -> bool
     ensures { result ≡ names_no_group roster.now (view path.now) }
 {

@@ -1,16 +1,19 @@
 ghost use Rattle.std.specs.Prelude.{◌≡◌, ◌<◌, ◌≤◌, ◌^◌};
 ghost use Rattle.std.specs.Prelude.{map, filter, find, nat_eq, slice_get, option_map, option_and_then, option_copied, IfSome};
+ghost use Rattle.std.specs.List.{list_any};
 ghost use Rattle.std.specs.Option.{option_map_or};
 ghost use Rattle.scenario.specs.SetupOf.{group_of};
-ghost use Rattle.scenario.specs.Setup.{member_count, name_of, group_at, leads, last_link, link_between, start_of, contact_of, crash_of, is_slow, extra_of, IsSound, IsSoundLink};
+ghost use Rattle.scenario.specs.Setup.{member_count, name_of, group_at, leads, last_link, link_between, start_of, contact_of, crash_of, leave_of, is_slow, extra_of, cuts_off, is_cut, IsSound, IsSoundLink};
 
-use crate::settings::{Crash, Group, Lifeguard, Link, Path, Slow, Suspicion, Swim};
+use crate::settings::{Crash, Cut, Group, Leave, Lifeguard, Link, Path, Slow, Suspicion, Swim};
 use base::{MemberId, Moment};
+use schema::Version;
 use std::marker::Model;
 
 /// A scenario that keeps the format's rules: what a run does follows from it alone.
 #[derive(Drop)]
 pub struct Scenario {
+    pub(crate) version: Version,
     pub(crate) seed: u64,
     pub(crate) end: Moment,
     pub(crate) swim: Swim,
@@ -21,6 +24,8 @@ pub struct Scenario {
     pub(crate) paths: Vec<Path>,
     pub(crate) slows: Vec<Slow>,
     pub(crate) crashes: Vec<Crash>,
+    pub(crate) leaves: Vec<Leave>,
+    pub(crate) cuts: Vec<Cut>,
     pub(crate) names: Vec<String>,
 }
 
@@ -37,10 +42,18 @@ impl Model for Scenario {
 }
 
 impl Scenario {
-    /// How many members there are: 1 to 1,024.
+    /// The version of the text's format.
+    pub fn version(&self) -> Version
+        ensures value { result ≡ self.now.version }
+        ensures sound { IsSound self.now }
+    {
+        self.version
+    }
+
+    /// How many members there are: 1 to 1,024 in version 1, and to 4,096 in version 2.
     pub fn members(&self) -> usize
         ensures count { result ≡ member_count self.now }
-        ensures at_most_1024 { result ≤ 1024 }
+        ensures at_most_4096 { result ≤ 4096 }
         ensures sound { IsSound self.now }
     {
         self.names.len()
@@ -146,6 +159,16 @@ impl Scenario {
         crash_of(self.crashes.as_slice(), member.index())
     }
 
+    /// When the member leaves, in ticks, if it does. Nobody crashes and leaves.
+    pub fn leave(&self, member: MemberId) -> Option<Moment>
+        requires { member < member_count self.now }
+        ensures value { result ≡ leave_of self.now member }
+        ensures small { IfSome result (λ t. t ≤ 2 ^ 40) }
+        ensures sound { IsSound self.now }
+    {
+        leave_of(self.leaves.as_slice(), member.index())
+    }
+
     /// By how many ticks what the member sends or receives at the moment takes longer.
     pub fn extra(&self, member: MemberId, at: Moment) -> u64
         requires { member < member_count self.now }
@@ -153,6 +176,18 @@ impl Scenario {
         ensures small { result ≤ 2 ^ 24 }
     {
         extra_at(self.slows.as_slice(), member.index(), at.ticks())
+    }
+
+    /// Whether what the one member sends to the other at the moment is lost, since the link from its
+    /// group to the other's is cut.
+    pub fn is_cut(&self, from: MemberId, to: MemberId, at: Moment) -> bool
+        requires sender { from < member_count self.now }
+        requires receiver { to < member_count self.now }
+        ensures { result ≡ is_cut self.now from to at }
+    {
+        let from = group_at(self.groups.as_slice(), from.index());
+        let to = group_at(self.groups.as_slice(), to.index());
+        is_any_cut(self.cuts.as_slice(), from, to, at.ticks())
     }
 
     /// The number of the member's group, in the order of the text.
@@ -176,6 +211,22 @@ impl Scenario {
         ensures { result.now ≡ self.now.slows }
     {
         self.slows.as_slice()
+    }
+
+    /// Which members leave, and when, in the order of the text; none in version 1.
+    pub fn leaves(&self) -> &[Leave]
+        ensures value { result.now ≡ self.now.leaves }
+        ensures sound { IsSound self.now }
+    {
+        self.leaves.as_slice()
+    }
+
+    /// When links between the members of groups are cut, in the order of the text; never in version 1.
+    pub fn cuts(&self) -> &[Cut]
+        ensures value { result.now ≡ self.now.cuts }
+        ensures sound { IsSound self.now }
+    {
+        self.cuts.as_slice()
     }
 
     /// The link of every pair of members whose groups no path names.
@@ -231,6 +282,16 @@ fn crash_of(crashes: &[Crash], member: usize) -> Option<Moment>
         .map(|crash| crash.at)
 }
 
+/// When the member leaves, if it does.
+fn leave_of(leaves: &[Leave], member: usize) -> Option<Moment>
+    ensures { result ≡ option_map (λ l. l.at) (find (λ l. nat_eq l.member member) leaves.now) }
+{
+    leaves
+        .iter()
+        .find(|leave| leave.member.index() == member)
+        .map(|leave| leave.at)
+}
+
 /// By how many ticks the member is slow at the moment.
 fn extra_at(slows: &[Slow], member: usize, at: u64) -> u64
     ensures { result ≡ option_map_or (λ e. e.extra) (find (is_slow member at) slows.now) 0 }
@@ -253,6 +314,20 @@ fn is_slow(slow: &Slow, member: usize, at: u64) -> bool
     ensures { result ≡ is_slow member at slow.now }
 {
     slow.member.index() == member && slow.from.ticks() <= at && at < slow.until.ticks()
+}
+
+/// Whether the link from the one group to the other is cut at the moment.
+fn is_any_cut(cuts: &[Cut], from: usize, to: usize, at: u64) -> bool
+    ensures { result ≡ list_any (cuts_off from to at) cuts.now }
+{
+    cuts.iter().any(|cut| cuts_off(cut, from, to, at))
+}
+
+/// Whether the entry cuts the link from the one group to the other at the moment.
+fn cuts_off(cut: &Cut, from: usize, to: usize, at: u64) -> bool
+    ensures { result ≡ cuts_off from to at cut.now }
+{
+    cut.from == from && cut.to == to && cut.at.ticks() <= at && at < cut.until.ticks()
 }
 
 /// The link of the last path from one group to another, else the link that is given.

@@ -95,3 +95,23 @@ pub struct Crash {
     pub member: MemberId,
     pub at: Moment,
 }
+
+/// The leave of a member: it goes and tells others so.
+#[derive(Clone, Copy, Debug, PartialEq, Eq)]
+pub struct Leave {
+    pub member: MemberId,
+    pub at: Moment,
+}
+
+/// A time in which all that the members of one group send to those of another, or of the same, is lost.
+#[derive(Clone, Copy, Debug, PartialEq, Eq)]
+pub struct Cut {
+    /// The number of the senders' group, in the order of the text.
+    pub from: usize,
+    /// The number of the receivers' group.
+    pub to: usize,
+    /// The first moment at which the link is cut.
+    pub at: Moment,
+    /// The first moment at which it no longer is.
+    pub until: Moment,
+}

@@ -93,8 +93,8 @@ fn is_over(slow: &Value) -> bool
         <= number(Section::Slow, FormatKey::From, Some(slow))
 }
 
-/// The index of the first crash that isn't after its member's start.
-fn first_early(roster: &Roster, list: &[Value]) -> Option<usize>
+/// The index of the first crash or leave that isn't after its member's start.
+pub(crate) fn first_early(roster: &Roster, list: &[Value]) -> Option<usize>
     ensures { is_some result ≡ list_any (λ v. is_early_in roster.now (view v)) list.now }
 {
     for (i, item) in list.iter().enumerate() {
@@ -105,12 +105,12 @@ fn first_early(roster: &Roster, list: &[Value]) -> Option<usize>
     None
 }
 
-/// Whether a crash isn't after its member's start.
-fn is_early(roster: &Roster, crash: &Value) -> bool
-    ensures { result ≡ is_early_in roster.now (view crash.now) }
+/// Whether a crash or a leave isn't after its member's start.
+fn is_early(roster: &Roster, item: &Value) -> bool
+    ensures { result ≡ is_early_in roster.now (view item.now) }
 {
-    match roster.find(text(FormatKey::Member, crash)) {
-        Some(found) => number(Section::Crash, FormatKey::At, Some(crash)) <= found.start.ticks(),
+    match roster.find(text(FormatKey::Member, item)) {
+        Some(found) => number(Section::Departure, FormatKey::At, Some(item)) <= found.start.ticks(),
         None => false,
     }
 }

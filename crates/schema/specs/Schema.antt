@@ -1,5 +1,7 @@
--- How the keys of the format are spelt, and which keys a kind of table has, with their ranges and defaults.
+-- How the keys of the format are spelt, and which keys a kind of table has in a version, with their ranges and defaults.
 use Rattle.std.specs.Prelude.{ℕ, ◌-◌, ◌^◌, List, [], ◌∷◌, codes}
+use Rattle.schema.specs.declared.schema.Version.{Version}
+use Rattle.schema.specs.declared.schema.Version.TheVariants.{One, Two}
 use Rattle.schema.specs.declared.schema.KeyRule.{KeyRule}
 use Rattle.schema.specs.declared.schema.FormatKey.{FormatKey}
 use Rattle.schema.specs.declared.schema.FormatKey.TheVariants as key
@@ -23,6 +25,8 @@ spelling_of key.Group = codes "group"
 spelling_of key.Path = codes "path"
 spelling_of key.Slow = codes "slow"
 spelling_of key.Crash = codes "crash"
+spelling_of key.Cut = codes "cut"
+spelling_of key.Leave = codes "leave"
 spelling_of key.Period = codes "period"
 spelling_of key.Timeout = codes "timeout"
 spelling_of key.Helpers = codes "helpers"
@@ -66,11 +70,26 @@ or_else default k values = record { key = k; absence = Default default; kind = v
 abbrev optional : FormatKey → Kind → KeyRule
 optional k values = record { key = k; absence = Optional; kind = values }
 
+-- the number of a version
+abbrev pub number_of : Version → ℕ
+number_of One = 1
+number_of Two = 2
+
+-- how many members a scenario may have
+abbrev pub most_members : Version → ℕ
+most_members One = 1024
+most_members Two = 4096
+
+-- the lists that version 2 adds to the whole text
+abbrev pub added_lists : Version → List KeyRule
+added_lists One = []
+added_lists Two = optional key.Cut (kind.List section.Cut) ∷ optional key.Leave (kind.List section.Departure) ∷ []
+
 -- The keys of a kind of table, each with its kind, its range and its default: moments go up to 2^40, lengths of time up to 2^24, delays and jitters up to
--- 2^20 ticks, and a loss is in parts per million.
-unfoldable pub key_rules_of : Section → List KeyRule
-key_rules_of section.Top =
-    required key.Version (Whole 1 1)
+-- 2^20 ticks, and a loss is in parts per million. No default differs between versions.
+unfoldable pub key_rules_of : Version → Section → List KeyRule
+key_rules_of v section.Top =
+    required key.Version (Whole 1 (number_of v))
     ∷ required key.Seed (Whole 0 (2 ^ 63 - 1))
     ∷ required key.End (Whole 0 (2 ^ 40))
     ∷ required key.Swim (Table section.Swim)
@@ -80,9 +99,9 @@ key_rules_of section.Top =
     ∷ required key.Group (kind.List section.Group)
     ∷ optional key.Path (kind.List section.Path)
     ∷ optional key.Slow (kind.List section.Slow)
-    ∷ optional key.Crash (kind.List section.Crash)
-    ∷ []
-key_rules_of section.Swim =
+    ∷ optional key.Crash (kind.List section.Departure)
+    ∷ added_lists v
+key_rules_of v section.Swim =
     required key.Period (Whole 2 (2 ^ 24))
     ∷ required key.Timeout (Whole 1 (2 ^ 24))
     ∷ or_else 3 key.Helpers (Whole 0 16)
@@ -90,11 +109,11 @@ key_rules_of section.Swim =
     ∷ or_else 3 key.Lambda (Whole 1 100)
     ∷ or_else 1 key.Spread (Whole 1 (2 ^ 24))
     ∷ []
-key_rules_of section.Suspicion =
+key_rules_of v section.Suspicion =
     or_else 5 key.Alpha (Whole 1 100)
     ∷ or_else 6 key.Beta (Whole 1 100)
     ∷ []
-key_rules_of section.Lifeguard =
+key_rules_of v section.Lifeguard =
     optional key.Probe Switch
     ∷ optional key.Suspicion Switch
     ∷ optional key.Buddy Switch
@@ -102,31 +121,37 @@ key_rules_of section.Lifeguard =
     ∷ or_else 3 key.Confirmations (Whole 0 9)
     ∷ or_else 80 key.NackPercent (Whole 1 100)
     ∷ []
-key_rules_of section.Link =
+key_rules_of v section.Link =
     required key.Delay (Whole 1 (2 ^ 20))
     ∷ or_else 0 key.Jitter (Whole 0 (2 ^ 20))
     ∷ or_else 0 key.Loss (Whole 0 1000000)
     ∷ []
-key_rules_of section.Group =
+key_rules_of v section.Group =
     required key.Name Text
-    ∷ required key.Count (Whole 1 1024)
+    ∷ required key.Count (Whole 1 (most_members v))
     ∷ or_else 0 key.Start (Whole 0 (2 ^ 40))
     ∷ required_over_0 key.Start key.Contact Text
     ∷ []
-key_rules_of section.Path =
+key_rules_of v section.Path =
     required key.From Text
     ∷ required key.To Text
     ∷ optional key.Delay (Whole 1 (2 ^ 20))
     ∷ optional key.Jitter (Whole 0 (2 ^ 20))
     ∷ optional key.Loss (Whole 0 1000000)
     ∷ []
-key_rules_of section.Slow =
+key_rules_of v section.Slow =
     required key.Member Text
     ∷ required key.From (Whole 0 (2 ^ 40))
     ∷ required key.Until (Whole 0 (2 ^ 40))
     ∷ required key.Extra (Whole 1 (2 ^ 24))
     ∷ []
-key_rules_of section.Crash =
+key_rules_of v section.Departure =
     required key.Member Text
     ∷ required key.At (Whole 0 (2 ^ 40))
+    ∷ []
+key_rules_of v section.Cut =
+    required key.From Text
+    ∷ required key.To Text
+    ∷ required key.At (Whole 0 (2 ^ 40))
+    ∷ required key.Until (Whole 0 (2 ^ 40))
     ∷ []

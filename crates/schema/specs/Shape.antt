@@ -6,6 +6,7 @@ use Rattle.std.specs.Option.{option_map_or}
 use Rattle.toml.specs.Data.{Data, integer, array, no_items, as_integer, as_bool, as_str, as_array, as_table}
 use Rattle.schema.specs.Schema.{key_rules_of}
 use Rattle.schema.specs.Tree.{SectionTable, tables_of, value_at, rule_named, keys_of}
+use Rattle.schema.specs.declared.schema.Version.{Version}
 use Rattle.schema.specs.declared.schema.KeyRule.{KeyRule}
 use Rattle.schema.specs.declared.schema.Kind.{Kind}
 use Rattle.schema.specs.declared.schema.Kind.TheVariants as kind
@@ -67,33 +68,33 @@ rule_of Unknown = 3
 rule_of WrongKind = 4
 rule_of OutOfRange = 5
 
--- what each of the rules 2 to 5 refuses in a part
-unfoldable pub table_breaks : Check → SectionTable → Bool
+-- what each of the rules 2 to 5 refuses in a part, in a version
+unfoldable pub table_breaks : Version → Check → SectionTable → Bool
 -- rule 2: a table lacks a required key
-table_breaks Missing p = is_some (as_table p.value) && list_any (is_missing p.value) (key_rules_of p.section)
+table_breaks v Missing p = is_some (as_table p.value) && list_any (is_missing p.value) (key_rules_of v p.section)
 -- rule 3: a table has a key that the format doesn't name
-table_breaks Unknown p = list_any (λ key. is_none (rule_named (key_rules_of p.section) key)) (keys_of p.value)
+table_breaks v Unknown p = list_any (λ key. is_none (rule_named (key_rules_of v p.section) key)) (keys_of p.value)
 -- rule 4: the part is no table, or a value in it is of another kind
-table_breaks WrongKind p = is_none (as_table p.value) || list_any (has_fault is_other_kind p.value) (key_rules_of p.section)
+table_breaks v WrongKind p = is_none (as_table p.value) || list_any (has_fault is_other_kind p.value) (key_rules_of v p.section)
 -- rule 5: a whole number is outside its range
-table_breaks OutOfRange p = list_any (has_fault is_outside p.value) (key_rules_of p.section)
+table_breaks v OutOfRange p = list_any (has_fault is_outside p.value) (key_rules_of v p.section)
 
 -- some part of the document breaks the rule
-unfoldable pub breaks : Check → Data → Bool
-breaks check tree = list_any (table_breaks check) (tables_of tree)
+unfoldable pub breaks : Version → Check → Data → Bool
+breaks v check tree = list_any (table_breaks v check) (tables_of v tree)
 
 -- the document breaks none of the rules on its tables, 2 to 5
-pub record KeepsShape (tree : Data) : Type 0 where
-  pub missing : breaks Missing tree ≡ false
-  pub unknown : breaks Unknown tree ≡ false
-  pub kinds : breaks WrongKind tree ≡ false
-  pub ranges : breaks OutOfRange tree ≡ false
+pub record KeepsShape (v : Version) (tree : Data) : Type 0 where
+  pub missing : breaks v Missing tree ≡ false
+  pub unknown : breaks v Unknown tree ≡ false
+  pub kinds : breaks v WrongKind tree ≡ false
+  pub ranges : breaks v OutOfRange tree ≡ false
 
 -- the least broken of the rules on the tables
-unfoldable pub least_broken_of_shape : Data → Option ℕ
-least_broken_of_shape tree =
-    if breaks Missing tree then Some 2
-    else if breaks Unknown tree then Some 3
-    else if breaks WrongKind tree then Some 4
-    else if breaks OutOfRange tree then Some 5
+unfoldable pub least_broken_of_shape : Version → Data → Option ℕ
+least_broken_of_shape v tree =
+    if breaks v Missing tree then Some 2
+    else if breaks v Unknown tree then Some 3
+    else if breaks v WrongKind tree then Some 4
+    else if breaks v OutOfRange tree then Some 5
     else None

@@ -4,6 +4,7 @@ use Rattle.std.specs.Option.{option_map_or}
 use Rattle.toml.specs.Data.{Data, array, table, Items, no_items, item, Members, no_members, member, get}
 use Rattle.schema.specs.Schema.{spelling_of, key_rules_of}
 use Rattle.schema.specs.declared.schema.KeyRule.{KeyRule}
+use Rattle.schema.specs.declared.schema.Version.{Version}
 use Rattle.schema.specs.declared.schema.FormatKey.{FormatKey}
 use Rattle.schema.specs.declared.schema.Section.{Section}
 use Rattle.schema.specs.declared.schema.Section.TheVariants.{Top}
@@ -58,5 +59,5 @@ abbrev pub tables_below : Data → KeyRule → List SectionTable
 tables_below tree row = tables_at row.kind (value_at row.key tree)
 
 -- all that has to be a table: the whole text, and what its keys call for
-unfoldable pub tables_of : Data → List SectionTable
-tables_of tree = section_table Top tree ∷ flat_map (tables_below tree) (key_rules_of Top)
+unfoldable pub tables_of : Version → Data → List SectionTable
+tables_of v tree = section_table Top tree ∷ flat_map (tables_below tree) (key_rules_of v Top)

@@ -8,6 +8,6 @@ mod shape;
 mod tests;
 mod values;
 
-pub use schema::{Absence, FormatKey, KeyRule, Kind, Section};
+pub use schema::{Absence, FormatKey, KeyRule, Kind, Section, Version};
 pub use shape::{Check, ShapeFault, TablePlace, check_shape};
 pub use values::{items_at, number, switch, text, text_if, whole_or};

@@ -1,6 +1,28 @@
-//! The format of a scenario text, as rows of data: one constant for each kind of table.
+//! The format of a scenario text, as rows of data: a constant for each kind of table, and for each
+//! version where they differ.
 ghost use Rattle.std.specs.Prelude.{◌≡◌};
-ghost use Rattle.schema.specs.Schema.{spelling_of, key_rules_of};
+ghost use Rattle.schema.specs.Schema.{most_members, spelling_of, key_rules_of};
+
+/// A version of the format.
+#[derive(Clone, Copy, Debug, PartialEq, Eq)]
+pub enum Version {
+    /// Members start, join and crash.
+    One,
+    /// They leave too, links are cut, and clusters are larger.
+    Two,
+}
+
+impl Version {
+    /// How many members a scenario may have.
+    pub fn most_members(self) -> u64
+        ensures { result ≡ most_members self }
+    {
+        match self {
+            Version::One => 1024,
+            Version::Two => 4096,
+        }
+    }
+}
 
 /// A key that the format names.
 #[derive(Clone, Copy, Debug, PartialEq, Eq)]
@@ -16,6 +38,8 @@ pub enum FormatKey {
     Path,
     Slow,
     Crash,
+    Cut,
+    Leave,
     Period,
     Timeout,
     Helpers,
@@ -62,6 +86,8 @@ impl FormatKey {
             FormatKey::Path => "path",
             FormatKey::Slow => "slow",
             FormatKey::Crash => "crash",
+            FormatKey::Cut => "cut",
+            FormatKey::Leave => "leave",
             FormatKey::Period => "period",
             FormatKey::Timeout => "timeout",
             FormatKey::Helpers => "helpers",
@@ -107,27 +133,52 @@ pub enum Section {
     Path,
     /// One item of the list of times in which a member is slow.
     Slow,
-    /// One item of the list of crashes.
-    Crash,
+    /// One item of the list of crashes, or of that of leaves.
+    Departure,
+    /// One item of the list of cuts.
+    Cut,
 }
 
 impl Section {
-    /// The rows of the section's keys.
+    /// The rows of the section's keys in a version.
     #[tactic(auto, unfolding(crate::specs::Schema::key_rules_of))]
-    pub fn rows(self) -> &'static [KeyRule]
-        ensures { result.now ≡ key_rules_of self }
+    pub fn rows(self, version: Version) -> &'static [KeyRule]
+        ensures { result.now ≡ key_rules_of version self }
     {
         match self {
-            Section::Top => &TOP,
+            Section::Top => top_rows(version),
             Section::Swim => &SWIM,
             Section::Suspicion => &SUSPICION,
             Section::Lifeguard => &LIFEGUARD,
             Section::Link => &LINK,
-            Section::Group => &GROUP,
+            Section::Group => group_rows(version),
             Section::Path => &PATH,
             Section::Slow => &SLOW,
-            Section::Crash => &CRASH,
+            Section::Departure => &DEPARTURE,
+            Section::Cut => &CUT,
         }
+    }
+}
+
+/// The keys of the whole text.
+#[tactic(auto, unfolding(crate::specs::Schema::key_rules_of))]
+fn top_rows(version: Version) -> &'static [KeyRule]
+    ensures { result.now ≡ key_rules_of version Section.Top }
+{
+    match version {
+        Version::One => &TOP_1,
+        Version::Two => &TOP_2,
+    }
+}
+
+/// The keys of a group.
+#[tactic(auto, unfolding(crate::specs::Schema::key_rules_of))]
+fn group_rows(version: Version) -> &'static [KeyRule]
+    ensures { result.now ≡ key_rules_of version Section.Group }
+{
+    match version {
+        Version::One => &GROUP_1,
+        Version::Two => &GROUP_2,
     }
 }
 
@@ -168,69 +219,126 @@ pub struct KeyRule {
     pub kind: Kind,
 }
 
-/// The whole text.
-pub(crate) const TOP: [KeyRule; 11] = [
-    KeyRule {
-        key: FormatKey::Version,
-        absence: Absence::Refused,
-        kind: Kind::Whole { least: 1, most: 1 },
+const VERSION_1: KeyRule = KeyRule {
+    key: FormatKey::Version,
+    absence: Absence::Refused,
+    kind: Kind::Whole { least: 1, most: 1 },
+};
+
+const VERSION_2: KeyRule = KeyRule {
+    key: FormatKey::Version,
+    absence: Absence::Refused,
+    kind: Kind::Whole { least: 1, most: 2 },
+};
+
+const SEED: KeyRule = KeyRule {
+    key: FormatKey::Seed,
+    absence: Absence::Refused,
+    kind: Kind::Whole {
+        least: 0,
+        most: 0x7fff_ffff_ffff_ffff,
     },
-    KeyRule {
-        key: FormatKey::Seed,
-        absence: Absence::Refused,
-        kind: Kind::Whole {
-            least: 0,
-            most: 0x7fff_ffff_ffff_ffff,
-        },
+};
+
+const END: KeyRule = KeyRule {
+    key: FormatKey::End,
+    absence: Absence::Refused,
+    kind: Kind::Whole {
+        least: 0,
+        most: 0x100_0000_0000,
     },
-    KeyRule {
-        key: FormatKey::End,
-        absence: Absence::Refused,
-        kind: Kind::Whole {
-            least: 0,
-            most: 0x100_0000_0000,
-        },
-    },
-    KeyRule {
-        key: FormatKey::Swim,
-        absence: Absence::Refused,
-        kind: Kind::Table(Section::Swim),
-    },
-    KeyRule {
-        key: FormatKey::Suspicion,
-        absence: Absence::Optional,
-        kind: Kind::Table(Section::Suspicion),
-    },
-    KeyRule {
-        key: FormatKey::Lifeguard,
-        absence: Absence::Optional,
-        kind: Kind::Table(Section::Lifeguard),
-    },
-    KeyRule {
-        key: FormatKey::Link,
-        absence: Absence::Refused,
-        kind: Kind::Table(Section::Link),
-    },
-    KeyRule {
-        key: FormatKey::Group,
-        absence: Absence::Refused,
-        kind: Kind::List(Section::Group),
-    },
-    KeyRule {
-        key: FormatKey::Path,
-        absence: Absence::Optional,
-        kind: Kind::List(Section::Path),
-    },
-    KeyRule {
-        key: FormatKey::Slow,
-        absence: Absence::Optional,
-        kind: Kind::List(Section::Slow),
-    },
-    KeyRule {
-        key: FormatKey::Crash,
-        absence: Absence::Optional,
-        kind: Kind::List(Section::Crash),
-    },
+};
+
+const SWIM_TABLE: KeyRule = KeyRule {
+    key: FormatKey::Swim,
+    absence: Absence::Refused,
+    kind: Kind::Table(Section::Swim),
+};
+
+const SUSPICION_TABLE: KeyRule = KeyRule {
+    key: FormatKey::Suspicion,
+    absence: Absence::Optional,
+    kind: Kind::Table(Section::Suspicion),
+};
+
+const LIFEGUARD_TABLE: KeyRule = KeyRule {
+    key: FormatKey::Lifeguard,
+    absence: Absence::Optional,
+    kind: Kind::Table(Section::Lifeguard),
+};
+
+const LINK_TABLE: KeyRule = KeyRule {
+    key: FormatKey::Link,
+    absence: Absence::Refused,
+    kind: Kind::Table(Section::Link),
+};
+
+const GROUPS: KeyRule = KeyRule {
+    key: FormatKey::Group,
+    absence: Absence::Refused,
+    kind: Kind::List(Section::Group),
+};
+
+const PATHS: KeyRule = KeyRule {
+    key: FormatKey::Path,
+    absence: Absence::Optional,
+    kind: Kind::List(Section::Path),
+};
+
+const SLOWS: KeyRule = KeyRule {
+    key: FormatKey::Slow,
+    absence: Absence::Optional,
+    kind: Kind::List(Section::Slow),
+};
+
+const CRASHES: KeyRule = KeyRule {
+    key: FormatKey::Crash,
+    absence: Absence::Optional,
+    kind: Kind::List(Section::Departure),
+};
+
+const CUTS: KeyRule = KeyRule {
+    key: FormatKey::Cut,
+    absence: Absence::Optional,
+    kind: Kind::List(Section::Cut),
+};
+
+const LEAVES: KeyRule = KeyRule {
+    key: FormatKey::Leave,
+    absence: Absence::Optional,
+    kind: Kind::List(Section::Departure),
+};
+
+/// The whole text in version 1.
+const TOP_1: [KeyRule; 11] = [
+    VERSION_1,
+    SEED,
+    END,
+    SWIM_TABLE,
+    SUSPICION_TABLE,
+    LIFEGUARD_TABLE,
+    LINK_TABLE,
+    GROUPS,
+    PATHS,
+    SLOWS,
+    CRASHES,
+];
+
+/// The whole text in version 2.
+const TOP_2: [KeyRule; 13] = [
+    VERSION_2,
+    SEED,
+    END,
+    SWIM_TABLE,
+    SUSPICION_TABLE,
+    LIFEGUARD_TABLE,
+    LINK_TABLE,
+    GROUPS,
+    PATHS,
+    SLOWS,
+    CRASHES,
+    CUTS,
+    LEAVES,
 ];
 
 /// How members probe and gossip.
@@ -364,35 +472,50 @@ pub(crate) const LINK: [KeyRule; 3] = [
     },
 ];
 
-/// A group of members.
-pub(crate) const GROUP: [KeyRule; 4] = [
-    KeyRule {
-        key: FormatKey::Name,
-        absence: Absence::Refused,
-        kind: Kind::Text,
+const NAME: KeyRule = KeyRule {
+    key: FormatKey::Name,
+    absence: Absence::Refused,
+    kind: Kind::Text,
+};
+
+const COUNT_1: KeyRule = KeyRule {
+    key: FormatKey::Count,
+    absence: Absence::Refused,
+    kind: Kind::Whole {
+        least: 1,
+        most: 1024,
     },
-    KeyRule {
-        key: FormatKey::Count,
-        absence: Absence::Refused,
-        kind: Kind::Whole {
-            least: 1,
-            most: 1024,
-        },
+};
+
+const COUNT_2: KeyRule = KeyRule {
+    key: FormatKey::Count,
+    absence: Absence::Refused,
+    kind: Kind::Whole {
+        least: 1,
+        most: 4096,
     },
-    KeyRule {
-        key: FormatKey::Start,
-        absence: Absence::Default(0),
-        kind: Kind::Whole {
-            least: 0,
-            most: 0x100_0000_0000,
-        },
+};
+
+const START: KeyRule = KeyRule {
+    key: FormatKey::Start,
+    absence: Absence::Default(0),
+    kind: Kind::Whole {
+        least: 0,
+        most: 0x100_0000_0000,
     },
-    KeyRule {
-        key: FormatKey::Contact,
-        absence: Absence::RefusedOver0(FormatKey::Start),
-        kind: Kind::Text,
-    },
-];
+};
+
+const CONTACT: KeyRule = KeyRule {
+    key: FormatKey::Contact,
+    absence: Absence::RefusedOver0(FormatKey::Start),
+    kind: Kind::Text,
+};
+
+/// A group of members in version 1.
+const GROUP_1: [KeyRule; 4] = [NAME, COUNT_1, START, CONTACT];
+
+/// A group of members in version 2.
+const GROUP_2: [KeyRule; 4] = [NAME, COUNT_2, START, CONTACT];
 
 /// The link from the members of one group to those of another.
 pub(crate) const PATH: [KeyRule; 5] = [
@@ -465,8 +588,8 @@ pub(crate) const SLOW: [KeyRule; 4] = [
     },
 ];
 
-/// The crash of a member.
-pub(crate) const CRASH: [KeyRule; 2] = [
+/// The crash or the leave of a member.
+pub(crate) const DEPARTURE: [KeyRule; 2] = [
     KeyRule {
         key: FormatKey::Member,
         absence: Absence::Refused,
@@ -474,6 +597,36 @@ pub(crate) const CRASH: [KeyRule; 2] = [
     },
     KeyRule {
         key: FormatKey::At,
+        absence: Absence::Refused,
+        kind: Kind::Whole {
+            least: 0,
+            most: 0x100_0000_0000,
+        },
+    },
+];
+
+/// A time in which the links from one group to another, or within one, lose all.
+pub(crate) const CUT: [KeyRule; 4] = [
+    KeyRule {
+        key: FormatKey::From,
+        absence: Absence::Refused,
+        kind: Kind::Text,
+    },
+    KeyRule {
+        key: FormatKey::To,
+        absence: Absence::Refused,
+        kind: Kind::Text,
+    },
+    KeyRule {
+        key: FormatKey::At,
+        absence: Absence::Refused,
+        kind: Kind::Whole {
+            least: 0,
+            most: 0x100_0000_0000,
+        },
+    },
+    KeyRule {
+        key: FormatKey::Until,
         absence: Absence::Refused,
         kind: Kind::Whole {
             least: 0,

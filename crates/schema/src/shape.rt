@@ -6,7 +6,7 @@ ghost use Rattle.toml.specs.View.{view};
 ghost use Rattle.schema.specs.Tree.{section_table, tables_at, tables_below, rule_named, keys_of, items_of};
 ghost use Rattle.schema.specs.Shape.{rule_of, is_over_0, is_missing, is_empty_list, is_absent, has_fault, is_other_kind, is_outside, is_within, table_breaks, breaks, least_broken_of_shape, KeepsShape};
 
-use crate::schema::{Absence, KeyRule, Kind, Section};
+use crate::schema::{Absence, KeyRule, Kind, Section, Version};
 use thiserror::Error;
 use toml::Value;
 
@@ -62,55 +62,60 @@ pub struct ShapeFault {
 }
 
 /// Judges the whole text, the tables and the items of lists that its keys call for, by the rules on
-/// the shape: one check after the other, each on all of them. A document that breaks one is refused
-/// by the least such rule.
-pub fn check_shape(tree: &Value) -> Result<(), ShapeFault>
-    ensures kept { OnOk result (KeepsShape (view tree.now)) }
-    ensures err { IfErr result (λ fault. least_broken_of_shape (view tree.now) ≡ Some (rule_of fault.check)) }
+/// the shape in a version: one check after the other, each on all of them. A document that breaks one
+/// is refused by the least such rule.
+pub fn check_shape(version: Version, tree: &Value) -> Result<(), ShapeFault>
+    ensures kept { OnOk result (KeepsShape version (view tree.now)) }
+    ensures err { IfErr result (λ fault. least_broken_of_shape version (view tree.now) ≡ Some (rule_of fault.check)) }
 {
-    if let Err(fault) = keep(Check::Missing, tree) {
+    if let Err(fault) = keep(version, Check::Missing, tree) {
         return Err(fault);
     }
-    if let Err(fault) = keep(Check::Unknown, tree) {
+    if let Err(fault) = keep(version, Check::Unknown, tree) {
         return Err(fault);
     }
-    if let Err(fault) = keep(Check::WrongKind, tree) {
+    if let Err(fault) = keep(version, Check::WrongKind, tree) {
         return Err(fault);
     }
-    if let Err(fault) = keep(Check::OutOfRange, tree) {
+    if let Err(fault) = keep(version, Check::OutOfRange, tree) {
         return Err(fault);
     }
     Ok(())
 }
 
 /// Refuses a document that breaks the rule.
-fn keep(check: Check, tree: &Value) -> Result<(), ShapeFault>
-    ensures ok { OnOk result (breaks check (view tree.now) ≡ false) }
-    ensures err { IfErr result (λ fault. (breaks check (view tree.now) ≡ true) × (fault.check ≡ check)) }
+fn keep(version: Version, check: Check, tree: &Value) -> Result<(), ShapeFault>
+    ensures ok { OnOk result (breaks version check (view tree.now) ≡ false) }
+    ensures err { IfErr result (λ fault. (breaks version check (view tree.now) ≡ true) × (fault.check ≡ check)) }
 {
-    match first_broken(check, tree) {
+    match first_broken(version, check, tree) {
         Some(place) => Err(ShapeFault { check, place }),
         None => Ok(()),
     }
 }
 
 /// Where the document first breaks the rule.
-fn first_broken(check: Check, tree: &Value) -> Option<TablePlace>
-    ensures { is_some result ≡ breaks check (view tree.now) }
+fn first_broken(version: Version, check: Check, tree: &Value) -> Option<TablePlace>
+    ensures { is_some result ≡ breaks version check (view tree.now) }
 {
-    if is_broken(check, Section::Top, tree) {
+    if is_broken(version, check, Section::Top, tree) {
         return Some(TablePlace::Table);
     }
-    first_broken_below(check, Section::Top.rows(), tree)
+    first_broken_below(version, check, Section::Top.rows(version), tree)
 }
 
 /// Where what the rows call for first breaks the rule.
-fn first_broken_below(check: Check, rows: &[KeyRule], tree: &Value) -> Option<TablePlace>
-    ensures { is_some result ≡ list_any (λ row. list_any (table_breaks check) (tables_below (view tree.now) row)) rows.now }
+fn first_broken_below(
+    version: Version,
+    check: Check,
+    rows: &[KeyRule],
+    tree: &Value,
+) -> Option<TablePlace>
+    ensures { is_some result ≡ list_any (λ row. list_any (table_breaks version check) (tables_below (view tree.now) row)) rows.now }
 {
     for row in rows {
         if let Some(value) = tree.get(row.key.text())
-            && let Some(place) = first_broken_in(check, row.kind, value)
+            && let Some(place) = first_broken_in(version, check, row.kind, value)
         {
             return Some(place);
         }
@@ -119,22 +124,29 @@ fn first_broken_below(check: Check, rows: &[KeyRule], tree: &Value) -> Option<Ta
 }
 
 /// Where the value of a key of this kind first breaks the rule, as a table or as a list of tables.
-fn first_broken_in(check: Check, kind: Kind, value: &Value) -> Option<TablePlace>
-    ensures { is_some result ≡ list_any (table_breaks check) (tables_at kind (Some (view value.now))) }
+fn first_broken_in(version: Version, check: Check, kind: Kind, value: &Value) -> Option<TablePlace>
+    ensures { is_some result ≡ list_any (table_breaks version check) (tables_at kind (Some (view value.now))) }
 {
     match kind {
-        Kind::Table(section) => is_broken(check, section, value).then_some(TablePlace::Table),
-        Kind::List(section) => first_broken_item(check, section, items(value)),
+        Kind::Table(section) => is_broken(version, check, section, value).then_some(
+            TablePlace::Table,
+        ),
+        Kind::List(section) => first_broken_item(version, check, section, items(value)),
         Kind::Whole { .. } | Kind::Switch | Kind::Text => None,
     }
 }
 
 /// The number of the first item that breaks the rule.
-fn first_broken_item(check: Check, section: Section, items: &[Value]) -> Option<TablePlace>
-    ensures { is_some result ≡ list_any (λ v. table_breaks check (section_table section (view v))) items.now }
+fn first_broken_item(
+    version: Version,
+    check: Check,
+    section: Section,
+    items: &[Value],
+) -> Option<TablePlace>
+    ensures { is_some result ≡ list_any (λ v. table_breaks version check (section_table section (view v))) items.now }
 {
     for (i, item) in items.iter().enumerate() {
-        if is_broken(check, section, item) {
+        if is_broken(version, check, section, item) {
             return Some(TablePlace::Item(i));
         }
     }
@@ -153,10 +165,10 @@ pub(crate) fn items(value: &Value) -> &[Value]
 
 /// Whether a value that has to be a table of the section breaks the rule.
 #[tactic(auto, unfolding(crate::specs::Shape::table_breaks))]
-fn is_broken(check: Check, section: Section, value: &Value) -> bool
-    ensures { result ≡ table_breaks check (section_table section (view value.now)) }
+fn is_broken(version: Version, check: Check, section: Section, value: &Value) -> bool
+    ensures { result ≡ table_breaks version check (section_table section (view value.now)) }
 {
-    let rows = section.rows();
+    let rows = section.rows(version);
     match check {
         Check::Missing => value.is_table() && is_any_missing(rows, value),
         Check::Unknown => has_unknown_key(rows, value),

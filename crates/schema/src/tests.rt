@@ -1,7 +1,7 @@
 //! What no clause says: that documents have the shape, and which rule each fault breaks.
 use crate::{
-    Absence, Check, FormatKey, KeyRule, Kind, Section, ShapeFault, TablePlace, check_shape,
-    items_at, number, switch, text, text_if, whole_or,
+    Absence, Check, FormatKey, KeyRule, Kind, Section, ShapeFault, TablePlace, Version,
+    check_shape, items_at, number, switch, text, text_if, whole_or,
 };
 use std::alloc::Global;
 use std::process::Abort;
@@ -41,6 +41,48 @@ const FAULTS: [(&str, &str, Check, TablePlace); 3] = [
         Check::Missing,
         TablePlace::Item(1),
     ),
+];
+
+/// Edits with the rules that the text then breaks in version 1 and in version 2.
+const BY_VERSION: [(&str, &str, (u8, u8)); 14] = [
+    ("version = 1", "version = 2", (5, 0)),
+    ("version = 1", "version = 3", (5, 5)),
+    ("[swim]", "cut = []\nleave = []\n[swim]", (3, 0)),
+    ("[swim]", "leave = 7\n[swim]", (3, 4)),
+    ("[swim]", "leave = [{}]\n[swim]", (3, 2)),
+    (
+        "[swim]",
+        "leave = [{ member = \"n-0\", at = 1, until = 2 }]\n[swim]",
+        (3, 3),
+    ),
+    (
+        "[swim]",
+        "leave = [{ member = \"n-0\", at = 1099511627776 }]\n[swim]",
+        (3, 0),
+    ),
+    (
+        "[swim]",
+        "leave = [{ member = \"n-0\", at = 1099511627777 }]\n[swim]",
+        (3, 5),
+    ),
+    (
+        "[swim]",
+        "cut = [{ from = \"n\", to = \"n\", at = 0 }]\n[swim]",
+        (3, 2),
+    ),
+    (
+        "[swim]",
+        "cut = [{ from = \"n\", to = \"n\", at = 0, until = 1099511627776 }]\n[swim]",
+        (3, 0),
+    ),
+    (
+        "[swim]",
+        "cut = [{ from = \"n\", to = \"n\", at = 0, until = 1099511627777 }]\n[swim]",
+        (3, 5),
+    ),
+    ("count = 2", "count = 1025", (5, 0)),
+    ("count = 2", "count = 4096", (5, 0)),
+    ("count = 2", "count = 4097", (5, 5)),
 ];
 
 /// The head of a text without its groups.
@@ -274,7 +316,7 @@ fn edited(alloc: Global, rt: &impl Abort, old: &str, new: &str) -> String {
 /// What the document of the edited text breaks first.
 fn fault_of(alloc: Global, rt: &impl Abort, old: &str, new: &str) -> Option<ShapeFault> {
     let text = edited(alloc, rt, old, new);
-    check_shape(&document(alloc, rt, text.as_str())).err()
+    check_shape(Version::One, &document(alloc, rt, text.as_str())).err()
 }
 
 /// The rule that the document of the edited text breaks, 0 where it has the shape.
@@ -330,12 +372,32 @@ fn each_range_has_both_ends(rt: HostRuntime) {
     }
 }
 
+/// The rule that a document breaks in a version, 0 where it has the shape.
+fn rule_in(version: Version, document: &Value) -> u8 {
+    match check_shape(version, document) {
+        Ok(()) => 0,
+        Err(fault) => fault.check.rule(),
+    }
+}
+
 /// The rule that a text with these groups breaks, 0 where its document has the shape.
 fn rule_of_groups(alloc: Global, rt: &impl Abort, groups: &str) -> u8 {
     let text = format!(in alloc; "{HEAD}{groups}").expect(rt, "memory");
-    match check_shape(&document(alloc, rt, text.as_str())) {
-        Ok(()) => 0,
-        Err(fault) => fault.check.rule(),
+    rule_in(Version::One, &document(alloc, rt, text.as_str()))
+}
+
+/// Asserts the rules that the edited text breaks in version 1 and in version 2.
+fn assert_by_version(alloc: Global, rt: &impl Abort, old: &str, new: &str, rules: (u8, u8)) {
+    let text = edited(alloc, rt, old, new);
+    let tree = document(alloc, rt, text.as_str());
+    assert!(rt; rule_in(Version::One, &tree) == rules.0, "{new}");
+    assert!(rt; rule_in(Version::Two, &tree) == rules.1, "{new}");
+}
+
+#[test]
+fn cuts_leaves_and_larger_groups_are_of_version_2(rt: HostRuntime) {
+    for (old, new, rules) in &BY_VERSION {
+        assert_by_version(rt.alloc(), &rt, *old, *new, *rules);
     }
 }
 
@@ -422,6 +484,6 @@ fn rows_are_found_by_their_section(rt: HostRuntime) {
         absence: Absence::Refused,
         kind: Kind::Whole { least: 1, most: 1 },
     };
-    assert!(rt; Section::Top.rows().first() == Some(&row));
+    assert!(rt; Section::Top.rows(Version::One).first() == Some(&row));
     assert!(rt; FormatKey::NackPercent.text() == "nack_percent");
 }

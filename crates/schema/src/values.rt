@@ -4,7 +4,7 @@ ghost use Rattle.toml.specs.View.{view};
 ghost use Rattle.schema.specs.Tree.{items_at};
 ghost use Rattle.schema.specs.Values.{default_of, whole_or, number_at, is_on, switch_at, text_if, text_at};
 
-use crate::schema::{Absence, FormatKey, Section};
+use crate::schema::{Absence, FormatKey, Section, Version};
 use crate::shape::{items, rule_named};
 use toml::Value;
 
@@ -61,11 +61,11 @@ pub fn whole_or(default: u64, value: Option<&Value>) -> u64
     }
 }
 
-/// The default of a key of a section.
+/// The default of a key of a section, the same in each version.
 fn default_of(section: Section, key: FormatKey) -> u64
     ensures { result ≡ default_of section key }
 {
-    match rule_named(section.rows(), key.text()) {
+    match rule_named(section.rows(Version::One), key.text()) {
         Some(row) => match row.absence {
             Absence::Default(number) => number,
             Absence::Refused | Absence::RefusedOver0(_) | Absence::Optional => 0,

@@ -80,7 +80,7 @@ pub log_of-table : (m : ℕ) → m ≤ 10 → log_of m ≡ thousandths_of m
 log_of-table m h = of_table m (up_to_ten m h)
 
 -- the logarithm of a cluster's size
-pub log_of-le : (n : ℕ) → n ≤ 1024 → log_of n ≤ 4000
+pub log_of-le : (n : ℕ) → n ≤ 4096 → log_of n ≤ 4000
 log_of-le n h =
     let few : digit_count n ≤ 4 = length-decimal-le 4 n (lit≤ tt) (omega arith) (omega arith) in
     let entry = thousandths-le (leading_digit n) in

@@ -11,11 +11,11 @@ min_timeout terms n = max 1 (terms.alpha * max 1000 (log_of n) * terms.period / 
 abbrev pub max_timeout : Terms → ℕ → ℕ
 max_timeout terms n = terms.beta * min_timeout terms n
 
--- Lifeguard's K, as far as there are members to accuse: all but the suspect and the first accuser
+-- K': so many of Lifeguard's K accusers count as there are members to accuse: all but the suspect and the first accuser
 abbrev pub most_accusers : Terms → ℕ → ℕ
 most_accusers terms n = min terms.accusers_wanted (n - 2)
 
--- Lifeguard's timeout: from Max it falls with log(C + 1) / log(K + 1) of the way to Min, and is Min from K accusers on; without LHA-Suspicion always Min
+-- Lifeguard's timeout: from Max it falls with log(C + 1) / log(K' + 1) of the way to Min, and is Min from K' accusers on; without LHA-Suspicion always Min
 abbrev pub timeout : Terms → ℕ → ℕ → ℕ
 timeout terms n c =
     if not terms.shortens || nat_le (most_accusers terms n) c then min_timeout terms n

@@ -43,7 +43,7 @@ impl Terms {
     pub fn timeout(self, members: u32, accusers: u64) -> u64
         requires sound { AreSound self }
         requires some { 1 ≤ members }
-        requires at_most_1024 { members ≤ 1024 }
+        requires at_most_4096 { members ≤ 4096 }
         ensures value { result ≡ timeout self members accusers }
 
         // It is never over at once, and no moment of a run is too late to start it.
@@ -66,7 +66,7 @@ impl Terms {
 fn shortest(terms: Terms, members: u32) -> u64
     requires sound { AreSound terms }
     requires some { 1 ≤ members }
-    requires at_most_1024 { members ≤ 1024 }
+    requires at_most_4096 { members ≤ 4096 }
     ensures value { result ≡ min_timeout terms members }
     ensures positive { 1 ≤ result }
     ensures short { result < 2 ^ 33 }
@@ -75,7 +75,8 @@ fn shortest(terms: Terms, members: u32) -> u64
     (terms.alpha * logarithm * terms.period / 1000).max(1)
 }
 
-/// How many further accusers count of a suspicion that started among this many members.
+/// How many further accusers count of a suspicion that started among this many members (K': K, or
+/// fewer where there are no more members to accuse).
 pub(crate) fn most_counted(terms: Terms, members: u32) -> u64
     requires { 1 ≤ members }
     ensures { result ≡ most_accusers terms members }

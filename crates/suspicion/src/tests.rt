@@ -73,9 +73,13 @@ fn least_timeout_is_a_tick(rt: HostRuntime) {
 #[test]
 fn largest_timeouts(rt: HostRuntime) {
     // 100 * 3000 * 2^24 / 1000 ticks at the least, and a hundred times that at the most.
+    assert_eq!(rt; LARGEST.timeout(1024, 8), 27_954_197_300);
     assert_eq!(rt; LARGEST.timeout(1024, 9), 5_033_164_800);
     assert_eq!(rt; LARGEST.timeout(1024, 0), 503_316_480_000);
     assert_eq!(rt; LARGEST.timeout(1024, 1), 353_333_202_125);
+    // Four thousand and more go by the leading digit of four: 3602 thousandths.
+    assert_eq!(rt; LARGEST.timeout(4096, 9), 6_043_153_203);
+    assert_eq!(rt; LARGEST.timeout(4096, 0), 604_315_320_300);
     // Nine hundred and more go by the leading digit of three: 2954 thousandths.
     assert_eq!(rt; LARGEST.timeout(999, 9), 4_955_989_606);
 }

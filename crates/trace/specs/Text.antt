@@ -30,6 +30,8 @@ word_of what.Confirm = codes "confirm"
 word_of what.Accuse = codes "accuse"
 word_of what.Refute = codes "refute"
 word_of what.Dead = codes "dead"
+word_of what.Leave = codes "leave"
+word_of what.Bye = codes "bye"
 
 -- the name of the member that a row is about, and nothing where it is about none
 abbrev pub about_text : Setup → Option ℕ → List ℕ

@@ -40,6 +40,10 @@ pub enum What {
     Refute,
     /// The member learns that it was confirmed to have failed.
     Dead,
+    /// The member leaves.
+    Leave,
+    /// A member that leaves tells another.
+    Bye,
 }
 
 impl What {
@@ -65,6 +69,8 @@ impl What {
             What::Accuse => "accuse",
             What::Refute => "refute",
             What::Dead => "dead",
+            What::Leave => "leave",
+            What::Bye => "bye",
         }
     }
 }

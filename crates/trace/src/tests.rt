@@ -209,6 +209,8 @@ fn each_kind_of_row_has_its_word(rt: HostRuntime) {
         (What::Accuse, "accuse"),
         (What::Refute, "refute"),
         (What::Dead, "dead"),
+        (What::Leave, "leave"),
+        (What::Bye, "bye"),
     ];
     for (what, word) in words {
         assert_eq!(rt; what.word(), word);

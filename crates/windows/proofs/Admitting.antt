@@ -12,11 +12,12 @@ use Rattle.base.specs.Order.{key_cmp}
 use Rattle.base.specs.World.{World, with_events}
 use Rattle.base.specs.Run.{holds-with_events}
 use Rattle.base.proofs.Rising.{all_append}
-use Rattle.scenario.specs.Setup.{Setup, crash_of}
+use Rattle.scenario.specs.Setup.{Setup, crash_of, leave_of}
 use Rattle.member.specs.declared.content.Content.{Content}
+use Rattle.member.specs.declared.content.Content.TheVariants.{Crash, Leave}
 use Rattle.member.specs.declared.event.Event.{Event}
 use Rattle.member.specs.State.{State}
-use Rattle.member.specs.Opening.{opening_state, script_of, crash_event}
+use Rattle.member.specs.Opening.{opening_state, script_of, ending_event}
 use Rattle.worker_queue.specs.Queue.{IsLeastKey}
 use Rattle.worker_queue.proofs.Contents.{least_content, contents_by-empty}
 use Rattle.windows.specs.Admitting.{AreFromBelow, with_member, opened_below}
@@ -67,15 +68,19 @@ one_more_script s i before after so_far more =
 
 -- ---- senders
 
-crash_from : (m bound : ℕ) (crash : Option ℕ) → m < bound → AllByRecursion {X = Key × Content} (λ e. e.0.from < bound) (crash_event m crash)
-crash_from m bound None below = tt
-crash_from m bound (Some at) below = (below, tt)
+ending_from : (content : Content) (m bound : ℕ) (ending : Option ℕ) → m < bound → AllByRecursion {X = Key × Content} (λ e. e.0.from < bound) (ending_event content m ending)
+ending_from content m bound None below = tt
+ending_from content m bound (Some at) below = (below, tt)
+
+endings_from : (s : Setup) (m bound : ℕ) → m < bound → AllByRecursion {X = Key × Content} (λ e. e.0.from < bound) (ending_event Crash m (crash_of s m) ++ ending_event Leave m (leave_of s m))
+endings_from s m bound below =
+    all_append (λ e. e.0.from < bound) (ending_event Crash m (crash_of s m)) (ending_event Leave m (leave_of s m)) (ending_from Crash m bound (crash_of s m) below) (ending_from Leave m bound (leave_of s m) below)
 
 scripts_from : (s : Setup) (a n bound : ℕ) → a + n ≤ bound → AllByRecursion {X = Key × Content} (λ e. e.0.from < bound) (flat_map (script_of s) (range_with_len a n))
 scripts_from s a zero bound h = tt
 scripts_from s a (suc n) bound h =
     let own : a < bound = omega arith in
-    all_append (λ e. e.0.from < bound) (script_of s a) (flat_map (script_of s) (range_with_len (a + 1) n)) (own, crash_from a bound (crash_of s a) own) (scripts_from s (a + 1) n bound (omega arith))
+    all_append (λ e. e.0.from < bound) (script_of s a) (flat_map (script_of s) (range_with_len (a + 1) n)) (own, endings_from s a bound own) (scripts_from s (a + 1) n bound (omega arith))
 
 -- the scripts of the first members are from these alone
 pub scripts_from_below : (s : Setup) (n : ℕ) (events : FinMap key_cmp Content) → events ≡ with_events empty (flat_map (script_of s) (range_with_len 0 n)) → AreFromBelow events n
@@ -87,13 +92,13 @@ scripts_from_below s n events is q here =
 pub start_is_new : (events : FinMap key_cmp Content) (m : ℕ) (k : Key) → AreFromBelow events m → k.from ≡ m → contains_key events k ≡ false
 start_is_new events m k earlier own = absent events k (λ q here same. let below = earlier q here in let one : q.from ≡ k.from = ap (λ (r : Key). r.from) same in omega arith)
 
-pub crash_is_new : (events after : FinMap key_cmp Content) (m : ℕ) (start crash : Key) (c : Content) → AreFromBelow events m → after ≡ insert events start c → crash.from ≡ m → start.number < crash.number
-    → contains_key after crash ≡ false
-crash_is_new events after m start crash c earlier is own later =
-    ap (λ p. contains_key p crash) is
-    ∙ absent (insert events start c) crash (holds-with_events (λ q. q ≢ crash) ((start, c) ∷ []) events
-    (λ q here same. let below = earlier q here in let one : q.from ≡ crash.from = ap (λ (r : Key). r.from) same in omega arith)
-    (λ same. let one : start.number ≡ crash.number = ap (λ (r : Key). r.number) same in omega arith, tt))
+pub ending_is_new : (events after : FinMap key_cmp Content) (m : ℕ) (start ending : Key) (c : Content) → AreFromBelow events m → after ≡ insert events start c → ending.from ≡ m → start.number < ending.number
+    → contains_key after ending ≡ false
+ending_is_new events after m start ending c earlier is own later =
+    ap (λ p. contains_key p ending) is
+    ∙ absent (insert events start c) ending (holds-with_events (λ q. q ≢ ending) ((start, c) ∷ []) events
+    (λ q here same. let below = earlier q here in let one : q.from ≡ ending.from = ap (λ (r : Key). r.from) same in omega arith)
+    (λ same. let one : start.number ≡ ending.number = ap (λ (r : Key). r.number) same in omega arith, tt))
 
 -- ---- members
 

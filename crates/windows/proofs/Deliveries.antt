@@ -1,13 +1,13 @@
 -- An event is handled, and what is made of it is delivered.
-use Rattle.std.proofs.Common.{◌≡◌, ◌≢◌, ℕ, Bool, true, false, not, cond, List, [], ◌∷◌, ◌++◌, map, Some, None, Result, Ok, Err, OnOk, append_assoc, ap, ◌∙◌, sym, subst, refl}
+use Rattle.std.proofs.Common.{◌≡◌, ◌≢◌, ℕ, Bool, true, false, not, cond, arith, List, [], ◌∷◌, ◌++◌, map, Some, None, Result, Ok, Err, OnOk, append_assoc, ap, ◌∙◌, sym, subst, refl}
 use Rattle.std.specs.Option.{is_some, option_map}
-use Rattle.std.specs.List.{AllByRecursion}
+use Rattle.std.specs.List.{AllByRecursion, list_all}
 use Rattle.std.specs.Ordering.{nat_cmp, eq_by_cmp}
 use Rattle.std.specs.FinMap.{FinMap, get, empty, contains_key, insert, get-insert}
 use Rattle.std.proofs.lemmas.List.{append-nil, map-append}
 use Rattle.std.proofs.lemmas.List.Elements.{filter-append}
 use Rattle.member_laws.proofs.Carried.{all_filter}
-use Rattle.windows.proofs.Swaps.{NoneIs}
+use Rattle.windows.proofs.Swaps.{NoneIs, with_events-insert}
 use Rattle.windows.proofs.Cuts.{joined_joined}
 use Rattle.member.specs.declared.content.Content.{Content}
 use Rattle.base.specs.declared.key.Key.{Key}
@@ -107,3 +107,67 @@ pub kept_if_own : {E : Type 0} (result : Result (Unit {0}) E) (own : Bool) (pend
     → OnOk result (after ≡ with_events pending (cond own (pair_of event ∷ []) []))
 kept_if_own (Ok _) own pending after event is pushed = pushed ∙ ap (λ b. with_events pending (cond b (pair_of event ∷ []) [])) (sym is)
 kept_if_own (Err _) own pending after event is pushed = tt
+
+-- ---- events of which the last pends first
+
+-- those that stand after an item come after it
+all_after : {X : Type 0} (before : X → X → Type 0) (xs ys : List X) (x : X) → IsRising before (xs ++ x ∷ ys) → AllByRecursion (before x) ys
+all_after before [] ys x rising = rising.0
+all_after before (y ∷ xs) ys x rising = all_after before xs ys x rising.1
+
+none_is : {C : Type 0} (k : Key) (es : List (Key × C)) → AllByRecursion (λ e. k ≢ e.0) es → NoneIs k es
+none_is k [] all = tt
+none_is k (e ∷ es) all = (λ same. all.0 (sym same), none_is k es all.1)
+
+-- of all these events the last ones pend, and these are left
+pub record HavePended (pending now : FinMap key_cmp Content) (all left : List Event) : Type 0 where
+  pub after : List Event
+  pub split : all ≡ left ++ after
+  pub pend : now ≡ with_events pending (map pair_of after)
+
+pub none_pended : (pending : FinMap key_cmp Content) (all : List Event) → HavePended pending pending all all
+none_pended pending all = record { after = []; split = sym (append-nil all); pend = refl }
+
+pub all_pended : (pending now : FinMap key_cmp Content) (all left : List Event) → HavePended pending now all left → left ≡ [] → now ≡ with_events pending (map pair_of all)
+all_pended pending now all left have none =
+    have.pend ∙ ap (λ es. with_events pending (map pair_of es)) (sym (have.split ∙ ap (λ l. l ++ have.after) none))
+
+module _ (pending now : FinMap key_cmp Content) (all left rest : List Event) (event : Event) (have : HavePended pending now all left) (last : left ≡ rest ++ event ∷ []) (new : AreNew pending (map pair_of all)) where
+  pairs : map pair_of all ≡ map pair_of rest ++ pair_of event ∷ map pair_of have.after
+  pairs = ap (map pair_of) (have.split ∙ ap (λ l. l ++ have.after) last ∙ append_assoc rest (event ∷ []) have.after) ∙ map-append pair_of rest (event ∷ have.after)
+
+  none_after : NoneIs event.key (map pair_of have.after)
+  none_after =
+      none_is event.key (map pair_of have.after)
+      (all_after (λ f g. f.0 ≢ g.0) (map pair_of rest) (map pair_of have.after) (pair_of event) (subst (IsRising (λ f g. f.0 ≢ g.0)) pairs new.unlike_each_other))
+
+  -- the last of those that are left doesn't pend yet
+  pub last_is_new : contains_key now event.key ≡ false
+  last_is_new =
+      ap (λ m. contains_key m event.key) have.pend
+      ∙ absent_with (map pair_of have.after) pending event.key none_after
+      (all_at (λ f. contains_key pending f.0 ≡ false) (map pair_of rest) (map pair_of have.after) (pair_of event) (subst (AllByRecursion (λ f. contains_key pending f.0 ≡ false)) pairs new.unlike_pending))
+
+  -- it pends too
+  pub last_pended : (next : FinMap key_cmp Content) → next ≡ insert now event.key event.content → HavePended pending next all rest
+  last_pended next one =
+      record {
+        after = event ∷ have.after;
+        split = have.split ∙ ap (λ l. l ++ have.after) last ∙ append_assoc rest (event ∷ []) have.after;
+        pend = one ∙ ap (λ m. insert m event.key event.content) have.pend ∙ sym (with_events-insert (map pair_of have.after) pending event.key event.content none_after);
+      }
+
+-- of events that are all for these members each is kept, and none goes out
+all_kept : (owns : ℕ → Bool) (events : List Event) → list_all (λ (e : Event). owns e.key.to) events ≡ true → for_own owns (map pair_of events) ≡ map pair_of events
+all_kept owns [] all = refl
+all_kept owns (e ∷ es) all = grind (arith, all_kept owns es)
+
+none_sent : (owns : ℕ → Bool) (events : List Event) → list_all (λ (e : Event). owns e.key.to) events ≡ true → for_others owns (map pair_of events) ≡ []
+none_sent owns [] all = refl
+none_sent owns (e ∷ es) all = grind (arith, none_sent owns es)
+
+pub all_own : (owns : ℕ → Bool) (seen events : List Event) → seen ≡ events → list_all (λ (e : Event). owns e.key.to) seen ≡ true → for_own owns (map pair_of events) ≡ map pair_of events
+all_own owns seen events same all = all_kept owns events (sym (ap (list_all (λ (e : Event). owns e.key.to)) same) ∙ all)
+
+pub none_other : (owns : ℕ → Bool) (seen events : List Event) → seen ≡ events → list_all (λ (e : Event). owns e.key.to) seen ≡ true → for_others owns (map pair_of events) ≡ []
+none_other owns seen events same all = none_sent owns events (sym (ap (list_all (λ (e : Event). owns e.key.to)) same) ∙ all)

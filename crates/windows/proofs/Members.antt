@@ -25,7 +25,6 @@ use Rattle.member_laws.proofs.Consistency.{step_consistent}
 use Rattle.member_laws.proofs.Reached.{step_among, consistent_reached, pending_among}
 use Rattle.member_laws.proofs.Runs.{kept_after}
 use Rattle.windows.specs.Delays.{SendsAsItself, KeepsDelays, ComesFar, KeepsFar, IsNoMore}
-use Rattle.windows.specs.Safe.{IsSafe}
 use Rattle.windows.specs.Schedule.{Schedule, CatchesUp, MeetsState, rows_by}
 use Rattle.windows.specs.Parts.{Window, IsCommonBound, AreWindowsOfDifferentParts, StandsAfter, IncludesPart, PartRun, for_own, is_in, part_of, all_out, all_keys, all_rows}
 use Rattle.windows.specs.Cluster.{UsesUpTo, link_delay, IsLeastDelay, SafeStep, SafeSchedule, IsRunFrom, IsRowOrder, IsWhole, whose}

@@ -1,6 +1,6 @@
 -- A part of one member, and an event that comes to it from elsewhere: what the tests keep.
-use Rattle.std.proofs.Common.{◌≡◌, ℕ, ◌<◌, Bool, true, false, cond, Option, Some, None, Result, Ok, Err, OnOk, ap, ◌∙◌, sym, subst, refl, arith}
-use Rattle.std.specs.Option.{is_some, option_map_or}
+use Rattle.std.proofs.Common.{◌≡◌, ℕ, ◌<◌, Bool, true, false, cond, ◌++◌, inl, inr, Option, Some, None, Result, Ok, Err, OnOk, ap, ◌∙◌, sym, subst, refl, arith}
+use Rattle.std.specs.Option.{is_some, option_map_or, option_or}
 use Rattle.std.specs.List.{AllByRecursion}
 use Rattle.std.specs.Ordering.{nat_cmp, eq_by_cmp, is_lt}
 use Rattle.std.specs.Cmp.{nat_cmp_total, unsigned_tied}
@@ -15,13 +15,17 @@ use Rattle.base.specs.declared.key.Key.{Key}
 use Rattle.base.specs.Order.{key_cmp, key_total}
 use Rattle.base.specs.World.{World, IsPending}
 use Rattle.base.specs.Run.{tells}
+use Rattle.base.proofs.Rising.{all_append}
 use Rattle.base.proofs.Kept.{HoldsOfAll, all_with_events}
-use Rattle.scenario.specs.Setup.{Setup, member_count, crash_of}
+use Rattle.scenario.specs.Setup.{Setup, member_count, crash_of, leave_of}
+use Rattle.member.specs.Here.{MentionsMembers}
 use Rattle.member.specs.declared.content.Content.{Content}
+use Rattle.member.specs.declared.content.Content.TheVariants.{Crash, Leave}
 use Rattle.member.specs.State.{State}
-use Rattle.member.specs.Opening.{opening_state, first_number, crash_event, script_of}
+use Rattle.member.specs.Opening.{opening_state, first_number, ending_event, script_of}
 use Rattle.member_laws.specs.Words.{IsConsistent, IsAmongMembers}
 use Rattle.member_laws.proofs.Consistency.{opening_consistent}
+use Rattle.member_laws.proofs.Opened.{two_after}
 use Rattle.worker_queue.specs.Queue.{IsLeastKey}
 use Rattle.windows.specs.Admitting.{AreFromBelow, with_member}
 use Rattle.windows.specs.Window.{is_own, IsConsistentPart}
@@ -35,18 +39,24 @@ module _ (s : Setup) (m : ℕ) (there : m < member_count s) where
   abbrev Own : Key → Content → Type 0
   Own k c = IsAmongMembers s k c × (k.to ≡ m) × (k.number < (opening_state s m).next_number)
 
-  first_after : (crash : Option ℕ) → 0 < option_map_or (λ at. 2) crash 1
+  first_after : (ending : Option ℕ) → 0 < option_map_or (λ at. 2) ending 1
   first_after None = omega arith
   first_after (Some at) = omega arith
 
-  crash_own : (crash : Option ℕ) → crash_of s m ≡ crash → AllByRecursion {X = Key × Content} (λ e. Own e.0 e.1) (crash_event m crash)
-  crash_own None is = tt
-  crash_own (Some at) is =
-      let two : first_number s m ≡ 2 = ap (λ o. option_map_or (λ at. 2) o 1) is in
-      ((record { receiver = there; sender = there; names = tt }, refl, omega (arith, two, opened_number)), tt)
+  ending_own : (content : Content) (ending : Option ℕ) → MentionsMembers (member_count s) content → ((at : ℕ) → ending ≡ Some at → first_number s m ≡ 2)
+      → AllByRecursion {X = Key × Content} (λ e. Own e.0 e.1) (ending_event content m ending)
+  ending_own content None names two = tt
+  ending_own content (Some at) names two = let is = two at refl in ((record { receiver = there; sender = there; names = names }, refl, omega (arith, is, opened_number)), tt)
+
+  endings_own : AllByRecursion {X = Key × Content} (λ e. Own e.0 e.1) (ending_event Crash m (crash_of s m) ++ ending_event Leave m (leave_of s m))
+  endings_own =
+      all_append (λ e. Own e.0 e.1) (ending_event Crash m (crash_of s m)) (ending_event Leave m (leave_of s m))
+      (ending_own Crash (crash_of s m) tt (λ at is. two_after s (crash_of s m) (leave_of s m) at (inl is)))
+      (ending_own Leave (leave_of s m) tt (λ at is. two_after s (crash_of s m) (leave_of s m) at (inr is)))
 
   script_own : AllByRecursion {X = Key × Content} (λ e. Own e.0 e.1) (script_of s m)
-  script_own = let first = first_after (crash_of s m) in ((record { receiver = there; sender = there; names = tt }, refl, omega (arith, first, opened_number)), crash_own (crash_of s m) refl)
+  script_own =
+      let first = first_after (option_or (crash_of s m) (leave_of s m)) in ((record { receiver = there; sender = there; names = tt }, refl, omega (arith, first, opened_number)), endings_own)
 
   abbrev pub alone : World State Content
   alone = with_member s m (record { members = empty; pending = empty })

@@ -1,5 +1,5 @@
 -- The windows of several parts, each below a bound of its own.
-use Rattle.std.specs.Prelude.{◌≡◌, ℕ, List, [], ◌∷◌, ◌++◌, map}
+use Rattle.std.specs.Prelude.{◌≡◌, List, [], ◌∷◌, ◌++◌, map}
 use Rattle.std.specs.FinMap.{FinMap}
 use Rattle.base.specs.Order.{key_cmp}
 use Rattle.scenario.specs.Setup.{Setup}

@@ -1,9 +1,11 @@
-ghost use Rattle.std.specs.Prelude.{◌≡◌, ◌+◌, ◌<◌, ◌∷◌, [], true, false, All, IfOk, OnOk, IfSome, IfNone, IsErrOf, min};
+ghost use Rattle.std.specs.Prelude.{◌≡◌, ◌+◌, ◌<◌, ◌++◌, ◌∷◌, [], true, false, All, IfOk, OnOk, IfSome, IfNone, IsErrOf, min};
+ghost use Rattle.std.specs.Option.{option_map_or};
 ghost use Rattle.std.specs.FinMap.{empty, contains_key, insert};
-ghost use Rattle.scenario.specs.Setup.{IsSound, member_count};
+ghost use Rattle.scenario.specs.Setup.{IsSound, member_count, crash_of, leave_of};
 ghost use Rattle.links.specs.Arrival.{AreLinksOf};
-ghost use Rattle.member.specs.Opening.{opening, script_key};
+ghost use Rattle.member.specs.Opening.{opening, script_key, ending_event};
 ghost use Rattle.member.specs.StateOf.{pair_of};
+ghost use Rattle.member.specs.declared.content.Content.TheVariants.{Crash, Leave};
 ghost use Rattle.member.specs.declared.event.Event.{Event as AnEvent};
 ghost use Rattle.member_laws.specs.Words.{IsAmongMembers};
 ghost use Rattle.worker_queue.specs.Queue.{IsLeastKey};
@@ -71,7 +73,7 @@ impl<Q: EventQueue<Event> + Drop> Part<Q> {
     }
 
     /// Takes in a member of the scenario as it waits for its start, and lets pend what the script has for
-    /// it: its start, and its crash if it has one. So far only members before it have events.
+    /// it: its start, and its crash or its leave if it has one. So far only members before it have events.
     pub fn admit(
         &mut self,
         alloc: Global,
@@ -87,8 +89,8 @@ impl<Q: EventQueue<Event> + Drop> Part<Q> {
         self.members.insert(member, waiting)?;
         let start = script_event(member, scenario.start(member), 0, Content::Start);
         push(&mut self.queue, start)?;
-        match scenario.crash(member) {
-            Some(at) => push(&mut self.queue, script_event(member, at, 1, Content::Crash)),
+        match ending_of(scenario, member) {
+            Some(ending) => push(&mut self.queue, ending),
             None => Ok(()),
         }
     }
@@ -149,6 +151,27 @@ impl<Q: EventQueue<Event> + Drop> Part<Q> {
         };
         run_from(alloc, self, &setting)
     }
+}
+
+/// The event with which the member's part ends, if the script has one: nobody crashes and leaves.
+fn ending_of(scenario: &Scenario, member: MemberId) -> Option<Event>
+    requires named { member < member_count scenario.now }
+    ensures event { option_map_or (λ (ending : AnEvent). pair_of ending ∷ []) result [] ≡ ending_event Crash member (crash_of scenario.now member) ++ ending_event Leave member (leave_of scenario.now member) }
+    ensures key { IfSome result (λ ending. (ending.key.from ≡ member) × (ending.key.number ≡ 1)) }
+{
+    match scenario.crash(member) {
+        Some(at) => Some(script_event(member, at, 1, Content::Crash)),
+        None => leave_event(member, scenario.leave(member)),
+    }
+}
+
+/// The event with which a member leaves, if it does.
+fn leave_event(member: MemberId, leave: Option<Moment>) -> Option<Event>
+    ensures event { option_map_or (λ (ending : AnEvent). pair_of ending ∷ []) result [] ≡ ending_event Leave member leave }
+    ensures key { IfSome result (λ ending. (ending.key.from ≡ member) × (ending.key.number ≡ 1)) }
+{
+    let at = leave?;
+    Some(script_event(member, at, 1, Content::Leave))
 }
 
 /// An event of the script: its receiver is its sender.

@@ -33,6 +33,24 @@ name = \"n\"
 count = 2
 ";
 
+/// Two members again, of which one leaves at the moment at which its first period would begin.
+const ONE_LEAVES: &str = "version = 2
+seed = 7
+end = 3
+[swim]
+period = 1000
+timeout = 300
+spread = 1
+[link]
+delay = 1
+[[group]]
+name = \"n\"
+count = 2
+[[leave]]
+member = \"n-1\"
+at = 1
+";
+
 pub(crate) fn scenario_of(rt: &impl Abort, alloc: Global, text: &str) -> Scenario {
     match read(alloc, text.as_bytes()) {
         Ok(scenario) => scenario,
@@ -157,14 +175,14 @@ fn quiet<Q: EventQueue<Event> + Drop>(
     part
 }
 
-/// A window that writes this one row, and out of which one event goes, for this member at this moment.
+/// A window that writes these rows, and out of which one event goes, for this member at this moment.
 fn sending<Q: EventQueue<Event> + Drop>(
     rt: &impl Abort,
     alloc: Global,
     scenario: &Scenario,
     part: Part<Q>,
     bound: u64,
-    row: (u64, u16, What),
+    wanted: &[(u64, u16, What)],
     arrives: (u64, u16),
 ) -> (Part<Q>, Event)
     requires { IsConsistentPart scenario.now (world_of Q.set part) }
@@ -176,7 +194,7 @@ fn sending<Q: EventQueue<Event> + Drop>(
         mut out,
         rows,
     } = window(rt, alloc, scenario, part, bound);
-    assert_rows(rt, &rows, &[row]);
+    assert_rows(rt, &rows, wanted);
     assert_eq!(rt; out.len(), 1);
     match out.pop() {
         Some(event) => {
@@ -208,7 +226,7 @@ fn two_parts_run_window_by_window(rt: HostRuntime) -> Result<(), Fail> {
         &scenario,
         first,
         2,
-        (1, 0, What::Ping),
+        &[(1, 0, What::Ping)],
         (2, 1),
     );
     let (mut second, to_first) = sending(
@@ -217,7 +235,7 @@ fn two_parts_run_window_by_window(rt: HostRuntime) -> Result<(), Fail> {
         &scenario,
         second,
         2,
-        (1, 1, What::Ping),
+        &[(1, 1, What::Ping)],
         (2, 0),
     );
     assert_pending(&rt, &first, 2, 301);
@@ -232,7 +250,7 @@ fn two_parts_run_window_by_window(rt: HostRuntime) -> Result<(), Fail> {
         &scenario,
         first,
         3,
-        (2, 0, What::Ack),
+        &[(2, 0, What::Ack)],
         (3, 1),
     );
     let (mut second, to_first) = sending(
@@ -241,7 +259,7 @@ fn two_parts_run_window_by_window(rt: HostRuntime) -> Result<(), Fail> {
         &scenario,
         second,
         3,
-        (2, 1, What::Ack),
+        &[(2, 1, What::Ack)],
         (3, 0),
     );
     receive(&rt, &scenario, &mut first, to_first)?;
@@ -269,5 +287,43 @@ fn an_event_at_the_bound_waits(rt: HostRuntime) -> Result<(), Fail> {
     let part = quiet(&rt, alloc, &scenario, part, 1, &[]);
     assert_pending(&rt, &part, 1, 1);
     assert_eq!(rt; part.number, 1);
+    Ok(())
+}
+
+/// The leave pends from the beginning, and is handled before the period. The other member is told.
+#[test]
+fn a_member_leaves_at_its_moment(rt: HostRuntime) -> Result<(), Fail> {
+    let alloc = rt.alloc();
+    let scenario = scenario_of(&rt, alloc, ONE_LEAVES);
+    let count = scenario.members();
+    assert_eq!(rt; count, 2);
+    let stays = opened(alloc, &scenario, 0, TreeQueue::new(alloc))?;
+    let leaves = opened(alloc, &scenario, 1, TreeQueue::new(alloc))?;
+    assert_pending(&rt, &stays, 1, 0);
+    assert_pending(&rt, &leaves, 2, 0);
+
+    let leaves = quiet(&rt, alloc, &scenario, leaves, 1, &[(0, 1, What::Start)]);
+    assert_pending(&rt, &leaves, 2, 1);
+    let (_leaves, bye) = sending(
+        &rt,
+        alloc,
+        &scenario,
+        leaves,
+        2,
+        &[(1, 1, What::Leave), (1, 1, What::Bye)],
+        (2, 0),
+    );
+
+    let (mut stays, _ping) = sending(
+        &rt,
+        alloc,
+        &scenario,
+        stays,
+        2,
+        &[(0, 0, What::Start), (1, 0, What::Ping)],
+        (2, 1),
+    );
+    receive(&rt, &scenario, &mut stays, bye)?;
+    let _stays = quiet(&rt, alloc, &scenario, stays, 3, &[(2, 0, What::Confirm)]);
     Ok(())
 }

@@ -1,5 +1,6 @@
 ghost use Rattle.std.specs.Prelude.{◌≡◌, ◌+◌, ◌≤◌, ◌++◌, ◌∷◌, [], false, map, Some, All, IfOk, OnOk, IsErrOf};
 ghost use Rattle.std.specs.Bool.{OnTrue, OnFalse};
+ghost use Rattle.std.specs.List.{list_all};
 ghost use Rattle.std.specs.FinMap.{get, contains_key};
 ghost use Rattle.base.specs.World.{with_events, events_of};
 ghost use Rattle.base.specs.Rising.{AreNew};
@@ -20,7 +21,7 @@ ghost use Rattle.windows.specs.Handling.{HandlesTaken, WearsReceiver, Advances, 
 use crate::own_members::OwnMembers;
 use crate::part::{Done, Part, push};
 use crate::setting::Setting;
-use base::Memory;
+use base::{Key, Memory};
 use member::{Effects, Event, StepError};
 use std::alloc::Global;
 use worker_queue::EventQueue;
@@ -124,6 +125,67 @@ pub(crate) fn handle_taken<Q: EventQueue<Event>>(
 
 /// Lets the events for these members pend, and sends the others out. They leave their list.
 fn deliver<Q: EventQueue<Event>>(
+    members: &OwnMembers,
+    queue: &mut Q,
+    events: &mut Vec<Event>,
+    out: &mut Vec<Event>,
+) -> Result<(), Memory>
+    requires new { AreNew (contents_in (Q.set queue.old)) (map pair_of events.old.items) }
+    ensures own { let own = contains_key (states_in members.now) in
+        OnOk result (contents_in (Q.set queue.new) ≡ with_events (contents_in (Q.set queue.old)) (for_own own (map pair_of events.old.items))) }
+    ensures others { let own = contains_key (states_in members.now) in
+        OnOk result (map pair_of out.new.items ≡ map pair_of out.old.items ++ for_others own (map pair_of events.old.items)) }
+{
+    if have_all(members, events) {
+        let_pend(queue, events)
+    } else {
+        part_them(members, queue, events, out)
+    }
+}
+
+/// Whether all these events are for these members.
+fn have_all(members: &OwnMembers, events: &[Event]) -> bool
+    ensures { result ≡ list_all (λ (event : Event). contains_key (states_in members.now) event.key.to) events.now }
+{
+    events.iter().all(|event| members.has(&event.key.to))
+}
+
+/// Lets events pend, the last first: so none of them moves but into the queue.
+fn let_pend<Q: EventQueue<Event>>(queue: &mut Q, events: &mut Vec<Event>) -> Result<(), Memory>
+    requires new { AreNew (contents_in (Q.set queue.old)) (map pair_of events.old.items) }
+    ensures { OnOk result (contents_in (Q.set queue.new) ≡ with_events (contents_in (Q.set queue.old)) (map pair_of events.old.items)) }
+{
+    while let Some(event) = events.pop() {
+        push(queue, in_parts(event))?;
+    }
+    Ok(())
+}
+
+/// The same event, its key put together anew. A key that moves as one block of bytes, right after its parts
+/// were written, waits until all writes before it are done.
+pub(crate) fn in_parts(event: Event) -> Event
+    ensures { result ≡ event }
+{
+    let Event { key, content } = event;
+    let Key {
+        at,
+        to,
+        from,
+        number,
+    } = key;
+    Event {
+        key: Key {
+            at,
+            to,
+            from,
+            number,
+        },
+        content,
+    }
+}
+
+/// Lets the events for these members pend, and sends the others out, in order.
+fn part_them<Q: EventQueue<Event>>(
     members: &OwnMembers,
     queue: &mut Q,
     events: &mut Vec<Event>,

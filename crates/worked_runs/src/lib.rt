@@ -3,7 +3,11 @@
 #![tactic(auto)]
 
 #[cfg(test)]
+mod cuts;
+#[cfg(test)]
 mod horizons_tests;
+#[cfg(test)]
+mod leaves;
 #[cfg(test)]
 mod meeting_tests;
 #[cfg(test)]
@@ -19,7 +23,7 @@ mod turns_tests;
 mod workers_tests;
 
 pub use texts::{
-    ALL_LOST, CONTACT_CRASHED, CRASH_DETECTED, CRASH_UNSEEN, EVERYBODY_CRASHED, JOIN,
-    LARGEST_MOMENTS, LOST_PATH, ONE_MEMBER, SHORT_PERIOD, SLOW_MEMBER, SLOW_SENDER, START_ONLY,
-    Seeded, THREE_HELPERS, TWO_MEMBERS, WORKED, Worked,
+    ALL_LOST, CONTACT_CRASHED, CRASH_DETECTED, CRASH_UNSEEN, CUT, EVERYBODY_CRASHED, JOIN,
+    LARGEST_MOMENTS, LEAVE, LOST_PATH, ONE_MEMBER, SHORT_PERIOD, SLOW_MEMBER, SLOW_SENDER,
+    START_ONLY, Seeded, THREE_HELPERS, TWO_MEMBERS, WORKED, Worked,
 };

@@ -1,6 +1,10 @@
 //! Small clusters in which several mechanisms meet, and the whole traces of their runs, worked out by hand
 //! from the protocol's rules.
 
+use crate::cuts::{
+    CUT_BEHIND_A_MESSAGE, CUT_OF_ONE_TICK, CUT_ONE_WAY, CUT_OVER, CUTS_THAT_OVERLAP,
+};
+use crate::leaves::{BYE_LOST, BYE_TO_JOINER, CONTACT_LEAVES, JOINER_LEAVES, LEAVE_AND_CRASH};
 use crate::texts::{crash_detected, scenario_text, slow_member, trace_text};
 use exchange::run_one;
 use scenario::read;
@@ -8,16 +12,17 @@ use std::process::Abort;
 use std::test::Fail;
 use trace::testing::MemorySink;
 
-/// A scenario with seed 7, the seeds for which its run was worked out, and the run's trace.
+/// A scenario with seed 7, the seeds for which its run was worked out, from the first up to before the last, and
+/// the run's trace.
 #[derive(Clone, Copy)]
 pub(crate) struct Meeting {
-    pub(crate) seeds: &'static [u64],
+    pub(crate) seeds: (u64, u64),
     pub(crate) scenario: &'static str,
-    trace: &'static str,
+    pub(crate) trace: &'static str,
 }
 
 /// Nothing in these runs depends on the seed.
-const ANY: &[u64] = &[0, 1, 2, 3, 4, 5, 6, 7];
+pub(crate) const ANY: (u64, u64) = (0, 8);
 
 /// The trace of a contact whose first two welcomes go astray, so that it takes the joiner for silent, and then
 /// these lines.
@@ -207,7 +212,7 @@ const LATE_REFUTATION: Meeting = Meeting {
 /// A second accuser comes later than the shortest timeout: the suspicion is due in the next moment. n
 /// = 3, alpha 1: Min 1000, Max 6000, K' = 1.
 const LATE_SECOND_ACCUSER: Meeting = Meeting {
-    seeds: &[30],
+    seeds: (30, 31),
     scenario: scenario_text!(
         end 4100; text "[suspicion]\nalpha = 1\n"; group "n" of 3; crash "n-2" at 500
     ),
@@ -284,7 +289,7 @@ const OLD_SUSPICION_TIMER: Meeting = Meeting {
 /// Two survivors fail a crashed member in the same moment. One hears of the other's accusation, and
 /// thereby loses the news of its own.
 const SAME_MOMENT_ACCUSERS: Meeting = Meeting {
-    seeds: &[9],
+    seeds: (9, 10),
     scenario: scenario_text!(end 7600; group "n" of 3; crash "n-2" at 500),
     trace: trace_text!(
         "0,n-0,n-0,0,start,,0,0
@@ -437,7 +442,7 @@ const WELCOME_HOLDS_SUSPECT: Meeting = Meeting {
     ),
 };
 
-pub(crate) const MEETINGS: [Meeting; 13] = [
+pub(crate) const MEETINGS: [Meeting; 23] = [
     CRASH_BEFORE_JOIN,
     JOIN_AFTER_CONFIRM,
     JOIN_BEFORE_CRASH,
@@ -451,6 +456,16 @@ pub(crate) const MEETINGS: [Meeting; 13] = [
     WELCOME_BEFORE_TIMER,
     WELCOME_HOLDS_CONFIRM,
     WELCOME_HOLDS_SUSPECT,
+    BYE_LOST,
+    BYE_TO_JOINER,
+    CONTACT_LEAVES,
+    JOINER_LEAVES,
+    LEAVE_AND_CRASH,
+    CUT_BEHIND_A_MESSAGE,
+    CUT_ONE_WAY,
+    CUT_OF_ONE_TICK,
+    CUT_OVER,
+    CUTS_THAT_OVERLAP,
 ];
 
 /// The scenario's text with that seed.
@@ -480,8 +495,8 @@ fn assert_trace(
 #[test]
 fn each_meeting_is_byte_for_byte(rt: HostRuntime) -> Result<(), Fail> {
     for meeting in MEETINGS {
-        for seed in meeting.seeds {
-            assert_trace(&rt, *seed, meeting.scenario, meeting.trace)?;
+        for seed in meeting.seeds.0..meeting.seeds.1 {
+            assert_trace(&rt, seed, meeting.scenario, meeting.trace)?;
         }
     }
     Ok(())

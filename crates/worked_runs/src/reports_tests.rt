@@ -8,6 +8,7 @@ use scenario::read;
 use std::marker::Sync;
 use std::process::Abort;
 use std::sync::Wait;
+use std::test::Fail;
 use std::thread::Threads;
 use trace::Sink;
 use trace::testing::MemorySink;
@@ -79,6 +80,27 @@ fn each_worked_run_has_its_report(rt: HostRuntime) {
             assert_eq!(rt; left.report.failures(), 0);
         }
     }
+}
+
+/// A text of version 1 that is given version 2 has the same trace, and the report says of byes that there were
+/// none.
+#[test]
+fn each_worked_run_has_one_line_more_in_version_2(rt: HostRuntime) -> Result<(), Fail> {
+    for run in WORKED {
+        if run.scenario.starts_with("version = 1\n") {
+            let text = run
+                .scenario
+                .replace(rt.alloc(), "version = 1", "version = 2")?;
+            let lines = format!(in rt.alloc(); "{}sent bye 0 lost 0\n", run.report)?;
+            let trace = MemorySink::new(rt.alloc());
+            let report = MemorySink::new(rt.alloc());
+            let left = run_into(&rt, WAYS[0], text.as_str(), trace, report);
+            assert_eq!(rt; left.outcome, Ok(Summary { rows: run.rows }));
+            assert_eq!(rt; left.trace.bytes(), run.trace.as_bytes());
+            assert_eq!(rt; left.report.bytes(), lines.as_bytes());
+        }
+    }
+    Ok(())
 }
 
 #[test]

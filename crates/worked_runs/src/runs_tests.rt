@@ -1,16 +1,18 @@
 //! Whole runs byte for byte, and every way in which a run is refused.
 
-use crate::texts::{JOIN, START_ONLY, WORKED};
+use crate::texts::{CRASH_DETECTED, JOIN, LARGEST_MOMENTS, START_ONLY, WORKED};
 use crate::turns_tests::{WAYS, Way, run_by};
-use base::Fault;
+use base::{Fault, MemberId};
 use exchange::Summary;
 use scenario::{Scenario, read};
 use std::marker::Sync;
 use std::process::Abort;
 use std::sync::Wait;
+use std::test::Fail;
 use std::thread::Threads;
 use trace::Sink;
 use trace::testing::MemorySink;
+use windows::play;
 
 /// Runs the text into this sink, and gives what came and the sink. Where it fails, the report's sink gets
 /// nothing.
@@ -74,28 +76,44 @@ fn one_byte_a_put_gives_the_same_trace(rt: HostRuntime) {
 
 #[test]
 fn each_put_that_fails_leaves_a_beginning(rt: HostRuntime) {
-    for number in 1..=326 {
+    for place in 0..CRASH_DETECTED.trace.len() {
         for way in WAYS {
             let sink = MemorySink::new(rt.alloc())
                 .with_short_puts()
-                .failing_at_put(number);
-            let (outcome, sink) = run_into(&rt, way, JOIN.scenario, sink);
+                .failing_at_put(place as u64 + 1);
+            let (outcome, sink) = run_into(&rt, way, CRASH_DETECTED.scenario, sink);
             assert_eq!(rt; outcome, Err(Fault::Write));
-            assert_eq!(rt; sink.puts(), number);
-            assert!(rt; JOIN.trace.as_bytes().starts_with(sink.bytes()));
+            assert_eq!(rt; sink.puts(), place as u64 + 1);
+            assert!(rt; CRASH_DETECTED.trace.as_bytes().starts_with(sink.bytes()));
         }
     }
 }
 
+/// Asserts that the run failed at a trace that has the first bytes, so many.
+fn assert_no_room(
+    rt: &impl Abort,
+    bytes: usize,
+    outcome: Result<Summary, Fault>,
+    sink: &MemorySink,
+) {
+    assert_eq!(rt; outcome, Err(Fault::Write));
+    assert_eq!(rt; sink.bytes().len(), bytes);
+    assert!(rt; CRASH_DETECTED.trace.as_bytes().starts_with(sink.bytes()));
+}
+
+/// Where a byte has no room the put fails, or answers that it took none.
 #[test]
 fn each_byte_that_has_no_room_leaves_the_bytes_before_it(rt: HostRuntime) {
-    for bytes in 0..326 {
+    for bytes in 0..CRASH_DETECTED.trace.len() {
         for way in WAYS {
-            let sink = MemorySink::new(rt.alloc()).failing_after(bytes);
-            let (outcome, sink) = run_into(&rt, way, JOIN.scenario, sink);
-            assert_eq!(rt; outcome, Err(Fault::Write));
-            assert_eq!(rt; sink.bytes().len(), bytes);
-            assert!(rt; JOIN.trace.as_bytes().starts_with(sink.bytes()));
+            let failing = MemorySink::new(rt.alloc()).failing_after(bytes);
+            let (outcome, sink) = run_into(&rt, way, CRASH_DETECTED.scenario, failing);
+            assert_no_room(&rt, bytes, outcome, &sink);
+            let full = MemorySink::new(rt.alloc())
+                .failing_after(bytes)
+                .answering_zero();
+            let (outcome, sink) = run_into(&rt, way, CRASH_DETECTED.scenario, full);
+            assert_no_room(&rt, bytes, outcome, &sink);
         }
     }
 }
@@ -104,10 +122,29 @@ fn each_byte_that_has_no_room_leaves_the_bytes_before_it(rt: HostRuntime) {
 fn the_trace_is_flushed(rt: HostRuntime) {
     for way in WAYS {
         let sink = MemorySink::new(rt.alloc()).failing_at_flush();
-        let (outcome, sink) = run_into(&rt, way, JOIN.scenario, sink);
+        let (outcome, sink) = run_into(&rt, way, CRASH_DETECTED.scenario, sink);
         assert_eq!(rt; outcome, Err(Fault::Write));
-        assert_eq!(rt; sink.bytes(), JOIN.trace.as_bytes());
+        assert_eq!(rt; sink.bytes(), CRASH_DETECTED.trace.as_bytes());
     }
+}
+
+/// One start, and 65,536 timers of a member that has nobody to probe; to the choice after these nothing is left.
+#[test]
+fn each_timer_up_to_the_largest_moment_is_handled(rt: HostRuntime) -> Result<(), Fail> {
+    let scenario = read(rt.alloc(), LARGEST_MOMENTS.scenario.as_bytes())?;
+    let mut choices = Vec::new(rt.alloc());
+    for _ in 0..65_538 {
+        choices.push(MemberId(0))?;
+    }
+    match play(rt.alloc(), &scenario, &choices) {
+        Ok(played) => {
+            assert_eq!(rt; played.handled, 65_537);
+            assert_eq!(rt; played.skipped, 1);
+            assert!(rt; played.left.is_none());
+        }
+        Err(_) => panic!(rt; "the choices were refused"),
+    }
+    Ok(())
 }
 
 /// Runs the scenario of `JOIN`, and asserts that the sinks have what the answer says, or a beginning of

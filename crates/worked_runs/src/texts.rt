@@ -2,10 +2,11 @@
 //! tests of whatever runs a scenario. The texts are made of what is usual and what differs, by macros, so that
 //! each run shows what is its own.
 
-/// The text of a scenario: seed 7, periods of 1000 with a timeout of 300, links of 10 ticks, but for what is
-/// said; then its tables in their order. `text` takes lines as they are.
+/// The text of a scenario: version 1, seed 7, periods of 1000 with a timeout of 300, links of 10 ticks, but for
+/// what is said; then its tables in their order. `text` takes lines as they are.
 macro_rules! scenario_text {
     (
+        $(version $version:literal,)?
         end $end:literal
         $(, seed $seed:literal)?
         $(, period $period:literal)?
@@ -14,7 +15,8 @@ macro_rules! scenario_text {
         $(, delay $delay:literal)?
         $(; $($tables:tt)*)?
     ) => {
-        scenario_text!(@["version = 1\n"]
+        scenario_text!(@[""]
+            "version" 1 [$($version)?],
             "seed" 7 [$($seed)?],
             "end" $end [],
             "[swim]\nperiod" 1000 [$($period)?],
@@ -57,6 +59,24 @@ macro_rules! scenario_text {
             $($($rest)*)?
         )
     };
+    (@[$($made:tt)*] leave $member:literal at $at:literal $(; $($rest:tt)*)?) => {
+        scenario_text!(
+            @[$($made)*, "[[leave]]\nmember = \"", $member, "\"\nat = ", $at, "\n"]
+            $($($rest)*)?
+        )
+    };
+    (
+        @[$($made:tt)*] cut $from:literal to $to:literal at $at:literal until $until:literal
+        $(; $($rest:tt)*)?
+    ) => {
+        scenario_text!(
+            @[
+                $($made)*, "[[cut]]\nfrom = \"", $from, "\"\nto = \"", $to, "\"\nat = ", $at,
+                "\nuntil = ", $until, "\n"
+            ]
+            $($($rest)*)?
+        )
+    };
     (
         @[$($made:tt)*] slow $member:literal from $from:literal until $until:literal by $extra:literal
         $(; $($rest:tt)*)?
@@ -93,11 +113,13 @@ macro_rules! trace_text {
     };
 }
 
-/// The text of a report: nobody crashes, and each figure is none, but for what is said.
+/// The text of a report: nobody crashes or leaves, and each figure is none, but for what is said. Where it says
+/// of byes it is one of version 2.
 macro_rules! report_text {
     (
         members $members:literal, end $end:literal, rows $rows:literal
         $(, crash $crash:literal)*
+        $(, leave $leave:literal)*
         $(, latency $latency:literal)?
         $(, suspect $suspect:literal)?
         $(, refute $refute:literal)?
@@ -108,9 +130,11 @@ macro_rules! report_text {
         $(, ping $ping:literal)?
         $(, ping_req $ping_req:literal)?
         $(, ack $ack:literal)?
+        $(, bye $bye:literal)?
     ) => {
         report_text!(@["members ", $members, "\nend ", $end, "\nrows ", $rows, "\n"]
             $("crash" $crash [],)*
+            $("leave" $leave [],)*
             "latency" "least - greatest -" [$($latency)?],
             "false suspect" "0 healthy 0" [$($suspect)?],
             "false confirm" "0 healthy 0" [],
@@ -124,6 +148,7 @@ macro_rules! report_text {
             "sent ping-req" "0 lost 0" [$($ping_req)?],
             "sent ack" "0 lost 0" [$($ack)?],
             "sent nack" "0 lost 0" [],
+            $("sent bye" $bye [],)?
         )
     };
     (@[$($made:tt)*] $line:literal $usual:literal [], $($rest:tt)*) => {
@@ -448,7 +473,68 @@ pub const SHORT_PERIOD: Worked = Worked {
     rows: 18,
 };
 
-pub const WORKED: [Worked; 13] = [
+/// A member that leaves tells the other one.
+pub const LEAVE: Worked = Worked {
+    scenario: scenario_text!(version 2, end 1100; group "n" of 2; leave "n-1" at 500),
+    trace: trace_text!(
+        "0,n-0,n-0,0,start,,0,0
+0,n-1,n-1,0,start,,0,0
+1,n-0,n-0,1,ping,n-1,1,0
+1,n-1,n-1,2,ping,n-0,1,0
+11,n-0,n-1,3,ack,n-1,1,0
+11,n-1,n-0,2,ack,n-0,1,0
+500,n-1,n-1,1,leave,,0,0
+500,n-1,n-1,1,bye,n-0,0,0
+510,n-0,n-1,7,confirm,n-1,0,0
+"
+    ),
+    report: report_text!(
+        members 2, end 1100, rows 9,
+        leave "n-1 500 confirm 510 last 510 confirmers 1",
+        ping "2 lost 0", ack "2 lost 0", bye "1 lost 0"
+    ),
+    rows: 9,
+};
+
+/// Two members that can't hear one another for a while suspect one another, and refute it afterwards.
+pub const CUT: Worked = Worked {
+    scenario: scenario_text!(
+        version 2, end 2011; group "n" of 2; cut "n" to "n" at 500 until 1500
+    ),
+    trace: trace_text!(
+        "0,n-0,n-0,0,start,,0,0
+0,n-1,n-1,0,start,,0,0
+1,n-0,n-0,1,ping,n-1,1,0
+1,n-1,n-1,1,ping,n-0,1,0
+11,n-0,n-1,2,ack,n-1,1,0
+11,n-1,n-0,2,ack,n-0,1,0
+1001,n-0,n-0,4,ping,n-1,2,1
+1001,n-1,n-1,4,ping,n-0,2,1
+2001,n-0,n-0,8,fail,n-1,2,0
+2001,n-0,n-0,8,health,,1,0
+2001,n-0,n-0,8,suspect,n-1,0,0
+2001,n-0,n-0,8,ping,n-1,3,0
+2001,n-1,n-1,8,fail,n-0,2,0
+2001,n-1,n-1,8,health,,1,0
+2001,n-1,n-1,8,suspect,n-0,0,0
+2001,n-1,n-1,8,ping,n-0,3,0
+2011,n-0,n-1,10,refute,n-0,1,0
+2011,n-0,n-1,10,health,,2,0
+2011,n-0,n-1,10,ack,n-1,3,0
+2011,n-1,n-0,10,refute,n-1,1,0
+2011,n-1,n-0,10,health,,2,0
+2011,n-1,n-0,10,ack,n-0,3,0
+"
+    ),
+    report: report_text!(
+        members 2, end 2011, rows 22,
+        suspect "2 healthy 2", refute 2, fail 2, health 2, ping "6 lost 2", ack "4 lost 0",
+        bye "0 lost 0"
+    ),
+    rows: 22,
+};
+
+pub const WORKED: [Worked; 15] = [
     START_ONLY,
     ONE_MEMBER,
     TWO_MEMBERS,
@@ -462,6 +548,8 @@ pub const WORKED: [Worked; 13] = [
     LARGEST_MOMENTS,
     SLOW_MEMBER,
     SHORT_PERIOD,
+    LEAVE,
+    CUT,
 ];
 
 /// Three members, and no message of the first one reaches the last one.

@@ -197,8 +197,8 @@ fn each_worked_run_is_the_same_by_any_parts_and_workers(rt: HostRuntime) -> Resu
 #[test]
 fn each_meeting_is_the_same_by_any_parts_and_workers(rt: HostRuntime) -> Result<(), Fail> {
     for meeting in MEETINGS {
-        for seed in meeting.seeds {
-            let text = text_of(&rt, *seed, meeting.scenario)?;
+        for seed in meeting.seeds.0..meeting.seeds.1 {
+            let text = text_of(&rt, seed, meeting.scenario)?;
             assert_same(&rt, text.as_str())?;
         }
     }

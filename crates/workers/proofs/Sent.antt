@@ -22,6 +22,8 @@ use Rattle.scenario.specs.contracts.settings.Group as group
 use Rattle.scenario.specs.contracts.settings.Path as path
 use Rattle.scenario.specs.contracts.settings.Slow as slow
 use Rattle.scenario.specs.contracts.settings.Crash as crash
+use Rattle.scenario.specs.contracts.settings.Leave as leave
+use Rattle.scenario.specs.contracts.settings.Cut as cut
 use Rattle.scenario.specs.contracts.scenario.Scenario as scenario
 use Rattle.links.specs.contracts.table.Links as links
 use Rattle.membership.specs.contracts.table.Table as table
@@ -63,8 +65,14 @@ slow_sync = search (crosses, sendable) depth 60 fits 20000
 pub crash_sync : IsSync crash.the_row
 crash_sync = search (crosses, sendable) depth 60 fits 20000
 
+pub leave_sync : IsSync leave.the_row
+leave_sync = search (crosses, sendable) depth 60 fits 20000
+
+pub cut_sync : IsSync cut.the_row
+cut_sync = search (crosses, sendable) depth 60 fits 20000
+
 pub scenario_sync : IsSync scenario.the_row
-scenario_sync = search (crosses, group_sync, path_sync, slow_sync, crash_sync, sendable) depth 60 fits 20000
+scenario_sync = search (crosses, group_sync, path_sync, slow_sync, crash_sync, leave_sync, cut_sync, sendable) depth 60 fits 20000
 
 pub links_sync : IsSync links.the_row
 links_sync = search (maps.crosses, crosses, sendable) depth 60 fits 20000

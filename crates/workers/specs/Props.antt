@@ -19,7 +19,7 @@ use Rattle.suspicion.specs.contracts.terms.Terms as terms
 use Rattle.member.specs.contracts.member.Phase as phase
 use Rattle.member.specs.declared.member.Phase.{Phase}
 use Rattle.member.specs.declared.content.Content.{Content}
-use Rattle.member.specs.declared.content.Content.TheVariants.{Start, Crash, JoinTimer, PeriodTimer, TimeoutTimer, NackTimer, SuspicionTimer, Join, Welcome, Ping, PingReq, Ack, Nack}
+use Rattle.member.specs.declared.content.Content.TheVariants.{Start, Crash, Leave, JoinTimer, PeriodTimer, TimeoutTimer, NackTimer, SuspicionTimer, Join, Welcome, Ping, PingReq, Ack, Nack, Bye}
 use Rattle.member.specs.Here.{MentionsMembers}
 use Rattle.member.specs.State.{State}
 use Rattle.member_laws.specs.Words.{IsConsistent, IsAmongMembers}
@@ -49,6 +49,7 @@ state-set = Prim.hlevel (phase-set, probe-set, known-set, buffer-set, suspicions
 names-prop : (n : ℕ) (c : Content) → IsProp (MentionsMembers n c)
 names-prop n Start = Prim.hlevel props
 names-prop n Crash = Prim.hlevel props
+names-prop n Leave = Prim.hlevel props
 names-prop n JoinTimer = Prim.hlevel props
 names-prop n PeriodTimer = Prim.hlevel props
 names-prop n (TimeoutTimer seq) = Prim.hlevel props
@@ -60,6 +61,7 @@ names-prop n (Ping initiator seq updates) = Prim.hlevel props
 names-prop n (PingReq seq target updates) = Prim.hlevel props
 names-prop n (Ack initiator seq updates) = Prim.hlevel props
 names-prop n (Nack seq) = Prim.hlevel props
+names-prop n Bye = Prim.hlevel props
 
 pub consistent-prop : (s : Setup) (p : World State Content) → IsProp (IsConsistentPart s p)
 consistent-prop s p = Prim.hlevel (state-set, names-prop, props)

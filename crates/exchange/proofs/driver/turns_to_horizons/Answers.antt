@@ -3,6 +3,7 @@ use Rattle.trace.specs.Text.{NamesMembers}
 use Rattle.exchange.specs.Streams.{rows_so_far}
 use Rattle.exchange.specs.Bounds.{IsFirstMoment}
 use Rattle.exchange.proofs.Goes.{IsUnderWay, not_yet, consistent, came, further, goes_on, one_wears, begins, ends_here, ends_past, names_on, begins_on}
+use Rattle.exchange.proofs.Faults.{on_err, handed_on}
 use Rattle.exchange.proofs.driver.turns_to_horizons.Goals as goal
 
 pub loop-from-init : goal.loop-from-init
@@ -37,25 +38,25 @@ pub run_windows-requires-clause-fits : goal.run_windows-requires-clause-fits
 run_windows-requires-clause-fits g c = λ loans lives. c.requires.course.fits
 
 pub run_windows-requires-clause-in_time : goal.run_windows-requires-clause-in_time
-run_windows-requires-clause-in_time g c = λ loans lives. c.in-Ok.ensures.in_time
+run_windows-requires-clause-in_time g c = λ loans lives. c.in_ok-bounded.ensures.in_time
 
 pub run_windows-requires-clause-consistent : goal.run_windows-requires-clause-consistent
-run_windows-requires-clause-consistent g c = λ loans lives. consistent g.Q.EventQueue.set c.args.course.now c.requires.course c.loop-from.parts.items (rows_so_far c.loop-from.stream) c.loop-from.kept.items c.loop-from.from c.loop-from.invariant.run c.in-Some.first c.in-Ok.bounded.items c.in-Ok.ensures
+run_windows-requires-clause-consistent g c = λ loans lives. consistent g.Q.EventQueue.set c.args.course.now c.requires.course c.loop-from.parts.items (rows_so_far c.loop-from.stream) c.loop-from.kept.items c.loop-from.from c.loop-from.invariant.run c.in-Some.first c.in_ok-bounded.bounded.items c.in_ok-bounded.ensures
 
-pub returns-in-Err-clause-beginning : goal.returns-in-Err-clause-beginning
-returns-in-Err-clause-beginning g c = begins g.Q.EventQueue.set c.args.course.now c.requires.course c.loop-from.parts.items (rows_so_far c.loop-from.stream) c.loop-from.kept.items c.loop-from.from c.loop-from.invariant.run
+pub returns-in_err-bounded-clause-beginning : goal.returns-in_err-bounded-clause-beginning
+returns-in_err-bounded-clause-beginning g c = on_err c.from_residual.result (begins g.Q.EventQueue.set c.args.course.now c.requires.course c.loop-from.parts.items (rows_so_far c.loop-from.stream) c.loop-from.kept.items c.loop-from.from c.loop-from.invariant.run)
 
-pub returns-in-Err-run_windows-clause-beginning : goal.returns-in-Err-run_windows-clause-beginning
-returns-in-Err-run_windows-clause-beginning g c = begins g.Q.EventQueue.set c.args.course.now c.requires.course c.loop-from.parts.items (rows_so_far c.loop-from.stream) c.loop-from.kept.items c.loop-from.from c.loop-from.invariant.run
+pub returns-in_err-done-clause-beginning : goal.returns-in_err-done-clause-beginning
+returns-in_err-done-clause-beginning g c = on_err c.from_residual-in_err-done.result (begins g.Q.EventQueue.set c.args.course.now c.requires.course c.loop-from.parts.items (rows_so_far c.loop-from.stream) c.loop-from.kept.items c.loop-from.from c.loop-from.invariant.run)
 
-pub returns-in-Err-run_windows-clause-worn : goal.returns-in-Err-run_windows-clause-worn
-returns-in-Err-run_windows-clause-worn g c = λ h. one_wears g.Q.EventQueue.set c.args.course.now c.requires.course c.loop-from.parts.items (rows_so_far c.loop-from.stream) c.loop-from.kept.items c.loop-from.from c.loop-from.invariant.run c.in-Some.first c.in-Ok.bounded.items c.in-Ok.ensures (c.run_windows.ensures.worn cc)
+pub returns-in_err-done-clause-worn : goal.returns-in_err-done-clause-worn
+returns-in_err-done-clause-worn g c = λ h. one_wears g.Q.EventQueue.set c.args.course.now c.requires.course c.loop-from.parts.items (rows_so_far c.loop-from.stream) c.loop-from.kept.items c.loop-from.from c.loop-from.invariant.run c.in-Some.first c.in_ok-bounded.bounded.items c.in_ok-bounded.ensures (c.in_err-done.ensures.worn (handed_on c.from_residual-in_err-done.result _ _ c.from_residual-in_err-done.ensures.1 h))
 
 pub exchanged-requires-clause-came : goal.exchanged-requires-clause-came
-exchanged-requires-clause-came g c = λ loans lives. came g.Q.EventQueue.set c.args.course.now c.requires.course c.loop-from.parts.items (rows_so_far c.loop-from.stream) c.loop-from.kept.items c.loop-from.from c.loop-from.invariant.run c.in-Some.first c.in-Ok.bounded.items c.in-Ok.ensures c.in-Ok-run_windows.done.items c.in-Ok-run_windows.ensures.ok
+exchanged-requires-clause-came g c = λ loans lives. came g.Q.EventQueue.set c.args.course.now c.requires.course c.loop-from.parts.items (rows_so_far c.loop-from.stream) c.loop-from.kept.items c.loop-from.from c.loop-from.invariant.run c.in-Some.first c.in_ok-bounded.bounded.items c.in_ok-bounded.ensures c.in_ok-done.done.items c.in_ok-done.ensures.ok
 
-pub returns-in-Err-exchanged-clause-beginning : goal.returns-in-Err-exchanged-clause-beginning
-returns-in-Err-exchanged-clause-beginning g c = begins g.Q.EventQueue.set c.args.course.now c.requires.course c.loop-from.parts.items (rows_so_far c.loop-from.stream) c.loop-from.kept.items c.loop-from.from c.loop-from.invariant.run
+pub returns-in_err-turned-clause-beginning : goal.returns-in_err-turned-clause-beginning
+returns-in_err-turned-clause-beginning g c = on_err c.from_residual-in_err-turned.result (begins g.Q.EventQueue.set c.args.course.now c.requires.course c.loop-from.parts.items (rows_so_far c.loop-from.stream) c.loop-from.kept.items c.loop-from.from c.loop-from.invariant.run)
 
 pub take-requires-clause-open : goal.take-requires-clause-open
 take-requires-clause-open g c = c.loop-from.invariant.open_still
@@ -64,23 +65,23 @@ pub take-requires-clause-named : goal.take-requires-clause-named
 take-requires-clause-named g c =
     let course = c.args.course.now in
     let set = g.Q.EventQueue.set in
-    let turned = c.in-Ok-exchanged.turned in
+    let turned = c.in_ok-turned.turned in
     let rows = rows_so_far c.loop-from.stream in
     let on =
-    goes_on g.Q.EventQueue.set c.args.course.now c.requires.course c.loop-from.parts.items (rows_so_far c.loop-from.stream) c.loop-from.kept.items c.loop-from.from c.loop-from.invariant.run c.in-Some.first c.in-Ok.bounded.items c.in-Ok.ensures c.in-Ok-run_windows.done.items c.in-Ok-run_windows.ensures.ok
-    turned.parts.items turned.rows.items turned.kept.items c.in-Ok-exchanged.ensures in
+    goes_on g.Q.EventQueue.set c.args.course.now c.requires.course c.loop-from.parts.items (rows_so_far c.loop-from.stream) c.loop-from.kept.items c.loop-from.from c.loop-from.invariant.run c.in-Some.first c.in_ok-bounded.bounded.items c.in_ok-bounded.ensures c.in_ok-done.done.items c.in_ok-done.ensures.ok
+    turned.parts.items turned.rows.items turned.kept.items c.in_ok-turned.ensures in
     subst (λ s. All (NamesMembers s) turned.rows.items) (sym c.loop-from.invariant.one) (names_on set course c.requires.course rows turned.rows.items turned.kept.items (c.in-Some.first + 1) turned.parts.items on)
 
-pub returns-in-Err-take-clause-beginning : goal.returns-in-Err-take-clause-beginning
-returns-in-Err-take-clause-beginning g c =
+pub returns-in_err-take-clause-beginning : goal.returns-in_err-take-clause-beginning
+returns-in_err-take-clause-beginning g c =
     let course = c.args.course.now in
     let set = g.Q.EventQueue.set in
-    let turned = c.in-Ok-exchanged.turned in
+    let turned = c.in_ok-turned.turned in
     let rows = rows_so_far c.loop-from.stream in
     let on =
-    goes_on g.Q.EventQueue.set c.args.course.now c.requires.course c.loop-from.parts.items (rows_so_far c.loop-from.stream) c.loop-from.kept.items c.loop-from.from c.loop-from.invariant.run c.in-Some.first c.in-Ok.bounded.items c.in-Ok.ensures c.in-Ok-run_windows.done.items c.in-Ok-run_windows.ensures.ok
-    turned.parts.items turned.rows.items turned.kept.items c.in-Ok-exchanged.ensures in
-    begins_on set course c.requires.course rows turned.rows.items turned.kept.items (c.in-Some.first + 1) turned.parts.items on (rows_so_far c.take.new.self) c.in-Err-take.ensures.beginning
+    goes_on g.Q.EventQueue.set c.args.course.now c.requires.course c.loop-from.parts.items (rows_so_far c.loop-from.stream) c.loop-from.kept.items c.loop-from.from c.loop-from.invariant.run c.in-Some.first c.in_ok-bounded.bounded.items c.in_ok-bounded.ensures c.in_ok-done.done.items c.in_ok-done.ensures.ok
+    turned.parts.items turned.rows.items turned.kept.items c.in_ok-turned.ensures in
+    on_err c.from_residual-in_err-take.result (begins_on set course c.requires.course rows turned.rows.items turned.kept.items (c.in-Some.first + 1) turned.parts.items on (rows_so_far c.take.new.self) c.in_err-take.ensures.beginning)
 
 pub loop-from-smaller : goal.loop-from-smaller
 loop-from-smaller g c =
@@ -93,15 +94,15 @@ pub loop-from-preserved : goal.loop-from-preserved
 loop-from-preserved g c =
     let course = c.args.course.now in
     let set = g.Q.EventQueue.set in
-    let turned = c.in-Ok-exchanged.turned in
+    let turned = c.in_ok-turned.turned in
     let rows = rows_so_far c.loop-from.stream in
     let on =
-    goes_on g.Q.EventQueue.set c.args.course.now c.requires.course c.loop-from.parts.items (rows_so_far c.loop-from.stream) c.loop-from.kept.items c.loop-from.from c.loop-from.invariant.run c.in-Some.first c.in-Ok.bounded.items c.in-Ok.ensures c.in-Ok-run_windows.done.items c.in-Ok-run_windows.ensures.ok
-    turned.parts.items turned.rows.items turned.kept.items c.in-Ok-exchanged.ensures in
+    goes_on g.Q.EventQueue.set c.args.course.now c.requires.course c.loop-from.parts.items (rows_so_far c.loop-from.stream) c.loop-from.kept.items c.loop-from.from c.loop-from.invariant.run c.in-Some.first c.in_ok-bounded.bounded.items c.in_ok-bounded.ensures c.in_ok-done.done.items c.in_ok-done.ensures.ok
+    turned.parts.items turned.rows.items turned.kept.items c.in_ok-turned.ensures in
     record {
       run =
           subst (λ t. IsUnderWay set course.scenario.now course.division.now t turned.parts.items (rows_so_far c.take.new.self) turned.kept.items) (omega (arith, c.ticks-from.ensures))
-          (subst (λ l. IsUnderWay set course.scenario.now course.division.now (c.in-Some.first + 1) turned.parts.items l turned.kept.items) (sym c.in-Ok-take.ensures.ok) on);
+          (subst (λ l. IsUnderWay set course.scenario.now course.division.now (c.in-Some.first + 1) turned.parts.items l turned.kept.items) (sym c.in_ok-take.ensures.ok) on);
       open_still = c.take.ensures.open;
       one = ap (λ s. s.now) c.take.ensures.same.0 ∙ c.loop-from.invariant.one;
       relay = c.take.ensures.same.1 ∙ c.loop-from.invariant.relay;

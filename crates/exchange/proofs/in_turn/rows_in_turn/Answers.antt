@@ -17,4 +17,4 @@ pub turns_in_turn-requires-clause-least : goal.turns_in_turn-requires-clause-lea
 turns_in_turn-requires-clause-least g c = λ loans lives.
     let s = c.args.scenario.now in
     subst (λ s. IsLeastDelay s c.least_delay-least_delay.result) (sym c.course_of-course.ensures.scenario)
-    (is_least s c.least_delay-least_delay.result (c.least_delay-least_delay.ensures.reached s c.in-Ok.ensures) (c.least_delay-least_delay.ensures.least s c.in-Ok.ensures) (c.least_delay-least_delay.ensures.alone s c.in-Ok.ensures))
+    (is_least s c.least_delay-least_delay.result (c.least_delay-least_delay.ensures.reached s c.in_ok-links.ensures) (c.least_delay-least_delay.ensures.least s c.in_ok-links.ensures) (c.least_delay-least_delay.ensures.alone s c.in_ok-links.ensures))

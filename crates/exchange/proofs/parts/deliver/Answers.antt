@@ -38,5 +38,5 @@ loop-event-preserved g c =
       come =
           subst (HaveCome set (part_number deal) c.args.parts.now.items c.place.new.parts.items) (sym (map-append pair_of c.loop-event.yielded (c.in-Some.event ∷ [])))
           (more_come set (part_number deal) c.args.parts.now.items c.loop-event.parts.items c.place.new.parts.items (map pair_of c.loop-event.yielded) (pair_of c.in-Some.event ∷ [])
-          c.loop-event.invariant.come c.in-Ok.ensures);
+          c.loop-event.invariant.come c.in_ok-place.ensures);
     }

@@ -9,10 +9,10 @@ pub returns-then-ordered : goal.returns-then-ordered
 returns-then-ordered g c =
     in_order_already ghosts.cmp total-law (λ a b before. by_place a b _ before) c.args.rows.items (search rules)
 
-pub returns-in-Ok : goal.returns-in-Ok
-returns-in-Ok g c = (
+pub returns : goal.returns
+returns g c = (
   ghosts.cmp,
   record { total = total-law; agrees = λ a b before. by_place a b _ before },
   c.sort.ensures.same,
-  c.in-Ok.ensures.sorted,
+  c.in_ok-sort.ensures.sorted,
 )

@@ -1,13 +1,16 @@
 use Rattle.std.proofs.Common.{◌≡◌, Some, true, map, nat_lt, List, ap, sym, ◌∙◌}
+use Rattle.std.specs.List.{sum_by}
 use Rattle.toml.specs.Data.{Data}
 use Rattle.toml.specs.View.{view}
 use Rattle.toml.specs.declared.value.Value.{Value}
+use Rattle.schema.specs.Schema.{most_members}
 use Rattle.schema.specs.Tree.{items_at}
+use Rattle.schema.specs.declared.schema.Version.{Version}
 use Rattle.schema.specs.declared.schema.FormatKey.TheVariants as key
-use Rattle.scenario.specs.Setup.{Group}
-use Rattle.scenario.specs.Reading.{plain_group, plain_groups, slows_in, crashes_in, setup_of_tree}
-use Rattle.scenario.specs.Rules.{breaks_names, breaks_references, breaks_pairs, breaks_size}
-use Rattle.scenario.proofs.Chain.{names_least, references_least, pairs_least, times_least, size_least}
+use Rattle.scenario.specs.Setup.{Group, member_count}
+use Rattle.scenario.specs.Reading.{version_of, plain_group, plain_groups, slows_in, crashes_in, leaves_in, setup_of_tree}
+use Rattle.scenario.specs.Rules.{breaks_names, breaks_references, breaks_added_references, breaks_pairs, breaks_departures, breaks_size}
+use Rattle.scenario.proofs.Chain.{version_is, names_least, references_least, added_references_least, pairs_least, departures_least, times_least, added_times_least, size_least}
 use Rattle.scenario.proofs.Groups.{total_of}
 use Rattle.scenario.proofs.Sound.{counts_same}
 use Rattle.scenario.proofs.Trees.{map_items}
@@ -23,30 +26,92 @@ pairs_are : (tree : Data) (gs : List Group) → gs ≡ plain_groups tree → bre
 unfolding setup_of_tree
 pairs_are tree gs same = ap (λ hs. breaks_pairs (crashes_in hs tree) (slows_in hs tree)) (sym same)
 
+references_are : (tree : Data) (gs : List Group) (v : Version) → gs ≡ plain_groups tree → v ≡ version_of tree
+    → breaks_added_references (setup_of_tree tree).version tree (plain_groups tree) ≡ breaks_added_references v tree gs
+references_are tree gs v same version = ap (λ w. breaks_added_references w tree (plain_groups tree)) (version_is tree ∙ sym version) ∙ ap (breaks_added_references v tree) (sym same)
+
+-- crashes and leaves as the scenario has them
+departures_are : (tree : Data) (gs : List Group) (v : Version) → gs ≡ plain_groups tree → v ≡ version_of tree
+    → breaks_departures (setup_of_tree tree).crashes (setup_of_tree tree).leaves ≡ breaks_departures (crashes_in gs tree) (leaves_in v gs tree)
+unfolding setup_of_tree
+departures_are tree gs v same version =
+    ap (λ hs. breaks_departures (crashes_in hs tree) (leaves_in (version_of tree) hs tree)) (sym same) ∙ ap (λ w. breaks_departures (crashes_in gs tree) (leaves_in w gs tree)) (sym version)
+
+-- more members than the version allows, as they were counted
+many_are : (tree : Data) (list : List Value) (v : Version) → map (λ d. plain_group (view d)) list ≡ plain_groups tree → v ≡ version_of tree
+    → breaks_size (setup_of_tree tree) ≡ nat_lt (most_members v) (sum_by (λ d. (plain_group (view d)).count) list)
+many_are tree list v are version =
+    ap (λ w. nat_lt (most_members w) (member_count (setup_of_tree tree))) (version_is tree ∙ sym version)
+    ∙ ap (nat_lt (most_members v)) (counts_same tree ∙ total_of (λ d. plain_group (view d)) list (plain_groups tree) are)
+
 pub returns-in-Err-clause-err : goal.returns-in-Err-clause-err
 returns-in-Err-clause-err c = λ other.
     let tree = view c.args.tree.now in
+    let s = setup_of_tree tree in
+    let list = c.items_at-list.result.now in
+    let v = c.version_of-version.result in
+    let version : v ≡ version_of tree = c.version_of-version.ensures in
+    let are = groups_are tree list c.items_at-list.ensures in
     let broken = c.in-Err.ensures.err other in
-    names_least tree (setup_of_tree tree) (ap breaks_names (sym (groups_are tree c.items_at-list.result.now c.items_at-list.ensures)) ∙ broken.1) ∙ ap Some (sym broken.0)
+    names_least tree s (ap breaks_names (sym are) ∙ broken.1) ∙ ap Some (sym broken.0)
 
 pub returns-in-Err-check_references-clause-err : goal.returns-in-Err-check_references-clause-err
 returns-in-Err-check_references-clause-err c = λ other.
     let tree = view c.args.tree.now in
-    let are = groups_are tree c.items_at-list.result.now c.items_at-list.ensures in
+    let s = setup_of_tree tree in
+    let list = c.items_at-list.result.now in
+    let v = c.version_of-version.result in
+    let version : v ≡ version_of tree = c.version_of-version.ensures in
+    let are = groups_are tree list c.items_at-list.ensures in
     let gs : c.in-Ok.roster ≡ plain_groups tree = c.in-Ok.ensures.ok ∙ are in
     let named = ap breaks_names (sym are) ∙ c.in-Ok.ensures.fine in
     let broken = c.in-Err-check_references.ensures.err in
-    references_least tree (setup_of_tree tree) named (ap (breaks_references tree) (sym gs) ∙ broken.1) ∙ ap Some (sym broken.0)
+    references_least tree s named (ap (breaks_references tree) (sym gs) ∙ broken.1) ∙ ap Some (sym broken.0)
+
+pub returns-in-Err-check_added_references-clause-err : goal.returns-in-Err-check_added_references-clause-err
+returns-in-Err-check_added_references-clause-err c = λ other.
+    let tree = view c.args.tree.now in
+    let s = setup_of_tree tree in
+    let list = c.items_at-list.result.now in
+    let v = c.version_of-version.result in
+    let version : v ≡ version_of tree = c.version_of-version.ensures in
+    let are = groups_are tree list c.items_at-list.ensures in
+    let gs : c.in-Ok.roster ≡ plain_groups tree = c.in-Ok.ensures.ok ∙ are in
+    let named = ap breaks_names (sym are) ∙ c.in-Ok.ensures.fine in
+    let known = ap (breaks_references tree) (sym gs) ∙ c.in_default.ensures.ok in
+    let broken = c.in-Err-check_added_references.ensures.err in
+    added_references_least tree s named known (references_are tree c.in-Ok.roster v gs version ∙ broken.1) ∙ ap Some (sym broken.0)
 
 pub returns-in-Err-check_pairs-clause-err : goal.returns-in-Err-check_pairs-clause-err
 returns-in-Err-check_pairs-clause-err c = λ other.
     let tree = view c.args.tree.now in
-    let are = groups_are tree c.items_at-list.result.now c.items_at-list.ensures in
+    let s = setup_of_tree tree in
+    let list = c.items_at-list.result.now in
+    let v = c.version_of-version.result in
+    let version : v ≡ version_of tree = c.version_of-version.ensures in
+    let are = groups_are tree list c.items_at-list.ensures in
     let gs : c.in-Ok.roster ≡ plain_groups tree = c.in-Ok.ensures.ok ∙ are in
     let named = ap breaks_names (sym are) ∙ c.in-Ok.ensures.fine in
     let known = ap (breaks_references tree) (sym gs) ∙ c.in_default.ensures.ok in
+    let known_too = references_are tree c.in-Ok.roster v gs version ∙ c.in_default-check_added_references.ensures.ok in
     let broken = c.in-Err-check_pairs.ensures.err other in
-    pairs_least tree (setup_of_tree tree) named known (pairs_are tree c.in-Ok.roster gs ∙ broken.1) ∙ ap Some (sym broken.0)
+    pairs_least tree s named known known_too (pairs_are tree c.in-Ok.roster gs ∙ broken.1) ∙ ap Some (sym broken.0)
+
+pub returns-in-Err-check_departures-clause-err : goal.returns-in-Err-check_departures-clause-err
+returns-in-Err-check_departures-clause-err c = λ other.
+    let tree = view c.args.tree.now in
+    let s = setup_of_tree tree in
+    let list = c.items_at-list.result.now in
+    let v = c.version_of-version.result in
+    let version : v ≡ version_of tree = c.version_of-version.ensures in
+    let are = groups_are tree list c.items_at-list.ensures in
+    let gs : c.in-Ok.roster ≡ plain_groups tree = c.in-Ok.ensures.ok ∙ are in
+    let named = ap breaks_names (sym are) ∙ c.in-Ok.ensures.fine in
+    let known = ap (breaks_references tree) (sym gs) ∙ c.in_default.ensures.ok in
+    let known_too = references_are tree c.in-Ok.roster v gs version ∙ c.in_default-check_added_references.ensures.ok in
+    let once = pairs_are tree c.in-Ok.roster gs ∙ c.in_default-check_pairs.ensures.ok in
+    let broken = c.in-Err-check_departures.ensures.err other in
+    departures_least tree s named known known_too once (departures_are tree c.in-Ok.roster v gs version ∙ broken.1) ∙ ap Some (sym broken.0)
 
 pub check_times-requires-clause-groups : goal.check_times-requires-clause-groups
 check_times-requires-clause-groups c = c.in-Ok.ensures.ok ∙ groups_are (view c.args.tree.now) c.items_at-list.result.now c.items_at-list.ensures
@@ -54,26 +119,56 @@ check_times-requires-clause-groups c = c.in-Ok.ensures.ok ∙ groups_are (view c
 pub returns-in-Err-check_times-clause-err : goal.returns-in-Err-check_times-clause-err
 returns-in-Err-check_times-clause-err c = λ other.
     let tree = view c.args.tree.now in
-    let are = groups_are tree c.items_at-list.result.now c.items_at-list.ensures in
-    let gs : c.in-Ok.roster ≡ plain_groups tree = c.in-Ok.ensures.ok ∙ are in
-    let named = ap breaks_names (sym are) ∙ c.in-Ok.ensures.fine in
-    let known = ap (breaks_references tree) (sym gs) ∙ c.in_default.ensures.ok in
-    let once = pairs_are tree c.in-Ok.roster gs ∙ c.in_default-check_pairs.ensures.ok in
-    let broken = c.in-Err-check_times.ensures.err in
-    times_least tree (setup_of_tree tree) named known once broken.1 ∙ ap Some (sym broken.0)
-
-pub returns-then-are_too_many-clause-err : goal.returns-then-are_too_many-clause-err
-returns-then-are_too_many-clause-err c = λ other.
-    let tree = view c.args.tree.now in
+    let s = setup_of_tree tree in
     let list = c.items_at-list.result.now in
+    let v = c.version_of-version.result in
+    let version : v ≡ version_of tree = c.version_of-version.ensures in
     let are = groups_are tree list c.items_at-list.ensures in
     let gs : c.in-Ok.roster ≡ plain_groups tree = c.in-Ok.ensures.ok ∙ are in
     let named = ap breaks_names (sym are) ∙ c.in-Ok.ensures.fine in
     let known = ap (breaks_references tree) (sym gs) ∙ c.in_default.ensures.ok in
+    let known_too = references_are tree c.in-Ok.roster v gs version ∙ c.in_default-check_added_references.ensures.ok in
     let once = pairs_are tree c.in-Ok.roster gs ∙ c.in_default-check_pairs.ensures.ok in
-    let many : breaks_size (setup_of_tree tree) ≡ true =
-    ap (nat_lt 1024) (counts_same tree ∙ total_of (λ v. plain_group (view v)) list (plain_groups tree) are) ∙ sym c.are_too_many.ensures ∙ c.if-are_too_many.true in
-    size_least tree (setup_of_tree tree) named known once c.in_default-check_times.ensures.ok many
+    let once_too = departures_are tree c.in-Ok.roster v gs version ∙ c.in_default-check_departures.ensures.ok in
+    let broken = c.in-Err-check_times.ensures.err in
+    times_least tree s named known known_too once once_too broken.1 ∙ ap Some (sym broken.0)
+
+pub check_added_times-requires-clause-groups : goal.check_added_times-requires-clause-groups
+check_added_times-requires-clause-groups c = c.in-Ok.ensures.ok ∙ groups_are (view c.args.tree.now) c.items_at-list.result.now c.items_at-list.ensures
+
+pub returns-in-Err-check_added_times-clause-err : goal.returns-in-Err-check_added_times-clause-err
+returns-in-Err-check_added_times-clause-err c = λ other.
+    let tree = view c.args.tree.now in
+    let s = setup_of_tree tree in
+    let list = c.items_at-list.result.now in
+    let v = c.version_of-version.result in
+    let version : v ≡ version_of tree = c.version_of-version.ensures in
+    let are = groups_are tree list c.items_at-list.ensures in
+    let gs : c.in-Ok.roster ≡ plain_groups tree = c.in-Ok.ensures.ok ∙ are in
+    let named = ap breaks_names (sym are) ∙ c.in-Ok.ensures.fine in
+    let known = ap (breaks_references tree) (sym gs) ∙ c.in_default.ensures.ok in
+    let known_too = references_are tree c.in-Ok.roster v gs version ∙ c.in_default-check_added_references.ensures.ok in
+    let once = pairs_are tree c.in-Ok.roster gs ∙ c.in_default-check_pairs.ensures.ok in
+    let once_too = departures_are tree c.in-Ok.roster v gs version ∙ c.in_default-check_departures.ensures.ok in
+    let broken = c.in-Err-check_added_times.ensures.err in
+    added_times_least tree s named known known_too once once_too c.in_default-check_times.ensures.ok broken.1 ∙ ap Some (sym broken.0)
+
+pub returns-then-are_too_many-clause-err : goal.returns-then-are_too_many-clause-err
+returns-then-are_too_many-clause-err c = λ other.
+    let tree = view c.args.tree.now in
+    let s = setup_of_tree tree in
+    let list = c.items_at-list.result.now in
+    let v = c.version_of-version.result in
+    let version : v ≡ version_of tree = c.version_of-version.ensures in
+    let are = groups_are tree list c.items_at-list.ensures in
+    let gs : c.in-Ok.roster ≡ plain_groups tree = c.in-Ok.ensures.ok ∙ are in
+    let named = ap breaks_names (sym are) ∙ c.in-Ok.ensures.fine in
+    let known = ap (breaks_references tree) (sym gs) ∙ c.in_default.ensures.ok in
+    let known_too = references_are tree c.in-Ok.roster v gs version ∙ c.in_default-check_added_references.ensures.ok in
+    let once = pairs_are tree c.in-Ok.roster gs ∙ c.in_default-check_pairs.ensures.ok in
+    let once_too = departures_are tree c.in-Ok.roster v gs version ∙ c.in_default-check_departures.ensures.ok in
+    let many : breaks_size s ≡ true = many_are tree list v are version ∙ sym c.are_too_many.ensures ∙ c.if-are_too_many.true in
+    size_least tree s named known known_too once once_too c.in_default-check_times.ensures.ok c.in_default-check_added_times.ensures.ok many
 
 pub returns-clause-groups : goal.returns-clause-groups
 returns-clause-groups c = c.in-Ok.ensures.ok ∙ groups_are (view c.args.tree.now) c.items_at-list.result.now c.items_at-list.ensures
@@ -81,13 +176,23 @@ returns-clause-groups c = c.in-Ok.ensures.ok ∙ groups_are (view c.args.tree.no
 pub returns-clause-kept : goal.returns-clause-kept
 returns-clause-kept c =
     let tree = view c.args.tree.now in
+    let s = setup_of_tree tree in
     let list = c.items_at-list.result.now in
+    let v = c.version_of-version.result in
+    let version : v ≡ version_of tree = c.version_of-version.ensures in
     let are = groups_are tree list c.items_at-list.ensures in
     let gs : c.in-Ok.roster ≡ plain_groups tree = c.in-Ok.ensures.ok ∙ are in
+    let named = ap breaks_names (sym are) ∙ c.in-Ok.ensures.fine in
+    let known = ap (breaks_references tree) (sym gs) ∙ c.in_default.ensures.ok in
+    let once = pairs_are tree c.in-Ok.roster gs ∙ c.in_default-check_pairs.ensures.ok in
+    let once_too = departures_are tree c.in-Ok.roster v gs version ∙ c.in_default-check_departures.ensures.ok in
     record {
-      names = ap breaks_names (sym are) ∙ c.in-Ok.ensures.fine;
-      references = ap (breaks_references tree) (sym gs) ∙ c.in_default.ensures.ok;
-      pairs = pairs_are tree c.in-Ok.roster gs ∙ c.in_default-check_pairs.ensures.ok;
+      names = named;
+      references = known;
+      added_references = ap (λ w. breaks_added_references w tree (plain_groups tree)) (sym version) ∙ ap (breaks_added_references v tree) (sym gs) ∙ c.in_default-check_added_references.ensures.ok;
+      pairs = once;
+      departures = once_too;
       times = c.in_default-check_times.ensures.ok;
-      size = ap (nat_lt 1024) (counts_same tree ∙ total_of (λ v. plain_group (view v)) list (plain_groups tree) are) ∙ sym c.are_too_many.ensures ∙ c.if-are_too_many.false;
+      added_times = c.in_default-check_added_times.ensures.ok;
+      size = many_are tree list v are version ∙ sym c.are_too_many.ensures ∙ c.if-are_too_many.false;
     }

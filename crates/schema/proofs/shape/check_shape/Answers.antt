@@ -6,17 +6,17 @@ use Rattle.schema.proofs.shape.check_shape.Goals as goal
 
 pub returns-in-Err-clause-err : goal.returns-in-Err-clause-err
 returns-in-Err-clause-err c =
-    missing_least (view c.args.tree.now) c.in-Err.ensures.err.0 ∙ ap (λ k. Some (rule_of k)) (sym c.in-Err.ensures.err.1)
+    missing_least c.args.version (view c.args.tree.now) c.in-Err.ensures.err.0 ∙ ap (λ k. Some (rule_of k)) (sym c.in-Err.ensures.err.1)
 
 pub returns-in-Err-keep-clause-err : goal.returns-in-Err-keep-clause-err
 returns-in-Err-keep-clause-err c =
-    unknown_least (view c.args.tree.now) c.in_default.ensures.ok c.in-Err-keep.ensures.err.0 ∙ ap (λ k. Some (rule_of k)) (sym c.in-Err-keep.ensures.err.1)
+    unknown_least c.args.version (view c.args.tree.now) c.in_default.ensures.ok c.in-Err-keep.ensures.err.0 ∙ ap (λ k. Some (rule_of k)) (sym c.in-Err-keep.ensures.err.1)
 
 pub returns-in-Err-keep-2-clause-err : goal.returns-in-Err-keep-2-clause-err
 returns-in-Err-keep-2-clause-err c =
-    kind_least (view c.args.tree.now) c.in_default.ensures.ok c.in_default-keep.ensures.ok c.in-Err-keep-2.ensures.err.0 ∙ ap (λ k. Some (rule_of k)) (sym c.in-Err-keep-2.ensures.err.1)
+    kind_least c.args.version (view c.args.tree.now) c.in_default.ensures.ok c.in_default-keep.ensures.ok c.in-Err-keep-2.ensures.err.0 ∙ ap (λ k. Some (rule_of k)) (sym c.in-Err-keep-2.ensures.err.1)
 
 pub returns-in-Err-keep-3-clause-err : goal.returns-in-Err-keep-3-clause-err
 returns-in-Err-keep-3-clause-err c =
-    range_least (view c.args.tree.now) c.in_default.ensures.ok c.in_default-keep.ensures.ok c.in_default-keep-2.ensures.ok c.in-Err-keep-3.ensures.err.0
+    range_least c.args.version (view c.args.tree.now) c.in_default.ensures.ok c.in_default-keep.ensures.ok c.in_default-keep-2.ensures.ok c.in-Err-keep-3.ensures.err.0
     ∙ ap (λ k. Some (rule_of k)) (sym c.in-Err-keep-3.ensures.err.1)

@@ -19,6 +19,6 @@ returns c =
     let check = c.args.check in
     let below = tables_below (view c.args.tree.now) in
     c.first_broken_below.ensures
-    ∙ ap (λ rows. list_any (λ row. list_any (table_breaks check) (below row)) rows) c.rows.ensures
-    ∙ sym (any-flat_map (table_breaks check) below (key_rules_of Top))
-    ∙ ap (λ top. top || list_any (table_breaks check) (flat_map below (key_rules_of Top))) c.if-is_broken.ensures
+    ∙ ap (λ rows. list_any (λ row. list_any (table_breaks c.args.version check) (below row)) rows) c.rows.ensures
+    ∙ sym (any-flat_map (table_breaks c.args.version check) below (key_rules_of c.args.version Top))
+    ∙ ap (λ top. top || list_any (table_breaks c.args.version check) (flat_map below (key_rules_of c.args.version Top))) c.if-is_broken.ensures

@@ -6,4 +6,4 @@ use Rattle.schema.specs.Shape.{table_breaks}
 use Rattle.schema.proofs.shape.first_broken_below.Given as goal
 
 abbrev pub invariant-loop-row : goal.invariant-loop-row
-invariant-loop-row l = list_any (λ row. list_any (table_breaks l.check) (tables_below (view l.tree) row)) (take l.row-index l.rows) ≡ false
+invariant-loop-row l = list_any (λ row. list_any (table_breaks l.version l.check) (tables_below (view l.tree) row)) (take l.row-index l.rows) ≡ false

@@ -11,7 +11,7 @@ returns-in-List c =
     let section = c.in-List.section in
     let items = c.items.result.now in
     c.first_broken_item.ensures
-    ∙ sym (any-map (λ d. table_breaks c.args.check (section_table section d)) view items)
-    ∙ sym (any-map (table_breaks c.args.check) (section_table section) (map view items))
-    ∙ ap (λ ds. list_any (table_breaks c.args.check) (map (section_table section) ds)) c.items.ensures
-    ∙ ap (λ kind. list_any (table_breaks c.args.check) (tables_at kind (Some (view c.args.value.now)))) (sym c.in-List.is)
+    ∙ sym (any-map (λ d. table_breaks c.args.version c.args.check (section_table section d)) view items)
+    ∙ sym (any-map (table_breaks c.args.version c.args.check) (section_table section) (map view items))
+    ∙ ap (λ ds. list_any (table_breaks c.args.version c.args.check) (map (section_table section) ds)) c.items.ensures
+    ∙ ap (λ kind. list_any (table_breaks c.args.version c.args.check) (tables_at kind (Some (view c.args.value.now)))) (sym c.in-List.is)

@@ -5,7 +5,7 @@ use Rattle.suspicion.proofs.terms.shortest.Goals as goal
 
 pub returns-clause-short : goal.returns-clause-short
 returns-clause-short c =
-    let log : c.from.result ≤ 4000 = omega (arith, log_of-le c.args.members c.requires.at_most_1024) in
+    let log : c.from.result ≤ 4000 = omega (arith, log_of-le c.args.members c.requires.at_most_4096) in
     let short = min_timeout-lt c.args.terms.alpha c.from.result c.args.terms.period c.requires.sound.alpha log c.requires.sound.period in
     let turned : c.max-logarithm.result ≡ max 1000 c.from.result = omega arith in
     let same : c.args.terms.alpha * c.max-logarithm.result * c.args.terms.period / 1000 ≡ c.args.terms.alpha * max 1000 c.from.result * c.args.terms.period / 1000 =

@@ -1,4 +1,4 @@
-use Rattle.std.proofs.Common.{refl, rules, ap, ◌∙◌}
+use Rattle.std.proofs.Common.{rules}
 use Rattle.windows.specs.WorldOf.{world_of}
 use Rattle.windows.proofs.Advancing.{taken_handled}
 use Rattle.windows.proofs.steps.handle_taken.Goals as goal

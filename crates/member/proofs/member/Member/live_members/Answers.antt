@@ -1,11 +1,12 @@
 use Rattle.std.proofs.Common.{arith}
 use Rattle.membership.proofs.Few.{live_count-le, live_count-positive}
+use Rattle.member.proofs.Members.{few_members}
 use Rattle.member.proofs.member.Member.live_members.Goals as goal
 
 pub overflow_cast-result : goal.overflow_cast-result
 overflow_cast-result c =
     let few = live_count-le _ _ c.args.self.now.table c.args.here.now.setting.receiver c.requires.others in
-    omega (arith, few, c.args.here.now.setting.sound.members.1, c.live_count.ensures)
+    omega (arith, few, few_members _ c.args.here.now.setting.sound, c.live_count.ensures)
 
 pub returns-clause-some : goal.returns-clause-some
 returns-clause-some c = omega (arith, live_count-positive c.args.self.now.table, c.live_count.ensures)
@@ -13,4 +14,4 @@ returns-clause-some c = omega (arith, live_count-positive c.args.self.now.table,
 pub returns-clause-live_within : goal.returns-clause-live_within
 returns-clause-live_within c =
     let few = live_count-le _ _ c.args.self.now.table c.args.here.now.setting.receiver c.requires.others in
-    omega (arith, few, c.args.here.now.setting.sound.members.1, c.live_count.ensures)
+    omega (arith, few, few_members _ c.args.here.now.setting.sound, c.live_count.ensures)

@@ -2,10 +2,6 @@ use Rattle.std.proofs.Common.{rules}
 use Rattle.schema.specs.Schema.{key_rules_of}
 use Rattle.schema.proofs.schema.Section.rows.Goals as goal
 
-pub returns-in-Top : goal.returns-in-Top
-unfolding key_rules_of
-returns-in-Top c = search rules
-
 pub returns-in-Swim : goal.returns-in-Swim
 unfolding key_rules_of
 returns-in-Swim c = search rules
@@ -22,10 +18,6 @@ pub returns-in-Link : goal.returns-in-Link
 unfolding key_rules_of
 returns-in-Link c = search rules
 
-pub returns-in-Group : goal.returns-in-Group
-unfolding key_rules_of
-returns-in-Group c = search rules
-
 pub returns-in-Path : goal.returns-in-Path
 unfolding key_rules_of
 returns-in-Path c = search rules
@@ -34,6 +26,10 @@ pub returns-in-Slow : goal.returns-in-Slow
 unfolding key_rules_of
 returns-in-Slow c = search rules
 
-pub returns-in-Crash : goal.returns-in-Crash
+pub returns-in-Departure : goal.returns-in-Departure
 unfolding key_rules_of
-returns-in-Crash c = search rules
+returns-in-Departure c = search rules
+
+pub returns-in-Cut : goal.returns-in-Cut
+unfolding key_rules_of
+returns-in-Cut c = search rules

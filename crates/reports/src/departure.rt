@@ -1,0 +1,134 @@
+//! The members that depart in a trace: they crash or leave.
+ghost use Rattle.std.specs.Prelude.{◌≡◌, ◌+◌, ◌<◌, ◌==◌, ◌^◌, ◌++◌, ◌∷◌, Some, [], map, All, OnOk, OnErr};
+ghost use Rattle.std.specs.Option.{option_or};
+ghost use Rattle.std.specs.List.{list_any};
+ghost use Rattle.reports.specs.Departures.{latency_of};
+ghost use Rattle.reports.specs.Failures.{detection_with, departure_with, departure_at, is_about_departed};
+
+use crate::rows::is_about;
+use base::{MemberId, Moment};
+use std::alloc::AllocError;
+use trace::{Row, What};
+
+/// What the rows after a member's departure tell of it.
+#[derive(Clone, Copy)]
+pub(crate) struct Detection {
+    /// When the member was first suspected.
+    pub(crate) suspect: Option<Moment>,
+    /// When it was first confirmed to have failed.
+    pub(crate) confirm: Option<Moment>,
+    /// When it was last confirmed to have failed.
+    pub(crate) last: Option<Moment>,
+    /// How often it was confirmed to have failed.
+    pub(crate) confirmers: u64,
+}
+
+impl Detection {
+    /// Takes in what one row more tells of the member.
+    fn see(&mut self, row: &Row, member: MemberId)
+        requires { self.old.confirmers < 2 ^ 63 }
+        ensures { self.new ≡ detection_with member row.now self.old }
+    {
+        if !is_about(row, member) {
+            return;
+        }
+        match row.what {
+            What::Suspect => self.suspect_at(row.at),
+            What::Confirm => self.confirm_at(row.at),
+            _ => {}
+        }
+    }
+
+    fn suspect_at(&mut self, at: Moment)
+        ensures { self.new ≡ record self.old { suspect = option_or self.old.suspect (Some at) } }
+    {
+        self.suspect = self.suspect.or(Some(at));
+    }
+
+    fn confirm_at(&mut self, at: Moment)
+        requires { self.old.confirmers < 2 ^ 63 }
+        ensures { self.new ≡ record self.old {
+          confirm = option_or self.old.confirm (Some at);
+          last = Some at;
+          confirmers = self.old.confirmers + 1;
+        } }
+    {
+        self.confirm = self.confirm.or(Some(at));
+        self.last = Some(at);
+        self.confirmers += 1;
+    }
+}
+
+/// A crash or a leave, and how it was detected.
+#[derive(Clone, Copy)]
+pub(crate) struct Departure {
+    /// Who departed.
+    pub(crate) member: MemberId,
+    pub(crate) at: Moment,
+    pub(crate) detection: Detection,
+}
+
+impl Departure {
+    /// Takes in what one row more tells of the departure.
+    fn see(&mut self, row: &Row)
+        requires { self.old.detection.confirmers < 2 ^ 63 }
+        ensures { self.new ≡ departure_with row.now self.old }
+    {
+        self.detection.see(row, self.member);
+    }
+
+    /// How many ticks it took until a first member confirmed the departure.
+    pub(crate) fn latency(&self) -> Option<u64>
+        ensures { result ≡ latency_of self.now }
+    {
+        let confirm = self.detection.confirm?;
+        Some(confirm.ticks().saturating_sub(self.at.ticks()))
+    }
+}
+
+/// Adds the departure that a row tells of. Only later rows tell how it was detected.
+pub(crate) fn add_departure(departures: &mut Vec<Departure>, row: &Row) -> Result<(), AllocError>
+    ensures ok { OnOk result (departures.new.items ≡ departures.old.items ++ departure_at row.now ∷ []) }
+    ensures err { OnErr result (departures.new.items ≡ departures.old.items) }
+{
+    let detection = Detection {
+        suspect: None,
+        confirm: None,
+        last: None,
+        confirmers: 0,
+    };
+    departures.push(Departure {
+        member: row.member,
+        at: row.at,
+        detection,
+    })?;
+    Ok(())
+}
+
+/// Takes in what one row more tells of each departure.
+pub(crate) fn see_each(departures: &mut [Departure], row: &Row)
+    requires { All (λ departure. departure.detection.confirmers < 2 ^ 63) departures.old }
+    ensures { departures.new ≡ map (departure_with row.now) departures.old }
+{
+    for departure in departures.iter_mut() {
+        departure.see(row);
+    }
+}
+
+/// Whether a row is about a member that departed.
+pub(crate) fn is_about_departed(row: &Row, departures: &[Departure]) -> bool
+    ensures { result ≡ is_about_departed departures.now row.now }
+{
+    match row.about {
+        Some(about) => has_departed(about, departures),
+        None => false,
+    }
+}
+
+fn has_departed(member: MemberId, departures: &[Departure]) -> bool
+    ensures { result ≡ list_any (λ departure. departure.member == member) departures.now }
+{
+    departures
+        .iter()
+        .any(|departure| departure.member == member)
+}
