@@ -1,5 +1,5 @@
 -- Each link of the chain of rules: a rule is the least broken where those before it are kept.
-use Rattle.std.proofs.Common.{◌≡◌, ℕ, List, Bool, true, false, nat_le, Some, None, Result, Ok, Err, IfOk, IfErr, option_map, refl, ap, ◌∙◌}
+use Rattle.std.proofs.Common.{◌≡◌, ℕ, List, Bool, true, false, nat_le, Some, None, Result, Ok, Err, IfOk, IfErr, IsErrAnd, option_map, refl, subst, sym, ap, ◌∙◌}
 use Rattle.std.specs.List.{list_any}
 use Rattle.std.specs.Option.{option_or}
 use Rattle.std.specs.Str.{IsUtf8, is_utf8}
@@ -16,7 +16,7 @@ use Rattle.scenario.specs.declared.settings.Crash.{Crash}
 use Rattle.scenario.specs.declared.settings.Leave.{Leave}
 use Rattle.scenario.specs.Setup.{Setup, Group}
 use Rattle.scenario.specs.Reading.{version_of, added_items, plain_groups, setup_of_tree}
-use Rattle.scenario.specs.Rules.{any_two, is_same_member, overlaps, has_lost_contact, names_no_member, names_no_group, is_bad_contact, is_over, is_early, breaks_names, breaks_references, is_same_leaver, crashes_too, is_early_leave, is_cut_over, breaks_pairs, breaks_times, breaks_added_references, breaks_departures, breaks_added_times, breaks_size, least_broken, least_broken_by, judged_if_read, unless_broken, tree_of, verdict, KeepsValues}
+use Rattle.scenario.specs.Rules.{any_two, is_same_member, overlaps, has_lost_contact, names_no_member, names_no_group, is_bad_contact, is_over, is_early, breaks_names, breaks_references, is_same_leaver, crashes_too, is_early_leave, is_cut_over, breaks_pairs, breaks_times, breaks_added_references, breaks_departures, breaks_added_times, breaks_size, least_broken, least_broken_by, judged_if_read, unless_broken, document_verdict, tree_of, verdict, KeepsValues}
 
 -- where no rule on the tables is broken, the rules on the values decide
 pub values_least : (d : Data) → KeepsShape (version_of d) d → least_broken d ≡ least_broken_by d (setup_of_tree d)
@@ -167,18 +167,24 @@ no_tree_of : (bytes : List ℕ) (b : Bool) → is_utf8 bytes ≡ b → (IsUtf8 b
 no_tree_of bytes true text refused = rw text (ap (option_map table) (refused (IsUtf8-from_is_utf8 bytes text)))
 no_tree_of bytes false text refused = rw text refl
 
--- bytes that are text only where `toml` finds no document are answered by rule 1
-pub no_tree : (bytes : List ℕ) → (IsUtf8 bytes → parse_document bytes ≡ None) → verdict bytes ≡ Err 1
-unfolding verdict
-no_tree bytes refused = ap (judged_if_read least_broken) (no_tree_of bytes (is_utf8 bytes) refl refused)
+-- bytes that are text only where `toml` finds no document are none
+pub no_tree : (bytes : List ℕ) → (IsUtf8 bytes → parse_document bytes ≡ None) → tree_of bytes ≡ None
+no_tree bytes refused = no_tree_of bytes (is_utf8 bytes) refl refused
 
-pub rule_broken : (bytes : List ℕ) (d : Data) (rule : ℕ) → tree_of bytes ≡ Some d → least_broken d ≡ Some rule → verdict bytes ≡ Err rule
+-- bytes that are no document are answered by rule 1, and others as their document is
+pub answered_without : (bytes : List ℕ) → tree_of bytes ≡ None → verdict bytes ≡ Err 1
 unfolding verdict
-rule_broken bytes d rule read broken = ap (judged_if_read least_broken) read ∙ ap (unless_broken (setup_of_tree d)) broken
+answered_without bytes none = ap (judged_if_read least_broken) none
 
-pub accepted : (bytes : List ℕ) (d : Data) → tree_of bytes ≡ Some d → least_broken d ≡ None → verdict bytes ≡ Ok (setup_of_tree d)
+pub answered_as_document : (bytes : List ℕ) (d : Data) → tree_of bytes ≡ Some d → verdict bytes ≡ document_verdict d
 unfolding verdict
-accepted bytes d read fine = ap (judged_if_read least_broken) read ∙ ap (unless_broken (setup_of_tree d)) fine
+answered_as_document bytes d read = ap (judged_if_read least_broken) read
+
+pub rule_broken : (d : Data) (rule : ℕ) → least_broken d ≡ Some rule → document_verdict d ≡ Err rule
+rule_broken d rule broken = ap (unless_broken (setup_of_tree d)) broken
+
+pub accepted : (d : Data) → least_broken d ≡ None → document_verdict d ≡ Ok (setup_of_tree d)
+accepted d fine = ap (unless_broken (setup_of_tree d)) fine
 
 -- what holds of an answer, from what was known of it
 pub ok_so : {A E : Type 0} (P Q : A → Type 0) (r : Result A E) → IfOk r P → ((x : A) → P x → Q x) → IfOk r Q
@@ -188,3 +194,8 @@ ok_so P Q (Err e) known so = known
 pub err_so : {A E : Type 0} (P Q : E → Type 0) (r : Result A E) → IfErr r P → ((e : E) → P e → Q e) → IfErr r Q
 err_so P Q (Ok x) known so = known
 err_so P Q (Err e) known so = so e known
+
+-- what a `?` hands on is the error that it was given
+pub handed_on : {T E : Type 0} (Q : E → Type 0) (r : Result T E) (e : E) → IsErrAnd r (λ y. y ≡ e) → Q e → IfErr r Q
+handed_on Q (Ok x) e gives h = absurd gives
+handed_on Q (Err y) e gives h = subst Q (sym gives) h

@@ -163,6 +163,10 @@ abbrev pub unless_broken : Setup → Option ℕ → Result Setup ℕ
 unless_broken s None = Ok s
 unless_broken s (Some rule) = Err rule
 
+-- what a document is answered
+abbrev pub document_verdict : Data → Result Setup ℕ
+document_verdict tree = unless_broken (setup_of_tree tree) (least_broken tree)
+
 -- rule 1: the bytes are no TOML document
 abbrev pub judged_if_read : (Data → Option ℕ) → Option Data → Result Setup ℕ
 judged_if_read least None = Err 1

@@ -27,7 +27,7 @@ mod times;
 mod version_tests;
 
 pub use division::{Division, DivisionFault, Workers};
-pub use reader::read;
+pub use reader::{document, read, read_document};
 pub use refusal::Refusal;
 pub use scenario::Scenario;
 pub use schema::Version;

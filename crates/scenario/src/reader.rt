@@ -5,7 +5,7 @@ ghost use Rattle.toml.specs.Errors.{IsMemory};
 ghost use Rattle.schema.specs.Schema.{most_members};
 ghost use Rattle.schema.specs.Shape.{KeepsShape};
 ghost use Rattle.scenario.specs.Reading.{version_of, plain_group, plain_groups, setup_of_tree};
-ghost use Rattle.scenario.specs.Rules.{least_broken_by, verdict, first_verdict, version_in, KeepsValues};
+ghost use Rattle.scenario.specs.Rules.{document_verdict, tree_of, least_broken_by, verdict, first_verdict, version_in, KeepsValues};
 
 use crate::additions::{check_added_references, check_added_times, check_departures, version_of};
 use crate::lists::{count_of, list_names, read_groups, read_paths, read_script};
@@ -31,12 +31,30 @@ pub fn read(alloc: Global, bytes: &[u8]) -> Result<Scenario, Refusal>
     ensures accepted_first { version_in bytes.now ≡ Version.One → IfOk result (λ s. first_verdict bytes.now ≡ Ok s) }
     ensures refused_first { version_in bytes.now ≡ Version.One → IfErr result (λ r. r.rule ≢ 11 → first_verdict bytes.now ≡ Err r.rule) }
 {
-    let tree = match toml::table_from_slice(alloc, bytes) {
-        Ok(table) => Value::Table(table),
-        Err(error) => return Err(unread(&error)),
-    };
-    match check_shape(version_of(&tree), &tree) {
-        Ok(()) => build(alloc, &tree),
+    let tree = document(alloc, bytes)?;
+    read_document(alloc, &tree)
+}
+
+/// The TOML document that the bytes of a text are. Refused by rule 1 where they are none, and by rule 11.
+pub fn document(alloc: Global, bytes: &[u8]) -> Result<Value, Refusal>
+    ensures read { IfOk result (λ tree. tree_of bytes.now ≡ Some (view tree)) }
+    ensures refused { IfErr result (λ r. r.rule ≢ 11 → (tree_of bytes.now ≡ None) × (r.rule ≡ 1)) }
+    ensures numbered { IfErr result (λ r. (1 ≤ r.rule) × (r.rule ≤ 11)) }
+{
+    match toml::table_from_slice(alloc, bytes) {
+        Ok(table) => Ok(Value::Table(table)),
+        Err(error) => Err(unread(&error)),
+    }
+}
+
+/// Reads a scenario from a document. One that breaks a rule is refused by the least such rule.
+pub fn read_document(alloc: Global, tree: &Value) -> Result<Scenario, Refusal>
+    ensures accepted { IfOk result (λ s. document_verdict (view tree.now) ≡ Ok s) }
+    ensures refused { IfErr result (λ r. r.rule ≢ 11 → document_verdict (view tree.now) ≡ Err r.rule) }
+    ensures numbered { IfErr result (λ r. (1 ≤ r.rule) × (r.rule ≤ 11)) }
+{
+    match check_shape(version_of(tree), tree) {
+        Ok(()) => build(alloc, tree),
         Err(fault) => Err(Refusal::of_shape(fault)),
     }
 }
