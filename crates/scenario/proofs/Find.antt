@@ -17,7 +17,8 @@ use Rattle.std.proofs.lemmas.List.Elements.{All-from_get_or}
 use Rattle.std.proofs.lemmas.List.Folds.{list_any-append, list_any_none, fold-map}
 use Rattle.scenario.specs.Setup.{Group, names_in, names_below, group_at}
 use Rattle.scenario.specs.Reading.{names_of_all, member_named}
-use Rattle.scenario.specs.Rules.{is_name_byte, is_group_name, any_two, breaks_names}
+use Rattle.scenario.specs.GroupNames.{is_name_byte, is_group_name}
+use Rattle.scenario.specs.Rules.{any_two, breaks_names}
 use Rattle.scenario.specs.Roster.{named_group, roster_of, AreNumberedFrom, IsRoster, start_in}
 use Rattle.scenario.specs.declared.roster.Block.{Block}
 use Rattle.scenario.specs.declared.roster.Roster.TheInside.{Inside}

@@ -25,7 +25,8 @@ use Rattle.scenario.specs.declared.settings.Leave.{Leave}
 use Rattle.scenario.specs.declared.settings.Cut.{Cut}
 use Rattle.scenario.specs.Roster.{named_group, AreNumberedFrom}
 use Rattle.scenario.specs.declared.roster.Block.{Block}
-use Rattle.scenario.specs.Rules.{is_group_name, breaks_name, breaks_names, any_two}
+use Rattle.scenario.specs.GroupNames.{is_group_name}
+use Rattle.scenario.specs.Rules.{breaks_name, breaks_names, any_two}
 
 bytes_eq-sym : (a b : List ℕ) → bytes_eq a b ≡ bytes_eq b a
 bytes_eq-sym a b =

@@ -1,7 +1,7 @@
 -- A document that breaks no rule gives a scenario whose numbers are in the format's ranges.
 use Rattle.std.proofs.Common.{◌≡◌, ℕ, zero, suc, ◌+◌, ◌<◌, ◌≤◌, ◌^◌, Bool, true, false, cond, not, ◌&&◌, ◌||◌, nat_le, nat_lt, nat_eq, List, [], ◌∷◌, map, Option, Some, None, IfSome, is_some, is_none, pos, negsuc, ap, ◌∙◌, sym, subst, refl, arith, eqb-true, eq-eqb, bytes_eq}
 use Rattle.std.specs.Option.{option_map_or, option_map, option_and_then}
-use Rattle.std.specs.List.{slice_get, filter, find, list_any, sum_by, AllByRecursion}
+use Rattle.std.specs.List.{slice_get, filter, find, list_any, list_all, sum_by, AllByRecursion}
 use Rattle.std.proofs.lemmas.Bool.{false≢true, leb-true, leb-false, ltb-false}
 use Rattle.std.proofs.lemmas.Bool.Decides.{nat_tests}
 use Rattle.std.proofs.lemmas.List.Folds.{fold-map}
@@ -25,9 +25,10 @@ use Rattle.schema.specs.declared.schema.Absence.{Absence}
 use Rattle.schema.specs.declared.schema.Absence.TheVariants.{Refused, RefusedOver0, Default, Optional}
 use Rattle.schema.specs.declared.shape.Check.{Check}
 use Rattle.schema.specs.declared.shape.Check.TheVariants.{Missing, WrongKind, OutOfRange}
+use Rattle.scenario.specs.GroupNames.{is_group_name}
 use Rattle.scenario.specs.Setup.{Setup, Group, IsSound, IsSoundLink, leads, group_at, last_link, member_count, start_of, is_slow}
 use Rattle.scenario.specs.Reading.{plain_group, plain_groups, names_of_all, member_named, group_in, swim_in, suspicion_in, lifeguard_in, link_in, link_over, path_in, slow_in, crash_in, leave_in, cut_in, version_of, added_items, setup_of_tree}
-use Rattle.scenario.specs.Rules.{has_lost_contact, is_bad_contact, is_early, is_over, any_two, is_same_leaver, crashes_too, is_early_leave, is_cut_over, breaks_references, breaks_times, breaks_departures, breaks_added_times, KeepsValues}
+use Rattle.scenario.specs.Rules.{has_lost_contact, is_bad_contact, is_early, is_over, any_two, is_same_leaver, crashes_too, is_early_leave, is_cut_over, breaks_names, breaks_references, breaks_times, breaks_departures, breaks_added_times, KeepsValues}
 use Rattle.scenario.proofs.Find.{length-names_of_all}
 use Rattle.scenario.proofs.First.{plain_of}
 use Rattle.scenario.proofs.Members.{most_of_all}
@@ -526,6 +527,19 @@ counts_same tree =
     fold-map (λ (n : ℕ) (g : Group). n + g.count) (group_in (map plain_group (items_at key.Group tree))) 0 (items_at key.Group tree)
     ∙ sym (fold-map (λ (n : ℕ) (g : Group). n + g.count) plain_group 0 (items_at key.Group tree))
 
+-- the groups' names have their form, with the contacts as without them
+forms_kept : (gs : List Group) (ds : List Data) → list_any (λ (g : Group). not (is_group_name g.name)) (map plain_group ds) ≡ false → list_all (λ (g : Group). is_group_name g.name) (map (group_in gs) ds) ≡ true
+forms_kept gs [] fine = refl
+forms_kept gs (d ∷ ds) fine =
+    let parts = neither (not (is_group_name (plain_group d).name)) (list_any (λ (g : Group). not (is_group_name g.name)) (map plain_group ds)) fine in
+    ap (λ b. b && list_all (λ (g : Group). is_group_name g.name) (map (group_in gs) ds)) (turned (is_group_name (plain_group d).name) parts.0) ∙ forms_kept gs ds parts.1
+
+names_sound : (gs : List Group) (tree : Data) → breaks_names (plain_groups tree) ≡ false → list_all (λ (g : Group). is_group_name g.name) (map (group_in gs) (items_at key.Group tree)) ≡ true
+unfolding breaks_names plain_groups
+names_sound gs tree fine =
+    let groups : List Group = map plain_group (items_at key.Group tree) in
+    forms_kept gs (items_at key.Group tree) (neither (list_any (λ (g : Group). not (is_group_name g.name)) groups) (any_two bytes_eq (map (λ (g : Group). g.name) groups)) fine).0
+
 -- The scenario of a document that breaks no rule.
 pub sound_of : (tree : Data) → KeepsShape (version_of tree) tree → KeepsValues tree → IsSound (setup_of_tree tree)
 unfolding setup_of_tree key_rules_of breaks_references breaks_times breaks_departures breaks_added_times
@@ -577,6 +591,7 @@ sound_of tree shape values =
       loss = link.loss;
       between = λ i j. paths_sound v gs (link_in (value_at key.Link tree)) (leads (group_at s.groups i) (group_at s.groups j)) (value_at key.Path tree) link
           (path Missing shape.missing) (path WrongKind shape.kinds) (path OutOfRange shape.ranges);
+      names = names_sound gs tree values.names;
       members = (
         subst (λ (o : Option Data). 0 < sum_by (λ (g : Group). g.count) (map (group_in gs) (option_map_or items_of o []))) (sym group.2) (some_members (group_in gs group.0) (map (group_in gs) (list_of group.1)) first),
         few,

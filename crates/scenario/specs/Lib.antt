@@ -1,3 +1,4 @@
+pub mod GroupNames
 pub mod Setup
 pub mod SetupOf
 pub mod Roster

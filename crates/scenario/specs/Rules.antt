@@ -1,8 +1,7 @@
 -- The rules on the values of a document, each as a test, the least rule that is broken, and so what a text is answered.
 use Rattle.std.specs.Prelude.{◌≡◌, ℕ, List, [], ◌∷◌, Bool, false, not, ◌&&◌, ◌||◌, if◌then◌else◌, Option, Some, None, is_none, Result, Ok, Err, nat_le, nat_lt, nat_eq, map, length, bytes_eq, option_map}
-use Rattle.std.specs.List.{list_any, list_all}
+use Rattle.std.specs.List.{list_any}
 use Rattle.std.specs.Option.{option_map_or, option_or}
-use Rattle.std.specs.Char.{is_ascii_lowercase, is_ascii_digit}
 use Rattle.std.specs.Str.{is_utf8}
 use Rattle.toml.specs.Data.{Data, table}
 use Rattle.toml.specs.Parse.{parse_document}
@@ -13,23 +12,13 @@ use Rattle.schema.specs.Shape.{least_broken_of_shape}
 use Rattle.schema.specs.declared.schema.Version.{Version}
 use Rattle.schema.specs.declared.schema.Version.TheVariants.{One}
 use Rattle.schema.specs.declared.schema.FormatKey.TheVariants as key
+use Rattle.scenario.specs.GroupNames.{is_group_name}
 use Rattle.scenario.specs.Setup.{Setup, Group, start_of, member_count}
 use Rattle.scenario.specs.Reading.{version_of, added_items, plain_groups, member_named, group_named, setup_of_tree}
 use Rattle.scenario.specs.declared.settings.Slow.{Slow}
 use Rattle.scenario.specs.declared.settings.Crash.{Crash}
 use Rattle.scenario.specs.declared.settings.Leave.{Leave}
 use Rattle.scenario.specs.declared.settings.Cut.{Cut}
-
-abbrev pub starts_with_letter : List ℕ → Bool
-starts_with_letter [] = false
-starts_with_letter (first ∷ rest) = is_ascii_lowercase first
-
-abbrev pub is_name_byte : ℕ → Bool
-is_name_byte b = is_ascii_lowercase b || is_ascii_digit b
-
--- 1 to 16 bytes of a to z and 0 to 9, the first a letter
-abbrev pub is_group_name : List ℕ → Bool
-is_group_name name = (nat_le (length name) 16 && starts_with_letter name) && list_all is_name_byte name
 
 -- a group of this name may not follow these groups: the name has another form or is taken
 abbrev pub breaks_name : List Group → List ℕ → Bool

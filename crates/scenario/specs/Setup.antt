@@ -1,9 +1,10 @@
 -- A scenario as its text says it, and what is said of its members.
 use Rattle.std.specs.Prelude.{◌≡◌, ℕ, ◌<◌, ◌≤◌, ◌^◌, ◌+◌, ◌-◌, Bool, true, ◌&&◌, if◌then◌else◌, nat_lt, nat_le, nat_eq, List, [], ◌∷◌, ◌++◌, map, filter, find, sum_by, flat_map, codes, decimal, Option, Some, None, IfSome, option_map, option_and_then, unwrap_or, slice_get}
-use Rattle.std.specs.List.{range_with_len, list_any, AllByRecursion}
+use Rattle.std.specs.List.{range_with_len, list_any, list_all, AllByRecursion}
 use Rattle.std.specs.Option.{is_some, option_map_or}
 use Rattle.schema.specs.declared.schema.Version.{Version}
 use Rattle.schema.specs.declared.schema.Version.TheVariants.{One}
+use Rattle.scenario.specs.GroupNames.{is_group_name}
 use Rattle.scenario.specs.declared.settings.Swim.{Swim}
 use Rattle.scenario.specs.declared.settings.Suspicion.{Suspicion}
 use Rattle.scenario.specs.declared.settings.Lifeguard.{Lifeguard}
@@ -135,8 +136,9 @@ pub record IsPlain (s : Setup) : Type 0 where
   pub leaves : s.leaves ≡ []
   pub cuts : s.cuts ≡ []
 
--- What every scenario keeps: the format's ranges of its numbers, the timeout below the period, who asks
--- whom to join, crashes and leaves after the starts, of each member at most one, and cuts that last.
+-- What every scenario keeps: the format's ranges of its numbers, the timeout below the period, the form of
+-- groups' names, who asks whom to join, crashes and leaves after the starts, of each member at most one, and
+-- cuts that last.
 pub record IsSound (s : Setup) : Type 0 where
   pub end : s.end ≤ 2 ^ 40
   pub period : s.swim.period ≤ 2 ^ 24
@@ -154,6 +156,7 @@ pub record IsSound (s : Setup) : Type 0 where
   pub jitter : s.link.jitter ≤ 2 ^ 20
   pub loss : s.link.loss ≤ 1000000
   pub between : (i j : ℕ) → IsSoundLink (link_between s i j)
+  pub names : list_all (λ g. is_group_name g.name) s.groups ≡ true
   pub members : (0 < member_count s) × (member_count s ≤ 4096)
   pub starts : (m : ℕ) → start_of s m ≤ 2 ^ 40
   pub contacts : (m : ℕ) → m < member_count s → IsSoundContact s m

@@ -3,7 +3,8 @@ ghost use Rattle.std.specs.Prelude.{◌≡◌, ◌≢◌, ◌<◌, ◌^◌, ◌+
 ghost use Rattle.std.specs.List.{list_all};
 ghost use Rattle.toml.specs.View.{view};
 ghost use Rattle.scenario.specs.Reading.{plain_group, member_named, group_named};
-ghost use Rattle.scenario.specs.Rules.{starts_with_letter, is_name_byte, is_group_name, breaks_name, breaks_names};
+ghost use Rattle.scenario.specs.GroupNames.{starts_with_letter, is_name_byte, is_group_name};
+ghost use Rattle.scenario.specs.Rules.{breaks_name, breaks_names};
 ghost use Rattle.scenario.specs.Roster.{named_group, start_in};
 
 use crate::refusal::Refusal;

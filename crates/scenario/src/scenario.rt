@@ -62,7 +62,8 @@ impl Scenario {
     /// A member's name: its group's name, a dash and its index in the group.
     pub fn name(&self, member: MemberId) -> &str
         requires { member < member_count self.now }
-        ensures { result.now ≡ name_of self.now member }
+        ensures value { result.now ≡ name_of self.now member }
+        ensures sound { IsSound self.now }
     {
         self.names[member.index()].as_str()
     }

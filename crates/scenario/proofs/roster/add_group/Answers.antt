@@ -4,7 +4,7 @@ use Rattle.std.specs.HashMap.{get}
 use Rattle.std.specs.String.{string_eq}
 use Rattle.scenario.specs.Roster.{named_group}
 use Rattle.scenario.specs.declared.roster.Block.{Block}
-use Rattle.scenario.specs.Rules.{is_group_name}
+use Rattle.scenario.specs.GroupNames.{is_group_name}
 use Rattle.scenario.proofs.Groups.{name_taken, taken_is, group_added, block_added}
 use Rattle.scenario.proofs.roster.add_group.Goals as goal
 use Rattle.scenario.proofs.roster.add_group.Goals.{in-Ok-None, in-Ok-Some, in-Err}
