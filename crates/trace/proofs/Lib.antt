@@ -1,3 +1,3 @@
 pub mod Beginnings
-mod Fields
+mod PlainFields
 pub mod RowsText

@@ -1,12 +1,12 @@
-ghost use Rattle.std.specs.Prelude.{◌≡◌, ◌+◌, ◌++◌, ◌<◌, codes, [], IfOk, IfSome, OnOk, All};
-ghost use Rattle.trace.specs.Lines.{laid_out, parted, HasFields};
-ghost use Rattle.trace.specs.Text.{line_of, rows_text, about_text, lost_text, NamesMembers};
-ghost use Rattle.csv.specs.Writing.{fields_written};
-ghost use Rattle.scenario.specs.Setup.{member_count};
+ghost use Rattle.std.specs.Prelude.{◌≡◌, ◌++◌, ◌∷◌, ◌<◌, [], IfOk, IfSome, OnOk, All, map};
+ghost use Rattle.trace.specs.Lines.{laid_out, IsAtStart};
+ghost use Rattle.trace.specs.Text.{line_of, rows_text, about_text, word_of, lost_text, NamesMembers};
+ghost use Rattle.csv.specs.Writing.{default_writer, row_text};
+ghost use Rattle.scenario.specs.Setup.{member_count, name_of, IsSound};
 
-use crate::row::Row;
+use crate::row::{Row, What};
 use base::{MemberId, Memory};
-use csv::{QuoteStyle, Writer, WriterBuilder};
+use csv::Writer;
 use itoa::Buffer;
 use scenario::Scenario;
 use std::alloc::Global;
@@ -16,7 +16,7 @@ pub(crate) fn lines(alloc: Global, rows: &[Row], scenario: &Scenario) -> Result<
     requires { All (NamesMembers scenario.now) rows.now }
     ensures { IfOk result (λ text. text.items ≡ rows_text scenario.now rows.now) }
 {
-    let mut writer = plain_writer(alloc);
+    let mut writer = new_writer(alloc);
     for row in rows {
         write_line(&mut writer, row, scenario)?;
     }
@@ -26,55 +26,67 @@ pub(crate) fn lines(alloc: Global, rows: &[Row], scenario: &Scenario) -> Result<
     }
 }
 
-/// A writer that has written nothing yet, and puts no field into quotes: none needs them.
-fn plain_writer(alloc: Global) -> Writer<Vec<u8>>
-    ensures start { HasFields result 0 }
+/// A writer that has written nothing yet.
+fn new_writer(alloc: Global) -> Writer<Vec<u8>>
+    ensures start { IsAtStart result }
     ensures empty { laid_out result ≡ [] }
 {
-    WriterBuilder::new()
-        .quote_style(QuoteStyle::Never)
-        .from_writer(Vec::new(alloc))
+    Writer::from_writer(Vec::new(alloc))
 }
 
-/// Writes one line.
+/// Writes one line. None of its fields calls for quotes.
 fn write_line(writer: &mut Writer<Vec<u8>>, row: &Row, scenario: &Scenario) -> Result<(), Memory>
     requires named { NamesMembers scenario.now row.now }
-    requires start { HasFields writer.old 0 }
-    ensures start { OnOk result (HasFields writer.new 0) }
+    requires start { IsAtStart writer.old }
+    ensures start { OnOk result (IsAtStart writer.new) }
     ensures text { OnOk result (laid_out writer.new ≡ laid_out writer.old ++ line_of scenario.now row.now) }
 {
-    let mut digits = Buffer::new();
-    write_field(writer, digits.format(row.at.ticks()))?;
-    write_field(writer, scenario.name(row.member))?;
-    write_field(writer, scenario.name(row.from))?;
-    write_field(writer, digits.format(row.number))?;
-    write_field(writer, row.what.word())?;
-    write_field(writer, about_name(row.about, scenario))?;
-    write_field(writer, digits.format(row.value))?;
-    write_field(writer, lost_digit(row.lost))?;
-    end_line(writer)
+    let mut at = Buffer::new();
+    let mut number = Buffer::new();
+    let mut value = Buffer::new();
+    let fields = fields_of(
+        row,
+        scenario,
+        at.format(row.at.ticks()),
+        number.format(row.number),
+        value.format(row.value),
+    );
+    write_fields(writer, &fields)
 }
 
-/// Writes a field. The writer goes into memory alone, so an error of it is want of memory.
-fn write_field(writer: &mut Writer<Vec<u8>>, field: &str) -> Result<(), Memory>
-    requires line { HasFields writer.old (fields_written writer.old) }
-    requires room { fields_written writer.old < 8 }
-    ensures fields { OnOk result (HasFields writer.new (fields_written writer.old + 1)) }
-    ensures text { OnOk result (laid_out writer.new ≡ laid_out writer.old ++ parted (fields_written writer.old) field.now) }
+/// The fields of a row's line, three of which are numbers in decimal.
+fn fields_of<'a>(
+    row: &Row,
+    scenario: &'a Scenario,
+    at: &'a str,
+    number: &'a str,
+    value: &'a str,
+) -> [&'a [u8]; 8]
+    requires { NamesMembers scenario.now row.now }
+    ensures sound { IsSound scenario.now }
+    ensures fields { map (λ field. field.now) result ≡ at.now ∷ name_of scenario.now row.now.member ∷ name_of scenario.now row.now.from ∷ number.now
+        ∷ word_of row.now.what ∷ about_text scenario.now row.now.about ∷ value.now ∷ lost_text row.now.lost ∷ [] }
 {
-    match writer.write_field(field.as_bytes()) {
-        Ok(()) => Ok(()),
-        Err(_) => Err(Memory),
-    }
+    [
+        at.as_bytes(),
+        scenario.name(row.member).as_bytes(),
+        scenario.name(row.from).as_bytes(),
+        number.as_bytes(),
+        word_of(row.what).as_bytes(),
+        about_name(row.about, scenario).as_bytes(),
+        value.as_bytes(),
+        lost_digit(row.lost).as_bytes(),
+    ]
 }
 
-/// Ends a line of eight fields.
-fn end_line(writer: &mut Writer<Vec<u8>>) -> Result<(), Memory>
-    requires { HasFields writer.old 8 }
-    ensures start { OnOk result (HasFields writer.new 0) }
-    ensures text { OnOk result (laid_out writer.new ≡ laid_out writer.old ++ codes "\n") }
+/// Writes a line of fields. The writer goes into memory alone, and all lines have as many fields, so
+/// an error of it is want of memory.
+fn write_fields(writer: &mut Writer<Vec<u8>>, fields: &[&[u8]]) -> Result<(), Memory>
+    requires { IsAtStart writer.old }
+    ensures start { OnOk result (IsAtStart writer.new) }
+    ensures text { OnOk result (laid_out writer.new ≡ laid_out writer.old ++ row_text default_writer (map (λ field. field.now) fields.now)) }
 {
-    match writer.end_record() {
+    match writer.write_fields(fields) {
         Ok(()) => Ok(()),
         Err(_) => Err(Memory),
     }
@@ -91,8 +103,16 @@ fn about_name(about: Option<MemberId>, scenario: &Scenario) -> &str
     }
 }
 
+/// The word of what a row tells of. It stands at any lifetime, beside texts that are lent for less than
+/// the whole run.
+fn word_of<'a>(what: What) -> &'a str
+    ensures { result.now ≡ word_of what }
+{
+    what.word()
+}
+
 /// Whether what was sent was lost, as a digit.
-fn lost_digit(lost: bool) -> &'static str
+fn lost_digit<'a>(lost: bool) -> &'a str
     ensures { result.now ≡ lost_text lost }
 {
     if lost { "1" } else { "0" }

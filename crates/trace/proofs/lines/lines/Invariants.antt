@@ -1,5 +1,5 @@
 use Rattle.std.proofs.Common.{◌≡◌, take}
-use Rattle.trace.specs.Lines.{laid_out, HasFields}
+use Rattle.trace.specs.Lines.{laid_out, IsAtStart}
 use Rattle.trace.specs.Text.{rows_text}
 use Rattle.trace.proofs.lines.lines.Given as goal
 
@@ -7,6 +7,6 @@ use Rattle.trace.proofs.lines.lines.Given as goal
 abbrev pub invariant-loop-row : goal.invariant-loop-row
 invariant-loop-row l =
     record {
-      start : HasFields l.writer 0;
+      start : IsAtStart l.writer;
       text : laid_out l.writer ≡ rows_text l.scenario (take l.row-index l.rows);
     }
