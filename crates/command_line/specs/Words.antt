@@ -63,29 +63,29 @@ pub record IsCheckIn (met : Option (Text × List Row)) (file : Text) : Type 0 wh
   pub met_check : met ≡ Some (codes "check", rows)
   pub named : first_of (codes "FILE") rows ≡ Some file
 
--- the words ask for this run
+-- the words have no fault, and ask for this run
 abbrev pub AsksForRun : List Text → RunWords → Type 0
-AsksForRun words run = IsRunIn (subcommand_of swimsim_app words) run
+AsksForRun words run = (fault_of swimsim_app words ≡ []) × IsRunIn (subcommand_of swimsim_app words) run
 
--- the words ask to check this file
+-- the words have no fault, and ask to check this file
 abbrev pub AsksForCheck : List Text → Text → Type 0
-AsksForCheck words file = IsCheckIn (subcommand_of swimsim_app words) file
+AsksForCheck words file = (fault_of swimsim_app words ≡ []) × IsCheckIn (subcommand_of swimsim_app words) file
 
 -- the words ask for help
 abbrev pub AsksForHelp : List Text → Type 0
 AsksForHelp words = IsAmong DisplayHelp (fault_of swimsim_app words)
 
--- what the words ask for: a run or a check where they have no fault, and help where they want it
+-- what the words ask for
 abbrev pub Answers : List Text → Asked → Type 0
-Answers words (Run run) = (fault_of swimsim_app words ≡ []) × AsksForRun words run
-Answers words (Check file) = (fault_of swimsim_app words ≡ []) × AsksForCheck words file.now
+Answers words (Run run) = AsksForRun words run
+Answers words (Check file) = AsksForCheck words file.now
 Answers words (Help help) = (kind_of help ≡ DisplayHelp) × AsksForHelp words
 
--- the words ask for no run and no check
+-- the words have no fault, but ask for no run and no check
 abbrev pub AsksForNone : List Text → Type 0
-AsksForNone words = ((run : RunWords) → ¬ (AsksForRun words run)) × ((file : Text) → ¬ (AsksForCheck words file))
+AsksForNone words = (fault_of swimsim_app words ≡ []) × ((run : RunWords) → ¬ (AsksForRun words run)) × ((file : Text) → ¬ (AsksForCheck words file))
 
--- the words have a fault that is no wish for help, or ask for neither a run nor a check
+-- the words have a fault that is no wish for help, or none but ask for neither a run nor a check
 abbrev pub IsNoCommand : List Text → Type 0
 IsNoCommand words = ((kind : ErrorKind) × (kind ≢ DisplayHelp) × IsAmong kind (fault_of swimsim_app words)) ⊎ AsksForNone words
 

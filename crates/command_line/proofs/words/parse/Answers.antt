@@ -8,7 +8,7 @@ pub returns-in-Ok-clause-usage : goal.returns-in-Ok-clause-usage
 returns-in-Ok-clause-usage g c _ =
     let no_run = subst (λ met. (run : RunWords) → ¬ (IsRunIn met run)) c.in-Ok.ensures.run (c.in-None.ensures.none refl) in
     let no_check = subst (λ met. (file : Text) → ¬ (IsCheckIn met file)) c.in-Ok.ensures.run (c.in-None-check_asked.ensures.none refl) in
-    inr (no_run, no_check)
+    inr (c.in-Ok.ensures.kinds, (λ run asks. no_run run asks.1), (λ file asks. no_check file asks.1))
 
 pub returns-in-OutOfMemory-clause-usage : goal.returns-in-OutOfMemory-clause-usage
 returns-in-OutOfMemory-clause-usage g c e = absurd cc
