@@ -17,8 +17,8 @@ use Rattle.command_line.specs.declared.failure.Failure.TheVariants.{File, Usage,
 
 -- words with an answer are a command
 pub is_command : (words : List Text) (answer : Asked) → Answers words answer → IsCommand words
-is_command words (asked.Run run) h = inl (run, h.1)
-is_command words (asked.Check file) h = inr (inl (file.now, h.1))
+is_command words (asked.Run run) h = inl (run, h)
+is_command words (asked.Check file) h = inr (inl (file.now, h))
 is_command words (asked.Help help) h = inr (inr h.1)
 
 -- no check of a run fails by the words or by standard output, and so no run does
@@ -74,7 +74,7 @@ pub asked_run_fails : (words : List Text) (before after : Shelf) (making : Makin
     → answer ≡ asked.Run run → Answers words answer → RunFails before after making run failure → Fails words before after making failure
 asked_run_fails words before after making answer run failure is h fails =
     let asks : Answers words (asked.Run run) = subst (Answers words) is h in
-    run_fails words before after making run failure asks.1 fails
+    run_fails words before after making run failure asks fails
 
 -- a run that the words ask for was done, and the number of its rows printed
 pub asked_run_done : {E : Type 0} (words : List Text) (before after : Shelf) (making : Making) (old new : Option (List ℕ)) (answer : Asked) (run : RunWords) (count : ℕ)
@@ -82,7 +82,7 @@ pub asked_run_done : {E : Type 0} (words : List Text) (before after : Shelf) (ma
     → OnOk printed (Appends old new (rows_line count)) → OnOk printed (HasDone words before after making old new)
 asked_run_done words before after making old new answer run count printed is h ran told =
     let asks : Answers words (asked.Run run) = subst (Answers words) is h in
-    on_ok_weaker printed (λ appended. inl (count, (run, asks.1, ran), appended)) told
+    on_ok_weaker printed (λ appended. inl (count, (run, asks, ran), appended)) told
 
 -- what a `?` hands on is the error that it was given
 pub handed_on : {T E : Type 0} (Q : E → Type 0) (r : Result T E) (e : E) → IsErrAnd r (λ y. y ≡ e) → Q e → IfErr r Q

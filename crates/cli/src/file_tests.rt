@@ -85,9 +85,11 @@ fn no_report_follows_half_a_trace(rt: HostRuntime) -> Result<(), Fail> {
     Ok(())
 }
 
+/// Each write more leaves more of the trace.
 #[test]
 fn each_write_of_the_trace_may_fail(rt: HostRuntime) -> Result<(), Fail> {
     let mut failed = 0u64;
+    let mut most = 0;
     for number in 1..=64 {
         let files = files_with(&rt, TWO_MEMBERS.scenario)?.failing(Failing::AtWrite(number));
         let left = left_by(&rt, RUN, files, Failing::Never)?;
@@ -99,6 +101,8 @@ fn each_write_of_the_trace_may_fail(rt: HostRuntime) -> Result<(), Fail> {
         let bytes = left.files.bytes("t.csv").ok_or("no trace")?;
         assert!(rt; bytes.len() < TWO_MEMBERS.trace.len());
         assert!(rt; TWO_MEMBERS.trace.as_bytes().starts_with(bytes));
+        assert!(rt; number == 1 || most < bytes.len());
+        most = bytes.len();
         failed = number;
     }
     // the header is a write, and there are rows

@@ -16,6 +16,8 @@ pub use simulation::{check, simulate};
 #[cfg(test)]
 mod file_tests;
 #[cfg(test)]
+mod system_tests;
+#[cfg(test)]
 mod tests;
 #[cfg(test)]
 mod worked_tests;
