@@ -42,7 +42,9 @@ const TAKEN: [(&[&[u8]], &[&str]); 4] = [
 
 /// Asserts that a program that is given this takes these words.
 fn assert_taken(rt: &(impl Abort + AllocGlobal), given: &'static [&'static [u8]], wanted: &[&str]) {
-    let taken = words(&(Given { words: given }, rt.alloc())).ok().expect(rt, "words");
+    let taken = words(&(Given { words: given }, rt.alloc()))
+        .ok()
+        .expect(rt, "words");
     assert!(rt; taken.len() == wanted.len());
     for (word, text) in taken.iter().zip(wanted.iter()) {
         assert!(rt; word.as_str() == *text);
@@ -57,10 +59,7 @@ fn a_program_takes_its_words_without_its_name(rt: HostRuntime) {
 }
 
 /// What programs are given of which a word is no text.
-const BROKEN: [&[&[u8]]; 2] = [
-    &[b"swimsim", b"\xff"],
-    &[b"swimsim", b"check", b"\xc3"],
-];
+const BROKEN: [&[&[u8]]; 2] = [&[b"swimsim", b"\xff"], &[b"swimsim", b"check", b"\xc3"]];
 
 #[test]
 fn words_that_are_no_text_are_no_command(rt: HostRuntime) {
