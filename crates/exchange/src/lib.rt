@@ -16,7 +16,6 @@ mod slice;
 mod stream;
 mod stream_writer;
 mod tallied;
-mod tallying;
 mod threads;
 mod turns;
 
@@ -27,5 +26,4 @@ pub use laws::{
     the_window_of_all_is_the_run,
 };
 pub use sequential::{Summary, run_one};
-pub use tallying::tally_run;
 pub use workers::{Gate, OpenGate};
