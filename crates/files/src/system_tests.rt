@@ -1,5 +1,6 @@
 //! What the system's files do. Each test works in a folder of its own below the one that it runs in.
 
+use crate::identity::Identity;
 use crate::system::SystemFiles;
 use crate::{FileFault, Files, PairFault};
 use std::io::Write;
@@ -87,6 +88,8 @@ fn an_older_file_stays_until_it_is_written(rt: HostRuntime) -> Result<(), Fail> 
     assert!(rt; reads(&rt, "older/file", b"held before"));
     made.write_all(b"new")?;
     assert!(rt; reads(&rt, "older/file", b"new"));
+    made.write_all(b" and more")?;
+    assert!(rt; reads(&rt, "older/file", b"new and more"));
     files.close("older/file", made);
     fs::remove_dir_all(&rt, "older")?;
     Ok(())
@@ -104,7 +107,7 @@ fn no_file_is_made_without_its_folder(rt: HostRuntime) -> Result<(), Fail> {
 }
 
 /// Names of a source, and of two files to be made; the first that can't be made.
-const NAMES: [(&str, &str, &str, u8); 12] = [
+const NAMES: [(&str, &str, &str, u8); 13] = [
     ("names/old", "names/new", "names/new", 2),
     ("names/old", "names/new", "names/./new", 2),
     ("names/old", "names/old", "names/new", 1),
@@ -117,6 +120,7 @@ const NAMES: [(&str, &str, &str, u8); 12] = [
     ("names/old", "names/none/file", "names/new", 1),
     ("names/old", "names/to-new", "names/new", 2),
     ("names/old", "names/new", "names/to-new", 2),
+    ("names/old", "names/other", "names/none/file", 2),
 ];
 
 /// Makes the files of two names beside a source, and answers which is the first that can't be made, 0 where both
@@ -130,9 +134,10 @@ fn first_refused(rt: &HostRuntime, source: &str, first: &str, second: &str) -> u
     }
 }
 
-/// Makes a file, and three other names for it or for one that isn't there.
+/// Makes two files, and three other names for the first or for one that isn't there.
 fn name_files(rt: &HostRuntime) -> io::Result<()> {
     fs::write(rt, "names/old", "held before")?;
+    fs::write(rt, "names/other", "held too")?;
     fs::hard_link(rt, "names/old", "names/hard")?;
     symlink(rt, "old", "names/link")?;
     symlink(rt, "new", "names/to-new")
@@ -148,13 +153,36 @@ fn one_file_under_two_names_is_not_made(rt: HostRuntime) -> Result<(), Fail> {
             "{first} {second}"
         );
         assert!(rt; reads(&rt, "names/old", b"held before"));
+        assert!(rt; reads(&rt, "names/other", b"held too"));
         assert!(rt; !fs::exists(&rt, "names/new")?);
     }
     for name in ["names/old", "names/./old", "names/link", "names/hard"] {
         assert!(rt; SystemFiles::new(&rt).make("names/old", name).is_err());
         assert!(rt; reads(&rt, "names/old", b"held before"));
     }
-    assert!(rt; first_refused(&rt, "names/old", "/dev/null", "/dev/null") == 0);
     fs::remove_dir_all(&rt, "names")?;
+    Ok(())
+}
+
+/// A device takes what is written and keeps nothing, so it serves twice.
+#[test]
+fn a_device_takes_what_is_written(rt: HostRuntime) -> Result<(), Fail> {
+    assert!(rt; first_refused(&rt, "no-such-file", "/dev/null", "/dev/null") == 0);
+    assert!(rt; store(&rt, "/dev/null", b"bytes")?);
+    Ok(())
+}
+
+/// Standard output has texts of its own, so none is written over them, unless it goes to a device.
+#[test]
+fn standard_output_is_not_made(rt: HostRuntime) -> Result<(), Fail> {
+    begin_in(&rt, "output")?;
+    let output = "/dev/stdout";
+    if Identity::of_name(&rt, output).is_some() {
+        assert!(rt; SystemFiles::new(&rt).make("no-such-file", output).is_err());
+        assert!(rt; first_refused(&rt, "no-such-file", output, "output/new") == 1);
+        assert!(rt; first_refused(&rt, "no-such-file", "output/new", output) == 2);
+    }
+    // an empty folder, as it was
+    assert!(rt; fs::remove_dir(&rt, "output").is_ok());
     Ok(())
 }
