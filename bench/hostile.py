@@ -177,6 +177,28 @@ def words(uses, room, whole):
     uses.judge('a name of two lines is told in one', left[0] == 1 and left[2].count(b'\n') == 1, left)
 
 
+def sizes(uses, room, whole):
+    """More than there may be in a version of the format, and long lists."""
+    folder = folder_of(room, 'sizes')
+    second = SCENARIO.replace('version = 1', 'version = 2')
+    cut = '[[cut]]\nfrom = "n"\nto = "n"\nat = 1\nuntil = 2\n'
+    for what, text, status, line in (('4,097 members', second.replace('count = 2', 'count = 4097'), 3, b'swimsim: scenario rule 5\n'),
+                                     ('twice 2,049', second.replace('count = 2', 'count = 2049').replace('[[group]]', '[[group]]\nname = "m"\ncount = 2049\n[[group]]'),
+                                      3, b'swimsim: scenario rule 10\n'),
+                                     ('a cut in version 1', SCENARIO + cut, 3, b'swimsim: scenario rule 3\n'),
+                                     ('version 3', SCENARIO.replace('version = 1', 'version = 3'), 3, b'swimsim: scenario rule 5\n'),
+                                     ('50,000 cuts', second + cut * 50_000, 0, b'')):
+        (folder / 'f').write_text(text)
+        left = uses.call(folder, ['check', 'f'])
+        uses.judge(what, (left[0], left[2]) == (status, line), left)
+    for what, division in (('a list of 60,000 parts', ','.join(['0'] * 60_000)), ('a list of commas', ',' * 100_000), ('an empty list', '')):
+        left = uses.call(folder, [*RUN, 't', '--division', division])
+        uses.judge(what, left[0] == 4 and not (folder / 't').exists(), left)
+    (folder / 'old').write_bytes(OLD)
+    left = uses.call(folder, [*RUN, 'old', '--report', 's.toml'])
+    uses.judge('an older trace beside the scenario as report', left[0] == 1 and (folder / 'old').read_bytes() == OLD, left)
+
+
 def main():
     parser = argparse.ArgumentParser(description=__doc__, formatter_class=argparse.RawDescriptionHelpFormatter)
     parser.add_argument('--program', type=Path, default=BUILT)
@@ -191,7 +213,7 @@ def main():
         if status != 0:
             sys.exit(f'hostile: status {status} of a plain run')
         whole = (folder / 't').read_bytes()
-        for group in (names, texts, outputs, pipes, ends, words):
+        for group in (names, texts, outputs, pipes, ends, words, sizes):
             group(uses, room, whole)
     print(f'{uses.wrong} went wrong')
     sys.exit(1 if uses.wrong else 0)
