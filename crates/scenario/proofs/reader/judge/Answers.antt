@@ -1,4 +1,4 @@
-use Rattle.std.proofs.Common.{◌≡◌, Some, true, map, nat_lt, List, ap, sym, ◌∙◌}
+use Rattle.std.proofs.Common.{◌≡◌, Some, true, false, map, nat_lt, List, ap, sym, ◌∙◌}
 use Rattle.std.specs.List.{sum_by}
 use Rattle.toml.specs.Data.{Data}
 use Rattle.toml.specs.View.{view}
@@ -7,9 +7,9 @@ use Rattle.schema.specs.Schema.{most_members}
 use Rattle.schema.specs.Tree.{items_at}
 use Rattle.schema.specs.declared.schema.Version.{Version}
 use Rattle.schema.specs.declared.schema.FormatKey.TheVariants as key
-use Rattle.scenario.specs.Setup.{Group, member_count}
+use Rattle.scenario.specs.Setup.{Setup, Group, member_count}
 use Rattle.scenario.specs.Reading.{version_of, plain_group, plain_groups, slows_in, crashes_in, leaves_in, setup_of_tree}
-use Rattle.scenario.specs.Rules.{breaks_names, breaks_references, breaks_added_references, breaks_pairs, breaks_departures, breaks_size}
+use Rattle.scenario.specs.Rules.{breaks_names, breaks_references, breaks_added_references, breaks_pairs, breaks_departures, breaks_times, breaks_added_times, breaks_size, least_broken_by, KeepsValues}
 use Rattle.scenario.proofs.Chain.{version_is, names_least, references_least, added_references_least, pairs_least, departures_least, times_least, added_times_least, size_least}
 use Rattle.scenario.proofs.Groups.{total_of}
 use Rattle.scenario.proofs.Sound.{counts_same}
@@ -44,155 +44,149 @@ many_are tree list v are version =
     ap (λ w. nat_lt (most_members w) (member_count (setup_of_tree tree))) (version_is tree ∙ sym version)
     ∙ ap (nat_lt (most_members v)) (counts_same tree ∙ total_of (λ d. plain_group (view d)) list (plain_groups tree) are)
 
+-- What the checks say of the scenario of a document: of the list of its groups, of the groups that were read from that, and of its
+-- version. Each check comes after those that passed.
+module _ (tree : Data) (list : List Value) (items : map view list ≡ items_at key.Group tree) where
+  abbrev s : Setup
+  s = setup_of_tree tree
+
+  abbrev read_groups : List Group
+  read_groups = map (λ d. plain_group (view d)) list
+
+  are : read_groups ≡ plain_groups tree
+  are = groups_are tree list items
+
+  names_broken : breaks_names read_groups ≡ true → least_broken_by tree s ≡ Some 6
+  names_broken broken = names_least tree s (ap breaks_names (sym are) ∙ broken)
+
+  module _ (gs : List Group) (read : gs ≡ read_groups) (v : Version) (version : v ≡ version_of tree) (fine : breaks_names read_groups ≡ false) where
+    same : gs ≡ plain_groups tree
+    same = read ∙ are
+
+    named : breaks_names (plain_groups tree) ≡ false
+    named = ap breaks_names (sym are) ∙ fine
+
+    known_are : breaks_references tree (plain_groups tree) ≡ breaks_references tree gs
+    known_are = ap (breaks_references tree) (sym same)
+
+    references_broken : breaks_references tree gs ≡ true → least_broken_by tree s ≡ Some 7
+    references_broken broken = references_least tree s named (known_are ∙ broken)
+
+    module _ (known : breaks_references tree gs ≡ false) where
+      added_references_broken : breaks_added_references v tree gs ≡ true → least_broken_by tree s ≡ Some 7
+      added_references_broken broken = added_references_least tree s named (known_are ∙ known) (references_are tree gs v same version ∙ broken)
+
+      module _ (known_too : breaks_added_references v tree gs ≡ false) where
+        pairs_broken : breaks_pairs (crashes_in gs tree) (slows_in gs tree) ≡ true → least_broken_by tree s ≡ Some 8
+        pairs_broken broken = pairs_least tree s named (known_are ∙ known) (references_are tree gs v same version ∙ known_too) (pairs_are tree gs same ∙ broken)
+
+        module _ (once : breaks_pairs (crashes_in gs tree) (slows_in gs tree) ≡ false) where
+          departures_broken : breaks_departures (crashes_in gs tree) (leaves_in v gs tree) ≡ true → least_broken_by tree s ≡ Some 8
+          departures_broken broken =
+              departures_least tree s named (known_are ∙ known) (references_are tree gs v same version ∙ known_too) (pairs_are tree gs same ∙ once)
+              (departures_are tree gs v same version ∙ broken)
+
+          module _ (once_too : breaks_departures (crashes_in gs tree) (leaves_in v gs tree) ≡ false) where
+            times_broken : breaks_times s ≡ true → least_broken_by tree s ≡ Some 9
+            times_broken =
+                times_least tree s named (known_are ∙ known) (references_are tree gs v same version ∙ known_too) (pairs_are tree gs same ∙ once)
+                (departures_are tree gs v same version ∙ once_too)
+
+            module _ (timely : breaks_times s ≡ false) where
+              added_times_broken : breaks_added_times s ≡ true → least_broken_by tree s ≡ Some 9
+              added_times_broken =
+                  added_times_least tree s named (known_are ∙ known) (references_are tree gs v same version ∙ known_too) (pairs_are tree gs same ∙ once)
+                  (departures_are tree gs v same version ∙ once_too) timely
+
+              module _ (timely_too : breaks_added_times s ≡ false) where
+                size_broken : nat_lt (most_members v) (sum_by (λ d. (plain_group (view d)).count) list) ≡ true → least_broken_by tree s ≡ Some 10
+                size_broken many =
+                    size_least tree s named (known_are ∙ known) (references_are tree gs v same version ∙ known_too) (pairs_are tree gs same ∙ once)
+                    (departures_are tree gs v same version ∙ once_too) timely timely_too (many_are tree list v are version ∙ many)
+
+                all_kept : nat_lt (most_members v) (sum_by (λ d. (plain_group (view d)).count) list) ≡ false → KeepsValues tree
+                all_kept few = record {
+                  names = named;
+                  references = known_are ∙ known;
+                  added_references = ap (λ w. breaks_added_references w tree (plain_groups tree)) (sym version) ∙ ap (breaks_added_references v tree) (sym same) ∙ known_too;
+                  pairs = pairs_are tree gs same ∙ once;
+                  departures = departures_are tree gs v same version ∙ once_too;
+                  times = timely;
+                  added_times = timely_too;
+                  size = many_are tree list v are version ∙ few;
+                }
+
+
 pub returns-in-Err-clause-err : goal.returns-in-Err-clause-err
 returns-in-Err-clause-err c = λ other.
-    let tree = view c.args.tree.now in
-    let s = setup_of_tree tree in
-    let list = c.items_at-list.result.now in
-    let v = c.version_of-version.result in
-    let version : v ≡ version_of tree = c.version_of-version.ensures in
-    let are = groups_are tree list c.items_at-list.ensures in
     let broken = c.in-Err.ensures.err other in
-    names_least tree s (ap breaks_names (sym are) ∙ broken.1) ∙ ap Some (sym broken.0)
+    names_broken (view c.args.tree.now) c.items_at-list.result.now c.items_at-list.ensures broken.1
+    ∙ ap Some (sym broken.0)
 
 pub returns-in-Err-check_references-clause-err : goal.returns-in-Err-check_references-clause-err
 returns-in-Err-check_references-clause-err c = λ other.
-    let tree = view c.args.tree.now in
-    let s = setup_of_tree tree in
-    let list = c.items_at-list.result.now in
-    let v = c.version_of-version.result in
-    let version : v ≡ version_of tree = c.version_of-version.ensures in
-    let are = groups_are tree list c.items_at-list.ensures in
-    let gs : c.in-Ok.roster ≡ plain_groups tree = c.in-Ok.ensures.ok ∙ are in
-    let named = ap breaks_names (sym are) ∙ c.in-Ok.ensures.fine in
     let broken = c.in-Err-check_references.ensures.err in
-    references_least tree s named (ap (breaks_references tree) (sym gs) ∙ broken.1) ∙ ap Some (sym broken.0)
+    references_broken (view c.args.tree.now) c.items_at-list.result.now c.items_at-list.ensures
+    c.in-Ok.roster c.in-Ok.ensures.ok c.version_of-version.result c.version_of-version.ensures c.in-Ok.ensures.fine broken.1
+    ∙ ap Some (sym broken.0)
 
 pub returns-in-Err-check_added_references-clause-err : goal.returns-in-Err-check_added_references-clause-err
 returns-in-Err-check_added_references-clause-err c = λ other.
-    let tree = view c.args.tree.now in
-    let s = setup_of_tree tree in
-    let list = c.items_at-list.result.now in
-    let v = c.version_of-version.result in
-    let version : v ≡ version_of tree = c.version_of-version.ensures in
-    let are = groups_are tree list c.items_at-list.ensures in
-    let gs : c.in-Ok.roster ≡ plain_groups tree = c.in-Ok.ensures.ok ∙ are in
-    let named = ap breaks_names (sym are) ∙ c.in-Ok.ensures.fine in
-    let known = ap (breaks_references tree) (sym gs) ∙ c.in_default.ensures.ok in
     let broken = c.in-Err-check_added_references.ensures.err in
-    added_references_least tree s named known (references_are tree c.in-Ok.roster v gs version ∙ broken.1) ∙ ap Some (sym broken.0)
+    added_references_broken (view c.args.tree.now) c.items_at-list.result.now c.items_at-list.ensures
+    c.in-Ok.roster c.in-Ok.ensures.ok c.version_of-version.result c.version_of-version.ensures c.in-Ok.ensures.fine
+    c.in_default.ensures.ok broken.1
+    ∙ ap Some (sym broken.0)
 
 pub returns-in-Err-check_pairs-clause-err : goal.returns-in-Err-check_pairs-clause-err
 returns-in-Err-check_pairs-clause-err c = λ other.
-    let tree = view c.args.tree.now in
-    let s = setup_of_tree tree in
-    let list = c.items_at-list.result.now in
-    let v = c.version_of-version.result in
-    let version : v ≡ version_of tree = c.version_of-version.ensures in
-    let are = groups_are tree list c.items_at-list.ensures in
-    let gs : c.in-Ok.roster ≡ plain_groups tree = c.in-Ok.ensures.ok ∙ are in
-    let named = ap breaks_names (sym are) ∙ c.in-Ok.ensures.fine in
-    let known = ap (breaks_references tree) (sym gs) ∙ c.in_default.ensures.ok in
-    let known_too = references_are tree c.in-Ok.roster v gs version ∙ c.in_default-check_added_references.ensures.ok in
     let broken = c.in-Err-check_pairs.ensures.err other in
-    pairs_least tree s named known known_too (pairs_are tree c.in-Ok.roster gs ∙ broken.1) ∙ ap Some (sym broken.0)
+    pairs_broken (view c.args.tree.now) c.items_at-list.result.now c.items_at-list.ensures
+    c.in-Ok.roster c.in-Ok.ensures.ok c.version_of-version.result c.version_of-version.ensures c.in-Ok.ensures.fine
+    c.in_default.ensures.ok c.in_default-check_added_references.ensures.ok broken.1
+    ∙ ap Some (sym broken.0)
 
 pub returns-in-Err-check_departures-clause-err : goal.returns-in-Err-check_departures-clause-err
 returns-in-Err-check_departures-clause-err c = λ other.
-    let tree = view c.args.tree.now in
-    let s = setup_of_tree tree in
-    let list = c.items_at-list.result.now in
-    let v = c.version_of-version.result in
-    let version : v ≡ version_of tree = c.version_of-version.ensures in
-    let are = groups_are tree list c.items_at-list.ensures in
-    let gs : c.in-Ok.roster ≡ plain_groups tree = c.in-Ok.ensures.ok ∙ are in
-    let named = ap breaks_names (sym are) ∙ c.in-Ok.ensures.fine in
-    let known = ap (breaks_references tree) (sym gs) ∙ c.in_default.ensures.ok in
-    let known_too = references_are tree c.in-Ok.roster v gs version ∙ c.in_default-check_added_references.ensures.ok in
-    let once = pairs_are tree c.in-Ok.roster gs ∙ c.in_default-check_pairs.ensures.ok in
     let broken = c.in-Err-check_departures.ensures.err other in
-    departures_least tree s named known known_too once (departures_are tree c.in-Ok.roster v gs version ∙ broken.1) ∙ ap Some (sym broken.0)
+    departures_broken (view c.args.tree.now) c.items_at-list.result.now c.items_at-list.ensures
+    c.in-Ok.roster c.in-Ok.ensures.ok c.version_of-version.result c.version_of-version.ensures c.in-Ok.ensures.fine
+    c.in_default.ensures.ok c.in_default-check_added_references.ensures.ok c.in_default-check_pairs.ensures.ok broken.1
+    ∙ ap Some (sym broken.0)
 
 pub check_times-requires-clause-groups : goal.check_times-requires-clause-groups
 check_times-requires-clause-groups c = c.in-Ok.ensures.ok ∙ groups_are (view c.args.tree.now) c.items_at-list.result.now c.items_at-list.ensures
 
 pub returns-in-Err-check_times-clause-err : goal.returns-in-Err-check_times-clause-err
 returns-in-Err-check_times-clause-err c = λ other.
-    let tree = view c.args.tree.now in
-    let s = setup_of_tree tree in
-    let list = c.items_at-list.result.now in
-    let v = c.version_of-version.result in
-    let version : v ≡ version_of tree = c.version_of-version.ensures in
-    let are = groups_are tree list c.items_at-list.ensures in
-    let gs : c.in-Ok.roster ≡ plain_groups tree = c.in-Ok.ensures.ok ∙ are in
-    let named = ap breaks_names (sym are) ∙ c.in-Ok.ensures.fine in
-    let known = ap (breaks_references tree) (sym gs) ∙ c.in_default.ensures.ok in
-    let known_too = references_are tree c.in-Ok.roster v gs version ∙ c.in_default-check_added_references.ensures.ok in
-    let once = pairs_are tree c.in-Ok.roster gs ∙ c.in_default-check_pairs.ensures.ok in
-    let once_too = departures_are tree c.in-Ok.roster v gs version ∙ c.in_default-check_departures.ensures.ok in
     let broken = c.in-Err-check_times.ensures.err in
-    times_least tree s named known known_too once once_too broken.1 ∙ ap Some (sym broken.0)
+    times_broken (view c.args.tree.now) c.items_at-list.result.now c.items_at-list.ensures
+    c.in-Ok.roster c.in-Ok.ensures.ok c.version_of-version.result c.version_of-version.ensures c.in-Ok.ensures.fine
+    c.in_default.ensures.ok c.in_default-check_added_references.ensures.ok c.in_default-check_pairs.ensures.ok c.in_default-check_departures.ensures.ok broken.1
+    ∙ ap Some (sym broken.0)
 
 pub check_added_times-requires-clause-groups : goal.check_added_times-requires-clause-groups
 check_added_times-requires-clause-groups c = c.in-Ok.ensures.ok ∙ groups_are (view c.args.tree.now) c.items_at-list.result.now c.items_at-list.ensures
 
 pub returns-in-Err-check_added_times-clause-err : goal.returns-in-Err-check_added_times-clause-err
 returns-in-Err-check_added_times-clause-err c = λ other.
-    let tree = view c.args.tree.now in
-    let s = setup_of_tree tree in
-    let list = c.items_at-list.result.now in
-    let v = c.version_of-version.result in
-    let version : v ≡ version_of tree = c.version_of-version.ensures in
-    let are = groups_are tree list c.items_at-list.ensures in
-    let gs : c.in-Ok.roster ≡ plain_groups tree = c.in-Ok.ensures.ok ∙ are in
-    let named = ap breaks_names (sym are) ∙ c.in-Ok.ensures.fine in
-    let known = ap (breaks_references tree) (sym gs) ∙ c.in_default.ensures.ok in
-    let known_too = references_are tree c.in-Ok.roster v gs version ∙ c.in_default-check_added_references.ensures.ok in
-    let once = pairs_are tree c.in-Ok.roster gs ∙ c.in_default-check_pairs.ensures.ok in
-    let once_too = departures_are tree c.in-Ok.roster v gs version ∙ c.in_default-check_departures.ensures.ok in
     let broken = c.in-Err-check_added_times.ensures.err in
-    added_times_least tree s named known known_too once once_too c.in_default-check_times.ensures.ok broken.1 ∙ ap Some (sym broken.0)
+    added_times_broken (view c.args.tree.now) c.items_at-list.result.now c.items_at-list.ensures
+    c.in-Ok.roster c.in-Ok.ensures.ok c.version_of-version.result c.version_of-version.ensures c.in-Ok.ensures.fine
+    c.in_default.ensures.ok c.in_default-check_added_references.ensures.ok c.in_default-check_pairs.ensures.ok c.in_default-check_departures.ensures.ok c.in_default-check_times.ensures.ok broken.1
+    ∙ ap Some (sym broken.0)
 
 pub returns-then-are_too_many-clause-err : goal.returns-then-are_too_many-clause-err
 returns-then-are_too_many-clause-err c = λ other.
-    let tree = view c.args.tree.now in
-    let s = setup_of_tree tree in
-    let list = c.items_at-list.result.now in
-    let v = c.version_of-version.result in
-    let version : v ≡ version_of tree = c.version_of-version.ensures in
-    let are = groups_are tree list c.items_at-list.ensures in
-    let gs : c.in-Ok.roster ≡ plain_groups tree = c.in-Ok.ensures.ok ∙ are in
-    let named = ap breaks_names (sym are) ∙ c.in-Ok.ensures.fine in
-    let known = ap (breaks_references tree) (sym gs) ∙ c.in_default.ensures.ok in
-    let known_too = references_are tree c.in-Ok.roster v gs version ∙ c.in_default-check_added_references.ensures.ok in
-    let once = pairs_are tree c.in-Ok.roster gs ∙ c.in_default-check_pairs.ensures.ok in
-    let once_too = departures_are tree c.in-Ok.roster v gs version ∙ c.in_default-check_departures.ensures.ok in
-    let many : breaks_size s ≡ true = many_are tree list v are version ∙ sym c.are_too_many.ensures ∙ c.if-are_too_many.true in
-    size_least tree s named known known_too once once_too c.in_default-check_times.ensures.ok c.in_default-check_added_times.ensures.ok many
+    size_broken (view c.args.tree.now) c.items_at-list.result.now c.items_at-list.ensures
+    c.in-Ok.roster c.in-Ok.ensures.ok c.version_of-version.result c.version_of-version.ensures c.in-Ok.ensures.fine
+    c.in_default.ensures.ok c.in_default-check_added_references.ensures.ok c.in_default-check_pairs.ensures.ok c.in_default-check_departures.ensures.ok c.in_default-check_times.ensures.ok c.in_default-check_added_times.ensures.ok (sym c.are_too_many.ensures ∙ c.if-are_too_many.true)
 
 pub returns-clause-groups : goal.returns-clause-groups
 returns-clause-groups c = c.in-Ok.ensures.ok ∙ groups_are (view c.args.tree.now) c.items_at-list.result.now c.items_at-list.ensures
 
 pub returns-clause-kept : goal.returns-clause-kept
 returns-clause-kept c =
-    let tree = view c.args.tree.now in
-    let s = setup_of_tree tree in
-    let list = c.items_at-list.result.now in
-    let v = c.version_of-version.result in
-    let version : v ≡ version_of tree = c.version_of-version.ensures in
-    let are = groups_are tree list c.items_at-list.ensures in
-    let gs : c.in-Ok.roster ≡ plain_groups tree = c.in-Ok.ensures.ok ∙ are in
-    let named = ap breaks_names (sym are) ∙ c.in-Ok.ensures.fine in
-    let known = ap (breaks_references tree) (sym gs) ∙ c.in_default.ensures.ok in
-    let once = pairs_are tree c.in-Ok.roster gs ∙ c.in_default-check_pairs.ensures.ok in
-    let once_too = departures_are tree c.in-Ok.roster v gs version ∙ c.in_default-check_departures.ensures.ok in
-    record {
-      names = named;
-      references = known;
-      added_references = ap (λ w. breaks_added_references w tree (plain_groups tree)) (sym version) ∙ ap (breaks_added_references v tree) (sym gs) ∙ c.in_default-check_added_references.ensures.ok;
-      pairs = once;
-      departures = once_too;
-      times = c.in_default-check_times.ensures.ok;
-      added_times = c.in_default-check_added_times.ensures.ok;
-      size = many_are tree list v are version ∙ sym c.are_too_many.ensures ∙ c.if-are_too_many.false;
-    }
+    all_kept (view c.args.tree.now) c.items_at-list.result.now c.items_at-list.ensures
+    c.in-Ok.roster c.in-Ok.ensures.ok c.version_of-version.result c.version_of-version.ensures c.in-Ok.ensures.fine
+    c.in_default.ensures.ok c.in_default-check_added_references.ensures.ok c.in_default-check_pairs.ensures.ok c.in_default-check_departures.ensures.ok c.in_default-check_times.ensures.ok c.in_default-check_added_times.ensures.ok (sym c.are_too_many.ensures ∙ c.if-are_too_many.false)
