@@ -1,0 +1,39 @@
+-- The lines of cases among aligned columns: the values of the keys, and then the figures.
+use Rattle.std.specs.Prelude.{ℕ, ◌+◌, ◌-◌, ◌/◌, ◌%◌, Option, Some, None, List, [], ◌∷◌, ◌++◌, codes, decimal, length, map, flat_map, max, replicate}
+use Rattle.std.specs.Option.{option_map_or}
+use Rattle.scenario.specs.Setup.{Setup}
+use Rattle.trace.specs.declared.row.Row.{Row}
+use Rattle.reports.specs.Departures.{latency_of}
+use Rattle.reports.specs.Text.{figure}
+use Rattle.figures.specs.Figures.{suspected_after, last_after}
+use Rattle.figures.specs.Cases.{crashes_in, percentile, false_rate, thrown_out_in, runs_with, share_low, share_high, message_rate}
+
+-- a text, with spaces before it up to a width
+abbrev pub padded : ℕ → List ℕ → List ℕ
+padded width text = replicate (width - length text) 32 ++ text
+
+-- a number of tenths, with a point
+abbrev pub tenths : ℕ → List ℕ
+tenths n = decimal (n / 10) ++ codes "." ++ decimal (n % 10)
+
+-- a number of hundredths, with a point
+abbrev pub hundredths : ℕ → List ℕ
+hundredths n = decimal (n / 100) ++ codes "." ++ decimal (n / 10 % 10) ++ decimal (n % 10)
+
+-- the words over the figures, in the order of their columns
+abbrev pub figure_words : List (List ℕ)
+figure_words =
+    codes "runs" ∷ codes "suspect_p50" ∷ codes "confirm_p50" ∷ codes "confirm_p99" ∷ codes "confirm_greatest" ∷ codes "last_p50" ∷ codes "last_greatest"
+    ∷ codes "false_suspect" ∷ codes "thrown_out" ∷ codes "runs_with" ∷ codes "share_low" ∷ codes "share_high" ∷ codes "messages" ∷ []
+
+-- the figures of a case with these runs, in that order. Times are in ticks since the crash, rates in hundredths, shares in percent
+abbrev pub figure_texts : Setup → List (List Row) → List (List ℕ)
+figure_texts s runs = let crashes = crashes_in runs in
+    decimal (length runs)
+    ∷ figure (percentile 50 suspected_after crashes)
+    ∷ figure (percentile 50 latency_of crashes) ∷ figure (percentile 99 latency_of crashes) ∷ figure (percentile 100 latency_of crashes)
+    ∷ figure (percentile 50 last_after crashes) ∷ figure (percentile 100 last_after crashes)
+    ∷ hundredths (false_rate runs)
+    ∷ decimal (thrown_out_in s runs) ∷ decimal (runs_with s runs)
+    ∷ tenths (share_low (runs_with s runs) (length runs)) ∷ tenths (share_high (runs_with s runs) (length runs))
+    ∷ option_map_or hundredths (message_rate s runs) (codes "-") ∷ []
