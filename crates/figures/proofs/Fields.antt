@@ -1,6 +1,6 @@
 -- Fields of a line, written one after another.
-use Rattle.std.proofs.Common.{◌≡◌, ◌≢◌, ◌+◌, ◌-◌, ◌^◌, ◌≤◌, ◌==◌, ℕ, suc, Bool, true, false, cond, not, ◌&&◌, ◌||◌, List, [], ◌∷◌, ◌++◌, codes, length, map, min, refl, sym, ap, ◌∙◌, arith, append_assoc, length-append}
-use Rattle.std.specs.Prelude.{Vec}
+use Rattle.std.proofs.Common.{◌≡◌, ◌≢◌, ◌+◌, ◌-◌, ◌^◌, ◌≤◌, ◌==◌, ℕ, suc, Bool, true, false, cond, not, ◌&&◌, ◌||◌, List, [], ◌∷◌, ◌++◌, codes, length, map, min, refl, sym, ap, ◌∙◌, arith, append_assoc, length-append, subst}
+use Rattle.std.specs.Prelude.{Vec, Result, OnOk}
 use Rattle.std.specs.declared.alloc.Global.{Global}
 use Rattle.std.proofs.lemmas.Bool.Decides.{nat_tests}
 use Rattle.csv.specs.Writing.{default_writer, field_text, next_sep, tail_text, writer_setup, fields_written, has_written}
@@ -34,10 +34,10 @@ written_more old new fields field has same counted grows =
       setup = same ∙ has.setup;
       count = omega (arith, counted, has.count, length-append fields (field ∷ []));
       text =
-      grows necessary ∙ ap (λ s. laid_out old ++ (next_sep s (fields_written old) ++ field_text s field)) has.setup
-      ∙ ap (λ n. laid_out old ++ (next_sep default_writer n ++ field_text default_writer field)) has.count
-      ∙ ap (λ l. l ++ (next_sep default_writer (min (length fields) (2 ^ 64 - 1)) ++ field_text default_writer field)) has.text
-      ∙ sym (joined_push fields field);
+          grows necessary ∙ ap (λ s. laid_out old ++ (next_sep s (fields_written old) ++ field_text s field)) has.setup
+          ∙ ap (λ n. laid_out old ++ (next_sep default_writer n ++ field_text default_writer field)) has.count
+          ∙ ap (λ l. l ++ (next_sep default_writer (min (length fields) (2 ^ 64 - 1)) ++ field_text default_writer field)) has.text
+          ∙ sym (joined_push fields field);
     }
   where
     necessary : (writer_setup old).style ≢ style.NonNumeric
@@ -60,3 +60,10 @@ line_ended old new fields has two ended =
     ∙ ap (λ b. laid_out old ++ (cond (not (has_written old) && b) (34 ∷ 34 ∷ []) [] ++ codes "\n")) (no_blank (length fields) two)
     ∙ ap (λ b. laid_out old ++ (cond b (34 ∷ 34 ∷ []) [] ++ codes "\n")) (and_false (not (has_written old)))
     ∙ ap (λ l. l ++ codes "\n") has.text
+
+-- a line with two fields at least
+pub long : (keys : List (List ℕ)) (seed next : List ℕ) (rest : List (List ℕ)) → 2 ≤ length ((keys ++ seed ∷ []) ++ next ∷ rest)
+long keys seed next rest = omega (arith, length-append (keys ++ seed ∷ []) (next ∷ rest), length-append keys (seed ∷ []))
+
+pub on_same : {T E : Type 0} (P : Type 0) (r s : Result T E) → r ≡ s → OnOk s P → OnOk r P
+on_same {T} {E} P r s same held = subst (λ (x : Result T E). OnOk x P) (sym same) held

@@ -1,3 +1,3 @@
-pub mod Messages
+pub mod KindsOfMessages
 pub mod Marks
 pub mod Fields

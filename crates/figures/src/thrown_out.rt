@@ -20,11 +20,9 @@ pub(crate) fn thrown_out(
     ensures { IfOk result (λ count. count ≡ thrown_out scenario.now tallies.now) }
 {
     let mut are_out = vec![in alloc; false; scenario.members()]?;
-    mark_each(
-        are_out.as_mut_slice(),
-        tallies.false_positives(What::Confirm),
-    );
-    Ok(count_marked(are_out.as_slice()))
+    let claims = tallies.false_positives(What::Confirm);
+    mark_each(&mut are_out, claims);
+    Ok(count_marked(&are_out))
 }
 
 /// Marks the members of whom these claims are made.
