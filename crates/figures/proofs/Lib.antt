@@ -1,3 +1,6 @@
 pub mod KindsOfMessages
 pub mod Marks
 pub mod Fields
+pub mod Runs
+pub mod RanksOfTimes
+pub mod Roots

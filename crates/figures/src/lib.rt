@@ -1,13 +1,21 @@
 //! The figures of one run, and of a case: of many runs that differ in their seed alone.
 #![tactic(auto)]
 
+mod case;
 mod crashes;
+mod laws;
 mod lines;
 mod messages;
+mod ranks;
 mod run;
+mod shares;
 mod table;
+mod texts;
 mod thrown_out;
+mod times;
 
+pub use case::CaseFigures;
+pub use laws::seeds_tell_nothing;
 pub use run::RunFigures;
 pub use table::{write_header, write_run};
 
