@@ -34,41 +34,47 @@ module _ (test : ℕ → Bool) (v : ℕ) (passes : test v ≡ true) where
       cases true same held = absurd (false≢true (sym fails ∙ ap test (eqb-true next v same) ∙ passes))
       cases false other held = inr held
 
-  least_folded : (rest : List ℕ) (first : ℕ) → v ≤ first → All (λ w. test w ≡ true → v ≤ w) rest → IsLeastSoFar v first rest → fold min first (filter test rest) ≡ v
+  -- a number that passes isn't below v
+  abbrev IsAbove : ℕ → Type 0
+  IsAbove w = test w ≡ true → v ≤ w
+
+  folded_cases : (next : ℕ) (rest : List ℕ) (first : ℕ) (b : Bool) → test next ≡ b
+      → (test next ≡ true → fold min (min first next) (filter test rest) ≡ v) → (test next ≡ false → fold min first (filter test rest) ≡ v)
+      → fold min first (cond b (next ∷ filter test rest) (filter test rest)) ≡ v
+  folded_cases next rest first true here kept dropped = kept here
+  folded_cases next rest first false here kept dropped = dropped here
+
+  least_folded : (rest : List ℕ) (first : ℕ) → v ≤ first → All IsAbove rest → IsLeastSoFar v first rest → fold min first (filter test rest) ≡ v
   least_folded [] first low all (inl is) = is
   least_folded [] first low all (inr none) = absurd (false≢true none)
-  least_folded (next ∷ rest) first low all least = cases (test next) refl
-    where
-      P : ℕ → Type 0
-      P w = test w ≡ true → v ≤ w
+  least_folded (next ∷ rest) first low all least =
+      folded_cases next rest first (test next) refl
+      (λ here. let also : v ≤ next = All-head IsAbove next rest all here in
+      least_folded rest (min first next) (omega (arith, low, also)) (All-tail IsAbove next rest all) (least_step v first next rest low also least))
+      (λ here. least_folded rest first low (All-tail IsAbove next rest all) (least_past first next rest here least))
 
-      cases : (b : Bool) → test next ≡ b → fold min first (cond b (next ∷ filter test rest) (filter test rest)) ≡ v
-      cases true here = let also = All-head P next rest all here in
-          least_folded rest (min first next) (omega (arith, low, also)) (All-tail P next rest all) (least_step v first next rest low also least)
-      cases false here = least_folded rest first low (All-tail P next rest all) (least_past first next rest here least)
+  first_or_later : (next : ℕ) (rest : List ℕ) (b : Bool) → (next == v) ≡ b → (b || list_any (λ w. w == v) rest) ≡ true → IsLeastSoFar v next rest
+  first_or_later next rest true same held = inl (eqb-true next v same)
+  first_or_later next rest false other held = inr held
+
+  only_later : (next : ℕ) (rest : List ℕ) → test next ≡ false → IsLeastSoFar v next rest → list_any (λ w. w == v) rest ≡ true
+  only_later next rest fails (inl is) = absurd (false≢true (sym fails ∙ ap test is ∙ passes))
+  only_later next rest fails (inr held) = held
+
+  passing_cases : (next : ℕ) (rest : List ℕ) (b : Bool) → test next ≡ b
+      → (test next ≡ true → fold min next (filter test rest) ≡ v) → (test next ≡ false → reduce min (filter test rest) ≡ Some v)
+      → reduce min (cond b (next ∷ filter test rest) (filter test rest)) ≡ Some v
+  passing_cases next rest true here kept dropped = ap Some (kept here)
+  passing_cases next rest false here kept dropped = dropped here
 
   -- the least of the numbers that pass a test is one that passes and that is above none
-  pub least_passing : (numbers : List ℕ) → All (λ w. test w ≡ true → v ≤ w) numbers → list_any (λ w. w == v) numbers ≡ true → reduce min (filter test numbers) ≡ Some v
+  pub least_passing : (numbers : List ℕ) → All IsAbove numbers → list_any (λ w. w == v) numbers ≡ true → reduce min (filter test numbers) ≡ Some v
   least_passing [] all none = absurd (false≢true none)
-  least_passing (next ∷ rest) all among = cases (test next) refl
-    where
-      P : ℕ → Type 0
-      P w = test w ≡ true → v ≤ w
-
-      least : IsLeastSoFar v next rest
-      least = either (next == v) refl among
-        where
-          either : (b : Bool) → (next == v) ≡ b → (b || list_any (λ w. w == v) rest) ≡ true → IsLeastSoFar v next rest
-          either true same held = inl (eqb-true next v same)
-          either false other held = inr held
-
-      cases : (b : Bool) → test next ≡ b → reduce min (cond b (next ∷ filter test rest) (filter test rest)) ≡ Some v
-      cases true here = ap Some (least_folded rest next (All-head P next rest all here) (All-tail P next rest all) least)
-      cases false here = least_passing rest (All-tail P next rest all) (later (least_past next next rest here least))
-        where
-          later : IsLeastSoFar v next rest → list_any (λ w. w == v) rest ≡ true
-          later (inl is) = absurd (false≢true (sym here ∙ ap test is ∙ passes))
-          later (inr held) = held
+  least_passing (next ∷ rest) all among =
+      let least = first_or_later next rest (next == v) refl among in
+      passing_cases next rest (test next) refl
+      (λ here. least_folded rest next (All-head IsAbove next rest all here) (All-tail IsAbove next rest all) least)
+      (λ here. least_passing rest (All-tail IsAbove next rest all) (only_later next rest here least))
 
 -- ---- counting times up to one of them
 
@@ -84,8 +90,8 @@ all_counted test (time ∷ times) all =
 none_counted : (test : ℕ → Bool) (times : List ℕ) → ((i : ℕ) → i < length times → test (get_or times i 0) ≡ false) → count_by test times ≡ 0
 none_counted test [] none = refl
 none_counted test (time ∷ times) none =
-    sum_by-cons (λ (t : ℕ). cond (test t) 1 0) time times ∙ ap (λ b. cond b 1 0 + count_by test times) (none 0 (omega arith))
-    ∙ none_counted test times (λ i lt. none (suc i) (omega (arith, lt)))
+    let here : cond (test time) 1 0 ≡ 0 = ap (λ b. cond b 1 0) (none 0 (omega arith)) in
+    omega (arith, sum_by-cons (λ (t : ℕ). cond (test t) 1 0) time times, here, none_counted test times (λ i lt. none (suc i) (omega (arith, lt))))
 
 le_true : (a b : ℕ) → a ≤ b → nat_le a b ≡ true
 le_true a b le = grind (arith, nat_tests)

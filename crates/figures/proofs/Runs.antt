@@ -48,10 +48,10 @@ times_push h runs rows old new were are =
 sum_push : (f : List Row → ℕ) (runs : List (List Row)) (rows : List Row) (old new this : ℕ) → old ≡ sum_by f runs → new ≡ old + this → this ≡ f rows → new ≡ sum_by f (runs ++ rows ∷ [])
 sum_push f runs rows old new this was is same = omega (arith, was, is, same, sum_by_push f runs rows)
 
-one_or_none : (n : ℕ) → (if n == 0 then 0 else 1) ≡ cond (not (n == 0)) 1 0
+one_or_none : (n : ℕ) → ◌≡◌ {A = ℕ} (if n == 0 then 0 else 1) (cond (not (n == 0)) 1 0)
 one_or_none n = cases (n == 0)
   where
-    cases : (b : Bool) → (if b then 0 else 1) ≡ cond (not b) 1 0
+    cases : (b : Bool) → ◌≡◌ {A = ℕ} (if b then 0 else 1) (cond (not b) 1 0)
     cases true = refl
     cases false = refl
 
