@@ -87,11 +87,19 @@ all_counted test (time ∷ times) all =
     one : (n : ℕ) → 1 + n ≡ suc n
     one n = omega arith
 
+not_counted : (b : Bool) → b ≡ false → ◌≡◌ {A = ℕ} (cond b 1 0) 0
+not_counted true fails = absurd (false≢true (sym fails))
+not_counted false fails = refl
+
 none_counted : (test : ℕ → Bool) (times : List ℕ) → ((i : ℕ) → i < length times → test (get_or times i 0) ≡ false) → count_by test times ≡ 0
 none_counted test [] none = refl
 none_counted test (time ∷ times) none =
-    let here : cond (test time) 1 0 ≡ 0 = ap (λ b. cond b 1 0) (none 0 (omega arith)) in
-    omega (arith, sum_by-cons (λ (t : ℕ). cond (test t) 1 0) time times, here, none_counted test times (λ i lt. none (suc i) (omega (arith, lt))))
+    omega (
+      arith,
+      sum_by-cons (λ (t : ℕ). cond (test t) 1 0) time times,
+      not_counted (test time) (none 0 (omega arith)),
+      none_counted test times (λ i lt. none (suc i) (omega (arith, lt))),
+    )
 
 le_true : (a b : ℕ) → a ≤ b → nat_le a b ≡ true
 le_true a b le = grind (arith, nat_tests)
@@ -161,11 +169,3 @@ none_pass test none (time ∷ times) = ap (λ b. reduce min (cond b (time ∷ fi
 -- a rank past all of them has no time
 pub no_time_of_rank : (given : List ℕ) (place : ℕ) → length given < place → at_rank place given ≡ None
 no_time_of_rank given place past = none_pass (λ t. nat_le place (up_to t given)) (λ time. le_false place (up_to time given) (omega (arith, past, count_by-le-length (λ t. nat_le t time) given))) given
-
--- of no times none has a rank
-pub no_times : (given times : List ℕ) (place : ℕ) → IsPermutation given times → length times ≡ 0 → at_rank place given ≡ None
-no_times given times place moved none = empty given (sym (length_permutation given times moved) ∙ none)
-  where
-    empty : (l : List ℕ) → length l ≡ 0 → at_rank place l ≡ None
-    empty [] is = refl
-    empty (t ∷ l) is = absurd (omega arith)

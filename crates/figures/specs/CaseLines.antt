@@ -2,12 +2,8 @@
 use Rattle.std.specs.Prelude.{ℕ, ◌+◌, ◌-◌, ◌/◌, ◌%◌, Option, Some, None, List, [], ◌∷◌, ◌++◌, codes, decimal, length, map, flat_map, max, replicate}
 use Rattle.std.specs.List.{zip}
 use Rattle.std.specs.Option.{option_map_or}
-use Rattle.scenario.specs.Setup.{Setup}
-use Rattle.trace.specs.declared.row.Row.{Row}
-use Rattle.reports.specs.Departures.{latency_of}
 use Rattle.reports.specs.Text.{figure}
-use Rattle.figures.specs.Figures.{suspected_after, last_after}
-use Rattle.figures.specs.Cases.{crashes_in, percentile, false_rate, thrown_out_in, runs_with, share_low, share_high, message_rate}
+use Rattle.figures.specs.declared.summary.CaseSummary.{CaseSummary}
 
 -- a text, with spaces before it up to a width
 abbrev pub padded : ℕ → List ℕ → List ℕ
@@ -27,22 +23,12 @@ figure_words =
     codes "runs" ∷ codes "suspect_p50" ∷ codes "confirm_p50" ∷ codes "confirm_p99" ∷ codes "confirm_greatest" ∷ codes "last_p50" ∷ codes "last_greatest"
     ∷ codes "false_suspect" ∷ codes "thrown_out" ∷ codes "runs_with" ∷ codes "share_low" ∷ codes "share_high" ∷ codes "messages" ∷ []
 
--- the figures of a case with these runs, in that order. Times are in ticks since the crash, rates in hundredths, shares in percent
-abbrev pub figure_texts : Setup → List (List Row) → List (List ℕ)
-figure_texts s runs =
-    decimal (length runs)
-    ∷ figure (percentile 50 suspected_after (crashes_in runs))
-    ∷ figure (percentile 50 latency_of (crashes_in runs))
-    ∷ figure (percentile 99 latency_of (crashes_in runs))
-    ∷ figure (percentile 100 latency_of (crashes_in runs))
-    ∷ figure (percentile 50 last_after (crashes_in runs))
-    ∷ figure (percentile 100 last_after (crashes_in runs))
-    ∷ hundredths (false_rate runs)
-    ∷ decimal (thrown_out_in s runs)
-    ∷ decimal (runs_with s runs)
-    ∷ tenths (share_low (runs_with s runs) (length runs))
-    ∷ tenths (share_high (runs_with s runs) (length runs))
-    ∷ option_map_or hundredths (message_rate s runs) (codes "-") ∷ []
+-- the figures of a case, in that order
+abbrev pub figure_texts : CaseSummary → List (List ℕ)
+figure_texts case =
+    decimal case.runs ∷ figure case.suspect_p50 ∷ figure case.confirm_p50 ∷ figure case.confirm_p99 ∷ figure case.confirm_greatest ∷ figure case.last_p50 ∷ figure case.last_greatest
+    ∷ hundredths case.false_suspect ∷ decimal case.thrown_out ∷ decimal case.runs_with ∷ tenths case.share_low ∷ tenths case.share_high
+    ∷ option_map_or hundredths case.messages (codes "-") ∷ []
 
 -- the widths of the columns of the figures: those of their words, and 8 at least
 abbrev pub figure_widths : List ℕ
@@ -58,5 +44,5 @@ abbrev pub case_header : List ℕ → List (List ℕ) → List ℕ
 case_header widths keys = aligned (widths ++ figure_widths) (keys ++ figure_words)
 
 -- the line of a case with these values of the keys
-abbrev pub case_line : List ℕ → List (List ℕ) → Setup → List (List Row) → List ℕ
-case_line widths values s runs = aligned (widths ++ figure_widths) (values ++ figure_texts s runs)
+abbrev pub case_line : List ℕ → List (List ℕ) → CaseSummary → List ℕ
+case_line widths values case = aligned (widths ++ figure_widths) (values ++ figure_texts case)

@@ -1,13 +1,14 @@
 -- The figures of a case: of runs of one scenario that differ in their seed alone.
-use Rattle.std.specs.Prelude.{◌≡◌, ℕ, ◌+◌, ◌-◌, ◌*◌, ◌/◌, ◌==◌, nat_le, Bool, not, Option, Some, None, List, length, map, filter, flat_map, count_by, sum_by, min, if◌then◌else◌}
+use Rattle.std.specs.Prelude.{◌≡◌, ℕ, ◌+◌, ◌-◌, ◌*◌, ◌/◌, ◌==◌, nat_le, Bool, not, Option, Some, None, List, length, map, filter, flat_map, count_by, sum_by, min, max, if◌then◌else◌}
 use Rattle.std.specs.List.{filter_map, range_with_len, reduce}
 use Rattle.scenario.specs.Setup.{Setup, member_count}
 use Rattle.trace.specs.declared.row.What.TheVariants as what
 use Rattle.trace.specs.declared.row.Row.{Row}
 use Rattle.reports.specs.declared.departure.Departure.{Departure}
-use Rattle.reports.specs.Departures.{crashes_of}
+use Rattle.reports.specs.Departures.{crashes_of, latency_of}
 use Rattle.reports.specs.FalsePositives.{ways_to_depart, false_positives}
-use Rattle.figures.specs.Figures.{thrown_out, sent_of}
+use Rattle.figures.specs.declared.summary.CaseSummary.{CaseSummary}
+use Rattle.figures.specs.Figures.{suspected_after, last_after, thrown_out, sent_of}
 
 -- the crashes of all runs
 abbrev pub crashes_in : List (List Row) → List Departure
@@ -17,9 +18,9 @@ crashes_in runs = flat_map crashes_of runs
 abbrev pub up_to : ℕ → List ℕ → ℕ
 up_to time times = count_by (λ t. nat_le t time) times
 
--- the nearest rank of a percentile among so many, from 1
+-- the nearest rank of a percentile among so many, which is 1 at least
 abbrev pub rank : ℕ → ℕ → ℕ
-rank percent count = (percent * count + 99) / 100
+rank percent count = max 1 ((percent * count + 99) / 100)
 
 -- the least of some times up to which as many of them come as a rank says: where they ascend, the one that stands there
 abbrev pub at_rank : ℕ → List ℕ → Option ℕ
@@ -73,3 +74,19 @@ share_low k n = nearest_thousandth (200000 * k + 384160 - 49 * spread k n) n
 
 abbrev pub share_high : ℕ → ℕ → ℕ
 share_high k n = nearest_thousandth (200000 * k + 384160 + 49 * spread k n) n
+
+-- these are the figures of a case with these runs of a scenario
+pub record IsSummaryOf (case : CaseSummary) (s : Setup) (runs : List (List Row)) : Type 0 where
+  pub all : case.runs ≡ length runs
+  pub suspicion : case.suspect_p50 ≡ percentile 50 suspected_after (crashes_in runs)
+  pub confirmation : case.confirm_p50 ≡ percentile 50 latency_of (crashes_in runs)
+  pub late_confirmation : case.confirm_p99 ≡ percentile 99 latency_of (crashes_in runs)
+  pub latest_confirmation : case.confirm_greatest ≡ percentile 100 latency_of (crashes_in runs)
+  pub last : case.last_p50 ≡ percentile 50 last_after (crashes_in runs)
+  pub latest_last : case.last_greatest ≡ percentile 100 last_after (crashes_in runs)
+  pub false_claims : case.false_suspect ≡ false_rate runs
+  pub thrown : case.thrown_out ≡ thrown_out_in s runs
+  pub with_thrown : case.runs_with ≡ runs_with s runs
+  pub low : case.share_low ≡ share_low (runs_with s runs) (length runs)
+  pub high : case.share_high ≡ share_high (runs_with s runs) (length runs)
+  pub rate : case.messages ≡ message_rate s runs

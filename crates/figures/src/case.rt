@@ -1,12 +1,16 @@
 //! The figures of a case: of runs of one scenario that differ in their seed alone.
-ghost use Rattle.std.specs.Prelude.{◌≡◌, ◌+◌, ◌<◌, ◌≤◌, ◌*◌, ◌^◌, ◌==◌, ◌++◌, ◌∷◌, [], List, IfOk, if◌then◌else◌};
-ghost use Rattle.scenario.specs.Setup.{Setup};
+ghost use Rattle.std.specs.Prelude.{◌≡◌, ◌+◌, ◌<◌, ◌≤◌, ◌*◌, ◌/◌, ◌^◌, ◌==◌, ◌++◌, ◌∷◌, [], List, IfOk, if◌then◌else◌};
+ghost use Rattle.scenario.specs.Setup.{Setup, member_count};
 ghost use Rattle.trace.specs.declared.row.Row.{Row as AnyRow};
 
+use crate::ranks::percentile;
 use crate::run::RunFigures;
+use crate::shares::{share_high, share_low};
+use crate::summary::CaseSummary;
 use crate::times::{push_confirmed, push_last, push_suspected};
 use base::Memory;
 use reports::Tallies;
+use scenario::Scenario;
 use std::alloc::Global;
 
 /// The figures of a case: of runs of one scenario that differ in their seed alone. There is room
@@ -41,6 +45,7 @@ pub struct CaseFigures {
 
 impl CaseFigures {
     ghost use Rattle.figures.specs.Figures.{figures_of};
+    ghost use Rattle.figures.specs.Cases.{IsSummaryOf};
     ghost use Rattle.figures.specs.Kept.{run_count, AreFiguresOf};
 
     /// The figures of no runs. It takes no memory.
@@ -83,6 +88,36 @@ impl CaseFigures {
         Ok(case)
     }
 
+    /// What is told of the runs of a scenario. It brings the times into order, which takes memory
+    /// for a while, and fails where that is refused.
+    pub fn summary(self, scenario: &Scenario) -> Result<CaseSummary, Memory>
+        requires { 0 < run_count self }
+        ensures { IfOk result (λ summary. (runs : List (List AnyRow)) → AreFiguresOf self scenario.now runs → IsSummaryOf summary scenario.now runs) }
+    {
+        let mut case = self;
+        case.suspected.sort()?;
+        case.confirmed.sort()?;
+        case.last.sort()?;
+        let suspected = case.suspected.as_slice();
+        let confirmed = case.confirmed.as_slice();
+        let last = case.last.as_slice();
+        Ok(CaseSummary {
+            runs: case.runs,
+            suspect_p50: percentile(suspected, case.crashes, 50),
+            confirm_p50: percentile(confirmed, case.crashes, 50),
+            confirm_p99: percentile(confirmed, case.crashes, 99),
+            confirm_greatest: percentile(confirmed, case.crashes, 100),
+            last_p50: percentile(last, case.crashes, 50),
+            last_greatest: percentile(last, case.crashes, 100),
+            false_suspect: case.false_suspect * 100 / u128::from(case.runs),
+            thrown_out: case.thrown_out,
+            runs_with: case.runs_with,
+            share_low: share_low(case.runs_with, case.runs),
+            share_high: share_high(case.runs_with, case.runs),
+            messages: message_rate(case.sent, case.runs, scenario),
+        })
+    }
+
     /// Counts a run.
     fn count(&mut self, figures: &RunFigures)
         requires { self.old.runs < 1000000 }
@@ -105,4 +140,19 @@ impl CaseFigures {
         }
         self.sent += u128::from(figures.sent);
     }
+}
+
+/// Messages a member and 1,000 ticks, in hundredths, where the runs end after moment 0.
+fn message_rate(sent: u128, runs: u64, scenario: &Scenario) -> Option<u128>
+    requires some { 0 < runs }
+    requires few { runs ≤ 1000000 }
+    requires fits { sent ≤ 1000000 * 2 ^ 64 }
+    ensures { result ≡ (if scenario.now.end == 0 then None else Some (sent * 100000 / (member_count scenario.now * scenario.now.end * runs))) }
+{
+    let end = scenario.end().ticks();
+    if end == 0 {
+        return None;
+    }
+    let ticks = scenario.members() as u128 * u128::from(end) * u128::from(runs);
+    Some(sent * 100_000 / ticks)
 }

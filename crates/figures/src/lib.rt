@@ -9,6 +9,7 @@ mod messages;
 mod ranks;
 mod run;
 mod shares;
+mod summary;
 mod table;
 mod texts;
 mod thrown_out;
@@ -17,6 +18,7 @@ mod times;
 pub use case::CaseFigures;
 pub use laws::seeds_tell_nothing;
 pub use run::RunFigures;
+pub use summary::CaseSummary;
 pub use table::{write_header, write_run};
 
 #[cfg(test)]
