@@ -4,3 +4,4 @@ pub mod Fields
 pub mod Runs
 pub mod RanksOfTimes
 pub mod Roots
+pub mod Summaries
