@@ -1,0 +1,5 @@
+pub mod Figures
+pub mod Lines
+pub mod Cases
+pub mod Kept
+pub mod CaseLines
