@@ -2,8 +2,18 @@
 //! asked for, and the scenario of each case.
 #![tactic(auto)]
 
+mod choice;
+mod fault;
 mod keys;
+mod plan;
+mod seeds;
+mod settings;
 mod values;
 
+pub use choice::Choice;
+pub use fault::PlanFault;
 pub use keys::SettingKey;
+pub use plan::Plan;
+pub use seeds::Seeds;
+pub use settings::Setting;
 pub use values::SettingValue;
