@@ -1,5 +1,5 @@
 -- The keys of a scenario that a sweep may set, and how they are named.
-use Rattle.std.specs.Prelude.{ℕ, List, [], ◌∷◌, ◌++◌, Bool, true, false, Option, Some, None, map, filter, find, bytes_eq, if◌then◌else◌}
+use Rattle.std.specs.Prelude.{ℕ, List, [], ◌∷◌, ◌++◌, Bool, true, false, ◌&&◌, Option, Some, None, map, filter, find, bytes_eq, if◌then◌else◌}
 use Rattle.std.specs.List.{flat_map}
 use Rattle.std.specs.Option.{option_map_or}
 use Rattle.schema.specs.Schema.{spelling_of, key_rules_of}
@@ -60,3 +60,14 @@ is_named word k = bytes_eq (name_of k) word
 -- the key of this name, among those that may be set
 unfoldable pub key_named : List ℕ → Option SettingKey
 key_named word = find (is_named word) settable
+
+-- two tables are spelt alike, or neither is there
+abbrev pub are_same_tables : Option FormatKey → Option FormatKey → Bool
+are_same_tables None None = true
+are_same_tables None (Some t) = false
+are_same_tables (Some s) None = false
+are_same_tables (Some s) (Some t) = bytes_eq (spelling_of s) (spelling_of t)
+
+-- two keys are spelt alike, and so are their tables
+abbrev pub is_same : SettingKey → SettingKey → Bool
+is_same a b = bytes_eq (spelling_of a.key) (spelling_of b.key) && are_same_tables a.table b.table

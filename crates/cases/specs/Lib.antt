@@ -4,3 +4,4 @@ pub mod Sweep
 pub mod Asked
 pub mod Planned
 pub mod Cases
+pub mod Document

@@ -1,7 +1,7 @@
 //! The keys of a scenario that a sweep may set.
 ghost use Rattle.std.specs.Prelude.{◌≡◌, ◌∷◌, ◌&&◌, [], find, bytes_eq, string_bytes, IfOk};
 ghost use Rattle.std.specs.List.{flat_map};
-ghost use Rattle.cases.specs.Keys.{dotted, name_of, is_plain, keys_of_table, keys_of_row, at_top, in_table, is_named, key_named};
+ghost use Rattle.cases.specs.Keys.{dotted, name_of, is_plain, keys_of_table, keys_of_row, at_top, in_table, is_named, key_named, is_same, are_same_tables};
 
 use base::Memory;
 use schema::{FormatKey, KeyRule, Kind, Section, Version};
@@ -126,5 +126,25 @@ fn is_after_dot(key: &[u8], bytes: &[u8]) -> bool
     match bytes {
         [] => false,
         [first, rest @ ..] => *first == b'.' && rest == key,
+    }
+}
+
+/// Whether two keys are spelt alike, and so are their tables.
+pub(crate) fn is_same(key: SettingKey, other: SettingKey) -> bool
+    ensures { result ≡ is_same key other }
+{
+    key.key.text() == other.key.text() && are_same_tables(key.table, other.table)
+}
+
+/// Whether two tables are spelt alike, or neither is there.
+fn are_same_tables(table: Option<FormatKey>, other: Option<FormatKey>) -> bool
+    ensures { result ≡ are_same_tables table other }
+{
+    match table {
+        Some(table) => match other {
+            Some(other) => table.text() == other.text(),
+            None => false,
+        },
+        None => other.is_none(),
     }
 }

@@ -3,6 +3,7 @@
 #![tactic(auto)]
 
 mod choice;
+mod document;
 mod fault;
 mod keys;
 mod plan;
@@ -11,6 +12,7 @@ mod settings;
 mod values;
 
 pub use choice::Choice;
+pub use document::{read_with, with_values};
 pub use fault::PlanFault;
 pub use keys::SettingKey;
 pub use plan::Plan;

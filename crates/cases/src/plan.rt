@@ -76,8 +76,8 @@ fn case_count(settings: &[Setting]) -> usize
     ensures { result ≡ min (case_count settings.now) (2 ^ 64 - 1) }
 {
     let mut cases = 1usize;
-    for setting in settings.iter().rev() {
-        cases = setting.values().len().saturating_mul(cases);
+    for setting in settings {
+        cases = cases.saturating_mul(setting.values().len());
     }
     cases
 }

@@ -1,9 +1,11 @@
 //! One key, and the values that it is set to.
-ghost use Rattle.std.specs.Prelude.{◌≡◌, ◌≢◌, IfOk, IfErr, All, Any, true, false};
+ghost use Rattle.std.specs.Prelude.{◌≡◌, IfOk, IfErr};
+ghost use Rattle.std.specs.List.{list_any};
+ghost use Rattle.cases.specs.Keys.{is_same};
 ghost use Rattle.cases.specs.Asked.{AreValues, IsSettingOf, RefusesSetting, RefusesValues, list_items};
 
 use crate::fault::PlanFault;
-use crate::keys::SettingKey;
+use crate::keys::{SettingKey, is_same};
 use crate::values::SettingValue;
 use std::alloc::Global;
 use std::marker::Model;
@@ -78,15 +80,9 @@ fn read_values(alloc: Global, list: &str) -> Result<Vec<SettingValue>, PlanFault
     Ok(values)
 }
 
-/// Whether one of the settings sets the key.
+/// Whether one of the settings sets a key that is spelt like this one.
 pub(crate) fn is_set(settings: &[Setting], key: SettingKey) -> bool
-    ensures set { result ≡ true → Any (λ s. s.key ≡ key) settings.now }
-    ensures unset { result ≡ false → All (λ s. s.key ≢ key) settings.now }
+    ensures { result ≡ list_any (λ s. is_same key s.key) settings.now }
 {
-    for setting in settings {
-        if setting.key() == key {
-            return true;
-        }
-    }
-    false
+    settings.iter().any(|setting| is_same(key, setting.key()))
 }
