@@ -1,7 +1,7 @@
 -- The case at a place of all cases, setting by setting.
 use Rattle.std.proofs.Common.{◌≡◌, ◌<◌, ◌≤◌, ◌+◌, ◌*◌, ◌/◌, ◌%◌, ◌^◌, ℕ, zero, suc, List, [], ◌∷◌, ◌++◌, Option, Some, None, All, option_map, map, drop, length, get_or, sym, ap, subst, refl, ◌∙◌, lit<, arith}
 use Rattle.std.specs.List.{slice_get, flat_map}
-use Rattle.std.proofs.Math.Nat.{suc-mul, zero-mul, mul-zero, mul_comm}
+use Rattle.std.proofs.Math.Nat.{suc-mul, zero-mul, mul-zero, mul-div_cancel_left, div-lt_iff_lt-mul, mod-lt}
 use Rattle.std.proofs.lemmas.Option.{slice_get-map}
 use Rattle.std.proofs.lemmas.List.{length-map, length-append, drop_more, drop_all, append_assoc, append-nil}
 use Rattle.cases.specs.Sweep.{KeyValues, case_count}
@@ -101,3 +101,15 @@ at_next settings n chosen s more below place next q r d at counted split inside 
     joined : (o : Option (List Choice)) → option_map (λ case. chosen ++ choice_of s.key (get_or s.values q d) ∷ case) o ≡ option_map (λ rest. (chosen ++ choice_of s.key (get_or s.values q d) ∷ []) ++ rest) o
     joined None = refl
     joined (Some case) = ap Some (sym (append_assoc chosen (choice_of s.key (get_or s.values q d) ∷ []) case))
+
+-- the place of the next value, and that among the rest, are below their bounds
+pub place_low : (size more below left : ℕ) → below ≡ size * more → left < below
+    → (below / size ≡ more) × (left / (below / size) < size) × (left % (below / size) < below / size)
+place_low zero more below left is low = let none : below ≡ 0 = is ∙ zero-mul more in absurd (omega arith)
+place_low (suc size) zero below left is low = let none : below ≡ 0 = is ∙ mul-zero (suc size) in absurd (omega arith)
+place_low (suc size) (suc more) below left is low =
+    let divided : below / suc size ≡ suc more = ap (λ n. n / suc size) is ∙ mul-div_cancel_left (suc more) (omega arith) in
+    let within : left < suc size * suc more = subst (λ n. left < n) is low in
+    let inside : left / suc more < suc size = (div-lt_iff_lt-mul (omega arith)).1 within in
+    let rest : left % suc more < suc more = mod-lt left (omega arith) in
+    (divided, subst (λ n. left / n < suc size) (sym divided) inside, subst (λ n. left % n < n) (sym divided) rest)

@@ -47,7 +47,7 @@ none_of : {A : Type 0} (p : A → Bool) (xs : List A) → list_any p xs ≡ fals
 none_of p [] none = All-nil (λ x. p x ≡ false)
 none_of p (x ∷ xs) none = let parts = or_parts (p x) (list_any p xs) none in All-cons (λ y. p y ≡ false) x xs parts.0 (none_of p xs parts.1)
 
-same_settings : (ss ts : List KeyValues) → All IsSetting ss → All IsSetting ts → map setting_text ss ≡ map setting_text ts → ss ≡ ts
+pub same_settings : (ss ts : List KeyValues) → All IsSetting ss → All IsSetting ts → map setting_text ss ≡ map setting_text ts → ss ≡ ts
 same_settings [] [] a b same = refl
 same_settings [] (t ∷ ts) a b same = let none : 0 ≡ suc (length (map setting_text ts)) = ap length same in absurd (omega arith)
 same_settings (s ∷ ss) [] a b same = let none : suc (length (map setting_text ss)) ≡ 0 = ap length same in absurd (omega arith)
