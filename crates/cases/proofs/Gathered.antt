@@ -105,12 +105,12 @@ module _ (words : List (Bor (List ℕ))) (i : ℕ) (d : Bor (List ℕ)) (inside 
         let all : length ts ≡ length words = sym (length-map ts setting_text) ∙ ap length are.written ∙ many in
         let first : map setting_text (take (i + 1) ts) ≡ map now (take (i + 1) words) = sym (take-map setting_text (i + 1) ts) ∙ ap (take (i + 1)) are.written ∙ take-map now (i + 1) words in
         let same : ss ++ s ∷ [] ≡ take (i + 1) ts =
-            same_settings (ss ++ s ∷ []) (take (i + 1) ts) (All-push IsSetting ss s so_far.sound is.sound) (All-take IsSetting (i + 1) ts are.sound) (written_more ∙ sym first) in
+        same_settings (ss ++ s ∷ []) (take (i + 1) ts) (All-push IsSetting ss s so_far.sound is.sound) (All-take IsSetting (i + 1) ts are.sound) (written_more ∙ sym first) in
         let size : length ss ≡ i = let few = length-take (i + 1) ts in let push = ap length same in omega (arith, length-append ss (s ∷ []), few, push) in
         let apart : (k : ℕ) (e : KeyValues) → k < length ss → is_same s.key (get_or ss k e).key ≡ false =
-            λ k e within. false_from_ne_true (is_same s.key (get_or ss k e).key) (λ alike.
-            let one : get_or ts k e ≡ get_or ss k e = sym (get_or-take (i + 1) ts k e (omega arith)) ∙ ap (λ l. get_or l k e) (sym same) ∙ get_or_append_left ss (s ∷ []) e k within in
-            let other : get_or ts i e ≡ s = sym (get_or-take (i + 1) ts i e (omega arith)) ∙ ap (λ l. get_or l i e) (sym same) ∙ get_or_at ss s [] e i size in
-            let keys = same_key s.key (get_or ss k e).key is.sound.key (so_far.sound k e within).key (same_names s.key (get_or ss k e).key alike) in
-            are.once k i e (omega arith) (omega arith) (ap (λ t. t.key) one ∙ sym keys ∙ ap (λ t. t.key) (sym other))) in
+        λ k e within. false_from_ne_true (is_same s.key (get_or ss k e).key) (λ alike.
+        let one : get_or ts k e ≡ get_or ss k e = sym (get_or-take (i + 1) ts k e (omega arith)) ∙ ap (λ l. get_or l k e) (sym same) ∙ get_or_append_left ss (s ∷ []) e k within in
+        let other : get_or ts i e ≡ s = sym (get_or-take (i + 1) ts i e (omega arith)) ∙ ap (λ l. get_or l i e) (sym same) ∙ get_or_at ss s [] e i size in
+        let keys = same_key s.key (get_or ss k e).key is.sound.key (so_far.sound k e within).key (same_names s.key (get_or ss k e).key alike) in
+        are.once k i e (omega arith) (omega arith) (ap (λ t. t.key) one ∙ sym keys ∙ ap (λ t. t.key) (sym other))) in
         false≢true (sym (list_any_none (λ t. is_same s.key t.key) ss apart) ∙ twice)

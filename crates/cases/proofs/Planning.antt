@@ -56,7 +56,7 @@ module _ (words : List (List ℕ)) (word : Option (List ℕ)) (settings : List K
         let sets = same_settings sweep.settings settings is.settings.sound are.sound (is.settings.written ∙ sym are.written) in
         let same = same_seeds word sweep.seeds seeds is.seeded asked in
         let few : case_count settings * seed_count seeds ≤ 1000000 =
-            subst (λ s. case_count settings * seed_count s ≤ 1000000) same (subst (λ l. case_count l * seed_count sweep.seeds ≤ 1000000) sets is.few) in
+        subst (λ s. case_count settings * seed_count s ≤ 1000000) same (subst (λ l. case_count l * seed_count sweep.seeds ≤ 1000000) sets is.few) in
         let told = all_runs in
         omega arith
 

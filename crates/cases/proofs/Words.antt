@@ -37,7 +37,7 @@ cut_once c a b x y in_a in_b same =
     let self : (c == c) ≡ true = grind (arith, nat_tests) in
     let test : ℕ → Bool = λ byte. byte == c in
     let parts : a ∷ slice_split test x ≡ b ∷ slice_split test y =
-        sym (slice_split_at test a c x in_a self) ∙ ap (slice_split test) same ∙ slice_split_at test b c y in_b self in
+    sym (slice_split_at test a c x in_a self) ∙ ap (slice_split test) same ∙ slice_split_at test b c y in_b self in
     let first : a ≡ b = cc in
     let rest : c ∷ x ≡ c ∷ y = append_cancel_left b (c ∷ x) (c ∷ y) (ap (λ front. front ++ c ∷ x) (sym first) ∙ same) in
     (first, cc)

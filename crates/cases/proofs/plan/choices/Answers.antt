@@ -50,9 +50,9 @@ loop-setting-preserved c =
     let inside : place < length s.values = subst (λ (vs : List SettingValue). place < length vs) c.values-values.ensures told.1 in
     let step = at_next settings c.args.place chosen s more below left next place (left % next) (Whole 0) at told.0 (div-add-mod' left next) inside told.2 in
     let pushed : c.push.new.self.items ≡ chosen ++ choice_of s.key (get_or s.values place (Whole 0)) ∷ [] =
-        c.in_ok-push.ensures.items
-        ∙ ap (λ k. chosen ++ choice_of k (get_or values place (Whole 0)) ∷ []) c.key.ensures
-        ∙ ap (λ vs. chosen ++ choice_of s.key (get_or vs place (Whole 0)) ∷ []) c.values-values.ensures in
+    c.in_ok-push.ensures.items
+    ∙ ap (λ k. chosen ++ choice_of k (get_or values place (Whole 0)) ∷ []) c.key.ensures
+    ∙ ap (λ vs. chosen ++ choice_of s.key (get_or vs place (Whole 0)) ∷ []) c.values-values.ensures in
     subst (λ l. AtPlace settings c.args.place l more next (left % next)) (sym pushed) step
 
 pub returns : goal.returns

@@ -13,7 +13,7 @@ loop-word-preserved c =
     let settings = c.loop-word.settings.items in
     let s = c.in-Ok.setting in
     let new : list_any (λ t. is_same s.key t.key) settings ≡ false =
-        ap (λ k. list_any (λ t. is_same k t.key) settings) (sym c.key.ensures) ∙ ap (λ l. list_any (λ t. is_same c.key.result t.key) l) (sym c.deref.ensures.value) ∙ sym c.is_set.ensures ∙ c.if-is_set.false in
+    ap (λ k. list_any (λ t. is_same k t.key) settings) (sym c.key.ensures) ∙ ap (λ l. list_any (λ t. is_same c.key.result t.key) l) (sym c.deref.ensures.value) ∙ sym c.is_set.ensures ∙ c.if-is_set.false in
     let pushed : c.push.new.self.items ≡ settings ++ s ∷ [] = search rules in
     subst (AreSettings (map (λ (word : Bor (List ℕ)). word.now) (take (c.loop-word.word-index + 1) c.args.words.now))) (sym pushed) (gathered_more c.args.words.now c.loop-word.word-index _ c.loop-word-test.true settings s c.loop-word.invariant c.in-Ok.ensures.read new)
 
@@ -22,5 +22,5 @@ returns-then-is_set-clause-refused c ts are =
     let settings = c.loop-word.settings.items in
     let s = c.in-Ok.setting in
     let twice : list_any (λ t. is_same s.key t.key) settings ≡ true =
-        ap (λ k. list_any (λ t. is_same k t.key) settings) (sym c.key.ensures) ∙ ap (λ l. list_any (λ t. is_same c.key.result t.key) l) (sym c.deref.ensures.value) ∙ sym c.is_set.ensures ∙ c.if-is_set.true in
+    ap (λ k. list_any (λ t. is_same k t.key) settings) (sym c.key.ensures) ∙ ap (λ l. list_any (λ t. is_same c.key.result t.key) l) (sym c.deref.ensures.value) ∙ sym c.is_set.ensures ∙ c.if-is_set.true in
     set_twice c.args.words.now c.loop-word.word-index _ c.loop-word-test.true settings s c.loop-word.invariant c.in-Ok.ensures.read twice ts are
