@@ -1,10 +1,10 @@
 -- The case at a place of all cases, setting by setting.
-use Rattle.std.proofs.Common.{◌≡◌, ◌<◌, ◌≤◌, ◌+◌, ◌*◌, ◌/◌, ◌%◌, ◌^◌, ℕ, zero, suc, List, [], ◌∷◌, ◌++◌, Option, Some, None, All, option_map, map, drop, length, get_or, sym, ap, subst, refl, ◌∙◌, lit<, arith}
+use Rattle.std.proofs.Common.{◌≡◌, ◌<◌, ◌+◌, ◌*◌, ◌/◌, ◌%◌, ℕ, zero, suc, List, [], ◌∷◌, ◌++◌, Option, Some, None, All, option_map, map, length, get_or, sym, ap, subst, refl, ◌∙◌, arith}
 use Rattle.std.specs.List.{slice_get, flat_map}
 use Rattle.std.proofs.Math.Nat.{suc-mul, zero-mul, mul-zero, mul-div_cancel_left, div-lt_iff_lt-mul, mod-lt}
 use Rattle.std.proofs.lemmas.Option.{slice_get-map, slice_get_within, get_or_from_slice_get}
 use Rattle.std.proofs.lemmas.List.Elements.{All-nil, All-cons, All-head, All-tail, All-append, All-map, All-weaker}
-use Rattle.std.proofs.lemmas.List.{length-map, length-append, drop_more, drop_all, append_assoc, append-nil}
+use Rattle.std.proofs.lemmas.List.{length-map, length-append, append_assoc, append-nil}
 use Rattle.cases.specs.Sweep.{KeyValues, case_count}
 use Rattle.cases.specs.Cases.{choice_of, cases_of}
 use Rattle.cases.specs.Values.{Fits}

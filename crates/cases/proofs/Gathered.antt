@@ -1,20 +1,17 @@
 -- Settings that are read one after the other, and why words ask for no others.
-use Rattle.std.proofs.Common.{◌≡◌, ◌≢◌, ◌<◌, ◌≤◌, ◌+◌, ◌-◌, ◌*◌, ◌^◌, ℕ, zero, suc, Bool, true, false, ◌&&◌, List, [], ◌∷◌, ◌++◌, Option, Some, None, Bor, All, AllPairs, map, min, take, length, get_or, bytes_eq, decimal, sym, ap, subst, refl, ◌∙◌, lit<, inl, inr, arith}
+use Rattle.std.proofs.Common.{◌≡◌, ◌≢◌, ◌<◌, ◌+◌, ℕ, zero, suc, Bool, true, false, ◌&&◌, List, [], ◌∷◌, ◌++◌, Option, Some, None, Bor, All, map, take, length, get_or, bytes_eq, sym, ap, subst, refl, ◌∙◌, arith}
 use Rattle.std.specs.List.{list_any}
-use Rattle.std.specs.Option.{ForSome}
-use Rattle.std.proofs.Math.Nat.{mul-zero, le-mul_of_pos_right}
 use Rattle.std.proofs.lemmas.Bool.{false≢true, false_from_ne_true, or_parts, and_parts}
-use Rattle.std.proofs.lemmas.List.{length-map, length-take, length-append, take-map, map_more, get_or-take, get_or-map, get_or_append_left, get_or_at, append-nil}
+use Rattle.std.proofs.lemmas.List.{length-map, length-take, length-append, take-map, map_more, get_or-take, get_or-map, get_or_append_left, get_or_at}
 use Rattle.std.proofs.lemmas.List.Elements.{All-head, All-tail, All-nil, All-cons, All-take, All-push}
 use Rattle.std.proofs.lemmas.List.Folds.{list_any_none}
 use Rattle.std.proofs.lemmas.List.Quantifiers.{all_pairs_push}
 use Rattle.schema.specs.Schema.{spelling_of}
 use Rattle.schema.specs.declared.schema.FormatKey.{FormatKey}
 use Rattle.cases.specs.Keys.{name_of, is_same, are_same_tables}
-use Rattle.cases.specs.Sweep.{KeyValues, Sweep, case_count, seed_count, run_count}
-use Rattle.cases.specs.Asked.{setting_text, seeds_text, IsSetting, IsSettingOf, AreSettings, IsRange, AsksForSeeds, IsSweepOf, RefusesSetting, RefusesSettings, RefusesSeeds, RefusesSweep}
+use Rattle.cases.specs.Sweep.{KeyValues}
+use Rattle.cases.specs.Asked.{setting_text, IsSetting, IsSettingOf, AreSettings, RefusesSetting, RefusesSettings}
 use Rattle.cases.specs.declared.keys.SettingKey.{SettingKey}
-use Rattle.cases.specs.declared.seeds.Seeds.{Seeds}
 use Rattle.cases.specs.declared.fault.PlanFault.{PlanFault}
 use Rattle.cases.specs.declared.fault.PlanFault.TheVariants.{Words, Memory}
 use Rattle.cases.proofs.Names.{bytes_eq_true, bytes_eq_same}

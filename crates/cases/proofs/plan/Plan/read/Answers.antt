@@ -1,6 +1,6 @@
-use Rattle.std.proofs.Common.{◌≡◌, ◌-◌, ◌^◌, ℕ, List, Bor, Option, min, map, option_map, ap, ◌∙◌}
+use Rattle.std.proofs.Common.{◌-◌, ◌^◌, ℕ, List, Bor, min, map, option_map, ap, ◌∙◌}
 use Rattle.cases.specs.Sweep.{case_count}
-use Rattle.cases.proofs.Planning.{low_seeds, too_many, few_runs, exact}
+use Rattle.cases.proofs.Planning.{too_many}
 use Rattle.cases.proofs.plan.Plan.read.Goals as goal
 
 pub returns-then-runs-gt-MOST_RUNS-clause-refused : goal.returns-then-runs-gt-MOST_RUNS-clause-refused
