@@ -23,3 +23,5 @@ pub use table::{write_header, write_run};
 
 #[cfg(test)]
 mod tests;
+#[cfg(test)]
+mod tests_cases;
