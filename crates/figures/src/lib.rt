@@ -11,7 +11,6 @@ mod run;
 mod shares;
 mod summary;
 mod table;
-mod texts;
 mod thrown_out;
 mod times;
 
