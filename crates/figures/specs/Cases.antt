@@ -1,5 +1,5 @@
 -- The figures of a case: of runs of one scenario that differ in their seed alone.
-use Rattle.std.specs.Prelude.{◌≡◌, ℕ, ◌+◌, ◌-◌, ◌*◌, ◌/◌, ◌==◌, nat_le, Bool, not, Option, Some, None, List, length, map, filter, flat_map, count_by, sum_by, min, max, if◌then◌else◌}
+use Rattle.std.specs.Prelude.{◌≡◌, ℕ, ◌+◌, ◌-◌, ◌*◌, ◌/◌, ◌==◌, nat_le, not, Option, Some, None, List, length, filter, flat_map, count_by, sum_by, min, max, if◌then◌else◌}
 use Rattle.std.specs.List.{filter_map, range_with_len, reduce}
 use Rattle.scenario.specs.Setup.{Setup, member_count}
 use Rattle.trace.specs.declared.row.What.TheVariants as what

@@ -2,4 +2,3 @@ pub mod Figures
 pub mod Lines
 pub mod Cases
 pub mod Kept
-pub mod CaseLines

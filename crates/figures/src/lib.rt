@@ -11,7 +11,6 @@ mod run;
 mod shares;
 mod summary;
 mod table;
-mod texts;
 mod thrown_out;
 mod times;
 
@@ -23,3 +22,5 @@ pub use table::{write_header, write_run};
 
 #[cfg(test)]
 mod tests;
+#[cfg(test)]
+mod tests_cases;
