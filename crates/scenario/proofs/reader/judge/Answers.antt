@@ -116,7 +116,6 @@ module _ (tree : Data) (list : List Value) (items : map view list ≡ items_at k
                   size = many_are tree list v are version ∙ few;
                 }
 
-
 pub returns-in-Err-clause-err : goal.returns-in-Err-clause-err
 returns-in-Err-clause-err c = λ other.
     let broken = c.in-Err.ensures.err other in
