@@ -7,7 +7,7 @@ use Rattle.std.proofs.lemmas.List.Elements.{All-nil, All-cons, All-head, All-tai
 use Rattle.std.proofs.lemmas.List.{length-map, length-append, append_assoc, append-nil}
 use Rattle.cases.specs.Sweep.{KeyValues, case_count}
 use Rattle.cases.specs.Cases.{choice_of, cases_of}
-use Rattle.cases.specs.Values.{Fits}
+use Rattle.cases.specs.Values.{FitsToml}
 use Rattle.cases.specs.Asked.{IsSetting}
 use Rattle.cases.specs.declared.keys.SettingKey.{SettingKey}
 use Rattle.cases.specs.declared.values.SettingValue.{SettingValue}
@@ -120,24 +120,24 @@ place_low (suc size) (suc more) below left is low =
 -- ---- each value of a case fits
 
 abbrev AllFit : List Choice → Type 0
-AllFit case = All (λ (c : Choice). Fits c.value) case
+AllFit case = All (λ (c : Choice). FitsToml c.value) case
 
-with_first : (k : SettingKey) (v : SettingValue) (cases : List (List Choice)) → Fits v → All AllFit cases → All AllFit (map (λ case. choice_of k v ∷ case) cases)
+with_first : (k : SettingKey) (v : SettingValue) (cases : List (List Choice)) → FitsToml v → All AllFit cases → All AllFit (map (λ case. choice_of k v ∷ case) cases)
 with_first k v cases fits rest =
     All-map AllFit (λ case. choice_of k v ∷ case) cases
-    (All-weaker AllFit (λ case. AllFit (choice_of k v ∷ case)) (λ case more. All-cons (λ (c : Choice). Fits c.value) (choice_of k v) case fits more) cases rest)
+    (All-weaker AllFit (λ case. AllFit (choice_of k v ∷ case)) (λ case more. All-cons (λ (c : Choice). FitsToml c.value) (choice_of k v) case fits more) cases rest)
 
-with_each : (k : SettingKey) (vs : List SettingValue) (cases : List (List Choice)) → All Fits vs → All AllFit cases → All AllFit (flat_map (λ value. map (λ case. choice_of k value ∷ case) cases) vs)
+with_each : (k : SettingKey) (vs : List SettingValue) (cases : List (List Choice)) → All FitsToml vs → All AllFit cases → All AllFit (flat_map (λ value. map (λ case. choice_of k value ∷ case) cases) vs)
 with_each k [] cases fit rest = All-nil AllFit
 with_each k (v ∷ vs) cases fit rest =
     All-append AllFit (map (λ case. choice_of k v ∷ case) cases) (flat_map (λ value. map (λ case. choice_of k value ∷ case) cases) vs)
-    (with_first k v cases (All-head Fits v vs fit) rest) (with_each k vs cases (All-tail Fits v vs fit) rest)
+    (with_first k v cases (All-head FitsToml v vs fit) rest) (with_each k vs cases (All-tail FitsToml v vs fit) rest)
 
 all_fit : (settings : List KeyValues) → All IsSetting settings → All AllFit (cases_of settings)
-all_fit [] sound = All-cons AllFit [] [] (All-nil (λ (c : Choice). Fits c.value)) (All-nil AllFit)
+all_fit [] sound = All-cons AllFit [] [] (All-nil (λ (c : Choice). FitsToml c.value)) (All-nil AllFit)
 all_fit (s ∷ more) sound = with_each s.key s.values (cases_of more) (All-head IsSetting s more sound).fit (all_fit more (All-tail IsSetting s more sound))
 
-pub case_fits : (settings : List KeyValues) (place : ℕ) (case : List Choice) → slice_get (cases_of settings) place ≡ Some case → All IsSetting settings → All (λ (c : Choice). Fits c.value) case
+pub case_fits : (settings : List KeyValues) (place : ℕ) (case : List Choice) → slice_get (cases_of settings) place ≡ Some case → All IsSetting settings → All (λ (c : Choice). FitsToml c.value) case
 case_fits settings place case at sound =
     let inside : place < length (cases_of settings) = slice_get_within (cases_of settings) place case at in
     let here : get_or (cases_of settings) place [] ≡ case = get_or_from_slice_get (cases_of settings) place case [] at in

@@ -8,7 +8,7 @@ use Rattle.std.proofs.lemmas.List.Folds.{list_any_none}
 use Rattle.std.proofs.lemmas.List.Quantifiers.{all_pairs_push}
 use Rattle.schema.specs.Schema.{spelling_of}
 use Rattle.schema.specs.declared.schema.FormatKey.{FormatKey}
-use Rattle.cases.specs.Keys.{name_of, is_same, are_same_tables}
+use Rattle.cases.specs.Keys.{key_name, is_same, are_same_tables}
 use Rattle.cases.specs.Sweep.{KeyValues}
 use Rattle.cases.specs.Asked.{setting_text, IsSetting, IsSettingOf, AreSettings, RefusesSetting, RefusesSettings}
 use Rattle.cases.specs.declared.keys.SettingKey.{SettingKey}
@@ -27,13 +27,13 @@ same_itself : (a b : SettingKey) → a ≡ b → is_same a b ≡ true
 same_itself a b same =
     subst (λ k. is_same a k ≡ true) same (ap (λ v. v && are_same_tables a.table a.table) (bytes_eq_same (spelling_of a.key) (spelling_of a.key) refl) ∙ tables_itself a.table)
 
-names_by : (s t : Option FormatKey) (x y : FormatKey) → are_same_tables s t ≡ true → spelling_of x ≡ spelling_of y → name_of (record { table = s; key = x }) ≡ name_of (record { table = t; key = y })
+names_by : (s t : Option FormatKey) (x y : FormatKey) → are_same_tables s t ≡ true → spelling_of x ≡ spelling_of y → key_name (record { table = s; key = x }) ≡ key_name (record { table = t; key = y })
 names_by None None x y alike same = same
 names_by None (Some t) x y alike same = absurd (false≢true alike)
 names_by (Some s) None x y alike same = absurd (false≢true alike)
 names_by (Some s) (Some t) x y alike same = ap (λ table. table ++ 46 ∷ spelling_of x) (bytes_eq_true (spelling_of s) (spelling_of t) alike) ∙ ap (λ key. spelling_of t ++ 46 ∷ key) same
 
-same_names : (a b : SettingKey) → is_same a b ≡ true → name_of a ≡ name_of b
+same_names : (a b : SettingKey) → is_same a b ≡ true → key_name a ≡ key_name b
 same_names a b alike =
     let parts = and_parts (bytes_eq (spelling_of a.key) (spelling_of b.key)) (are_same_tables a.table b.table) alike in
     names_by a.table b.table a.key b.key parts.1 (bytes_eq_true (spelling_of a.key) (spelling_of b.key) parts.0)

@@ -2,8 +2,8 @@
 use Rattle.std.specs.Prelude.{◌≡◌, ◌≢◌, ℕ, ◌<◌, ◌≤◌, ◌^◌, ◌==◌, List, ◌∷◌, ◌++◌, Option, Some, None, All, AllPairs, Contains, map, length}
 use Rattle.std.specs.Fmt.{decimal}
 use Rattle.std.specs.List.{slice_split, join_with_byte}
-use Rattle.cases.specs.Keys.{name_of, settable}
-use Rattle.cases.specs.Values.{value_text, Fits}
+use Rattle.cases.specs.Keys.{key_name, settable}
+use Rattle.cases.specs.Values.{value_text, FitsToml}
 use Rattle.cases.specs.Sweep.{KeyValues, Sweep, run_count}
 use Rattle.cases.specs.declared.values.SettingValue.{SettingValue}
 use Rattle.cases.specs.declared.seeds.Seeds.{Seeds}
@@ -12,13 +12,13 @@ use Rattle.cases.specs.declared.fault.PlanFault.TheVariants.{Words, Memory}
 
 -- a setting is written as its key's name, an equals sign, and the values, with commas between them
 abbrev pub setting_text : KeyValues → List ℕ
-setting_text s = name_of s.key ++ 61 ∷ join_with_byte 44 (map value_text s.values)
+setting_text s = key_name s.key ++ 61 ∷ join_with_byte 44 (map value_text s.values)
 
 -- the key may be set, and there are values, each of which fits
 pub record IsSetting (s : KeyValues) : Type 0 where
   pub key : Contains settable s.key
   pub some : 0 < length s.values
-  pub fit : All Fits s.values
+  pub fit : All FitsToml s.values
 
 -- the word is such a setting, written out
 pub record IsSettingOf (word : List ℕ) (s : KeyValues) : Type 0 where
@@ -70,13 +70,13 @@ RefusesSetting word Words = (s : KeyValues) → ¬ (IsSettingOf word s)
 RefusesSetting word Memory = Unit {0}
 
 -- what stands between the commas of a list
-abbrev pub list_items : List ℕ → List (List ℕ)
-list_items list = slice_split (λ byte. byte == 44) list
+abbrev pub values_listed : List ℕ → List (List ℕ)
+values_listed list = slice_split (λ byte. byte == 44) list
 
 -- the items are the values, written out, and each fits
 pub record AreValues (items : List (List ℕ)) (values : List SettingValue) : Type 0 where
   pub written : map value_text values ≡ items
-  pub fit : All Fits values
+  pub fit : All FitsToml values
 
 -- the items are no values, or memory was refused
 abbrev pub RefusesValues : List (List ℕ) → PlanFault → Type 0

@@ -22,9 +22,9 @@ put name d no_members = member name d no_members
 put name d (member other e more) = match_ordering (slice_cmp nat_cmp name other) (member name d (member other e more)) (member other d more) (member other e (put name d more))
 
 -- a table with this value at this key; what is no table stays as it is
-abbrev pub with_member : FormatKey → Data → Data → Data
-with_member k d (table members) = table (put (spelling_of k) d members)
-with_member k d other = other
+abbrev pub with_entry : FormatKey → Data → Data → Data
+with_entry k d (table members) = table (put (spelling_of k) d members)
+with_entry k d other = other
 
 -- what stands at the key of a table; an empty table where nothing does
 abbrev pub table_at : FormatKey → Data → Data
@@ -33,8 +33,8 @@ table_at t tree = unwrap_or (value_at t tree) (table no_members)
 -- the value is put at a key of the whole text, or of the table that stands in it, which is made where it isn't there. What stands in a table's
 -- place and is none stays, so that the document is refused as without the value.
 abbrev pub with_value_in : Option FormatKey → FormatKey → Data → Data → Data
-with_value_in None k d tree = with_member k d tree
-with_value_in (Some t) k d tree = with_member t (with_member k d (table_at t tree)) tree
+with_value_in None k d tree = with_entry k d tree
+with_value_in (Some t) k d tree = with_entry t (with_entry k d (table_at t tree)) tree
 
 abbrev pub with_choice : Data → Choice → Data
 with_choice tree c = with_value_in c.key.table c.key.key (data_of c.value) tree
@@ -42,7 +42,7 @@ with_choice tree c = with_value_in c.key.table c.key.key (data_of c.value) tree
 -- the seed takes the place of the text's, where one is given
 abbrev pub with_seed : Option ℕ → Data → Data
 with_seed None tree = tree
-with_seed (Some seed) tree = with_member key.Seed (integer (pos seed)) tree
+with_seed (Some seed) tree = with_entry key.Seed (integer (pos seed)) tree
 
 -- the document with the values of a case and the seed of a run
 unfoldable pub with_values : Data → List Choice → Option ℕ → Data

@@ -25,8 +25,8 @@ abbrev pub dotted : List ℕ → List ℕ → List ℕ
 dotted table name = table ++ 46 ∷ name
 
 -- the name of a key: its spelling, or that of its table, a dot and its own
-abbrev pub name_of : SettingKey → List ℕ
-name_of k = option_map_or (λ t. dotted (spelling_of t) (spelling_of k.key)) k.table (spelling_of k.key)
+abbrev pub key_name : SettingKey → List ℕ
+key_name k = option_map_or (λ t. dotted (spelling_of t) (spelling_of k.key)) k.table (spelling_of k.key)
 
 -- a value of this kind is a whole number or a switch
 abbrev pub is_plain : Kind → Bool
@@ -55,7 +55,7 @@ settable = flat_map keys_of_row (key_rules_of Two Top)
 
 -- the key has this name
 abbrev pub is_named : List ℕ → SettingKey → Bool
-is_named word k = bytes_eq (name_of k) word
+is_named word k = bytes_eq (key_name k) word
 
 -- the key of this name, among those that may be set
 unfoldable pub key_named : List ℕ → Option SettingKey

@@ -3,8 +3,8 @@ ghost use Rattle.std.specs.Prelude.{◌≡◌, ◌≢◌, ◌≤◌, ◌<◌, �
 ghost use Rattle.std.specs.Option.{ForSome};
 ghost use Rattle.toml.specs.View.{view};
 ghost use Rattle.scenario.specs.Rules.{document_verdict};
-ghost use Rattle.cases.specs.Values.{Fits};
-ghost use Rattle.cases.specs.Document.{data_of, table_at, with_member, with_choice, with_values};
+ghost use Rattle.cases.specs.Values.{FitsToml};
+ghost use Rattle.cases.specs.Document.{data_of, table_at, with_entry, with_choice, with_values};
 
 use crate::choice::Choice;
 use crate::values::SettingValue;
@@ -24,13 +24,13 @@ pub fn with_values(
     case: &[Choice],
     seed: Option<u64>,
 ) -> Result<Value, Memory>
-    requires fits { All (λ c. Fits c.value) case.now }
+    requires fits { All (λ c. FitsToml c.value) case.now }
     requires low { ForSome seed (λ n. n < 2 ^ 63) }
     ensures { IfOk result (λ tree. view tree ≡ with_values (view document.now) case.now seed) }
 {
     let tree = with_case(alloc, document, case)?;
     match seed {
-        Some(seed) => with_member(alloc, tree, FormatKey::Seed, Value::Integer(seed as i64)),
+        Some(seed) => with_entry(alloc, tree, FormatKey::Seed, Value::Integer(seed as i64)),
         None => Ok(tree),
     }
 }
@@ -43,7 +43,7 @@ pub fn read_with(
     case: &[Choice],
     seed: Option<u64>,
 ) -> Result<Scenario, Refusal>
-    requires fits { All (λ c. Fits c.value) case.now }
+    requires fits { All (λ c. FitsToml c.value) case.now }
     requires low { ForSome seed (λ n. n < 2 ^ 63) }
     ensures accepted { IfOk result (λ s. document_verdict (with_values (view document.now) case.now seed) ≡ Ok s) }
     ensures refused { IfErr result (λ r. r.rule ≢ 11 → document_verdict (with_values (view document.now) case.now seed) ≡ Err r.rule) }
@@ -57,7 +57,7 @@ pub fn read_with(
 
 /// The document with the values of a case.
 fn with_case(alloc: Global, document: &Value, case: &[Choice]) -> Result<Value, Memory>
-    requires { All (λ c. Fits c.value) case.now }
+    requires { All (λ c. FitsToml c.value) case.now }
     ensures { IfOk result (λ tree. view tree ≡ fold with_choice (view document.now) case.now) }
 {
     let mut tree = document.clone()?;
@@ -69,17 +69,17 @@ fn with_case(alloc: Global, document: &Value, case: &[Choice]) -> Result<Value, 
 
 /// The document with one value at its key.
 fn with_choice(alloc: Global, tree: Value, choice: &Choice) -> Result<Value, Memory>
-    requires { Fits choice.now.value }
+    requires { FitsToml choice.now.value }
     ensures { IfOk result (λ v. view v ≡ with_choice (view tree) choice.now) }
 {
     let key = choice.key.key;
     let value = data(choice.value);
     match choice.key.table {
         Some(table) => {
-            let members = with_member(alloc, table_at(alloc, &tree, table)?, key, value)?;
-            with_member(alloc, tree, table, members)
+            let members = with_entry(alloc, table_at(alloc, &tree, table)?, key, value)?;
+            with_entry(alloc, tree, table, members)
         }
-        None => with_member(alloc, tree, key, value),
+        None => with_entry(alloc, tree, key, value),
     }
 }
 
@@ -94,8 +94,8 @@ fn table_at(alloc: Global, tree: &Value, table: FormatKey) -> Result<Value, Memo
 }
 
 /// A table with this value at this key; any other value as it is.
-fn with_member(alloc: Global, tree: Value, key: FormatKey, value: Value) -> Result<Value, Memory>
-    ensures { IfOk result (λ v. view v ≡ with_member key (view value) (view tree)) }
+fn with_entry(alloc: Global, tree: Value, key: FormatKey, value: Value) -> Result<Value, Memory>
+    ensures { IfOk result (λ v. view v ≡ with_entry key (view value) (view tree)) }
 {
     match tree {
         Value::Table(mut members) => {
@@ -109,7 +109,7 @@ fn with_member(alloc: Global, tree: Value, key: FormatKey, value: Value) -> Resu
 
 /// The value as it stands in a document.
 fn data(value: SettingValue) -> Value
-    requires { Fits value }
+    requires { FitsToml value }
     ensures { view result ≡ data_of value }
 {
     match value {

@@ -1,7 +1,7 @@
 //! The keys of a scenario that a sweep may set.
 ghost use Rattle.std.specs.Prelude.{◌≡◌, ◌∷◌, ◌&&◌, [], find, bytes_eq, string_bytes, IfOk};
 ghost use Rattle.std.specs.List.{flat_map};
-ghost use Rattle.cases.specs.Keys.{dotted, name_of, is_plain, keys_of_table, keys_of_row, at_top, in_table, is_named, key_named, is_same, are_same_tables};
+ghost use Rattle.cases.specs.Keys.{dotted, key_name, is_plain, keys_of_table, keys_of_row, at_top, in_table, is_named, key_named, is_same, are_same_tables};
 
 use base::Memory;
 use schema::{FormatKey, KeyRule, Kind, Section, Version};
@@ -28,7 +28,7 @@ impl SettingKey {
 
     /// The key's name, as `end` or `swim.period`.
     pub fn name(self, alloc: Global) -> Result<String, Memory>
-        ensures { IfOk result (λ name. string_bytes name ≡ name_of self) }
+        ensures { IfOk result (λ name. string_bytes name ≡ key_name self) }
     {
         let mut name = String::new(alloc);
         if let Some(table) = self.table {

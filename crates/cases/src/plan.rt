@@ -3,7 +3,7 @@ ghost use Rattle.std.specs.Prelude.{◌≡◌, ◌≤◌, ◌<◌, ◌^◌, ◌*
 ghost use Rattle.std.specs.Option.{ForSome};
 ghost use Rattle.cases.specs.Sweep.{case_count, seed_count, run_count};
 ghost use Rattle.cases.specs.Asked.{AreSettings, AsksForSeeds, IsSweepOf, RefusesSeeds, RefusesSettings, RefusesSweep, IsSetting};
-ghost use Rattle.cases.specs.Values.{Fits};
+ghost use Rattle.cases.specs.Values.{FitsToml};
 ghost use Rattle.cases.specs.Cases.{cases_of};
 
 use crate::choice::Choice;
@@ -33,11 +33,11 @@ impl Model for Plan {
 
     ghost Value = { Sweep };
 
-    ghost use Rattle.cases.specs.Planned.{sweep_of, IsCounted};
+    ghost use Rattle.cases.specs.Planned.{sweep_of, CountsRuns};
 
     ghost view = { sweep_of };
 
-    ghost invariant = { IsCounted };
+    ghost invariant = { CountsRuns };
 }
 
 impl Plan {
@@ -115,7 +115,7 @@ impl Plan {
     pub fn case_at(&self, alloc: Global, place: usize) -> Result<Vec<Choice>, Memory>
         requires { place < case_count self.now.settings }
         ensures case { IfOk result (λ case. slice_get (cases_of self.now.settings) place ≡ Some case.items) }
-        ensures fits { All IsSetting self.now.settings → IfOk result (λ case. All (λ c. Fits c.value) case.items) }
+        ensures fits { All IsSetting self.now.settings → IfOk result (λ case. All (λ c. FitsToml c.value) case.items) }
     {
         choices(alloc, &self.settings, self.cases, place)
     }

@@ -2,7 +2,7 @@
 ghost use Rattle.std.specs.Prelude.{◌≡◌, IfOk, IfErr};
 ghost use Rattle.std.specs.List.{list_any};
 ghost use Rattle.cases.specs.Keys.{is_same};
-ghost use Rattle.cases.specs.Asked.{AreValues, IsSettingOf, RefusesSetting, RefusesValues, list_items};
+ghost use Rattle.cases.specs.Asked.{AreValues, IsSettingOf, RefusesSetting, RefusesValues, values_listed};
 
 use crate::fault::PlanFault;
 use crate::keys::{SettingKey, is_same};
@@ -63,8 +63,8 @@ impl Setting {
 
 /// The values that the items of a list say.
 fn read_values(alloc: Global, list: &str) -> Result<Vec<SettingValue>, PlanFault>
-    ensures read { IfOk result (λ values. AreValues (list_items list.now) values.items) }
-    ensures refused { IfErr result (RefusesValues (list_items list.now)) }
+    ensures read { IfOk result (λ values. AreValues (values_listed list.now) values.items) }
+    ensures refused { IfErr result (RefusesValues (values_listed list.now)) }
 {
     let mut values = Vec::new(alloc);
     for item in list.split(',') {

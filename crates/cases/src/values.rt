@@ -1,6 +1,6 @@
 //! The values that a sweep sets.
 ghost use Rattle.std.specs.Prelude.{◌≡◌, ◌<◌, ◌≤◌, ◌^◌, ℕ, string_bytes, IfOk, IfSome, IsNone};
-ghost use Rattle.cases.specs.Values.{value_text, has_prefix, IsNumber, IsValue};
+ghost use Rattle.cases.specs.Values.{value_text, has_sign_or_zero, IsWhole, IsValue};
 ghost use Rattle.cases.specs.declared.values.SettingValue.{SettingValue as Wanted};
 
 use base::Memory;
@@ -48,10 +48,10 @@ impl SettingValue {
 
 /// The number that a word is in decimal, without sign or leading zero, where it is at most 2^63 - 1.
 pub(crate) fn number(word: &str) -> Option<u64>
-    ensures some { IfSome result (IsNumber word.now) }
-    ensures none { IsNone result → (n : ℕ) → ¬ (IsNumber word.now n) }
+    ensures some { IfSome result (IsWhole word.now) }
+    ensures none { IsNone result → (n : ℕ) → ¬ (IsWhole word.now n) }
 {
-    if has_prefix(word.as_bytes()) {
+    if has_sign_or_zero(word.as_bytes()) {
         return None;
     }
     match word.parse() {
@@ -73,8 +73,8 @@ fn at_most(number: u64) -> Option<u64>
 }
 
 /// Whether a sign or a leading zero is the first of the bytes.
-fn has_prefix(bytes: &[u8]) -> bool
-    ensures { result ≡ has_prefix bytes.now }
+fn has_sign_or_zero(bytes: &[u8]) -> bool
+    ensures { result ≡ has_sign_or_zero bytes.now }
 {
     match bytes {
         [] => false,

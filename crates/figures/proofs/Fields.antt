@@ -7,28 +7,28 @@ use Rattle.csv.specs.Writing.{default_writer, field_text, next_sep, tail_text, w
 use Rattle.csv.specs.declared.writer.QuoteStyle.TheVariants as style
 use Rattle.csv.specs.declared.writer.Writer.{Writer}
 use Rattle.trace.specs.Lines.{laid_out}
-use Rattle.figures.specs.Lines.{joined, table_line, HasWritten}
+use Rattle.figures.specs.Lines.{cells_joined, table_line, HasLaidOut}
 
 -- one field more, after others
-one_more : (first : List ℕ) (rest : List (List ℕ)) (field : List ℕ) → joined (first ∷ rest ++ field ∷ []) ≡ joined (first ∷ rest) ++ 44 ∷ field_text default_writer field
+one_more : (first : List ℕ) (rest : List (List ℕ)) (field : List ℕ) → cells_joined (first ∷ rest ++ field ∷ []) ≡ cells_joined (first ∷ rest) ++ 44 ∷ field_text default_writer field
 one_more first [] field = refl
 one_more first (next ∷ rest) field =
     ap (λ l. field_text default_writer first ++ 44 ∷ l) (one_more next rest field)
-    ∙ sym (append_assoc (field_text default_writer first) (44 ∷ joined (next ∷ rest)) (44 ∷ field_text default_writer field))
+    ∙ sym (append_assoc (field_text default_writer first) (44 ∷ cells_joined (next ∷ rest)) (44 ∷ field_text default_writer field))
 
 not_first : (n : ℕ) → (min (suc n) (2 ^ 64 - 1) == 0) ≡ false
 not_first n = grind (arith, nat_tests)
 
 -- one field more, with what parts it from those before it
-joined_push : (fields : List (List ℕ)) (field : List ℕ) → joined (fields ++ field ∷ []) ≡ joined fields ++ (next_sep default_writer (min (length fields) (2 ^ 64 - 1)) ++ field_text default_writer field)
+joined_push : (fields : List (List ℕ)) (field : List ℕ) → cells_joined (fields ++ field ∷ []) ≡ cells_joined fields ++ (next_sep default_writer (min (length fields) (2 ^ 64 - 1)) ++ field_text default_writer field)
 joined_push [] field = refl
 joined_push (first ∷ rest) field =
-    one_more first rest field ∙ ap (λ b. joined (first ∷ rest) ++ (cond b [] (44 ∷ []) ++ field_text default_writer field)) (sym (not_first (length rest)))
+    one_more first rest field ∙ ap (λ b. cells_joined (first ∷ rest) ++ (cond b [] (44 ∷ []) ++ field_text default_writer field)) (sym (not_first (length rest)))
 
-pub written_more : (old new : Writer (Vec ℕ Global)) (fields : List (List ℕ)) (field : List ℕ) → HasWritten old fields → writer_setup new ≡ writer_setup old
+pub written_more : (old new : Writer (Vec ℕ Global)) (fields : List (List ℕ)) (field : List ℕ) → HasLaidOut old fields → writer_setup new ≡ writer_setup old
     → fields_written new ≡ min (fields_written old + 1) (2 ^ 64 - 1)
     → ((writer_setup old).style ≢ style.NonNumeric → laid_out new ≡ laid_out old ++ (next_sep (writer_setup old) (fields_written old) ++ field_text (writer_setup old) field))
-    → HasWritten new (fields ++ field ∷ [])
+    → HasLaidOut new (fields ++ field ∷ [])
 written_more old new fields field has same counted grows =
     record {
       setup = same ∙ has.setup;
@@ -51,7 +51,7 @@ no_blank : (n : ℕ) → 2 ≤ n → ((min n (2 ^ 64 - 1) == 0) || (min n (2 ^ 6
 no_blank n two = grind (arith, nat_tests)
 
 -- a line of two fields or more ends in a line feed alone
-pub line_ended : (old new : Writer (Vec ℕ Global)) (fields : List (List ℕ)) → HasWritten old fields → 2 ≤ length fields
+pub line_ended : (old new : Writer (Vec ℕ Global)) (fields : List (List ℕ)) → HasLaidOut old fields → 2 ≤ length fields
     → laid_out new ≡ laid_out old ++ tail_text (writer_setup old) (has_written old) (fields_written old) → laid_out new ≡ table_line fields
 unfolding table_line
 line_ended old new fields has two ended =

@@ -11,7 +11,7 @@ use Rattle.trace.specs.declared.row.What.TheVariants as what
 use Rattle.trace.specs.declared.row.Row.{Row}
 use Rattle.reports.specs.Rows.{has_kind, count_of, losses_of}
 use Rattle.reports.specs.Text.{message_kinds}
-use Rattle.figures.specs.Figures.{sent_of, lost_of}
+use Rattle.figures.specs.Figures.{messages_sent, messages_lost}
 
 -- a sum of sums
 sums : {X : Type 0} (f g h : X → ℕ) → ((x : X) → f x ≡ g x + h x) → (xs : List X) → sum_by f xs ≡ sum_by g xs + sum_by h xs
@@ -30,7 +30,7 @@ one_kind One _ = lit≤ tt
 one_kind Two what.Join = lit≤ tt
 one_kind Two _ = lit≤ tt
 
-pub few_sent : (version : Version) (rows : List Row) → sent_of version rows ≤ length rows
+pub few_sent : (version : Version) (rows : List Row) → messages_sent version rows ≤ length rows
 few_sent version [] = omega (arith, none (message_kinds version))
 few_sent version (row ∷ rows) =
     omega (
@@ -46,7 +46,7 @@ one_lost true false = lit≤ tt
 one_lost false lost = lit≤ tt
 
 -- nor were more lost than were sent
-pub few_lost : (version : Version) (rows : List Row) → lost_of version rows ≤ length rows
+pub few_lost : (version : Version) (rows : List Row) → messages_lost version rows ≤ length rows
 few_lost version rows =
     omega (
       arith,

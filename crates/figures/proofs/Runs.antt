@@ -15,8 +15,8 @@ use Rattle.reports.specs.Departures.{crashes_of, latency_of}
 use Rattle.reports.specs.FalsePositives.{ways_to_depart, false_positives}
 use Rattle.figures.specs.declared.run.RunFigures.{RunFigures}
 use Rattle.figures.specs.declared.case.CaseFigures.{CaseFigures}
-use Rattle.figures.specs.Figures.{suspected_after, last_after, thrown_out, sent_of, figures_of}
-use Rattle.figures.specs.Cases.{crashes_in}
+use Rattle.figures.specs.Figures.{suspected_after, last_after, thrown_out, messages_sent, figures_of}
+use Rattle.figures.specs.Cases.{crashes_of_runs}
 use Rattle.figures.specs.Kept.{AreFiguresOf}
 
 -- ---- times
@@ -37,13 +37,13 @@ time_more h crashes i d before now after lt so_far is =
 
 -- ---- a run
 
-crashes_push : (runs : List (List Row)) (rows : List Row) → crashes_in (runs ++ rows ∷ []) ≡ crashes_in runs ++ crashes_of rows
-crashes_push runs rows = flat_map-append crashes_of runs (rows ∷ []) ∙ ap (λ l. crashes_in runs ++ l) (append-nil (crashes_of rows))
+crashes_push : (runs : List (List Row)) (rows : List Row) → crashes_of_runs (runs ++ rows ∷ []) ≡ crashes_of_runs runs ++ crashes_of rows
+crashes_push runs rows = flat_map-append crashes_of runs (rows ∷ []) ∙ ap (λ l. crashes_of_runs runs ++ l) (append-nil (crashes_of rows))
 
-times_push : (h : Departure → Option ℕ) (runs : List (List Row)) (rows : List Row) (old new : List ℕ) → old ≡ filter_map h (crashes_in runs) → new ≡ old ++ filter_map h (crashes_of rows)
-    → new ≡ filter_map h (crashes_in (runs ++ rows ∷ []))
+times_push : (h : Departure → Option ℕ) (runs : List (List Row)) (rows : List Row) (old new : List ℕ) → old ≡ filter_map h (crashes_of_runs runs) → new ≡ old ++ filter_map h (crashes_of rows)
+    → new ≡ filter_map h (crashes_of_runs (runs ++ rows ∷ []))
 times_push h runs rows old new were are =
-    are ∙ ap (λ l. l ++ filter_map h (crashes_of rows)) were ∙ sym (filter_map-append h (crashes_in runs) (crashes_of rows)) ∙ ap (filter_map h) (sym (crashes_push runs rows))
+    are ∙ ap (λ l. l ++ filter_map h (crashes_of rows)) were ∙ sym (filter_map-append h (crashes_of_runs runs) (crashes_of rows)) ∙ ap (filter_map h) (sym (crashes_push runs rows))
 
 sum_push : (f : List Row → ℕ) (runs : List (List Row)) (rows : List Row) (old new this : ℕ) → old ≡ sum_by f runs → new ≡ old + this → this ≡ f rows → new ≡ sum_by f (runs ++ rows ∷ [])
 sum_push f runs rows old new this was is same = omega (arith, was, is, same, sum_by_push f runs rows)
@@ -67,7 +67,7 @@ unfolding figures_of
 one_run old new run s rows runs were is suspected confirmed last counted crashed falsely thrown with_thrown sent =
     record {
       all = omega (arith, counted, were.all, length-append runs (rows ∷ []));
-      crashed = omega (arith, crashed, were.crashed, ap (λ (f : RunFigures). f.crashes) is, ap length (crashes_push runs rows), length-append (crashes_in runs) (crashes_of rows));
+      crashed = omega (arith, crashed, were.crashed, ap (λ (f : RunFigures). f.crashes) is, ap length (crashes_push runs rows), length-append (crashes_of_runs runs) (crashes_of rows));
       suspicions = times_push suspected_after runs rows _ _ were.suspicions suspected;
       confirmations = times_push latency_of runs rows _ _ were.confirmations confirmed;
       lasts = times_push last_after runs rows _ _ were.lasts last;
@@ -75,5 +75,5 @@ one_run old new run s rows runs were is suspected confirmed last counted crashed
       thrown = sum_push (thrown_out s) runs rows _ _ _ were.thrown thrown (ap (λ (f : RunFigures). f.thrown_out) is);
       with_thrown = sum_push (λ those. cond (not (thrown_out s those == 0)) 1 0) runs rows _ _ _ were.with_thrown with_thrown
           (one_or_none run.thrown_out ∙ ap (λ n. cond (not (n == 0)) 1 0) (ap (λ (f : RunFigures). f.thrown_out) is));
-      sendings = sum_push (sent_of s.version) runs rows _ _ _ were.sendings sent (ap (λ (f : RunFigures). f.sent) is);
+      sendings = sum_push (messages_sent s.version) runs rows _ _ _ were.sendings sent (ap (λ (f : RunFigures). f.sent) is);
     }

@@ -8,11 +8,11 @@ use Rattle.reports.specs.declared.departure.Departure.{Departure}
 use Rattle.reports.specs.Departures.{crashes_of, latency_of}
 use Rattle.reports.specs.FalsePositives.{ways_to_depart, false_positives}
 use Rattle.figures.specs.declared.summary.CaseSummary.{CaseSummary}
-use Rattle.figures.specs.Figures.{suspected_after, last_after, thrown_out, sent_of}
+use Rattle.figures.specs.Figures.{suspected_after, last_after, thrown_out, messages_sent}
 
 -- the crashes of all runs
-abbrev pub crashes_in : List (List Row) → List Departure
-crashes_in runs = flat_map crashes_of runs
+abbrev pub crashes_of_runs : List (List Row) → List Departure
+crashes_of_runs runs = flat_map crashes_of runs
 
 -- how many of these times are no later
 abbrev pub up_to : ℕ → List ℕ → ℕ
@@ -44,7 +44,7 @@ runs_with s runs = count_by (λ rows. not (thrown_out s rows == 0)) runs
 
 -- how many messages were sent in all runs
 abbrev pub sent_in : Setup → List (List Row) → ℕ
-sent_in s runs = sum_by (sent_of s.version) runs
+sent_in s runs = sum_by (messages_sent s.version) runs
 
 -- messages a member and 1,000 ticks, in hundredths and rounded down, where the runs last at all
 abbrev pub message_rate : Setup → List (List Row) → Option ℕ
@@ -78,12 +78,12 @@ share_high k n = nearest_thousandth (200000 * k + 384160 + 49 * spread k n) n
 -- these are the figures of a case with these runs of a scenario
 pub record IsSummaryOf (case : CaseSummary) (s : Setup) (runs : List (List Row)) : Type 0 where
   pub all : case.runs ≡ length runs
-  pub suspicion : case.suspect_p50 ≡ percentile 50 suspected_after (crashes_in runs)
-  pub confirmation : case.confirm_p50 ≡ percentile 50 latency_of (crashes_in runs)
-  pub late_confirmation : case.confirm_p99 ≡ percentile 99 latency_of (crashes_in runs)
-  pub latest_confirmation : case.confirm_greatest ≡ percentile 100 latency_of (crashes_in runs)
-  pub last : case.last_p50 ≡ percentile 50 last_after (crashes_in runs)
-  pub latest_last : case.last_greatest ≡ percentile 100 last_after (crashes_in runs)
+  pub suspicion : case.suspect_p50 ≡ percentile 50 suspected_after (crashes_of_runs runs)
+  pub confirmation : case.confirm_p50 ≡ percentile 50 latency_of (crashes_of_runs runs)
+  pub late_confirmation : case.confirm_p99 ≡ percentile 99 latency_of (crashes_of_runs runs)
+  pub latest_confirmation : case.confirm_greatest ≡ percentile 100 latency_of (crashes_of_runs runs)
+  pub last : case.last_p50 ≡ percentile 50 last_after (crashes_of_runs runs)
+  pub latest_last : case.last_greatest ≡ percentile 100 last_after (crashes_of_runs runs)
   pub false_claims : case.false_suspect ≡ false_rate runs
   pub thrown : case.thrown_out ≡ thrown_out_in s runs
   pub with_thrown : case.runs_with ≡ runs_with s runs

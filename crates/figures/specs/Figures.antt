@@ -40,11 +40,11 @@ abbrev pub thrown_out : Setup → List Row → ℕ
 thrown_out s rows = count_by (is_thrown_out rows) (range_with_len 0 (member_count s))
 
 -- how many messages of all kinds were sent, and how many of them were lost
-abbrev pub sent_of : Version → List Row → ℕ
-sent_of version rows = sum_by (λ kind. count_of kind rows) (message_kinds version)
+abbrev pub messages_sent : Version → List Row → ℕ
+messages_sent version rows = sum_by (λ kind. count_of kind rows) (message_kinds version)
 
-abbrev pub lost_of : Version → List Row → ℕ
-lost_of version rows = sum_by (λ kind. losses_of kind rows) (message_kinds version)
+abbrev pub messages_lost : Version → List Row → ℕ
+messages_lost version rows = sum_by (λ kind. losses_of kind rows) (message_kinds version)
 
 -- the figures of a run of a scenario that has these rows
 unfoldable pub figures_of : Setup → List Row → RunFigures
@@ -66,6 +66,6 @@ figures_of s rows =
       refute = count_of what.Refute rows;
       fail = count_of what.Fail rows;
       health = worst_health rows;
-      sent = sent_of s.version rows;
-      lost = lost_of s.version rows;
+      sent = messages_sent s.version rows;
+      lost = messages_lost s.version rows;
     }

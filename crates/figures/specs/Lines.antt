@@ -8,12 +8,12 @@ use Rattle.trace.specs.Lines.{laid_out}
 use Rattle.figures.specs.declared.run.RunFigures.{RunFigures}
 
 -- fields parted by commas, each in quotes where it calls for them
-abbrev pub joined : List (List ℕ) → List ℕ
-joined fields = join_with_byte 44 (map (field_text default_writer) fields)
+abbrev pub cells_joined : List (List ℕ) → List ℕ
+cells_joined fields = join_with_byte 44 (map (field_text default_writer) fields)
 
 -- a line: its fields, and a line feed
 unfoldable pub table_line : List (List ℕ) → List ℕ
-table_line fields = joined fields ++ codes "\n"
+table_line fields = cells_joined fields ++ codes "\n"
 
 -- the names of the figures, in the order of their columns
 abbrev pub figure_names : List (List ℕ)
@@ -43,7 +43,7 @@ abbrev pub run_line : List (List ℕ) → ℕ → RunFigures → List ℕ
 run_line values seed run = table_line (values ++ decimal seed ∷ map cell (figures_in_order run))
 
 -- a writer has written these fields of a first line
-pub record HasWritten (writer : Writer (Vec ℕ Global)) (fields : List (List ℕ)) : Type 0 where
+pub record HasLaidOut (writer : Writer (Vec ℕ Global)) (fields : List (List ℕ)) : Type 0 where
   pub setup : writer_setup writer ≡ default_writer
   pub count : fields_written writer ≡ min (length fields) (2 ^ 64 - 1)
-  pub text : laid_out writer ≡ joined fields
+  pub text : laid_out writer ≡ cells_joined fields

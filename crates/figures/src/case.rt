@@ -46,7 +46,7 @@ pub struct CaseFigures {
 impl CaseFigures {
     ghost use Rattle.figures.specs.Figures.{figures_of};
     ghost use Rattle.figures.specs.Cases.{IsSummaryOf};
-    ghost use Rattle.figures.specs.Kept.{run_count, AreFiguresOf};
+    ghost use Rattle.figures.specs.Kept.{runs_kept, AreFiguresOf};
 
     /// The figures of no runs. It takes no memory.
     pub fn new(alloc: Global) -> CaseFigures
@@ -67,7 +67,7 @@ impl CaseFigures {
 
     /// How many runs there are.
     pub fn runs(&self) -> u64
-        ensures { result ≡ run_count self.now }
+        ensures { result ≡ runs_kept self.now }
     {
         self.runs
     }
@@ -75,7 +75,7 @@ impl CaseFigures {
     /// The figures with one run more: its rows as they were tallied, and its figures. Where memory
     /// is refused nothing is left of them.
     pub fn with(self, tallies: &Tallies, figures: &RunFigures) -> Result<CaseFigures, Memory>
-        requires { run_count self < 1000000 }
+        requires { runs_kept self < 1000000 }
         ensures { IfOk result (λ case. (s : Setup) (runs : List (List AnyRow)) → figures.now ≡ figures_of s tallies.now
             → AreFiguresOf self s runs → AreFiguresOf case s (runs ++ tallies.now ∷ [])) }
     {
@@ -91,7 +91,7 @@ impl CaseFigures {
     /// What is told of the runs of a scenario. It brings the times into order, which takes memory
     /// for a while, and fails where that is refused.
     pub fn summary(self, scenario: &Scenario) -> Result<CaseSummary, Memory>
-        requires { 0 < run_count self }
+        requires { 0 < runs_kept self }
         ensures { IfOk result (λ summary. (runs : List (List AnyRow)) → AreFiguresOf self scenario.now runs → IsSummaryOf summary scenario.now runs) }
     {
         let mut case = self;

@@ -1,6 +1,6 @@
 //! The lines of the table, in memory.
 ghost use Rattle.std.specs.Prelude.{◌≡◌, ◌≤◌, ◌++◌, ◌∷◌, ℕ, [], List, IfOk, OnOk, length, map};
-ghost use Rattle.figures.specs.Lines.{HasWritten, cell, figure_names, figures_in_order, table_line, header_line, run_line};
+ghost use Rattle.figures.specs.Lines.{HasLaidOut, cell, figure_names, figures_in_order, table_line, header_line, run_line};
 
 use crate::run::RunFigures;
 use base::Memory;
@@ -85,14 +85,14 @@ fn in_order(figures: &RunFigures) -> [Option<u64>; 18]
 
 /// A writer that has written nothing yet.
 fn new_writer(alloc: Global) -> Writer<Vec<u8>>
-    ensures { HasWritten result [] }
+    ensures { HasLaidOut result [] }
 {
     Writer::from_writer(Vec::new(alloc))
 }
 
 /// Writes texts as fields.
 fn write_texts(writer: &mut Writer<Vec<u8>>, texts: &[&str]) -> Result<(), Memory>
-    ensures { OnOk result ((fields : List (List ℕ)) → HasWritten writer.old fields → HasWritten writer.new (fields ++ map (λ text. text.now) texts.now)) }
+    ensures { OnOk result ((fields : List (List ℕ)) → HasLaidOut writer.old fields → HasLaidOut writer.new (fields ++ map (λ text. text.now) texts.now)) }
 {
     for text in texts {
         write_field(writer, text.as_bytes())?;
@@ -102,7 +102,7 @@ fn write_texts(writer: &mut Writer<Vec<u8>>, texts: &[&str]) -> Result<(), Memor
 
 /// Writes figures as fields.
 fn write_cells(writer: &mut Writer<Vec<u8>>, figures: &[Option<u64>]) -> Result<(), Memory>
-    ensures { OnOk result ((fields : List (List ℕ)) → HasWritten writer.old fields → HasWritten writer.new (fields ++ map cell figures.now)) }
+    ensures { OnOk result ((fields : List (List ℕ)) → HasLaidOut writer.old fields → HasLaidOut writer.new (fields ++ map cell figures.now)) }
 {
     for figure in figures {
         write_cell(writer, *figure)?;
@@ -112,7 +112,7 @@ fn write_cells(writer: &mut Writer<Vec<u8>>, figures: &[Option<u64>]) -> Result<
 
 /// Writes a figure as a field, which is empty where there is none.
 fn write_cell(writer: &mut Writer<Vec<u8>>, figure: Option<u64>) -> Result<(), Memory>
-    ensures { OnOk result ((fields : List (List ℕ)) → HasWritten writer.old fields → HasWritten writer.new (fields ++ cell figure ∷ [])) }
+    ensures { OnOk result ((fields : List (List ℕ)) → HasLaidOut writer.old fields → HasLaidOut writer.new (fields ++ cell figure ∷ [])) }
 {
     let mut buffer = Buffer::new();
     match figure {
@@ -123,7 +123,7 @@ fn write_cell(writer: &mut Writer<Vec<u8>>, figure: Option<u64>) -> Result<(), M
 
 /// Writes a field. The writer goes into memory alone, so an error of it is want of memory.
 fn write_field(writer: &mut Writer<Vec<u8>>, field: &[u8]) -> Result<(), Memory>
-    ensures { OnOk result ((fields : List (List ℕ)) → HasWritten writer.old fields → HasWritten writer.new (fields ++ field.now ∷ [])) }
+    ensures { OnOk result ((fields : List (List ℕ)) → HasLaidOut writer.old fields → HasLaidOut writer.new (fields ++ field.now ∷ [])) }
 {
     match writer.write_field(field) {
         Ok(()) => Ok(()),
@@ -133,7 +133,7 @@ fn write_field(writer: &mut Writer<Vec<u8>>, field: &[u8]) -> Result<(), Memory>
 
 /// Ends the line, and gives its text.
 fn finish(writer: Writer<Vec<u8>>) -> Result<Vec<u8>, Memory>
-    ensures { (fields : List (List ℕ)) → HasWritten writer fields → 2 ≤ length fields → IfOk result (λ text. text.items ≡ table_line fields) }
+    ensures { (fields : List (List ℕ)) → HasLaidOut writer fields → 2 ≤ length fields → IfOk result (λ text. text.items ≡ table_line fields) }
 {
     let mut writer = writer;
     match writer.end_record() {

@@ -1,6 +1,6 @@
 //! How many messages were sent, of all kinds.
 ghost use Rattle.std.specs.Prelude.{◌≡◌, ◌<◌, ◌^◌, length};
-ghost use Rattle.figures.specs.Figures.{sent_of, lost_of};
+ghost use Rattle.figures.specs.Figures.{messages_sent, messages_lost};
 
 use reports::{Tallies, message_kinds};
 use scenario::Version;
@@ -8,7 +8,7 @@ use scenario::Version;
 /// How many messages were sent. They are no more than there are rows.
 pub(crate) fn sent(tallies: &Tallies, version: Version) -> u64
     requires { length tallies.now < 2 ^ 64 }
-    ensures { result ≡ sent_of version tallies.now }
+    ensures { result ≡ messages_sent version tallies.now }
 {
     let kinds = message_kinds(version);
     let mut sent = 0;
@@ -21,7 +21,7 @@ pub(crate) fn sent(tallies: &Tallies, version: Version) -> u64
 /// How many messages were lost. They are no more than there are rows.
 pub(crate) fn lost(tallies: &Tallies, version: Version) -> u64
     requires { length tallies.now < 2 ^ 64 }
-    ensures { result ≡ lost_of version tallies.now }
+    ensures { result ≡ messages_lost version tallies.now }
 {
     let kinds = message_kinds(version);
     let mut lost = 0;
