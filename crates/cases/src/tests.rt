@@ -1,5 +1,8 @@
 //! What no clause says: that words are taken, worked words with their runs and cases, and scenarios
 //! with values in them.
+ghost use Rattle.std.specs.Prelude.{◌<◌, ◌^◌};
+ghost use Rattle.std.specs.Option.{ForSome};
+
 use crate::{Plan, SettingKey, SettingValue, read_with};
 use std::alloc::Global;
 
@@ -230,13 +233,18 @@ fn value_at(alloc: Global, settings: &[&str], case: usize, key: usize) -> Option
 }
 
 /// The rule that the text's first case breaks; 0, its seed and its end where it breaks none.
-fn read_by(alloc: Global, text: &str, settings: &[&str], seed: Option<u64>) -> (u8, u64, u64) {
+fn read_by(alloc: Global, text: &str, settings: &[&str], seed: Option<u64>) -> (u8, u64, u64)
+    requires { ForSome seed (λ n. n < 2 ^ 63) }
+{
     let Ok(document) = scenario::document(alloc, text.as_bytes()) else {
         return (11, 0, 0);
     };
     let Ok(plan) = Plan::read(alloc, settings, None) else {
         return (11, 0, 0);
     };
+    if plan.cases() == 0 {
+        return (11, 0, 0);
+    }
     let Ok(case) = plan.case_at(alloc, 0) else {
         return (11, 0, 0);
     };
