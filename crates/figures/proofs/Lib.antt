@@ -1,0 +1,3 @@
+pub mod KindsOfMessages
+pub mod Marks
+pub mod Fields
