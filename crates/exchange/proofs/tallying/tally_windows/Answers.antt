@@ -1,4 +1,5 @@
-use Rattle.std.proofs.Common.{◌++◌, [], inl, inr, ap, ◌∙◌, sym, subst, arith}
+use Rattle.std.proofs.Common.{◌++◌, All, inl, inr, ap, ◌∙◌, sym, subst, arith, rules}
+use Rattle.trace.specs.Text.{NamesMembers}
 use Rattle.windows.specs.WorldOf.{world_of}
 use Rattle.windows.specs.Window.{IsConsistentPart}
 use Rattle.windows.proofs.Slots.{part_unworn}
@@ -23,15 +24,17 @@ returns-in_err-done-clause-worn g c = λ h.
     inl (comes_worn c.args.scenario.now c.requires.sound c.loop-from.from (world_of g.Q.EventQueue.set c.loop-from.part) c.loop-from.tallied.tallies c.loop-from.invariant.come c.end-bound.result
     (c.in_err-done.ensures.worn (worn_step c.from_residual-in_err-done.result _ c.from_residual-in_err-done.ensures.1 h)))
 
-pub add_all-requires-clause-named : goal.add_all-requires-clause-named
-add_all-requires-clause-named g c =
+pub add_all-requires : goal.add_all-requires
+add_all-requires g c =
     let s = c.args.scenario.now in
     let set = g.Q.EventQueue.set in
     let before = c.loop-from.tallied.tallies in
     let after = world_of set c.in_ok-done.done.part in
     let on = comes_on s c.requires.sound c.loop-from.from (world_of set c.loop-from.part) before c.loop-from.invariant.come c.end-bound.result c.in_ok-done.done.out.items c.in_ok-done.done.rows.items after c.in_ok-done.ensures.ok in
+    let named : All (NamesMembers s) c.deref.result.now =
     names_next s c.requires.sound before c.deref.result.now
-    (subst (λ l. BeginsRun s (before ++ l)) (sym c.deref.ensures.value) (comes_first s c.requires.sound c.end-bound.result after (before ++ c.in_ok-done.done.rows.items) on))
+    (subst (λ l. BeginsRun s (before ++ l)) (sym c.deref.ensures.value) (comes_first s c.requires.sound c.end-bound.result after (before ++ c.in_ok-done.done.rows.items) on)) in
+    search (rules, named)
 
 pub returns-in_err-add_all-clause-worn : goal.returns-in_err-add_all-clause-worn
 returns-in_err-add_all-clause-worn g c = λ h.
