@@ -1,0 +1,2 @@
+mod Flat
+mod Steps
