@@ -87,6 +87,9 @@ digit_first n c rest low letter same =
     let first : get_or (decimal n) 0 0 ≡ c = ap (λ bytes. get_or bytes 0 0) same in
     omega (arith, digit.1, first)
 
+unlike_switches : codes "true" ≡ codes "false" → ⊥
+unlike_switches same = let other : bytes_eq (codes "true") (codes "false") ≡ false = refl in false≢true (sym other ∙ bytes_eq_same (codes "true") (codes "false") same)
+
 same_value : (v w : SettingValue) → Fits v → Fits w → value_text v ≡ value_text w → v ≡ w
 same_value (Whole m) (Whole n) low high same = ap Whole (decimal_injective m n (omega arith) (omega arith) same)
 same_value (Whole m) (Switch true) low high same = absurd (digit_first m 116 _ low (lit< tt) same)
@@ -94,8 +97,8 @@ same_value (Whole m) (Switch false) low high same = absurd (digit_first m 102 _ 
 same_value (Switch true) (Whole n) low high same = absurd (digit_first n 116 _ high (lit< tt) (sym same))
 same_value (Switch false) (Whole n) low high same = absurd (digit_first n 102 _ high (lit< tt) (sym same))
 same_value (Switch true) (Switch true) low high same = refl
-same_value (Switch true) (Switch false) low high same = let first : 116 ≡ 102 = ap (λ bytes. get_or bytes 0 0) same in absurd (omega arith)
-same_value (Switch false) (Switch true) low high same = let first : 102 ≡ 116 = ap (λ bytes. get_or bytes 0 0) same in absurd (omega arith)
+same_value (Switch true) (Switch false) low high same = absurd (unlike_switches same)
+same_value (Switch false) (Switch true) low high same = absurd (unlike_switches (sym same))
 same_value (Switch false) (Switch false) low high same = refl
 
 same_values : (vs ws : List SettingValue) → All Fits vs → All Fits ws → map value_text vs ≡ map value_text ws → vs ≡ ws

@@ -1,12 +1,15 @@
 //! What words ask a sweep for.
-ghost use Rattle.std.specs.Prelude.{◌≡◌, ◌≤◌, ◌<◌, ◌^◌, ◌*◌, ◌-◌, map, min, option_map, IfOk, IfErr};
+ghost use Rattle.std.specs.Prelude.{◌≡◌, ◌≤◌, ◌<◌, ◌^◌, ◌*◌, ◌-◌, Some, map, min, slice_get, option_map, IfOk, IfErr};
 ghost use Rattle.std.specs.Option.{ForSome};
 ghost use Rattle.cases.specs.Sweep.{case_count, seed_count, run_count};
 ghost use Rattle.cases.specs.Asked.{AreSettings, AsksForSeeds, IsSweepOf, RefusesSeeds, RefusesSettings, RefusesSweep};
+ghost use Rattle.cases.specs.Cases.{cases_of};
 
+use crate::choice::Choice;
 use crate::fault::PlanFault;
 use crate::seeds::{Seeds, count, read_range};
 use crate::settings::{Setting, is_set};
+use base::Memory;
 use std::alloc::Global;
 use std::marker::Model;
 
@@ -34,6 +37,115 @@ impl Model for Plan {
     ghost view = { sweep_of };
 
     ghost invariant = { IsCounted };
+}
+
+impl Plan {
+    /// The plan that words ask for: settings such as `swim.period=200,300`, each a key that may be set, an
+    /// equals sign and values with commas between them, and a range of seeds such as `1..200`.
+    ///
+    /// Failures: `Words` where a word is none of these, a key stands twice, or there are more than
+    /// 1,000,000 runs; `Memory`.
+    pub fn read(
+        alloc: Global,
+        settings: &[&str],
+        seeds: Option<&str>,
+    ) -> Result<Plan, PlanFault>
+        ensures read { IfOk result (IsSweepOf (map (λ word. word.now) settings.now) (option_map (λ text. text.now) seeds.entry)) }
+        ensures refused { IfErr result (RefusesSweep (map (λ word. word.now) settings.now) (option_map (λ text. text.now) seeds.entry)) }
+    {
+        let chosen = match read_settings(alloc, settings) {
+            Ok(chosen) => chosen,
+            Err(fault) => return Err(fault),
+        };
+        let range = match read_seeds(seeds) {
+            Ok(range) => range,
+            Err(fault) => return Err(fault),
+        };
+        let cases = case_count(&chosen);
+        let each = seed_count(range);
+        let runs = cases.saturating_mul(each);
+        if runs > MOST_RUNS {
+            return Err(PlanFault::Words);
+        }
+        Ok(Plan {
+            settings: chosen,
+            seeds: range,
+            cases,
+            each,
+        })
+    }
+
+    /// The keys that are set, each with its values.
+    pub fn settings(&self) -> &[Setting]
+        ensures { result.now ≡ self.now.settings }
+    {
+        &self.settings
+    }
+
+    /// The seeds with which each case runs; where there are none, each runs once, with the text's own.
+    pub fn seeds(&self) -> Option<Seeds>
+        ensures { result ≡ self.now.seeds }
+    {
+        self.seeds
+    }
+
+    /// How many cases there are: 1 where nothing is set.
+    pub fn cases(&self) -> usize
+        ensures { result ≡ case_count self.now.settings }
+    {
+        self.cases
+    }
+
+    /// How often each case runs.
+    pub fn runs_of_case(&self) -> usize
+        ensures { result ≡ seed_count self.now.seeds }
+    {
+        self.each
+    }
+
+    /// How many runs there are: at most 1,000,000.
+    pub fn runs(&self) -> usize
+        ensures count { result ≡ run_count self.now }
+        ensures few { result ≤ 1000000 }
+    {
+        self.cases * self.each
+    }
+
+    /// The case at a place among all, counted from 0: a value for each of the keys, in their order. The
+    /// last key's values come one after the other.
+    pub fn case_at(&self, alloc: Global, place: usize) -> Result<Vec<Choice>, Memory>
+        requires { place < case_count self.now.settings }
+        ensures { IfOk result (λ case. slice_get (cases_of self.now.settings) place ≡ Some case.items) }
+    {
+        choices(alloc, &self.settings, self.cases, place)
+    }
+}
+
+/// The case at a place among those of the settings, of which there are so many.
+fn choices(
+    alloc: Global,
+    settings: &[Setting],
+    cases: usize,
+    place: usize,
+) -> Result<Vec<Choice>, Memory>
+    requires counted { cases ≡ case_count settings.now }
+    requires inside { place < cases }
+    ensures { IfOk result (λ case. slice_get (cases_of settings.now) place ≡ Some case.items) }
+{
+    let mut case = Vec::new(alloc);
+    let mut below = cases;
+    let mut left = place;
+    for setting in settings {
+        let values = setting.values();
+        below /= values.len();
+        let value = values[left / below];
+        left %= below;
+        case.push(Choice {
+            key: setting.key(),
+            value,
+        })?;
+    }
+    Ok(case)
 }
 
 /// The settings that words ask for.

@@ -19,8 +19,8 @@ returns-in-Ok-clause-read c =
 
 -- values that no list has are those of no setting
 refused : (word list : List ℕ) (fault : PlanFault) → ((s : KeyValues) → IsSettingOf word s → AreValues (list_items list) s.values) → RefusesValues (list_items list) fault → RefusesSetting word fault
-refused word list Words valued none = λ s is. none s.values (valued s is)
-refused word list Memory valued none = tt
+refused word list Words has none = λ s is. none s.values (has s is)
+refused word list Memory has none = tt
 
 pub returns-in-Err-clause-refused : goal.returns-in-Err-clause-refused
 returns-in-Err-clause-refused c =
