@@ -2,10 +2,10 @@
 use Rattle.std.proofs.Common.{◌≡◌, ℕ, zero, suc, ◌+◌, ◌*◌, ◌/◌, ◌%◌, ◌<◌, List, [], ◌∷◌, ◌++◌, Option, Some, None, length, length-append, map, refl, sym, ap, ◌∙◌, arith, div-lt_iff_lt-mul}
 use Rattle.std.proofs.lemmas.Nat.{div-add-mod'}
 use Rattle.std.proofs.lemmas.List.{length-map}
-use Rattle.std.proofs.lemmas.List.FromFn.{length-map-range_with_len}
-use Rattle.std.proofs.lemmas.Option.{none-some, same_Some, slice_get-map}
+use Rattle.std.proofs.lemmas.List.FromFn.{length-range_with_len, get_or-range_with_len, length-map-range_with_len}
+use Rattle.std.proofs.lemmas.Option.{none-some, same_Some, slice_get-map, slice_get-get_or}
 use Rattle.std.specs.Prelude.{slice_get}
-use Rattle.std.specs.List.{flat_map}
+use Rattle.std.specs.List.{flat_map, range_with_len}
 use Rattle.std.specs.Option.{option_map}
 use Rattle.cases.specs.Sweep.{KeyValues, Sweep, case_count, seed_count, run_count}
 use Rattle.cases.specs.Cases.{cases_of, choice_of}
@@ -81,3 +81,11 @@ run_at sweep number chosen seed e h =
     flat_at _ (seed_count sweep.seeds) (each_counted sweep) (cases_of sweep.settings) _ _ number chosen (planned_as chosen seed) e
     (slice_get-map (planned_as chosen) (seeds_of sweep.seeds) _ ∙ ap (option_map (planned_as chosen)) h)
     (sym (div-add-mod' number (seed_count sweep.seeds)))
+
+-- the seed at a place of a range
+pub seed_there : (r : Seeds) (place : ℕ) → place < seed_count (Some r) → slice_get (seeds_of (Some r)) place ≡ Some (Some (r.first + place))
+seed_there r place lt =
+    let count = seed_count (Some r) in
+    let numbers = range_with_len r.first count in
+    slice_get-map Some numbers place
+    ∙ ap (option_map Some) (slice_get-get_or numbers place 0 (omega (arith, lt, length-range_with_len r.first count)) ∙ ap Some (get_or-range_with_len r.first count place 0 lt))

@@ -1,2 +1,3 @@
 mod Flat
+mod Fitting
 mod Steps

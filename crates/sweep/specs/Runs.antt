@@ -9,6 +9,7 @@ use Rattle.member_laws.specs.Runs.{IsRunOf}
 use Rattle.cases.specs.Sweep.{Sweep, seed_count}
 use Rattle.cases.specs.Cases.{cases_of}
 use Rattle.cases.specs.Document.{with_values}
+use Rattle.cases.specs.Asked.{IsSweepOf}
 use Rattle.cases.specs.declared.seeds.Seeds.{Seeds}
 use Rattle.cases.specs.declared.choice.Choice.{Choice}
 
@@ -19,6 +20,12 @@ pub record Planned : Type 0 where
 
 abbrev pub planned_as : List Choice → Option ℕ → Planned
 planned_as chosen seeded = record { case = chosen; seed = seeded }
+
+-- words ask for the sweep
+pub record IsAskedFor (sweep : Sweep) : Type 0 where
+  pub settings : List (List ℕ)
+  pub seeds : Option (List ℕ)
+  pub asked : IsSweepOf settings seeds sweep
 
 -- the seeds with which each case runs, from the first to the last
 abbrev pub seeds_of : Option Seeds → List (Option ℕ)

@@ -4,6 +4,7 @@ ghost use Rattle.toml.specs.View.{view};
 ghost use Rattle.cases.specs.Sweep.{run_count};
 ghost use Rattle.exchange.specs.Streams.{sink_failures};
 ghost use Rattle.sweep.specs.Judged.{AreAccepted};
+ghost use Rattle.sweep.specs.Runs.{IsAskedFor};
 ghost use Rattle.sweep.specs.Table.{WritesTable, BeginsTable, HasLines, BeginsLines, HasCause};
 
 use crate::reading::read_runs;
@@ -35,6 +36,7 @@ pub fn sweep<S: Sink>(
     workers: Workers,
     table: &mut S,
 ) -> Result<(), Fault>
+    requires asked { IsAskedFor plan.now }
     requires judged { AreAccepted (view document.now) plan.now }
     requires countable { S.failed table.old < 2 ^ 63 }
 
@@ -62,6 +64,7 @@ fn make_runs<S: Sink>(
     workers: Workers,
     table: &mut S,
 ) -> Result<(), Fault>
+    requires asked { IsAskedFor plan.now }
     requires judged { AreAccepted (view document.now) plan.now }
     requires countable { S.failed table.old < 2 ^ 63 }
     ensures whole { OnOk result ((start : Option (List ℕ)) → HasLines (view document.now) plan.now start (S.held table.old) 0
@@ -92,6 +95,7 @@ fn make_some<S: Sink>(
     till: usize,
     table: &mut S,
 ) -> Result<(), Fault>
+    requires asked { IsAskedFor plan.now }
     requires judged { AreAccepted (view document.now) plan.now }
     requires ordered { from ≤ till }
     requires within { till ≤ run_count plan.now }

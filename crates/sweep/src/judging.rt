@@ -2,7 +2,7 @@
 ghost use Rattle.std.specs.Prelude.{◌≡◌, ◌≢◌, ◌<◌, ◌≤◌, Err, OnOk, IfErr};
 ghost use Rattle.toml.specs.View.{view};
 ghost use Rattle.cases.specs.Sweep.{run_count};
-ghost use Rattle.sweep.specs.Runs.{IsRunAt, planned_as, verdict_of};
+ghost use Rattle.sweep.specs.Runs.{IsAskedFor, IsRunAt, planned_as, verdict_of};
 ghost use Rattle.sweep.specs.Judged.{AreAccepted, IsAcceptedAt, IsFirstRefused};
 
 use crate::planned::planned;
@@ -26,6 +26,7 @@ pub struct Refused {
 /// Reads the scenario of each run that a sweep asks for. The first that breaks a rule is told, with the
 /// least rule that it breaks.
 pub fn judge(alloc: Global, plan: &Plan, document: &Value) -> Result<(), Refused>
+    requires { IsAskedFor plan.now }
     ensures accepted { OnOk result (AreAccepted (view document.now) plan.now) }
     ensures refused { IfErr result (λ r. r.refusal.rule ≢ 11 → IsFirstRefused (view document.now) plan.now (planned_as r.case.items r.seed) r.refusal.rule) }
     ensures numbered { IfErr result (λ r. (1 ≤ r.refusal.rule) × (r.refusal.rule ≤ 11)) }
@@ -43,7 +44,8 @@ fn judge_run(
     document: &Value,
     number: usize,
 ) -> Result<(), Refused>
-    requires { number < run_count plan.now }
+    requires asked { IsAskedFor plan.now }
+    requires within { number < run_count plan.now }
     ensures accepted { OnOk result (IsAcceptedAt (view document.now) plan.now number) }
     ensures there { IfErr result (λ r. r.refusal.rule ≢ 11 → IsRunAt plan.now number (planned_as r.case.items r.seed)) }
     ensures broken { IfErr result (λ r. r.refusal.rule ≢ 11 → verdict_of (view document.now) (planned_as r.case.items r.seed) ≡ Err r.refusal.rule) }

@@ -3,7 +3,7 @@ ghost use Rattle.std.specs.Prelude.{◌≡◌, ◌<◌, ◌^◌, All, Some, slic
 ghost use Rattle.std.specs.Option.{ForSome};
 ghost use Rattle.cases.specs.Values.{Fits};
 ghost use Rattle.cases.specs.Sweep.{run_count, seed_count};
-ghost use Rattle.sweep.specs.Runs.{IsRunAt, planned_as, seeds_of};
+ghost use Rattle.sweep.specs.Runs.{IsAskedFor, IsRunAt, planned_as, seeds_of};
 
 use base::Memory;
 use cases::{Choice, Plan, Seeds};
@@ -20,12 +20,13 @@ pub(crate) struct PlannedRun {
 
 /// The run of this number, counted from 0: the cases come one after the other, and of each its seeds.
 pub(crate) fn planned(alloc: Global, plan: &Plan, number: usize) -> Result<PlannedRun, Memory>
-    requires { number < run_count plan.now }
+    requires asked { IsAskedFor plan.now }
+    requires within { number < run_count plan.now }
     ensures run { IfOk result (λ run. IsRunAt plan.now number (planned_as run.case.items run.seed)) }
     ensures fits { IfOk result (λ run. All (λ c. Fits c.value) run.case.items) }
     ensures low { IfOk result (λ run. ForSome run.seed (λ n. n < 2 ^ 63)) }
 {
-    let each = plan.each();
+    let each = plan.runs_of_case();
     let case = plan.case_at(alloc, number / each)?;
     let seed = seed_at(plan.seeds(), number % each);
     Ok(PlannedRun { case, seed })

@@ -4,6 +4,7 @@ ghost use Rattle.toml.specs.View.{view};
 ghost use Rattle.scenario.specs.Setup.{Setup};
 ghost use Rattle.cases.specs.Sweep.{run_count};
 ghost use Rattle.sweep.specs.Judged.{AreAccepted};
+ghost use Rattle.sweep.specs.Runs.{IsAskedFor};
 ghost use Rattle.sweep.specs.Table.{IsReadAt};
 
 use crate::planned::planned;
@@ -22,6 +23,7 @@ pub(crate) fn read_runs(
     from: usize,
     till: usize,
 ) -> Result<Vec<Scenario>, Memory>
+    requires asked { IsAskedFor plan.now }
     requires judged { AreAccepted (view document.now) plan.now }
     requires ordered { from ≤ till }
     requires within { till ≤ run_count plan.now }
@@ -43,6 +45,7 @@ fn read_run(
     document: &Value,
     number: usize,
 ) -> Result<Scenario, Memory>
+    requires asked { IsAskedFor plan.now }
     requires judged { AreAccepted (view document.now) plan.now }
     requires within { number < run_count plan.now }
     ensures { IfOk result (IsReadAt (view document.now) plan.now number) }

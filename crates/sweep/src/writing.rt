@@ -5,6 +5,7 @@ ghost use Rattle.toml.specs.View.{view};
 ghost use Rattle.scenario.specs.Setup.{Setup};
 ghost use Rattle.cases.specs.Sweep.{run_count};
 ghost use Rattle.exchange.specs.Streams.{sink_failures};
+ghost use Rattle.sweep.specs.Runs.{IsAskedFor};
 ghost use Rattle.sweep.specs.Table.{HasLines, BeginsLines, HasCause, IsReadAt, AreTold, fault_as};
 
 use crate::planned::planned;
@@ -28,6 +29,7 @@ pub(crate) fn write_lines<S: Sink>(
     told: &[Result<RunFigures, Fault>],
     table: &mut S,
 ) -> Result<(), Fault>
+    requires asked { IsAskedFor plan.now }
     requires within { from + length scenarios.now ≤ run_count plan.now }
     requires read { (place : ℕ) (s : Setup) → slice_get scenarios.now place ≡ Some s → IsReadAt (view document.now) plan.now (from + place) s }
     requires told { AllZip AreTold scenarios.now told.now }
@@ -55,6 +57,7 @@ fn write_line<S: Sink>(
     told: Result<RunFigures, Fault>,
     table: &mut S,
 ) -> Result<(), Fault>
+    requires asked { IsAskedFor plan.now }
     requires within { number < run_count plan.now }
     requires read { IsReadAt (view _document.now) plan.now number scenario.now }
     requires told { AreTold scenario.now told }
