@@ -1,3 +1,4 @@
 mod Flat
 mod Fitting
+mod Handing
 mod Steps

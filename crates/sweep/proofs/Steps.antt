@@ -1,9 +1,9 @@
 -- How the table grows by a line, and why it ends.
-use Rattle.std.proofs.Common.{◌≡◌, ℕ, zero, suc, ◌+◌, ◌≤◌, List, [], ◌∷◌, ◌++◌, Option, Some, None, refl, sym, ap, subst, ◌∙◌, arith, take, drop, length, append_assoc, append-nil}
+use Rattle.std.proofs.Common.{◌≡◌, ℕ, zero, suc, ◌+◌, ◌≤◌, List, [], ◌∷◌, ◌++◌, Option, Some, None, refl, sym, ap, subst, ◌∙◌, arith, take, drop, length, append_assoc, append-nil, ◌⊎◌, inl, inr, ⊎_elim}
 use Rattle.std.proofs.lemmas.List.{take_all, take-append-drop, take_more}
 use Rattle.std.proofs.lemmas.List.Concat.{flat_map-append}
-use Rattle.std.proofs.lemmas.List.Elements.{All-drop, All-head, All-tail}
-use Rattle.std.proofs.lemmas.Option.{same_Some, slice_get_within, get_or_from_slice_get}
+use Rattle.std.proofs.lemmas.List.Elements.{All-drop, All-head, All-push, All-tail}
+use Rattle.std.proofs.lemmas.Option.{none-some, same_Some, slice_get_within, get_or_from_slice_get}
 use Rattle.std.proofs.lemmas.Slice.Zip.{all_zipped_more}
 use Rattle.std.specs.Prelude.{slice_get, All, Result, Ok, Err}
 use Rattle.std.specs.List.{AllZip, flat_map}
@@ -24,10 +24,10 @@ use Rattle.cases.specs.Sweep.{Sweep, run_count}
 use Rattle.cases.specs.declared.choice.Choice.{Choice}
 use Rattle.sweep.specs.Runs.{Planned, Made, IsMadeAs, AreMade, IsRunAt, planned_as, runs_of, verdict_of}
 use Rattle.sweep.specs.Table.{texts_of, names_of, line_of, table_text, HasLines, BeginsLines, WritesTable, BeginsTable, HasCause, IsCauseOf, AreTold, IsReadAt}
-use Rattle.sweep.specs.Judged.{IsAccepted, AreAccepted}
+use Rattle.sweep.specs.Judged.{IsAccepted, IsAcceptedAt, AreAccepted}
 use Rattle.sweep.proofs.Flat.{runs_counted}
 
-taken_more : {X : Type 0} (xs : List X) (n : ℕ) (x : X) → slice_get xs n ≡ Some x → take (n + 1) xs ≡ take n xs ++ x ∷ []
+pub taken_more : {X : Type 0} (xs : List X) (n : ℕ) (x : X) → slice_get xs n ≡ Some x → take (n + 1) xs ≡ take n xs ++ x ∷ []
 taken_more xs n x e = take_more xs n x (slice_get_within xs n x e) ∙ ap (λ y. take n xs ++ y ∷ []) (get_or_from_slice_get xs n x x e)
 
 table_more : (sweep : Sweep) (made : List Made) (m : Made) → table_text sweep made ++ line_of m ≡ table_text sweep (made ++ m ∷ [])
@@ -36,12 +36,50 @@ table_more sweep made m =
     append_assoc head (flat_map line_of made) (line_of m)
     ∙ ap (λ l. head ++ l) (ap (λ l. flat_map line_of made ++ l) (sym (append-nil (line_of m))) ∙ sym (flat_map-append line_of made (m ∷ [])))
 
+-- an item of a list with one more at its end
+pushed : {X : Type 0} (xs : List X) (x y : X) (place : ℕ) → slice_get (xs ++ x ∷ []) place ≡ Some y
+    → (slice_get xs place ≡ Some y) ⊎ ((place ≡ length xs) × (x ≡ y))
+pushed [] x y zero e = inr (refl, same_Some x y e)
+pushed [] x y (suc n) e = absurd (none-some y e)
+pushed (z ∷ xs) x y zero e = inl e
+pushed (z ∷ xs) x y (suc n) e = ⊎_elim inl (λ p. inr (ap suc p.0, p.1)) (pushed xs x y n e)
+
+-- items of two lists at one place
+pub zipped_at : {X Y : Type 0} (R : X → Y → Type 0) (xs : List X) (ys : List Y) (place : ℕ) (x : X) (y : Y) → AllZip R xs ys
+    → slice_get xs place ≡ Some x → slice_get ys place ≡ Some y → R x y
+zipped_at R [] ys place x y all e h = absurd (none-some x e)
+zipped_at R (a ∷ xs) [] place x y all e h = absurd (none-some y h)
+zipped_at R (a ∷ xs) (b ∷ ys) zero x y all e h = subst (λ z. R z y) (same_Some a x e) (subst (R a) (same_Some b y h) all.0)
+zipped_at R (a ∷ xs) (b ∷ ys) (suc n) x y all e h = zipped_at R xs ys n x y all.1 e h
+
 module _ (tree : Data) (sweep : Sweep) where
+  -- one more scenario was read
+  pub read_more : (from number : ℕ) (scenarios : List Setup) (s : Setup) → from + length scenarios ≡ number
+      → ((place : ℕ) (t : Setup) → slice_get scenarios place ≡ Some t → IsReadAt tree sweep (from + place) t) → IsReadAt tree sweep number s
+      → (place : ℕ) (t : Setup) → slice_get (scenarios ++ s ∷ []) place ≡ Some t → IsReadAt tree sweep (from + place) t
+  read_more from number scenarios s long before here place t e =
+      ⊎_elim (before place t)
+      (λ p. let there : number ≡ from + place = sym long ∙ ap (λ n. from + n) (sym p.0) in
+      subst (λ n. IsReadAt tree sweep n t) there (subst (IsReadAt tree sweep number) p.1 here))
+      (pushed scenarios s t place e)
+
+  -- one more run was judged
+  pub accepted_more : (number : ℕ) → IsAcceptedAt tree sweep number → All (IsAccepted tree) (take number (runs_of sweep))
+      → All (IsAccepted tree) (take (number + 1) (runs_of sweep))
+  accepted_more number here before =
+      subst (All (IsAccepted tree)) (sym (taken_more (runs_of sweep) number here.0 here.1)) (All-push (IsAccepted tree) (take number (runs_of sweep)) here.0 before here.2)
+
+  -- all were
+  pub accepted_all : (number : ℕ) → run_count sweep ≤ number → All (IsAccepted tree) (take number (runs_of sweep)) → AreAccepted tree sweep
+  accepted_all number le before =
+      let long : length (runs_of sweep) ≤ number = omega (arith, le, runs_counted sweep) in
+      subst (All (IsAccepted tree)) (take_all number (runs_of sweep) long) before
+
   are_more : (number : ℕ) (p : Planned) (m : Made) (made : List Made) → IsRunAt sweep number p → IsMadeAs tree p m
       → AllZip (IsMadeAs tree) (take number (runs_of sweep)) made → AllZip (IsMadeAs tree) (take (number + 1) (runs_of sweep)) (made ++ m ∷ [])
-  are_more number p m made at as are =
+  are_more number p m made at so are =
       subst (λ l. AllZip (IsMadeAs tree) l (made ++ m ∷ [])) (sym (taken_more (runs_of sweep) number p at))
-      (all_zipped_more (IsMadeAs tree) (take number (runs_of sweep)) made p m are as)
+      (all_zipped_more (IsMadeAs tree) (take number (runs_of sweep)) made p m are so)
 
   -- what was written is a beginning
   pub have_begun : (start held : Option (List ℕ)) (number : ℕ) → HasLines tree sweep start held number → BeginsLines tree sweep start held
@@ -84,8 +122,8 @@ module _ (tree : Data) (sweep : Sweep) where
         let run = exists here.0 here.2 in
         let rest = runs_left xs (All-tail (IsAccepted tree) p xs all) in
         let m : Made = record { case = p.case; scenario = here.0; rows = run.0 } in
-        let as : IsMadeAs tree p m = record { same = refl; accepted = here.1; run = run.1 } in
-        (m ∷ rest.0, (as, rest.1))
+        let so : IsMadeAs tree p m = record { same = refl; accepted = here.1; run = run.1 } in
+        (m ∷ rest.0, (so, rest.1))
 
     -- so a beginning of the first lines is one of the whole table
     pub begun_table : (start held : Option (List ℕ)) → AreAccepted tree sweep → BeginsLines tree sweep start held → BeginsTable tree sweep start held

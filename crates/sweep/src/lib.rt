@@ -12,3 +12,6 @@ mod writing;
 
 pub use chunks::sweep;
 pub use judging::{Refused, judge};
+
+#[cfg(test)]
+mod tests;
