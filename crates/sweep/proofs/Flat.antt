@@ -1,5 +1,5 @@
 -- Where a run stands among the runs of a sweep, and how many there are.
-use Rattle.std.proofs.Common.{◌≡◌, ℕ, zero, suc, ◌+◌, ◌*◌, ◌/◌, ◌%◌, ◌<◌, List, [], ◌∷◌, ◌++◌, Option, Some, None, length, length-append, map, refl, sym, ap, ◌∙◌, arith, div-lt_iff_lt-mul}
+use Rattle.std.proofs.Common.{◌≡◌, ℕ, zero, suc, ◌+◌, ◌*◌, ◌/◌, ◌%◌, ◌<◌, List, [], ◌∷◌, ◌++◌, Option, Some, None, length, length-append, map, refl, sym, ap, subst, ◌∙◌, arith, div-lt_iff_lt-mul}
 use Rattle.std.proofs.lemmas.Nat.{div-add-mod'}
 use Rattle.std.proofs.lemmas.List.{length-map}
 use Rattle.std.proofs.lemmas.List.FromFn.{length-range_with_len, get_or-range_with_len, length-map-range_with_len}
@@ -89,3 +89,9 @@ seed_there r place lt =
     let numbers = range_with_len r.first count in
     slice_get-map Some numbers place
     ∙ ap (option_map Some) (slice_get-get_or numbers place 0 (omega (arith, lt, length-range_with_len r.first count)) ∙ ap Some (get_or-range_with_len r.first count place 0 lt))
+
+pub seed_there_of : (seeds : Option Seeds) (r : Seeds) (place : ℕ) → seeds ≡ Some r → place < seed_count seeds
+    → slice_get (seeds_of seeds) place ≡ Some (Some (r.first + place))
+seed_there_of None r place e lt = absurd (none-some r e)
+seed_there_of (Some q) r place e lt =
+    subst (λ z. slice_get (seeds_of (Some q)) place ≡ Some (Some (z.first + place))) (same_Some q r e) (seed_there q place lt)

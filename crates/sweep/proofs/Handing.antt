@@ -1,8 +1,15 @@
 -- What is said of an error that is handed on.
-use Rattle.std.proofs.Common.{◌≡◌, ℕ, ◌+◌, ap, arith, Result, Ok, Err, IsErrAnd}
+use Rattle.std.proofs.Common.{◌≡◌, ℕ, ◌+◌, ap, arith, Result, Ok, Err, IsErrAnd, refl, sym, subst, ◌∙◌}
 use Rattle.std.specs.Prelude.{IfErr, OnErr}
 use Rattle.base.specs.declared.fault.Fault.{Fault}
 use Rattle.base.specs.declared.fault.Fault.TheVariants as fault
+use Rattle.toml.specs.Data.{Data}
+use Rattle.scenario.specs.Setup.{Setup}
+use Rattle.trace.specs.Sinks.{failures_of_write}
+use Rattle.trace.specs.declared.write.WriteError.{WriteError}
+use Rattle.trace.specs.declared.write.WriteError.TheVariants as error
+use Rattle.cases.specs.Sweep.{Sweep}
+use Rattle.sweep.specs.Table.{HasCause, IsCauseOf, fault_as}
 use Rattle.exchange.specs.Streams.{sink_failures}
 
 -- what holds holds at an error too
@@ -26,3 +33,20 @@ memory_fails_none {T} (Err f) n gives =
 pub same_failures : {T U : Type 0} (r : Result T Fault) (e : Fault) → IsErrAnd r (λ f. f ≡ e) → sink_failures r ≡ sink_failures {T = U} (Err e)
 same_failures (Ok x) e gives = absurd gives
 same_failures {T} (Err f) e gives = ap (λ g. sink_failures {T = T} (Err g)) gives
+
+-- nor is what keeps a run from having figures
+pub told_fails_none : {T : Type 0} (s : Setup) (f : Fault) (n : ℕ) → IsCauseOf s f → n ≡ n + sink_failures {T = T} (Err f)
+told_fails_none s fault.Memory n h = omega arith
+told_fails_none s fault.Worn n h = omega arith
+told_fails_none s fault.Write n h = absurd h
+told_fails_none s fault.Relay n h = absurd h
+
+-- a line that was not put has a cause
+pub cause_as : (tree : Data) (sweep : Sweep) (e : WriteError) (f : Fault) → f ≡ fault_as e → HasCause tree sweep f
+cause_as tree sweep error.Memory f same = subst (HasCause tree sweep) (sym same) tt
+cause_as tree sweep error.Stopped f same = subst (HasCause tree sweep) (sym same) tt
+
+-- and the failures that were counted for it
+pub failures_as : {T U : Type 0} (e : WriteError) (f : Fault) → f ≡ fault_as e → failures_of_write {T = T} (Err e) ≡ sink_failures {T = U} (Err f)
+failures_as {T} {U} error.Memory f same = ap (λ g. sink_failures {T = U} (Err g)) (sym same)
+failures_as {T} {U} error.Stopped f same = ap (λ g. sink_failures {T = U} (Err g)) (sym same)

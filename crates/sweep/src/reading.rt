@@ -33,7 +33,8 @@ pub(crate) fn read_runs(
 {
     let mut scenarios = Vec::new(alloc);
     for number in from..till {
-        scenarios.push(read_run(alloc, plan, document, number)?)?;
+        let scenario = read_run(alloc, plan, document, number)?;
+        scenarios.push(scenario)?;
     }
     Ok(scenarios)
 }

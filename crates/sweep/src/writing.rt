@@ -69,7 +69,10 @@ fn write_line<S: Sink>(
     ensures causes { IfErr result (HasCause (view _document.now) plan.now) }
     ensures failures { S.failed table.new ≡ S.failed table.old + sink_failures result }
 {
-    let figures = told?;
+    let figures = match told {
+        Ok(figures) => figures,
+        Err(fault) => return Err(fault),
+    };
     let run = planned(alloc, plan, number)?;
     match write_values(alloc, &run.case, scenario.seed(), &figures, table) {
         Ok(()) => Ok(()),
