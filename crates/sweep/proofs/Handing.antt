@@ -1,6 +1,6 @@
 -- What is said of an error that is handed on.
 use Rattle.std.proofs.Common.{◌≡◌, ℕ, ◌+◌, ap, arith, Result, Ok, Err, IsErrAnd, refl, sym, subst, ◌∙◌}
-use Rattle.std.specs.Prelude.{IfErr, OnErr}
+use Rattle.std.specs.Prelude.{IfErr, OnErr, OnOk}
 use Rattle.base.specs.declared.fault.Fault.{Fault}
 use Rattle.base.specs.declared.fault.Fault.TheVariants as fault
 use Rattle.toml.specs.Data.{Data}
@@ -16,6 +16,15 @@ use Rattle.exchange.specs.Streams.{sink_failures}
 pub on_err : {T E P : Type 0} (r : Result T E) → P → OnErr r P
 on_err (Ok x) p = tt
 on_err (Err e) p = p
+
+-- what is said of either outcome, and what follows from that
+pub on_ok_then : {T E A B : Type 0} (r : Result T E) → OnOk r A → (A → B) → OnOk r B
+on_ok_then (Ok x) a turn = turn a
+on_ok_then (Err e) a turn = tt
+
+pub on_err_then : {T E A B : Type 0} (r : Result T E) → OnErr r A → (A → B) → OnErr r B
+on_err_then (Ok x) a turn = tt
+on_err_then (Err e) a turn = turn a
 
 -- what is known of the error gives what is said of it
 pub handed : {T E : Type 0} (r : Result T E) (G Q : E → Type 0) → IsErrAnd r G → ((e : E) → G e → Q e) → IfErr r Q
