@@ -23,7 +23,10 @@ all_same : {X : Type 0} (P Q : X → Type 0) → ((x : X) → P x → Q x) → (
 all_same P Q turn xs all k d lt = turn _ (all k d lt)
 
 cases_fit : (settings : List KeyValues) → All IsSetting settings → All (λ chosen. All (λ (c : Choice). Fits c.value) chosen) (cases_of settings)
-cases_fit [] all = All-cons _ [] [] (All-nil _) (All-nil _)
+cases_fit [] all =
+    let Q : Choice → Type 0 = λ c. Fits c.value in
+    let P : List Choice → Type 0 = λ chosen. All Q chosen in
+    All-cons P [] [] (All-nil Q) (All-nil P)
 cases_fit (s ∷ more) all =
     let P : List Choice → Type 0 = λ chosen. All (λ (c : Choice). Fits c.value) chosen in
     let later : All P (cases_of more) = cases_fit more (All-tail IsSetting s more all) in

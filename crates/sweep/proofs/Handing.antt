@@ -1,5 +1,5 @@
 -- What is said of an error that is handed on.
-use Rattle.std.proofs.Common.{◌≡◌, ℕ, ◌+◌, ap, arith, Result, Ok, Err, IsErrAnd, refl, sym, subst, ◌∙◌}
+use Rattle.std.proofs.Common.{◌≡◌, ℕ, ◌+◌, ap, arith, Result, Ok, Err, IsErrAnd}
 use Rattle.std.specs.Prelude.{IfErr, OnErr, OnOk}
 use Rattle.base.specs.declared.fault.Fault.{Fault}
 use Rattle.base.specs.declared.fault.Fault.TheVariants as fault
@@ -38,24 +38,9 @@ memory_fails_none {T} (Err f) n gives =
     let none : sink_failures {T = T} (Err f) ≡ 0 = ap (λ g. sink_failures {T = T} (Err g)) gives in
     omega (arith, none)
 
--- the same error has the same failures
-pub same_failures : {T U : Type 0} (r : Result T Fault) (e : Fault) → IsErrAnd r (λ f. f ≡ e) → sink_failures r ≡ sink_failures {T = U} (Err e)
-same_failures (Ok x) e gives = absurd gives
-same_failures {T} (Err f) e gives = ap (λ g. sink_failures {T = T} (Err g)) gives
-
--- nor is what keeps a run from having figures
-pub told_fails_none : {T : Type 0} (s : Setup) (f : Fault) (n : ℕ) → IsCauseOf s f → n ≡ n + sink_failures {T = T} (Err f)
-told_fails_none s fault.Memory n h = omega arith
-told_fails_none s fault.Worn n h = omega arith
-told_fails_none s fault.Write n h = absurd h
-told_fails_none s fault.Relay n h = absurd h
-
--- a line that was not put has a cause
-pub cause_as : (tree : Data) (sweep : Sweep) (e : WriteError) (f : Fault) → f ≡ fault_as e → HasCause tree sweep f
-cause_as tree sweep error.Memory f same = subst (HasCause tree sweep) (sym same) tt
-cause_as tree sweep error.Stopped f same = subst (HasCause tree sweep) (sym same) tt
-
--- and the failures that were counted for it
-pub failures_as : {T U : Type 0} (e : WriteError) (f : Fault) → f ≡ fault_as e → failures_of_write {T = T} (Err e) ≡ sink_failures {T = U} (Err f)
-failures_as {T} {U} error.Memory f same = ap (λ g. sink_failures {T = U} (Err g)) (sym same)
-failures_as {T} {U} error.Stopped f same = ap (λ g. sink_failures {T = U} (Err g)) (sym same)
+-- what keeps a run from having figures is no failure of a sink
+pub told_fails_none : (T : Type 0) (s : Setup) (f : Fault) (n : ℕ) → IsCauseOf s f → n ≡ n + sink_failures {T = T} (Err f)
+told_fails_none T s fault.Memory n h = omega arith
+told_fails_none T s fault.Worn n h = omega arith
+told_fails_none T s fault.Write n h = absurd h
+told_fails_none T s fault.Relay n h = absurd h

@@ -1,9 +1,9 @@
 -- How the table grows by a line, and why it ends.
-use Rattle.std.proofs.Common.{◌≡◌, ℕ, zero, suc, ◌+◌, ◌≤◌, List, [], ◌∷◌, ◌++◌, Option, Some, None, refl, sym, ap, subst, ◌∙◌, arith, take, drop, length, append_assoc, append-nil, ◌⊎◌, inl, inr, ⊎_elim}
+use Rattle.std.proofs.Common.{◌≡◌, ℕ, zero, suc, ◌+◌, ◌<◌, ◌≤◌, List, [], ◌∷◌, ◌++◌, Option, Some, None, refl, sym, ap, subst, ◌∙◌, arith, take, drop, get_or, length, append_assoc, append-nil, ◌⊎◌, inl, inr, ⊎_elim}
 use Rattle.std.proofs.lemmas.List.{take_all, take-append-drop, take_more}
 use Rattle.std.proofs.lemmas.List.Concat.{flat_map-append}
 use Rattle.std.proofs.lemmas.List.Elements.{All-drop, All-head, All-push, All-tail}
-use Rattle.std.proofs.lemmas.Option.{none-some, same_Some, slice_get_within, get_or_from_slice_get}
+use Rattle.std.proofs.lemmas.Option.{none-some, same_Some, slice_get-get_or, slice_get_within, get_or_from_slice_get}
 use Rattle.std.proofs.lemmas.Slice.Zip.{all_zipped_more}
 use Rattle.std.specs.Prelude.{slice_get, All, Result, Ok, Err}
 use Rattle.std.specs.List.{AllZip, flat_map}
@@ -45,12 +45,25 @@ pushed (z ∷ xs) x y zero e = inl e
 pushed (z ∷ xs) x y (suc n) e = ⊎_elim inl (λ p. inr (ap suc p.0, p.1)) (pushed xs x y n e)
 
 -- items of two lists at one place
-pub zipped_at : {X Y : Type 0} (R : X → Y → Type 0) (xs : List X) (ys : List Y) (place : ℕ) (x : X) (y : Y) → AllZip R xs ys
+zipped_at : {X Y : Type 0} (R : X → Y → Type 0) (xs : List X) (ys : List Y) (place : ℕ) (x : X) (y : Y) → AllZip R xs ys
     → slice_get xs place ≡ Some x → slice_get ys place ≡ Some y → R x y
 zipped_at R [] ys place x y all e h = absurd (none-some x e)
 zipped_at R (a ∷ xs) [] place x y all e h = absurd (none-some y h)
 zipped_at R (a ∷ xs) (b ∷ ys) zero x y all e h = subst (λ z. R z y) (same_Some a x e) (subst (R a) (same_Some b y h) all.0)
 zipped_at R (a ∷ xs) (b ∷ ys) (suc n) x y all e h = zipped_at R xs ys n x y all.1 e h
+
+pub zipped_long : {X Y : Type 0} (R : X → Y → Type 0) (xs : List X) (ys : List Y) → AllZip R xs ys → length xs ≡ length ys
+zipped_long R [] [] all = refl
+zipped_long R [] (b ∷ ys) all = absurd all
+zipped_long R (a ∷ xs) [] all = absurd all
+zipped_long R (a ∷ xs) (b ∷ ys) all = ap suc (zipped_long R xs ys all.1)
+
+-- the same where the second is read
+pub zipped_read : {X Y : Type 0} (R : X → Y → Type 0) (xs : List X) (ys : List Y) (place : ℕ) (x : X) (d : Y) → AllZip R xs ys
+    → slice_get xs place ≡ Some x → R x (get_or ys place d)
+zipped_read R xs ys place x d all e =
+    let lt : place < length ys = omega (arith, slice_get_within xs place x e, zipped_long R xs ys all) in
+    zipped_at R xs ys place x (get_or ys place d) all e (slice_get-get_or ys place d lt)
 
 module _ (tree : Data) (sweep : Sweep) where
   -- one more scenario was read

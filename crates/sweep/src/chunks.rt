@@ -108,9 +108,8 @@ fn make_some<S: Sink>(
     ensures failures { S.failed table.new ≡ S.failed table.old + sink_failures result }
 {
     let scenarios = read_runs(alloc, plan, document, from, till)?;
-    let told = match told_side_by_side(rt, alloc, &scenarios) {
-        Ok(told) => told,
-        Err(_) => return Err(Fault::Memory),
+    let Ok(told) = told_side_by_side(rt, alloc, &scenarios) else {
+        return Err(Fault::Memory);
     };
     write_lines(alloc, plan, document, from, &scenarios, &told, table)
 }

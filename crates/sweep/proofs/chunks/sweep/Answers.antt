@@ -1,10 +1,10 @@
-use Rattle.std.proofs.Common.{◌≡◌, ◌+◌, ◌∙◌, ap, subst}
+use Rattle.std.proofs.Common.{subst}
 use Rattle.std.specs.Io.KnownBytes.{Appends}
 use Rattle.toml.specs.View.{view}
 use Rattle.trace.specs.Sinks.{AppendsBeginning}
 use Rattle.figures.specs.Lines.{header_line}
 use Rattle.sweep.specs.Table.{names_of}
-use Rattle.sweep.proofs.Handing.{on_ok_then, on_err_then, cause_as, failures_as}
+use Rattle.sweep.proofs.Handing.{on_ok_then, on_err_then}
 use Rattle.sweep.proofs.Steps.{header_whole, header_part, whole_table, begun_table}
 use Rattle.sweep.proofs.chunks.sweep.Goals as goal
 
@@ -31,10 +31,3 @@ returns-in-Err-clause-part g c =
     let plan = c.args.plan.now in
     begun_table tree plan c.a_run_exists.ensures (g.S.Sink.held c.args.table.now) _ c.requires.judged
     (header_part tree plan _ _ (subst (λ l. AppendsBeginning (g.S.Sink.held c.args.table.now) (g.S.Sink.held c.write_names.new.table) (header_line (names_of l))) c.settings.ensures c.in-Err.ensures.part))
-
-pub returns-in-Err-clause-causes : goal.returns-in-Err-clause-causes
-returns-in-Err-clause-causes g c = cause_as (view c.args.document.now) c.args.plan.now c.in-Err.error c.fault_of.result c.fault_of.ensures
-
-pub returns-in-Err-clause-failures : goal.returns-in-Err-clause-failures
-returns-in-Err-clause-failures g c =
-    c.in-Err.ensures.failures ∙ ap (λ n. g.S.Sink.failed c.args.table.now + n) (failures_as c.in-Err.error c.fault_of.result c.fault_of.ensures)

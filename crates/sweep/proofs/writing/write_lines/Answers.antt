@@ -1,33 +1,22 @@
-use Rattle.std.proofs.Common.{◌≡◌, ◌+◌, ◌∙◌, add-zero, sym, subst, refl, length, arith}
-use Rattle.toml.specs.View.{view}
-use Rattle.sweep.specs.Table.{HasLines, HasCause}
-use Rattle.sweep.proofs.Handing.{on_err, handed, same_failures}
+use Rattle.std.proofs.Common.{◌≡◌, arith, length}
+use Rattle.std.specs.Prelude.{Some, slice_get}
+use Rattle.std.proofs.lemmas.Option.{gets}
+use Rattle.sweep.specs.Table.{AreTold}
+use Rattle.sweep.proofs.Steps.{zipped_long, zipped_read}
 use Rattle.sweep.proofs.writing.write_lines.Goals as goal
 
-pub loop-place-init : goal.loop-place-init
-loop-place-init g c = record {
-  lines = λ start lines. let at : c.args.from ≡ c.args.from + 0 = omega arith in
-      subst (HasLines (view c.args.document.now) c.args.plan.now start (g.S.Sink.held c.args.table.now)) at lines;
-  same = refl;
-}
+pub bounds-told-place : goal.bounds-told-place
+bounds-told-place g c =
+    omega (arith, zipped_long AreTold c.args.scenarios.now c.args.told.now c.requires.told, c.loop-place-test.true, c.loop-place.auto.place-end)
 
-pub loop-place-preserved : goal.loop-place-preserved
-loop-place-preserved g c = record {
-  lines = λ start lines. let at : (c.args.from + c.loop-place.place) + 1 ≡ c.args.from + (c.loop-place.place + 1) = omega arith in
-      subst (HasLines (view c.args.document.now) c.args.plan.now start (g.S.Sink.held c.write_line.new.table)) at
-      (c.in_ok-write_line.ensures.whole start (c.loop-place.invariant.lines start lines));
-  same = c.in_ok-write_line.ensures.failures ∙ add-zero _ ∙ c.loop-place.invariant.same;
-}
+pub write_line-requires-clause-read : goal.write_line-requires-clause-read
+write_line-requires-clause-read g c =
+    let there : slice_get c.args.scenarios.now c.loop-place.place ≡ Some c.index-scenarios-place.result =
+    grind (arith, gets, c.index-scenarios-place.is, c.loop-place-test.true) in
+    c.requires.read c.loop-place.place c.index-scenarios-place.result there
 
-pub returns-in_err-write_line-clause-part : goal.returns-in_err-write_line-clause-part
-returns-in_err-write_line-clause-part g c =
-    on_err _ (λ start lines. c.in_err-write_line.ensures.part start (c.loop-place.invariant.lines start lines))
-
-pub returns-in_err-write_line-clause-causes : goal.returns-in_err-write_line-clause-causes
-returns-in_err-write_line-clause-causes g c =
-    let P = HasCause (view c.args.document.now) c.args.plan.now in
-    handed _ _ P c.from_residual.ensures.1 (λ f e. subst P (sym e) c.in_err-write_line.ensures.causes)
-
-pub returns-in_err-write_line-clause-failures : goal.returns-in_err-write_line-clause-failures
-returns-in_err-write_line-clause-failures g c =
-    c.in_err-write_line.ensures.failures ∙ (λ i. c.loop-place.invariant.same i + sym (same_failures c.from_residual.result _ c.from_residual.ensures.1) i)
+pub write_line-requires-clause-told : goal.write_line-requires-clause-told
+write_line-requires-clause-told g c =
+    let there : slice_get c.args.scenarios.now c.loop-place.place ≡ Some c.index-scenarios-place.result =
+    grind (arith, gets, c.index-scenarios-place.is, c.loop-place-test.true) in
+    zipped_read AreTold c.args.scenarios.now c.args.told.now c.loop-place.place c.index-scenarios-place.result _ c.requires.told there
