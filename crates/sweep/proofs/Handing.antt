@@ -18,13 +18,13 @@ on_err (Ok x) p = tt
 on_err (Err e) p = p
 
 -- what is said of either outcome, and what follows from that
-pub on_ok_then : {T E A B : Type 0} (r : Result T E) → OnOk r A → (A → B) → OnOk r B
-on_ok_then (Ok x) a turn = turn a
-on_ok_then (Err e) a turn = tt
+pub on_ok_then : {T E : Type 0} (A B : Type 0) (r : Result T E) → OnOk r A → (A → B) → OnOk r B
+on_ok_then A B (Ok x) a turn = turn a
+on_ok_then A B (Err e) a turn = tt
 
-pub on_err_then : {T E A B : Type 0} (r : Result T E) → OnErr r A → (A → B) → OnErr r B
-on_err_then (Ok x) a turn = tt
-on_err_then (Err e) a turn = turn a
+pub on_err_then : {T E : Type 0} (A B : Type 0) (r : Result T E) → OnErr r A → (A → B) → OnErr r B
+on_err_then A B (Ok x) a turn = tt
+on_err_then A B (Err e) a turn = turn a
 
 -- what is known of the error gives what is said of it
 pub handed : {T E : Type 0} (r : Result T E) (G Q : E → Type 0) → IsErrAnd r G → ((e : E) → G e → Q e) → IfErr r Q
