@@ -1,11 +1,14 @@
 -- The case at a place of all cases, setting by setting.
-use Rattle.std.proofs.Common.{◌≡◌, ◌<◌, ◌≤◌, ◌+◌, ◌*◌, ◌/◌, ◌%◌, ◌^◌, ℕ, zero, suc, List, [], ◌∷◌, ◌++◌, Option, Some, None, All, option_map, map, drop, length, get_or, sym, ap, subst, refl, ◌∙◌, lit<, arith}
+use Rattle.std.proofs.Common.{◌≡◌, ◌<◌, ◌+◌, ◌*◌, ◌/◌, ◌%◌, ℕ, zero, suc, List, [], ◌∷◌, ◌++◌, Option, Some, None, All, option_map, map, length, get_or, sym, ap, subst, refl, ◌∙◌, arith}
 use Rattle.std.specs.List.{slice_get, flat_map}
-use Rattle.std.proofs.Math.Nat.{suc-mul, zero-mul, mul-zero, mul_comm}
-use Rattle.std.proofs.lemmas.Option.{slice_get-map}
-use Rattle.std.proofs.lemmas.List.{length-map, length-append, drop_more, drop_all, append_assoc, append-nil}
+use Rattle.std.proofs.Math.Nat.{suc-mul, zero-mul, mul-zero, mul-div_cancel_left, div-lt_iff_lt-mul, mod-lt}
+use Rattle.std.proofs.lemmas.Option.{slice_get-map, slice_get_within, get_or_from_slice_get}
+use Rattle.std.proofs.lemmas.List.Elements.{All-nil, All-cons, All-head, All-tail, All-append, All-map, All-weaker}
+use Rattle.std.proofs.lemmas.List.{length-map, length-append, append_assoc, append-nil}
 use Rattle.cases.specs.Sweep.{KeyValues, case_count}
 use Rattle.cases.specs.Cases.{choice_of, cases_of}
+use Rattle.cases.specs.Values.{Fits}
+use Rattle.cases.specs.Asked.{IsSetting}
 use Rattle.cases.specs.declared.keys.SettingKey.{SettingKey}
 use Rattle.cases.specs.declared.values.SettingValue.{SettingValue}
 use Rattle.cases.specs.declared.choice.Choice.{Choice}
@@ -92,12 +95,50 @@ at_next settings n chosen s more below place next q r d at counted split inside 
       counted = counted;
       low = low;
       here = at.here
-        ∙ ap (λ p. option_map (λ rest. chosen ++ rest) (slice_get (cases_of (s ∷ more)) p)) place_is
-        ∙ ap (option_map (λ rest. chosen ++ rest)) (first_choice s more q r d inside less)
-        ∙ maps_twice (λ rest. chosen ++ rest) (λ case. choice_of s.key (get_or s.values q d) ∷ case) (slice_get (cases_of more) r)
-        ∙ joined (slice_get (cases_of more) r);
+          ∙ ap (λ p. option_map (λ rest. chosen ++ rest) (slice_get (cases_of (s ∷ more)) p)) place_is
+          ∙ ap (option_map (λ rest. chosen ++ rest)) (first_choice s more q r d inside less)
+          ∙ maps_twice (λ rest. chosen ++ rest) (λ case. choice_of s.key (get_or s.values q d) ∷ case) (slice_get (cases_of more) r)
+          ∙ joined (slice_get (cases_of more) r);
     }
   where
     joined : (o : Option (List Choice)) → option_map (λ case. chosen ++ choice_of s.key (get_or s.values q d) ∷ case) o ≡ option_map (λ rest. (chosen ++ choice_of s.key (get_or s.values q d) ∷ []) ++ rest) o
     joined None = refl
     joined (Some case) = ap Some (sym (append_assoc chosen (choice_of s.key (get_or s.values q d) ∷ []) case))
+
+-- the place of the next value, and that among the rest, are below their bounds
+pub place_low : (size more below left : ℕ) → below ≡ size * more → left < below
+    → (below / size ≡ more) × (left / (below / size) < size) × (left % (below / size) < below / size)
+place_low zero more below left is low = let none : below ≡ 0 = is ∙ zero-mul more in absurd (omega arith)
+place_low (suc size) zero below left is low = let none : below ≡ 0 = is ∙ mul-zero (suc size) in absurd (omega arith)
+place_low (suc size) (suc more) below left is low =
+    let divided : below / suc size ≡ suc more = ap (λ n. n / suc size) is ∙ mul-div_cancel_left (suc more) (omega arith) in
+    let within : left < suc size * suc more = subst (λ n. left < n) is low in
+    let inside : left / suc more < suc size = (div-lt_iff_lt-mul (omega arith)).1 within in
+    let rest : left % suc more < suc more = mod-lt left (omega arith) in
+    (divided, subst (λ n. left / n < suc size) (sym divided) inside, subst (λ n. left % n < n) (sym divided) rest)
+
+-- ---- each value of a case fits
+
+abbrev AllFit : List Choice → Type 0
+AllFit case = All (λ (c : Choice). Fits c.value) case
+
+with_first : (k : SettingKey) (v : SettingValue) (cases : List (List Choice)) → Fits v → All AllFit cases → All AllFit (map (λ case. choice_of k v ∷ case) cases)
+with_first k v cases fits rest =
+    All-map AllFit (λ case. choice_of k v ∷ case) cases
+    (All-weaker AllFit (λ case. AllFit (choice_of k v ∷ case)) (λ case more. All-cons (λ (c : Choice). Fits c.value) (choice_of k v) case fits more) cases rest)
+
+with_each : (k : SettingKey) (vs : List SettingValue) (cases : List (List Choice)) → All Fits vs → All AllFit cases → All AllFit (flat_map (λ value. map (λ case. choice_of k value ∷ case) cases) vs)
+with_each k [] cases fit rest = All-nil AllFit
+with_each k (v ∷ vs) cases fit rest =
+    All-append AllFit (map (λ case. choice_of k v ∷ case) cases) (flat_map (λ value. map (λ case. choice_of k value ∷ case) cases) vs)
+    (with_first k v cases (All-head Fits v vs fit) rest) (with_each k vs cases (All-tail Fits v vs fit) rest)
+
+all_fit : (settings : List KeyValues) → All IsSetting settings → All AllFit (cases_of settings)
+all_fit [] sound = All-cons AllFit [] [] (All-nil (λ (c : Choice). Fits c.value)) (All-nil AllFit)
+all_fit (s ∷ more) sound = with_each s.key s.values (cases_of more) (All-head IsSetting s more sound).fit (all_fit more (All-tail IsSetting s more sound))
+
+pub case_fits : (settings : List KeyValues) (place : ℕ) (case : List Choice) → slice_get (cases_of settings) place ≡ Some case → All IsSetting settings → All (λ (c : Choice). Fits c.value) case
+case_fits settings place case at sound =
+    let inside : place < length (cases_of settings) = slice_get_within (cases_of settings) place case at in
+    let here : get_or (cases_of settings) place [] ≡ case = get_or_from_slice_get (cases_of settings) place case [] at in
+    subst AllFit here (all_fit settings sound place [] inside)

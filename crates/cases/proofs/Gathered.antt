@@ -1,20 +1,17 @@
 -- Settings that are read one after the other, and why words ask for no others.
-use Rattle.std.proofs.Common.{◌≡◌, ◌≢◌, ◌<◌, ◌≤◌, ◌+◌, ◌-◌, ◌*◌, ◌^◌, ℕ, zero, suc, Bool, true, false, ◌&&◌, List, [], ◌∷◌, ◌++◌, Option, Some, None, Bor, All, AllPairs, map, min, take, length, get_or, bytes_eq, decimal, sym, ap, subst, refl, ◌∙◌, lit<, inl, inr, arith}
+use Rattle.std.proofs.Common.{◌≡◌, ◌≢◌, ◌<◌, ◌+◌, ℕ, zero, suc, Bool, true, false, ◌&&◌, List, [], ◌∷◌, ◌++◌, Option, Some, None, Bor, All, map, take, length, get_or, bytes_eq, sym, ap, subst, refl, ◌∙◌, arith}
 use Rattle.std.specs.List.{list_any}
-use Rattle.std.specs.Option.{ForSome}
-use Rattle.std.proofs.Math.Nat.{mul-zero, le-mul_of_pos_right}
 use Rattle.std.proofs.lemmas.Bool.{false≢true, false_from_ne_true, or_parts, and_parts}
-use Rattle.std.proofs.lemmas.List.{length-map, length-take, length-append, take-map, map_more, get_or-take, get_or-map, get_or_append_left, get_or_at, append-nil}
+use Rattle.std.proofs.lemmas.List.{length-map, length-take, length-append, take-map, map_more, get_or-take, get_or-map, get_or_append_left, get_or_at}
 use Rattle.std.proofs.lemmas.List.Elements.{All-head, All-tail, All-nil, All-cons, All-take, All-push}
 use Rattle.std.proofs.lemmas.List.Folds.{list_any_none}
 use Rattle.std.proofs.lemmas.List.Quantifiers.{all_pairs_push}
 use Rattle.schema.specs.Schema.{spelling_of}
 use Rattle.schema.specs.declared.schema.FormatKey.{FormatKey}
 use Rattle.cases.specs.Keys.{name_of, is_same, are_same_tables}
-use Rattle.cases.specs.Sweep.{KeyValues, Sweep, case_count, seed_count, run_count}
-use Rattle.cases.specs.Asked.{setting_text, seeds_text, IsSetting, IsSettingOf, AreSettings, IsRange, AsksForSeeds, IsSweepOf, RefusesSetting, RefusesSettings, RefusesSeeds, RefusesSweep}
+use Rattle.cases.specs.Sweep.{KeyValues}
+use Rattle.cases.specs.Asked.{setting_text, IsSetting, IsSettingOf, AreSettings, RefusesSetting, RefusesSettings}
 use Rattle.cases.specs.declared.keys.SettingKey.{SettingKey}
-use Rattle.cases.specs.declared.seeds.Seeds.{Seeds}
 use Rattle.cases.specs.declared.fault.PlanFault.{PlanFault}
 use Rattle.cases.specs.declared.fault.PlanFault.TheVariants.{Words, Memory}
 use Rattle.cases.proofs.Names.{bytes_eq_true, bytes_eq_same}
@@ -47,7 +44,7 @@ none_of : {A : Type 0} (p : A → Bool) (xs : List A) → list_any p xs ≡ fals
 none_of p [] none = All-nil (λ x. p x ≡ false)
 none_of p (x ∷ xs) none = let parts = or_parts (p x) (list_any p xs) none in All-cons (λ y. p y ≡ false) x xs parts.0 (none_of p xs parts.1)
 
-same_settings : (ss ts : List KeyValues) → All IsSetting ss → All IsSetting ts → map setting_text ss ≡ map setting_text ts → ss ≡ ts
+pub same_settings : (ss ts : List KeyValues) → All IsSetting ss → All IsSetting ts → map setting_text ss ≡ map setting_text ts → ss ≡ ts
 same_settings [] [] a b same = refl
 same_settings [] (t ∷ ts) a b same = let none : 0 ≡ suc (length (map setting_text ts)) = ap length same in absurd (omega arith)
 same_settings (s ∷ ss) [] a b same = let none : suc (length (map setting_text ss)) ≡ 0 = ap length same in absurd (omega arith)
@@ -105,12 +102,12 @@ module _ (words : List (Bor (List ℕ))) (i : ℕ) (d : Bor (List ℕ)) (inside 
         let all : length ts ≡ length words = sym (length-map ts setting_text) ∙ ap length are.written ∙ many in
         let first : map setting_text (take (i + 1) ts) ≡ map now (take (i + 1) words) = sym (take-map setting_text (i + 1) ts) ∙ ap (take (i + 1)) are.written ∙ take-map now (i + 1) words in
         let same : ss ++ s ∷ [] ≡ take (i + 1) ts =
-            same_settings (ss ++ s ∷ []) (take (i + 1) ts) (All-push IsSetting ss s so_far.sound is.sound) (All-take IsSetting (i + 1) ts are.sound) (written_more ∙ sym first) in
+        same_settings (ss ++ s ∷ []) (take (i + 1) ts) (All-push IsSetting ss s so_far.sound is.sound) (All-take IsSetting (i + 1) ts are.sound) (written_more ∙ sym first) in
         let size : length ss ≡ i = let few = length-take (i + 1) ts in let push = ap length same in omega (arith, length-append ss (s ∷ []), few, push) in
         let apart : (k : ℕ) (e : KeyValues) → k < length ss → is_same s.key (get_or ss k e).key ≡ false =
-            λ k e within. false_from_ne_true (is_same s.key (get_or ss k e).key) (λ alike.
-            let one : get_or ts k e ≡ get_or ss k e = sym (get_or-take (i + 1) ts k e (omega arith)) ∙ ap (λ l. get_or l k e) (sym same) ∙ get_or_append_left ss (s ∷ []) e k within in
-            let other : get_or ts i e ≡ s = sym (get_or-take (i + 1) ts i e (omega arith)) ∙ ap (λ l. get_or l i e) (sym same) ∙ get_or_at ss s [] e i size in
-            let keys = same_key s.key (get_or ss k e).key is.sound.key (so_far.sound k e within).key (same_names s.key (get_or ss k e).key alike) in
-            are.once k i e (omega arith) (omega arith) (ap (λ t. t.key) one ∙ sym keys ∙ ap (λ t. t.key) (sym other))) in
+        λ k e within. false_from_ne_true (is_same s.key (get_or ss k e).key) (λ alike.
+        let one : get_or ts k e ≡ get_or ss k e = sym (get_or-take (i + 1) ts k e (omega arith)) ∙ ap (λ l. get_or l k e) (sym same) ∙ get_or_append_left ss (s ∷ []) e k within in
+        let other : get_or ts i e ≡ s = sym (get_or-take (i + 1) ts i e (omega arith)) ∙ ap (λ l. get_or l i e) (sym same) ∙ get_or_at ss s [] e i size in
+        let keys = same_key s.key (get_or ss k e).key is.sound.key (so_far.sound k e within).key (same_names s.key (get_or ss k e).key alike) in
+        are.once k i e (omega arith) (omega arith) (ap (λ t. t.key) one ∙ sym keys ∙ ap (λ t. t.key) (sym other))) in
         false≢true (sym (list_any_none (λ t. is_same s.key t.key) ss apart) ∙ twice)

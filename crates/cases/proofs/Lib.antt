@@ -5,3 +5,6 @@ pub mod Ranges
 pub mod Members
 pub mod Counts
 pub mod Written
+pub mod Gathered
+pub mod Planning
+pub mod Choices

@@ -1,5 +1,5 @@
 -- Names of keys, byte by byte, and the first key of a name.
-use Rattle.std.proofs.Common.{◌≡◌, ◌≢◌, ◌<◌, ◌&&◌, ◌+◌, ℕ, Option, Some, None, cond, find, map, filter, drop, length, get_or, List, [], ◌∷◌, ◌++◌, Bool, true, false, bytes_eq, refl, sym, ap, subst, ◌∙◌}
+use Rattle.std.proofs.Common.{◌≡◌, ◌≢◌, ◌<◌, ◌&&◌, ◌+◌, ℕ, Option, Some, None, cond, find, map, filter, drop, length, get_or, List, ◌∷◌, ◌++◌, Bool, true, false, bytes_eq, refl, sym, ap, ◌∙◌}
 use Rattle.std.proofs.lemmas.Bool.{false_from_ne_true, false≢true}
 use Rattle.std.proofs.lemmas.List.{append_cancel_left, drop_more}
 use Rattle.std.proofs.lemmas.List.Folds.{find-append}

@@ -1,9 +1,8 @@
 -- What words ask for is one sweep, and counting its runs.
-use Rattle.std.proofs.Common.{◌≡◌, ◌<◌, ◌≤◌, ◌+◌, ◌-◌, ◌*◌, ◌^◌, ℕ, zero, suc, List, ◌∷◌, ◌++◌, Option, Some, None, min, map, decimal, sym, ap, subst, refl, ◌∙◌, lit<, inl, inr, arith}
+use Rattle.std.proofs.Common.{◌≡◌, ◌<◌, ◌≤◌, ◌-◌, ◌*◌, ◌^◌, ℕ, List, ◌∷◌, Option, Some, None, min, decimal, sym, ap, subst, refl, ◌∙◌, lit<, arith}
 use Rattle.std.specs.Option.{ForSome}
-use Rattle.std.proofs.Math.Nat.{mul-zero, le-mul_of_pos_right}
-use Rattle.cases.specs.Values.{IsNumber}
-use Rattle.cases.specs.Sweep.{KeyValues, Sweep, case_count, seed_count, run_count}
+use Rattle.std.proofs.Math.Nat.{le-mul_of_pos_right}
+use Rattle.cases.specs.Sweep.{KeyValues, Sweep, case_count, seed_count}
 use Rattle.cases.specs.Asked.{IsRange, AreSettings, AsksForSeeds, IsSweepOf}
 use Rattle.cases.specs.declared.seeds.Seeds.{Seeds}
 use Rattle.cases.proofs.Words.{decimal_lacks, cut_once}
@@ -56,7 +55,7 @@ module _ (words : List (List ℕ)) (word : Option (List ℕ)) (settings : List K
         let sets = same_settings sweep.settings settings is.settings.sound are.sound (is.settings.written ∙ sym are.written) in
         let same = same_seeds word sweep.seeds seeds is.seeded asked in
         let few : case_count settings * seed_count seeds ≤ 1000000 =
-            subst (λ s. case_count settings * seed_count s ≤ 1000000) same (subst (λ l. case_count l * seed_count sweep.seeds ≤ 1000000) sets is.few) in
+        subst (λ s. case_count settings * seed_count s ≤ 1000000) same (subst (λ l. case_count l * seed_count sweep.seeds ≤ 1000000) sets is.few) in
         let told = all_runs in
         omega arith
 

@@ -1,11 +1,11 @@
 -- A range of seeds and the parts of its word.
-use Rattle.std.proofs.Common.{◌≡◌, ◌≢◌, ◌<◌, ◌≤◌, ◌+◌, ◌^◌, ℕ, List, ◌∷◌, ◌++◌, drop, Option, Some, None, Bor, decimal, length, sym, ap, subst, ◌∙◌, lit<, arith}
+use Rattle.std.proofs.Common.{◌≡◌, ◌≢◌, ◌+◌, ℕ, List, ◌∷◌, drop, Option, Some, None, Bor, decimal, length, sym, ◌∙◌, lit<, arith}
 use Rattle.std.specs.Option.{MatchOption}
 use Rattle.std.specs.Str.Pattern.{FindsCharPrefix}
 use Rattle.std.proofs.lemmas.Fmt.{decimal_injective}
 use Rattle.std.proofs.lemmas.Str.Pattern.{IsSplitOnceResult, split_after, strip_prefix_char}
 use Rattle.cases.specs.Values.{IsNumber}
-use Rattle.cases.specs.Asked.{IsRange, seeds_text}
+use Rattle.cases.specs.Asked.{IsRange}
 use Rattle.cases.specs.declared.seeds.Seeds.{Seeds}
 use Rattle.cases.proofs.Words.{unlike, decimal_lacks}
 

@@ -1,10 +1,10 @@
 -- Words that are put together with a byte between their parts, and what the parts are then.
-use Rattle.std.proofs.Common.{◌≡◌, ◌≢◌, ◌<◌, ◌≤◌, ◌^◌, ◌==◌, ℕ, zero, suc, Bool, true, false, List, [], ◌∷◌, ◌++◌, All, map, length, get_or, decimal, codes, sym, ap, subst, refl, ◌∙◌, arith}
-use Rattle.std.specs.List.{slice_split, join_with_byte, list_any}
+use Rattle.std.proofs.Common.{◌≡◌, ◌≢◌, ◌<◌, ◌^◌, ◌==◌, ℕ, Bool, true, false, List, [], ◌∷◌, ◌++◌, All, length, get_or, decimal, sym, ap, subst, ◌∙◌, arith}
+use Rattle.std.specs.List.{slice_split, join_with_byte}
 use Rattle.std.specs.Str.Parse.{AllDigits, digits_value}
 use Rattle.std.proofs.lemmas.Bool.Decides.{nat_tests}
 use Rattle.std.proofs.lemmas.List.{append_cancel_left, get_or_default}
-use Rattle.std.proofs.lemmas.List.Elements.{All-head, All-tail, All-nil, All-cons, All-from_recursion}
+use Rattle.std.proofs.lemmas.List.Elements.{All-head, All-tail}
 use Rattle.std.proofs.lemmas.List.Splits.{slice_split_none, slice_split_at}
 use Rattle.std.proofs.lemmas.Str.Parse.{IsNumeralModel, numerals_by_value, tells_digits, not_in_digits}
 use Rattle.std.proofs.lemmas.Fmt.{decimal_is_IsNumeral}
@@ -37,7 +37,7 @@ cut_once c a b x y in_a in_b same =
     let self : (c == c) ≡ true = grind (arith, nat_tests) in
     let test : ℕ → Bool = λ byte. byte == c in
     let parts : a ∷ slice_split test x ≡ b ∷ slice_split test y =
-        sym (slice_split_at test a c x in_a self) ∙ ap (slice_split test) same ∙ slice_split_at test b c y in_b self in
+    sym (slice_split_at test a c x in_a self) ∙ ap (slice_split test) same ∙ slice_split_at test b c y in_b self in
     let first : a ≡ b = cc in
     let rest : c ∷ x ≡ c ∷ y = append_cancel_left b (c ∷ x) (c ∷ y) (ap (λ front. front ++ c ∷ x) (sym first) ∙ same) in
     (first, cc)

@@ -1,9 +1,8 @@
 -- Settings and the words that they are written as.
-use Rattle.std.proofs.Common.{◌≡◌, ◌≢◌, ◌<◌, ◌≤◌, ◌+◌, ◌^◌, ◌==◌, ℕ, zero, suc, Bool, true, false, List, [], ◌∷◌, ◌++◌, Option, Some, None, Bor, All, AllPairs, Contains, cond, map, find, take, length, get_or, decimal, codes, bytes_eq, sym, ap, subst, refl, ◌∙◌, lit<, inl, inr, arith}
-use Rattle.std.specs.List.{slice_split, join_with_byte, list_any, AllByRecursion}
+use Rattle.std.proofs.Common.{◌≡◌, ◌<◌, ◌^◌, ◌==◌, ℕ, zero, suc, Bool, true, false, List, [], ◌∷◌, ◌++◌, Option, Some, None, Bor, All, Contains, cond, map, find, length, get_or, decimal, codes, bytes_eq, sym, ap, subst, refl, ◌∙◌, lit<, inl, inr, arith}
+use Rattle.std.specs.List.{join_with_byte, list_any, AllByRecursion}
 use Rattle.std.specs.Option.{MatchOption}
-use Rattle.std.proofs.lemmas.Bool.{cases_Bool, false≢true, false_from_ne_true, or_parts, and_parts}
-use Rattle.std.proofs.lemmas.Bool.Decides.{nat_tests}
+use Rattle.std.proofs.lemmas.Bool.{cases_Bool, false≢true, or_parts}
 use Rattle.std.proofs.lemmas.List.{length-map}
 use Rattle.std.proofs.lemmas.List.Elements.{All-head, All-tail, All-nil, All-cons, All-map, All-weaker, All-from_recursion, All-contains}
 use Rattle.std.proofs.lemmas.List.Splits.{join_with_byte-slice_split, length-slice_split}
@@ -11,7 +10,7 @@ use Rattle.std.proofs.lemmas.Str.Pattern.{IsSplitOnceResult, split_after, split_
 use Rattle.std.proofs.lemmas.Fmt.{decimal_injective, decimal_is_IsNumeral}
 use Rattle.std.proofs.lemmas.Str.Parse.{digit_at}
 use Rattle.schema.specs.Schema.{spelling_of, key_rules_of}
-use Rattle.cases.specs.Keys.{name_of, settable, key_named, is_named, is_same, are_same_tables}
+use Rattle.cases.specs.Keys.{name_of, settable, key_named, is_named}
 use Rattle.cases.specs.Values.{value_text, Fits, IsValue}
 use Rattle.cases.specs.Sweep.{KeyValues}
 use Rattle.cases.specs.Asked.{setting_text, IsSetting, IsSettingOf, AreValues, list_items}
@@ -19,7 +18,7 @@ use Rattle.cases.specs.declared.keys.SettingKey.{SettingKey}
 use Rattle.cases.specs.declared.values.SettingValue.{SettingValue}
 use Rattle.cases.specs.declared.values.SettingValue.TheVariants.{Whole, Switch}
 use Rattle.cases.proofs.Names.{bytes_eq_true, bytes_eq_same}
-use Rattle.cases.proofs.Words.{Lacks, unlike, lacks_each, decimal_lacks, cut_once, joined_split}
+use Rattle.cases.proofs.Words.{Lacks, unlike, decimal_lacks, cut_once, joined_split}
 
 -- ---- keys
 

@@ -96,7 +96,12 @@ fn named_in_table(table: FormatKey, rows: &[KeyRule], word: &str) -> Option<Sett
 fn is_row_named(table: FormatKey, row: &KeyRule, word: &str) -> bool
     ensures { result ≡ (is_plain row.now.kind && is_named word.now (in_table table row.now.key)) }
 {
-    is_plain(row.kind) && is_dotted(table.text().as_bytes(), row.key.text().as_bytes(), word.as_bytes())
+    is_plain(row.kind)
+        && is_dotted(
+            table.text().as_bytes(),
+            row.key.text().as_bytes(),
+            word.as_bytes(),
+        )
 }
 
 /// Whether a value of this kind is a whole number or a switch.

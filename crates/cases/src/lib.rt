@@ -9,6 +9,8 @@ mod keys;
 mod plan;
 mod seeds;
 mod settings;
+#[cfg(test)]
+mod tests;
 mod values;
 
 pub use choice::Choice;

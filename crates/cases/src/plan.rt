@@ -1,8 +1,9 @@
 //! What words ask a sweep for.
-ghost use Rattle.std.specs.Prelude.{◌≡◌, ◌≤◌, ◌<◌, ◌^◌, ◌*◌, ◌-◌, Some, map, min, slice_get, option_map, IfOk, IfErr};
+ghost use Rattle.std.specs.Prelude.{◌≡◌, ◌≤◌, ◌<◌, ◌^◌, ◌*◌, ◌-◌, Some, All, map, min, slice_get, option_map, IfOk, IfErr};
 ghost use Rattle.std.specs.Option.{ForSome};
 ghost use Rattle.cases.specs.Sweep.{case_count, seed_count, run_count};
-ghost use Rattle.cases.specs.Asked.{AreSettings, AsksForSeeds, IsSweepOf, RefusesSeeds, RefusesSettings, RefusesSweep};
+ghost use Rattle.cases.specs.Asked.{AreSettings, AsksForSeeds, IsSweepOf, RefusesSeeds, RefusesSettings, RefusesSweep, IsSetting};
+ghost use Rattle.cases.specs.Values.{Fits};
 ghost use Rattle.cases.specs.Cases.{cases_of};
 
 use crate::choice::Choice;
@@ -45,11 +46,7 @@ impl Plan {
     ///
     /// Failures: `Words` where a word is none of these, a key stands twice, or there are more than
     /// 1,000,000 runs; `Memory`.
-    pub fn read(
-        alloc: Global,
-        settings: &[&str],
-        seeds: Option<&str>,
-    ) -> Result<Plan, PlanFault>
+    pub fn read(alloc: Global, settings: &[&str], seeds: Option<&str>) -> Result<Plan, PlanFault>
         ensures read { IfOk result (IsSweepOf (map (λ word. word.now) settings.now) (option_map (λ text. text.now) seeds.entry)) }
         ensures refused { IfErr result (RefusesSweep (map (λ word. word.now) settings.now) (option_map (λ text. text.now) seeds.entry)) }
     {
@@ -108,14 +105,17 @@ impl Plan {
         ensures count { result ≡ run_count self.now }
         ensures few { result ≤ 1000000 }
     {
-        self.cases * self.each
+        let each = self.each;
+        each * self.cases
     }
 
     /// The case at a place among all, counted from 0: a value for each of the keys, in their order. The
-    /// last key's values come one after the other.
+    /// last key's values come one after the other. Where the settings are what words asked for, each value
+    /// fits.
     pub fn case_at(&self, alloc: Global, place: usize) -> Result<Vec<Choice>, Memory>
         requires { place < case_count self.now.settings }
-        ensures { IfOk result (λ case. slice_get (cases_of self.now.settings) place ≡ Some case.items) }
+        ensures case { IfOk result (λ case. slice_get (cases_of self.now.settings) place ≡ Some case.items) }
+        ensures fits { All IsSetting self.now.settings → IfOk result (λ case. All (λ c. Fits c.value) case.items) }
     {
         choices(alloc, &self.settings, self.cases, place)
     }

@@ -65,7 +65,11 @@ fn at_most(number: u64) -> Option<u64>
     ensures some { IfSome result (λ n. (n ≡ number) × (n < 2 ^ 63)) }
     ensures none { IsNone result → 2 ^ 63 ≤ number }
 {
-    if number < TOO_LARGE { Some(number) } else { None }
+    if number < TOO_LARGE {
+        Some(number)
+    } else {
+        None
+    }
 }
 
 /// Whether a sign or a leading zero is the first of the bytes.

@@ -1,4 +1,4 @@
-use Rattle.std.proofs.Common.{string_bytes, sym, ap, ◌∙◌}
+use Rattle.std.proofs.Common.{sym, ap, ◌∙◌}
 use Rattle.toml.specs.Data.{table}
 use Rattle.toml.specs.View.{view, members_view}
 use Rattle.toml.proofs.Views.{view-Table}

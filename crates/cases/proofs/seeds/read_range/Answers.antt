@@ -1,4 +1,4 @@
-use Rattle.std.proofs.Common.{◌≡◌, refl, ap, sym, ◌∙◌, is_some, arith}
+use Rattle.std.proofs.Common.{◌≡◌, ap, is_some, arith}
 use Rattle.cases.proofs.Ranges.{unparted, undotted, first_number, last_number, same_number}
 use Rattle.cases.proofs.seeds.read_range.Goals as goal
 

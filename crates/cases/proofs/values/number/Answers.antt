@@ -1,7 +1,7 @@
-use Rattle.std.proofs.Common.{rules, ◌≡◌, ◌∙◌, ◌<◌, ◌≤◌, ◌^◌, ℕ, true, false, sym, ap, subst, arith}
+use Rattle.std.proofs.Common.{rules, ◌≡◌, ◌∙◌, true, false, sym, ap, subst, arith}
 use Rattle.std.proofs.lemmas.Fmt.{decimal_injective}
 use Rattle.std.proofs.lemmas.Option.{IfSome_then}
-use Rattle.cases.specs.Values.{has_prefix, IsNumber}
+use Rattle.cases.specs.Values.{has_prefix}
 use Rattle.std.specs.Fmt.{decimal}
 use Rattle.cases.proofs.Numbers.{parsed, unparsed, unprefixed}
 use Rattle.cases.proofs.values.number.Goals as goal

@@ -1,4 +1,4 @@
-use Rattle.std.proofs.Common.{◌≡◌, ℕ, List, sym, ap, ◌∙◌}
+use Rattle.std.proofs.Common.{ℕ, List, sym, ◌∙◌}
 use Rattle.cases.specs.Sweep.{KeyValues}
 use Rattle.cases.specs.Asked.{IsSettingOf, RefusesSetting, RefusesValues, AreValues, list_items}
 use Rattle.cases.specs.declared.fault.PlanFault.{PlanFault}
