@@ -1,7 +1,6 @@
 -- Members that are marked, each by its place in a list.
-use Rattle.std.proofs.Common.{◌≡◌, ◌+◌, ◌<◌, ℕ, zero, suc, Bool, true, false, cond, ◌||◌, ◌==◌, List, [], ◌∷◌, length, get_or, set, replicate, map, refl, sym, ap, ◌∙◌, arith, add-zero, zero-add, subst, take, ◌++◌}
-use Rattle.std.specs.Prelude.{Option, Some, None, filter, count_by, sum_by, All, IfSome}
-use Rattle.std.specs.Option.{option_map_or}
+use Rattle.std.proofs.Common.{◌≡◌, ◌+◌, ◌<◌, ℕ, suc, Bool, false, cond, ◌||◌, List, [], ◌∷◌, length, get_or, replicate, refl, sym, ap, ◌∙◌, arith, add-zero, zero-add, subst, take, ◌++◌}
+use Rattle.std.specs.Prelude.{filter, count_by, All, IfSome}
 use Rattle.std.specs.List.{list_any, range_with_len}
 use Rattle.std.proofs.lemmas.List.Sums.{sum_by-cons}
 use Rattle.std.proofs.lemmas.List.Elements.{All-map, All-filter, All-weaker, All-same}

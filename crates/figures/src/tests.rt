@@ -13,7 +13,7 @@ use trace::testing::MemorySink;
 use trace::{Row, Sink, What, WriteError};
 
 /// Three members, `n-0` to `n-2`, of which the last is slow from moment 50 to 150.
-const THREE: &str = "version = 2
+pub(crate) const THREE: &str = "version = 2
 seed = 7
 end = 8000
 [swim]
@@ -33,11 +33,11 @@ extra = 20
 ";
 
 /// What figures read of a row: when, whose, what, about whom, the value, whether it was lost.
-type Told = (u64, u16, What, Option<u16>, u64, bool);
+pub(crate) type Told = (u64, u16, What, Option<u16>, u64, bool);
 
 /// Each kind of message once, and a ping that is lost as the bye is; false claims about `n-1` and
 /// `n-2`; then all three crash, of which two are detected.
-const RUN: [Told; 32] = [
+pub(crate) const RUN: [Told; 32] = [
     (0, 0, What::Start, None, 0, false),
     (0, 1, What::Start, None, 0, false),
     (0, 2, What::Start, None, 0, false),
@@ -152,7 +152,7 @@ fn assert_members(rt: &impl Abort, row: &Row, scenario: &Scenario)
 }
 
 /// The tallies of the rows that tell this.
-fn tallies_of(
+pub(crate) fn tallies_of(
     rt: &(impl Abort + AllocGlobal),
     told: &[Told],
     scenario: &Scenario,
