@@ -38,12 +38,7 @@ pub fn judge(alloc: Global, plan: &Plan, document: &Value) -> Result<(), Refused
 }
 
 /// Reads the scenario of the run of this number.
-fn judge_run(
-    alloc: Global,
-    plan: &Plan,
-    document: &Value,
-    number: usize,
-) -> Result<(), Refused>
+fn judge_run(alloc: Global, plan: &Plan, document: &Value, number: usize) -> Result<(), Refused>
     requires asked { IsAskedFor plan.now }
     requires within { number < run_count plan.now }
     ensures accepted { OnOk result (IsAcceptedAt (view document.now) plan.now number) }

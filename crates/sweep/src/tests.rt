@@ -67,11 +67,13 @@ fn write_one(
     table: &mut MemorySink,
 ) -> Result<(), Fail> {
     let [period, timeout] = case;
-    let text = format!(in rt.alloc(); "version = 2\nseed = {seed}\nend = 2000
+    let text = format!(in rt.alloc();
+        "version = 2\nseed = {seed}\nend = 2000
 [swim]\nperiod = {period}\ntimeout = {timeout}\nspread = 1
 [link]\ndelay = 10
 [[group]]\nname = \"n\"\ncount = 3
-[[crash]]\nmember = \"n-1\"\nat = 300\n")?;
+[[crash]]\nmember = \"n-1\"\nat = 300\n"
+    )?;
     let scenario = read(rt.alloc(), text.as_bytes())?;
     let tallies = tally_run(rt.alloc(), &scenario)?;
     let figures = RunFigures::of(rt.alloc(), &tallies, &scenario)?;
@@ -81,10 +83,7 @@ fn write_one(
 }
 
 /// Writes the table of runs that are made one by one.
-fn write_one_by_one(
-    rt: &(impl Abort + AllocGlobal),
-    table: &mut MemorySink,
-) -> Result<(), Fail> {
+fn write_one_by_one(rt: &(impl Abort + AllocGlobal), table: &mut MemorySink) -> Result<(), Fail> {
     assert!(rt; table.failures() < 1 << 62);
     write_header(rt.alloc(), &KEYS, table)?;
     for case in CASES {

@@ -42,7 +42,15 @@ pub(crate) fn write_lines<S: Sink>(
     ensures failures { S.failed table.new ≡ S.failed table.old + sink_failures result }
 {
     for (place, scenario) in scenarios.iter().enumerate() {
-        write_line(alloc, plan, document, from + place, scenario, told[place], table)?;
+        write_line(
+            alloc,
+            plan,
+            document,
+            from + place,
+            scenario,
+            told[place],
+            table,
+        )?;
     }
     Ok(())
 }
