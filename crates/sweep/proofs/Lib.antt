@@ -1,4 +1,3 @@
 mod Flat
-mod Fitting
 mod Handing
 mod Steps

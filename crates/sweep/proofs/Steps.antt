@@ -1,5 +1,6 @@
 -- How the table grows by a line, and why it ends.
-use Rattle.std.proofs.Common.{◌≡◌, ℕ, zero, suc, ◌+◌, ◌<◌, ◌≤◌, List, [], ◌∷◌, ◌++◌, Option, Some, None, refl, sym, ap, subst, ◌∙◌, arith, take, drop, get_or, length, append_assoc, append-nil, ◌⊎◌, inl, inr, ⊎_elim}
+use Rattle.std.proofs.Common.{◌≡◌, ℕ, zero, suc, ◌+◌, ◌<◌, ◌≤◌, List, [], ◌∷◌, ◌++◌, Option, Some, None, refl, sym, ap, subst, ◌∙◌, arith, take, drop, get_or, length, append_assoc, append-nil, ◌⊎◌, inl, inr, ⊎_elim, ◌≢◌, Bool, true, false, eqb, true≢false}
+use Rattle.std.proofs.lemmas.Bool.{eqb-true, eq-eqb}
 use Rattle.std.proofs.lemmas.List.{take_all, take-append-drop, take_more}
 use Rattle.std.proofs.lemmas.List.Concat.{flat_map-append}
 use Rattle.std.proofs.lemmas.List.Elements.{All-drop, All-head, All-push, All-tail}
@@ -75,6 +76,22 @@ module _ (tree : Data) (sweep : Sweep) where
       (λ p. let there : number ≡ from + place = sym long ∙ ap (λ n. from + n) (sym p.0) in
       subst (λ n. IsReadAt tree sweep n t) there (subst (IsReadAt tree sweep number) p.1 here))
       (pushed scenarios s t place e)
+
+  -- a run that is accepted is refused for want of memory alone
+  pub refused_for_memory : (number : ℕ) (p : Planned) (rule : ℕ) → AreAccepted tree sweep → IsRunAt sweep number p
+      → (rule ≢ 11 → verdict_of tree p ≡ Err rule) → rule ≡ 11
+  refused_for_memory number p rule all at broken =
+      let runs = runs_of sweep in
+      let here : IsAccepted tree p =
+      subst (IsAccepted tree) (get_or_from_slice_get runs number p p at) (all number p (slice_get_within runs number p at)) in
+      by (λ other. apart here.0 rule (sym here.1 ∙ broken other)) (eqb rule 11) refl
+    where
+      apart : (s : Setup) (n : ℕ) → ◌≡◌ {A = Result Setup ℕ} (Ok s) (Err n) → ⊥
+      apart s n e = cc
+
+      by : (rule ≢ 11 → ⊥) → (b : Bool) → eqb rule 11 ≡ b → rule ≡ 11
+      by not_other true e = eqb-true rule 11 e
+      by not_other false e = absurd (not_other (λ same. true≢false (sym (eq-eqb rule 11 same) ∙ e)))
 
   -- one more run was judged
   pub accepted_more : (number : ℕ) → IsAcceptedAt tree sweep number → All (IsAccepted tree) (take number (runs_of sweep))

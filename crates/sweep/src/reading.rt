@@ -10,7 +10,7 @@ ghost use Rattle.sweep.specs.Table.{IsReadAt};
 use crate::planned::planned;
 use base::Memory;
 use cases::{Plan, read_with};
-use scenario::Scenario;
+use scenario::{Refusal, Scenario};
 use std::alloc::Global;
 use toml::Value;
 
@@ -49,6 +49,13 @@ fn read_run(alloc: Global, plan: &Plan, document: &Value, number: usize) -> Resu
     let run = planned(alloc, plan, number)?;
     match read_with(alloc, document, &run.case, run.seed) {
         Ok(scenario) => Ok(scenario),
-        Err(_) => Err(Memory),
+        Err(refusal) => Err(memory_of(refusal)),
     }
+}
+
+/// The want of memory that a refusal tells.
+fn memory_of(_refusal: Refusal) -> Memory
+    requires { _refusal.rule ≡ 11 }
+{
+    Memory
 }
