@@ -3,13 +3,8 @@ use Rattle.std.proofs.Common.{◌≡◌, ℕ, ◌+◌, ap, arith, Result, Ok, Er
 use Rattle.std.specs.Prelude.{IfErr, OnErr, OnOk}
 use Rattle.base.specs.declared.fault.Fault.{Fault}
 use Rattle.base.specs.declared.fault.Fault.TheVariants as fault
-use Rattle.toml.specs.Data.{Data}
 use Rattle.scenario.specs.Setup.{Setup}
-use Rattle.trace.specs.Sinks.{failures_of_write}
-use Rattle.trace.specs.declared.write.WriteError.{WriteError}
-use Rattle.trace.specs.declared.write.WriteError.TheVariants as error
-use Rattle.cases.specs.Sweep.{Sweep}
-use Rattle.sweep.specs.Table.{HasCause, IsCauseOf, fault_as}
+use Rattle.sweep.specs.Table.{IsCauseOf}
 use Rattle.exchange.specs.Streams.{sink_failures}
 
 -- what holds holds at an error too

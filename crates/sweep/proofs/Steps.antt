@@ -1,5 +1,5 @@
 -- How the table grows by a line, and why it ends.
-use Rattle.std.proofs.Common.{◌≡◌, ℕ, zero, suc, ◌+◌, ◌<◌, ◌≤◌, List, [], ◌∷◌, ◌++◌, Option, Some, None, refl, sym, ap, subst, ◌∙◌, arith, take, drop, get_or, length, append_assoc, append-nil, ◌⊎◌, inl, inr, ⊎_elim, ◌≢◌, Bool, true, false, eqb, true≢false}
+use Rattle.std.proofs.Common.{◌≡◌, ℕ, zero, suc, ◌+◌, ◌<◌, ◌≤◌, List, [], ◌∷◌, ◌++◌, Option, Some, refl, sym, ap, subst, ◌∙◌, arith, take, drop, get_or, length, append_assoc, append-nil, ◌⊎◌, inl, inr, ⊎_elim, ◌≢◌, Bool, true, false, eqb, true≢false}
 use Rattle.std.proofs.lemmas.Bool.{eqb-true, eq-eqb}
 use Rattle.std.proofs.lemmas.List.{take_all, take-append-drop, take_more}
 use Rattle.std.proofs.lemmas.List.Concat.{flat_map-append}
@@ -18,12 +18,11 @@ use Rattle.trace.specs.declared.row.Row.{Row}
 use Rattle.trace.specs.Sinks.{AppendsBeginning}
 use Rattle.trace.proofs.Beginnings.{Appends-then, beginning-first, beginning-then, beginning-whole, beginning-of}
 use Rattle.member_laws.specs.Runs.{IsRunOf}
-use Rattle.figures.specs.Figures.{figures_of}
 use Rattle.figures.specs.Lines.{header_line, run_line}
 use Rattle.figures.specs.declared.run.RunFigures.{RunFigures}
 use Rattle.cases.specs.Sweep.{Sweep, run_count}
 use Rattle.cases.specs.declared.choice.Choice.{Choice}
-use Rattle.sweep.specs.Runs.{Planned, Made, IsMadeAs, AreMade, IsRunAt, planned_as, runs_of, verdict_of}
+use Rattle.sweep.specs.Runs.{Planned, Made, IsMadeAs, IsRunAt, planned_as, runs_of, verdict_of}
 use Rattle.sweep.specs.Table.{texts_of, names_of, line_of, table_text, HasLines, BeginsLines, WritesTable, BeginsTable, HasCause, IsCauseOf, AreTold, IsReadAt}
 use Rattle.sweep.specs.Judged.{IsAccepted, IsAcceptedAt, AreAccepted}
 use Rattle.sweep.proofs.Flat.{runs_counted}

@@ -1,5 +1,5 @@
 -- Which documents of a sweep keep the format's rules.
-use Rattle.std.specs.Prelude.{◌≡◌, ℕ, List, Ok, Err, All, take}
+use Rattle.std.specs.Prelude.{◌≡◌, ℕ, Ok, Err, All, take}
 use Rattle.toml.specs.Data.{Data}
 use Rattle.scenario.specs.Setup.{Setup, IsSound}
 use Rattle.cases.specs.Sweep.{Sweep}
