@@ -26,7 +26,7 @@ module _ {S C R : Type 0} (step : Machine S C R) (end : ℕ) where
     pub run : Run step end w keys rows last
     pub over : IsOver end last
 
-  run_joins : (ks ls : List Key) (w v u : World S C) (rows more : List R) → Run step end w ks rows v → Run step end v ls more u → Run step end w (ks ++ ls) (rows ++ more) u
+  pub run_joins : (ks ls : List Key) (w v u : World S C) (rows more : List R) → Run step end w ks rows v → Run step end v ls more u → Run step end w (ks ++ ls) (rows ++ more) u
   run_joins [] ls w v u rows more run next =
       subst (λ l. Run step end w ls (l ++ more) u) (sym run.1) (subst (λ x. Run step end x ls more u) run.0 next)
   run_joins (k ∷ ks) ls w v u rows more run next =
@@ -81,7 +81,7 @@ module _ (s : Setup) (sound : IsSound s) (division : ℕ → ℕ) (between : ℕ
 
 -- ---- what a schedule keeps
 
-settled_same : (s : Setup) (w : Cluster) (k : Key) (c : Content) (o : Option State) → get w.members k.to ≡ o → (m : ℕ)
+pub settled_same : (s : Setup) (w : Cluster) (k : Key) (c : Content) (o : Option State) → get w.members k.to ≡ o → (m : ℕ)
     → contains_key (settled w k (option_map (step s k c) o)).members m ≡ contains_key w.members m
 settled_same s w k c None none m = refl
 settled_same s w k c (Some t) here m = same_own w.members k.to t (step s k c t).state here m

@@ -48,7 +48,7 @@ module _ (s : Setup) (sound : IsSound s) where
       let next = worn_next w run.0 k run.1 m t fact run.4 here worn in
       worn_to_end ks run.0 v run.2 m next.0 mid run.5 next.1 next.2
 
-  reached_sound : (keys : List Key) (rows : List Row) (w : Cluster) → Run (step s) s.end (opening s) keys rows w → IsSoundCluster s w
+  pub reached_sound : (keys : List Key) (rows : List Row) (w : Cluster) → Run (step s) s.end (opening s) keys rows w → IsSoundCluster s w
   reached_sound keys rows w run = record {
     states = λ m t here. consistent_reached s sound w m t (keys, rows, run) here;
     events = λ k c here. pending_among s sound w k c (keys, rows, run) here;

@@ -16,6 +16,7 @@ mod slice;
 mod stream;
 mod stream_writer;
 mod tallied;
+mod tallying;
 mod threads;
 mod turns;
 
@@ -26,4 +27,5 @@ pub use laws::{
     the_window_of_all_is_the_run,
 };
 pub use sequential::{Summary, run_one};
+pub use tallying::tally_run;
 pub use workers::{Gate, OpenGate};

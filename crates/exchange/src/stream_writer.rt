@@ -104,24 +104,11 @@ fn write_batch<A: Sink>(
     ensures worn { IsErrOf result Fault.Worn → 2 ^ 63 ≤ length (tallied.old.tallies ++ rows.now) }
     ensures failures { A.failed trace.new ≡ A.failed trace.old + sink_failures result }
 {
-    tally(rows, scenario, tallied)?;
+    tallied.add_all(rows, scenario)?;
     match write_rows(alloc, rows, scenario, trace) {
         Ok(()) => Ok(()),
         Err(error) => Err(fault_of(error)),
     }
-}
-
-/// Tallies rows, up to one that is refused.
-fn tally(rows: &[Row], scenario: &Scenario, tallied: &mut Tallied) -> Result<(), Fault>
-    requires named { All (NamesMembers scenario.now) rows.now }
-    ensures tallied { OnOk result (tallied.new.tallies ≡ tallied.old.tallies ++ rows.now) }
-    ensures worn { IsErrOf result Fault.Worn → 2 ^ 63 ≤ length (tallied.old.tallies ++ rows.now) }
-    ensures causes { IfErr result (λ fault. (fault ≢ Fault.Write) × (fault ≢ Fault.Relay)) }
-{
-    for row in rows {
-        tallied.add(row, scenario)?;
-    }
-    Ok(())
 }
 
 /// Of the faults of the two sides of a run the first in the order in which faults are answered.

@@ -1,4 +1,4 @@
-ghost use Rattle.std.specs.Prelude.{◌≡◌, ◌≢◌, ◌≤◌, ◌++◌, ◌∷◌, [], ◌^◌, length, IfOk, OnOk, IfErr, IsErrOf};
+ghost use Rattle.std.specs.Prelude.{◌≡◌, ◌≢◌, ◌≤◌, ◌++◌, ◌∷◌, [], ◌^◌, length, IfOk, OnOk, IfErr, IsErrOf, All};
 ghost use Rattle.trace.specs.Text.{NamesMembers};
 
 use base::limits::COUNTER_LIMIT;
@@ -41,6 +41,19 @@ impl Tallied {
             Err(AddError::Worn) => return Err(Fault::Worn),
         }
         self.count += 1;
+        Ok(())
+    }
+
+    /// Tallies rows, up to one that is refused. `Worn` where a count of the report would pass 2^63.
+    pub(crate) fn add_all(&mut self, rows: &[Row], scenario: &Scenario) -> Result<(), Fault>
+        requires named { All (NamesMembers scenario.now) rows.now }
+        ensures ok { OnOk result (self.new.tallies ≡ self.old.tallies ++ rows.now) }
+        ensures worn { IsErrOf result Fault.Worn → 2 ^ 63 ≤ length (self.old.tallies ++ rows.now) }
+        ensures causes { IfErr result (λ fault. (fault ≢ Fault.Write) × (fault ≢ Fault.Relay)) }
+    {
+        for row in rows {
+            self.add(row, scenario)?;
+        }
         Ok(())
     }
 }

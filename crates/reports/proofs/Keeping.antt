@@ -1,4 +1,4 @@
--- What one row more makes of the departures and of the makers of false claims that are kept.
+-- What one row more makes of the departures and of the false claims that are kept.
 use Rattle.std.proofs.Common.{◌≡◌, ℕ, ◌+◌, ◌-◌, ◌<◌, ◌^◌, ◌==◌, Bool, true, false, cond, ◌&&◌, ◌||◌, not, List, [], ◌∷◌, ◌++◌, length, get_or, set, take, drop, map, Option, Some, None, refl, sym, ap, subst, ◌∙◌, arith, add-zero, append-nil}
 use Rattle.std.specs.Prelude.{Result, Ok, Err, All, OnOk, OnErr, if◌then◌else◌}
 use Rattle.std.specs.Option.{option_map_or}
@@ -10,13 +10,13 @@ use Rattle.trace.specs.declared.row.What.{What}
 use Rattle.trace.specs.declared.row.What.TheVariants as what
 use Rattle.trace.specs.declared.row.Row.{Row}
 use Rattle.reports.specs.declared.departure.Departure.{Departure}
-use Rattle.reports.specs.declared.false_positives.Maker.{Maker}
+use Rattle.reports.specs.declared.false_positives.FalsePositive.{FalsePositive}
 use Rattle.reports.specs.Rows.{has_kind, is_about, tells_of}
 use Rattle.reports.specs.Departures.{departures_of, crashes_of, leaves_of}
 use Rattle.reports.specs.FalsePositives.{ways_to_depart, departed_by, departed_in, is_about_one}
-use Rattle.reports.specs.Failures.{departure_with, departure_at, is_about_departed, maker_of, makers_of}
+use Rattle.reports.specs.Failures.{departure_with, departure_at, is_about_departed, false_positive_told, false_positives_of}
 use Rattle.reports.proofs.Detections.{tells_of-other, same_detection}
-use Rattle.reports.proofs.Pushes.{departures_of-push, makers_of-push, departed_member, departed_members}
+use Rattle.reports.proofs.Pushes.{departures_of-push, false_positives_of-push, departed_member, departed_members}
 
 -- ---- departures of which a row tells nothing
 
@@ -76,10 +76,10 @@ few_here row these now i x lt so_far few =
 
 -- ---- kinds of rows
 
--- the claim of which a row doesn't tell has no new maker
-pub other_claim : (claim : What) (rows : List Row) (row : Row) → has_kind claim row ≡ false → makers_of claim (rows ++ row ∷ []) ≡ makers_of claim rows
+-- the claim of which a row doesn't tell has no new false positive
+pub other_claim : (claim : What) (rows : List Row) (row : Row) → has_kind claim row ≡ false → false_positives_of claim (rows ++ row ∷ []) ≡ false_positives_of claim rows
 other_claim claim rows row other =
-    makers_of-push claim rows row ∙ ap (λ b. makers_of claim rows ++ cond (b && not (is_about_one (departed_in ways_to_depart rows) row)) (maker_of row ∷ []) []) other ∙ append-nil (makers_of claim rows)
+    false_positives_of-push claim rows row ∙ ap (λ b. false_positives_of claim rows ++ cond (b && not (is_about_one (departed_in ways_to_depart rows) row)) (false_positive_told row ∷ []) []) other ∙ append-nil (false_positives_of claim rows)
 
 -- whether a row is about one of those who departed
 list_any-members : (departures : List Departure) (about : ℕ) → list_any (λ m. m == about) (map departed_member departures) ≡ list_any (λ d. d.member == about) departures
@@ -117,20 +117,20 @@ about_departed rows row =
     these : (way : What) → is_about_one (departed_by rows way) row ≡ is_about_departed (departures_of way rows) row
     these way = ap (λ members. is_about_one members row) (sym (departed_members way rows)) ∙ about_these (departures_of way rows) row
 
-not_then : (b : Bool) (maker : Maker) → cond (not b) (maker ∷ []) [] ≡ (if b then [] else maker ∷ [])
-not_then true maker = refl
-not_then false maker = refl
+not_then : (b : Bool) (kept : FalsePositive) → cond (not b) (kept ∷ []) [] ≡ (if b then [] else kept ∷ [])
+not_then true kept = refl
+not_then false kept = refl
 
--- a claim has a new maker, if it is about none of those who departed
-pub own_claim : (claim : What) (rows : List Row) (row : Row) (crashes leaves : List Departure) (old new : List Maker) → has_kind claim row ≡ true → crashes ≡ crashes_of rows → leaves ≡ leaves_of rows
-    → new ≡ old ++ (if is_about_departed crashes row || is_about_departed leaves row then [] else maker_of row ∷ []) → old ≡ makers_of claim rows → new ≡ makers_of claim (rows ++ row ∷ [])
+-- a claim has a new false positive, if it is about none of those who departed
+pub own_claim : (claim : What) (rows : List Row) (row : Row) (crashes leaves : List Departure) (old new : List FalsePositive) → has_kind claim row ≡ true → crashes ≡ crashes_of rows → leaves ≡ leaves_of rows
+    → new ≡ old ++ (if is_about_departed crashes row || is_about_departed leaves row then [] else false_positive_told row ∷ []) → old ≡ false_positives_of claim rows → new ≡ false_positives_of claim (rows ++ row ∷ [])
 own_claim claim rows row crashes leaves old new told crashed left is so_far =
-    is ∙ ap (λ l. l ++ (if is_about_departed crashes row || is_about_departed leaves row then [] else maker_of row ∷ [])) so_far
-    ∙ ap (λ ds. makers_of claim rows ++ (if is_about_departed ds row || is_about_departed leaves row then [] else maker_of row ∷ [])) crashed
-    ∙ ap (λ ds. makers_of claim rows ++ (if is_about_departed (crashes_of rows) row || is_about_departed ds row then [] else maker_of row ∷ [])) left
-    ∙ sym (makers_of-push claim rows row ∙ ap (λ b. makers_of claim rows ++ cond (b && not (is_about_one (departed_in ways_to_depart rows) row)) (maker_of row ∷ []) []) told
-    ∙ ap (λ b. makers_of claim rows ++ cond (not b) (maker_of row ∷ []) []) (about_departed rows row)
-    ∙ ap (λ l. makers_of claim rows ++ l) (not_then (is_about_departed (crashes_of rows) row || is_about_departed (leaves_of rows) row) (maker_of row)))
+    is ∙ ap (λ l. l ++ (if is_about_departed crashes row || is_about_departed leaves row then [] else false_positive_told row ∷ [])) so_far
+    ∙ ap (λ ds. false_positives_of claim rows ++ (if is_about_departed ds row || is_about_departed leaves row then [] else false_positive_told row ∷ [])) crashed
+    ∙ ap (λ ds. false_positives_of claim rows ++ (if is_about_departed (crashes_of rows) row || is_about_departed ds row then [] else false_positive_told row ∷ [])) left
+    ∙ sym (false_positives_of-push claim rows row ∙ ap (λ b. false_positives_of claim rows ++ cond (b && not (is_about_one (departed_in ways_to_depart rows) row)) (false_positive_told row ∷ []) []) told
+    ∙ ap (λ b. false_positives_of claim rows ++ cond (not b) (false_positive_told row ∷ []) []) (about_departed rows row)
+    ∙ ap (λ l. false_positives_of claim rows ++ l) (not_then (is_about_departed (crashes_of rows) row || is_about_departed (leaves_of rows) row) (false_positive_told row)))
 
 -- a row that isn't of a departure makes none
 pub no_departure : (way : What) (rows : List Row) (row : Row) → has_kind way row ≡ false → departures_of way (rows ++ row ∷ []) ≡ map (departure_with row) (departures_of way rows)

@@ -1,4 +1,4 @@
--- How many made false claims, and how many of them were healthy.
+-- How many claims were false, and how many of them were made by healthy members.
 use Rattle.std.proofs.Common.{◌≡◌, ◌<◌, suc, Bool, true, false, cond, ◌&&◌, List, [], ◌∷◌, length, map, refl, sym, ap, ◌∙◌}
 use Rattle.std.specs.Prelude.{filter, count_by, All}
 use Rattle.std.proofs.lemmas.List.{length-map}
@@ -10,9 +10,9 @@ use Rattle.trace.specs.declared.row.Row.{Row}
 use Rattle.trace.specs.Text.{NamesMembers}
 use Rattle.reports.specs.Rows.{rows_in_place}
 use Rattle.reports.specs.FalsePositives.{ways_to_depart, is_false_positive, is_healthy_false_positive, false_positives, healthy_false_positives}
-use Rattle.reports.specs.Failures.{makers_of, is_healthy_maker}
+use Rattle.reports.specs.Failures.{false_positives_of, is_healthy_maker}
 use Rattle.reports.proofs.Places.{All-placed_after}
-use Rattle.reports.proofs.Pushes.{placed_maker}
+use Rattle.reports.proofs.Pushes.{placed_false_positive}
 
 module _ {X Y : Type 0} (make : X → Y) (kept : X → Bool) (test : Y → Bool) where
   made_one : (keep : Bool) (x : X) (xs : List X) → filter test (map make (cond keep (x ∷ xs) xs)) ≡ cond (keep && test (make x)) (make x ∷ filter test (map make xs)) (filter test (map make xs))
@@ -30,18 +30,18 @@ module _ {X Y : Type 0} (make : X → Y) (kept : X → Bool) (test : Y → Bool)
       ap length (made_one (kept x) x (filter kept xs))
       ∙ longer (kept x && test (make x)) (make x) x (filter test (map make (filter kept xs))) (filter (λ x. kept x && test (make x)) xs) (count_made xs)
 
-pub all_makers : (claim : What) (rows : List Row) → length (makers_of claim rows) ≡ false_positives ways_to_depart claim rows
-all_makers claim rows = length-map (filter (is_false_positive ways_to_depart claim) (rows_in_place rows)) placed_maker ∙ length-filter (is_false_positive ways_to_depart claim) (rows_in_place rows)
+pub all_false_positives : (claim : What) (rows : List Row) → length (false_positives_of claim rows) ≡ false_positives ways_to_depart claim rows
+all_false_positives claim rows = length-map (filter (is_false_positive ways_to_depart claim) (rows_in_place rows)) placed_false_positive ∙ length-filter (is_false_positive ways_to_depart claim) (rows_in_place rows)
 
-pub healthy_makers : (s : Setup) (claim : What) (rows : List Row) → count_by (is_healthy_maker s) (makers_of claim rows) ≡ healthy_false_positives s ways_to_depart claim rows
+pub healthy_makers : (s : Setup) (claim : What) (rows : List Row) → count_by (is_healthy_maker s) (false_positives_of claim rows) ≡ healthy_false_positives s ways_to_depart claim rows
 healthy_makers s claim rows =
-    sym (length-filter (is_healthy_maker s) (makers_of claim rows))
-    ∙ count_made placed_maker (is_false_positive ways_to_depart claim) (is_healthy_maker s) (rows_in_place rows)
+    sym (length-filter (is_healthy_maker s) (false_positives_of claim rows))
+    ∙ count_made placed_false_positive (is_false_positive ways_to_depart claim) (is_healthy_maker s) (rows_in_place rows)
     ∙ length-filter (is_healthy_false_positive s ways_to_depart claim) (rows_in_place rows)
 
--- who makes a false claim is a member where the rows name members alone
-pub makers_are_members : (s : Setup) (claim : What) (rows : List Row) → All (NamesMembers s) rows → All (λ maker. maker.member < member_count s) (makers_of claim rows)
+-- whoever makes a false claim is a member where the rows name members alone
+pub makers_are_members : (s : Setup) (claim : What) (rows : List Row) → All (NamesMembers s) rows → All (λ claim. claim.member < member_count s) (false_positives_of claim rows)
 makers_are_members s claim rows named =
-    All-map (λ maker. maker.member < member_count s) placed_maker (filter (is_false_positive ways_to_depart claim) (rows_in_place rows))
+    All-map (λ claim. claim.member < member_count s) placed_false_positive (filter (is_false_positive ways_to_depart claim) (rows_in_place rows))
     (All-filter (is_false_positive ways_to_depart claim) (λ p. p.row.member < member_count s) (rows_in_place rows)
     (All-placed_after (λ row. row.member < member_count s) [] rows (All-weaker (NamesMembers s) (λ row. row.member < member_count s) (λ row names. names.member) rows named)))

@@ -9,11 +9,11 @@ use Rattle.trace.specs.declared.row.What.TheVariants as what
 use Rattle.trace.specs.declared.row.Row.{Row}
 use Rattle.reports.specs.declared.departure.Detection.{Detection}
 use Rattle.reports.specs.declared.departure.Departure.{Departure}
-use Rattle.reports.specs.declared.false_positives.Maker.{Maker}
+use Rattle.reports.specs.declared.false_positives.FalsePositive.{FalsePositive}
 use Rattle.reports.specs.Rows.{Placed, rows_in_place, placed_after, has_kind, tells_of}
 use Rattle.reports.specs.Departures.{departure_told, is_departure, departures_of}
 use Rattle.reports.specs.FalsePositives.{ways_to_depart, departed_by, departed_in, is_false_claim, is_false_positive}
-use Rattle.reports.specs.Failures.{departure_with, departure_at, maker_of, makers_of}
+use Rattle.reports.specs.Failures.{departure_with, departure_at, false_positive_told, false_positives_of}
 use Rattle.reports.proofs.Detections.{detection-push}
 
 -- a row in its place, with one row more after it
@@ -76,22 +76,22 @@ departures_of-push way rows row =
     ∙ ap (λ l. l ++ map departure_told (cond (has_kind way row) (last_placed rows row ∷ []) [])) (departures-later row (filter (is_departure way) (rows_in_place rows)))
     ∙ ap (λ l. map (departure_with row) (departures_of way rows) ++ l) (made-one departure_told (has_kind way row) (last_placed rows row))
 
--- ---- who made false claims
+-- ---- false claims
 
-abbrev pub placed_maker : Placed → Maker
-placed_maker p = maker_of p.row
+abbrev pub placed_false_positive : Placed → FalsePositive
+placed_false_positive p = false_positive_told p.row
 
-makers-later : (row : Row) (ps : List Placed) → map placed_maker (map (with_later row) ps) ≡ map placed_maker ps
-makers-later row [] = refl
-makers-later row (p ∷ ps) = ap (λ l. maker_of p.row ∷ l) (makers-later row ps)
+false_positives-later : (row : Row) (ps : List Placed) → map placed_false_positive (map (with_later row) ps) ≡ map placed_false_positive ps
+false_positives-later row [] = refl
+false_positives-later row (p ∷ ps) = ap (λ l. false_positive_told p.row ∷ l) (false_positives-later row ps)
 
-pub makers_of-push : (claim : What) (rows : List Row) (row : Row)
-    → makers_of claim (rows ++ row ∷ []) ≡ makers_of claim rows ++ cond (is_false_claim claim (departed_in ways_to_depart rows) row) (maker_of row ∷ []) []
-makers_of-push claim rows row =
-    ap (map placed_maker) (kept-push (is_false_positive ways_to_depart claim) rows row (λ p. refl))
-    ∙ map-append placed_maker (map (with_later row) (filter (is_false_positive ways_to_depart claim) (rows_in_place rows))) (cond (is_false_claim claim (departed_in ways_to_depart rows) row) (last_placed rows row ∷ []) [])
-    ∙ ap (λ l. l ++ map placed_maker (cond (is_false_claim claim (departed_in ways_to_depart rows) row) (last_placed rows row ∷ []) [])) (makers-later row (filter (is_false_positive ways_to_depart claim) (rows_in_place rows)))
-    ∙ ap (λ l. makers_of claim rows ++ l) (made-one placed_maker (is_false_claim claim (departed_in ways_to_depart rows) row) (last_placed rows row))
+pub false_positives_of-push : (claim : What) (rows : List Row) (row : Row)
+    → false_positives_of claim (rows ++ row ∷ []) ≡ false_positives_of claim rows ++ cond (is_false_claim claim (departed_in ways_to_depart rows) row) (false_positive_told row ∷ []) []
+false_positives_of-push claim rows row =
+    ap (map placed_false_positive) (kept-push (is_false_positive ways_to_depart claim) rows row (λ p. refl))
+    ∙ map-append placed_false_positive (map (with_later row) (filter (is_false_positive ways_to_depart claim) (rows_in_place rows))) (cond (is_false_claim claim (departed_in ways_to_depart rows) row) (last_placed rows row ∷ []) [])
+    ∙ ap (λ l. l ++ map placed_false_positive (cond (is_false_claim claim (departed_in ways_to_depart rows) row) (last_placed rows row ∷ []) [])) (false_positives-later row (filter (is_false_positive ways_to_depart claim) (rows_in_place rows)))
+    ∙ ap (λ l. false_positives_of claim rows ++ l) (made-one placed_false_positive (is_false_claim claim (departed_in ways_to_depart rows) row) (last_placed rows row))
 
 -- ---- who departed
 

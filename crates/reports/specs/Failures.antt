@@ -8,7 +8,7 @@ use Rattle.trace.specs.declared.row.What.TheVariants as what
 use Rattle.trace.specs.declared.row.Row.{Row}
 use Rattle.reports.specs.declared.departure.Detection.{Detection}
 use Rattle.reports.specs.declared.departure.Departure.{Departure}
-use Rattle.reports.specs.declared.false_positives.Maker.{Maker}
+use Rattle.reports.specs.declared.false_positives.FalsePositive.{FalsePositive}
 use Rattle.reports.specs.declared.failures.Failures.{Failures}
 use Rattle.reports.specs.Rows.{rows_in_place, tells_of}
 use Rattle.reports.specs.Departures.{detection_of, crashes_of, leaves_of}
@@ -44,21 +44,21 @@ departure_at row = record { member = row.member; at = row.at; detection = detect
 abbrev pub is_about_departed : List Departure → Row → Bool
 is_about_departed departures row = option_map_or (λ about. list_any (λ departure. departure.member == about) departures) row.about false
 
--- whose row it is, and when
-abbrev pub maker_of : Row → Maker
-maker_of row = record { member = row.member; at = row.at }
+-- what is kept of a row that is a false positive: whose it is, of whom it tells, and when
+abbrev pub false_positive_told : Row → FalsePositive
+false_positive_told row = record { member = row.member; about = row.about; at = row.at }
 
--- who made the false positives of a claim, in the order of the trace
-abbrev pub makers_of : What → List Row → List Maker
-makers_of claim rows = map (λ p. maker_of p.row) (filter (is_false_positive ways_to_depart claim) (rows_in_place rows))
+-- the false positives of a claim, in the order of the trace
+abbrev pub false_positives_of : What → List Row → List FalsePositive
+false_positives_of claim rows = map (λ p. false_positive_told p.row) (filter (is_false_positive ways_to_depart claim) (rows_in_place rows))
 
--- the maker of a claim wasn't slow when it made it
-abbrev pub is_healthy_maker : Setup → Maker → Bool
-is_healthy_maker s maker = extra_of s maker.member maker.at == 0
+-- whoever made the claim wasn't slow then
+abbrev pub is_healthy_maker : Setup → FalsePositive → Bool
+is_healthy_maker s claim = extra_of s claim.member claim.at == 0
 
 -- what is kept is what these rows tell
 pub record AreFailuresOf (failures : Failures) (rows : List Row) : Type 0 where
   pub crashed : failures.crashes.items ≡ crashes_of rows
   pub left : failures.leaves.items ≡ leaves_of rows
-  pub suspected : failures.suspicions.items ≡ makers_of what.Suspect rows
-  pub confirmed : failures.confirmations.items ≡ makers_of what.Confirm rows
+  pub suspected : failures.suspicions.items ≡ false_positives_of what.Suspect rows
+  pub confirmed : failures.confirmations.items ≡ false_positives_of what.Confirm rows

@@ -12,15 +12,15 @@ use trace::{Row, What};
 
 /// What the rows after a member's departure tell of it.
 #[derive(Clone, Copy)]
-pub(crate) struct Detection {
+pub struct Detection {
     /// When the member was first suspected.
-    pub(crate) suspect: Option<Moment>,
+    pub suspect: Option<Moment>,
     /// When it was first confirmed to have failed.
-    pub(crate) confirm: Option<Moment>,
+    pub confirm: Option<Moment>,
     /// When it was last confirmed to have failed.
-    pub(crate) last: Option<Moment>,
+    pub last: Option<Moment>,
     /// How often it was confirmed to have failed.
-    pub(crate) confirmers: u64,
+    pub confirmers: u64,
 }
 
 impl Detection {
@@ -61,11 +61,13 @@ impl Detection {
 
 /// A crash or a leave, and how it was detected.
 #[derive(Clone, Copy)]
-pub(crate) struct Departure {
+pub struct Departure {
     /// Who departed.
-    pub(crate) member: MemberId,
-    pub(crate) at: Moment,
-    pub(crate) detection: Detection,
+    pub member: MemberId,
+    /// When it departed.
+    pub at: Moment,
+    /// What later rows tell of it.
+    pub detection: Detection,
 }
 
 impl Departure {
@@ -77,8 +79,8 @@ impl Departure {
         self.detection.see(row, self.member);
     }
 
-    /// How many ticks it took until a first member confirmed the departure.
-    pub(crate) fn latency(&self) -> Option<u64>
+    /// How many ticks it took until a first member confirmed the departure, where one did.
+    pub fn latency(&self) -> Option<u64>
         ensures { result ≡ latency_of self.now }
     {
         let confirm = self.detection.confirm?;

@@ -1,10 +1,10 @@
-//! The members that departed in the rows so far, and who made false claims.
+//! The members that departed in the rows so far, and which claims were false.
 ghost use Rattle.std.specs.Prelude.{◌≡◌, ◌<◌, ◌^◌, ◌++◌, ◌∷◌, ◌||◌, [], List, length, map, OnOk, OnErr, All, if◌then◌else◌};
 ghost use Rattle.trace.specs.declared.row.Row.{Row as AnyRow};
-ghost use Rattle.reports.specs.Failures.{departure_with, maker_of, is_about_departed, AreFailuresOf};
+ghost use Rattle.reports.specs.Failures.{departure_with, false_positive_told, is_about_departed, AreFailuresOf};
 
 use crate::departure::{Departure, add_departure, is_about_departed, see_each};
-use crate::false_positives::Maker;
+use crate::false_positives::FalsePositive;
 use std::alloc::{AllocError, Global};
 use trace::{Row, What};
 
@@ -15,10 +15,10 @@ pub(crate) struct Failures {
     pub(crate) crashes: Vec<Departure>,
     /// The leaves, likewise.
     pub(crate) leaves: Vec<Departure>,
-    /// Who suspected a member that had not departed.
-    pub(crate) suspicions: Vec<Maker>,
-    /// Who confirmed that a member failed which had not departed.
-    pub(crate) confirmations: Vec<Maker>,
+    /// The suspicions of members that had not departed.
+    pub(crate) suspicions: Vec<FalsePositive>,
+    /// The confirmations that a member failed which had not departed.
+    pub(crate) confirmations: Vec<FalsePositive>,
 }
 
 impl Failures {
@@ -62,7 +62,7 @@ impl Failures {
 
 /// Takes in a claim that a member failed: it is told of that member's departures, or it is false.
 fn add_claim(
-    makers: &mut Vec<Maker>,
+    claims: &mut Vec<FalsePositive>,
     crashes: &mut Vec<Departure>,
     leaves: &mut Vec<Departure>,
     row: &Row,
@@ -71,18 +71,18 @@ fn add_claim(
     requires leaves { All (λ departure. departure.detection.confirmers < 2 ^ 63) leaves.old.items }
     ensures crashes { OnOk result (crashes.new.items ≡ map (departure_with row.now) crashes.old.items) }
     ensures leaves { OnOk result (leaves.new.items ≡ map (departure_with row.now) leaves.old.items) }
-    ensures makers { OnOk result (makers.new.items ≡ makers.old.items
-        ++ (if is_about_departed crashes.old.items row.now || is_about_departed leaves.old.items row.now then [] else maker_of row.now ∷ [])) }
+    ensures claims { OnOk result (claims.new.items ≡ claims.old.items
+        ++ (if is_about_departed crashes.old.items row.now || is_about_departed leaves.old.items row.now then [] else false_positive_told row.now ∷ [])) }
     ensures crashes_kept { OnErr result (crashes.new.items ≡ crashes.old.items) }
     ensures leaves_kept { OnErr result (leaves.new.items ≡ leaves.old.items) }
-    ensures makers_kept { OnErr result (makers.new.items ≡ makers.old.items) }
+    ensures claims_kept { OnErr result (claims.new.items ≡ claims.old.items) }
 {
     if is_about_either(row, crashes, leaves) {
         see_each(crashes, row);
         see_each(leaves, row);
         return Ok(());
     }
-    makers.push(Maker::new(row))?;
+    claims.push(FalsePositive::new(row))?;
     Ok(())
 }
 

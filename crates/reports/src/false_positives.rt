@@ -3,32 +3,38 @@ ghost use Rattle.std.specs.Prelude.{◌≡◌, ◌<◌, All, count_by, ◌⊎◌
 ghost use Rattle.scenario.specs.Setup.{member_count};
 ghost use Rattle.trace.specs.Text.{NamesMembers};
 ghost use Rattle.reports.specs.FalsePositives.{ways_to_depart, false_positives, healthy_false_positives};
-ghost use Rattle.reports.specs.Failures.{maker_of, is_healthy_maker};
+ghost use Rattle.reports.specs.Failures.{false_positive_told, is_healthy_maker};
 
 use crate::tallies::Tallies;
 use base::{MemberId, Moment};
 use scenario::Scenario;
 use trace::{Row, What};
 
-/// Who made a false claim, and when. Whether it was healthy then is the scenario's to say.
+/// A claim that a member failed though it had not departed. Whether its maker was healthy then is
+/// the scenario's to say.
 #[derive(Clone, Copy)]
-pub(crate) struct Maker {
-    pub(crate) member: MemberId,
-    pub(crate) at: Moment,
+pub struct FalsePositive {
+    /// Who made the claim.
+    pub member: MemberId,
+    /// Of whom it was made.
+    pub about: Option<MemberId>,
+    /// When it was made.
+    pub at: Moment,
 }
 
-impl Maker {
-    /// Whose row it is, and when.
-    pub(crate) fn new(row: &Row) -> Maker
-        ensures { result ≡ maker_of row.now }
+impl FalsePositive {
+    /// What is kept of a row that is one.
+    pub(crate) fn new(row: &Row) -> FalsePositive
+        ensures { result ≡ false_positive_told row.now }
     {
-        Maker {
+        FalsePositive {
             member: row.member,
+            about: row.about,
             at: row.at,
         }
     }
 
-    /// Whether the maker wasn't slow then.
+    /// Whether whoever made the claim wasn't slow then.
     fn is_healthy(&self, scenario: &Scenario) -> bool
         requires { self.now.member < member_count scenario.now }
         ensures { result ≡ is_healthy_maker scenario.now self.now }
@@ -37,31 +43,33 @@ impl Maker {
     }
 }
 
-/// How many false positives of this claim, a suspicion or a confirmation, there are.
-pub(crate) fn false_positives(tallies: &Tallies, claim: What) -> usize
+/// How many false positives of a claim, a suspicion or a confirmation, there are.
+pub fn false_positive_count(tallies: &Tallies, claim: What) -> usize
     requires { (claim ≡ What.Suspect) ⊎ (claim ≡ What.Confirm) }
     ensures { result ≡ false_positives ways_to_depart claim tallies.now }
 {
-    tallies.makers(claim).len()
+    tallies.false_positives(claim).len()
 }
 
-/// How many of them are at healthy members.
-pub(crate) fn healthy_false_positives(tallies: &Tallies, claim: What, scenario: &Scenario) -> usize
+/// How many false positives of a claim, a suspicion or a confirmation, are at healthy members: at
+/// those that the scenario doesn't slow at that moment. The rows must name members of its cluster
+/// alone.
+pub fn healthy_false_positive_count(tallies: &Tallies, claim: What, scenario: &Scenario) -> usize
     requires claim { (claim ≡ What.Suspect) ⊎ (claim ≡ What.Confirm) }
     requires named { All (NamesMembers scenario.now) tallies.now }
     ensures { result ≡ healthy_false_positives scenario.now ways_to_depart claim tallies.now }
 {
-    count_healthy(tallies.makers(claim), scenario)
+    count_healthy(tallies.false_positives(claim), scenario)
 }
 
-/// How many of these were healthy.
-fn count_healthy(makers: &[Maker], scenario: &Scenario) -> usize
-    requires { All (λ maker. maker.member < member_count scenario.now) makers.now }
-    ensures { result ≡ count_by (is_healthy_maker scenario.now) makers.now }
+/// How many of these claims were made by healthy members.
+fn count_healthy(claims: &[FalsePositive], scenario: &Scenario) -> usize
+    requires { All (λ claim. claim.member < member_count scenario.now) claims.now }
+    ensures { result ≡ count_by (is_healthy_maker scenario.now) claims.now }
 {
     let mut count = 0;
-    for maker in makers {
-        if maker.is_healthy(scenario) {
+    for claim in claims {
+        if claim.is_healthy(scenario) {
             count += 1;
         }
     }

@@ -94,8 +94,8 @@ fn text_of(alloc: Global, tallies: &Tallies, scenario: &Scenario) -> Result<Stri
     Ok(text)
 }
 
-/// The kinds of message of a version, in the order of the report.
-fn message_kinds(version: Version) -> &'static [What]
+/// The kinds of message of a version of the format, in the order of the report.
+pub fn message_kinds(version: Version) -> &'static [What]
     ensures { result.now ≡ message_kinds version }
 {
     match version {

@@ -3,12 +3,12 @@ ghost use Rattle.std.specs.Prelude.{◌≡◌, ◌≤◌, ◌^◌, [], ◌∷◌
 ghost use Rattle.trace.specs.Text.{NamesMembers};
 ghost use Rattle.reports.specs.Rows.{count_of, losses_of, worst_health};
 ghost use Rattle.reports.specs.Departures.{crashes_of, leaves_of};
-ghost use Rattle.reports.specs.Failures.{makers_of};
+ghost use Rattle.reports.specs.Failures.{false_positives_of};
 
 use crate::counts::Counts;
 use crate::departure::Departure;
 use crate::failures::Failures;
-use crate::false_positives::Maker;
+use crate::false_positives::FalsePositive;
 use crate::past::Past;
 use base::Memory;
 use base::limits::COUNTER_LIMIT;
@@ -29,7 +29,7 @@ pub enum AddError {
 }
 
 /// The rows of a run so far, in the order in which they came. It keeps of them what a report tells:
-/// counts, for each crash and leave how it was detected, and who made which false claim.
+/// counts, for each crash and leave how it was detected, and the false claims.
 #[derive(Drop)]
 pub struct Tallies {
     past: Past,
@@ -83,21 +83,21 @@ impl Tallies {
     }
 
     /// How many rows there are.
-    pub(crate) fn rows(&self) -> u64
+    pub fn rows(&self) -> u64
         ensures { result ≡ length self.now }
     {
         self.counts.rows
     }
 
-    /// How many rows tell of this.
-    pub(crate) fn told(&self, kind: What) -> u64
+    /// How many rows tell of this. Of a kind of message, each sending has one.
+    pub fn told(&self, kind: What) -> u64
         ensures { result ≡ count_of kind self.now }
     {
         self.counts.told(kind)
     }
 
     /// How many sendings of this kind were lost.
-    pub(crate) fn lost(&self, kind: What) -> u64
+    pub fn lost(&self, kind: What) -> u64
         ensures { result ≡ losses_of kind self.now }
     {
         self.counts.lost(kind)
@@ -105,14 +105,14 @@ impl Tallies {
 
     /// The highest local health counter that any member reached, 0 where none changed (Lifeguard's
     /// LHA-Probe).
-    pub(crate) fn worst_health(&self) -> u64
+    pub fn worst_health(&self) -> u64
         ensures { result ≡ worst_health self.now }
     {
         self.counts.worst_health
     }
 
-    /// The crashes, in the order of the rows.
-    pub(crate) fn crashes(&self) -> &[Departure]
+    /// The crashes, in the order of the rows, and how each was detected.
+    pub fn crashes(&self) -> &[Departure]
         ensures { result.now ≡ crashes_of self.now }
     {
         self.failures.crashes.as_slice()
@@ -125,10 +125,10 @@ impl Tallies {
         self.failures.leaves.as_slice()
     }
 
-    /// Who made the false positives of this claim, a suspicion or a confirmation.
-    pub(crate) fn makers(&self, claim: What) -> &[Maker]
+    /// The false positives of a claim, a suspicion or a confirmation, in the order of the rows.
+    pub fn false_positives(&self, claim: What) -> &[FalsePositive]
         requires { (claim ≡ What.Suspect) ⊎ (claim ≡ What.Confirm) }
-        ensures { result.now ≡ makers_of claim self.now }
+        ensures { result.now ≡ false_positives_of claim self.now }
     {
         match claim {
             What::Suspect => self.failures.suspicions.as_slice(),

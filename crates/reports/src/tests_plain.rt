@@ -120,8 +120,8 @@ pub(crate) fn assert_tallied(rt: &impl Abort, tallies: &Tallies, rows: &[Row]) {
         assert!(rt; tallies.lost(kind) == losses_of(kind, rows));
     }
     assert!(rt; tallies.worst_health() == worst_health(rows));
-    assert!(rt; tallies.makers(What::Suspect).len() == false_claims(What::Suspect, rows));
-    assert!(rt; tallies.makers(What::Confirm).len() == false_claims(What::Confirm, rows));
+    assert!(rt; tallies.false_positives(What::Suspect).len() == false_claims(What::Suspect, rows));
+    assert!(rt; tallies.false_positives(What::Confirm).len() == false_claims(What::Confirm, rows));
     assert_departures(rt, What::Crash, tallies.crashes(), rows);
     assert_departures(rt, What::Leave, tallies.leaves(), rows);
 }

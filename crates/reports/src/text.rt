@@ -9,7 +9,7 @@ ghost use Rattle.reports.specs.FalsePositives.{ways_to_depart};
 ghost use Rattle.reports.specs.Text.{figure, count_line, size_lines, crash_line, leave_line, leave_lines, latency_line, latencies_line, false_line, false_claim_line, sent_line, message_line, protocol_lines};
 
 use crate::departure::Departure;
-use crate::false_positives::{false_positives, healthy_false_positives};
+use crate::false_positives::{false_positive_count, healthy_false_positive_count};
 use crate::tallies::Tallies;
 use base::Moment;
 use scenario::{Scenario, Version};
@@ -194,8 +194,8 @@ pub(crate) fn push_false_positives(
         ≡ string_bytes text.old ++ false_claim_line scenario.now ways_to_depart tallies.now claim) }
 {
     let word = claim.word();
-    let all = false_positives(tallies, claim);
-    let healthy = healthy_false_positives(tallies, claim, scenario);
+    let all = false_positive_count(tallies, claim);
+    let healthy = healthy_false_positive_count(tallies, claim, scenario);
     writeln!(text, "false {word} {all} healthy {healthy}")
 }
 

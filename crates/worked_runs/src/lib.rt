@@ -16,6 +16,8 @@ mod reports_tests;
 mod runs_tests;
 #[cfg(test)]
 mod seeds_tests;
+#[cfg(test)]
+mod tallied_tests;
 mod texts;
 #[cfg(test)]
 mod turns_tests;

@@ -90,7 +90,7 @@ fn gate_two_parts(rt: HostRuntime) {
 }
 
 /// A quiet cluster whose trace is several batches long.
-const MANY_ROWS: &str =
+pub(crate) const MANY_ROWS: &str =
     scenario_text!(end 12000, seed 3, period 100, timeout 30, delay 2; group "n" of 64);
 
 #[test]

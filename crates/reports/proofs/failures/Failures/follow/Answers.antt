@@ -58,12 +58,12 @@ returns-in-Suspect-clause-ok c =
       left = leaves ∙ ap (map (departure_with row)) are.left ∙ sym (no_departure what.Leave rows row (has_kind-same what.Suspect what.Leave row is));
       suspected = own_claim what.Suspect rows row _ _ _ _ (has_kind-same what.Suspect what.Suspect row is) are.crashed are.left made are.suspected;
       confirmed = are.confirmed ∙ sym (other_claim what.Confirm rows row (has_kind-same what.Suspect what.Confirm row is));
-    }) c.add_claim.ensures.crashes c.add_claim.ensures.leaves c.add_claim.ensures.makers
+    }) c.add_claim.ensures.crashes c.add_claim.ensures.leaves c.add_claim.ensures.claims
 
 pub returns-in-Suspect-clause-err : goal.returns-in-Suspect-clause-err
 returns-in-Suspect-clause-err c =
-    on_err_three c.add_claim.result (λ crashes leaves makers rows are. record { crashed = crashes ∙ are.crashed; left = leaves ∙ are.left; suspected = makers ∙ are.suspected; confirmed = are.confirmed })
-    c.add_claim.ensures.crashes_kept c.add_claim.ensures.leaves_kept c.add_claim.ensures.makers_kept
+    on_err_three c.add_claim.result (λ crashes leaves claims rows are. record { crashed = crashes ∙ are.crashed; left = leaves ∙ are.left; suspected = claims ∙ are.suspected; confirmed = are.confirmed })
+    c.add_claim.ensures.crashes_kept c.add_claim.ensures.leaves_kept c.add_claim.ensures.claims_kept
 
 pub returns-in-Confirm-clause-ok : goal.returns-in-Confirm-clause-ok
 returns-in-Confirm-clause-ok c =
@@ -74,12 +74,12 @@ returns-in-Confirm-clause-ok c =
       left = leaves ∙ ap (map (departure_with row)) are.left ∙ sym (no_departure what.Leave rows row (has_kind-same what.Confirm what.Leave row is));
       suspected = are.suspected ∙ sym (other_claim what.Suspect rows row (has_kind-same what.Confirm what.Suspect row is));
       confirmed = own_claim what.Confirm rows row _ _ _ _ (has_kind-same what.Confirm what.Confirm row is) are.crashed are.left made are.confirmed;
-    }) c.add_claim-in-Confirm.ensures.crashes c.add_claim-in-Confirm.ensures.leaves c.add_claim-in-Confirm.ensures.makers
+    }) c.add_claim-in-Confirm.ensures.crashes c.add_claim-in-Confirm.ensures.leaves c.add_claim-in-Confirm.ensures.claims
 
 pub returns-in-Confirm-clause-err : goal.returns-in-Confirm-clause-err
 returns-in-Confirm-clause-err c =
-    on_err_three c.add_claim-in-Confirm.result (λ crashes leaves makers rows are. record { crashed = crashes ∙ are.crashed; left = leaves ∙ are.left; suspected = are.suspected; confirmed = makers ∙ are.confirmed })
-    c.add_claim-in-Confirm.ensures.crashes_kept c.add_claim-in-Confirm.ensures.leaves_kept c.add_claim-in-Confirm.ensures.makers_kept
+    on_err_three c.add_claim-in-Confirm.result (λ crashes leaves claims rows are. record { crashed = crashes ∙ are.crashed; left = leaves ∙ are.left; suspected = are.suspected; confirmed = claims ∙ are.confirmed })
+    c.add_claim-in-Confirm.ensures.crashes_kept c.add_claim-in-Confirm.ensures.leaves_kept c.add_claim-in-Confirm.ensures.claims_kept
 
 pub returns-in_default-clause-ok : goal.returns-in_default-clause-ok
 returns-in_default-clause-ok c rows are =

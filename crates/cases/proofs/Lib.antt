@@ -1,0 +1,10 @@
+pub mod Names
+pub mod Numbers
+pub mod Words
+pub mod Ranges
+pub mod Members
+pub mod Counts
+pub mod Written
+pub mod Gathered
+pub mod Planning
+pub mod Choices

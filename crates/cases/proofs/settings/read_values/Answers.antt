@@ -1,0 +1,20 @@
+use Rattle.std.proofs.Common.{◌∙◌, length, lit<, refl}
+use Rattle.std.proofs.lemmas.Iterator.Consumers.{YieldsList-turn, YieldsList-end}
+use Rattle.std.proofs.lemmas.Iterator.Splits.{YieldsList-from_str_split}
+use Rattle.cases.specs.Asked.{values_listed}
+use Rattle.cases.proofs.Written.{no_values}
+use Rattle.cases.proofs.settings.read_values.Goals as goal
+
+pub returns-in-None-read-clause-refused : goal.returns-in-None-read-clause-refused
+returns-in-None-read-clause-refused c =
+    let list = c.args.list.now in
+    let items = YieldsList-from_str_split {s = c.into_iter-item-iterator.result} 44 list (lit< tt) (cc) (cc) (cc) in
+    let turn = YieldsList-turn items c.loop-item.yielded _ c.loop-item.yielded_by _ _ c.in-Some.item c.in-Some.is c.next.ensures.steps in
+    no_values (values_listed list) (length c.loop-item.yielded) c.in-Some.item.now turn.0 turn.1 (c.in-None-read.ensures.none refl)
+
+pub returns-clause-read : goal.returns-clause-read
+returns-clause-read c =
+    let list = c.args.list.now in
+    let items = YieldsList-from_str_split {s = c.into_iter-item-iterator.result} 44 list (lit< tt) (cc) (cc) (cc) in
+    let all = YieldsList-end items c.loop-item.yielded _ c.loop-item.yielded_by _ _ c.in-None.is c.next.ensures.steps in
+    record { written = c.loop-item.invariant.written ∙ all.0; fit = c.loop-item.invariant.fit }

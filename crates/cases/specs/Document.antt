@@ -1,0 +1,49 @@
+-- The document of a case: that of a text, with the case's values and seed in it.
+use Rattle.std.specs.Prelude.{ℕ, pos, List, Option, Some, None, unwrap_or, fold}
+use Rattle.std.specs.Ordering.{nat_cmp, match_ordering}
+use Rattle.std.specs.Cmp.Lexicographic.{slice_cmp}
+use Rattle.toml.specs.Data.{Data, integer, boolean, table, Members, no_members, member}
+use Rattle.schema.specs.Schema.{spelling_of}
+use Rattle.schema.specs.Tree.{value_at}
+use Rattle.schema.specs.declared.schema.FormatKey.{FormatKey}
+use Rattle.schema.specs.declared.schema.FormatKey.TheVariants as key
+use Rattle.cases.specs.declared.values.SettingValue.{SettingValue}
+use Rattle.cases.specs.declared.values.SettingValue.TheVariants.{Whole, Switch}
+use Rattle.cases.specs.declared.choice.Choice.{Choice}
+
+-- the value as it stands in a document
+abbrev pub data_of : SettingValue → Data
+data_of (Whole n) = integer (pos n)
+data_of (Switch b) = boolean b
+
+-- the members, which stand in the order of their names, with this one: in the place of that of its name, or where it belongs
+abbrev pub put : List ℕ → Data → Members → Members
+put name d no_members = member name d no_members
+put name d (member other e more) = match_ordering (slice_cmp nat_cmp name other) (member name d (member other e more)) (member other d more) (member other e (put name d more))
+
+-- a table with this value at this key; what is no table stays as it is
+abbrev pub with_entry : FormatKey → Data → Data → Data
+with_entry k d (table members) = table (put (spelling_of k) d members)
+with_entry k d other = other
+
+-- what stands at the key of a table; an empty table where nothing does
+abbrev pub table_at : FormatKey → Data → Data
+table_at t tree = unwrap_or (value_at t tree) (table no_members)
+
+-- the value is put at a key of the whole text, or of the table that stands in it, which is made where it isn't there. What stands in a table's
+-- place and is none stays, so that the document is refused as without the value.
+abbrev pub with_value_in : Option FormatKey → FormatKey → Data → Data → Data
+with_value_in None k d tree = with_entry k d tree
+with_value_in (Some t) k d tree = with_entry t (with_entry k d (table_at t tree)) tree
+
+abbrev pub with_choice : Data → Choice → Data
+with_choice tree c = with_value_in c.key.table c.key.key (data_of c.value) tree
+
+-- the seed takes the place of the text's, where one is given
+abbrev pub with_seed : Option ℕ → Data → Data
+with_seed None tree = tree
+with_seed (Some seed) tree = with_entry key.Seed (integer (pos seed)) tree
+
+-- the document with the values of a case and the seed of a run
+unfoldable pub with_values : Data → List Choice → Option ℕ → Data
+with_values tree case seed = with_seed seed (fold with_choice tree case)

@@ -1,0 +1,28 @@
+-- What a sweep is: keys that are set to each of some values, and the seeds of each case.
+use Rattle.std.specs.Prelude.{ℕ, ◌+◌, ◌-◌, ◌*◌, List, [], ◌∷◌, Option, Some, None, length}
+use Rattle.cases.specs.declared.keys.SettingKey.{SettingKey}
+use Rattle.cases.specs.declared.values.SettingValue.{SettingValue}
+use Rattle.cases.specs.declared.seeds.Seeds.{Seeds}
+
+-- a key and the values that it is set to, one after the other
+pub record KeyValues : Type 0 where
+  pub key : SettingKey
+  pub values : List SettingValue
+
+-- without seeds each case runs with the text's own
+pub record Sweep : Type 0 where
+  pub settings : List KeyValues
+  pub seeds : Option Seeds
+
+-- how many cases there are: one for each choice of a value for each key
+abbrev pub case_count : List KeyValues → ℕ
+case_count [] = 1
+case_count (s ∷ more) = length s.values * case_count more
+
+-- how often each case runs
+abbrev pub seed_count : Option Seeds → ℕ
+seed_count None = 1
+seed_count (Some r) = r.last + 1 - r.first
+
+abbrev pub run_count : Sweep → ℕ
+run_count sweep = case_count sweep.settings * seed_count sweep.seeds

@@ -1,0 +1,23 @@
+//! Many runs of one scenario: which keys of its text are set to which values, by which words that is
+//! asked for, and the scenario of each case.
+#![tactic(auto)]
+
+mod choice;
+mod document;
+mod fault;
+mod keys;
+mod plan;
+mod seeds;
+mod settings;
+#[cfg(test)]
+mod tests;
+mod values;
+
+pub use choice::Choice;
+pub use document::{read_with, with_values};
+pub use fault::PlanFault;
+pub use keys::SettingKey;
+pub use plan::Plan;
+pub use seeds::Seeds;
+pub use settings::Setting;
+pub use values::SettingValue;

@@ -1,0 +1,206 @@
+//! What words ask a sweep for.
+ghost use Rattle.std.specs.Prelude.{◌≡◌, ◌≤◌, ◌<◌, ◌^◌, ◌*◌, ◌-◌, Some, All, map, min, slice_get, option_map, IfOk, IfErr};
+ghost use Rattle.std.specs.Option.{ForSome};
+ghost use Rattle.cases.specs.Sweep.{case_count, seed_count, run_count};
+ghost use Rattle.cases.specs.Asked.{AreSettings, AsksForSeeds, IsSweepOf, RefusesSeeds, RefusesSettings, RefusesSweep, IsSetting};
+ghost use Rattle.cases.specs.Values.{FitsToml};
+ghost use Rattle.cases.specs.Cases.{cases_of};
+
+use crate::choice::Choice;
+use crate::fault::PlanFault;
+use crate::seeds::{Seeds, count, read_range};
+use crate::settings::{Setting, is_set};
+use base::Memory;
+use std::alloc::Global;
+use std::marker::Model;
+
+/// The most runs that a sweep has.
+const MOST_RUNS: usize = 1_000_000;
+
+/// The settings of a sweep, and the seeds with which each of its cases runs.
+#[derive(Drop)]
+pub struct Plan {
+    settings: Vec<Setting>,
+    seeds: Option<Seeds>,
+    /// How many cases there are.
+    cases: usize,
+    /// How often each of them runs.
+    each: usize,
+}
+
+impl Model for Plan {
+    ghost use Rattle.cases.specs.Sweep.{Sweep};
+
+    ghost Value = { Sweep };
+
+    ghost use Rattle.cases.specs.Planned.{sweep_of, CountsRuns};
+
+    ghost view = { sweep_of };
+
+    ghost invariant = { CountsRuns };
+}
+
+impl Plan {
+    /// The plan that words ask for: settings such as `swim.period=200,300`, each a key that may be set, an
+    /// equals sign and values with commas between them, and a range of seeds such as `1..200`.
+    ///
+    /// Failures: `Words` where a word is none of these, a key stands twice, or there are more than
+    /// 1,000,000 runs; `Memory`.
+    pub fn read(alloc: Global, settings: &[&str], seeds: Option<&str>) -> Result<Plan, PlanFault>
+        ensures read { IfOk result (IsSweepOf (map (λ word. word.now) settings.now) (option_map (λ text. text.now) seeds.entry)) }
+        ensures refused { IfErr result (RefusesSweep (map (λ word. word.now) settings.now) (option_map (λ text. text.now) seeds.entry)) }
+    {
+        let chosen = match read_settings(alloc, settings) {
+            Ok(chosen) => chosen,
+            Err(fault) => return Err(fault),
+        };
+        let range = match read_seeds(seeds) {
+            Ok(range) => range,
+            Err(fault) => return Err(fault),
+        };
+        let cases = case_count(&chosen);
+        let each = seed_count(range);
+        let runs = cases.saturating_mul(each);
+        if runs > MOST_RUNS {
+            return Err(PlanFault::Words);
+        }
+        Ok(Plan {
+            settings: chosen,
+            seeds: range,
+            cases,
+            each,
+        })
+    }
+
+    /// The keys that are set, each with its values.
+    pub fn settings(&self) -> &[Setting]
+        ensures { result.now ≡ self.now.settings }
+    {
+        &self.settings
+    }
+
+    /// The seeds with which each case runs; where there are none, each runs once, with the text's own.
+    pub fn seeds(&self) -> Option<Seeds>
+        ensures { result ≡ self.now.seeds }
+    {
+        self.seeds
+    }
+
+    /// How many cases there are: 1 where nothing is set.
+    pub fn cases(&self) -> usize
+        ensures { result ≡ case_count self.now.settings }
+    {
+        self.cases
+    }
+
+    /// How often each case runs.
+    pub fn runs_of_case(&self) -> usize
+        ensures { result ≡ seed_count self.now.seeds }
+    {
+        self.each
+    }
+
+    /// How many runs there are: at most 1,000,000.
+    pub fn runs(&self) -> usize
+        ensures count { result ≡ run_count self.now }
+        ensures few { result ≤ 1000000 }
+    {
+        let each = self.each;
+        each * self.cases
+    }
+
+    /// The case at a place among all, counted from 0: a value for each of the keys, in their order. The
+    /// last key's values come one after the other. Where the settings are what words asked for, each value
+    /// fits.
+    pub fn case_at(&self, alloc: Global, place: usize) -> Result<Vec<Choice>, Memory>
+        requires { place < case_count self.now.settings }
+        ensures case { IfOk result (λ case. slice_get (cases_of self.now.settings) place ≡ Some case.items) }
+        ensures fits { All IsSetting self.now.settings → IfOk result (λ case. All (λ c. FitsToml c.value) case.items) }
+    {
+        choices(alloc, &self.settings, self.cases, place)
+    }
+}
+
+/// The case at a place among those of the settings, of which there are so many.
+fn choices(
+    alloc: Global,
+    settings: &[Setting],
+    cases: usize,
+    place: usize,
+) -> Result<Vec<Choice>, Memory>
+    requires counted { cases ≡ case_count settings.now }
+    requires inside { place < cases }
+    ensures { IfOk result (λ case. slice_get (cases_of settings.now) place ≡ Some case.items) }
+{
+    let mut case = Vec::new(alloc);
+    let mut below = cases;
+    let mut left = place;
+    for setting in settings {
+        let values = setting.values();
+        below /= values.len();
+        let value = values[left / below];
+        left %= below;
+        case.push(Choice {
+            key: setting.key(),
+            value,
+        })?;
+    }
+    Ok(case)
+}
+
+/// The settings that words ask for.
+fn read_settings(alloc: Global, words: &[&str]) -> Result<Vec<Setting>, PlanFault>
+    ensures read { IfOk result (λ settings. AreSettings (map (λ word. word.now) words.now) settings.items) }
+    ensures refused { IfErr result (RefusesSettings (map (λ word. word.now) words.now)) }
+{
+    let mut settings = Vec::new(alloc);
+    for word in words {
+        let setting = match Setting::read(alloc, *word) {
+            Ok(setting) => setting,
+            Err(fault) => return Err(fault),
+        };
+        if is_set(&settings, setting.key()) {
+            return Err(PlanFault::Words);
+        }
+        if settings.push(setting).is_err() {
+            return Err(PlanFault::Memory);
+        }
+    }
+    Ok(settings)
+}
+
+/// The seeds that a word asks for; none where there is no word.
+fn read_seeds(word: Option<&str>) -> Result<Option<Seeds>, PlanFault>
+    ensures read { IfOk result (AsksForSeeds (option_map (λ text. text.now) word.entry)) }
+    ensures refused { IfErr result (RefusesSeeds (option_map (λ text. text.now) word.entry)) }
+{
+    match word {
+        Some(word) => match read_range(word) {
+            Some(seeds) => Ok(Some(seeds)),
+            None => Err(PlanFault::Words),
+        },
+        None => Ok(None),
+    }
+}
+
+/// How many cases the settings have, or the greatest number there is where they have more.
+fn case_count(settings: &[Setting]) -> usize
+    ensures { result ≡ min (case_count settings.now) (2 ^ 64 - 1) }
+{
+    let mut cases = 1usize;
+    for setting in settings {
+        cases = cases.saturating_mul(setting.values().len());
+    }
+    cases
+}
+
+/// How often each case runs.
+fn seed_count(seeds: Option<Seeds>) -> usize
+    requires { ForSome seeds (λ r. r.last < 2 ^ 63) }
+    ensures { result ≡ seed_count seeds }
+{
+    match seeds {
+        Some(seeds) => count(seeds),
+        None => 1,
+    }
+}

@@ -1,0 +1,7 @@
+pub mod KindsOfMessages
+pub mod Marks
+pub mod Fields
+pub mod Runs
+pub mod RanksOfTimes
+pub mod Roots
+pub mod Summaries

@@ -1,0 +1,8 @@
+use Rattle.std.proofs.Common.{◌≡◌, take}
+use Rattle.std.specs.Prelude.{sum_by}
+use Rattle.reports.specs.Rows.{losses_of}
+use Rattle.figures.proofs.messages.lost.Given as goal
+
+-- those of the kinds so far
+abbrev pub invariant-loop-kind : goal.invariant-loop-kind
+invariant-loop-kind l = l.lost ≡ sum_by (λ kind. losses_of kind l.tallies) (take l.kind-index l.kinds)

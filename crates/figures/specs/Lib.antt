@@ -1,0 +1,4 @@
+pub mod Figures
+pub mod Lines
+pub mod Cases
+pub mod Kept

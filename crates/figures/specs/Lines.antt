@@ -1,0 +1,49 @@
+-- The table of a sweep: a header, and a line for each run.
+use Rattle.std.specs.Prelude.{◌≡◌, ℕ, Option, Some, None, List, [], ◌∷◌, ◌++◌, ◌-◌, ◌^◌, codes, decimal, length, map, min, Vec}
+use Rattle.std.specs.List.{join_with_byte}
+use Rattle.std.specs.declared.alloc.Global.{Global}
+use Rattle.csv.specs.Writing.{default_writer, field_text, writer_setup, fields_written}
+use Rattle.csv.specs.declared.writer.Writer.{Writer}
+use Rattle.trace.specs.Lines.{laid_out}
+use Rattle.figures.specs.declared.run.RunFigures.{RunFigures}
+
+-- fields parted by commas, each in quotes where it calls for them
+abbrev pub cells_joined : List (List ℕ) → List ℕ
+cells_joined fields = join_with_byte 44 (map (field_text default_writer) fields)
+
+-- a line: its fields, and a line feed
+unfoldable pub table_line : List (List ℕ) → List ℕ
+table_line fields = cells_joined fields ++ codes "\n"
+
+-- the names of the figures, in the order of their columns
+abbrev pub figure_names : List (List ℕ)
+figure_names =
+    codes "rows" ∷ codes "crashes" ∷ codes "detected" ∷ codes "suspect_least" ∷ codes "confirm_least" ∷ codes "confirm_greatest" ∷ codes "last_greatest"
+    ∷ codes "false_suspect" ∷ codes "false_suspect_healthy" ∷ codes "false_confirm" ∷ codes "false_confirm_healthy" ∷ codes "thrown_out"
+    ∷ codes "accuse" ∷ codes "refute" ∷ codes "fail" ∷ codes "health" ∷ codes "sent" ∷ codes "lost" ∷ []
+
+-- the figures in that order
+abbrev pub figures_in_order : RunFigures → List (Option ℕ)
+figures_in_order run =
+    Some run.rows ∷ Some run.crashes ∷ Some run.detected ∷ run.suspect_least ∷ run.confirm_least ∷ run.confirm_greatest ∷ run.last_greatest
+    ∷ Some run.false_suspect ∷ Some run.false_suspect_healthy ∷ Some run.false_confirm ∷ Some run.false_confirm_healthy ∷ Some run.thrown_out
+    ∷ Some run.accuse ∷ Some run.refute ∷ Some run.fail ∷ Some run.health ∷ Some run.sent ∷ Some run.lost ∷ []
+
+-- a figure in decimal, and nothing where there is none
+abbrev pub cell : Option ℕ → List ℕ
+cell (Some n) = decimal n
+cell None = []
+
+-- the first line: the keys that are set, the seed, and the figures
+abbrev pub header_line : List (List ℕ) → List ℕ
+header_line keys = table_line (keys ++ codes "seed" ∷ figure_names)
+
+-- the line of a run: the values of the keys, the seed, and the run's figures
+abbrev pub run_line : List (List ℕ) → ℕ → RunFigures → List ℕ
+run_line values seed run = table_line (values ++ decimal seed ∷ map cell (figures_in_order run))
+
+-- a writer has written these fields of a first line
+pub record HasLaidOut (writer : Writer (Vec ℕ Global)) (fields : List (List ℕ)) : Type 0 where
+  pub setup : writer_setup writer ≡ default_writer
+  pub count : fields_written writer ≡ min (length fields) (2 ^ 64 - 1)
+  pub text : laid_out writer ≡ cells_joined fields

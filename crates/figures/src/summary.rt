@@ -1,0 +1,36 @@
+//! What is told of a case.
+
+/// The figures of a case: of runs of one scenario that differ in their seed alone. Times are in
+/// ticks since the crash, by the nearest rank over all crashes of all runs, of which one that was
+/// not detected counts as later than any: `None` stands where such a crash has the rank, and where
+/// nobody crashed.
+#[derive(Clone, Copy, Debug, PartialEq, Eq)]
+pub struct CaseSummary {
+    /// How many runs there are.
+    pub runs: u64,
+    /// The median of the times until a crash was first suspected.
+    pub suspect_p50: Option<u64>,
+    /// The median of the times until a crash was first confirmed.
+    pub confirm_p50: Option<u64>,
+    /// The 99th percentile of these.
+    pub confirm_p99: Option<u64>,
+    /// The greatest of these.
+    pub confirm_greatest: Option<u64>,
+    /// The median of the times until a crash was last confirmed.
+    pub last_p50: Option<u64>,
+    /// The greatest of these.
+    pub last_greatest: Option<u64>,
+    /// Suspicions a run that were false positives, in hundredths, rounded down.
+    pub false_suspect: u128,
+    /// How many members were thrown out, each counted in each run.
+    pub thrown_out: u128,
+    /// In how many runs members were thrown out.
+    pub runs_with: u64,
+    /// The lower end of the 95 % interval of the share of such runs, by Wilson, in thousandths.
+    pub share_low: u128,
+    /// Its upper end, likewise.
+    pub share_high: u128,
+    /// Messages a member and 1,000 ticks, in hundredths, rounded down: `None` where the runs end at
+    /// moment 0.
+    pub messages: Option<u128>,
+}

@@ -1,0 +1,62 @@
+//! The table of runs, as it is put into a sink.
+ghost use Rattle.std.specs.Prelude.{◌≡◌, ◌+◌, ◌<◌, ◌^◌, OnOk, OnErr, IfErr, map};
+ghost use Rattle.std.specs.Io.KnownBytes.{Appends, Keeps};
+ghost use Rattle.trace.specs.Sinks.{AppendsBeginning, failures_of_write};
+ghost use Rattle.figures.specs.Lines.{header_line, run_line};
+
+use crate::lines::{header_text, run_text};
+use crate::run::RunFigures;
+use base::Memory;
+use std::alloc::Global;
+use trace::{Sink, Stopped, WriteError, put_all};
+
+/// Puts the first line of a table of runs: the keys that are set for them, the seed, and the names
+/// of the figures. Where memory is refused nothing is put, and where the sink stops it has got a
+/// beginning of the line.
+pub fn write_header<S: Sink>(alloc: Global, keys: &[&str], sink: &mut S) -> Result<(), WriteError>
+    requires { S.failed sink.old < 2 ^ 63 }
+    ensures whole { OnOk result (Appends (S.held sink.old) (S.held sink.new) (header_line (map (λ key. key.now) keys.now))) }
+    ensures part { OnErr result (AppendsBeginning (S.held sink.old) (S.held sink.new) (header_line (map (λ key. key.now) keys.now))) }
+    ensures memory { IfErr result (λ error. error ≡ WriteError.Memory → Keeps (S.held sink.old) (S.held sink.new)) }
+    ensures failures { S.failed sink.new ≡ S.failed sink.old + failures_of_write result }
+{
+    match header_text(alloc, keys) {
+        Ok(text) => put_text(text.as_slice(), sink),
+        Err(Memory) => Err(WriteError::Memory),
+    }
+}
+
+/// Puts the line of a run: the values that the keys had, its seed, and its figures. Where memory is
+/// refused nothing is put, and where the sink stops it has got a beginning of the line.
+pub fn write_run<S: Sink>(
+    alloc: Global,
+    values: &[&str],
+    seed: u64,
+    figures: &RunFigures,
+    sink: &mut S,
+) -> Result<(), WriteError>
+    requires { S.failed sink.old < 2 ^ 63 }
+    ensures whole { OnOk result (Appends (S.held sink.old) (S.held sink.new) (run_line (map (λ value. value.now) values.now) seed figures.now)) }
+    ensures part { OnErr result (AppendsBeginning (S.held sink.old) (S.held sink.new) (run_line (map (λ value. value.now) values.now) seed figures.now)) }
+    ensures memory { IfErr result (λ error. error ≡ WriteError.Memory → Keeps (S.held sink.old) (S.held sink.new)) }
+    ensures failures { S.failed sink.new ≡ S.failed sink.old + failures_of_write result }
+{
+    match run_text(alloc, values, seed, figures) {
+        Ok(text) => put_text(text.as_slice(), sink),
+        Err(Memory) => Err(WriteError::Memory),
+    }
+}
+
+/// Puts a text that was laid into memory.
+fn put_text<S: Sink>(text: &[u8], sink: &mut S) -> Result<(), WriteError>
+    requires { S.failed sink.old < 2 ^ 63 }
+    ensures whole { OnOk result (Appends (S.held sink.old) (S.held sink.new) text.now) }
+    ensures part { OnErr result (AppendsBeginning (S.held sink.old) (S.held sink.new) text.now) }
+    ensures stopped { IfErr result (λ error. error ≡ WriteError.Stopped) }
+    ensures failures { S.failed sink.new ≡ S.failed sink.old + failures_of_write result }
+{
+    match put_all(text, sink) {
+        Ok(()) => Ok(()),
+        Err(Stopped) => Err(WriteError::Stopped),
+    }
+}

@@ -1,0 +1,50 @@
+//! The times of crashes that were detected.
+ghost use Rattle.std.specs.Prelude.{◌≡◌, ◌++◌, OnOk};
+ghost use Rattle.std.specs.List.{filter_map};
+ghost use Rattle.std.specs.Option.{option_to_list};
+ghost use Rattle.reports.specs.Departures.{latencies_of};
+ghost use Rattle.figures.specs.Figures.{suspected_after, last_after};
+
+use crate::crashes::{last_after, suspected_after};
+use base::Memory;
+use reports::Departure;
+
+/// Adds the time until each of these crashes was first suspected, where it was.
+pub(crate) fn push_suspected(times: &mut Vec<u64>, crashes: &[Departure]) -> Result<(), Memory>
+    ensures { OnOk result (times.new.items ≡ times.old.items ++ filter_map suspected_after crashes.now) }
+{
+    for crash in crashes {
+        push_time(times, suspected_after(crash))?;
+    }
+    Ok(())
+}
+
+/// Adds the time until each of these crashes was first confirmed, where it was.
+pub(crate) fn push_confirmed(times: &mut Vec<u64>, crashes: &[Departure]) -> Result<(), Memory>
+    ensures { OnOk result (times.new.items ≡ times.old.items ++ latencies_of crashes.now) }
+{
+    for crash in crashes {
+        push_time(times, crash.latency())?;
+    }
+    Ok(())
+}
+
+/// Adds the time until each of these crashes was last confirmed, where it was.
+pub(crate) fn push_last(times: &mut Vec<u64>, crashes: &[Departure]) -> Result<(), Memory>
+    ensures { OnOk result (times.new.items ≡ times.old.items ++ filter_map last_after crashes.now) }
+{
+    for crash in crashes {
+        push_time(times, last_after(crash))?;
+    }
+    Ok(())
+}
+
+/// Adds a time, if there is one.
+fn push_time(times: &mut Vec<u64>, time: Option<u64>) -> Result<(), Memory>
+    ensures { OnOk result (times.new.items ≡ times.old.items ++ option_to_list time) }
+{
+    if let Some(time) = time {
+        times.push(time)?;
+    }
+    Ok(())
+}

@@ -1,0 +1,41 @@
+-- What is said of an error that is handed on.
+use Rattle.std.proofs.Common.{◌≡◌, ℕ, ◌+◌, ap, arith, Result, Ok, Err, IsErrAnd}
+use Rattle.std.specs.Prelude.{IfErr, OnErr, OnOk}
+use Rattle.base.specs.declared.fault.Fault.{Fault}
+use Rattle.base.specs.declared.fault.Fault.TheVariants as fault
+use Rattle.scenario.specs.Setup.{Setup}
+use Rattle.sweep.specs.Table.{IsCauseOf}
+use Rattle.exchange.specs.Streams.{sink_failures}
+
+-- what holds holds at an error too
+pub on_err : {T E P : Type 0} (r : Result T E) → P → OnErr r P
+on_err (Ok x) p = tt
+on_err (Err e) p = p
+
+-- what is said of either outcome, and what follows from that
+pub on_ok_then : {T E : Type 0} (A B : Type 0) (r : Result T E) → OnOk r A → (A → B) → OnOk r B
+on_ok_then A B (Ok x) a turn = turn a
+on_ok_then A B (Err e) a turn = tt
+
+pub on_err_then : {T E : Type 0} (A B : Type 0) (r : Result T E) → OnErr r A → (A → B) → OnErr r B
+on_err_then A B (Ok x) a turn = tt
+on_err_then A B (Err e) a turn = turn a
+
+-- what is known of the error gives what is said of it
+pub handed : {T E : Type 0} (r : Result T E) (G Q : E → Type 0) → IsErrAnd r G → ((e : E) → G e → Q e) → IfErr r Q
+handed (Ok x) G Q gives turn = tt
+handed (Err e) G Q gives turn = turn e gives
+
+-- want of memory is no failure of a sink
+pub memory_fails_none : {T : Type 0} (r : Result T Fault) (n : ℕ) → IsErrAnd r (λ f. f ≡ fault.Memory) → n ≡ n + sink_failures r
+memory_fails_none (Ok x) n gives = omega arith
+memory_fails_none {T} (Err f) n gives =
+    let none : sink_failures {T = T} (Err f) ≡ 0 = ap (λ g. sink_failures {T = T} (Err g)) gives in
+    omega (arith, none)
+
+-- what keeps a run from having figures is no failure of a sink
+pub told_fails_none : (T : Type 0) (s : Setup) (f : Fault) (n : ℕ) → IsCauseOf s f → n ≡ n + sink_failures {T = T} (Err f)
+told_fails_none T s fault.Memory n h = omega arith
+told_fails_none T s fault.Worn n h = omega arith
+told_fails_none T s fault.Write n h = absurd h
+told_fails_none T s fault.Relay n h = absurd h

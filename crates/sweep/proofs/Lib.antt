@@ -1,0 +1,3 @@
+mod Flat
+mod Handing
+mod Steps

@@ -1,0 +1,18 @@
+use Rattle.std.proofs.Common.{◌≡◌, ◌+◌, ℕ, List, ap, subst, length, arith}
+use Rattle.std.specs.Prelude.{Option}
+use Rattle.toml.specs.View.{view}
+use Rattle.sweep.specs.Table.{HasLines}
+use Rattle.sweep.proofs.Handing.{on_ok_then}
+use Rattle.sweep.proofs.chunks.make_some.Goals as goal
+
+pub returns-clause-whole : goal.returns-clause-whole
+returns-clause-whole g c =
+    let tree = view c.args.document.now in
+    let plan = c.args.plan.now in
+    let old = g.S.Sink.held c.args.table.now in
+    let new = g.S.Sink.held c.write_lines.new.table in
+    let end = c.args.from + length c.deref-2.result.now in
+    let all : end ≡ c.args.till = omega (arith, ap length c.deref-2.ensures.value, c.in_ok-scenarios.ensures.count, c.requires.ordered) in
+    on_ok_then ((start : Option (List ℕ)) → HasLines tree plan start old c.args.from → HasLines tree plan start new end)
+    ((start : Option (List ℕ)) → HasLines tree plan start old c.args.from → HasLines tree plan start new c.args.till)
+    c.write_lines.result c.write_lines.ensures.whole (λ go start lines. subst (HasLines tree plan start new) all (go start lines))

@@ -1,0 +1,61 @@
+-- The runs of a sweep: each case with each seed, in order.
+use Rattle.std.specs.Prelude.{◌≡◌, ℕ, List, [], ◌∷◌, Option, Some, None, Result, Ok, map, slice_get}
+use Rattle.std.specs.List.{AllZip, flat_map, range_with_len}
+use Rattle.toml.specs.Data.{Data}
+use Rattle.scenario.specs.Setup.{Setup}
+use Rattle.scenario.specs.Rules.{document_verdict}
+use Rattle.trace.specs.declared.row.Row.{Row}
+use Rattle.member_laws.specs.Runs.{IsRunOf}
+use Rattle.cases.specs.Sweep.{Sweep, seed_count}
+use Rattle.cases.specs.Cases.{cases_of}
+use Rattle.cases.specs.Document.{with_values}
+use Rattle.cases.specs.Asked.{IsSweepOf}
+use Rattle.cases.specs.declared.seeds.Seeds.{Seeds}
+use Rattle.cases.specs.declared.choice.Choice.{Choice}
+
+-- a run that a sweep asks for: the values of its case, and its seed, which is the text's own where none is asked for
+pub record Planned : Type 0 where
+  pub case : List Choice
+  pub seed : Option ℕ
+
+abbrev pub planned_as : List Choice → Option ℕ → Planned
+planned_as chosen seeded = record { case = chosen; seed = seeded }
+
+-- words ask for the sweep
+pub record IsAskedFor (sweep : Sweep) : Type 0 where
+  pub settings : List (List ℕ)
+  pub seeds : Option (List ℕ)
+  pub asked : IsSweepOf settings seeds sweep
+
+-- the seeds with which each case runs, from the first to the last
+abbrev pub seeds_of : Option Seeds → List (Option ℕ)
+seeds_of None = None ∷ []
+seeds_of (Some r) = map Some (range_with_len r.first (seed_count (Some r)))
+
+-- each case with each seed; a case's seeds come one after the other
+unfoldable pub runs_of : Sweep → List Planned
+runs_of sweep = flat_map (λ chosen. map (planned_as chosen) (seeds_of sweep.seeds)) (cases_of sweep.settings)
+
+-- the run of this number, counted from 0
+abbrev pub IsRunAt : Sweep → ℕ → Planned → Type 0
+IsRunAt sweep number p = slice_get (runs_of sweep) number ≡ Some p
+
+-- what the document of a run is answered
+abbrev pub verdict_of : Data → Planned → Result Setup ℕ
+verdict_of tree p = document_verdict (with_values tree p.case p.seed)
+
+-- a run that was made: its case, its scenario and the rows of its trace
+pub record Made : Type 0 where
+  pub case : List Choice
+  pub scenario : Setup
+  pub rows : List Row
+
+-- it is the run that was asked for, of a document
+pub record IsMadeAs (tree : Data) (p : Planned) (m : Made) : Type 0 where
+  pub same : m.case ≡ p.case
+  pub accepted : verdict_of tree p ≡ Ok m.scenario
+  pub run : IsRunOf m.scenario m.rows
+
+-- these are all runs that the sweep asks for, in order
+abbrev pub AreMade : Data → Sweep → List Made → Type 0
+AreMade tree sweep made = AllZip (IsMadeAs tree) (runs_of sweep) made

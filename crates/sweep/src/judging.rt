@@ -1,0 +1,74 @@
+//! Whether all scenarios of a sweep keep the format's rules.
+ghost use Rattle.std.specs.Prelude.{◌≡◌, ◌≢◌, ◌<◌, ◌≤◌, Err, OnOk, IfErr};
+ghost use Rattle.toml.specs.View.{view};
+ghost use Rattle.cases.specs.Sweep.{run_count};
+ghost use Rattle.sweep.specs.Runs.{IsAskedFor, IsRunAt, planned_as, verdict_of};
+ghost use Rattle.sweep.specs.Judged.{AreAccepted, IsAcceptedAt, IsFirstRefused};
+
+use crate::planned::planned;
+use base::Memory;
+use cases::{Choice, Plan, read_with};
+use scenario::Refusal;
+use std::alloc::Global;
+use toml::Value;
+
+/// Why a sweep is refused before anything runs.
+#[derive(Drop)]
+pub struct Refused {
+    /// The values of the first case whose scenario breaks a rule; none where memory was refused.
+    pub case: Vec<Choice>,
+    /// The seed of its run, where seeds are asked for.
+    pub seed: Option<u64>,
+    /// The least rule that the scenario breaks; rule 11 where memory was refused.
+    pub refusal: Refusal,
+}
+
+/// Reads the scenario of each run that a sweep asks for. The first that breaks a rule is told, with the
+/// least rule that it breaks.
+pub fn judge(alloc: Global, plan: &Plan, document: &Value) -> Result<(), Refused>
+    requires { IsAskedFor plan.now }
+    ensures accepted { OnOk result (AreAccepted (view document.now) plan.now) }
+    ensures refused { IfErr result (λ r. r.refusal.rule ≢ 11 → IsFirstRefused (view document.now) plan.now (planned_as r.case.items r.seed) r.refusal.rule) }
+    ensures numbered { IfErr result (λ r. (1 ≤ r.refusal.rule) × (r.refusal.rule ≤ 11)) }
+{
+    for number in 0..plan.runs() {
+        judge_run(alloc, plan, document, number)?;
+    }
+    Ok(())
+}
+
+/// Reads the scenario of the run of this number.
+fn judge_run(alloc: Global, plan: &Plan, document: &Value, number: usize) -> Result<(), Refused>
+    requires asked { IsAskedFor plan.now }
+    requires within { number < run_count plan.now }
+    ensures accepted { OnOk result (IsAcceptedAt (view document.now) plan.now number) }
+    ensures there { IfErr result (λ r. r.refusal.rule ≢ 11 → IsRunAt plan.now number (planned_as r.case.items r.seed)) }
+    ensures broken { IfErr result (λ r. r.refusal.rule ≢ 11 → verdict_of (view document.now) (planned_as r.case.items r.seed) ≡ Err r.refusal.rule) }
+    ensures numbered { IfErr result (λ r. (1 ≤ r.refusal.rule) × (r.refusal.rule ≤ 11)) }
+{
+    let Ok(run) = planned(alloc, plan, number) else {
+        return Err(no_memory(alloc));
+    };
+    match read_with(alloc, document, &run.case, run.seed) {
+        Ok(scenario) => {
+            let _version = scenario.version();
+            Ok(())
+        }
+        Err(refusal) => Err(Refused {
+            case: run.case,
+            seed: run.seed,
+            refusal,
+        }),
+    }
+}
+
+/// Memory was refused before a run was looked at.
+fn no_memory(alloc: Global) -> Refused
+    ensures { result.refusal.rule ≡ 11 }
+{
+    Refused {
+        case: Vec::new(alloc),
+        seed: None,
+        refusal: Refusal { rule: 11, place: 0 },
+    }
+}

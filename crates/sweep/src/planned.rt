@@ -1,0 +1,46 @@
+//! The runs that a sweep asks for, by their numbers.
+ghost use Rattle.std.specs.Prelude.{◌≡◌, ◌<◌, ◌^◌, All, Some, slice_get, IfOk};
+ghost use Rattle.std.specs.Option.{ForSome};
+ghost use Rattle.cases.specs.Values.{FitsToml};
+ghost use Rattle.cases.specs.Sweep.{run_count, seed_count};
+ghost use Rattle.sweep.specs.Runs.{IsAskedFor, IsRunAt, planned_as, seeds_of};
+
+use base::Memory;
+use cases::{Choice, Plan, Seeds};
+use std::alloc::Global;
+
+/// A run that a sweep asks for.
+#[derive(Drop)]
+pub(crate) struct PlannedRun {
+    /// The values of its case.
+    pub(crate) case: Vec<Choice>,
+    /// Its seed; none where the text's own is meant.
+    pub(crate) seed: Option<u64>,
+}
+
+/// The run of this number, counted from 0: the cases come one after the other, and of each its seeds.
+pub(crate) fn planned(alloc: Global, plan: &Plan, number: usize) -> Result<PlannedRun, Memory>
+    requires asked { IsAskedFor plan.now }
+    requires within { number < run_count plan.now }
+    ensures run { IfOk result (λ run. IsRunAt plan.now number (planned_as run.case.items run.seed)) }
+    ensures fits { IfOk result (λ run. All (λ c. FitsToml c.value) run.case.items) }
+    ensures low { IfOk result (λ run. ForSome run.seed (λ n. n < 2 ^ 63)) }
+{
+    let each = plan.runs_of_case();
+    let case = plan.case_at(alloc, number / each)?;
+    let seed = seed_at(plan.seeds(), number % each);
+    Ok(PlannedRun { case, seed })
+}
+
+/// The seed at this place among those with which each case runs.
+fn seed_at(seeds: Option<Seeds>, place: usize) -> Option<u64>
+    requires low { ForSome seeds (λ r. r.last < 2 ^ 63) }
+    requires within { place < seed_count seeds }
+    ensures seed { slice_get (seeds_of seeds) place ≡ Some result }
+    ensures low { ForSome result (λ n. n < 2 ^ 63) }
+{
+    match seeds {
+        Some(seeds) => Some(seeds.first + place as u64),
+        None => None,
+    }
+}

@@ -1,0 +1,61 @@
+//! The scenarios of runs that a sweep asks for.
+ghost use Rattle.std.specs.Prelude.{◌≡◌, ◌≤◌, ◌<◌, ◌+◌, ◌-◌, ℕ, Some, slice_get, vec_len, IfOk, IfErr};
+ghost use Rattle.toml.specs.View.{view};
+ghost use Rattle.scenario.specs.Setup.{Setup};
+ghost use Rattle.cases.specs.Sweep.{run_count};
+ghost use Rattle.sweep.specs.Judged.{AreAccepted};
+ghost use Rattle.sweep.specs.Runs.{IsAskedFor};
+ghost use Rattle.sweep.specs.Table.{IsReadAt};
+
+use crate::planned::planned;
+use base::Memory;
+use cases::{Plan, read_with};
+use scenario::{Refusal, Scenario};
+use std::alloc::Global;
+use toml::Value;
+
+/// The scenarios of the runs from one number to before another. All documents were judged, so an error is
+/// want of memory.
+pub(crate) fn read_runs(
+    alloc: Global,
+    plan: &Plan,
+    document: &Value,
+    from: usize,
+    till: usize,
+) -> Result<Vec<Scenario>, Memory>
+    requires asked { IsAskedFor plan.now }
+    requires judged { AreAccepted (view document.now) plan.now }
+    requires ordered { from ≤ till }
+    requires within { till ≤ run_count plan.now }
+    ensures count { IfOk result (λ scenarios. vec_len scenarios ≡ till - from) }
+    ensures read { IfOk result (λ scenarios. (place : ℕ) (s : Setup) → slice_get scenarios.items place ≡ Some s
+        → IsReadAt (view document.now) plan.now (from + place) s) }
+{
+    let mut scenarios = Vec::new(alloc);
+    for number in from..till {
+        let scenario = read_run(alloc, plan, document, number)?;
+        scenarios.push(scenario)?;
+    }
+    Ok(scenarios)
+}
+
+/// The scenario of the run of this number.
+fn read_run(alloc: Global, plan: &Plan, document: &Value, number: usize) -> Result<Scenario, Memory>
+    requires asked { IsAskedFor plan.now }
+    requires judged { AreAccepted (view document.now) plan.now }
+    requires within { number < run_count plan.now }
+    ensures { IfOk result (IsReadAt (view document.now) plan.now number) }
+{
+    let run = planned(alloc, plan, number)?;
+    match read_with(alloc, document, &run.case, run.seed) {
+        Ok(scenario) => Ok(scenario),
+        Err(refusal) => Err(memory_of(refusal)),
+    }
+}
+
+/// The want of memory that a refusal tells.
+fn memory_of(_refusal: Refusal) -> Memory
+    requires { _refusal.rule ≡ 11 }
+{
+    Memory
+}

@@ -1,0 +1,89 @@
+//! What a table says of keys and of the values that they had.
+ghost use Rattle.std.specs.Prelude.{◌≡◌, ◌<◌, ◌^◌, ◌+◌, List, ℕ, map, string_bytes, IfOk, OnOk, OnErr};
+ghost use Rattle.std.specs.Io.KnownBytes.{Appends, Keeps};
+ghost use Rattle.trace.specs.Sinks.{AppendsBeginning, failures_of_write};
+ghost use Rattle.figures.specs.Lines.{header_line, run_line};
+ghost use Rattle.sweep.specs.Table.{names_of, texts_of};
+
+use base::Memory;
+use cases::{Choice, Setting};
+use figures::{RunFigures, write_header, write_run};
+use std::alloc::{AllocError, Global};
+use trace::{Sink, WriteError};
+
+/// Puts the first line of the table, with the names of the keys that are set.
+pub(crate) fn write_names<S: Sink>(
+    alloc: Global,
+    settings: &[Setting],
+    table: &mut S,
+) -> Result<(), WriteError>
+    requires { S.failed table.old < 2 ^ 63 }
+    ensures whole { OnOk result (Appends (S.held table.old) (S.held table.new) (header_line (names_of settings.now))) }
+    ensures part { OnErr result (AppendsBeginning (S.held table.old) (S.held table.new) (header_line (names_of settings.now))) }
+    ensures failures { S.failed table.new ≡ S.failed table.old + failures_of_write result }
+{
+    let names = match names(alloc, settings) {
+        Ok(names) => names,
+        Err(Memory) => return Err(WriteError::Memory),
+    };
+    match lent(alloc, &names) {
+        Ok(keys) => write_header(alloc, &keys, table),
+        Err(_) => Err(WriteError::Memory),
+    }
+}
+
+/// Puts the line of a run, with the values of its case.
+pub(crate) fn write_values<S: Sink>(
+    alloc: Global,
+    case: &[Choice],
+    seed: u64,
+    figures: &RunFigures,
+    table: &mut S,
+) -> Result<(), WriteError>
+    requires { S.failed table.old < 2 ^ 63 }
+    ensures whole { OnOk result (Appends (S.held table.old) (S.held table.new) (run_line (texts_of case.now) seed figures.now)) }
+    ensures part { OnErr result (AppendsBeginning (S.held table.old) (S.held table.new) (run_line (texts_of case.now) seed figures.now)) }
+    ensures failures { S.failed table.new ≡ S.failed table.old + failures_of_write result }
+{
+    let texts = match texts(alloc, case) {
+        Ok(texts) => texts,
+        Err(Memory) => return Err(WriteError::Memory),
+    };
+    match lent(alloc, &texts) {
+        Ok(values) => write_run(alloc, &values, seed, figures, table),
+        Err(_) => Err(WriteError::Memory),
+    }
+}
+
+/// The names of the keys that are set.
+fn names(alloc: Global, settings: &[Setting]) -> Result<Vec<String>, Memory>
+    ensures { IfOk result (λ names. map string_bytes names.items ≡ names_of settings.now) }
+{
+    let mut names = Vec::new(alloc);
+    for setting in settings {
+        names.push(setting.key().name(alloc)?)?;
+    }
+    Ok(names)
+}
+
+/// The values of a case, as words say them.
+fn texts(alloc: Global, case: &[Choice]) -> Result<Vec<String>, Memory>
+    ensures { IfOk result (λ texts. map string_bytes texts.items ≡ texts_of case.now) }
+{
+    let mut texts = Vec::new(alloc);
+    for choice in case {
+        texts.push(choice.value.text(alloc)?)?;
+    }
+    Ok(texts)
+}
+
+/// The texts, lent.
+fn lent<'a>(alloc: Global, texts: &'a [String]) -> Result<Vec<&'a str>, AllocError>
+    ensures { IfOk result (λ lent. map (λ text. text.now) lent.items ≡ map string_bytes texts.now) }
+{
+    let mut lent = Vec::new(alloc);
+    for text in texts {
+        lent.push(text.as_str())?;
+    }
+    Ok(lent)
+}
