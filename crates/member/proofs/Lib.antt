@@ -6,3 +6,4 @@ pub mod Helpers
 pub mod Openings
 pub mod Fair
 pub mod Buddies
+mod Groups

@@ -1,7 +1,7 @@
-ghost use Rattle.std.specs.Prelude.{◌≡◌, ◌<◌, ◌∷◌, ◌++◌, [], if◌then◌else◌, length, OnOk, IfOk, IfErr};
-ghost use Rattle.scenario.specs.Setup.{member_count};
+ghost use Rattle.std.specs.Prelude.{ℕ, ◌≡◌, ◌<◌, ◌≤◌, ◌&&◌, not, nat_eq, ◌∷◌, ◌++◌, [], if◌then◌else◌, length, OnOk, IfOk, IfErr};
+ghost use Rattle.scenario.specs.Setup.{member_count, start_of};
 ghost use Rattle.member.specs.Makes.{AreAboutMembers, KnowsMembers, Makes};
-ghost use Rattle.member.specs.Step.{first_period_set, is_first_other, first_others, began, join_asked, joining_begun, started, crashed, join_handled, about_others, joined};
+ghost use Rattle.member.specs.Step.{first_period_set, first_others, began, join_asked, joining_begun, started, crashed, join_handled, about_others, joined};
 
 use crate::content::Content;
 use crate::here::Here;
@@ -145,20 +145,73 @@ fn first_others(
     ensures err { IfErr result (λ e. e ≡ StepError.Memory) }
 {
     let mut others = Vec::new(alloc);
+    let mut run = Run {
+        end: 0,
+        is_first: false,
+    };
     for number in 0..scenario.members() {
         let other = MemberId(number as u16);
-        let keep = is_first_other(scenario, oneself, other);
+        run = run_at(run, scenario, other);
+        let keep = is_kept(run, other, oneself);
         push_if(&mut others, keep, other)?;
     }
     Ok(others)
 }
 
-/// Whether a member is another one that starts at moment 0.
-fn is_first_other(scenario: &Scenario, oneself: MemberId, other: MemberId) -> bool
-    requires { other < member_count scenario.now }
-    ensures { result ≡ is_first_other scenario.now oneself other }
+/// Members whose groups were looked up together: those up to an end, all of which start at moment 0, or none.
+#[derive(Clone, Copy)]
+struct Run {
+    end: usize,
+    is_first: bool,
+}
+
+/// The run that has this member: the present one, or another that begins with it.
+fn run_at(run: Run, scenario: &Scenario, member: MemberId) -> Run
+    requires named { member < member_count scenario.now }
+    requires known { (k : ℕ) → member ≤ k → k < run.end → run.is_first ≡ nat_eq (start_of scenario.now k) 0 }
+    ensures within { member < result.end }
+    ensures known { (k : ℕ) → member ≤ k → k < result.end → result.is_first ≡ nat_eq (start_of scenario.now k) 0 }
 {
-    scenario.start(other) == Moment(0) && other != oneself
+    if member.index() < run.end {
+        run
+    } else {
+        run_from(scenario, member)
+    }
+}
+
+/// A run that begins with this member.
+fn run_from(scenario: &Scenario, first: MemberId) -> Run
+    requires { first < member_count scenario.now }
+    ensures within { first < result.end }
+    ensures known { (k : ℕ) → first ≤ k → k < result.end → result.is_first ≡ nat_eq (start_of scenario.now k) 0 }
+{
+    Run {
+        end: end_of_run(scenario, first),
+        is_first: scenario.start(first) == Moment(0),
+    }
+}
+
+/// Past the 64 members from this one on, or as many as there are, where the last of them is in the same group:
+/// then all are. Else past this member alone.
+fn end_of_run(scenario: &Scenario, first: MemberId) -> usize
+    requires { first < member_count scenario.now }
+    ensures within { first < result }
+    ensures same { (k : ℕ) → first ≤ k → k < result → start_of scenario.now k ≡ start_of scenario.now first }
+{
+    let number = first.index();
+    let last = (scenario.members() - 1).min(number + 63);
+    if scenario.group_number(MemberId(last as u16)) == scenario.group_number(first) {
+        last + 1
+    } else {
+        number + 1
+    }
+}
+
+/// Whether a member of a run starts at moment 0, and is another one.
+fn is_kept(run: Run, member: MemberId, oneself: MemberId) -> bool
+    ensures { result ≡ (run.is_first && not (nat_eq member oneself)) }
+{
+    run.is_first && member != oneself
 }
 
 /// Puts a member at the end, if it is to be kept.

@@ -1,5 +1,5 @@
 -- Columns of claims and numbers as a table.
-use Rattle.std.proofs.Common.{◌≡◌, ℕ, zero, suc, ◌+◌, ◌<◌, ◌≤◌, Bool, true, false, cond, not, eqb, nat_eq, ◌&&◌, List, [], ◌∷◌, ◌++◌, map, filter, length, set, get_or, take, Option, Some, None, Result, Ok, Err, IfOk, OnErr, count_by, sum_by, slice_index, ap, ◌∙◌, sym, refl, arith}
+use Rattle.std.proofs.Common.{◌≡◌, ◌≢◌, ℕ, zero, suc, ◌+◌, ◌<◌, ◌≤◌, Bool, true, false, cond, not, eqb, nat_eq, ◌&&◌, List, [], ◌∷◌, ◌++◌, map, filter, length, replicate, set, get_or, take, Option, Some, None, Result, Ok, Err, IfOk, OnErr, count_by, sum_by, slice_index, ap, ◌∙◌, sym, refl, arith}
 use Rattle.std.specs.Option.{option_map}
 use Rattle.std.specs.List.{AllByRecursion}
 use Rattle.std.specs.List.Sorted.{IsStrictlySortedBy}
@@ -14,8 +14,9 @@ use Rattle.std.proofs.lemmas.List.Elements.{filter-append}
 use Rattle.std.proofs.lemmas.List.Sums.{sum_by-cons, sum_by_push}
 use Rattle.incarnation.specs.declared.Claim.{Claim}
 use Rattle.incarnation.specs.declared.Update.{Update}
-use Rattle.membership.specs.Table.{known_of, is_alive, is_confirm, live_count, update_by}
+use Rattle.membership.specs.Table.{known_of, all_alive, is_alive, is_confirm, live_count, update_by}
 use Rattle.membership.proofs.Entries.{live_count-entries}
+use Rattle.membership.proofs.Alive.{get-alive}
 use Rattle.membership.specs.Columns.{entries_from, claim_at, held_at, claim_weight}
 
 abbrev pub Entry : Type 0
@@ -68,21 +69,21 @@ table_grown claims' claims incs' incs same same_too =
 
 module _ (claims : List (Option Claim)) (incs : List ℕ) (place : ℕ) where
   -- a claim with its number written
-  pub table_set : (c : Claim) (i : ℕ) → place < length claims → place < length incs
-      → known_of (entries_from 0 (set claims place (Some c)) (set incs place i)) ≡ insert (known_of (entries_from 0 claims incs)) place (c, i)
-  table_set c i within inside =
+  pub table_set : (incs' : List ℕ) (c : Claim) (i : ℕ) → place < length claims → slice_index incs' place ≡ i → ((k : ℕ) → k ≢ place → slice_index incs' k ≡ slice_index incs k)
+      → known_of (entries_from 0 (set claims place (Some c)) incs') ≡ insert (known_of (entries_from 0 claims incs)) place (c, i)
+  table_set incs' c i within here others =
       same_map nat_cmp_total nat_cmp-IsAntisymmetric _ _ (λ q.
-      get_held (set incs place i) (set claims place (Some c)) q ∙ at q (eqb q place) refl
+      get_held incs' (set claims place (Some c)) q ∙ at q (eqb q place) refl
       ∙ sym (get-insert nat_cmp_total (known_of (entries_from 0 claims incs)) place (c, i) q ∙ ap (λ b. cond b (Some (c, i)) (get (known_of (entries_from 0 claims incs)) q)) (unsigned_tied q place)
       ∙ ap (cond (eqb q place) (Some (c, i))) (get_held incs claims q)))
     where
-      at : (q : ℕ) (b : Bool) → eqb q place ≡ b → held_at (set claims place (Some c)) (set incs place i) q ≡ cond b (Some (c, i)) (held_at claims incs q)
+      at : (q : ℕ) (b : Bool) → eqb q place ≡ b → held_at (set claims place (Some c)) incs' q ≡ cond b (Some (c, i)) (held_at claims incs q)
       at q true is =
-          ap (held_at (set claims place (Some c)) (set incs place i)) (eqb-true q place is)
-          ∙ ap (option_map (λ x. (x, slice_index (set incs place i) place))) (get_or-set_same claims place (Some c) None within) ∙ ap (λ n. Some (c, n)) (get_or-set_same incs place i 0 inside)
+          ap (held_at (set claims place (Some c)) incs') (eqb-true q place is)
+          ∙ ap (option_map (λ x. (x, slice_index incs' place))) (get_or-set_same claims place (Some c) None within) ∙ ap (λ n. Some (c, n)) here
       at q false is =
-          ap (option_map (λ x. (x, slice_index (set incs place i) q))) (get_or-set_other claims place q (Some c) None (eqb-false q place is))
-          ∙ ap (λ n. option_map (λ x. (x, n)) (claim_at claims q)) (get_or-set_other incs place q i 0 (eqb-false q place is))
+          ap (option_map (λ x. (x, slice_index incs' q))) (get_or-set_other claims place q (Some c) None (eqb-false q place is))
+          ∙ ap (λ n. option_map (λ x. (x, n)) (claim_at claims q)) (others q (eqb-false q place is))
 
   -- a claim taken away
   pub table_removed : place < length claims → known_of (entries_from 0 (set claims place None) incs) ≡ remove (known_of (entries_from 0 claims incs)) place
@@ -108,6 +109,25 @@ module _ (claims : List (Option Claim)) (incs : List ℕ) (place : ℕ) where
       at : (q : ℕ) (b : Bool) → eqb q place ≡ b → get (known_of (entries_from 0 claims incs)) q ≡ cond b None (get (known_of (entries_from 0 claims incs)) q)
       at q true is = ap (get (known_of (entries_from 0 claims incs))) (eqb-true q place is) ∙ none_past past
       at q false is = refl
+
+-- ---- columns in which nothing is held
+
+pub nobody_held : (claims : List (Option Claim)) → ((k : ℕ) → claim_at claims k ≡ None) → known_of (entries_from 0 claims []) ≡ all_alive []
+nobody_held claims none =
+    same_map nat_cmp_total nat_cmp-IsAntisymmetric _ _ (λ q. get_held [] claims q ∙ ap (option_map (λ c. (c, slice_index [] q))) (none q) ∙ sym (get-alive [] q))
+
+pub nobody_weighs : (claims : List (Option Claim)) → ((k : ℕ) → claim_at claims k ≡ None) → sum_by claim_weight claims ≡ 0
+nobody_weighs [] none = refl
+nobody_weighs (c ∷ claims) none =
+    let more = sum_by-cons claim_weight c claims in
+    let rest = nobody_weighs claims (λ k. none (suc k)) in
+    let first : claim_weight c ≡ 0 = ap claim_weight (none 0) in
+    omega arith
+
+pub nobody_replicated : (n k : ℕ) → claim_at (replicate n None) k ≡ None
+nobody_replicated zero k = refl
+nobody_replicated (suc n) zero = refl
+nobody_replicated (suc n) (suc k) = nobody_replicated n k
 
 -- ---- longer columns
 

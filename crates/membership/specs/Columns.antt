@@ -23,8 +23,7 @@ abbrev pub claim_weight : Option Claim → ℕ
 claim_weight None = 0
 claim_weight (Some claim) = if not (is_confirm claim) then 1 else 0
 
--- each claim has a number beside it, and the count is of those not confirmed and of oneself
-pub record IsCounted (claims : List (Option Claim)) (incs : List ℕ) (live : ℕ) : Type 0 where
-  pub covered : length claims ≤ length incs
+-- the claims are of members with numbers of 16 bits, and the count is of those not confirmed and of oneself
+pub record IsCounted (claims : List (Option Claim)) (live : ℕ) : Type 0 where
   pub few : length claims ≤ 2 ^ 16
   pub counted : live ≡ sum_by claim_weight claims + 1

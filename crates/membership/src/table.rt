@@ -1,7 +1,7 @@
-ghost use Rattle.std.specs.Prelude.{List, max, ◌≡◌, ◌+◌, ◌^◌, ◌<◌, ◌≤◌, ◌&&◌, ℕ, true, not, nat_eq, map, filter, length, vec_len, sum_by, slice_index, OnOk, OnErr, IfOk};
+ghost use Rattle.std.specs.Prelude.{List, [], EachIndex, None, Some, set, max, ◌≡◌, ◌≢◌, ◌+◌, ◌^◌, ◌<◌, ◌≤◌, ◌&&◌, ℕ, true, not, nat_eq, map, filter, length, vec_len, sum_by, slice_index, OnOk, OnErr, IfOk};
 ghost use Rattle.std.specs.Option.{option_map_or};
 ghost use Rattle.std.specs.FinMap.{empty, get, insert, remove};
-ghost use Rattle.membership.specs.Table.{all_alive, is_alive, live_count, alive_but, update_by, updates_by};
+ghost use Rattle.membership.specs.Table.{all_alive, is_alive, known_of, live_count, alive_but, update_by, updates_by};
 ghost use Rattle.membership.specs.Columns.{entries_from, claim_at, claim_weight};
 
 use crate::claims::{is_alive, is_confirm};
@@ -15,8 +15,10 @@ use std::marker::Model;
 #[derive(Drop)]
 pub struct Table {
     /// The claims, by the numbers of the members they are about: every member of a cluster has a table of
-    /// nearly all others, so both columns are dense.
+    /// nearly all others, so the column is dense.
     claims: Vec<Option<Claim>>,
+    /// The incarnation numbers in the same places, and 0 past the end: so as long as nobody has refuted
+    /// anything, there are none.
     incs: Vec<u64>,
     /// How many members are not confirmed, oneself included. Each message asks for it.
     live: usize,
@@ -35,7 +37,7 @@ impl Model for Table {
 
     ghost view = { λ table. known_of (entries_from 0 table.claims.items table.incs.items) };
 
-    ghost invariant = { λ table. IsCounted table.claims.items table.incs.items table.live };
+    ghost invariant = { λ table. IsCounted table.claims.items table.live };
 }
 
 impl Table {
@@ -56,11 +58,13 @@ impl Table {
     pub fn of_alive(alloc: Global, members: &[MemberId]) -> Result<Self, Memory>
         ensures { IfOk result (λ table. table ≡ all_alive members.now) }
     {
-        let mut table = Table::new(alloc);
-        for member in members {
-            table.set(*member, (Claim::Alive, 0))?;
-        }
-        Ok(table)
+        let mut claims = nobody(alloc, past_all(members))?;
+        let live = hold_alive(&mut claims, members);
+        Ok(Table {
+            claims,
+            incs: Vec::new(alloc),
+            live,
+        })
     }
 
     /// What is held of a member.
@@ -72,7 +76,7 @@ impl Table {
             return None;
         }
         let claim = self.claims[place]?;
-        Some((claim, self.incs[place]))
+        Some((claim, number_at(&self.incs, place)))
     }
 
     /// Holds this of a member from now on. A refusal leaves the table as it was.
@@ -81,12 +85,10 @@ impl Table {
         ensures err { OnErr result (self.new ≡ self.old) }
     {
         let place = usize::from(member.0);
-        reach_number(&mut self.incs, place)?;
+        reach_number(&mut self.incs, place, held.1)?;
         reach_claim(&mut self.claims, place)?;
-        let old = weight(self.claims[place]);
-        self.claims[place] = Some(held.0);
-        self.incs[place] = held.1;
-        self.live = self.live + weight(Some(held.0)) - old;
+        self.live = put_claim(&mut self.claims, place, held.0, self.live);
+        write_number(&mut self.incs, place, held.1);
         Ok(())
     }
 
@@ -140,16 +142,100 @@ fn reach_claim(claims: &mut Vec<Option<Claim>>, place: usize) -> Result<(), Memo
     Ok(())
 }
 
-// Has a place for a number, with 0 where there was none.
-fn reach_number(incs: &mut Vec<u64>, place: usize) -> Result<(), Memory>
-    ensures place { OnOk result (place < vec_len incs.new) }
-    ensures same { (k : ℕ) → slice_index incs.new.items k ≡ slice_index incs.old.items k }
-    ensures long { length incs.old.items ≤ length incs.new.items }
+// A member's number.
+fn number(member: MemberId) -> u16
+    ensures value { result ≡ member }
+    ensures small { result < 2 ^ 16 }
 {
+    member.0
+}
+
+// A number past those of all these members.
+fn past_all(members: &[MemberId]) -> usize
+    ensures above { EachIndex members.now (λ k. slice_index members.now k < result) }
+    ensures few { result ≤ 2 ^ 16 }
+{
+    let mut greatest = 0;
+    for member in members {
+        greatest = greatest.max(number(*member));
+    }
+    usize::from(greatest) + 1
+}
+
+// So many places, with nothing held of anybody.
+fn nobody(alloc: Global, places: usize) -> Result<Vec<Option<Claim>>, Memory>
+    ensures none { IfOk result (λ claims. (k : ℕ) → claim_at claims.items k ≡ None) }
+    ensures len { IfOk result (λ claims. length claims.items ≡ places) }
+{
+    let mut claims = Vec::new(alloc);
+    claims.resize(places, None)?;
+    Ok(claims)
+}
+
+// Holds a claim at a place from now on. Given how many members are not confirmed, oneself included, it returns
+// how many are not then.
+fn put_claim(claims: &mut Vec<Option<Claim>>, place: usize, claim: Claim, live: usize) -> usize
+    requires place { place < length claims.old.items }
+    requires few { length claims.old.items ≤ 2 ^ 16 }
+    requires counted { live ≡ sum_by claim_weight claims.old.items + 1 }
+    ensures put { claims.new.items ≡ set claims.old.items place (Some claim) }
+    ensures counted { result ≡ sum_by claim_weight claims.new.items + 1 }
+{
+    let old = weight(claims[place]);
+    claims[place] = Some(claim);
+    live + weight(Some(claim)) - old
+}
+
+// Holds each of these members to be up, where nothing is held of anybody. Returns how many members are not
+// confirmed then, oneself included.
+fn hold_alive(claims: &mut Vec<Option<Claim>>, members: &[MemberId]) -> usize
+    requires nobody { (k : ℕ) → claim_at claims.old.items k ≡ None }
+    requires places { EachIndex members.now (λ k. slice_index members.now k < length claims.old.items) }
+    requires few { length claims.old.items ≤ 2 ^ 16 }
+    ensures held { known_of (entries_from 0 claims.new.items []) ≡ all_alive members.now }
+    ensures few { length claims.new.items ≤ 2 ^ 16 }
+    ensures counted { result ≡ sum_by claim_weight claims.new.items + 1 }
+{
+    let mut live = 1;
+    for member in members {
+        live = put_claim(claims, member.index(), Claim::Alive, live);
+    }
+    live
+}
+
+// The number at a place: 0 past the end.
+fn number_at(incs: &[u64], place: usize) -> u64
+    ensures { result ≡ slice_index incs.now place }
+{
+    match incs.get(place) {
+        Some(inc) => *inc,
+        None => 0,
+    }
+}
+
+// Has a place for a number, with 0 where there was none. A 0 needs none.
+fn reach_number(incs: &mut Vec<u64>, place: usize, inc: u64) -> Result<(), Memory>
+    ensures place { OnOk result (inc ≢ 0 → place < vec_len incs.new) }
+    ensures same { (k : ℕ) → slice_index incs.new.items k ≡ slice_index incs.old.items k }
+{
+    if inc == 0 {
+        return Ok(());
+    }
     while incs.len() <= place {
         incs.push(0)?;
     }
     Ok(())
+}
+
+// Writes a number at a place. There is nothing to write where that is past the end, for a 0.
+fn write_number(incs: &mut Vec<u64>, place: usize, inc: u64)
+    requires { inc ≢ 0 → place < vec_len incs.old }
+    ensures same { slice_index incs.new.items place ≡ inc }
+    ensures others { (k : ℕ) → k ≢ place → slice_index incs.new.items k ≡ slice_index incs.old.items k }
+{
+    if place < incs.len() {
+        incs[place] = inc;
+    }
 }
 
 // What a claim adds to the count of those who are not confirmed.
@@ -196,8 +282,7 @@ fn list_updates(
     incs: &[u64],
     accuser: MemberId,
 ) -> Result<Vec<Update>, Memory>
-    requires numbered { length claims.now ≤ 2 ^ 16 }
-    requires covered { length claims.now ≤ length incs.now }
+    requires { length claims.now ≤ 2 ^ 16 }
     ensures { IfOk result (λ updates. updates.items ≡ map (update_by accuser) (entries_from 0 claims.now incs.now)) }
 {
     let mut updates = Vec::new(alloc);
@@ -206,7 +291,7 @@ fn list_updates(
         let update = Update {
             subject: MemberId(number as u16),
             claim: *claim,
-            inc: incs[number],
+            inc: number_at(incs, number),
             accuser,
         };
         updates.push(update)?;

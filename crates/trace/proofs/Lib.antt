@@ -1,3 +1,3 @@
 pub mod Beginnings
-mod PlainFields
+mod ShortFields
 pub mod RowsText

@@ -222,6 +222,21 @@ module _ {E : Type 0} where
     all_after_late_push k e (Ok _) is new = ap (union a) is ∙ union_pushed_second a b k e (not_in_first a b k new)
     all_after_late_push k e (Err _) is new = tt
 
+  -- ---- a moment that none comes before
+
+  none_before_pushed : (b : FinMap {K = Key} key_cmp E) (k : Key) (e : E) (from least : ℕ) → least ≤ from → least ≤ k.at → NoneIsBelow b from
+      → (q : Key) (same : Bool) → eq_by_cmp key_cmp q k ≡ same → is_some (cond same (Some e) (get b q)) ≡ true → least ≤ q.at
+  none_before_pushed b k e from least low at none q true is here = let moment : q.at ≡ k.at = ap (λ (r : Key). r.at) (tells q k is) in omega (arith, at)
+  none_before_pushed b k e from least low at none q false is here = let late : from ≤ q.at = none q here in omega (arith, low)
+
+  -- after a push, also one that was refused
+  pub none_below_pushed : {A F : Type 0} (b b' : FinMap {K = Key} key_cmp E) (k : Key) (e : E) (from least : ℕ) (pushed : Result A F) → OnOk pushed (b' ≡ insert b k e) → OnErr pushed (b' ≡ b)
+      → least ≤ from → least ≤ k.at → NoneIsBelow b from → NoneIsBelow b' least
+  none_below_pushed b b' k e from least (Ok _) is same low at none q here =
+      none_before_pushed b k e from least low at none q (eq_by_cmp key_cmp q k) refl (sym (ap (λ m. is_some (get m q)) is ∙ ap is_some (get-insert key_total b k e q)) ∙ here)
+  none_below_pushed b b' k e from least (Err _) is same low at none q here =
+      let late : from ≤ q.at = none q (sym (ap (λ m. is_some (get m q)) same) ∙ here) in omega (arith, low)
+
   -- ---- how many there are
 
   pub none_to_count : (m : FinMap {K = Key} key_cmp E) → m ≡ empty → 0 ≡ len m

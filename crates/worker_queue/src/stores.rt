@@ -22,7 +22,11 @@ use std::alloc::Global;
 pub(crate) struct Stores<E: Keyed> {
     pub(crate) wheel: Wheel<E>,
     pub(crate) late: TreeQueue<E>,
+    /// A moment that no late event comes before: where no late event is below the bound, a pop need not look
+    /// into the tree.
+    late_from: u64,
     ghost apart: { AreApart (events_in E.key wheel.slots.items) (set_of late) },
+    ghost not_earlier: { NoneIsBelow (set_of late) late_from },
 }
 
 impl<E: Keyed + Drop> Stores<E> {
@@ -36,6 +40,7 @@ impl<E: Keyed + Drop> Stores<E> {
         Ok(Stores {
             wheel,
             late: TreeQueue::new(alloc),
+            late_from: u64::MAX,
         })
     }
 
@@ -47,9 +52,11 @@ impl<E: Keyed + Drop> Stores<E> {
         ensures handed_back { IfErr result (λ refused. refused ≡ event) }
         ensures unchanged { OnErr result (all_in E.key self.new ≡ all_in E.key self.old) }
     {
-        if self.wheel.spans(event.key().at) {
+        let at = event.key().at;
+        if self.wheel.spans(at) {
             self.wheel.push(event)
         } else {
+            self.late_from = self.late_from.min(at.ticks());
             self.late.push(event)
         }
     }
@@ -92,6 +99,7 @@ impl<E: Keyed + Drop> Stores<E> {
     {
         let event = self.late.pop_below(bound)?;
         self.wheel.rise(event.key().at);
+        self.late_from = earliest(&self.late);
         Some(event)
     }
 
@@ -103,9 +111,22 @@ impl<E: Keyed + Drop> Stores<E> {
         ensures free { NoneIsBelow (set_of self.now.late) bound → (q : AKey) → q.at < bound → IsBefore q result }
     {
         let first = first_key(bound);
+        if bound.ticks() <= self.late_from {
+            return first;
+        }
         let Some(key) = self.late.least() else {
             return first;
         };
         if is_before(&key, &first) { key } else { first }
+    }
+}
+
+/// A moment that none of these events comes before, as late as may be.
+fn earliest<E: Keyed + Drop>(events: &TreeQueue<E>) -> u64
+    ensures { NoneIsBelow (set_of events.now) result }
+{
+    match events.least() {
+        Some(key) => key.at.ticks(),
+        None => u64::MAX,
     }
 }

@@ -1,4 +1,4 @@
-use Rattle.std.proofs.Common.{map, ap, ◌∙◌, sym}
+use Rattle.std.proofs.Common.{[], ◌∷◌, ◌++◌, map, ap, ◌∙◌, sym}
 use Rattle.membership.specs.Table.{update_by}
 use Rattle.membership.proofs.Columns.{none_more, updates_more}
 use Rattle.membership.proofs.table.list_updates.Goals as goal
@@ -10,4 +10,5 @@ loop-number-preserved-in_default c =
 pub loop-number-preserved : goal.loop-number-preserved
 loop-number-preserved c =
     updates_more c.args.accuser c.args.claims.now c.args.incs.now c.loop-number.number c.in-Some.claim c.loop-number-test.true c.in-Some.is c.loop-number.updates.items c.push.new.self.items
-    c.loop-number.invariant c.in_ok-push.ensures.items
+    c.loop-number.invariant
+    (c.in_ok-push.ensures.items ∙ ap (λ n. c.loop-number.updates.items ++ update_by c.args.accuser (c.loop-number.number, (c.in-Some.claim, n)) ∷ []) c.number_at.ensures)

@@ -1,13 +1,10 @@
-use Rattle.std.proofs.Common.{◌∙◌, ◌++◌, ap}
-use Rattle.std.specs.Fmt.{decimal}
-use Rattle.csv.specs.Writing.{default_writer, row_text}
+use Rattle.std.proofs.Common.{rules, ◌≡◌, ◌∙◌, ◌++◌, length, ap}
 use Rattle.trace.specs.Lines.{laid_out}
-use Rattle.trace.proofs.PlainFields.{row_line, OnOk-then}
+use Rattle.trace.proofs.ShortFields.{line_written, from_place, OnOk-then}
 use Rattle.trace.proofs.lines.write_line.Goals as goal
 
 pub returns-clause-text : goal.returns-clause-text
 returns-clause-text c =
-    let line =
-    ap (row_text default_writer) c.fields_of-fields.ensures.fields
-    ∙ row_line c.args.scenario.now c.fields_of-fields.ensures.sound c.args.row.now _ _ _ (c.format.ensures.text ∙ ap decimal c.ticks.ensures) c.format-2.ensures.text c.format-3.ensures.text in
-    OnOk-then c.write_fields.result c.write_fields.ensures.text (λ text. text ∙ ap (λ l. laid_out c.args.writer.now ++ l) line)
+    let long : length c.lay_fields-start.new.room ≡ 320 = search rules in
+    let line = line_written c.args.scenario.now c.args.row.now _ (from_place c.lay_fields-start.result c.lay_fields-start.new.room long ∙ c.lay_fields-start.ensures.laid) in
+    OnOk-then c.end_line.result c.end_line.ensures.text (λ text. text ∙ ap (λ l. laid_out c.args.writer.now ++ l) line)

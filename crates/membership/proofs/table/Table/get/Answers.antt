@@ -1,7 +1,6 @@
-use Rattle.std.proofs.Common.{◌<◌, ◌≤◌, Some, length, ap, ◌∙◌, sym, arith}
+use Rattle.std.proofs.Common.{◌<◌, ◌≤◌, Some, length, slice_index, ap, ◌∙◌, sym, arith}
 use Rattle.std.specs.Option.{option_map}
 use Rattle.std.specs.FinMap.{get}
-use Rattle.std.proofs.lemmas.List.{get_or_read}
 use Rattle.membership.specs.Columns.{entries_from}
 use Rattle.membership.specs.Table.{known_of}
 use Rattle.membership.proofs.Columns.{none_past, get_read}
@@ -21,7 +20,6 @@ returns-in_err-claim c =
 pub returns : goal.returns
 returns c =
     let within : c.index-place.result < length c.self.inside.claims.items = omega (arith, c.if-len-place.false, c.len.ensures) in
-    let inside : c.index-place.result < length c.self.inside.incs.items = omega (arith, c.self.invariant.covered) in
-    ap (λ n. Some (c.in_ok-claim.claim, n)) (get_or_read c.self.inside.incs.items c.index-place.result c.index-2.result.now inside c.index-2.ensures 0) ∙ ap (option_map _) (sym c.in_ok-claim.was)
+    ap (λ n. Some (c.in_ok-claim.claim, n)) (c.number_at.ensures ∙ ap (λ l. slice_index l c.index-place.result) c.deref.ensures.value) ∙ ap (option_map _) (sym c.in_ok-claim.was)
     ∙ sym (get_read c.self.inside.claims.items c.self.inside.incs.items c.index-place.result c.index.result.now within c.index.ensures) ∙ ap (get (known_of (entries_from 0 c.self.inside.claims.items c.self.inside.incs.items))) c.index-place.ensures
     ∙ ap (λ t. get t c.args.member) c.self.view_is

@@ -1,9 +1,20 @@
-use Rattle.std.proofs.Common.{◌∙◌, sym, subst}
+use Rattle.std.proofs.Common.{arith, ◌∙◌, sym, subst}
 use Rattle.std.proofs.lemmas.Bool.{false≢true}
 use Rattle.base.specs.Order.{IsBefore, key_total, same_key}
 use Rattle.worker_queue.proofs.Lists.{not_before_through}
 use Rattle.worker_queue.proofs.Unions.{not_in_empty}
 use Rattle.worker_queue.proofs.stores.Stores.limit.Goals as goal
+
+pub returns-then-ticks-self-clause-late : goal.returns-then-ticks-self-clause-late
+returns-then-ticks-self-clause-late g c q here before =
+    let early = (c.first_key-first.ensures q).0 before in
+    let late = c.args.self.now.not_earlier q here in
+    absurd (omega (arith, early, late, c.if-ticks-self.true, c.ticks.ensures))
+
+pub returns-then-ticks-self-clause-least : goal.returns-then-ticks-self-clause-least
+returns-then-ticks-self-clause-least g c k least below =
+    let late = c.args.self.now.not_earlier k least.here in
+    absurd (omega (arith, below, late, c.if-ticks-self.true, c.ticks.ensures))
 
 pub returns-in_default-clause-late : goal.returns-in_default-clause-late
 returns-in_default-clause-late g c q here before = not_in_empty _ q c.in_default.ensures.none here

@@ -9,6 +9,7 @@ pub invariant_of-self : goal.invariant_of-self
 invariant_of-self g c = record {
   apart =
       apart_after_pop (events_in g.E.Keyed.key c.args.self.now.wheel.slots.items) (events_in g.E.Keyed.key c.pop_before.new.self.slots.items) (set_of c.args.self.now.late) g.E.Keyed.key c.pop_before.result c.pop_before.ensures.taken c.pop_before.ensures.unchanged c.args.self.now.apart;
+  not_earlier = c.args.self.now.not_earlier;
 }
 
 pub returns-in-Some-clause-first : goal.returns-in-Some-clause-first

@@ -20,6 +20,7 @@ pub invariant_of-self-2 : goal.invariant_of-self-2
 invariant_of-self-2 g c = record {
   apart =
       subst (λ m. AreApart m (set_of c.pop_below.new.self)) (sym c.rise.ensures) (subst (AreApart (events_in g.E.Keyed.key c.args.self.now.wheel.slots.items)) (sym c.in_ok-event.ensures.taken) (apart_popped_second (events_in g.E.Keyed.key c.args.self.now.wheel.slots.items) (set_of c.args.self.now.late) (g.E.Keyed.key c.in_ok-event.event) c.args.self.now.apart));
+  not_earlier = c.earliest-self.ensures;
 }
 
 pub returns-clause-first : goal.returns-clause-first
