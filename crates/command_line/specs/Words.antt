@@ -89,9 +89,9 @@ pub record IsCheckIn (met : Option (Text × List Row)) (file : Text) : Type 0 wh
   pub named : first_of (codes "FILE") rows ≡ Some file
 
 -- a flag that was given has the value "true"
-abbrev pub is_on : Option Text → Bool
-is_on None = false
-is_on (Some word) = bytes_eq word (codes "true")
+abbrev pub is_given : Option Text → Bool
+is_given None = false
+is_given (Some word) = bytes_eq word (codes "true")
 
 -- The words of all settings, in their order, and that of the seeds, if there is one, ask for this plan. Words that ask for none, as a
 -- key that stands twice, make no sweep.
@@ -106,7 +106,7 @@ pub record IsSweepIn (met : Option (Text × List Row)) (sweep : SweepWords) : Ty
   pub table : first_of (codes "table") rows ≡ Some sweep.table.now
   pub plan : IsPlanIn rows sweep.plan
   pub workers : first_of (codes "workers") rows ≡ option_map (λ word. word.now) sweep.workers
-  pub progress : is_on (first_of (codes "progress") rows) ≡ sweep.progress
+  pub progress : is_given (first_of (codes "progress") rows) ≡ sweep.progress
 
 -- the words have no fault, and ask for this run
 abbrev pub AsksForRun : List Text → RunWords → Type 0

@@ -6,7 +6,7 @@ ghost use Rattle.cases.specs.Sweep.{Sweep as Planned};
 ghost use Rattle.command_line.specs.declared.words.RunWords.{RunWords as Wish};
 ghost use Rattle.command_line.specs.declared.words.Split.{Split as Wanted};
 ghost use Rattle.command_line.specs.declared.words.SweepWords.{SweepWords as Sought};
-ghost use Rattle.command_line.specs.Words.{check_app, file_rule, flag_rule, is_on, option_rule, run_app, sweep_app, swimsim_app, Answers, IsCheckIn, IsNoCommand, IsPlanIn, IsRunIn, IsSplitIn, IsSweepIn};
+ghost use Rattle.command_line.specs.Words.{check_app, file_rule, flag_rule, is_given, option_rule, run_app, sweep_app, swimsim_app, Answers, IsCheckIn, IsNoCommand, IsPlanIn, IsRunIn, IsSplitIn, IsSweepIn};
 
 use crate::failure::Failure;
 use cases::{Plan, PlanFault};
@@ -343,7 +343,7 @@ fn plan_asked<'a>(alloc: Global, sweep: &ArgMatches<'a>) -> Result<Plan, Failure
 
 /// Whether a flag is given.
 fn is_given(matches: &ArgMatches<'_>, id: &str) -> bool
-    ensures { result ≡ is_on (first_of id.now (rows_of (found_of matches.now))) }
+    ensures { result ≡ is_given (first_of id.now (rows_of (found_of matches.now))) }
 {
     match value_of(matches, id) {
         Some(word) => word == "true",
