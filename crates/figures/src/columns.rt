@@ -4,9 +4,7 @@ ghost use Rattle.std.specs.String.{string_bytes};
 ghost use Rattle.figures.specs.CaseLines.{padded, cells_aligned, aligned, figure_words, figure_texts, figure_widths, case_header, case_line};
 
 use crate::summary::CaseSummary;
-use crate::texts::{
-    push_hundredths, push_number, push_rate, push_tenths, push_text, push_time,
-};
+use crate::texts::{push_hundredths, push_number, push_rate, push_tenths, push_text, push_time};
 use std::alloc::{AllocError, Global};
 
 /// The words over the figures, in the order of their columns.

@@ -19,7 +19,7 @@ pub(crate) struct Gathering {
     /// The figures of the case whose runs are not all made yet.
     figures: CaseFigures,
     ghost few: { each ≤ 1000000 },
-    ghost open: { runs_kept figures < each },
+    ghost unfinished: { runs_kept figures < each },
 }
 
 impl Gathering {

@@ -1,0 +1,4 @@
+use Rattle.sweep.proofs.gathering.Gathering.new.Goals as goal
+
+pub returns : goal.returns
+returns c sweep size = ?
