@@ -29,22 +29,22 @@ lines_more widths (a ∷ cases) (t ∷ summaries) chosen summary same =
     ∙ sym (append_assoc (case_line widths (texts_of a) t) (lines_of_cases widths cases summaries) (case_line widths (texts_of chosen) summary))
 
 -- one line more
-pub line_added : (widths : List ℕ) (cases : List (List Choice)) (summaries : List CaseSummary) (place : ℕ) (chosen : List Choice) (summary : CaseSummary) (before text after : List ℕ)
-    → length cases ≡ length summaries → slice_get cases place ≡ Some chosen → summary ≡ get_or summaries place summary
-    → text ≡ before ++ lines_of_cases widths (take place cases) (take place summaries) → after ≡ text ++ case_line widths (texts_of chosen) summary
+pub line_added : (widths used : List ℕ) (cases : List (List Choice)) (summaries : List CaseSummary) (place : ℕ) (chosen : List Choice) (d : CaseSummary) (before text after : List ℕ)
+    → used ≡ widths → length cases ≡ length summaries → slice_get cases place ≡ Some chosen
+    → text ≡ before ++ lines_of_cases widths (take place cases) (take place summaries) → after ≡ text ++ case_line used (texts_of chosen) (get_or summaries place d)
     → after ≡ before ++ lines_of_cases widths (take (place + 1) cases) (take (place + 1) summaries)
-line_added widths cases summaries place chosen summary before text after same there at so is =
+line_added widths used cases summaries place chosen d before text after wide same there so is =
     let cs = take place cases in
     let ts = take place summaries in
+    let summary = get_or summaries place d in
     let lt : place < length cases = slice_get_within cases place chosen there in
     let long_c : length cs ≡ place = length-take-le place cases (omega (arith, lt)) in
     let long_t : length ts ≡ place = length-take-le place summaries (omega (arith, same, lt)) in
-    let more_t : take (place + 1) summaries ≡ ts ++ summary ∷ [] = take_more summaries place summary (omega (arith, same, lt)) ∙ ap (λ t. ts ++ t ∷ []) (sym at) in
-    is ∙ ap (λ l. l ++ case_line widths (texts_of chosen) summary) so
+    is ∙ ap (λ (w : List ℕ). text ++ case_line w (texts_of chosen) summary) wide ∙ ap (λ l. l ++ case_line widths (texts_of chosen) summary) so
     ∙ append_assoc before (lines_of_cases widths cs ts) (case_line widths (texts_of chosen) summary)
     ∙ ap (λ l. before ++ l) (sym (lines_more widths cs ts chosen summary (long_c ∙ sym long_t)))
     ∙ ap (λ l. before ++ lines_of_cases widths l (ts ++ summary ∷ [])) (sym (taken_more cases place chosen there))
-    ∙ ap (λ l. before ++ lines_of_cases widths (take (place + 1) cases) l) (sym more_t)
+    ∙ ap (λ l. before ++ lines_of_cases widths (take (place + 1) cases) l) (sym (take_more summaries place d (omega (arith, same, lt))))
 
 -- ---- a case has a value for each key
 

@@ -59,7 +59,7 @@ returns-in_err-add-clause-failures g c = memory_fails_none c.from_residual-in_er
 pub returns-in-Ok-write_values-clause-whole : goal.returns-in-Ok-write_values-clause-whole
 returns-in-Ok-write_values-clause-whole g c = λ start come.
     let s = c.args.scenario.now in
-    let told = c.in-Ok.told.now in
+    let told = c.in-Ok.told in
     let seed = c.seed.result in
     let run = c.in_ok-run.run' in
     line_whole (view c.args._document.now) c.args.plan.now c.args.number s told run.case.items run.seed seed
@@ -70,7 +70,7 @@ returns-in-Ok-write_values-clause-whole g c = λ start come.
 pub returns-clause-part : goal.returns-clause-part
 returns-clause-part g c = λ start come.
     let s = c.args.scenario.now in
-    let told = c.in-Ok.told.now in
+    let told = c.in-Ok.told in
     let seed = c.seed.result in
     let run = c.in_ok-run.run' in
     line_part (view c.args._document.now) c.args.plan.now c.args.number s told run.case.items run.seed seed
