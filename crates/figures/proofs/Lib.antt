@@ -5,3 +5,4 @@ pub mod Runs
 pub mod RanksOfTimes
 pub mod Roots
 pub mod Summaries
+mod Cells

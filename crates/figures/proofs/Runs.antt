@@ -1,5 +1,5 @@
 -- One run more in a case.
-use Rattle.std.proofs.Common.{◌≡◌, ◌+◌, ◌<◌, ◌==◌, ℕ, Bool, true, false, cond, not, List, [], ◌∷◌, ◌++◌, length, get_or, take, refl, sym, ap, ◌∙◌, arith, append-nil, append_assoc, length-append}
+use Rattle.std.proofs.Common.{◌≡◌, ◌+◌, ◌*◌, ◌<◌, ◌==◌, ℕ, Bool, true, false, cond, not, List, [], ◌∷◌, ◌++◌, length, get_or, take, refl, sym, ap, ◌∙◌, arith, append-nil, append_assoc, length-append}
 use Rattle.std.specs.Prelude.{Option, Some, None, sum_by, if◌then◌else◌}
 use Rattle.std.specs.Option.{option_to_list}
 use Rattle.std.specs.List.{filter_map, cons_option}
@@ -7,7 +7,7 @@ use Rattle.std.proofs.lemmas.List.{take_more}
 use Rattle.std.proofs.lemmas.List.Elements.{filter_map-append}
 use Rattle.std.proofs.lemmas.List.Sums.{sum_by_push}
 use Rattle.std.proofs.lemmas.Grind.{flat_map-append}
-use Rattle.scenario.specs.Setup.{Setup}
+use Rattle.scenario.specs.Setup.{Setup, member_count}
 use Rattle.trace.specs.declared.row.What.TheVariants as what
 use Rattle.trace.specs.declared.row.Row.{Row}
 use Rattle.reports.specs.declared.departure.Departure.{Departure}
@@ -16,7 +16,7 @@ use Rattle.reports.specs.FalsePositives.{ways_to_depart, false_positives}
 use Rattle.figures.specs.declared.run.RunFigures.{RunFigures}
 use Rattle.figures.specs.declared.case.CaseFigures.{CaseFigures}
 use Rattle.figures.specs.Figures.{suspected_after, last_after, thrown_out, messages_sent, figures_of}
-use Rattle.figures.specs.Cases.{crashes_of_runs}
+use Rattle.figures.specs.Cases.{TracedRun, traced, crashes_of_runs}
 use Rattle.figures.specs.Kept.{AreFiguresOf}
 
 -- ---- times
@@ -37,16 +37,17 @@ time_more h crashes i d before now after lt so_far is =
 
 -- ---- a run
 
-crashes_push : (runs : List (List Row)) (rows : List Row) → crashes_of_runs (runs ++ rows ∷ []) ≡ crashes_of_runs runs ++ crashes_of rows
-crashes_push runs rows = flat_map-append crashes_of runs (rows ∷ []) ∙ ap (λ l. crashes_of_runs runs ++ l) (append-nil (crashes_of rows))
+crashes_push : (runs : List TracedRun) (run : TracedRun) → crashes_of_runs (runs ++ run ∷ []) ≡ crashes_of_runs runs ++ crashes_of run.rows
+crashes_push runs run =
+    flat_map-append (λ (those : TracedRun). crashes_of those.rows) runs (run ∷ []) ∙ ap (λ l. crashes_of_runs runs ++ l) (append-nil (crashes_of run.rows))
 
-times_push : (h : Departure → Option ℕ) (runs : List (List Row)) (rows : List Row) (old new : List ℕ) → old ≡ filter_map h (crashes_of_runs runs) → new ≡ old ++ filter_map h (crashes_of rows)
-    → new ≡ filter_map h (crashes_of_runs (runs ++ rows ∷ []))
-times_push h runs rows old new were are =
-    are ∙ ap (λ l. l ++ filter_map h (crashes_of rows)) were ∙ sym (filter_map-append h (crashes_of_runs runs) (crashes_of rows)) ∙ ap (filter_map h) (sym (crashes_push runs rows))
+times_push : (h : Departure → Option ℕ) (runs : List TracedRun) (run : TracedRun) (old new : List ℕ) → old ≡ filter_map h (crashes_of_runs runs) → new ≡ old ++ filter_map h (crashes_of run.rows)
+    → new ≡ filter_map h (crashes_of_runs (runs ++ run ∷ []))
+times_push h runs run old new were are =
+    are ∙ ap (λ l. l ++ filter_map h (crashes_of run.rows)) were ∙ sym (filter_map-append h (crashes_of_runs runs) (crashes_of run.rows)) ∙ ap (filter_map h) (sym (crashes_push runs run))
 
-sum_push : (f : List Row → ℕ) (runs : List (List Row)) (rows : List Row) (old new this : ℕ) → old ≡ sum_by f runs → new ≡ old + this → this ≡ f rows → new ≡ sum_by f (runs ++ rows ∷ [])
-sum_push f runs rows old new this was is same = omega (arith, was, is, same, sum_by_push f runs rows)
+sum_push : (f : TracedRun → ℕ) (runs : List TracedRun) (run : TracedRun) (old new this : ℕ) → old ≡ sum_by f runs → new ≡ old + this → this ≡ f run → new ≡ sum_by f (runs ++ run ∷ [])
+sum_push f runs run old new this was is same = omega (arith, was, is, same, sum_by_push f runs run)
 
 one_or_none : (n : ℕ) → ◌≡◌ {A = ℕ} (if n == 0 then 0 else 1) (cond (not (n == 0)) 1 0)
 one_or_none n = cases (n == 0)
@@ -56,24 +57,26 @@ one_or_none n = cases (n == 0)
     cases false = refl
 
 -- what is kept of a case, with one run more
-pub one_run : (old new : CaseFigures) (run : RunFigures) (s : Setup) (rows : List Row) (runs : List (List Row)) → AreFiguresOf old s runs → run ≡ figures_of s rows
+pub one_run : (old new : CaseFigures) (run : RunFigures) (s : Setup) (rows : List Row) (runs : List TracedRun) → AreFiguresOf old runs → run ≡ figures_of s rows
     → new.suspected.items ≡ old.suspected.items ++ filter_map suspected_after (crashes_of rows)
     → new.confirmed.items ≡ old.confirmed.items ++ filter_map latency_of (crashes_of rows)
     → new.last.items ≡ old.last.items ++ filter_map last_after (crashes_of rows)
     → new.runs ≡ old.runs + 1 → new.crashes ≡ old.crashes + run.crashes → new.false_suspect ≡ old.false_suspect + run.false_suspect
     → new.thrown_out ≡ old.thrown_out + run.thrown_out → new.runs_with ≡ old.runs_with + (if run.thrown_out == 0 then 0 else 1) → new.sent ≡ old.sent + run.sent
-    → AreFiguresOf new s (runs ++ rows ∷ [])
+    → new.member_ticks ≡ old.member_ticks + member_count s * s.end → AreFiguresOf new (runs ++ traced s rows ∷ [])
 unfolding figures_of
-one_run old new run s rows runs were is suspected confirmed last counted crashed falsely thrown with_thrown sent =
+one_run old new run s rows runs were is suspected confirmed last counted crashed falsely thrown with_thrown sent lasting =
+    let this = traced s rows in
     record {
-      all = omega (arith, counted, were.all, length-append runs (rows ∷ []));
-      crashed = omega (arith, crashed, were.crashed, ap (λ (f : RunFigures). f.crashes) is, ap length (crashes_push runs rows), length-append (crashes_of_runs runs) (crashes_of rows));
-      suspicions = times_push suspected_after runs rows _ _ were.suspicions suspected;
-      confirmations = times_push latency_of runs rows _ _ were.confirmations confirmed;
-      lasts = times_push last_after runs rows _ _ were.lasts last;
-      false_claims = sum_push (false_positives ways_to_depart what.Suspect) runs rows _ _ _ were.false_claims falsely (ap (λ (f : RunFigures). f.false_suspect) is);
-      thrown = sum_push (thrown_out s) runs rows _ _ _ were.thrown thrown (ap (λ (f : RunFigures). f.thrown_out) is);
-      with_thrown = sum_push (λ those. cond (not (thrown_out s those == 0)) 1 0) runs rows _ _ _ were.with_thrown with_thrown
+      all = omega (arith, counted, were.all, length-append runs (this ∷ []));
+      crashed = omega (arith, crashed, were.crashed, ap (λ (f : RunFigures). f.crashes) is, ap length (crashes_push runs this), length-append (crashes_of_runs runs) (crashes_of rows));
+      suspicions = times_push suspected_after runs this _ _ were.suspicions suspected;
+      confirmations = times_push latency_of runs this _ _ were.confirmations confirmed;
+      lasts = times_push last_after runs this _ _ were.lasts last;
+      false_claims = sum_push (λ those. false_positives ways_to_depart what.Suspect those.rows) runs this _ _ _ were.false_claims falsely (ap (λ (f : RunFigures). f.false_suspect) is);
+      thrown = sum_push (λ those. thrown_out those.scenario those.rows) runs this _ _ _ were.thrown thrown (ap (λ (f : RunFigures). f.thrown_out) is);
+      with_thrown = sum_push (λ those. cond (not (thrown_out those.scenario those.rows == 0)) 1 0) runs this _ _ _ were.with_thrown with_thrown
           (one_or_none run.thrown_out ∙ ap (λ n. cond (not (n == 0)) 1 0) (ap (λ (f : RunFigures). f.thrown_out) is));
-      sendings = sum_push (messages_sent s.version) runs rows _ _ _ were.sendings sent (ap (λ (f : RunFigures). f.sent) is);
+      sendings = sum_push (λ those. messages_sent those.scenario.version those.rows) runs this _ _ _ were.sendings sent (ap (λ (f : RunFigures). f.sent) is);
+      lasting = sum_push (λ those. member_count those.scenario * those.scenario.end) runs this _ _ _ were.lasting lasting refl;
     }

@@ -1,4 +1,4 @@
--- The figures of a case: of runs of one scenario that differ in their seed alone.
+-- The figures of a case: of runs that belong together, each of its own scenario. In a sweep these differ in their seed alone.
 use Rattle.std.specs.Prelude.{◌≡◌, ℕ, ◌+◌, ◌-◌, ◌*◌, ◌/◌, ◌==◌, nat_le, not, Option, Some, None, List, length, filter, flat_map, count_by, sum_by, min, max, if◌then◌else◌}
 use Rattle.std.specs.List.{filter_map, range_with_len, reduce}
 use Rattle.scenario.specs.Setup.{Setup, member_count}
@@ -10,9 +10,17 @@ use Rattle.reports.specs.FalsePositives.{ways_to_depart, false_positives}
 use Rattle.figures.specs.declared.summary.CaseSummary.{CaseSummary}
 use Rattle.figures.specs.Figures.{suspected_after, last_after, thrown_out, messages_sent}
 
+-- a run: its scenario, and the rows of its trace
+pub record TracedRun : Type 0 where
+  pub scenario : Setup
+  pub rows : List Row
+
+abbrev pub traced : Setup → List Row → TracedRun
+traced s rows = record { scenario = s; rows = rows }
+
 -- the crashes of all runs
-abbrev pub crashes_of_runs : List (List Row) → List Departure
-crashes_of_runs runs = flat_map crashes_of runs
+abbrev pub crashes_of_runs : List TracedRun → List Departure
+crashes_of_runs runs = flat_map (λ run. crashes_of run.rows) runs
 
 -- how many of these times are no later
 abbrev pub up_to : ℕ → List ℕ → ℕ
@@ -31,27 +39,31 @@ abbrev pub percentile : ℕ → (Departure → Option ℕ) → List Departure �
 percentile percent time crashes = at_rank (rank percent (length crashes)) (filter_map time crashes)
 
 -- how many suspicions in all runs were false positives
-abbrev pub false_suspicions_in : List (List Row) → ℕ
-false_suspicions_in runs = sum_by (false_positives ways_to_depart what.Suspect) runs
+abbrev pub false_suspicions_in : List TracedRun → ℕ
+false_suspicions_in runs = sum_by (λ run. false_positives ways_to_depart what.Suspect run.rows) runs
 
 -- how many members were thrown out, each counted in each run
-abbrev pub thrown_out_in : Setup → List (List Row) → ℕ
-thrown_out_in s runs = sum_by (thrown_out s) runs
+abbrev pub thrown_out_in : List TracedRun → ℕ
+thrown_out_in runs = sum_by (λ run. thrown_out run.scenario run.rows) runs
 
 -- in how many runs members were thrown out
-abbrev pub runs_with : Setup → List (List Row) → ℕ
-runs_with s runs = count_by (λ rows. not (thrown_out s rows == 0)) runs
+abbrev pub runs_with : List TracedRun → ℕ
+runs_with runs = count_by (λ run. not (thrown_out run.scenario run.rows == 0)) runs
 
 -- how many messages were sent in all runs
-abbrev pub sent_in : Setup → List (List Row) → ℕ
-sent_in s runs = sum_by (messages_sent s.version) runs
+abbrev pub sent_in : List TracedRun → ℕ
+sent_in runs = sum_by (λ run. messages_sent run.scenario.version run.rows) runs
+
+-- how long the members of all runs lasted together, in ticks: each from moment 0 to the end of its run
+abbrev pub member_ticks_in : List TracedRun → ℕ
+member_ticks_in runs = sum_by (λ run. member_count run.scenario * run.scenario.end) runs
 
 -- messages a member and 1,000 ticks, in hundredths and rounded down, where the runs last at all
-abbrev pub message_rate : Setup → List (List Row) → Option ℕ
-message_rate s runs = if s.end == 0 then None else Some (sent_in s runs * 100000 / (member_count s * s.end * length runs))
+abbrev pub message_rate : List TracedRun → Option ℕ
+message_rate runs = if member_ticks_in runs == 0 then None else Some (sent_in runs * 100000 / member_ticks_in runs)
 
 -- false suspicions a run, in hundredths and rounded down
-abbrev pub false_rate : List (List Row) → ℕ
+abbrev pub false_rate : List TracedRun → ℕ
 false_rate runs = false_suspicions_in runs * 100 / length runs
 
 -- the greatest number whose square is no greater: the numbers from 1 on whose squares are none are that many
@@ -75,8 +87,8 @@ share_low k n = nearest_thousandth (200000 * k + 384160 - 49 * spread k n) n
 abbrev pub share_high : ℕ → ℕ → ℕ
 share_high k n = nearest_thousandth (200000 * k + 384160 + 49 * spread k n) n
 
--- these are the figures of a case with these runs of a scenario
-pub record IsSummaryOf (case : CaseSummary) (s : Setup) (runs : List (List Row)) : Type 0 where
+-- these are the figures of a case with these runs
+pub record IsSummaryOf (case : CaseSummary) (runs : List TracedRun) : Type 0 where
   pub all : case.runs ≡ length runs
   pub suspicion : case.suspect_p50 ≡ percentile 50 suspected_after (crashes_of_runs runs)
   pub confirmation : case.confirm_p50 ≡ percentile 50 latency_of (crashes_of_runs runs)
@@ -85,8 +97,8 @@ pub record IsSummaryOf (case : CaseSummary) (s : Setup) (runs : List (List Row))
   pub last : case.last_p50 ≡ percentile 50 last_after (crashes_of_runs runs)
   pub latest_last : case.last_greatest ≡ percentile 100 last_after (crashes_of_runs runs)
   pub false_claims : case.false_suspect ≡ false_rate runs
-  pub thrown : case.thrown_out ≡ thrown_out_in s runs
-  pub with_thrown : case.runs_with ≡ runs_with s runs
-  pub low : case.share_low ≡ share_low (runs_with s runs) (length runs)
-  pub high : case.share_high ≡ share_high (runs_with s runs) (length runs)
-  pub rate : case.messages ≡ message_rate s runs
+  pub thrown : case.thrown_out ≡ thrown_out_in runs
+  pub with_thrown : case.runs_with ≡ runs_with runs
+  pub low : case.share_low ≡ share_low (runs_with runs) (length runs)
+  pub high : case.share_high ≡ share_high (runs_with runs) (length runs)
+  pub rate : case.messages ≡ message_rate runs

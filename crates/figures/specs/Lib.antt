@@ -2,3 +2,4 @@ pub mod Figures
 pub mod Lines
 pub mod Cases
 pub mod Kept
+pub mod CaseLines

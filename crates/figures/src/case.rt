@@ -1,7 +1,7 @@
-//! The figures of a case: of runs of one scenario that differ in their seed alone.
+//! The figures of a case: of runs that belong together.
 ghost use Rattle.std.specs.Prelude.{◌≡◌, ◌+◌, ◌<◌, ◌≤◌, ◌*◌, ◌/◌, ◌^◌, ◌==◌, ◌++◌, ◌∷◌, [], List, IfOk, if◌then◌else◌};
-ghost use Rattle.scenario.specs.Setup.{Setup, member_count};
-ghost use Rattle.trace.specs.declared.row.Row.{Row as AnyRow};
+ghost use Rattle.scenario.specs.Setup.{member_count};
+ghost use Rattle.figures.specs.Cases.{TracedRun, traced};
 
 use crate::ranks::percentile;
 use crate::run::RunFigures;
@@ -13,8 +13,8 @@ use reports::Tallies;
 use scenario::Scenario;
 use std::alloc::Global;
 
-/// The figures of a case: of runs of one scenario that differ in their seed alone. There is room
-/// for 1,000,000 runs.
+/// The figures of a case: of runs that belong together, such as those of one scenario with many
+/// seeds. There is room for 1,000,000 runs.
 #[derive(Drop)]
 pub struct CaseFigures {
     /// How many runs there are.
@@ -35,10 +35,13 @@ pub struct CaseFigures {
     runs_with: u64,
     /// How many messages were sent.
     sent: u128,
+    /// How long the members of each run last together, in ticks.
+    member_ticks: u128,
     ghost crashes_fit: { crashes ≤ runs * 2 ^ 64 },
     ghost false_suspect_fit: { false_suspect ≤ runs * 2 ^ 64 },
     ghost thrown_out_fit: { thrown_out ≤ runs * 2 ^ 64 },
     ghost sent_fit: { sent ≤ runs * 2 ^ 64 },
+    ghost member_ticks_fit: { member_ticks ≤ runs * 2 ^ 52 },
     ghost runs_with_fit: { runs_with ≤ runs },
     ghost few: { runs ≤ 1000000 },
 }
@@ -50,7 +53,7 @@ impl CaseFigures {
 
     /// The figures of no runs. It takes no memory.
     pub fn new(alloc: Global) -> CaseFigures
-        ensures { (s : Setup) → AreFiguresOf result s [] }
+        ensures { AreFiguresOf result [] }
     {
         CaseFigures {
             runs: 0,
@@ -62,6 +65,7 @@ impl CaseFigures {
             thrown_out: 0,
             runs_with: 0,
             sent: 0,
+            member_ticks: 0,
         }
     }
 
@@ -72,27 +76,32 @@ impl CaseFigures {
         self.runs
     }
 
-    /// The figures with one run more: its rows as they were tallied, and its figures. Where memory
-    /// is refused nothing is left of them.
-    pub fn with(self, tallies: &Tallies, figures: &RunFigures) -> Result<CaseFigures, Memory>
+    /// The figures with one run more: its rows as they were tallied, its figures, and its scenario.
+    /// Where memory is refused nothing is left of them.
+    pub fn with(
+        self,
+        tallies: &Tallies,
+        figures: &RunFigures,
+        scenario: &Scenario,
+    ) -> Result<CaseFigures, Memory>
         requires { runs_kept self < 1000000 }
-        ensures { IfOk result (λ case. (s : Setup) (runs : List (List AnyRow)) → figures.now ≡ figures_of s tallies.now
-            → AreFiguresOf self s runs → AreFiguresOf case s (runs ++ tallies.now ∷ [])) }
+        ensures { IfOk result (λ case. (runs : List TracedRun) → figures.now ≡ figures_of scenario.now tallies.now
+            → AreFiguresOf self runs → AreFiguresOf case (runs ++ traced scenario.now tallies.now ∷ [])) }
     {
         let mut case = self;
         let crashes = tallies.crashes();
         push_suspected(&mut case.suspected, crashes)?;
         push_confirmed(&mut case.confirmed, crashes)?;
         push_last(&mut case.last, crashes)?;
-        case.count(figures);
+        case.count(figures, scenario);
         Ok(case)
     }
 
-    /// What is told of the runs of a scenario. It brings the times into order, which takes memory
-    /// for a while, and fails where that is refused.
-    pub fn summary(self, scenario: &Scenario) -> Result<CaseSummary, Memory>
+    /// What is told of the runs. It brings the times into order, which takes memory for a while, and
+    /// fails where that is refused.
+    pub fn summary(self) -> Result<CaseSummary, Memory>
         requires { 0 < runs_kept self }
-        ensures { IfOk result (λ summary. (runs : List (List AnyRow)) → AreFiguresOf self scenario.now runs → IsSummaryOf summary scenario.now runs) }
+        ensures { IfOk result (λ summary. (runs : List TracedRun) → AreFiguresOf self runs → IsSummaryOf summary runs) }
     {
         let mut case = self;
         case.suspected.sort()?;
@@ -114,12 +123,12 @@ impl CaseFigures {
             runs_with: case.runs_with,
             share_low: share_low(case.runs_with, case.runs),
             share_high: share_high(case.runs_with, case.runs),
-            messages: message_rate(case.sent, case.runs, scenario),
+            messages: message_rate(case.sent, case.member_ticks),
         })
     }
 
     /// Counts a run.
-    fn count(&mut self, figures: &RunFigures)
+    fn count(&mut self, figures: &RunFigures, scenario: &Scenario)
         requires { self.old.runs < 1000000 }
         ensures suspected { self.new.suspected.items ≡ self.old.suspected.items }
         ensures confirmed { self.new.confirmed.items ≡ self.old.confirmed.items }
@@ -130,6 +139,7 @@ impl CaseFigures {
         ensures thrown_out { self.new.thrown_out ≡ self.old.thrown_out + figures.now.thrown_out }
         ensures runs_with { self.new.runs_with ≡ self.old.runs_with + (if figures.now.thrown_out == 0 then 0 else 1) }
         ensures sent { self.new.sent ≡ self.old.sent + figures.now.sent }
+        ensures member_ticks { self.new.member_ticks ≡ self.old.member_ticks + member_count scenario.now * scenario.now.end }
     {
         self.runs += 1;
         self.crashes += u128::from(figures.crashes);
@@ -139,20 +149,25 @@ impl CaseFigures {
             self.runs_with += 1;
         }
         self.sent += u128::from(figures.sent);
+        self.member_ticks += member_ticks(scenario);
     }
 }
 
-/// Messages a member and 1,000 ticks, in hundredths, where the runs end after moment 0.
-fn message_rate(sent: u128, runs: u64, scenario: &Scenario) -> Option<u128>
-    requires some { 0 < runs }
-    requires few { runs ≤ 1000000 }
-    requires fits { sent ≤ 1000000 * 2 ^ 64 }
-    ensures { result ≡ (if scenario.now.end == 0 then None else Some (sent * 100000 / (member_count scenario.now * scenario.now.end * runs))) }
+/// How long the members of a scenario last together, in ticks.
+fn member_ticks(scenario: &Scenario) -> u128
+    ensures ticks { result ≡ member_count scenario.now * scenario.now.end }
+    ensures fits { result ≤ 2 ^ 52 }
 {
-    let end = scenario.end().ticks();
-    if end == 0 {
+    scenario.members() as u128 * u128::from(scenario.end().ticks())
+}
+
+/// Messages a member and 1,000 ticks, in hundredths, where the runs last at all.
+fn message_rate(sent: u128, member_ticks: u128) -> Option<u128>
+    requires { sent ≤ 1000000 * 2 ^ 64 }
+    ensures { result ≡ (if member_ticks == 0 then None else Some (sent * 100000 / member_ticks)) }
+{
+    if member_ticks == 0 {
         return None;
     }
-    let ticks = scenario.members() as u128 * u128::from(end) * u128::from(runs);
-    Some(sent * 100_000 / ticks)
+    Some(sent * 100_000 / member_ticks)
 }

@@ -1,9 +1,9 @@
-//! The figures of one run, and of a case: of many runs that differ in their seed alone.
+//! The figures of one run, and of a case: of many runs that belong together.
 #![tactic(auto)]
 
 mod case;
+mod columns;
 mod crashes;
-mod laws;
 mod lines;
 mod messages;
 mod ranks;
@@ -11,11 +11,12 @@ mod run;
 mod shares;
 mod summary;
 mod table;
+mod texts;
 mod thrown_out;
 mod times;
 
 pub use case::CaseFigures;
-pub use laws::seeds_tell_nothing;
+pub use columns::{push_case_header, push_case_line};
 pub use run::RunFigures;
 pub use summary::CaseSummary;
 pub use table::{write_header, write_run};

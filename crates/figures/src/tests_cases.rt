@@ -1,6 +1,6 @@
-//! What is told of small cases, worked out by hand.
+//! What is told of small cases, and their lines, worked out by hand.
 use crate::tests::{RUN, THREE, Told, tallies_of};
-use crate::{CaseFigures, CaseSummary, RunFigures};
+use crate::{CaseFigures, CaseSummary, RunFigures, push_case_header, push_case_line};
 use scenario::Scenario;
 use std::process::Abort;
 use std::test::Fail;
@@ -49,19 +49,14 @@ fn with_run(
     let tallies = tallies_of(rt, told, scenario)?;
     let figures = RunFigures::of(rt.alloc(), &tallies, scenario)?;
     assert!(rt; case.runs() < 1000);
-    let case = case.with(&tallies, &figures)?;
+    let case = case.with(&tallies, &figures, scenario)?;
     Ok(case)
 }
 
 /// Asserts what is told of a case.
-fn assert_summary(
-    rt: &impl Abort,
-    case: CaseFigures,
-    scenario: &Scenario,
-    expected: &CaseSummary,
-) -> Result<(), Fail> {
+fn assert_summary(rt: &impl Abort, case: CaseFigures, expected: &CaseSummary) -> Result<(), Fail> {
     assert!(rt; case.runs() > 0);
-    let summary = case.summary(scenario)?;
+    let summary = case.summary()?;
     assert!(rt; summary == *expected);
     Ok(())
 }
@@ -74,7 +69,7 @@ fn three_runs_are_summed_up(rt: HostRuntime) -> Result<(), Fail> {
     let case = with_run(&rt, case, &RUN, &scenario)?;
     let case = with_run(&rt, case, &[], &scenario)?;
     let case = with_run(&rt, case, &RUN, &scenario)?;
-    assert_summary(&rt, case, &scenario, &THREE_RUNS)
+    assert_summary(&rt, case, &THREE_RUNS)
 }
 
 /// Where nobody crashed there are no times.
@@ -82,5 +77,75 @@ fn three_runs_are_summed_up(rt: HostRuntime) -> Result<(), Fail> {
 fn a_run_without_rows_is_summed_up(rt: HostRuntime) -> Result<(), Fail> {
     let scenario = scenario::read(rt.alloc(), THREE.as_bytes())?;
     let case = with_run(&rt, CaseFigures::new(rt.alloc()), &[], &scenario)?;
-    assert_summary(&rt, case, &scenario, &ONE_RUN)
+    assert_summary(&rt, case, &ONE_RUN)
+}
+
+/// The same members, whose runs end sooner.
+const SOONER: &str = "version = 2
+seed = 7
+end = 2000
+[swim]
+period = 1000
+timeout = 300
+spread = 1
+[link]
+delay = 10
+[[group]]
+name = \"n\"
+count = 3
+";
+
+/// Eight messages in each of two runs, whose three members last 8,000 and 2,000 ticks.
+#[test]
+fn each_run_lasts_as_long_as_its_scenario(rt: HostRuntime) -> Result<(), Fail> {
+    let scenario = scenario::read(rt.alloc(), THREE.as_bytes())?;
+    let case = with_run(&rt, CaseFigures::new(rt.alloc()), &RUN, &scenario)?;
+    let scenario = scenario::read(rt.alloc(), SOONER.as_bytes())?;
+    let case = with_run(&rt, case, &RUN, &scenario)?;
+    assert!(rt; case.runs() > 0);
+    let summary = case.summary()?;
+    assert!(rt; summary.messages == Some(53));
+    Ok(())
+}
+
+/// The header and a line for two keys, of which the first is longer than its value, the second shorter.
+const KEYS_AND_FIGURES: &str =
+    "swim.period      end      runs  suspect_p50  confirm_p50  confirm_p99  confirm_greatest  last_p50  last_greatest  false_suspect  thrown_out  runs_with  share_low  share_high  messages
+        200  1000000         3          150          500            -                 -       950              -           1.33           2          2       20.8        93.8      0.22
+";
+
+/// The same where no key is set, of one run that ends at moment 0.
+const FIGURES_ALONE: &str =
+    "    runs  suspect_p50  confirm_p50  confirm_p99  confirm_greatest  last_p50  last_greatest  false_suspect  thrown_out  runs_with  share_low  share_high  messages
+       1            -            -            -                 -         -              -           0.00           0          0        0.0        79.3         -
+";
+
+/// Asserts how a header and a line look, the one after the other.
+fn assert_columns(
+    rt: &(impl Abort + AllocGlobal),
+    widths: &[usize],
+    keys: &[&str],
+    values: &[&str],
+    summary: &CaseSummary,
+    expected: &str,
+) -> Result<(), Fail> {
+    assert!(rt; widths.len() == keys.len());
+    assert!(rt; widths.len() == values.len());
+    let mut text = String::new(rt.alloc());
+    push_case_header(rt.alloc(), &mut text, widths, keys)?;
+    push_case_line(rt.alloc(), &mut text, widths, values, summary)?;
+    assert!(rt; text.as_str() == expected);
+    Ok(())
+}
+
+#[test]
+fn cases_have_aligned_lines(rt: HostRuntime) -> Result<(), Fail> {
+    let keys = ["swim.period", "end"];
+    let values = ["200", "1000000"];
+    assert_columns(&rt, &[11, 7], &keys, &values, &THREE_RUNS, KEYS_AND_FIGURES)?;
+    let nothing = CaseSummary {
+        messages: None,
+        ..ONE_RUN
+    };
+    assert_columns(&rt, &[], &[], &[], &nothing, FIGURES_ALONE)
 }

@@ -8,7 +8,7 @@ use Rattle.std.proofs.lemmas.Option.{none-some, same_Some, slice_get-get_or, sli
 use Rattle.std.proofs.lemmas.Slice.Zip.{all_zipped_more}
 use Rattle.std.specs.Prelude.{slice_get, All, Result, Ok, Err}
 use Rattle.std.specs.List.{AllZip, flat_map}
-use Rattle.std.specs.Io.KnownBytes.{Appends}
+use Rattle.std.specs.Io.KnownBytes.{Appends, Keeps}
 use Rattle.rayon.proofs.ListFacts.{AllZip-append}
 use Rattle.toml.specs.Data.{Data}
 use Rattle.base.specs.declared.fault.Fault.{Fault}
@@ -16,33 +16,31 @@ use Rattle.base.specs.declared.fault.Fault.TheVariants as fault
 use Rattle.scenario.specs.Setup.{Setup, IsSound}
 use Rattle.trace.specs.declared.row.Row.{Row}
 use Rattle.trace.specs.Sinks.{AppendsBeginning}
-use Rattle.trace.proofs.Beginnings.{Appends-then, beginning-first, beginning-then, beginning-whole, beginning-of}
+use Rattle.trace.proofs.Beginnings.{Appends-then, Appends-kept, beginning-kept, beginning-first, beginning-then, beginning-whole, beginning-of}
 use Rattle.member_laws.specs.Runs.{IsRunOf}
 use Rattle.figures.specs.Lines.{header_line, run_line}
 use Rattle.figures.specs.declared.run.RunFigures.{RunFigures}
+use Rattle.figures.specs.Cases.{TracedRun, traced}
 use Rattle.cases.specs.Sweep.{Sweep, run_count}
 use Rattle.cases.specs.declared.choice.Choice.{Choice}
 use Rattle.sweep.specs.Runs.{Planned, Made, IsMadeAs, IsRunAt, planned_as, runs_of, verdict_of}
-use Rattle.sweep.specs.Table.{texts_of, names_of, line_of, table_text, HasLines, BeginsLines, WritesTable, BeginsTable, HasCause, IsCauseOf, AreTold, IsReadAt}
+use Rattle.sweep.specs.Table.{texts_of, names_of, made_line, table_text, HasLines, BeginsLines, BeginsTable, HasCause, IsCauseOf, IsTold, IsReadAt}
+use Rattle.sweep.specs.declared.telling.ToldRun.{ToldRun}
+use Rattle.sweep.specs.declared.gathering.Gathering.{Gathering}
+use Rattle.sweep.specs.Summaries.{IsGathered, HasCome, MakesAll, traced_as, summaries_in}
 use Rattle.sweep.specs.Judged.{IsAccepted, IsAcceptedAt, AreAccepted}
 use Rattle.sweep.proofs.Flat.{runs_counted}
+use Rattle.sweep.proofs.Gathered.{all_through}
+use Rattle.sweep.proofs.Pushed.{pushed}
 
 pub taken_more : {X : Type 0} (xs : List X) (n : ℕ) (x : X) → slice_get xs n ≡ Some x → take (n + 1) xs ≡ take n xs ++ x ∷ []
 taken_more xs n x e = take_more xs n x (slice_get_within xs n x e) ∙ ap (λ y. take n xs ++ y ∷ []) (get_or_from_slice_get xs n x x e)
 
-table_more : (sweep : Sweep) (made : List Made) (m : Made) → table_text sweep made ++ line_of m ≡ table_text sweep (made ++ m ∷ [])
+table_more : (sweep : Sweep) (made : List Made) (m : Made) → table_text sweep made ++ made_line m ≡ table_text sweep (made ++ m ∷ [])
 table_more sweep made m =
     let head = header_line (names_of sweep.settings) in
-    append_assoc head (flat_map line_of made) (line_of m)
-    ∙ ap (λ l. head ++ l) (ap (λ l. flat_map line_of made ++ l) (sym (append-nil (line_of m))) ∙ sym (flat_map-append line_of made (m ∷ [])))
-
--- an item of a list with one more at its end
-pushed : {X : Type 0} (xs : List X) (x y : X) (place : ℕ) → slice_get (xs ++ x ∷ []) place ≡ Some y
-    → (slice_get xs place ≡ Some y) ⊎ ((place ≡ length xs) × (x ≡ y))
-pushed [] x y zero e = inr (refl, same_Some x y e)
-pushed [] x y (suc n) e = absurd (none-some y e)
-pushed (z ∷ xs) x y zero e = inl e
-pushed (z ∷ xs) x y (suc n) e = ⊎_elim inl (λ p. inr (ap suc p.0, p.1)) (pushed xs x y n e)
+    append_assoc head (flat_map made_line made) (made_line m)
+    ∙ ap (λ l. head ++ l) (ap (λ l. flat_map made_line made ++ l) (sym (append-nil (made_line m))) ∙ sym (flat_map-append made_line made (m ∷ [])))
 
 -- items of two lists at one place
 zipped_at : {X Y : Type 0} (R : X → Y → Type 0) (xs : List X) (ys : List Y) (place : ℕ) (x : X) (y : Y) → AllZip R xs ys
@@ -115,10 +113,34 @@ module _ (tree : Data) (sweep : Sweep) where
   have_begun start held number lines =
       record { count = number; made = lines.made; are = lines.are; written = beginning-whole start held (table_text sweep lines.made) lines.written }
 
-  -- the header alone
-  pub header_whole : (start held : Option (List ℕ)) → Appends start held (header_line (names_of sweep.settings)) → HasLines tree sweep start held 0
-  header_whole start held p =
-      record { made = []; are = tt; written = subst (Appends start held) (sym (append-nil (header_line (names_of sweep.settings)))) p }
+  -- the header alone, and nothing that is gathered
+  pub header_come : (start held : Option (List ℕ)) (gathering : Gathering) → Appends start held (header_line (names_of sweep.settings)) → IsGathered sweep [] gathering
+      → HasCome tree sweep start held gathering 0
+  header_come start held gathering p fresh =
+      record {
+        lines = record { made = []; are = tt; written = subst (Appends start held) (sym (append-nil (header_line (names_of sweep.settings)))) p };
+        gathered = fresh;
+      }
+
+  -- what is held stays as it is
+  pub come_kept : (start mid held : Option (List ℕ)) (gathering : Gathering) (number : ℕ) → HasCome tree sweep start mid gathering number → Keeps mid held
+      → HasCome tree sweep start held gathering number
+  come_kept start mid held gathering number come kept =
+      let lines = come.lines in
+      let text = table_text sweep lines.made in
+      record {
+        lines = record {
+          made = lines.made;
+          are = lines.are;
+          written = Appends-kept start mid held text lines.written kept;
+        };
+        gathered = come.gathered;
+      }
+
+  -- the same of a beginning
+  pub begun_kept : (start mid held : Option (List ℕ)) → BeginsLines tree sweep start mid → Keeps mid held → BeginsLines tree sweep start held
+  begun_kept start mid held lines kept =
+      record { count = lines.count; made = lines.made; are = lines.are; written = beginning-kept start mid held (table_text sweep lines.made) lines.written kept }
 
   pub header_part : (start held : Option (List ℕ)) → AppendsBeginning start held (header_line (names_of sweep.settings)) → BeginsLines tree sweep start held
   header_part start held p =
@@ -132,14 +154,20 @@ module _ (tree : Data) (sweep : Sweep) where
   cause_of_run number s fault.Write read h = absurd h
   cause_of_run number s fault.Relay read h = absurd h
 
-  -- all lines are the table
-  pub whole_table : (start held : Option (List ℕ)) → HasLines tree sweep start held (run_count sweep) → WritesTable tree sweep start held
-  whole_table start held lines =
+  -- all lines are the table, and all cases are summed up
+  pub whole_table : (start held : Option (List ℕ)) (gathering : Gathering) → HasCome tree sweep start held gathering (run_count sweep)
+      → MakesAll tree sweep start held (summaries_in gathering)
+  whole_table start held gathering come =
+      let lines = come.lines in
       let long : length (runs_of sweep) ≤ run_count sweep = omega (arith, runs_counted sweep) in
+      let are : AllZip (IsMadeAs tree) (runs_of sweep) lines.made =
+      subst (λ l. AllZip (IsMadeAs tree) l lines.made) (take_all (run_count sweep) (runs_of sweep) long) lines.are in
       record {
         made = lines.made;
-        are = subst (λ l. AllZip (IsMadeAs tree) l lines.made) (take_all (run_count sweep) (runs_of sweep) long) lines.are;
+        are = are;
         written = lines.written;
+        all = all_through sweep lines.made gathering (sym (zipped_long (IsMadeAs tree) (runs_of sweep) lines.made are) ∙ runs_counted sweep) come.gathered;
+        told = come.gathered.told;
       }
 
   module _ (exists : (s : Setup) → IsSound s → (rows : List Row) × IsRunOf s rows) where
@@ -161,47 +189,53 @@ module _ (tree : Data) (sweep : Sweep) where
         let back = drop lines.count (runs_of sweep) in
         let left = runs_left back (All-drop (IsAccepted tree) lines.count (runs_of sweep) all) in
         let head = header_line (names_of sweep.settings) in
-        let text : table_text sweep lines.made ++ flat_map line_of left.0 ≡ table_text sweep (lines.made ++ left.0) =
-        append_assoc head (flat_map line_of lines.made) (flat_map line_of left.0) ∙ ap (λ l. head ++ l) (sym (flat_map-append line_of lines.made left.0)) in
+        let text : table_text sweep lines.made ++ flat_map made_line left.0 ≡ table_text sweep (lines.made ++ left.0) =
+        append_assoc head (flat_map made_line lines.made) (flat_map made_line left.0) ∙ ap (λ l. head ++ l) (sym (flat_map-append made_line lines.made left.0)) in
         record {
           made = lines.made ++ left.0;
           are = subst (λ l. AllZip (IsMadeAs tree) l (lines.made ++ left.0)) (take-append-drop lines.count (runs_of sweep))
               (AllZip-append (IsMadeAs tree) front back lines.made left.0 lines.are left.1);
-          written = beginning-of start held _ _ text (beginning-first start held (table_text sweep lines.made) (flat_map line_of left.0) lines.written);
+          written = beginning-of start held _ _ text (beginning-first start held (table_text sweep lines.made) (flat_map made_line left.0) lines.written);
         }
 
-  module _ (number : ℕ) (s : Setup) (figures : RunFigures) (chosen : List Choice) (seed : Option ℕ) (told : ℕ)
-      (read : IsReadAt tree sweep number s) (fig : AreTold s (Ok figures)) (at : IsRunAt sweep number (planned_as chosen seed)) (e : told ≡ s.seed) where
+  module _ (number : ℕ) (s : Setup) (run : ToldRun) (chosen : List Choice) (seed : Option ℕ) (told : ℕ)
+      (read : IsReadAt tree sweep number s) (is_told : IsTold s run) (at : IsRunAt sweep number (planned_as chosen seed)) (e : told ≡ s.seed) where
     abbrev the_made : Made
-    the_made = record { case = chosen; scenario = s; rows = fig.0 }
+    the_made = record { case = chosen; scenario = s; rows = run.tallies }
 
     is_made : IsMadeAs tree read.0 the_made
     is_made = record {
       same = ap (λ p. p.case) (same_Some (planned_as chosen seed) read.0 (sym at ∙ read.1));
       accepted = read.2;
-      run = fig.1;
+      run = is_told.run;
     }
 
-    line_same : run_line (texts_of chosen) told figures ≡ line_of the_made
-    line_same = (λ i. run_line (texts_of chosen) (e i) (fig.2 i))
+    line_same : run_line (texts_of chosen) told run.figures ≡ made_line the_made
+    line_same = (λ i. run_line (texts_of chosen) (e i) (is_told.same i))
 
-    -- its line was written
-    pub line_whole : (start mid held : Option (List ℕ)) → Appends mid held (run_line (texts_of chosen) told figures)
-        → HasLines tree sweep start mid number → HasLines tree sweep start held (number + 1)
-    line_whole start mid held p lines = record {
-      made = lines.made ++ the_made ∷ [];
-      are = are_more number read.0 the_made lines.made read.1 is_made lines.are;
-      written = subst (Appends start held) (table_more sweep lines.made the_made)
-          (Appends-then start mid held (table_text sweep lines.made) (line_of the_made) lines.written (subst (Appends mid held) line_same p));
-    }
+    -- its line was written, and it was gathered
+    pub line_whole : (start mid held : Option (List ℕ)) (before after : Gathering) → Appends mid held (run_line (texts_of chosen) told run.figures)
+        → ((sweep : Sweep) (made : List Made) (m : Made) → traced_as m ≡ traced s run.tallies → IsGathered sweep made before → IsGathered sweep (made ++ m ∷ []) after)
+        → HasCome tree sweep start mid before number → HasCome tree sweep start held after (number + 1)
+    line_whole start mid held before after p gathers come =
+        let lines = come.lines in
+        record {
+          lines = record {
+            made = lines.made ++ the_made ∷ [];
+            are = are_more number read.0 the_made lines.made read.1 is_made lines.are;
+            written = subst (Appends start held) (table_more sweep lines.made the_made)
+                (Appends-then start mid held (table_text sweep lines.made) (made_line the_made) lines.written (subst (Appends mid held) line_same p));
+          };
+          gathered = gathers sweep lines.made the_made refl come.gathered;
+        }
 
     -- a beginning of its line was written
-    pub line_part : (start mid held : Option (List ℕ)) → AppendsBeginning mid held (run_line (texts_of chosen) told figures)
+    pub line_part : (start mid held : Option (List ℕ)) → AppendsBeginning mid held (run_line (texts_of chosen) told run.figures)
         → HasLines tree sweep start mid number → BeginsLines tree sweep start held
     line_part start mid held p lines = record {
       count = number + 1;
       made = lines.made ++ the_made ∷ [];
       are = are_more number read.0 the_made lines.made read.1 is_made lines.are;
       written = beginning-of start held _ _ (table_more sweep lines.made the_made)
-          (beginning-then start mid held (table_text sweep lines.made) (line_of the_made) lines.written (beginning-of mid held _ _ line_same p));
+          (beginning-then start mid held (table_text sweep lines.made) (made_line the_made) lines.written (beginning-of mid held _ _ line_same p));
     }

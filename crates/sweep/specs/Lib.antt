@@ -1,3 +1,5 @@
 pub mod Runs
 pub mod Table
+pub mod Summaries
+pub mod Texts
 pub mod Judged

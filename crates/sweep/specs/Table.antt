@@ -6,7 +6,6 @@ use Rattle.toml.specs.Data.{Data}
 use Rattle.base.specs.declared.fault.Fault.{Fault}
 use Rattle.base.specs.declared.fault.Fault.TheVariants as fault
 use Rattle.scenario.specs.Setup.{Setup}
-use Rattle.trace.specs.declared.row.Row.{Row}
 use Rattle.trace.specs.Sinks.{AppendsBeginning}
 use Rattle.trace.specs.declared.write.WriteError.{WriteError}
 use Rattle.trace.specs.declared.write.WriteError.TheVariants as error
@@ -14,11 +13,11 @@ use Rattle.member_laws.specs.Runs.{IsRunOf, WearsOut}
 use Rattle.exchange.specs.Promise.{WearsOutReport}
 use Rattle.figures.specs.Figures.{figures_of}
 use Rattle.figures.specs.Lines.{header_line, run_line}
-use Rattle.figures.specs.declared.run.RunFigures.{RunFigures}
 use Rattle.cases.specs.Keys.{key_name}
 use Rattle.cases.specs.Values.{value_text}
 use Rattle.cases.specs.Sweep.{KeyValues, Sweep}
 use Rattle.cases.specs.declared.choice.Choice.{Choice}
+use Rattle.sweep.specs.declared.telling.ToldRun.{ToldRun}
 use Rattle.sweep.specs.Runs.{Planned, Made, IsMadeAs, AreMade, IsRunAt, runs_of, verdict_of}
 
 -- the values of a case, as words say them
@@ -30,12 +29,12 @@ abbrev pub names_of : List KeyValues → List (List ℕ)
 names_of settings = map (λ s. key_name s.key) settings
 
 -- the line of a run that was made
-abbrev pub line_of : Made → List ℕ
-line_of m = run_line (texts_of m.case) m.scenario.seed (figures_of m.scenario m.rows)
+abbrev pub made_line : Made → List ℕ
+made_line m = run_line (texts_of m.case) m.scenario.seed (figures_of m.scenario m.rows)
 
 -- the header, and the line of each run
 abbrev pub table_text : Sweep → List Made → List ℕ
-table_text sweep made = header_line (names_of sweep.settings) ++ flat_map line_of made
+table_text sweep made = header_line (names_of sweep.settings) ++ flat_map made_line made
 
 -- the header and the lines of the first runs, so many, were appended to what was held at the start
 pub record HasLines (tree : Data) (sweep : Sweep) (start held : Option (List ℕ)) (count : ℕ) : Type 0 where
@@ -49,12 +48,6 @@ pub record BeginsLines (tree : Data) (sweep : Sweep) (start held : Option (List 
   pub made : List Made
   pub are : AllZip (IsMadeAs tree) (take count (runs_of sweep)) made
   pub written : AppendsBeginning start held (table_text sweep made)
-
--- the whole table was appended
-pub record WritesTable (tree : Data) (sweep : Sweep) (old new : Option (List ℕ)) : Type 0 where
-  pub made : List Made
-  pub are : AreMade tree sweep made
-  pub written : Appends old new (table_text sweep made)
 
 -- a beginning of the table was appended
 pub record BeginsTable (tree : Data) (sweep : Sweep) (old new : Option (List ℕ)) : Type 0 where
@@ -82,16 +75,21 @@ HasCause tree sweep fault.Worn = WearsOutSome tree sweep
 HasCause tree sweep fault.Write = Unit {0}
 HasCause tree sweep fault.Relay = ⊥
 
--- why there are no figures of a scenario's run
+-- why nothing is told of a scenario's run
 abbrev pub IsCauseOf : Setup → Fault → Type 0
 IsCauseOf s fault.Memory = Unit {0}
 IsCauseOf s fault.Worn = IsWearing s
 IsCauseOf s fault.Write = ⊥
 IsCauseOf s fault.Relay = ⊥
 
--- these are the figures of the scenario's run, or there is a cause for there being none
-abbrev pub AreTold : Setup → Result RunFigures Fault → Type 0
-AreTold s (Ok figures) = (rows : List Row) × IsRunOf s rows × (figures ≡ figures_of s rows)
+-- the rows of the scenario's run, as they were tallied, and its figures
+pub record IsTold (s : Setup) (told : ToldRun) : Type 0 where
+  pub run : IsRunOf s told.tallies
+  pub same : told.figures ≡ figures_of s told.tallies
+
+-- the scenario's run was told, or there is a cause for there being nothing to tell
+abbrev pub AreTold : Setup → Result ToldRun Fault → Type 0
+AreTold s (Ok told) = IsTold s told
 AreTold s (Err f) = IsCauseOf s f
 
 -- the scenario is that of the run of this number

@@ -1,12 +1,16 @@
 //! The runs of a sweep, some at a time.
-ghost use Rattle.std.specs.Prelude.{◌≡◌, ◌<◌, ◌≤◌, ◌^◌, ◌+◌, List, ℕ, Option, OnOk, OnErr, IfErr};
+ghost use Rattle.std.specs.Prelude.{◌≡◌, ◌<◌, ◌≤◌, ◌^◌, ◌+◌, List, [], ℕ, Option, OnOk, OnErr, IfOk, IfErr};
+ghost use Rattle.std.specs.Io.KnownBytes.{Keeps};
 ghost use Rattle.toml.specs.View.{view};
 ghost use Rattle.cases.specs.Sweep.{run_count};
 ghost use Rattle.exchange.specs.Streams.{sink_failures};
 ghost use Rattle.sweep.specs.Judged.{AreAccepted};
 ghost use Rattle.sweep.specs.Runs.{IsAskedFor};
-ghost use Rattle.sweep.specs.Table.{WritesTable, BeginsTable, HasLines, BeginsLines, HasCause};
+ghost use Rattle.sweep.specs.Table.{BeginsTable, BeginsLines, HasCause};
+ghost use Rattle.sweep.specs.Summaries.{MakesAll, HasCome, IsGathered};
 
+use crate::gathering::Gathering;
+use crate::progress::Progress;
 use crate::reading::read_runs;
 use crate::telling::told_side_by_side;
 use crate::values::write_names;
@@ -14,62 +18,120 @@ use crate::writing::{fault_of, write_lines};
 use base::Fault;
 use cases::Plan;
 use exchange::a_run_exists;
+use figures::CaseSummary;
 use scenario::Workers;
 use std::alloc::Global;
 use std::marker::Sync;
 use std::thread::Threads;
 use toml::Value;
-use trace::Sink;
+use trace::{Sink, Stopped};
 
 /// Makes the runs of a sweep, and writes their table: a header, and a line for each run, in the order of the
-/// cases and of the seeds. Runs are made some at a time, as many as there are workers, side by side, and each of
-/// these keeps a cluster in memory. Each document must have been judged to be accepted. After a fault the table
-/// has got a beginning of that.
+/// cases and of the seeds; at the end the table is flushed. Runs are made some at a time, as many as there are
+/// workers, side by side, and each of these keeps a cluster in memory; each time it is told how many were made.
+/// Gives what is told of each case, in their order. Each document must have been judged to be accepted. After a
+/// fault the table has got a beginning of that.
 ///
 /// Faults: `Memory`; `Worn` where a counter of some run, or a count of its tallies, would pass 2^63; `Write`
 /// where the sink failed.
-pub fn sweep<S: Sink>(
+pub fn sweep<S: Sink, P: Progress>(
     rt: &(impl Threads + Sync),
     alloc: Global,
     plan: &Plan,
     document: &Value,
     workers: Workers,
+    progress: &mut P,
     table: &mut S,
-) -> Result<(), Fault>
+) -> Result<Vec<CaseSummary>, Fault>
     requires asked { IsAskedFor plan.now }
     requires judged { AreAccepted (view document.now) plan.now }
     requires countable { S.failed table.old < 2 ^ 63 }
 
-    // How many workers there are doesn't count: the table is the same.
-    ensures whole { OnOk result (WritesTable (view document.now) plan.now (S.held table.old) (S.held table.new)) }
+    // How many workers there are doesn't count: the table and what is told are the same.
+    ensures whole { IfOk result (λ cases. MakesAll (view document.now) plan.now (S.held table.old) (S.held table.new) cases.items) }
     ensures part { OnErr result (BeginsTable (view document.now) plan.now (S.held table.old) (S.held table.new)) }
 
     // No fault comes without its cause.
     ensures causes { IfErr result (HasCause (view document.now) plan.now) }
     ensures failures { S.failed table.new ≡ S.failed table.old + sink_failures result }
 {
-    a_run_exists();
-    match write_names(alloc, plan.settings(), table) {
-        Ok(()) => make_runs(rt, alloc, plan, document, workers, table),
-        Err(error) => Err(fault_of(error)),
+    let mut gathering = Gathering::new(alloc, plan.runs_of_case() as u64);
+    match write_table(
+        rt,
+        alloc,
+        plan,
+        document,
+        workers,
+        progress,
+        &mut gathering,
+        table,
+    ) {
+        Ok(()) => Ok(gathering.into_summaries()),
+        Err(fault) => Err(fault),
     }
 }
 
-/// Makes the runs, and writes their lines.
-fn make_runs<S: Sink>(
+/// Writes the table, and gathers what is told of the runs.
+fn write_table<S: Sink, P: Progress>(
     rt: &(impl Threads + Sync),
     alloc: Global,
     plan: &Plan,
     document: &Value,
     workers: Workers,
+    progress: &mut P,
+    gathering: &mut Gathering,
     table: &mut S,
 ) -> Result<(), Fault>
     requires asked { IsAskedFor plan.now }
     requires judged { AreAccepted (view document.now) plan.now }
     requires countable { S.failed table.old < 2 ^ 63 }
-    ensures whole { OnOk result ((start : Option (List ℕ)) → HasLines (view document.now) plan.now start (S.held table.old) 0
-        → HasLines (view document.now) plan.now start (S.held table.new) (run_count plan.now)) }
-    ensures part { OnErr result ((start : Option (List ℕ)) → HasLines (view document.now) plan.now start (S.held table.old) 0
+    requires fresh { IsGathered plan.now [] gathering.old }
+    ensures whole { OnOk result (HasCome (view document.now) plan.now (S.held table.old) (S.held table.new) gathering.new (run_count plan.now)) }
+    ensures part { OnErr result (BeginsTable (view document.now) plan.now (S.held table.old) (S.held table.new)) }
+    ensures causes { IfErr result (HasCause (view document.now) plan.now) }
+    ensures failures { S.failed table.new ≡ S.failed table.old + sink_failures result }
+{
+    a_run_exists();
+    match write_names(alloc, plan.settings(), table) {
+        Ok(()) => {}
+        Err(error) => return Err(fault_of(error)),
+    }
+    make_runs(
+        rt, alloc, plan, document, workers, progress, gathering, table,
+    )?;
+    flush(table)
+}
+
+/// Has the table hand on what it took.
+fn flush<S: Sink>(table: &mut S) -> Result<(), Fault>
+    requires { S.failed table.old < 2 ^ 63 }
+    ensures same { Keeps (S.held table.old) (S.held table.new) }
+    ensures written { IfErr result (λ fault. fault ≡ Fault.Write) }
+    ensures failures { S.failed table.new ≡ S.failed table.old + sink_failures result }
+{
+    match table.flush() {
+        Ok(()) => Ok(()),
+        Err(Stopped) => Err(Fault::Write),
+    }
+}
+
+/// Makes the runs, writes their lines, and gathers what is told of them.
+fn make_runs<S: Sink, P: Progress>(
+    rt: &(impl Threads + Sync),
+    alloc: Global,
+    plan: &Plan,
+    document: &Value,
+    workers: Workers,
+    progress: &mut P,
+    gathering: &mut Gathering,
+    table: &mut S,
+) -> Result<(), Fault>
+    requires asked { IsAskedFor plan.now }
+    requires judged { AreAccepted (view document.now) plan.now }
+    requires countable { S.failed table.old < 2 ^ 63 }
+    ensures whole { OnOk result ((start : Option (List ℕ)) → HasCome (view document.now) plan.now start (S.held table.old) gathering.old 0
+        → HasCome (view document.now) plan.now start (S.held table.new) gathering.new (run_count plan.now)) }
+    ensures part { OnErr result ((start : Option (List ℕ)) → HasCome (view document.now) plan.now start (S.held table.old) gathering.old 0
         → BeginsLines (view document.now) plan.now start (S.held table.new)) }
     ensures causes { IfErr result (HasCause (view document.now) plan.now) }
     ensures failures { S.failed table.new ≡ S.failed table.old + sink_failures result }
@@ -79,13 +141,15 @@ fn make_runs<S: Sink>(
     let mut from = 0;
     while from < runs {
         let till = runs.min(from + at_once);
-        make_some(rt, alloc, plan, document, from, till, table)?;
+        make_some(rt, alloc, plan, document, from, till, gathering, table)?;
         from = till;
+        progress.runs_made(from, runs);
     }
     Ok(())
 }
 
-/// Makes the runs from one number to before another, side by side, and writes their lines.
+/// Makes the runs from one number to before another, side by side, writes their lines, and gathers what is told
+/// of them.
 fn make_some<S: Sink>(
     rt: &(impl Threads + Sync),
     alloc: Global,
@@ -93,6 +157,7 @@ fn make_some<S: Sink>(
     document: &Value,
     from: usize,
     till: usize,
+    gathering: &mut Gathering,
     table: &mut S,
 ) -> Result<(), Fault>
     requires asked { IsAskedFor plan.now }
@@ -100,9 +165,9 @@ fn make_some<S: Sink>(
     requires ordered { from ≤ till }
     requires within { till ≤ run_count plan.now }
     requires countable { S.failed table.old < 2 ^ 63 }
-    ensures whole { OnOk result ((start : Option (List ℕ)) → HasLines (view document.now) plan.now start (S.held table.old) from
-        → HasLines (view document.now) plan.now start (S.held table.new) till) }
-    ensures part { OnErr result ((start : Option (List ℕ)) → HasLines (view document.now) plan.now start (S.held table.old) from
+    ensures whole { OnOk result ((start : Option (List ℕ)) → HasCome (view document.now) plan.now start (S.held table.old) gathering.old from
+        → HasCome (view document.now) plan.now start (S.held table.new) gathering.new till) }
+    ensures part { OnErr result ((start : Option (List ℕ)) → HasCome (view document.now) plan.now start (S.held table.old) gathering.old from
         → BeginsLines (view document.now) plan.now start (S.held table.new)) }
     ensures causes { IfErr result (HasCause (view document.now) plan.now) }
     ensures failures { S.failed table.new ≡ S.failed table.old + sink_failures result }
@@ -111,5 +176,7 @@ fn make_some<S: Sink>(
     let Ok(told) = told_side_by_side(rt, alloc, &scenarios) else {
         return Err(Fault::Memory);
     };
-    write_lines(alloc, plan, document, from, &scenarios, &told, table)
+    write_lines(
+        alloc, plan, document, from, &scenarios, &told, gathering, table,
+    )
 }

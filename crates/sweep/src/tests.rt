@@ -1,11 +1,12 @@
-//! Sweeps of a tiny scenario: the same table as runs that are made one by one give, with any number of workers.
+//! Sweeps of a tiny scenario: the same table and the same figures as runs that are made one by one give, with any
+//! number of workers.
 
-use crate::{judge, sweep};
+use crate::{NoProgress, Progress, cases_text, judge, sweep};
 use base::Fault;
 use cases::{Plan, SettingValue};
 use exchange::tally_run;
-use figures::{RunFigures, write_header, write_run};
-use scenario::{Workers, document, read};
+use figures::{CaseFigures, CaseSummary, RunFigures, write_header, write_run};
+use scenario::{Scenario, Workers, document, read};
 use std::marker::Sync;
 use std::process::Abort;
 use std::test::Fail;
@@ -43,12 +44,28 @@ const CASES: [[&str; 2]; 4] = [["200", "60"], ["200", "70"], ["250", "60"], ["25
 /// How many puts a table takes: one for its header and one for each run.
 const PUTS: u64 = 9;
 
+/// What was told last of how far a sweep has come, and how often it was.
+struct Told {
+    often: usize,
+    made: usize,
+    all: usize,
+}
+
+impl Progress for Told {
+    fn runs_made(&mut self, made: usize, all: usize) {
+        self.often = self.often.saturating_add(1);
+        self.made = made;
+        self.all = all;
+    }
+}
+
 /// Writes the table of the sweep by so many workers.
-fn sweep_by(
+fn sweep_by<P: Progress>(
     rt: &(impl Abort + AllocGlobal + Threads + Sync),
     workers: usize,
+    progress: &mut P,
     table: &mut MemorySink,
-) -> Result<Result<(), Fault>, Fail> {
+) -> Result<Result<Vec<CaseSummary>, Fault>, Fail> {
     let plan = Plan::read(rt.alloc(), &SETTINGS, Some("1..2"))?;
     let text = document(rt.alloc(), THREE.as_bytes())?;
     let workers = Workers::new(workers).expect(rt, "workers");
@@ -56,16 +73,11 @@ fn sweep_by(
     if judge(rt.alloc(), &plan, &text).is_err() {
         panic!(rt; "a case is refused");
     }
-    Ok(sweep(rt, rt.alloc(), &plan, &text, workers, table))
+    Ok(sweep(rt, rt.alloc(), &plan, &text, workers, progress, table))
 }
 
-/// Writes the line of one run, of a text that has the values and the seed.
-fn write_one(
-    rt: &(impl Abort + AllocGlobal),
-    case: [&str; 2],
-    seed: u64,
-    table: &mut MemorySink,
-) -> Result<(), Fail> {
+/// The scenario of one run, by a text that has the values and the seed.
+fn scenario_of(rt: &impl AllocGlobal, case: [&str; 2], seed: u64) -> Result<Scenario, Fail> {
     let [period, timeout] = case;
     let text = format!(in rt.alloc();
         "version = 2\nseed = {seed}\nend = 2000
@@ -74,11 +86,56 @@ fn write_one(
 [[group]]\nname = \"n\"\ncount = 3
 [[crash]]\nmember = \"n-1\"\nat = 300\n"
     )?;
-    let scenario = read(rt.alloc(), text.as_bytes())?;
+    Ok(read(rt.alloc(), text.as_bytes())?)
+}
+
+/// Writes the line of one run.
+fn write_one(
+    rt: &(impl Abort + AllocGlobal),
+    case: [&str; 2],
+    seed: u64,
+    table: &mut MemorySink,
+) -> Result<(), Fail> {
+    let scenario = scenario_of(rt, case, seed)?;
     let tallies = tally_run(rt.alloc(), &scenario)?;
     let figures = RunFigures::of(rt.alloc(), &tallies, &scenario)?;
     assert!(rt; table.failures() < 1 << 62);
-    write_run(rt.alloc(), &[period, timeout], seed, &figures, table)?;
+    write_run(rt.alloc(), &case, seed, &figures, table)?;
+    Ok(())
+}
+
+/// The figures of a case with one run more.
+fn with_one(
+    rt: &(impl Abort + AllocGlobal),
+    figures: CaseFigures,
+    case: [&str; 2],
+    seed: u64,
+) -> Result<CaseFigures, Fail> {
+    let scenario = scenario_of(rt, case, seed)?;
+    let tallies = tally_run(rt.alloc(), &scenario)?;
+    let run = RunFigures::of(rt.alloc(), &tallies, &scenario)?;
+    assert!(rt; figures.runs() < 1000);
+    Ok(figures.with(&tallies, &run, &scenario)?)
+}
+
+/// What is told of a case with seeds 1 and 2.
+fn summary_of(rt: &(impl Abort + AllocGlobal), case: [&str; 2]) -> Result<CaseSummary, Fail> {
+    let figures = with_one(rt, CaseFigures::new(rt.alloc()), case, 1)?;
+    let figures = with_one(rt, figures, case, 2)?;
+    assert!(rt; figures.runs() > 0);
+    Ok(figures.summary()?)
+}
+
+/// Asserts that the cases are summed up as when their runs are made one by one.
+fn assert_summaries(
+    rt: &(impl Abort + AllocGlobal),
+    summaries: &[CaseSummary],
+) -> Result<(), Fail> {
+    assert!(rt; summaries.len() == CASES.len());
+    for (place, case) in CASES.iter().enumerate() {
+        let expected = summary_of(rt, *case)?;
+        assert!(rt; summaries[place] == expected);
+    }
     Ok(())
 }
 
@@ -93,18 +150,35 @@ fn write_one_by_one(rt: &(impl Abort + AllocGlobal), table: &mut MemorySink) -> 
     Ok(())
 }
 
-/// However many workers there are, the table is that of runs that are made one by one.
+/// However many workers there are, the table and what is told of the cases are those of runs that are made one by
+/// one.
 #[test]
 fn any_workers_write_the_same_table(rt: HostRuntime) -> Result<(), Fail> {
     let mut expected = MemorySink::new(rt.alloc());
     write_one_by_one(&rt, &mut expected)?;
     for workers in [1, 2, 3, 64usize] {
         let mut table = MemorySink::new(rt.alloc());
-        let swept = sweep_by(&rt, workers, &mut table)?;
-        assert!(rt; swept == Ok(()));
+        let summaries = sweep_by(&rt, workers, &mut NoProgress, &mut table)??;
         assert!(rt; table.bytes() == expected.bytes());
         assert!(rt; table.puts() == PUTS);
+        assert_summaries(&rt, &summaries)?;
     }
+    Ok(())
+}
+
+/// Three workers make three runs at a time, and at last two.
+#[test]
+fn it_is_told_how_many_runs_were_made(rt: HostRuntime) -> Result<(), Fail> {
+    let mut told = Told {
+        often: 0,
+        made: 0,
+        all: 0,
+    };
+    let mut table = MemorySink::new(rt.alloc());
+    sweep_by(&rt, 3, &mut told, &mut table)??;
+    assert!(rt; told.often == 3);
+    assert!(rt; told.made == 8);
+    assert!(rt; told.all == 8);
     Ok(())
 }
 
@@ -115,12 +189,84 @@ fn a_sink_that_stops_has_a_beginning(rt: HostRuntime) -> Result<(), Fail> {
     write_one_by_one(&rt, &mut expected)?;
     for put in 1..PUTS + 1 {
         let mut table = MemorySink::new(rt.alloc()).failing_at_put(put);
-        let swept = sweep_by(&rt, 3, &mut table)?;
-        assert!(rt; swept == Err(Fault::Write));
+        let swept = sweep_by(&rt, 3, &mut NoProgress, &mut table)?;
+        assert_stopped(&rt, swept);
         assert!(rt; table.failures() == 1);
         assert!(rt; table.puts() == put);
         assert!(rt; expected.bytes().starts_with(table.bytes()));
     }
+    Ok(())
+}
+
+/// Where the flush at the end fails, the whole table was put.
+#[test]
+fn a_flush_that_fails_is_a_fault(rt: HostRuntime) -> Result<(), Fail> {
+    let mut expected = MemorySink::new(rt.alloc());
+    write_one_by_one(&rt, &mut expected)?;
+    let mut table = MemorySink::new(rt.alloc()).failing_at_flush();
+    let swept = sweep_by(&rt, 3, &mut NoProgress, &mut table)?;
+    assert_stopped(&rt, swept);
+    assert!(rt; table.failures() == 1);
+    assert!(rt; table.bytes() == expected.bytes());
+    Ok(())
+}
+
+/// Asserts that a sweep ended since the table failed.
+fn assert_stopped(rt: &impl Abort, swept: Result<Vec<CaseSummary>, Fault>) {
+    let Err(fault) = swept else {
+        panic!(rt; "not stopped");
+    };
+    assert!(rt; fault == Fault::Write);
+}
+
+/// A case in which nobody crashed, and one with a crash that wasn't detected by all.
+const SUMMARIES: [CaseSummary; 2] = [
+    CaseSummary {
+        runs: 2,
+        suspect_p50: None,
+        confirm_p50: None,
+        confirm_p99: None,
+        confirm_greatest: None,
+        last_p50: None,
+        last_greatest: None,
+        false_suspect: 0,
+        thrown_out: 0,
+        runs_with: 0,
+        share_low: 0,
+        share_high: 658,
+        messages: Some(307),
+    },
+    CaseSummary {
+        runs: 2,
+        suspect_p50: Some(150),
+        confirm_p50: Some(500),
+        confirm_p99: Some(1020),
+        confirm_greatest: Some(1020),
+        last_p50: Some(530),
+        last_greatest: None,
+        false_suspect: 1250,
+        thrown_out: 1,
+        runs_with: 1,
+        share_low: 95,
+        share_high: 905,
+        messages: Some(4000),
+    },
+];
+
+/// Their text, where one key's name is shorter than its values, and the other's longer.
+const TEXT: &str =
+    "  end  swim.period      runs  suspect_p50  confirm_p50  confirm_p99  confirm_greatest  last_p50  last_greatest  false_suspect  thrown_out  runs_with  share_low  share_high  messages
+ 2000          200         2            -            -            -                 -         -              -           0.00           0          0        0.0        65.8      3.07
+10000          200         2          150          500         1020              1020       530              -          12.50           1          1        9.5        90.5     40.00
+";
+
+#[test]
+fn each_case_has_a_line(rt: HostRuntime) -> Result<(), Fail> {
+    let settings = ["end=2000,10000", "swim.period=200"];
+    let plan = Plan::read(rt.alloc(), &settings, Some("1..2"))?;
+    assert!(rt; SUMMARIES.len() == plan.cases());
+    let text = cases_text(rt.alloc(), &plan, &SUMMARIES)?;
+    assert!(rt; text.as_str() == TEXT);
     Ok(())
 }
 

@@ -56,7 +56,7 @@ pub(crate) fn write_values<S: Sink>(
 }
 
 /// The names of the keys that are set.
-fn names(alloc: Global, settings: &[Setting]) -> Result<Vec<String>, Memory>
+pub(crate) fn names(alloc: Global, settings: &[Setting]) -> Result<Vec<String>, Memory>
     ensures { IfOk result (λ names. map string_bytes names.items ≡ names_of settings.now) }
 {
     let mut names = Vec::new(alloc);
@@ -67,7 +67,7 @@ fn names(alloc: Global, settings: &[Setting]) -> Result<Vec<String>, Memory>
 }
 
 /// The values of a case, as words say them.
-fn texts(alloc: Global, case: &[Choice]) -> Result<Vec<String>, Memory>
+pub(crate) fn texts(alloc: Global, case: &[Choice]) -> Result<Vec<String>, Memory>
     ensures { IfOk result (λ texts. map string_bytes texts.items ≡ texts_of case.now) }
 {
     let mut texts = Vec::new(alloc);
@@ -78,7 +78,7 @@ fn texts(alloc: Global, case: &[Choice]) -> Result<Vec<String>, Memory>
 }
 
 /// The texts, lent.
-fn lent<'a>(alloc: Global, texts: &'a [String]) -> Result<Vec<&'a str>, AllocError>
+pub(crate) fn lent<'a>(alloc: Global, texts: &'a [String]) -> Result<Vec<&'a str>, AllocError>
     ensures { IfOk result (λ lent. map (λ text. text.now) lent.items ≡ map string_bytes texts.now) }
 {
     let mut lent = Vec::new(alloc);

@@ -6,27 +6,30 @@ ghost use Rattle.scenario.specs.Setup.{Setup};
 ghost use Rattle.cases.specs.Sweep.{run_count};
 ghost use Rattle.exchange.specs.Streams.{sink_failures};
 ghost use Rattle.sweep.specs.Runs.{IsAskedFor};
-ghost use Rattle.sweep.specs.Table.{HasLines, BeginsLines, HasCause, IsReadAt, AreTold, fault_as};
+ghost use Rattle.sweep.specs.Summaries.{HasCome};
+ghost use Rattle.sweep.specs.Table.{BeginsLines, HasCause, IsReadAt, AreTold, fault_as};
 
+use crate::gathering::Gathering;
 use crate::planned::planned;
+use crate::telling::ToldRun;
 use crate::values::write_values;
 use base::Fault;
 use cases::Plan;
-use figures::RunFigures;
 use scenario::Scenario;
 use std::alloc::Global;
 use toml::Value;
 use trace::{Sink, WriteError};
 
-/// Writes the lines of runs one after the other, up to a run that has no figures. The first of them has this
-/// number, and these are their scenarios and their figures.
+/// Writes the lines of runs one after the other, and gathers what is told of them, up to a run of which nothing
+/// is. The first of them has this number, and these are their scenarios and what is told of them.
 pub(crate) fn write_lines<S: Sink>(
     alloc: Global,
     plan: &Plan,
     document: &Value,
     from: usize,
     scenarios: &[Scenario],
-    told: &[Result<RunFigures, Fault>],
+    told: &[Result<ToldRun, Fault>],
+    gathering: &mut Gathering,
     table: &mut S,
 ) -> Result<(), Fault>
     requires asked { IsAskedFor plan.now }
@@ -34,9 +37,9 @@ pub(crate) fn write_lines<S: Sink>(
     requires read { (place : ℕ) (s : Setup) → slice_get scenarios.now place ≡ Some s → IsReadAt (view document.now) plan.now (from + place) s }
     requires told { AllZip AreTold scenarios.now told.now }
     requires countable { S.failed table.old < 2 ^ 63 }
-    ensures whole { OnOk result ((start : Option (List ℕ)) → HasLines (view document.now) plan.now start (S.held table.old) from
-        → HasLines (view document.now) plan.now start (S.held table.new) (from + length scenarios.now)) }
-    ensures part { OnErr result ((start : Option (List ℕ)) → HasLines (view document.now) plan.now start (S.held table.old) from
+    ensures whole { OnOk result ((start : Option (List ℕ)) → HasCome (view document.now) plan.now start (S.held table.old) gathering.old from
+        → HasCome (view document.now) plan.now start (S.held table.new) gathering.new (from + length scenarios.now)) }
+    ensures part { OnErr result ((start : Option (List ℕ)) → HasCome (view document.now) plan.now start (S.held table.old) gathering.old from
         → BeginsLines (view document.now) plan.now start (S.held table.new)) }
     ensures causes { IfErr result (HasCause (view document.now) plan.now) }
     ensures failures { S.failed table.new ≡ S.failed table.old + sink_failures result }
@@ -48,41 +51,44 @@ pub(crate) fn write_lines<S: Sink>(
             document,
             from + place,
             scenario,
-            told[place],
+            &told[place],
+            gathering,
             table,
         )?;
     }
     Ok(())
 }
 
-/// Writes the line of the run of this number, where it has figures.
+/// Writes the line of the run of this number, and gathers what is told of it, where anything is.
 fn write_line<S: Sink>(
     alloc: Global,
     plan: &Plan,
     _document: &Value,
     number: usize,
     scenario: &Scenario,
-    told: Result<RunFigures, Fault>,
+    told: &Result<ToldRun, Fault>,
+    gathering: &mut Gathering,
     table: &mut S,
 ) -> Result<(), Fault>
     requires asked { IsAskedFor plan.now }
     requires within { number < run_count plan.now }
     requires read { IsReadAt (view _document.now) plan.now number scenario.now }
-    requires told { AreTold scenario.now told }
+    requires told { AreTold scenario.now told.now }
     requires countable { S.failed table.old < 2 ^ 63 }
-    ensures whole { OnOk result ((start : Option (List ℕ)) → HasLines (view _document.now) plan.now start (S.held table.old) number
-        → HasLines (view _document.now) plan.now start (S.held table.new) (number + 1)) }
-    ensures part { OnErr result ((start : Option (List ℕ)) → HasLines (view _document.now) plan.now start (S.held table.old) number
+    ensures whole { OnOk result ((start : Option (List ℕ)) → HasCome (view _document.now) plan.now start (S.held table.old) gathering.old number
+        → HasCome (view _document.now) plan.now start (S.held table.new) gathering.new (number + 1)) }
+    ensures part { OnErr result ((start : Option (List ℕ)) → HasCome (view _document.now) plan.now start (S.held table.old) gathering.old number
         → BeginsLines (view _document.now) plan.now start (S.held table.new)) }
     ensures causes { IfErr result (HasCause (view _document.now) plan.now) }
     ensures failures { S.failed table.new ≡ S.failed table.old + sink_failures result }
 {
-    let figures = match told {
-        Ok(figures) => figures,
-        Err(fault) => return Err(fault),
+    let told = match told {
+        Ok(told) => told,
+        Err(fault) => return Err(*fault),
     };
     let run = planned(alloc, plan, number)?;
-    match write_values(alloc, &run.case, scenario.seed(), &figures, table) {
+    gathering.add(alloc, told, scenario)?;
+    match write_values(alloc, &run.case, scenario.seed(), &told.figures, table) {
         Ok(()) => Ok(()),
         Err(error) => Err(fault_of(error)),
     }

@@ -1,15 +1,15 @@
 use Rattle.std.proofs.Common.{◌≡◌, ◌-◌, ◌≤◌, List, ℕ}
 use Rattle.std.specs.Prelude.{Option}
 use Rattle.toml.specs.View.{view}
-use Rattle.sweep.specs.Table.{HasLines}
+use Rattle.sweep.specs.Summaries.{HasCome}
 use Rattle.sweep.proofs.chunks.make_runs.Given as goal
 
--- the lines of the first runs are written, and the table has not failed
+-- the lines of the first runs are written, what is told of them is gathered, and the table has not failed
 abbrev pub invariant-loop-from : goal.invariant-loop-from
 invariant-loop-from g l = record {
   within : l.from ≤ l.runs;
-  lines : (start : Option (List ℕ)) → HasLines (view l.document) l.plan start (g.S.Sink.held l.fn.table) 0
-      → HasLines (view l.document) l.plan start (g.S.Sink.held l.table) l.from;
+  come : (start : Option (List ℕ)) → HasCome (view l.document) l.plan start (g.S.Sink.held l.fn.table) l.fn.gathering 0
+      → HasCome (view l.document) l.plan start (g.S.Sink.held l.table) l.gathering l.from;
   same : g.S.Sink.failed l.table ≡ g.S.Sink.failed l.fn.table;
 }
 

@@ -1,7 +1,7 @@
 use Rattle.std.proofs.Common.{◌≡◌, ◌+◌, ℕ, List, ap, subst, length, arith}
 use Rattle.std.specs.Prelude.{Option}
 use Rattle.toml.specs.View.{view}
-use Rattle.sweep.specs.Table.{HasLines}
+use Rattle.sweep.specs.Summaries.{HasCome}
 use Rattle.sweep.proofs.Handing.{on_ok_then}
 use Rattle.sweep.proofs.chunks.make_some.Goals as goal
 
@@ -13,6 +13,8 @@ returns-clause-whole g c =
     let new = g.S.Sink.held c.write_lines.new.table in
     let end = c.args.from + length c.deref-2.result.now in
     let all : end ≡ c.args.till = omega (arith, ap length c.deref-2.ensures.value, c.in_ok-scenarios.ensures.count, c.requires.ordered) in
-    on_ok_then ((start : Option (List ℕ)) → HasLines tree plan start old c.args.from → HasLines tree plan start new end)
-    ((start : Option (List ℕ)) → HasLines tree plan start old c.args.from → HasLines tree plan start new c.args.till)
-    c.write_lines.result c.write_lines.ensures.whole (λ go start lines. subst (HasLines tree plan start new) all (go start lines))
+    let before = c.args.gathering.now in
+    let after = c.write_lines.new.gathering in
+    on_ok_then ((start : Option (List ℕ)) → HasCome tree plan start old before c.args.from → HasCome tree plan start new after end)
+    ((start : Option (List ℕ)) → HasCome tree plan start old before c.args.from → HasCome tree plan start new after c.args.till)
+    c.write_lines.result c.write_lines.ensures.whole (λ go start come. subst (HasCome tree plan start new after) all (go start come))

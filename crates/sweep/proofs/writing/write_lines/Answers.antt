@@ -1,7 +1,9 @@
-use Rattle.std.proofs.Common.{◌≡◌, arith}
+use Rattle.std.proofs.Common.{◌≡◌, ◌+◌, length, refl, sym, subst, arith, rules}
+use Rattle.toml.specs.View.{view}
 use Rattle.std.specs.Prelude.{Some, slice_get}
 use Rattle.std.proofs.lemmas.Option.{gets}
 use Rattle.sweep.specs.Table.{AreTold}
+use Rattle.sweep.specs.Summaries.{HasCome}
 use Rattle.sweep.proofs.Steps.{zipped_long, zipped_read}
 use Rattle.sweep.proofs.writing.write_lines.Goals as goal
 
@@ -19,4 +21,27 @@ pub write_line-requires-clause-told : goal.write_line-requires-clause-told
 write_line-requires-clause-told g c =
     let there : slice_get c.args.scenarios.now c.loop-place.place ≡ Some c.index-scenarios-place.result =
     grind (arith, gets, c.index-scenarios-place.is, c.loop-place-test.true) in
-    zipped_read AreTold c.args.scenarios.now c.args.told.now c.loop-place.place c.index-scenarios-place.result _ c.requires.told there
+    subst (AreTold c.index-scenarios-place.result) (sym c.index-told-place.is)
+    (zipped_read AreTold c.args.scenarios.now c.args.told.now c.loop-place.place c.index-scenarios-place.result c.index-told-place.result c.requires.told there)
+
+pub loop-place-init : goal.loop-place-init
+loop-place-init g c = record {
+  come = λ start come.
+      let none : c.args.from ≡ c.args.from + 0 = omega arith in
+      subst (HasCome (view c.args.document.now) c.args.plan.now start (g.S.Sink.held c.args.table.now) c.args.gathering.now) none come;
+  same = refl;
+}
+
+pub loop-place-preserved : goal.loop-place-preserved
+loop-place-preserved g c = record {
+  come = λ start come.
+      let next : (c.args.from + c.loop-place.place) + 1 ≡ c.args.from + (c.loop-place.place + 1) = omega arith in
+      subst (HasCome (view c.args.document.now) c.args.plan.now start (g.S.Sink.held c.write_line.new.table) c.write_line.new.gathering) next
+      (c.in_ok-write_line.ensures.whole start (c.loop-place.invariant.come start come));
+  same = search rules;
+}
+
+pub returns-clause-whole : goal.returns-clause-whole
+returns-clause-whole g c = λ start come.
+    let all : c.args.from + c.loop-place.place ≡ c.args.from + length c.args.scenarios.now = omega (arith, c.loop-place-test.false, c.loop-place.auto.place-end) in
+    subst (HasCome (view c.args.document.now) c.args.plan.now start (g.S.Sink.held c.loop-place.table) c.loop-place.gathering) all (c.loop-place.invariant.come start come)

@@ -8,7 +8,6 @@ use Rattle.figures.proofs.case.CaseFigures.summary.Goals as goal
 pub returns : goal.returns
 returns c runs are =
     let case = c.args.self in
-    let s = c.args.scenario.now in
     let suspected = subst (IsPermutation case.suspected.items) (sym c.as_slice-suspected.ensures.value) c.in_ok-sort.ensures.permutation in
     let confirmed = subst (IsPermutation case.confirmed.items) (sym c.as_slice-confirmed.ensures.value) c.in_ok-sort-2.ensures.permutation in
     let last = subst (IsPermutation case.last.items) (sym c.as_slice-last.ensures.value) c.in_ok-sort-3.ensures.permutation in
@@ -23,7 +22,7 @@ returns c runs are =
       false_claims = false_rate_of runs case.false_suspect case.runs c.from.result are.false_claims c.from.ensures are.all;
       thrown = are.thrown;
       with_thrown = are.with_thrown;
-      low = low_of (runs_with s runs) (length runs) case.runs_with case.runs _ c.share_low.ensures are.with_thrown are.all;
-      high = high_of (runs_with s runs) (length runs) case.runs_with case.runs _ c.share_high.ensures are.with_thrown are.all;
-      rate = rate_of s runs case.sent case.runs _ c.message_rate.ensures are.sendings are.all;
+      low = low_of (runs_with runs) (length runs) case.runs_with case.runs _ c.share_low.ensures are.with_thrown are.all;
+      high = high_of (runs_with runs) (length runs) case.runs_with case.runs _ c.share_high.ensures are.with_thrown are.all;
+      rate = rate_of runs case.sent case.member_ticks _ c.message_rate.ensures are.sendings are.lasting;
     }

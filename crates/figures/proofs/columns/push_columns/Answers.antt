@@ -1,0 +1,14 @@
+use Rattle.std.proofs.Common.{◌++◌, codes, map, ap, ◌∙◌, append_assoc}
+use Rattle.std.specs.String.{string_bytes}
+use Rattle.figures.specs.CaseLines.{cells_aligned, figure_widths}
+use Rattle.figures.proofs.columns.push_columns.Goals as goal
+
+pub returns : goal.returns
+returns c =
+    let before = string_bytes c.args.text.now in
+    let widths = c.args.widths.now in
+    let texts = map string_bytes c.args.texts.now in
+    let all =
+    c.deref.ensures.value ∙ c.in_ok-extend_from_slice-2.ensures.items ∙ ap (λ l. l ++ figure_widths) (c.in_ok-extend_from_slice.ensures.items ∙ ap (λ l. l ++ widths) c.new-all.ensures.items) in
+    c.in_ok-push_str.ensures.bytes ∙ ap (λ l. l ++ codes "\n") (c.in_ok-push_cells.ensures ∙ ap (λ those. before ++ cells_aligned those texts) all)
+    ∙ append_assoc before (cells_aligned (widths ++ figure_widths) texts) (codes "\n")

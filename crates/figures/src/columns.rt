@@ -1,0 +1,148 @@
+//! The lines of cases, in aligned columns.
+ghost use Rattle.std.specs.Prelude.{◌≡◌, ◌+◌, ◌<◌, ◌++◌, ◌==◌, [], codes, map, length, OnOk, IfOk, if◌then◌else◌};
+ghost use Rattle.std.specs.String.{string_bytes};
+ghost use Rattle.figures.specs.CaseLines.{padded, cells_aligned, aligned, figure_words, figure_texts, figure_widths, case_header, case_line};
+
+use crate::summary::CaseSummary;
+use crate::texts::{push_hundredths, push_number, push_rate, push_tenths, push_text, push_time};
+use std::alloc::{AllocError, Global};
+
+/// The words over the figures, in the order of their columns.
+const FIGURE_WORDS: [&str; 13] = [
+    "runs",
+    "suspect_p50",
+    "confirm_p50",
+    "confirm_p99",
+    "confirm_greatest",
+    "last_p50",
+    "last_greatest",
+    "false_suspect",
+    "thrown_out",
+    "runs_with",
+    "share_low",
+    "share_high",
+    "messages",
+];
+
+/// The widths of their columns, in bytes.
+const FIGURE_WIDTHS: [usize; 13] = [8, 11, 11, 11, 16, 8, 13, 13, 10, 9, 9, 10, 8];
+
+/// Adds the header of the lines of cases to a text: the keys that are set, each in a column of its
+/// width in bytes, and the words over the figures.
+pub fn push_case_header(
+    alloc: Global,
+    text: &mut String,
+    widths: &[usize],
+    keys: &[&str],
+) -> Result<(), AllocError>
+    requires { length widths.now ≡ length keys.now }
+    ensures { OnOk result (string_bytes text.new ≡ string_bytes text.old ++ case_header widths.now (map (λ key. key.now) keys.now)) }
+{
+    let mut words = Vec::new(alloc);
+    push_texts(alloc, &mut words, keys)?;
+    push_texts(alloc, &mut words, &FIGURE_WORDS)?;
+    push_columns(alloc, text, widths, &words)
+}
+
+/// Adds the line of a case to a text: the values that the keys have, in the columns of the keys, and
+/// the figures; a dash stands for a figure that isn't there.
+pub fn push_case_line(
+    alloc: Global,
+    text: &mut String,
+    widths: &[usize],
+    values: &[&str],
+    summary: &CaseSummary,
+) -> Result<(), AllocError>
+    requires { length widths.now ≡ length values.now }
+    ensures { OnOk result (string_bytes text.new ≡ string_bytes text.old ++ case_line widths.now (map (λ value. value.now) values.now) summary.now) }
+{
+    let mut texts = Vec::new(alloc);
+    push_texts(alloc, &mut texts, values)?;
+    push_figures(alloc, &mut texts, summary)?;
+    push_columns(alloc, text, widths, &texts)
+}
+
+/// Adds texts to those of a line.
+fn push_texts(alloc: Global, texts: &mut Vec<String>, more: &[&str]) -> Result<(), AllocError>
+    ensures { OnOk result (map string_bytes texts.new.items ≡ map string_bytes texts.old.items ++ map (λ text. text.now) more.now) }
+{
+    for text in more {
+        push_text(alloc, texts, text)?;
+    }
+    Ok(())
+}
+
+/// Adds the texts of a case's figures to those of a line.
+fn push_figures(
+    alloc: Global,
+    texts: &mut Vec<String>,
+    summary: &CaseSummary,
+) -> Result<(), AllocError>
+    ensures { OnOk result (map string_bytes texts.new.items ≡ map string_bytes texts.old.items ++ figure_texts summary.now) }
+{
+    push_number(alloc, texts, u128::from(summary.runs))?;
+    push_time(alloc, texts, summary.suspect_p50)?;
+    push_time(alloc, texts, summary.confirm_p50)?;
+    push_time(alloc, texts, summary.confirm_p99)?;
+    push_time(alloc, texts, summary.confirm_greatest)?;
+    push_time(alloc, texts, summary.last_p50)?;
+    push_time(alloc, texts, summary.last_greatest)?;
+    push_hundredths(alloc, texts, summary.false_suspect)?;
+    push_number(alloc, texts, summary.thrown_out)?;
+    push_number(alloc, texts, u128::from(summary.runs_with))?;
+    push_tenths(alloc, texts, summary.share_low)?;
+    push_tenths(alloc, texts, summary.share_high)?;
+    push_rate(alloc, texts, summary.messages)
+}
+
+/// Adds a line: texts in columns, of which the first have these widths, and the last, 13 figures,
+/// those of their words.
+fn push_columns(
+    alloc: Global,
+    text: &mut String,
+    widths: &[usize],
+    texts: &[String],
+) -> Result<(), AllocError>
+    requires { length texts.now ≡ length widths.now + 13 }
+    ensures { OnOk result (string_bytes text.new ≡ string_bytes text.old ++ aligned (widths.now ++ figure_widths) (map string_bytes texts.now)) }
+{
+    let mut all = Vec::new(alloc);
+    all.extend_from_slice(widths)?;
+    all.extend_from_slice(&FIGURE_WIDTHS)?;
+    push_cells(text, &all, texts)?;
+    text.push_str("\n")?;
+    Ok(())
+}
+
+/// Adds texts in these widths, parted by two spaces.
+fn push_cells(text: &mut String, widths: &[usize], texts: &[String]) -> Result<(), AllocError>
+    requires { length widths.now ≡ length texts.now }
+    ensures { OnOk result (string_bytes text.new ≡ string_bytes text.old ++ cells_aligned widths.now (map string_bytes texts.now)) }
+{
+    for (place, cell) in texts.iter().enumerate() {
+        push_gap(text, place)?;
+        push_padded(text, widths[place], cell.as_str())?;
+    }
+    Ok(())
+}
+
+/// Adds what stands before the cell at a place of a line: two spaces, but for the first.
+fn push_gap(text: &mut String, place: usize) -> Result<(), AllocError>
+    ensures { OnOk result (string_bytes text.new ≡ string_bytes text.old ++ (if place == 0 then [] else codes "  ")) }
+{
+    if place == 0 {
+        return Ok(());
+    }
+    text.push_str("  ")
+}
+
+/// Adds a text, with spaces before it up to a width.
+fn push_padded(text: &mut String, width: usize, cell: &str) -> Result<(), AllocError>
+    ensures { OnOk result (string_bytes text.new ≡ string_bytes text.old ++ padded width cell.now) }
+{
+    let spaces = width.saturating_sub(cell.len());
+    for _space in 0..spaces {
+        text.push_str(" ")?;
+    }
+    text.push_str(cell)
+}

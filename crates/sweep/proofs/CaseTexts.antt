@@ -1,0 +1,86 @@
+-- How the text of cases grows, and how wide its columns are.
+use Rattle.std.proofs.Common.{◌≡◌, ℕ, suc, ◌+◌, ◌<◌, List, [], ◌∷◌, ◌++◌, Option, Some, refl, sym, ap, subst, ◌∙◌, arith, max, take, drop, get_or, length, map, append-nil, append_assoc}
+use Rattle.std.specs.Prelude.{All, slice_get}
+use Rattle.std.specs.List.{flat_map, zip}
+use Rattle.std.proofs.Math.Seq.{drop-cons}
+use Rattle.std.proofs.lemmas.List.{take_more, length-take-le, drop_all}
+use Rattle.std.proofs.lemmas.List.Elements.{All-append, All-map, All-nil, All-push}
+use Rattle.std.proofs.lemmas.Option.{get_or_from_slice_get, slice_get_within}
+use Rattle.cases.specs.Sweep.{KeyValues}
+use Rattle.cases.specs.Cases.{cases_of, choice_of}
+use Rattle.cases.specs.Values.{value_text}
+use Rattle.cases.specs.declared.choice.Choice.{Choice}
+use Rattle.cases.specs.declared.values.SettingValue.{SettingValue}
+use Rattle.figures.specs.CaseLines.{case_line}
+use Rattle.figures.specs.declared.summary.CaseSummary.{CaseSummary}
+use Rattle.sweep.specs.Table.{texts_of}
+use Rattle.sweep.specs.Texts.{longest, lines_of_cases}
+use Rattle.sweep.proofs.Steps.{taken_more}
+
+-- ---- lines
+
+lines_more : (widths : List ℕ) (cases : List (List Choice)) (summaries : List CaseSummary) (chosen : List Choice) (summary : CaseSummary) → length cases ≡ length summaries
+    → lines_of_cases widths (cases ++ chosen ∷ []) (summaries ++ summary ∷ []) ≡ lines_of_cases widths cases summaries ++ case_line widths (texts_of chosen) summary
+lines_more widths [] [] chosen summary same = append-nil (case_line widths (texts_of chosen) summary)
+lines_more widths [] (t ∷ summaries) chosen summary same = absurd (omega (arith, same))
+lines_more widths (a ∷ cases) [] chosen summary same = absurd (omega (arith, same))
+lines_more widths (a ∷ cases) (t ∷ summaries) chosen summary same =
+    ap (λ l. case_line widths (texts_of a) t ++ l) (lines_more widths cases summaries chosen summary (omega (arith, same)))
+    ∙ sym (append_assoc (case_line widths (texts_of a) t) (lines_of_cases widths cases summaries) (case_line widths (texts_of chosen) summary))
+
+-- one line more
+pub line_added : (widths used : List ℕ) (cases : List (List Choice)) (summaries : List CaseSummary) (place : ℕ) (chosen : List Choice) (d : CaseSummary) (before text after : List ℕ)
+    → used ≡ widths → length cases ≡ length summaries → slice_get cases place ≡ Some chosen
+    → text ≡ before ++ lines_of_cases widths (take place cases) (take place summaries) → after ≡ text ++ case_line used (texts_of chosen) (get_or summaries place d)
+    → after ≡ before ++ lines_of_cases widths (take (place + 1) cases) (take (place + 1) summaries)
+line_added widths used cases summaries place chosen d before text after wide same there so is =
+    let cs = take place cases in
+    let ts = take place summaries in
+    let summary = get_or summaries place d in
+    let lt : place < length cases = slice_get_within cases place chosen there in
+    let long_c : length cs ≡ place = length-take-le place cases (omega (arith, lt)) in
+    let long_t : length ts ≡ place = length-take-le place summaries (omega (arith, same, lt)) in
+    is ∙ ap (λ (w : List ℕ). text ++ case_line w (texts_of chosen) summary) wide ∙ ap (λ l. l ++ case_line widths (texts_of chosen) summary) so
+    ∙ append_assoc before (lines_of_cases widths cs ts) (case_line widths (texts_of chosen) summary)
+    ∙ ap (λ l. before ++ l) (sym (lines_more widths cs ts chosen summary (long_c ∙ sym long_t)))
+    ∙ ap (λ l. before ++ lines_of_cases widths l (ts ++ summary ∷ [])) (sym (taken_more cases place chosen there))
+    ∙ ap (λ l. before ++ lines_of_cases widths (take (place + 1) cases) l) (sym (take_more summaries place d (omega (arith, same, lt))))
+
+-- ---- a case has a value for each key
+
+all_flat : {X Y : Type 0} (P : Y → Type 0) (f : X → List Y) (xs : List X) → ((x : X) → All P (f x)) → All P (flat_map f xs)
+all_flat P f [] each = All-nil P
+all_flat P f (x ∷ xs) each = All-append P (f x) (flat_map f xs) (each x) (all_flat P f xs each)
+
+cases_long : (settings : List KeyValues) → All (λ chosen. length chosen ≡ length settings) (cases_of settings)
+cases_long [] = All-push (λ (chosen : List Choice). length chosen ≡ 0) [] [] (All-nil (λ (chosen : List Choice). length chosen ≡ 0)) refl
+cases_long (s ∷ more) =
+    all_flat (λ (chosen : List Choice). length chosen ≡ suc (length more)) (λ value. map (λ chosen. choice_of s.key value ∷ chosen) (cases_of more)) s.values
+    (λ value. All-map (λ (chosen : List Choice). length chosen ≡ suc (length more)) (λ chosen. choice_of s.key value ∷ chosen) (cases_of more)
+    (λ i d lt. ap suc (cases_long more i d lt)))
+
+pub case_long : (settings : List KeyValues) (place : ℕ) (chosen : List Choice) → slice_get (cases_of settings) place ≡ Some chosen → length chosen ≡ length settings
+case_long settings place chosen there =
+    let cases = cases_of settings in
+    subst (λ (l : List Choice). length l ≡ length settings) (get_or_from_slice_get cases place chosen chosen there)
+    (cases_long settings place chosen (slice_get_within cases place chosen there))
+
+-- ---- widths
+
+-- one value more was looked at
+pub wider : (values : List SettingValue) (place : ℕ) (value : SettingValue) (width after target : ℕ) (text : List ℕ) → place < length values → value ≡ get_or values place value
+    → text ≡ value_text value → after ≡ max width (length text) → max width (longest (map value_text (drop place values))) ≡ target
+    → max after (longest (map value_text (drop (place + 1) values))) ≡ target
+wider values place value width after target text lt at is more so =
+    let rest = longest (map value_text (drop (place + 1) values)) in
+    let next : suc place ≡ place + 1 = omega arith in
+    let split : drop place values ≡ value ∷ drop (place + 1) values =
+    drop-cons values place value lt ∙ ap (λ v. v ∷ drop (suc place) values) (sym at) ∙ ap (λ n. value ∷ drop n values) next in
+    let whole : longest (map value_text (drop place values)) ≡ max (length (value_text value)) rest = ap (λ (l : List SettingValue). longest (map value_text l)) split in
+    omega (arith, so, whole, more, ap length is)
+
+-- all were
+pub widest : (values : List SettingValue) (place width target : ℕ) → length values < place + 1 → max width (longest (map value_text (drop place values))) ≡ target → width ≡ target
+widest values place width target past so =
+    let none : longest (map value_text (drop place values)) ≡ 0 = ap (λ (l : List SettingValue). longest (map value_text l)) (drop_all place values (omega (arith, past))) in
+    omega (arith, none, so)

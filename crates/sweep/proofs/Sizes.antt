@@ -1,0 +1,30 @@
+-- How many runs a case has.
+use Rattle.std.proofs.Common.{◌≡◌, ℕ, ◌*◌, ◌<◌, ◌≤◌, List, [], ◌∷◌, Option, Some, None, length, arith}
+use Rattle.std.specs.Prelude.{All}
+use Rattle.std.proofs.lemmas.Nat.{mul-le}
+use Rattle.std.proofs.lemmas.List.Elements.{All-head, All-tail}
+use Rattle.cases.specs.Asked.{AsksForSeeds, IsSetting}
+use Rattle.cases.specs.Sweep.{KeyValues, Sweep, case_count, seed_count}
+use Rattle.cases.specs.declared.seeds.Seeds.{Seeds}
+use Rattle.sweep.specs.Runs.{IsAskedFor}
+
+seeds_some : (words : Option (List ℕ)) (seeds : Option Seeds) → AsksForSeeds words seeds → 0 < seed_count seeds
+seeds_some None None asks = omega arith
+seeds_some None (Some r) asks = absurd asks
+seeds_some (Some word) None asks = absurd asks
+seeds_some (Some word) (Some r) asks = omega (arith, asks.ordered)
+
+cases_some : (settings : List KeyValues) → All IsSetting settings → 0 < case_count settings
+cases_some [] all = omega arith
+cases_some (s ∷ more) all =
+    omega (arith, mul-le 1 1 (length s.values) (case_count more) (All-head IsSetting s more all).some (cases_some more (All-tail IsSetting s more all)))
+
+-- a case has a run at least
+pub some_runs : (sweep : Sweep) → IsAskedFor sweep → 0 < seed_count sweep.seeds
+some_runs sweep asked = seeds_some asked.seeds sweep.seeds asked.asked.seeded
+
+-- and no more than there are in all
+pub few_runs : (sweep : Sweep) → IsAskedFor sweep → seed_count sweep.seeds ≤ 1000000
+few_runs sweep asked =
+    let each = seed_count sweep.seeds in
+    omega (arith, asked.asked.few, mul-le 1 each (case_count sweep.settings) each (cases_some sweep.settings asked.asked.settings.sound) (omega arith))
