@@ -1,5 +1,4 @@
 pub mod Names
-pub mod Numbers
 pub mod Words
 pub mod Ranges
 pub mod Members
@@ -8,3 +7,4 @@ pub mod Written
 pub mod Gathered
 pub mod Planning
 pub mod Choices
+pub mod Told

@@ -6,7 +6,7 @@ use Rattle.cases.specs.Sweep.{KeyValues, Sweep, case_count, seed_count}
 use Rattle.cases.specs.Asked.{IsRange, AreSettings, AsksForSeeds, IsSweepOf}
 use Rattle.cases.specs.declared.seeds.Seeds.{Seeds}
 use Rattle.cases.proofs.Words.{decimal_lacks, cut_once}
-use Rattle.cases.proofs.Ranges.{same_number}
+use Rattle.decimals.proofs.Numbers.{same_number}
 use Rattle.cases.proofs.Counts.{saturated}
 use Rattle.cases.proofs.Gathered.{same_settings}
 

@@ -2,9 +2,8 @@
 use Rattle.std.proofs.Common.{◌≡◌, ◌≢◌, ◌+◌, ℕ, List, ◌∷◌, drop, Option, Some, None, Bor, decimal, length, sym, ◌∙◌, lit<, arith}
 use Rattle.std.specs.Option.{MatchOption}
 use Rattle.std.specs.Str.Pattern.{FindsCharPrefix}
-use Rattle.std.proofs.lemmas.Fmt.{decimal_injective}
 use Rattle.std.proofs.lemmas.Str.Pattern.{IsSplitOnceResult, split_after, strip_prefix_char}
-use Rattle.cases.specs.Values.{IsWhole}
+use Rattle.decimals.specs.Numbers.{IsDecimal}
 use Rattle.cases.specs.Asked.{IsRange}
 use Rattle.cases.specs.declared.seeds.Seeds.{Seeds}
 use Rattle.cases.proofs.Words.{unlike, decimal_lacks}
@@ -30,7 +29,7 @@ module _ (word : List ℕ) (r : Seeds) (range : IsRange word r) where
     parts : (first.now ≡ decimal r.first) × (rest.now ≡ 46 ∷ decimal r.last)
     parts = rw some at (at_dot parted is)
 
-    pub first_number : IsWhole first.now r.first
+    pub first_number : IsDecimal first.now r.first
     first_number =
         let ordered = range.ordered in
         let low = range.low in
@@ -42,16 +41,9 @@ module _ (word : List ℕ) (r : Seeds) (range : IsRange word r) where
           let told : (more : List ℕ) → rest.now ≢ 46 ∷ more = rw none at (strip_prefix_char 46 rest.now stripped cut (lit< tt)) in
           told (decimal r.last) parts.1
 
-      pub last_number : (last : Bor (List ℕ)) → stripped ≡ Some last → IsWhole last.now r.last
+      pub last_number : (last : Bor (List ℕ)) → stripped ≡ Some last → IsDecimal last.now r.last
       last_number last is_last =
           let told : rest.now ≡ 46 ∷ last.now = rw is_last at (strip_prefix_char 46 rest.now stripped cut (lit< tt)) in
           let whole : 46 ∷ last.now ≡ 46 ∷ decimal r.last = sym told ∙ parts.1 in
           let same : decimal r.last ≡ last.now = cc in
           record { written = same; low = range.low }
-
--- numbers of one word are one
-pub same_number : (word : List ℕ) (m n : ℕ) → IsWhole word m → IsWhole word n → m ≡ n
-same_number word m n a b =
-    let low_a = a.low in
-    let low_b = b.low in
-    decimal_injective m n (omega arith) (omega arith) (a.written ∙ sym b.written)

@@ -10,10 +10,11 @@ use Rattle.std.proofs.lemmas.Str.Pattern.{IsSplitOnceResult, split_after, split_
 use Rattle.std.proofs.lemmas.Fmt.{decimal_injective, decimal_is_IsNumeral}
 use Rattle.std.proofs.lemmas.Str.Parse.{digit_at}
 use Rattle.schema.specs.Schema.{spelling_of, key_rules_of}
+use Rattle.decimals.specs.Items.{list_items}
 use Rattle.cases.specs.Keys.{key_name, settable, key_named, is_named}
 use Rattle.cases.specs.Values.{value_text, FitsToml, IsValue}
 use Rattle.cases.specs.Sweep.{KeyValues}
-use Rattle.cases.specs.Asked.{setting_text, IsSetting, IsSettingOf, AreValues, values_listed}
+use Rattle.cases.specs.Asked.{setting_text, IsSetting, IsSettingOf, AreValues}
 use Rattle.cases.specs.declared.keys.SettingKey.{SettingKey}
 use Rattle.cases.specs.declared.values.SettingValue.{SettingValue}
 use Rattle.cases.specs.declared.values.SettingValue.TheVariants.{Whole, Switch}
@@ -130,11 +131,11 @@ no_values items k word inside at none values are =
 -- ---- one setting
 
 -- values that are written with commas between them are the items of the list
-pub listed : (s : KeyValues) (list : List ℕ) → IsSetting s → join_with_byte 44 (map value_text s.values) ≡ list → AreValues (values_listed list) s.values
+pub listed : (s : KeyValues) (list : List ℕ) → IsSetting s → join_with_byte 44 (map value_text s.values) ≡ list → AreValues (list_items list) s.values
 listed s list sound joined =
     let some = sound.some in
     let many : 0 < length (map value_text s.values) = subst (λ n. 0 < n) (sym (length-map s.values value_text)) some in
-    record { written = sym (joined_split 44 (map value_text s.values) many (values_lack s.values sound.fit)) ∙ ap values_listed joined; fit = sound.fit }
+    record { written = sym (joined_split 44 (map value_text s.values) many (values_lack s.values sound.fit)) ∙ ap list_items joined; fit = sound.fit }
 
 pub same_setting : (s t : KeyValues) → IsSetting s → IsSetting t → setting_text s ≡ setting_text t → s ≡ t
 same_setting s t sound sound_too same =
@@ -166,12 +167,12 @@ module _ (word : List ℕ) (s : KeyValues) (is : IsSettingOf word s) where
         let one : None ≡ Some s.key = sym none ∙ is_named ∙ ap key_named parts.0 ∙ named_itself s.key is.sound.key in
         cc
 
-    pub valued : AreValues (values_listed list.now) s.values
+    pub valued : AreValues (list_items list.now) s.values
     valued = listed s list.now is.sound (sym parts.1)
 
 -- what was read of a word is its setting
 pub read_setting : (word : List ℕ) (name list : Bor (List ℕ)) (parted : Option (Bor (List ℕ) × Bor (List ℕ))) (k : SettingKey) (values : List SettingValue)
-    → parted ≡ Some (name, list) → IsSplitOnceResult 61 word parted → key_named name.now ≡ Some k → AreValues (values_listed list.now) values
+    → parted ≡ Some (name, list) → IsSplitOnceResult 61 word parted → key_named name.now ≡ Some k → AreValues (list_items list.now) values
     → IsSettingOf word (record { key = k; values = values })
 unfolding key_named
 read_setting word name list parted k values some cut known are =
@@ -179,7 +180,7 @@ read_setting word name list parted k values some cut known are =
     let there = found (is_named name.now) settable k known in
     let named : key_name k ≡ name.now = bytes_eq_true (key_name k) name.now there.1 in
     let joined : join_with_byte 44 (map value_text values) ≡ list.now = ap (join_with_byte 44) are.written ∙ join_with_byte-slice_split 44 list.now in
-    let many : length (values_listed list.now) ≡ length values = sym (ap length are.written) ∙ length-map values value_text in
+    let many : length (list_items list.now) ≡ length values = sym (ap length are.written) ∙ length-map values value_text in
     let count = length-slice_split (λ byte. byte == 44) list.now in
     record {
       written = ap (λ front. front ++ 61 ∷ join_with_byte 44 (map value_text values)) named ∙ ap (λ rest. name.now ++ 61 ∷ rest) joined ∙ sym told.0;

@@ -1,7 +1,7 @@
 -- By which words a sweep is asked for.
-use Rattle.std.specs.Prelude.{◌≡◌, ◌≢◌, ℕ, ◌<◌, ◌≤◌, ◌^◌, ◌==◌, List, ◌∷◌, ◌++◌, Option, Some, None, All, AllPairs, Contains, map, length}
+use Rattle.std.specs.Prelude.{◌≡◌, ◌≢◌, ℕ, ◌<◌, ◌≤◌, ◌^◌, List, ◌∷◌, ◌++◌, Option, Some, None, All, AllPairs, Contains, map, length}
 use Rattle.std.specs.Fmt.{decimal}
-use Rattle.std.specs.List.{slice_split, join_with_byte}
+use Rattle.std.specs.List.{join_with_byte}
 use Rattle.cases.specs.Keys.{key_name, settable}
 use Rattle.cases.specs.Values.{value_text, FitsToml}
 use Rattle.cases.specs.Sweep.{KeyValues, Sweep, run_count}
@@ -68,10 +68,6 @@ RefusesSettings words Memory = Unit {0}
 abbrev pub RefusesSetting : List ℕ → PlanFault → Type 0
 RefusesSetting word Words = (s : KeyValues) → ¬ (IsSettingOf word s)
 RefusesSetting word Memory = Unit {0}
-
--- what stands between the commas of a list
-abbrev pub values_listed : List ℕ → List (List ℕ)
-values_listed list = slice_split (λ byte. byte == 44) list
 
 -- the items are the values, written out, and each fits
 pub record AreValues (items : List (List ℕ)) (values : List SettingValue) : Type 0 where

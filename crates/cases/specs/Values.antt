@@ -1,5 +1,5 @@
 -- The values that words stand for.
-use Rattle.std.specs.Prelude.{◌≡◌, ℕ, ◌<◌, ◌^◌, ◌==◌, ◌||◌, ◌&&◌, not, List, [], ◌∷◌, Bool, true, false, codes, length}
+use Rattle.std.specs.Prelude.{◌≡◌, ℕ, ◌<◌, ◌^◌, List, true, false, codes}
 use Rattle.std.specs.Fmt.{decimal}
 use Rattle.cases.specs.declared.values.SettingValue.{SettingValue}
 use Rattle.cases.specs.declared.values.SettingValue.TheVariants.{Whole, Switch}
@@ -15,17 +15,7 @@ abbrev pub FitsToml : SettingValue → Type 0
 FitsToml (Whole n) = n < 2 ^ 63
 FitsToml (Switch b) = Unit {0}
 
--- the word is the number in decimal, which is at most 2^63 - 1
-pub record IsWhole (word : List ℕ) (n : ℕ) : Type 0 where
-  pub written : decimal n ≡ word
-  pub low : n < 2 ^ 63
-
 -- the word is the value's text, and the value fits
 pub record IsValue (word : List ℕ) (value : SettingValue) : Type 0 where
   pub written : value_text value ≡ word
   pub fits : FitsToml value
-
--- a sign, or a zero before other bytes, comes first
-abbrev pub has_sign_or_zero : List ℕ → Bool
-has_sign_or_zero [] = false
-has_sign_or_zero (first ∷ rest) = (first == 43) || ((first == 48) && not (length rest == 0))

@@ -13,7 +13,7 @@ mod settings;
 mod tests;
 mod values;
 
-pub use choice::Choice;
+pub use choice::{Choice, settings_text};
 pub use document::{read_with, with_values};
 pub use fault::PlanFault;
 pub use keys::SettingKey;

@@ -18,7 +18,7 @@ use std::marker::Model;
 const MOST_RUNS: usize = 1_000_000;
 
 /// The settings of a sweep, and the seeds with which each of its cases runs.
-#[derive(Drop)]
+#[derive(Debug, Drop)]
 pub struct Plan {
     settings: Vec<Setting>,
     seeds: Option<Seeds>,

@@ -3,7 +3,7 @@ ghost use Rattle.std.specs.Prelude.{◌≡◌, ◌≤◌, ◌<◌, ◌^◌, ◌+
 ghost use Rattle.cases.specs.Asked.{AsksForSeeds, IsRange};
 ghost use Rattle.cases.specs.declared.seeds.Seeds.{Seeds as Range};
 
-use crate::values::number;
+use decimals::number;
 
 /// The seeds from the first to the last, both ends included.
 #[derive(Clone, Copy, Debug, PartialEq, Eq)]

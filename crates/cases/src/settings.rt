@@ -1,8 +1,9 @@
 //! One key, and the values that it is set to.
 ghost use Rattle.std.specs.Prelude.{◌≡◌, IfOk, IfErr};
 ghost use Rattle.std.specs.List.{list_any};
+ghost use Rattle.decimals.specs.Items.{list_items};
 ghost use Rattle.cases.specs.Keys.{is_same};
-ghost use Rattle.cases.specs.Asked.{AreValues, IsSettingOf, RefusesSetting, RefusesValues, values_listed};
+ghost use Rattle.cases.specs.Asked.{AreValues, IsSettingOf, RefusesSetting, RefusesValues};
 
 use crate::fault::PlanFault;
 use crate::keys::{SettingKey, is_same};
@@ -11,7 +12,7 @@ use std::alloc::Global;
 use std::marker::Model;
 
 /// A key, and the values that it is set to, one after the other.
-#[derive(Drop)]
+#[derive(Debug, Drop)]
 pub struct Setting {
     key: SettingKey,
     values: Vec<SettingValue>,
@@ -63,8 +64,8 @@ impl Setting {
 
 /// The values that the items of a list say.
 fn read_values(alloc: Global, list: &str) -> Result<Vec<SettingValue>, PlanFault>
-    ensures read { IfOk result (λ values. AreValues (values_listed list.now) values.items) }
-    ensures refused { IfErr result (RefusesValues (values_listed list.now)) }
+    ensures read { IfOk result (λ values. AreValues (list_items list.now) values.items) }
+    ensures refused { IfErr result (RefusesValues (list_items list.now)) }
 {
     let mut values = Vec::new(alloc);
     for item in list.split(',') {

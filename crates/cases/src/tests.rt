@@ -3,7 +3,7 @@
 ghost use Rattle.std.specs.Prelude.{◌<◌, ◌^◌};
 ghost use Rattle.std.specs.Option.{ForSome};
 
-use crate::{Plan, SettingKey, SettingValue, read_with};
+use crate::{Plan, SettingKey, SettingValue, read_with, settings_text};
 use std::alloc::Global;
 
 const TEXT: &str = "version = 1
@@ -198,6 +198,37 @@ fn values_and_seeds_are_set(rt: HostRuntime) {
     assert!(rt; read_by(rt.alloc(), TEXT, &["suspicion.alpha=0"], None) == (5, 0, 0));
     assert!(rt; read_by(rt.alloc(), TEXT, &["swim.period=true"], None) == (4, 0, 0));
     assert!(rt; read_by(rt.alloc(), NO_TABLE, &["swim.period=9"], None) == (4, 0, 0));
+}
+
+#[test]
+fn settings_are_told_in_their_order(rt: HostRuntime) {
+    let words = ["swim.period=200,300", "lifeguard.buddy=true", "end=0"];
+    assert!(rt;
+        is_told(
+            rt.alloc(),
+            &words,
+            "swim.period=200 lifeguard.buddy=true end=0"
+        )
+    );
+    assert!(rt; is_told(rt.alloc(), &["end=7"], "end=7"));
+    assert!(rt; is_told(rt.alloc(), &[], ""));
+}
+
+/// Whether the first case of the settings is told by this text.
+fn is_told(alloc: Global, settings: &[&str], wanted: &str) -> bool {
+    let Ok(plan) = Plan::read(alloc, settings, None) else {
+        return false;
+    };
+    if plan.cases() == 0 {
+        return false;
+    }
+    let Ok(case) = plan.case_at(alloc, 0) else {
+        return false;
+    };
+    match settings_text(alloc, &case) {
+        Ok(text) => text.as_str() == wanted,
+        Err(_) => false,
+    }
 }
 
 /// Whether the word is the name of the key that it names.

@@ -1,4 +1,3 @@
 mod App
-mod Numbers
 mod Parts
 mod RunRows

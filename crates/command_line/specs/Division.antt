@@ -1,8 +1,9 @@
 -- How the members are divided into parts, and how many workers there are, by the words that say so.
-use Rattle.std.specs.Prelude.{◌≡◌, ◌≢◌, ℕ, ◌≤◌, ◌+◌, ◌%◌, ◌==◌, max, ◌∷◌, [], ◌||◌, ◌&&◌, not, Bool, false, List, Option, Some, None, All, map, fold, length}
+use Rattle.std.specs.Prelude.{◌≡◌, ◌≢◌, ℕ, ◌≤◌, ◌+◌, ◌%◌, max, List, Option, Some, None, All, map, fold, length}
 use Rattle.std.specs.Fmt.{decimal}
-use Rattle.std.specs.List.{slice_split, range_with_len}
+use Rattle.std.specs.List.{range_with_len}
 use Rattle.clap.specs.Words.{Text}
+use Rattle.decimals.specs.Items.{list_items}
 use Rattle.scenario.specs.Division.{Deal}
 use Rattle.scenario.specs.declared.division.DivisionFault.{DivisionFault}
 use Rattle.scenario.specs.declared.division.DivisionFault.TheVariants as fault
@@ -14,11 +15,6 @@ pub record IsNumber (least most : ℕ) (word : Text) (n : ℕ) : Type 0 where
   pub written : decimal n ≡ word
   pub low : least ≤ n
   pub high : n ≤ most
-
--- a sign, or a zero before other bytes, comes first
-abbrev pub has_prefix : List ℕ → Bool
-has_prefix [] = false
-has_prefix (first ∷ rest) = (first == 43) || ((first == 48) && not (length rest == 0))
 
 -- the word is a number of parts or of workers
 abbrev pub IsCount : Text → ℕ → Type 0
@@ -32,10 +28,6 @@ AsksForWorkers (Some word) workers = IsCount word workers
 -- member m in part m mod the number of parts
 abbrev pub in_turn : ℕ → ℕ → Deal
 in_turn members parts = record { parts = parts; part_of = map (λ m. m % parts) (range_with_len 0 members) }
-
--- what stands between the commas of a list
-abbrev pub list_items : Text → List Text
-list_items list = slice_split (λ byte. byte == 44) list
 
 -- the items are the numbers of parts, which are at most 63
 pub record AreParts (items : List Text) (numbers : List ℕ) : Type 0 where

@@ -1,5 +1,5 @@
 -- How a command that failed ends, and what users read of it.
-use Rattle.std.specs.Prelude.{◌≡◌, ℕ, List, [], ◌∷◌, ◌++◌, Option, Result, Err, codes}
+use Rattle.std.specs.Prelude.{◌≡◌, ℕ, List, [], ◌∷◌, ◌++◌, Option, Result, Err, codes, string_bytes}
 use Rattle.std.specs.Fmt.{decimal}
 use Rattle.scenario.specs.Rules.{verdict}
 use Rattle.scenario.specs.Division.{Deal}
@@ -12,7 +12,7 @@ use Rattle.command_line.specs.Shown.{shown_name}
 use Rattle.command_line.specs.Division.{AreParts, AsksForWorkers, DivisionFails, ListFails}
 use Rattle.command_line.specs.declared.words.Split.{Split}
 use Rattle.command_line.specs.declared.failure.Failure.{Failure}
-use Rattle.command_line.specs.declared.failure.Failure.TheVariants.{File, Usage, Rule, Workers, Division, Run, Memory, Output}
+use Rattle.command_line.specs.declared.failure.Failure.TheVariants.{File, Usage, Rule, Case, Workers, Division, Run, Memory, Output}
 
 -- the exit status
 abbrev pub status_of : Failure → ℕ
@@ -20,6 +20,7 @@ status_of (File name) = 1
 status_of Output = 1
 status_of Usage = 2
 status_of (Rule number) = 3
+status_of (Case number settings) = 3
 status_of Workers = 4
 status_of (Division cause) = 4
 status_of (Run cause) = 5
@@ -38,11 +39,17 @@ division_number division.Length = 1
 division_number division.PartNumber = 2
 division_number division.Parts = 3
 
+-- with which settings a case was made, if any
+abbrev pub case_settings : List ℕ → List ℕ
+case_settings [] = []
+case_settings settings = codes " with " ++ settings
+
 -- what failed, in words
 abbrev pub message_of : Failure → List ℕ
 message_of (File name) = codes "file " ++ shown_name name.now
 message_of Usage = codes "usage"
 message_of (Rule number) = codes "scenario rule " ++ decimal number
+message_of (Case number settings) = codes "scenario rule " ++ decimal number ++ case_settings (string_bytes settings)
 message_of Workers = codes "workers"
 message_of (Division cause) = codes "division V" ++ decimal (division_number cause)
 message_of (Run cause) = codes "run F" ++ decimal (fault_number cause)

@@ -1,12 +1,17 @@
 -- What words ask for, as `clap` reads them by the commands below.
-use Rattle.std.specs.Prelude.{◌≡◌, ◌≢◌, ◌⊎◌, List, Option, Some, None, [], true, codes, option_map}
+use Rattle.std.specs.Prelude.{◌≡◌, ◌≢◌, ◌⊎◌, List, Option, Some, None, [], Bool, true, false, codes, option_map, unwrap_or}
+use Rattle.std.specs.Str.{bytes_eq}
 use Rattle.clap.specs.Words.{App, Row, Rule, Text, new_app, new_rule, with_rule, with_subcommand}
-use Rattle.clap.specs.Words.{first_of, fault_of, subcommand_of, kind_of, IsAmong}
+use Rattle.clap.specs.Words.{all_of, first_of, fault_of, subcommand_of, kind_of, IsAmong}
+use Rattle.clap.specs.declared.builder.action.ArgAction.TheVariants.{Append, SetTrue}
 use Rattle.clap.specs.declared.error.kind.ErrorKind.{ErrorKind}
 use Rattle.clap.specs.declared.error.kind.ErrorKind.TheVariants.{DisplayHelp}
+use Rattle.cases.specs.Sweep.{Sweep as Planned}
+use Rattle.cases.specs.Asked.{IsSweepOf}
 use Rattle.command_line.specs.declared.words.Asked.{Asked}
-use Rattle.command_line.specs.declared.words.Asked.TheVariants.{Run, Check, Help}
+use Rattle.command_line.specs.declared.words.Asked.TheVariants.{Run, Check, Sweep, Help}
 use Rattle.command_line.specs.declared.words.RunWords.{RunWords}
+use Rattle.command_line.specs.declared.words.SweepWords.{SweepWords}
 use Rattle.command_line.specs.declared.words.Split.{Split}
 use Rattle.command_line.specs.declared.words.Split.TheVariants as split
 
@@ -33,13 +38,33 @@ run_app =
 abbrev pub check_app : App
 check_app = with_rule (new_app (codes "check")) file_rule
 
+abbrev pub table_rule : Rule
+table_rule = record (option_rule (codes "table")) { required = true }
+
+-- an option that may be given any number of times, with a value each time
+abbrev pub set_rule : Rule
+set_rule = record (option_rule (codes "set")) { action = Some Append }
+
+-- a flag, which takes no value and may be left out
+abbrev pub flag_rule : Text → Rule
+flag_rule name = record (new_rule name) { long = Some name; action = Some SetTrue }
+
+-- the command `sweep`: a file and the option --table, both required; --seeds and --workers; --set, which may stand more than once;
+-- and the flag --progress
+abbrev pub sweep_app : App
+sweep_app =
+    let tabled = with_rule (with_rule (new_app (codes "sweep")) file_rule) table_rule in
+    let seeded = with_rule tabled (option_rule (codes "seeds")) in
+    let set = with_rule seeded set_rule in
+    with_rule (with_rule set (option_rule (codes "workers"))) (flag_rule (codes "progress"))
+
 -- the program, whose words come without its name
 abbrev pub bare_app : App
 bare_app = let app = new_app (codes "swimsim") in
     record app { top = record app.top { no_binary_name = true; subcommand_required = true } }
 
 abbrev pub swimsim_app : App
-swimsim_app = with_subcommand (with_subcommand bare_app run_app.top) check_app.top
+swimsim_app = with_subcommand (with_subcommand (with_subcommand bare_app run_app.top) check_app.top) sweep_app.top
 
 -- how the members are to be divided: by --parts, by --division or, with neither, by the number of workers
 abbrev pub IsSplitIn : List Row → Split → Type 0
@@ -63,6 +88,26 @@ pub record IsCheckIn (met : Option (Text × List Row)) (file : Text) : Type 0 wh
   pub met_check : met ≡ Some (codes "check", rows)
   pub named : first_of (codes "FILE") rows ≡ Some file
 
+-- a flag that was given has the value "true"
+abbrev pub is_given : Option Text → Bool
+is_given None = false
+is_given (Some word) = bytes_eq word (codes "true")
+
+-- The words of all settings, in their order, and that of the seeds, if there is one, ask for this plan. Words that ask for none, as a
+-- key that stands twice, make no sweep.
+abbrev pub IsPlanIn : List Row → Planned → Type 0
+IsPlanIn rows plan = IsSweepOf (unwrap_or (all_of (codes "set") rows) []) (first_of (codes "seeds") rows) plan
+
+-- the command that was met is `sweep`, with these words
+pub record IsSweepIn (met : Option (Text × List Row)) (sweep : SweepWords) : Type 0 where
+  pub rows : List Row
+  pub met_sweep : met ≡ Some (codes "sweep", rows)
+  pub file : first_of (codes "FILE") rows ≡ Some sweep.file.now
+  pub table : first_of (codes "table") rows ≡ Some sweep.table.now
+  pub plan : IsPlanIn rows sweep.plan
+  pub workers : first_of (codes "workers") rows ≡ option_map (λ word. word.now) sweep.workers
+  pub progress : is_given (first_of (codes "progress") rows) ≡ sweep.progress
+
 -- the words have no fault, and ask for this run
 abbrev pub AsksForRun : List Text → RunWords → Type 0
 AsksForRun words run = (fault_of swimsim_app words ≡ []) × IsRunIn (subcommand_of swimsim_app words) run
@@ -70,6 +115,10 @@ AsksForRun words run = (fault_of swimsim_app words ≡ []) × IsRunIn (subcomman
 -- the words have no fault, and ask to check this file
 abbrev pub AsksForCheck : List Text → Text → Type 0
 AsksForCheck words file = (fault_of swimsim_app words ≡ []) × IsCheckIn (subcommand_of swimsim_app words) file
+
+-- the words have no fault, and ask for this sweep
+abbrev pub AsksForSweep : List Text → SweepWords → Type 0
+AsksForSweep words sweep = (fault_of swimsim_app words ≡ []) × IsSweepIn (subcommand_of swimsim_app words) sweep
 
 -- the words ask for help
 abbrev pub AsksForHelp : List Text → Type 0
@@ -79,16 +128,19 @@ AsksForHelp words = IsAmong DisplayHelp (fault_of swimsim_app words)
 abbrev pub Answers : List Text → Asked → Type 0
 Answers words (Run run) = AsksForRun words run
 Answers words (Check file) = AsksForCheck words file.now
+Answers words (Sweep sweep) = AsksForSweep words sweep
 Answers words (Help help) = (kind_of help ≡ DisplayHelp) × AsksForHelp words
 
--- the words have no fault, but ask for no run and no check
+-- the words have no fault, but ask for no run, no check and no sweep
 abbrev pub AsksForNone : List Text → Type 0
-AsksForNone words = (fault_of swimsim_app words ≡ []) × ((run : RunWords) → ¬ (AsksForRun words run)) × ((file : Text) → ¬ (AsksForCheck words file))
+AsksForNone words = (fault_of swimsim_app words ≡ []) × ((run : RunWords) → ¬ (AsksForRun words run))
+    × ((file : Text) → ¬ (AsksForCheck words file)) × ((sweep : SweepWords) → ¬ (AsksForSweep words sweep))
 
--- the words have a fault that is no wish for help, or none but ask for neither a run nor a check
+-- the words have a fault that is no wish for help, or none but ask for neither a run nor a check nor a sweep
 abbrev pub IsNoCommand : List Text → Type 0
 IsNoCommand words = ((kind : ErrorKind) × (kind ≢ DisplayHelp) × IsAmong kind (fault_of swimsim_app words)) ⊎ AsksForNone words
 
--- the words ask for a run, a check or help
+-- the words ask for a run, a check, a sweep or help
 abbrev pub IsCommand : List Text → Type 0
-IsCommand words = ((run : RunWords) × AsksForRun words run) ⊎ (((file : Text) × AsksForCheck words file) ⊎ AsksForHelp words)
+IsCommand words = ((run : RunWords) × AsksForRun words run) ⊎ (((file : Text) × AsksForCheck words file)
+    ⊎ (((sweep : SweepWords) × AsksForSweep words sweep) ⊎ AsksForHelp words))

@@ -1,18 +1,20 @@
 //! How the members are divided into parts, and how many workers there are, by the words that say so.
-ghost use Rattle.std.specs.Prelude.{◌≡◌, ◌≢◌, ℕ, ◌+◌, ◌<◌, ◌≤◌, ◌^◌, Ok, Err, option_map, map, IfOk, IfErr, IfSome, IsNone, decimal, ◌%◌, length};
+ghost use Rattle.std.specs.Prelude.{◌≡◌, ℕ, ◌≤◌, Ok, option_map, map, IfOk, IfErr, IfSome, IsNone, ◌%◌, length};
 ghost use Rattle.std.specs.List.{range_with_len};
+ghost use Rattle.decimals.specs.Items.{list_items};
 ghost use Rattle.scenario.specs.Setup.{member_count};
 ghost use Rattle.scenario.specs.Division.{divided};
-ghost use Rattle.command_line.specs.Division.{AreParts, AsksForWorkers, Divides, DividesByList, IsCount, IsNumber, has_prefix, in_turn, list_items, past_greatest};
+ghost use Rattle.command_line.specs.Division.{AreParts, AsksForWorkers, Divides, DividesByList, IsCount, IsNumber, in_turn, past_greatest};
 ghost use Rattle.command_line.specs.Failures.{IsFaultOf, RefusesDivision, RefusesItems, RefusesList, RefusesWorkers};
 
 use crate::failure::Failure;
 use crate::words::Split;
+use decimals::number;
 use scenario::{Division, DivisionFault, Scenario, Workers};
 use std::alloc::{AllocError, Global};
 
 /// The most parts of a division, and the most workers.
-const MOST: usize = 64;
+const MOST: u64 = 64;
 
 /// How many workers a word asks for; one where there is no word.
 ///
@@ -71,11 +73,11 @@ fn count_asked(word: &str) -> Option<usize>
     ensures some { IfSome result (IsCount word.now) }
     ensures none { IsNone result → (count : ℕ) → ¬ (IsCount word.now count) }
 {
-    let count = usize::from(number(word)?);
+    let count = number(word)?;
     if count == 0 || count > MOST {
         return None;
     }
-    Some(count)
+    Some(count as usize)
 }
 
 /// Deals the members to so many parts in turn.
@@ -165,34 +167,10 @@ fn part_number(item: &str) -> Option<u8>
     ensures none { IsNone result → (part : ℕ) → ¬ (IsNumber 0 63 item.now part) }
 {
     let part = number(item)?;
-    if usize::from(part) >= MOST {
+    if part >= MOST {
         return None;
     }
-    Some(part)
-}
-
-/// The number that a word is in decimal, without sign or leading zero, where it is at most 255.
-fn number(word: &str) -> Option<u8>
-    ensures some { IfSome result (λ n. decimal n ≡ word.now) }
-    ensures none { IsNone result → (n : ℕ) → n < 2 ^ 8 → decimal n ≢ word.now }
-{
-    if has_prefix(word.as_bytes()) {
-        return None;
-    }
-    match word.parse() {
-        Ok(number) => Some(number),
-        Err(_) => None,
-    }
-}
-
-/// Whether a sign or a leading zero is the first of the bytes.
-fn has_prefix(bytes: &[u8]) -> bool
-    ensures { result ≡ has_prefix bytes.now }
-{
-    match bytes {
-        [] => false,
-        [first, rest @ ..] => *first == b'+' || *first == b'0' && !rest.is_empty(),
-    }
+    Some(part as u8)
 }
 
 /// The division, with its fault as a failure.

@@ -1,7 +1,8 @@
 //! Why a command ends without doing what it was asked for, and what the user then sees.
 ghost use Rattle.std.specs.Prelude.{◌≡◌, ◌≤◌, Some, OnOk};
 ghost use Rattle.std.specs.Io.KnownBytes.{Appends};
-ghost use Rattle.command_line.specs.Failures.{status_of, message_of, failure_line, fault_number, division_number};
+ghost use Rattle.std.specs.Fmt.{WritesOnOk};
+ghost use Rattle.command_line.specs.Failures.{status_of, message_of, failure_line, fault_number, division_number, case_settings};
 
 use crate::shown::write_name;
 use base::Fault;
@@ -10,7 +11,7 @@ use std::io::Write;
 use std::{fmt, io};
 
 /// Why a command ends without doing what it was asked for.
-#[derive(Clone, Copy, Debug, PartialEq, Eq)]
+#[derive(Debug, Drop, PartialEq, Eq)]
 pub enum Failure<'a> {
     /// The file of this name can't be read or made.
     File(&'a str),
@@ -18,6 +19,9 @@ pub enum Failure<'a> {
     Usage,
     /// The scenario breaks this rule.
     Rule(u8),
+    /// A case of a sweep breaks this rule: the scenario with these settings, each `KEY=V`, with spaces between
+    /// them. There are none where the sweep sets nothing.
+    Case { rule: u8, settings: String },
     /// What was said of workers is no number of them.
     Workers,
     /// There is no such division of the members.
@@ -38,7 +42,7 @@ impl Failure<'_> {
         match self {
             Failure::File(_) | Failure::Output => 1,
             Failure::Usage => 2,
-            Failure::Rule(_) => 3,
+            Failure::Rule(_) | Failure::Case { .. } => 3,
             Failure::Workers | Failure::Division(_) => 4,
             Failure::Run(_) | Failure::Memory => 5,
         }
@@ -80,6 +84,10 @@ impl fmt::Display for Failure<'_> {
             }
             Failure::Usage => write!(f, "usage"),
             Failure::Rule(rule) => write!(f, "scenario rule {rule}"),
+            Failure::Case { rule, settings } => {
+                write!(f, "scenario rule {rule}")?;
+                write_settings(f, settings)
+            }
             Failure::Workers => write!(f, "workers"),
             Failure::Division(fault) => {
                 let number = division_number(*fault);
@@ -93,6 +101,16 @@ impl fmt::Display for Failure<'_> {
             Failure::Output => write!(f, "output"),
         }
     }
+}
+
+/// Writes which settings a case has, if it has any.
+fn write_settings<W: fmt::Write>(f: &mut fmt::Formatter<W>, settings: &str) -> fmt::Result
+    ensures { WritesOnOk W.write_str_gives f.old result (case_settings settings.now) f.new }
+{
+    if settings.is_empty() {
+        return Ok(());
+    }
+    write!(f, " with {settings}")
 }
 
 /// Writes the line that tells users of a failure, a name in it as `write_name` does. There is none for standard

@@ -10,5 +10,8 @@ mod words;
 
 pub use division::{division_asked, workers_asked};
 pub use failure::{Failure, refuse};
-pub use printing::{print_help, print_members, print_rows};
-pub use words::{Asked, RunWords, Split, parse};
+pub use printing::{print_cases, print_help, print_members, print_rows};
+pub use words::{Asked, RunWords, Split, SweepWords, parse};
+
+#[cfg(test)]
+mod tests;

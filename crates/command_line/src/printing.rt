@@ -33,6 +33,19 @@ pub fn print_members<'a, O: Write>(members: usize, out: &mut O) -> Result<(), Fa
     Ok(())
 }
 
+/// Prints what is told of the cases of a sweep.
+///
+/// Failure: `Output` where `out` takes less, or its flush fails.
+pub fn print_cases<'a, O: Write>(text: &str, out: &mut O) -> Result<(), Failure<'a>>
+    ensures printed { OnOk result (Appends (O.contents out.old) (O.contents out.new) text.now) }
+    ensures failure { IfErr result (λ failure. failure ≡ Failure.Output) }
+{
+    if write!(out, "{text}").is_err() || out.flush().is_err() {
+        return Err(Failure::Output);
+    }
+    Ok(())
+}
+
 /// Prints the help that was asked for.
 ///
 /// Failure: `Output` where `out` takes less, or its flush fails.

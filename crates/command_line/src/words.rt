@@ -1,14 +1,17 @@
 //! What the words of a command line ask for.
-ghost use Rattle.std.specs.Prelude.{◌≡◌, ◌⊎◌, map, option_map, IfOk, IfErr, IfSome, IsNone, IsErrOf, List, ℕ, false};
-ghost use Rattle.clap.specs.Words.{FailsBy, app_of, fault_of, first_of, found_of, rows_of, rule_of, subcommand_of, subcommand_rows_of};
+ghost use Rattle.std.specs.Prelude.{◌≡◌, ◌⊎◌, map, option_map, unwrap_or, IfOk, IfErr, IfSome, IsNone, IsErrOf, List, [], ℕ, false};
+ghost use Rattle.clap.specs.Words.{FailsBy, all_of, app_of, fault_of, first_of, found_of, rows_of, rule_of, subcommand_of, subcommand_rows_of};
 ghost use Rattle.clap.specs.declared.builder.command.Command.TheViews.{out-Command};
+ghost use Rattle.cases.specs.Sweep.{Sweep as Planned};
 ghost use Rattle.command_line.specs.declared.words.RunWords.{RunWords as Wish};
 ghost use Rattle.command_line.specs.declared.words.Split.{Split as Wanted};
-ghost use Rattle.command_line.specs.Words.{check_app, file_rule, option_rule, run_app, swimsim_app, Answers, IsCheckIn, IsNoCommand, IsRunIn, IsSplitIn};
+ghost use Rattle.command_line.specs.declared.words.SweepWords.{SweepWords as Sought};
+ghost use Rattle.command_line.specs.Words.{check_app, file_rule, flag_rule, is_given, option_rule, run_app, sweep_app, swimsim_app, Answers, IsCheckIn, IsNoCommand, IsPlanIn, IsRunIn, IsSplitIn, IsSweepIn};
 
 use crate::failure::Failure;
+use cases::{Plan, PlanFault};
 use clap::error::ErrorKind;
-use clap::{Arg, ArgMatches, Command, Error};
+use clap::{Arg, ArgAction, ArgMatches, Command, Error};
 use std::alloc::{AllocError, Global};
 use std::convert::AsStr;
 
@@ -38,6 +41,21 @@ pub struct RunWords<'a> {
     pub split: Split<'a>,
 }
 
+/// The words of the command `sweep`.
+#[derive(Debug, Drop)]
+pub struct SweepWords<'a> {
+    /// The name of the scenario's file.
+    pub file: &'a str,
+    /// The name of the file that takes the table.
+    pub table: &'a str,
+    /// Which keys of the scenario are set to which values, and by which seeds each case is run.
+    pub plan: Plan,
+    /// How many workers make the runs; one where that isn't said.
+    pub workers: Option<&'a str>,
+    /// Whether to tell how far the sweep has come.
+    pub progress: bool,
+}
+
 /// What the words ask for.
 #[derive(Debug, Drop)]
 pub enum Asked<'a> {
@@ -45,6 +63,8 @@ pub enum Asked<'a> {
     Run(RunWords<'a>),
     /// To check the scenario in the file of this name.
     Check(&'a str),
+    /// To run a scenario by many seeds and settings, and write a table of the runs.
+    Sweep(SweepWords<'a>),
     /// To be shown the help that is this answer's text.
     Help(Error),
 }
@@ -62,7 +82,7 @@ pub fn parse<'a, S: AsStr>(alloc: Global, words: &'a [S]) -> Result<Asked<'a>, F
             Some(run) => Ok(Asked::Run(run)),
             None => match check_asked(&matches) {
                 Some(file) => Ok(Asked::Check(file)),
-                None => Err(Failure::Usage),
+                None => Ok(Asked::Sweep(sweep_asked(alloc, &matches)?)),
             },
         },
         Err(error) => match error.kind() {
@@ -92,7 +112,8 @@ fn program_command<'a>(alloc: Global) -> Result<Command<'a>, AllocError>
         .no_binary_name(true)
         .subcommand_required(true)
         .subcommand(run_command(alloc)?)?
-        .subcommand(check_command(alloc)?)
+        .subcommand(check_command(alloc)?)?
+        .subcommand(sweep_command(alloc)?)
 }
 
 /// The command `run`, as `clap` knows it.
@@ -150,6 +171,50 @@ fn check_command<'a>(alloc: Global) -> Result<Command<'a>, AllocError>
         .arg(file_argument(alloc))
 }
 
+/// The command `sweep`, as `clap` knows it.
+fn sweep_command<'a>(alloc: Global) -> Result<Command<'a>, AllocError>
+    ensures app { IfOk result (λ command. app_of command ≡ sweep_app) }
+    ensures local { IfOk result (λ command. (out-Command command).has_globals ≡ false) }
+{
+    let table = option(
+        alloc,
+        "table",
+        "T",
+        "The file that takes the table, a line for each run; one that is there is replaced",
+    );
+    let seeds = option(
+        alloc,
+        "seeds",
+        "A..B",
+        "The seeds of each case, from A to B, both included [default: the scenario's seed]",
+    );
+    let set = option(
+        alloc,
+        "set",
+        "KEY=V1,V2,..",
+        "A key of the scenario and its values, each of which makes cases; for any number of keys",
+    );
+    let workers = option(
+        alloc,
+        "workers",
+        "N",
+        "How many workers make the runs, 1 to 64 [default: 1]",
+    );
+    let progress = flag(
+        alloc,
+        "progress",
+        "Tells on standard error how far the sweep has come",
+    );
+    Command::new(alloc, "sweep")
+        .about("Runs a scenario by many seeds and settings, and writes a table of the runs")
+        .arg(file_argument(alloc))?
+        .arg(table.required(true))?
+        .arg(seeds)?
+        .arg(set.action(ArgAction::Append))?
+        .arg(workers)?
+        .arg(progress)
+}
+
 /// The argument for the scenario's file.
 fn file_argument<'a>(alloc: Global) -> Arg<'a>
     ensures rule { rule_of result ≡ file_rule }
@@ -168,6 +233,17 @@ fn option<'a>(alloc: Global, name: &'a str, value: &'a str, help: &'a str) -> Ar
     Arg::new(alloc, name)
         .long(name)
         .value_name(value)
+        .help(help)
+}
+
+/// A flag, which takes no value and may be left out.
+fn flag<'a>(alloc: Global, name: &'a str, help: &'a str) -> Arg<'a>
+    ensures rule { rule_of result ≡ flag_rule name.entry.now }
+    ensures local { result.global ≡ false }
+{
+    Arg::new(alloc, name)
+        .long(name)
+        .action(ArgAction::SetTrue)
         .help(help)
 }
 
@@ -215,6 +291,80 @@ fn check_asked<'a>(matches: &ArgMatches<'a>) -> Option<&'a str>
 {
     let check = matches.subcommand_matches("check")?;
     value_of(check, "FILE")
+}
+
+/// The sweep that is asked for by words that `clap` took.
+///
+/// Failures: `Usage` where they ask for none; `Memory`.
+fn sweep_asked<'a>(alloc: Global, matches: &ArgMatches<'a>) -> Result<SweepWords<'a>, Failure<'a>>
+    ensures sweep { IfOk result (IsSweepIn (subcommand_rows_of matches.now)) }
+    ensures usage { IsErrOf result Failure.Usage → (sweep : Sought) → ¬ (IsSweepIn (subcommand_rows_of matches.now) sweep) }
+    ensures failures { IfErr result (λ f. (f ≡ Failure.Usage) ⊎ (f ≡ Failure.Memory)) }
+{
+    let Some(sweep) = matches.subcommand_matches("sweep") else {
+        return Err(Failure::Usage);
+    };
+    let Some(file) = value_of(sweep, "FILE") else {
+        return Err(Failure::Usage);
+    };
+    let Some(table) = value_of(sweep, "table") else {
+        return Err(Failure::Usage);
+    };
+    let plan = plan_asked(alloc, sweep)?;
+    let workers = value_of(sweep, "workers");
+    let progress = is_given(sweep, "progress");
+    Ok(SweepWords {
+        file,
+        table,
+        plan,
+        workers,
+        progress,
+    })
+}
+
+/// The plan that is asked for by the words of a sweep.
+///
+/// Failures: `Usage` where they ask for none; `Memory`.
+fn plan_asked<'a>(alloc: Global, sweep: &ArgMatches<'a>) -> Result<Plan, Failure<'a>>
+    ensures plan { IfOk result (IsPlanIn (rows_of (found_of sweep.now))) }
+    ensures usage { IsErrOf result Failure.Usage → (plan : Planned) → ¬ (IsPlanIn (rows_of (found_of sweep.now)) plan) }
+    ensures failures { IfErr result (λ f. (f ≡ Failure.Usage) ⊎ (f ≡ Failure.Memory)) }
+{
+    let settings = match values_of(alloc, sweep, "set") {
+        Ok(settings) => settings,
+        Err(_) => return Err(Failure::Memory),
+    };
+    match Plan::read(alloc, &settings, value_of(sweep, "seeds")) {
+        Ok(plan) => Ok(plan),
+        Err(PlanFault::Words) => Err(Failure::Usage),
+        Err(PlanFault::Memory) => Err(Failure::Memory),
+    }
+}
+
+/// Whether a flag is given.
+fn is_given(matches: &ArgMatches<'_>, id: &str) -> bool
+    ensures { result ≡ is_given (first_of id.now (rows_of (found_of matches.now))) }
+{
+    match value_of(matches, id) {
+        Some(word) => word == "true",
+        None => false,
+    }
+}
+
+/// All values of an argument, in the order of the words.
+fn values_of<'a>(
+    alloc: Global,
+    matches: &ArgMatches<'a>,
+    id: &str,
+) -> Result<Vec<&'a str>, AllocError>
+    ensures { IfOk result (λ words. map (λ word. word.now) words.items
+        ≡ unwrap_or (all_of id.now (rows_of (found_of matches.now))) []) }
+{
+    let mut words = Vec::new(alloc);
+    if let Some(given) = matches.get_strs(id) {
+        words.extend_from_slice(given)?;
+    }
+    Ok(words)
 }
 
 /// The first value of an argument, if it has one.

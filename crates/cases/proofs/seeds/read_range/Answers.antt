@@ -1,5 +1,6 @@
 use Rattle.std.proofs.Common.{◌≡◌, ap, is_some, arith}
-use Rattle.cases.proofs.Ranges.{unparted, undotted, first_number, last_number, same_number}
+use Rattle.cases.proofs.Ranges.{unparted, undotted, first_number, last_number}
+use Rattle.decimals.proofs.Numbers.{same_number}
 use Rattle.cases.proofs.seeds.read_range.Goals as goal
 
 pub returns-in_default-clause-none : goal.returns-in_default-clause-none

@@ -1,7 +1,7 @@
 use Rattle.std.proofs.Common.{◌∙◌, length, lit<, refl}
 use Rattle.std.proofs.lemmas.Iterator.Consumers.{YieldsList-turn, YieldsList-end}
 use Rattle.std.proofs.lemmas.Iterator.Splits.{YieldsList-from_str_split}
-use Rattle.cases.specs.Asked.{values_listed}
+use Rattle.decimals.specs.Items.{list_items}
 use Rattle.cases.proofs.Written.{no_values}
 use Rattle.cases.proofs.settings.read_values.Goals as goal
 
@@ -10,7 +10,7 @@ returns-in-None-read-clause-refused c =
     let list = c.args.list.now in
     let items = YieldsList-from_str_split {s = c.into_iter-item-iterator.result} 44 list (lit< tt) (cc) (cc) (cc) in
     let turn = YieldsList-turn items c.loop-item.yielded _ c.loop-item.yielded_by _ _ c.in-Some.item c.in-Some.is c.next.ensures.steps in
-    no_values (values_listed list) (length c.loop-item.yielded) c.in-Some.item.now turn.0 turn.1 (c.in-None-read.ensures.none refl)
+    no_values (list_items list) (length c.loop-item.yielded) c.in-Some.item.now turn.0 turn.1 (c.in-None-read.ensures.none refl)
 
 pub returns-clause-read : goal.returns-clause-read
 returns-clause-read c =

@@ -1,7 +1,8 @@
 use Rattle.std.proofs.Common.{rules, ◌≡◌, length}
 use Rattle.std.proofs.lemmas.Result.{IfErr-weaker}
 use Rattle.scenario.specs.Setup.{member_count}
-use Rattle.command_line.specs.Division.{list_items, past_greatest}
+use Rattle.decimals.specs.Items.{list_items}
+use Rattle.command_line.specs.Division.{past_greatest}
 use Rattle.command_line.proofs.Parts.{listed, faultless}
 use Rattle.command_line.proofs.division.deal_by_list.Goals as goal
 

@@ -1,7 +1,7 @@
 use Rattle.std.proofs.Common.{◌∙◌, length, lit<, refl}
 use Rattle.std.proofs.lemmas.Iterator.Consumers.{YieldsList-turn, YieldsList-end}
 use Rattle.std.proofs.lemmas.Iterator.Splits.{YieldsList-from_str_split}
-use Rattle.command_line.specs.Division.{list_items}
+use Rattle.decimals.specs.Items.{list_items}
 use Rattle.command_line.proofs.Parts.{no_parts}
 use Rattle.command_line.proofs.division.part_numbers.Goals as goal
 

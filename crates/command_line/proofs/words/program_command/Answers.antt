@@ -19,5 +19,7 @@ returns c =
     let bare_is : app_of c.subcommand_required.result ≡ bare_app
     = ap app_of_fields c.subcommand_required.ensures ∙ ap commanded (ap app_of_fields c.no_binary_name.ensures ∙ ap nameless named_is) in
     let runs = c.in_ok-subcommand.ensures.shape c.in_ok-run_command.ensures.local ∙ ap₂ with_subcommand bare_is (ap (λ (a : App). a.top) c.in_ok-run_command.ensures.app) in
-    IfOk-weaker c.subcommand-2.result _ _ (λ command h. h.shape c.in_ok-check_command.ensures.local
-    ∙ ap₂ with_subcommand runs (ap (λ (a : App). a.top) c.in_ok-check_command.ensures.app)) c.subcommand-2.ensures
+    let checks = c.in_ok-subcommand-2.ensures.shape c.in_ok-check_command.ensures.local
+    ∙ ap₂ with_subcommand runs (ap (λ (a : App). a.top) c.in_ok-check_command.ensures.app) in
+    IfOk-weaker c.subcommand-3.result _ _ (λ command h. h.shape c.in_ok-sweep_command.ensures.local
+    ∙ ap₂ with_subcommand checks (ap (λ (a : App). a.top) c.in_ok-sweep_command.ensures.app)) c.subcommand-3.ensures

@@ -1,6 +1,7 @@
 use Rattle.std.proofs.Common.{ℕ, List, sym, ◌∙◌}
+use Rattle.decimals.specs.Items.{list_items}
 use Rattle.cases.specs.Sweep.{KeyValues}
-use Rattle.cases.specs.Asked.{IsSettingOf, RefusesSetting, RefusesValues, AreValues, values_listed}
+use Rattle.cases.specs.Asked.{IsSettingOf, RefusesSetting, RefusesValues, AreValues}
 use Rattle.cases.specs.declared.fault.PlanFault.{PlanFault}
 use Rattle.cases.specs.declared.fault.PlanFault.TheVariants.{Words, Memory}
 use Rattle.cases.proofs.Written.{unparted, unnamed, valued, read_setting}
@@ -18,7 +19,7 @@ returns-in-Ok-clause-read c =
     read_setting c.args.word.now c.in-Some.name c.in-Some.list c.split_once.result c.in-Some-named.key c.in-Ok.values.items c.in-Some.is c.split_once.ensures.cases (sym c.named.ensures ∙ c.in-Some-named.is) c.in-Ok.ensures.read
 
 -- values that no list has are those of no setting
-refused : (word list : List ℕ) (fault : PlanFault) → ((s : KeyValues) → IsSettingOf word s → AreValues (values_listed list) s.values) → RefusesValues (values_listed list) fault → RefusesSetting word fault
+refused : (word list : List ℕ) (fault : PlanFault) → ((s : KeyValues) → IsSettingOf word s → AreValues (list_items list) s.values) → RefusesValues (list_items list) fault → RefusesSetting word fault
 refused word list Words has none = λ s is. none s.values (has s is)
 refused word list Memory has none = tt
 

@@ -1,10 +1,10 @@
 use Rattle.std.proofs.Common.{rules, ◌≡◌, ◌∙◌, true, false, sym, ap, subst, arith}
 use Rattle.std.proofs.lemmas.Fmt.{decimal_injective}
 use Rattle.std.proofs.lemmas.Option.{IfSome_then}
-use Rattle.cases.specs.Values.{has_sign_or_zero}
+use Rattle.decimals.specs.Numbers.{has_sign_or_zero}
 use Rattle.std.specs.Fmt.{decimal}
-use Rattle.cases.proofs.Numbers.{parsed, unparsed, unprefixed}
-use Rattle.cases.proofs.values.number.Goals as goal
+use Rattle.decimals.proofs.Numbers.{parsed, unparsed, unprefixed}
+use Rattle.decimals.proofs.number.Goals as goal
 
 pub returns-then-has_sign_or_zero-clause-none : goal.returns-then-has_sign_or_zero-clause-none
 returns-then-has_sign_or_zero-clause-none c _ n number =
