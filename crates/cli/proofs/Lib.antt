@@ -1,3 +1,4 @@
 mod Commands
 mod Divided
 mod Stored
+mod Tables

@@ -15,7 +15,8 @@ use Rattle.exchange.specs.Promise.{WritesRun, WritesBeginning, WearsOutReport}
 use Rattle.command_line.specs.declared.failure.Failure.{Failure}
 use Rattle.command_line.specs.declared.failure.Failure.TheVariants as failure
 use Rattle.cli.specs.Told.{run_told}
-use Rattle.cli.specs.Outcomes.{Shelf, HoldsBeginning, HoldsReport, BeginsReport, KeepsRest, StoresRun, BreaksOff}
+use Rattle.cli.specs.Shelves.{Shelf, HoldsBeginning}
+use Rattle.cli.specs.Outcomes.{HoldsReport, BeginsReport, KeepsRest, StoresRun, BreaksOff}
 
 -- an empty file, closed after a text was written to it, holds the text
 pub holds_text : (before made after : KnownFile) (old new : Option (List ℕ)) (text : List ℕ) → HoldsNow before made []

@@ -1,2 +1,4 @@
+pub mod Shelves
+pub mod SweepOutcomes
 pub mod Outcomes
 pub mod Told

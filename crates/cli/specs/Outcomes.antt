@@ -1,5 +1,5 @@
 -- What a command has done once it ends: on standard output, and in the files as far as they tell.
-use Rattle.std.specs.Prelude.{◌≡◌, ◌≢◌, ◌⊎◌, ◌++◌, ℕ, List, Bool, false, [], Option, Some, None, Result, Ok, Err, IfSome, length, option_map}
+use Rattle.std.specs.Prelude.{◌≡◌, ◌≢◌, ◌⊎◌, ℕ, List, false, [], Option, Some, None, Result, Ok, Err, IfSome, length}
 use Rattle.std.specs.Io.KnownBytes.{Appends}
 use Rattle.base.specs.declared.fault.Fault.{Fault}
 use Rattle.base.specs.declared.fault.Fault.TheVariants as fault
@@ -12,31 +12,20 @@ use Rattle.reports.specs.Text.{report_text}
 use Rattle.exchange.specs.Runs.{IsRunOf, WearsOut}
 use Rattle.exchange.specs.Promise.{WearsOutReport}
 use Rattle.clap.specs.Words.{Text}
-use Rattle.files.specs.Files.{KnownFile, Making, Holds, HoldsNow, IsAbsent, CannotMake, CannotMakeSecond, AreThreeFiles}
+use Rattle.files.specs.Files.{KnownFile, Making, Holds, HoldsNow, CannotMake, CannotMakeSecond, AreThreeFiles}
 use Rattle.command_line.specs.Words.{AsksForRun, AsksForCheck, AsksForHelp, IsNoCommand}
 use Rattle.command_line.specs.Division.{AsksForWorkers, Divides}
 use Rattle.command_line.specs.Printed.{rows_line, members_line}
 use Rattle.command_line.specs.Failures.{status_of, RefusesDivision, RefusesWorkers}
 use Rattle.command_line.specs.declared.words.RunWords.{RunWords}
-use Rattle.command_line.specs.declared.words.Split.{Split}
 use Rattle.command_line.specs.declared.failure.Failure.{Failure}
 use Rattle.command_line.specs.declared.failure.Failure.TheVariants.{File, Usage, Rule, Run, Memory, Output}
-
--- what each name stands for, as far as it is known
-abbrev pub Shelf : Type 0
-Shelf = Text → KnownFile
+use Rattle.cli.specs.Shelves.{Shelf, word_given, IsRefused, IsUnread, HoldsBeginning}
+use Rattle.cli.specs.SweepOutcomes.{DoesSweep, DoesNotSweep}
 
 -- a scenario's text that the file holds has this verdict
 abbrev pub HasVerdict : KnownFile → Result Setup ℕ → Type 0
 HasVerdict known answer = (bytes : List ℕ) × Holds known bytes × (verdict bytes ≡ answer)
-
--- the word that names a number of workers, if there is one
-abbrev pub workers_word : RunWords → Option Text
-workers_word run = option_map (λ word. word.now) run.workers
-
--- the word that names the report's file, if there is one
-abbrev pub report_word : RunWords → Option Text
-report_word run = option_map (λ word. word.now) run.report
 
 -- ---- what was done
 
@@ -61,7 +50,7 @@ pub record StoresRun (s : Setup) (before after : Shelf) (trace : Text) (report :
 -- The checks of a run, before its files are made: the words name so many workers, the file holds this scenario, and its members
 -- are divided so, as the words say.
 pub record PassesChecks (before : Shelf) (run : RunWords) (workers : ℕ) (s : Setup) (deal : Deal) : Type 0 where
-  pub asked : AsksForWorkers (workers_word run) workers
+  pub asked : AsksForWorkers (word_given run.workers) workers
   pub accepted : HasVerdict (before run.file.now) (Ok s)
   pub divided : Divides (member_count s) workers run.split deal
 
@@ -76,8 +65,8 @@ pub record RunsAll (before after : Shelf) (making : Making) (run : RunWords) (co
   pub scenario : Setup
   pub deal : Deal
   pub checks : PassesChecks before run workers scenario deal
-  pub apart : DifferentFiles making run.file.now run.trace.now (report_word run)
-  pub stored : StoresRun scenario before after run.trace.now (report_word run) count
+  pub apart : DifferentFiles making run.file.now run.trace.now (word_given run.report)
+  pub stored : StoresRun scenario before after run.trace.now (word_given run.report) count
 
 -- the file holds a scenario of so many members
 pub record HoldsScenario (known : KnownFile) (members : ℕ) : Type 0 where
@@ -97,25 +86,20 @@ abbrev pub DoesHelp : List Text → Shelf → Shelf → Type 0
 DoesHelp words before after = AsksForHelp words × (after ≡ before)
 
 -- what the words ask for was done: a run, and the number of its rows printed; a check, and the number of members
--- printed; or help was printed
+-- printed; a sweep, and the lines of its cases printed; or help was printed
 abbrev pub HasDone : List Text → Shelf → Shelf → Making → Option (List ℕ) → Option (List ℕ) → Type 0
 HasDone words before after making old new = ((count : ℕ) × DoesRun words before after making count × Appends old new (rows_line count))
     ⊎ (((members : ℕ) × DoesCheck words before after members × Appends old new (members_line members))
-    ⊎ DoesHelp words before after)
+    ⊎ (((lines : List ℕ) × DoesSweep words before after making lines × Appends old new lines)
+    ⊎ DoesHelp words before after))
 
 -- the same, but that standard output took less than it was given
 abbrev pub DoneUnprinted : List Text → Shelf → Shelf → Making → Type 0
 DoneUnprinted words before after making = ((count : ℕ) × DoesRun words before after making count)
-    ⊎ (((members : ℕ) × DoesCheck words before after members) ⊎ DoesHelp words before after)
+    ⊎ (((members : ℕ) × DoesCheck words before after members)
+    ⊎ (((lines : List ℕ) × DoesSweep words before after making lines) ⊎ DoesHelp words before after))
 
 -- ---- what was not done
-
--- the file holds a beginning of the text now
-pub record HoldsBeginning (old new : KnownFile) (text : List ℕ) : Type 0 where
-  pub front : List ℕ
-  pub rest : List ℕ
-  pub whole : front ++ rest ≡ text
-  pub written : HoldsNow old new front
 
 -- the file of the report, where one is asked for, holds a beginning of this text now
 abbrev pub BeginsReport : Shelf → Shelf → Option Text → List ℕ → Type 0
@@ -147,23 +131,16 @@ StoreFails s before after making file trace report _ = ⊥
 
 -- no scenario was read from the file of this name: it can't be read, its text breaks a rule, or memory was refused
 abbrev pub LoadFails : KnownFile → Text → Failure → Type 0
-LoadFails known file (File name) = (name.now ≡ file) × IsAbsent known
 LoadFails known file (Rule rule) = HasVerdict known (Err rule)
-LoadFails known file Memory = Unit {0}
-LoadFails known file _ = ⊥
+LoadFails known file failure = IsUnread known file failure
 
 -- The check of a run that failed. Of several causes it is the first of workers, the file and its text, division.
 abbrev pub FailsCheck : Shelf → RunWords → Failure → Type 0
 FailsCheck before run failure =
-    RefusesWorkers (workers_word run) failure
-    ⊎ (((workers : ℕ) × AsksForWorkers (workers_word run) workers × LoadFails (before run.file.now) run.file.now failure)
-    ⊎ ((workers : ℕ) × (s : Setup) × AsksForWorkers (workers_word run) workers × HasVerdict (before run.file.now) (Ok s)
+    RefusesWorkers (word_given run.workers) failure
+    ⊎ (((workers : ℕ) × AsksForWorkers (word_given run.workers) workers × LoadFails (before run.file.now) run.file.now failure)
+    ⊎ ((workers : ℕ) × (s : Setup) × AsksForWorkers (word_given run.workers) workers × HasVerdict (before run.file.now) (Ok s)
     × RefusesDivision (member_count s) run.split failure))
-
--- no file has changed, since a check failed before
-pub record IsRefused (before after : Shelf) (Cause : Type 0) : Type 0 where
-  pub cause : Cause
-  pub same : after ≡ before
 
 -- all checks passed, but the run was not stored whole
 pub record FailsToStore (before after : Shelf) (making : Making) (run : RunWords) (failure : Failure) : Type 0 where
@@ -171,7 +148,7 @@ pub record FailsToStore (before after : Shelf) (making : Making) (run : RunWords
   pub scenario : Setup
   pub deal : Deal
   pub checks : PassesChecks before run workers scenario deal
-  pub cause : StoreFails scenario before after making run.file.now run.trace.now (report_word run) failure
+  pub cause : StoreFails scenario before after making run.file.now run.trace.now (word_given run.report) failure
 
 -- why the run that the words of `run` ask for was not done: the first check that failed, and after all checks what befell the files
 abbrev pub RunFails : Shelf → Shelf → Making → RunWords → Failure → Type 0
@@ -181,11 +158,12 @@ RunFails before after making run failure = IsRefused before after (FailsCheck be
 abbrev pub CheckFails : Shelf → Shelf → Text → Failure → Type 0
 CheckFails before after file failure = IsRefused before after (LoadFails (before file) file failure)
 
--- why a run or a check that the words ask for was not done
+-- why a run, a check or a sweep that the words ask for was not done
 abbrev pub DoesNot : List Text → Shelf → Shelf → Making → Failure → Type 0
 DoesNot words before after making failure =
     ((run : RunWords) × AsksForRun words run × RunFails before after making run failure)
-    ⊎ ((file : Text) × AsksForCheck words file × CheckFails before after file failure)
+    ⊎ (((file : Text) × AsksForCheck words file × CheckFails before after file failure)
+    ⊎ DoesNotSweep words before after making failure)
 
 -- why what the words ask for wasn't done
 abbrev pub Fails : List Text → Shelf → Shelf → Making → Failure → Type 0

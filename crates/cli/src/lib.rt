@@ -2,12 +2,14 @@
 //! handed in, and answers the exit status.
 #![tactic(auto)]
 
+mod loading;
 mod program;
 mod simulation;
+mod sweeping;
 pub mod system;
 
 pub use command_line::{
-    Asked, Failure, RunWords, Split, division_asked, parse, refuse, workers_asked,
+    Asked, Failure, RunWords, Split, SweepWords, division_asked, parse, refuse, workers_asked,
 };
 pub use files::{FileFault, Files, PairFault, testing};
 pub use program::command;
@@ -15,6 +17,8 @@ pub use simulation::{check, simulate};
 
 #[cfg(test)]
 mod file_tests;
+#[cfg(test)]
+mod sweep_tests;
 #[cfg(test)]
 mod system_tests;
 #[cfg(test)]

@@ -1,18 +1,19 @@
 //! The program as a function over files and writers.
-ghost use Rattle.std.specs.Prelude.{◌≡◌, ◌≢◌, ◌⊎◌, ◌≤◌, map, Ok, Some, None, IfOk, IfErr, OnOk, IsErrOf, length};
+ghost use Rattle.std.specs.Prelude.{◌≡◌, ◌≢◌, ◌⊎◌, ◌≤◌, map, Some, None, IfOk, IfErr, OnOk, IsErrOf, length};
 ghost use Rattle.scenario.specs.Setup.{member_count};
 ghost use Rattle.command_line.specs.Words.{IsCommand, IsNoCommand};
-ghost use Rattle.cli.specs.Told.{run_told};
-ghost use Rattle.cli.specs.Outcomes.{HasDone, Fails, Ends, RunsAll, RunFails, PassesChecks, FailsCheck, StoresRun, StoreFails, DifferentFiles, HasVerdict, LoadFails};
+ghost use Rattle.cli.specs.Outcomes.{HasDone, Fails, Ends, RunsAll, RunFails, PassesChecks, FailsCheck, StoresRun, StoreFails, DifferentFiles};
+ghost use Rattle.cli.specs.SweepOutcomes.{AsksForProgress};
 
-use crate::simulation::{check, simulate};
-use base::Fault;
+use crate::loading::{file_failure, load};
+use crate::simulation::{run_told, simulate};
+use crate::sweeping::sweep_file;
 use command_line::{
-    Asked, Failure, RunWords, division_asked, parse, print_help, print_members, print_rows, refuse,
-    workers_asked,
+    Asked, Failure, RunWords, division_asked, parse, print_cases, print_help, print_members,
+    print_rows, refuse, workers_asked,
 };
 use exchange::Summary;
-use files::{FileFault, Files, PairFault};
+use files::{Files, PairFault};
 use scenario::{Division, Scenario, Workers};
 use std::alloc::Global;
 use std::convert::AsStr;
@@ -25,20 +26,21 @@ use std::thread::Threads;
 ///
 /// `rt` starts the threads of a run and lets them wait. `words` are those of the command line without the
 /// program's name. A failure is told in one line on `err`, and `out` then gets nothing, unless `out` itself
-/// failed.
-pub fn command<S: AsStr, F: Files, O: Write, E: Write>(
+/// failed. A sweep that is to tell how far it has come does so on `progress`, as far as that takes its lines.
+pub fn command<S: AsStr, F: Files, O: Write, E: Write, P: Write>(
     rt: &(impl Threads + Wait + Sync),
     alloc: Global,
     words: &[S],
     files: &mut F,
     out: &mut O,
     err: &mut E,
+    progress: &mut P,
 ) -> u8
     ensures range { result ≤ 5 }
 
     // Status 0: what the words ask for was done. A run has left its trace in the file of that name, and its
     // report where one is asked for, and told standard output the number of its rows; a check, the number
-    // of members.
+    // of members; a sweep has left its table, and told the lines of its cases.
     ensures done { result ≡ 0 → HasDone (map S.text words.now) (F.known files.old) (F.known files.new) (F.making files.old)
         (O.contents out.old) (O.contents out.new) }
 
@@ -54,20 +56,24 @@ pub fn command<S: AsStr, F: Files, O: Write, E: Write>(
     // What failed says nothing on standard output, and what was done nothing on standard error.
     ensures silent { 2 ≤ result → out.new ≡ out.old }
     ensures quiet { result ≡ 0 → err.new ≡ err.old }
+
+    // No words but those of a sweep that is to tell of it write to `progress`.
+    ensures unasked { ¬ (AsksForProgress (map S.text words.now)) → progress.new ≡ progress.old }
 {
-    match perform(rt, alloc, words, files, out) {
+    match perform(rt, alloc, words, files, out, progress) {
         Ok(()) => 0,
         Err(failure) => refuse(&failure, err),
     }
 }
 
 /// Does what the words ask for.
-fn perform<'a, S: AsStr, F: Files, O: Write>(
+fn perform<'a, S: AsStr, F: Files, O: Write, P: Write>(
     rt: &(impl Threads + Wait + Sync),
     alloc: Global,
     words: &'a [S],
     files: &mut F,
     out: &mut O,
+    progress: &mut P,
 ) -> Result<(), Failure<'a>>
     ensures done { OnOk result (HasDone (map S.text words.entry.now) (F.known files.old) (F.known files.new) (F.making files.old)
         (O.contents out.old) (O.contents out.new)) }
@@ -78,6 +84,7 @@ fn perform<'a, S: AsStr, F: Files, O: Write>(
         → IfErr result (λ failure. (failure ≡ Failure.Usage) ⊎ (failure ≡ Failure.Memory)) }
     ensures usage { IsErrOf result Failure.Usage → IsNoCommand (map S.text words.entry.now) }
     ensures silent { IfErr result (λ failure. failure ≢ Failure.Output → out.new ≡ out.old) }
+    ensures unasked { ¬ (AsksForProgress (map S.text words.entry.now)) → progress.new ≡ progress.old }
 {
     match parse(alloc, words)? {
         Asked::Help(help) => print_help(&help, out),
@@ -88,6 +95,10 @@ fn perform<'a, S: AsStr, F: Files, O: Write>(
         Asked::Check(file) => {
             let scenario = load(alloc, file, files)?;
             print_members(scenario.members(), out)
+        }
+        Asked::Sweep(words) => {
+            let lines = sweep_file(rt, alloc, &words, files, progress)?;
+            print_cases(lines.as_str(), out)
         }
     }
 }
@@ -140,19 +151,6 @@ fn prepare<'a, F: Files>(
         scenario,
         division,
     })
-}
-
-/// The scenario of a file.
-fn load<'a, F: Files>(alloc: Global, name: &'a str, files: &mut F) -> Result<Scenario, Failure<'a>>
-    ensures accepted { IfOk result (λ scenario. HasVerdict (F.known files.old name.entry.now) (Ok scenario)) }
-    ensures failed { IfErr result (LoadFails (F.known files.old name.entry.now) name.entry.now) }
-    ensures same { F.known files.new ≡ F.known files.old }
-    ensures making { F.making files.new ≡ F.making files.old }
-{
-    match files.read(alloc, name) {
-        Ok(bytes) => check(alloc, bytes.as_slice()),
-        Err(fault) => Err(file_failure(fault, name)),
-    }
 }
 
 /// Runs a scenario, and writes its trace to the file that the words name. Its report goes nowhere.
@@ -223,25 +221,4 @@ fn store_both<'a, F: Files>(
     files.close(words.trace, made_trace.into_inner());
     files.close(report, made_report.into_inner());
     run_told(outcome)
-}
-
-/// What came of a run, its fault as a failure.
-fn run_told(outcome: Result<Summary, Fault>) -> Result<Summary, Failure<'static>>
-    ensures { result ≡ run_told outcome }
-{
-    match outcome {
-        Ok(summary) => Ok(summary),
-        Err(cause) => Err(Failure::Run(cause)),
-    }
-}
-
-/// The failure that a file's fault is.
-fn file_failure(fault: FileFault, name: &str) -> Failure<'_>
-    ensures refused { fault ≡ FileFault.Refused → result ≡ Failure.File name.entry }
-    ensures memory { fault ≡ FileFault.Memory → result ≡ Failure.Memory }
-{
-    match fault {
-        FileFault::Refused => Failure::File(name),
-        FileFault::Memory => Failure::Memory,
-    }
 }

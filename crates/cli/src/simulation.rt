@@ -4,7 +4,7 @@ ghost use Rattle.scenario.specs.Setup.{member_count};
 ghost use Rattle.scenario.specs.Rules.{verdict};
 ghost use Rattle.exchange.specs.Runs.{WearsOut};
 ghost use Rattle.command_line.specs.Failures.{RefusesText};
-ghost use Rattle.cli.specs.Told.{text_failure};
+ghost use Rattle.cli.specs.Told.{run_told, text_failure};
 ghost use Rattle.trace.specs.Writers.{writer_under, put_failures};
 ghost use Rattle.exchange.specs.Promise.{WritesRun, WritesBeginning, WearsOutReport};
 
@@ -42,6 +42,16 @@ pub(crate) fn text_failure(rule: u8) -> Failure<'static>
         return Failure::Memory;
     }
     Failure::Rule(rule)
+}
+
+/// What came of runs, their fault as a failure.
+pub(crate) fn run_told<T>(outcome: Result<T, Fault>) -> Result<T, Failure<'static>>
+    ensures { result ≡ run_told outcome }
+{
+    match outcome {
+        Ok(told) => Ok(told),
+        Err(cause) => Err(Failure::Run(cause)),
+    }
 }
 
 /// Runs a scenario by the parts of a division of its members and so many workers, writes its trace to one

@@ -13,12 +13,13 @@ use std::sync::Wait;
 use std::thread::Threads;
 
 /// Does what the words of the program's command line ask for, and answers the status that the program ends with.
-/// `out` and `err` are its streams.
-pub fn run_program<R: Threads + Wait + Sync + Env + Files + AllocGlobal, O: Write, E: Write>(
-    rt: &R,
-    out: &mut O,
-    err: &mut E,
-) -> ExitCode
+/// `out` and `err` are its streams; how far a sweep has come goes to `progress`, where that is asked for.
+pub fn run_program<
+    R: Threads + Wait + Sync + Env + Files + AllocGlobal,
+    O: Write,
+    E: Write,
+    P: Write,
+>(rt: &R, out: &mut O, err: &mut E, progress: &mut P) -> ExitCode
     ensures range { exit_status result ≤ 5 }
     ensures silent { 2 ≤ exit_status result → out.new ≡ out.old }
     ensures quiet { exit_status result ≡ 0 → err.new ≡ err.old }
@@ -26,7 +27,15 @@ pub fn run_program<R: Threads + Wait + Sync + Env + Files + AllocGlobal, O: Writ
     let status = match words(rt) {
         Ok(words) => {
             let mut files = SystemFiles::new(rt);
-            command(rt, rt.alloc(), words.as_slice(), &mut files, out, err)
+            command(
+                rt,
+                rt.alloc(),
+                words.as_slice(),
+                &mut files,
+                out,
+                err,
+                progress,
+            )
         }
         Err(failure) => refuse(&failure, err),
     };

@@ -21,6 +21,7 @@ pub(crate) struct Left {
     pub(crate) status: u8,
     pub(crate) out: MemoryWriter,
     pub(crate) err: MemoryWriter,
+    pub(crate) progress: MemoryWriter,
     pub(crate) files: MemoryFiles,
 }
 
@@ -51,6 +52,7 @@ pub(crate) fn left_by(
     let mut files = files;
     let mut out = MemoryWriter::new(rt.alloc(), fails);
     let mut err = MemoryWriter::new(rt.alloc(), Failing::Never);
+    let mut progress = MemoryWriter::new(rt.alloc(), Failing::Never);
     let status = command(
         rt,
         rt.alloc(),
@@ -58,11 +60,13 @@ pub(crate) fn left_by(
         &mut files,
         &mut out,
         &mut err,
+        &mut progress,
     );
     Ok(Left {
         status,
         out,
         err,
+        progress,
         files,
     })
 }

@@ -5,5 +5,5 @@ use cli::system::run_program;
 use std::process::ExitCode;
 
 fn main(rt: HostRuntime) -> ExitCode {
-    run_program(&rt, &mut rt.stdout(), &mut rt.stderr())
+    run_program(&rt, &mut rt.stdout(), &mut rt.stderr(), &mut rt.stderr())
 }

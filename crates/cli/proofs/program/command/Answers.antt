@@ -2,7 +2,7 @@
 use Rattle.std.proofs.Common.{◌≡◌, ◌≢◌, ◌≤◌, ◌⊎◌, ◌∙◌, ℕ, Err, ap, sym, refl, inl, inr, arith}
 use Rattle.command_line.specs.Failures.{status_of}
 use Rattle.command_line.specs.declared.failure.Failure.{Failure}
-use Rattle.command_line.specs.declared.failure.Failure.TheVariants.{File, Usage, Rule, Workers, Division, Run, Memory, Output}
+use Rattle.command_line.specs.declared.failure.Failure.TheVariants.{File, Usage, Rule, Case, Workers, Division, Run, Memory, Output}
 use Rattle.cli.proofs.program.command.Goals as goal
 
 -- no failure has the status of what was done
@@ -11,6 +11,7 @@ no_failure (File name) e = omega arith
 no_failure Output e = omega arith
 no_failure Usage e = omega arith
 no_failure (Rule number) e = omega arith
+no_failure (Case number settings) e = omega arith
 no_failure Workers e = omega arith
 no_failure (Division cause) e = omega arith
 no_failure (Run cause) e = omega arith
@@ -22,6 +23,7 @@ is_usage (File name) e = absurd (omega arith)
 is_usage Output e = absurd (omega arith)
 is_usage Usage e = refl
 is_usage (Rule number) e = absurd (omega arith)
+is_usage (Case number settings) e = absurd (omega arith)
 is_usage Workers e = absurd (omega arith)
 is_usage (Division cause) e = absurd (omega arith)
 is_usage (Run cause) e = absurd (omega arith)
@@ -43,6 +45,9 @@ returns-in-Ok-clause-failed g c differs = absurd (differs refl)
 
 pub returns-in-Ok-clause-usage : goal.returns-in-Ok-clause-usage
 returns-in-Ok-clause-usage g c e = absurd (omega arith)
+
+pub returns-in-Ok-clause-other : goal.returns-in-Ok-clause-other
+returns-in-Ok-clause-other g c none = absurd (none c.in-Ok.ensures.command)
 
 pub returns-in-Ok-clause-silent : goal.returns-in-Ok-clause-silent
 returns-in-Ok-clause-silent g c low = absurd (omega arith)

@@ -1,5 +1,5 @@
--- a run that the words ask for, done and told or not done
-use Rattle.cli.proofs.Commands.{asked_run_done, asked_run_fails, handed_on}
+-- a run or a sweep that the words ask for, done and told or not done
+use Rattle.cli.proofs.Commands.{asked_run_done, asked_run_fails, asked_sweep_fails, asked_untold, handed_on, is_command}
 use Rattle.cli.proofs.program.perform.Goals as goal
 
 pub returns-in_ok-summary-in-Run-clause-done : goal.returns-in_ok-summary-in-Run-clause-done
@@ -10,3 +10,18 @@ pub returns-in_err-summary-in-Run-clause-failed : goal.returns-in_err-summary-in
 returns-in_err-summary-in-Run-clause-failed g c =
     handed_on _ _ _ c.from_residual-in_err-summary-in-Run.ensures.1
     (asked_run_fails _ _ _ _ _ _ _ c.in-Run.is c.in_ok-help.ensures.answer c.in_err-summary-in-Run.ensures.failed)
+
+pub returns-in_ok-lines-in-Sweep-clause-other : goal.returns-in_ok-lines-in-Sweep-clause-other
+returns-in_ok-lines-in-Sweep-clause-other g c none = absurd (none (is_command _ _ c.in_ok-help.ensures.answer))
+
+pub returns-in_ok-lines-in-Sweep-clause-unasked : goal.returns-in_ok-lines-in-Sweep-clause-unasked
+returns-in_ok-lines-in-Sweep-clause-unasked g c none =
+    c.sweep_file.ensures.unasked (asked_untold _ _ _ c.in-Sweep.is c.in_ok-help.ensures.answer none)
+
+pub returns-in_err-lines-in-Sweep-clause-failed : goal.returns-in_err-lines-in-Sweep-clause-failed
+returns-in_err-lines-in-Sweep-clause-failed g c =
+    handed_on _ _ _ c.from_residual-in_err-lines-in-Sweep.ensures.1
+    (asked_sweep_fails _ _ _ _ _ _ _ c.in-Sweep.is c.in_ok-help.ensures.answer c.in_err-lines-in-Sweep.ensures.failed)
+
+pub returns-in_err-lines-in-Sweep-clause-other : goal.returns-in_err-lines-in-Sweep-clause-other
+returns-in_err-lines-in-Sweep-clause-other g c none = absurd (none (is_command _ _ c.in_ok-help.ensures.answer))

@@ -1,5 +1,5 @@
 -- what the files hold of a run that was done, and of one that broke off
-use Rattle.std.proofs.Common.{◌≡◌, ◌∙◌, Err, ap}
+use Rattle.std.proofs.Common.{◌∙◌, Err, ap}
 use Rattle.cli.proofs.Stored.{both_begun, both_stored, each_err, each_ok, told_done, told_failed}
 use Rattle.cli.proofs.program.store_both.Goals as goal
 

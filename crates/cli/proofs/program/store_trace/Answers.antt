@@ -1,5 +1,5 @@
 -- what the file holds of a run that was done, and of one that broke off
-use Rattle.std.proofs.Common.{◌≡◌, ◌∙◌, Err, ap}
+use Rattle.std.proofs.Common.{◌∙◌, Err, ap}
 use Rattle.cli.proofs.Stored.{each_err, each_ok, told_done, told_failed, trace_begun, trace_stored}
 use Rattle.cli.proofs.program.store_trace.Goals as goal
 
