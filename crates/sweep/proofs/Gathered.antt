@@ -1,6 +1,6 @@
 -- How runs are gathered by their cases.
-use Rattle.std.proofs.Common.{◌≡◌, ℕ, suc, ◌+◌, ◌-◌, ◌*◌, ◌<◌, ◌≤◌, Bool, true, false, List, [], ◌∷◌, ◌++◌, Option, Some, refl, sym, ap, subst, ◌∙◌, arith, take, drop, length, map, length-append, length-drop, ⊎_elim}
-use Rattle.std.specs.Prelude.{slice_get, nat_le}
+use Rattle.std.proofs.Common.{◌≡◌, ℕ, ◌+◌, ◌-◌, ◌*◌, ◌<◌, ◌≤◌, Bool, true, false, List, [], ◌∷◌, ◌++◌, refl, sym, ap, subst, ◌∙◌, arith, take, drop, length, map, length-append, length-drop, ⊎_elim}
+use Rattle.std.specs.Prelude.{nat_le}
 use Rattle.std.proofs.Math.Seq.{drop-nil}
 use Rattle.std.proofs.lemmas.Nat.{mul-le}
 use Rattle.std.proofs.lemmas.Bool.Decides.{nat_tests}
@@ -8,7 +8,7 @@ use Rattle.std.proofs.lemmas.List.{take_all, drop_all, take-append-le, drop-appe
 use Rattle.std.proofs.lemmas.Option.{none-some, slice_get_within}
 use Rattle.figures.specs.declared.summary.CaseSummary.{CaseSummary}
 use Rattle.figures.specs.declared.case.CaseFigures.{CaseFigures}
-use Rattle.figures.specs.Cases.{TracedRun, traced, IsSummaryOf}
+use Rattle.figures.specs.Cases.{TracedRun, IsSummaryOf}
 use Rattle.figures.specs.Kept.{AreFiguresOf, runs_kept}
 use Rattle.cases.specs.Sweep.{Sweep, case_count, seed_count, run_count}
 use Rattle.sweep.specs.declared.gathering.Gathering.{Gathering}

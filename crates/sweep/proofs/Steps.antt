@@ -1,5 +1,5 @@
 -- How the table grows by a line, and why it ends.
-use Rattle.std.proofs.Common.{◌≡◌, ℕ, zero, suc, ◌+◌, ◌<◌, ◌≤◌, List, [], ◌∷◌, ◌++◌, Option, Some, refl, sym, ap, subst, ◌∙◌, arith, take, drop, get_or, length, append_assoc, append-nil, ◌⊎◌, inl, inr, ⊎_elim, ◌≢◌, Bool, true, false, eqb, true≢false}
+use Rattle.std.proofs.Common.{◌≡◌, ℕ, zero, suc, ◌+◌, ◌<◌, ◌≤◌, List, [], ◌∷◌, ◌++◌, Option, Some, refl, sym, ap, subst, ◌∙◌, arith, take, drop, get_or, length, append_assoc, append-nil, ⊎_elim, ◌≢◌, Bool, true, false, eqb, true≢false}
 use Rattle.std.proofs.lemmas.Bool.{eqb-true, eq-eqb}
 use Rattle.std.proofs.lemmas.List.{take_all, take-append-drop, take_more}
 use Rattle.std.proofs.lemmas.List.Concat.{flat_map-append}
@@ -19,8 +19,7 @@ use Rattle.trace.specs.Sinks.{AppendsBeginning}
 use Rattle.trace.proofs.Beginnings.{Appends-then, Appends-kept, beginning-kept, beginning-first, beginning-then, beginning-whole, beginning-of}
 use Rattle.member_laws.specs.Runs.{IsRunOf}
 use Rattle.figures.specs.Lines.{header_line, run_line}
-use Rattle.figures.specs.declared.run.RunFigures.{RunFigures}
-use Rattle.figures.specs.Cases.{TracedRun, traced}
+use Rattle.figures.specs.Cases.{traced}
 use Rattle.cases.specs.Sweep.{Sweep, run_count}
 use Rattle.cases.specs.declared.choice.Choice.{Choice}
 use Rattle.sweep.specs.Runs.{Planned, Made, IsMadeAs, IsRunAt, planned_as, runs_of, verdict_of}

@@ -8,6 +8,7 @@ pub trait Progress {
 }
 
 /// Nobody is told.
+#[derive(Drop)]
 pub struct NoProgress;
 
 impl Progress for NoProgress {

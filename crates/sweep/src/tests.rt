@@ -45,6 +45,7 @@ const CASES: [[&str; 2]; 4] = [["200", "60"], ["200", "70"], ["250", "60"], ["25
 const PUTS: u64 = 9;
 
 /// What was told last of how far a sweep has come, and how often it was.
+#[derive(Drop)]
 struct Told {
     often: usize,
     made: usize,
