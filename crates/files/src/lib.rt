@@ -8,8 +8,6 @@ ghost use Rattle.files.specs.Files.{KnownFile, Making, Holds, HoldsNow, IsAbsent
 mod identity;
 mod reading;
 pub mod system;
-#[cfg(test)]
-mod system_tests;
 pub mod testing;
 
 pub use reading::read_whole;

@@ -9,7 +9,5 @@ mod outages;
 mod routes;
 mod spans;
 mod table;
-#[cfg(test)]
-mod tests;
 
 pub use table::Links;

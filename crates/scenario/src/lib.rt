@@ -3,14 +3,8 @@
 
 mod additions;
 mod division;
-#[cfg(test)]
-mod division_tests;
 mod lists;
-#[cfg(test)]
-mod member_tests;
 mod pairs;
-#[cfg(test)]
-mod path_tests;
 mod reader;
 mod references;
 mod refusal;
@@ -18,13 +12,7 @@ mod roster;
 mod scenario;
 mod settings;
 mod tables;
-#[cfg(test)]
-mod tests;
-#[cfg(test)]
-mod tests_fixture;
 mod times;
-#[cfg(test)]
-mod version_tests;
 
 pub use division::{Division, DivisionFault, Workers};
 pub use reader::{document, read, read_document};

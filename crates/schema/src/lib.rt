@@ -4,8 +4,6 @@
 
 mod schema;
 mod shape;
-#[cfg(test)]
-mod tests;
 mod values;
 
 pub use schema::{Absence, FormatKey, KeyRule, Kind, Section, Version};

@@ -1,5 +1,5 @@
 //! What no clause says: that documents have the shape, and which rule each fault breaks.
-use crate::{
+use schema::{
     Absence, Check, FormatKey, KeyRule, Kind, Section, ShapeFault, TablePlace, Version,
     check_shape, items_at, number, switch, text, text_if, whole_or,
 };

@@ -1,10 +1,10 @@
 //! What no clause says: that texts are accepted, worked texts with their rules, and where a text
 //! breaks a rule.
-use crate::tests_fixture::{
+use crate::fixture::{
     Edit, Settings, accepted, answer_to, answer_to_edit, assert_names, assert_rules, edited,
     settings_of,
 };
-use crate::{Lifeguard, Link, Suspicion, Swim};
+use scenario::{Lifeguard, Link, Suspicion, Swim};
 use std::alloc::Global;
 use std::process::Abort;
 

@@ -1,7 +1,7 @@
 //! Starts, contacts, slow times and crashes: what is read of them, and the rules that they break.
-use crate::tests_fixture::{Part, accepted, answer_to_parts, assert_parts};
-use crate::{Link, Path, Scenario, Slow};
+use crate::fixture::{Part, accepted, answer_to_parts, assert_parts};
 use base::{MemberId, Moment};
+use scenario::{Link, Path, Scenario, Slow};
 use std::alloc::Global;
 use std::process::Abort;
 

@@ -1,7 +1,8 @@
 //! What version 2 adds: leaves, cuts and larger clusters, and the rules that they break.
-use crate::tests_fixture::{Edit, Part, accepted, assert_parts, assert_rules};
-use crate::{Cut, Leave, Version};
+use crate::fixture::{Edit, Part, accepted, assert_parts, assert_rules};
 use base::{MemberId, Moment};
+use scenario::{Cut, Leave, Scenario, Version};
+use std::process::Abort;
 
 /// Members n-0 and n-1.
 const TEXT: &str = "version = 2
@@ -84,6 +85,19 @@ at = 400
 until = 1500
 ";
 
+/// Its leaves and cuts.
+const LEAVES: [Leave; 1] = [Leave {
+    member: MemberId(1),
+    at: Moment(500),
+}];
+
+const CUTS: [Cut; 1] = [Cut {
+    from: 0,
+    to: 0,
+    at: Moment(400),
+    until: Moment(1500),
+}];
+
 /// Whether the link is cut at these moments then.
 const CUT_AT: [(u64, bool); 4] = [(399, false), (400, true), (1499, true), (1500, false)];
 
@@ -97,29 +111,22 @@ fn each_fault_of_a_leave_or_a_cut_is_refused_by_its_rule(rt: HostRuntime) {
     assert_parts(rt.alloc(), &rt, TEXT, "", "", &PARTS);
 }
 
-#[test]
-fn a_scenario_has_the_leaves_and_cuts_of_its_text(rt: HostRuntime) {
-    let scenario = accepted(rt.alloc(), &rt, &[TEXT, BOTH]);
-    let leave = Leave {
-        member: MemberId(1),
-        at: Moment(500),
-    };
-    let cut = Cut {
-        from: 0,
-        to: 0,
-        at: Moment(400),
-        until: Moment(1500),
-    };
-    assert!(rt; scenario.version() == Version::Two);
-    assert!(rt; scenario.leaves().first() == Some(&leave) && scenario.leaves().len() == 1);
-    assert!(rt; scenario.cuts().first() == Some(&cut) && scenario.cuts().len() == 1);
+/// Asserts which of the two members leaves, and when the link between them is cut.
+fn assert_leave_and_cuts(rt: &impl Abort, scenario: &Scenario) {
     assert!(rt; scenario.members() == 2);
     assert!(rt; scenario.leave(MemberId(1)) == Some(Moment(500)));
     assert!(rt; scenario.leave(MemberId(0)) == None);
-    for (at, is_cut) in &CUT_AT {
-        assert!(rt;
-            scenario.is_cut(MemberId(0), MemberId(1), Moment(*at)) == *is_cut,
-            "{at}"
-        );
+    for (at, cut) in &CUT_AT {
+        let is_cut = scenario.is_cut(MemberId(0), MemberId(1), Moment(*at));
+        assert!(rt; is_cut == *cut, "{at}");
     }
+}
+
+#[test]
+fn a_scenario_has_the_leaves_and_cuts_of_its_text(rt: HostRuntime) {
+    let scenario = accepted(rt.alloc(), &rt, &[TEXT, BOTH]);
+    assert!(rt; scenario.version() == Version::Two);
+    assert!(rt; scenario.leaves() == &LEAVES[..]);
+    assert!(rt; scenario.cuts() == &CUTS[..]);
+    assert_leave_and_cuts(&rt, &scenario);
 }

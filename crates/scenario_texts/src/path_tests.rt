@@ -1,7 +1,7 @@
 //! Paths: which link each pair of members has, and the rules that a path breaks.
-use crate::tests_fixture::{Part, accepted, answer_to_parts, assert_parts, edited};
-use crate::{Link, Scenario};
+use crate::fixture::{Part, accepted, answer_to_parts, assert_parts, edited};
 use base::MemberId;
+use scenario::{Link, Scenario};
 use std::alloc::Global;
 use std::process::Abort;
 

@@ -1,7 +1,7 @@
 //! Divisions and numbers of workers at the ends of their ranges.
-use crate::tests_fixture::accepted;
-use crate::{Division, DivisionFault, Workers};
+use crate::fixture::accepted;
 use base::MemberId;
+use scenario::{Division, DivisionFault, Workers};
 use std::alloc::Global;
 use std::process::Abort;
 
@@ -48,17 +48,16 @@ fn divide(
 
 /// Asserts the parts of a division, and which of them each of the two members is in.
 fn assert_parts(rt: &impl Abort, division: &Division, parts: usize, numbers: &[u8; 2]) {
-    assert_eq!(rt; division.parts(), parts);
-    assert_eq!(rt; division.members(), 2);
-    assert_eq!(rt; division.part(MemberId(0)), numbers[0] as usize);
-    assert_eq!(rt; division.part(MemberId(1)), numbers[1] as usize);
+    assert!(rt; division.parts() == parts && division.members() == 2);
+    assert!(rt; division.part(MemberId(0)) == numbers[0] as usize);
+    assert!(rt; division.part(MemberId(1)) == numbers[1] as usize);
 }
 
 #[test]
 fn the_first_fault_of_a_division_is_answered(rt: HostRuntime) {
     for (parts, numbers, fault) in &FAULTS {
         let refused = divide(rt.alloc(), &rt, *parts, *numbers).err();
-        assert_eq!(rt; refused, Some(*fault), "{parts} parts");
+        assert!(rt; refused == Some(*fault), "{parts} parts");
     }
 }
 
@@ -79,6 +78,6 @@ fn workers_are_1_to_64(rt: HostRuntime) {
     assert!(rt; Workers::new(usize::MAX).is_none());
     for count in [1, 2, 64] {
         let workers = Workers::new(count).expect(&rt, "1 to 64");
-        assert_eq!(rt; workers.count(), count);
+        assert!(rt; workers.count() == count);
     }
 }

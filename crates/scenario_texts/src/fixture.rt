@@ -1,6 +1,6 @@
 //! Texts with what `read` answers to them, and what an accepted text says.
-use crate::{Lifeguard, Link, Scenario, Suspicion, Swim, read};
 use base::MemberId;
+use scenario::{Lifeguard, Link, Scenario, Suspicion, Swim, read};
 use std::alloc::Global;
 use std::process::Abort;
 
