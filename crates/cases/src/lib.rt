@@ -9,8 +9,6 @@ mod keys;
 mod plan;
 mod seeds;
 mod settings;
-#[cfg(test)]
-mod tests;
 mod values;
 
 pub use choice::{Choice, settings_text};

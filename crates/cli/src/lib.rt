@@ -14,14 +14,3 @@ pub use command_line::{
 pub use files::{FileFault, Files, PairFault, testing};
 pub use program::command;
 pub use simulation::{check, simulate};
-
-#[cfg(test)]
-mod file_tests;
-#[cfg(test)]
-mod sweep_tests;
-#[cfg(test)]
-mod system_tests;
-#[cfg(test)]
-mod tests;
-#[cfg(test)]
-mod worked_tests;

@@ -12,6 +12,3 @@ pub use division::{division_asked, workers_asked};
 pub use failure::{Failure, refuse};
 pub use printing::{print_cases, print_help, print_members, print_rows};
 pub use words::{Asked, RunWords, Split, SweepWords, parse};
-
-#[cfg(test)]
-mod tests;

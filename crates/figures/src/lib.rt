@@ -20,8 +20,3 @@ pub use columns::{push_case_header, push_case_line};
 pub use run::RunFigures;
 pub use summary::CaseSummary;
 pub use table::{write_header, write_run};
-
-#[cfg(test)]
-mod tests;
-#[cfg(test)]
-mod tests_cases;

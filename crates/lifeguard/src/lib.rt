@@ -7,8 +7,6 @@ pub mod laws;
 mod nack;
 mod probe;
 mod relays;
-#[cfg(test)]
-mod tests;
 
 pub use health::Health;
 pub use nack::nack_delay;

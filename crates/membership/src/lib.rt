@@ -4,8 +4,6 @@
 
 mod claims;
 mod table;
-#[cfg(test)]
-mod tests;
 
 pub use claims::{does_override, is_confirm, is_suspect};
 pub use table::Table;

@@ -11,8 +11,6 @@ mod entries;
 mod front;
 pub mod laws;
 mod order;
-#[cfg(test)]
-mod plain;
 
 use base::{MemberId, Memory};
 use entries::{count_sent, entry_of, set};
@@ -99,6 +97,3 @@ impl Buffer {
         entry_of(&self.entries, subject)
     }
 }
-
-#[cfg(test)]
-mod tests;

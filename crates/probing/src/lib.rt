@@ -137,6 +137,3 @@ pub fn helpers(mut candidates: Vec<MemberId>, k: usize, stream: &mut Stream) -> 
     candidates.truncate(k);
     candidates
 }
-
-#[cfg(test)]
-mod tests;

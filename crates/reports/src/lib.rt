@@ -18,10 +18,3 @@ pub use false_positives::{FalsePositive, false_positive_count, healthy_false_pos
 pub use laws::{first_reports_stay, second_reports_add_a_line};
 pub use reporting::{message_kinds, report, report_on};
 pub use tallies::{AddError, Tallies};
-
-#[cfg(test)]
-mod tests;
-#[cfg(test)]
-mod tests_leaves;
-#[cfg(test)]
-mod tests_plain;

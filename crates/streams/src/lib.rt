@@ -73,6 +73,3 @@ impl Stream {
         }
     }
 }
-
-#[cfg(test)]
-mod tests;

@@ -7,8 +7,6 @@ pub mod laws;
 mod standing;
 mod suspicions;
 mod terms;
-#[cfg(test)]
-mod tests;
 
 pub use suspicions::{Accused, Suspicions};
 pub use terms::Terms;

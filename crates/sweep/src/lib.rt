@@ -17,6 +17,3 @@ pub use chunks::sweep;
 pub use judging::{Refused, judge};
 pub use progress::{NoProgress, Progress};
 pub use texts::cases_text;
-
-#[cfg(test)]
-mod tests;

@@ -10,8 +10,3 @@ mod write;
 pub use row::{Row, What};
 pub use sink::{Put, Sink, Stopped, put_all};
 pub use write::{WriteError, texts_join, write_head, write_rows};
-
-#[cfg(test)]
-mod tests;
-#[cfg(test)]
-mod tests_rows;

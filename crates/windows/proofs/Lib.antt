@@ -32,7 +32,6 @@ mod PlayRows
 mod PlaySafe
 mod PlayWorlds
 mod Playing
-mod Opened
 pub mod Fresh
 pub mod Exchanged
 pub mod Wholes

@@ -5,13 +5,9 @@
 
 mod bounded;
 mod choices;
-#[cfg(test)]
-mod choices_tests;
 mod laws;
 mod own_members;
 mod part;
-#[cfg(test)]
-mod part_tests;
 mod setting;
 mod steps;
 

@@ -7,8 +7,6 @@ mod marks;
 mod queue;
 mod slot;
 mod stores;
-#[cfg(test)]
-mod tests;
 mod tree;
 mod wheel;
 mod wheel_queue;

@@ -14,8 +14,6 @@ mod pieces;
 mod ring;
 mod signals;
 mod terms;
-#[cfg(test)]
-mod tests;
 mod worker;
 
 pub use close::{SEATS, close_board};

@@ -1,0 +1,5 @@
+//! Tests.
+#![tactic(auto)]
+
+#[cfg(test)]
+mod queue_tests;
