@@ -1,9 +1,10 @@
 #!/usr/bin/env python3
-"""Runs the gate, `rt ci`, and tells what each crate cost of it.
+"""Runs the gate, `.ci/run`, and tells what each crate cost of it.
 
-    bench/gate.py
+    bench/gate.py [NAME..]
 
-The gate's output is passed on as it comes, and its status is this command's. At the end stand the processor minutes of
+With names it runs `rt ci` over these crates and those below them, which isn't the gate. The gate's output is passed on as
+it comes, and its status is this command's. At the end stand the processor minutes of
 each crate: its proof; its tests, with the second proof of the crate that they take; and its must-fail edits, how many
 there are and what one cost on average, the first check of the crate over nothing included. After it come the edits
 that took longest, in seconds of a processor; a crate's first edit by name has the check of the crate over nothing in
@@ -122,9 +123,10 @@ class Account:
         self.used[OTHER] += (usage.ru_utime + usage.ru_stime) * TICKS_A_MINUTE / 60 - sum(self.used.values())
 
 
-def run_gate():
-    """Runs the gate to its end, and returns its status and its account."""
-    gate = subprocess.Popen(['rt', 'ci'], cwd=TOP)
+def run_gate(names):
+    """Runs the gate to its end, or `rt ci` over some crates, and returns its status and its account."""
+    command = ['rt', 'ci', *names] if names else ['bash', '.ci/run']
+    gate = subprocess.Popen(command, cwd=TOP)
     account = Account(gate.pid)
     while True:
         process, status, usage = os.wait4(gate.pid, os.WNOHANG)
@@ -165,7 +167,7 @@ def print_slowest(edits):
 
 def main():
     begin = time.monotonic()
-    status, account = run_gate()
+    status, account = run_gate(sys.argv[1:])
     print_table(account.used, time.monotonic() - begin)
     print_slowest(account.edits)
     sys.exit(status)
