@@ -2,7 +2,7 @@
 ghost use Rattle.std.specs.Prelude.{◌≡◌, ◌≢◌, ◌≤◌, ◌<◌, ◌^◌, All, fold, Ok, Err, IfOk, IfErr};
 ghost use Rattle.std.specs.Option.{ForSome};
 ghost use Rattle.toml.specs.View.{view};
-ghost use Rattle.scenario.specs.Rules.{document_verdict};
+ghost use Rattle.scenario_reader.specs.Rules.{document_verdict};
 ghost use Rattle.cases.specs.Values.{FitsToml};
 ghost use Rattle.cases.specs.Document.{data_of, table_at, with_entry, with_choice, with_values};
 

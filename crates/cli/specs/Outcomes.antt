@@ -3,7 +3,7 @@ use Rattle.std.specs.Prelude.{◌≡◌, ◌≢◌, ◌⊎◌, ℕ, List, false,
 use Rattle.std.specs.Io.KnownBytes.{Appends}
 use Rattle.base.specs.declared.fault.Fault.{Fault}
 use Rattle.base.specs.declared.fault.Fault.TheVariants as fault
-use Rattle.scenario.specs.Rules.{verdict}
+use Rattle.scenario_reader.specs.Rules.{verdict}
 use Rattle.scenario.specs.Setup.{Setup, member_count}
 use Rattle.scenario.specs.Division.{Deal}
 use Rattle.trace.specs.Text.{trace_text}

@@ -3,7 +3,7 @@ use Rattle.std.specs.Prelude.{◌≡◌, ◌⊎◌, ℕ, List, false, true, Opti
 use Rattle.toml.specs.Data.{Data}
 use Rattle.clap.specs.Words.{Text}
 use Rattle.base.specs.declared.fault.Fault.{Fault}
-use Rattle.scenario.specs.Rules.{tree_of}
+use Rattle.scenario_reader.specs.Rules.{tree_of}
 use Rattle.files.specs.Files.{KnownFile, Making, Holds, HoldsNow, KeepsOthers, CannotMake}
 use Rattle.cases.specs.Sweep.{Sweep, case_count}
 use Rattle.cases.specs.Cases.{settings_text}

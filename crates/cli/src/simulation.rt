@@ -1,7 +1,7 @@
 //! From a scenario's bytes to its trace and its report.
 ghost use Rattle.std.specs.Prelude.{◌≡◌, ◌≢◌, ◌<◌, ◌⊎◌, Ok, IfOk, IfErr, OnOk, OnErr, IsErrOf, length};
 ghost use Rattle.scenario.specs.Setup.{member_count};
-ghost use Rattle.scenario.specs.Rules.{verdict};
+ghost use Rattle.scenario_reader.specs.Rules.{verdict};
 ghost use Rattle.exchange.specs.Runs.{WearsOut};
 ghost use Rattle.command_line.specs.Failures.{RefusesText};
 ghost use Rattle.cli.specs.Told.{run_told, text_failure};

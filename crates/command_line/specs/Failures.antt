@@ -1,7 +1,7 @@
 -- How a command that failed ends, and what users read of it.
 use Rattle.std.specs.Prelude.{◌≡◌, ℕ, List, [], ◌∷◌, ◌++◌, Option, Result, Err, codes, string_bytes}
 use Rattle.std.specs.Fmt.{decimal}
-use Rattle.scenario.specs.Rules.{verdict}
+use Rattle.scenario_reader.specs.Rules.{verdict}
 use Rattle.scenario.specs.Division.{Deal}
 use Rattle.scenario.specs.declared.division.DivisionFault.{DivisionFault}
 use Rattle.scenario.specs.declared.division.DivisionFault.TheVariants as division

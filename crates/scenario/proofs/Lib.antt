@@ -1,11 +1,3 @@
 pub mod Names
-pub mod Trees
-pub mod Groups
-pub mod Chain
-pub mod Sound
-pub mod Find
-pub mod Moments
-pub mod Sweep
 pub mod Between
 pub mod Members
-pub mod First

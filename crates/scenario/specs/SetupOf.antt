@@ -2,16 +2,21 @@
 use Rattle.std.specs.Prelude.{◌≡◌, map, string_bytes}
 use Rattle.scenario.specs.Setup.{Setup, Group, member_names, IsSound}
 use Rattle.scenario.specs.declared.settings.Group.{Group as Stored}
+use Rattle.scenario.specs.declared.scenario.Contents.{Contents}
 use Rattle.scenario.specs.declared.scenario.Scenario.TheInside.{Inside}
 
 -- a group as it is stored
 abbrev pub group_of : Stored → Group
 group_of g = record { name = string_bytes g.name; count = g.count; start = g.start; contact = g.contact }
 
+-- what contents say
+abbrev pub setup_in : Contents → Setup
+setup_in s = record { version = s.version; seed = s.seed; end = s.end; swim = s.swim; suspicion = s.suspicion; lifeguard = s.lifeguard; link = s.link; groups = map group_of s.groups.items; paths = s.paths.items; slows = s.slows.items; crashes = s.crashes.items; leaves = s.leaves.items; cuts = s.cuts.items }
+
 abbrev pub setup_of : Inside → Setup
-setup_of s = record { version = s.version; seed = s.seed; end = s.end; swim = s.swim; suspicion = s.suspicion; lifeguard = s.lifeguard; link = s.link; groups = map group_of s.groups.items; paths = s.paths.items; slows = s.slows.items; crashes = s.crashes.items; leaves = s.leaves.items; cuts = s.cuts.items }
+setup_of s = setup_in s.contents
 
 -- the names are those of all members, at their numbers, and the numbers are in their ranges
 pub record IsScenario (s : Inside) : Type 0 where
-  pub names : map string_bytes s.names.items ≡ member_names (setup_of s)
+  pub names : map string_bytes s.contents.names.items ≡ member_names (setup_of s)
   pub sound : IsSound (setup_of s)

@@ -1,22 +1,11 @@
-//! The scenario text: reads it, or refuses it by the least broken rule.
+//! A scenario, as its text says it, and how its members are divided into parts.
 #![tactic(auto)]
 
-mod additions;
 mod division;
-mod lists;
-mod pairs;
-mod reader;
-mod references;
-mod refusal;
-mod roster;
 mod scenario;
 mod settings;
-mod tables;
-mod times;
 
 pub use division::{Division, DivisionFault, Workers};
-pub use reader::{document, read, read_document};
-pub use refusal::Refusal;
-pub use scenario::Scenario;
+pub use scenario::{Contents, Scenario};
 pub use schema::Version;
-pub use settings::{Crash, Cut, Leave, Lifeguard, Link, Path, Slow, Suspicion, Swim};
+pub use settings::{Crash, Cut, Group, Leave, Lifeguard, Link, Path, Slow, Suspicion, Swim};

@@ -1,32 +1,44 @@
 ghost use Rattle.std.specs.Prelude.{◌≡◌, ◌<◌, ◌≤◌, ◌^◌};
-ghost use Rattle.std.specs.Prelude.{map, filter, find, nat_eq, slice_get, option_map, option_and_then, option_copied, IfSome};
+ghost use Rattle.std.specs.Prelude.{string_bytes, map, filter, find, nat_eq, slice_get, option_map, option_and_then, option_copied, IfSome};
 ghost use Rattle.std.specs.List.{list_any};
 ghost use Rattle.std.specs.Option.{option_map_or};
-ghost use Rattle.scenario.specs.SetupOf.{group_of};
-ghost use Rattle.scenario.specs.Setup.{member_count, name_of, group_at, leads, last_link, link_between, start_of, contact_of, crash_of, leave_of, is_slow, extra_of, cuts_off, is_cut, IsSound, IsSoundLink};
+ghost use Rattle.scenario.specs.SetupOf.{group_of, setup_in};
+ghost use Rattle.scenario.specs.Setup.{member_count, member_names, name_of, group_at, leads, last_link, link_between, start_of, contact_of, crash_of, leave_of, is_slow, extra_of, cuts_off, is_cut, IsSound, IsSoundLink};
 
 use crate::settings::{Crash, Cut, Group, Leave, Lifeguard, Link, Path, Slow, Suspicion, Swim};
 use base::{MemberId, Moment};
 use schema::Version;
 use std::marker::Model;
 
+/// What a scenario's text says, field by field.
+#[derive(Drop)]
+pub struct Contents {
+    /// The version of the text's format.
+    pub version: Version,
+    /// The seed of every member's draws.
+    pub seed: u64,
+    /// The last moment that is simulated, in ticks.
+    pub end: Moment,
+    pub swim: Swim,
+    pub suspicion: Suspicion,
+    pub lifeguard: Lifeguard,
+    /// The link of every pair of members whose groups no path names.
+    pub link: Link,
+    /// In the order of the text, as all lists.
+    pub groups: Vec<Group>,
+    pub paths: Vec<Path>,
+    pub slows: Vec<Slow>,
+    pub crashes: Vec<Crash>,
+    pub leaves: Vec<Leave>,
+    pub cuts: Vec<Cut>,
+    /// The names of all members, at their numbers.
+    pub names: Vec<String>,
+}
+
 /// A scenario that keeps the format's rules: what a run does follows from it alone.
 #[derive(Drop)]
 pub struct Scenario {
-    pub(crate) version: Version,
-    pub(crate) seed: u64,
-    pub(crate) end: Moment,
-    pub(crate) swim: Swim,
-    pub(crate) suspicion: Suspicion,
-    pub(crate) lifeguard: Lifeguard,
-    pub(crate) link: Link,
-    pub(crate) groups: Vec<Group>,
-    pub(crate) paths: Vec<Path>,
-    pub(crate) slows: Vec<Slow>,
-    pub(crate) crashes: Vec<Crash>,
-    pub(crate) leaves: Vec<Leave>,
-    pub(crate) cuts: Vec<Cut>,
-    pub(crate) names: Vec<String>,
+    contents: Contents,
 }
 
 impl Model for Scenario {
@@ -42,12 +54,22 @@ impl Model for Scenario {
 }
 
 impl Scenario {
+    /// The scenario with these contents. Whoever made them sees to it that they keep the format's rules,
+    /// as the reader of a text does by its checks.
+    pub fn of(contents: Contents) -> Scenario
+        requires named { map string_bytes contents.names.items ≡ member_names (setup_in contents) }
+        requires sound { IsSound (setup_in contents) }
+        ensures { result ≡ setup_in contents }
+    {
+        Scenario { contents }
+    }
+
     /// The version of the text's format.
     pub fn version(&self) -> Version
         ensures value { result ≡ self.now.version }
         ensures sound { IsSound self.now }
     {
-        self.version
+        self.contents.version
     }
 
     /// How many members there are: 1 to 1,024 in version 1, and to 4,096 in version 2.
@@ -56,7 +78,7 @@ impl Scenario {
         ensures at_most_4096 { result ≤ 4096 }
         ensures sound { IsSound self.now }
     {
-        self.names.len()
+        self.contents.names.len()
     }
 
     /// A member's name: its group's name, a dash and its index in the group.
@@ -65,14 +87,14 @@ impl Scenario {
         ensures value { result.now ≡ name_of self.now member }
         ensures sound { IsSound self.now }
     {
-        self.names[member.index()].as_str()
+        self.contents.names[member.index()].as_str()
     }
 
     /// The seed of every member's draws.
     pub fn seed(&self) -> u64
         ensures { result ≡ self.now.seed }
     {
-        self.seed
+        self.contents.seed
     }
 
     /// The last moment that is simulated, in ticks.
@@ -80,7 +102,7 @@ impl Scenario {
         ensures value { result ≡ self.now.end }
         ensures sound { IsSound self.now }
     {
-        self.end
+        self.contents.end
     }
 
     /// The protocol period, in ticks (SWIM, section 3.1).
@@ -88,7 +110,7 @@ impl Scenario {
         ensures value { result ≡ self.now.swim.period }
         ensures sound { IsSound self.now }
     {
-        self.swim.period
+        self.contents.swim.period
     }
 
     /// How members probe and gossip.
@@ -96,7 +118,7 @@ impl Scenario {
         ensures value { result ≡ self.now.swim }
         ensures sound { IsSound self.now }
     {
-        self.swim
+        self.contents.swim
     }
 
     /// How long suspicions last.
@@ -104,7 +126,7 @@ impl Scenario {
         ensures value { result ≡ self.now.suspicion }
         ensures sound { IsSound self.now }
     {
-        self.suspicion
+        self.contents.suspicion
     }
 
     /// Lifeguard's switches and their settings.
@@ -112,7 +134,7 @@ impl Scenario {
         ensures value { result ≡ self.now.lifeguard }
         ensures sound { IsSound self.now }
     {
-        self.lifeguard
+        self.contents.lifeguard
     }
 
     /// The link from one member to another: that of the last path from the one's group to the
@@ -123,9 +145,9 @@ impl Scenario {
         ensures value { result ≡ link_between self.now from to }
         ensures sound { IsSoundLink result }
     {
-        let from = group_at(self.groups.as_slice(), from.index());
-        let to = group_at(self.groups.as_slice(), to.index());
-        last_link(self.link, self.paths.as_slice(), from, to)
+        let from = group_at(self.contents.groups.as_slice(), from.index());
+        let to = group_at(self.contents.groups.as_slice(), to.index());
+        last_link(self.contents.link, self.contents.paths.as_slice(), from, to)
     }
 
     /// When the member starts, in ticks.
@@ -135,7 +157,7 @@ impl Scenario {
         ensures small { result ≤ 2 ^ 40 }
         ensures sound { IsSound self.now }
     {
-        let groups = self.groups.as_slice();
+        let groups = self.contents.groups.as_slice();
         start_at(groups, group_at(groups, member.index()))
     }
 
@@ -146,7 +168,7 @@ impl Scenario {
         ensures member { IfSome result (λ c. c < member_count self.now) }
         ensures sound { IsSound self.now }
     {
-        let groups = self.groups.as_slice();
+        let groups = self.contents.groups.as_slice();
         contact_at(groups, group_at(groups, member.index()))
     }
 
@@ -157,7 +179,7 @@ impl Scenario {
         ensures small { IfSome result (λ t. t ≤ 2 ^ 40) }
         ensures sound { IsSound self.now }
     {
-        crash_of(self.crashes.as_slice(), member.index())
+        crash_of(self.contents.crashes.as_slice(), member.index())
     }
 
     /// When the member leaves, in ticks, if it does. Nobody crashes and leaves.
@@ -167,7 +189,7 @@ impl Scenario {
         ensures small { IfSome result (λ t. t ≤ 2 ^ 40) }
         ensures sound { IsSound self.now }
     {
-        leave_of(self.leaves.as_slice(), member.index())
+        leave_of(self.contents.leaves.as_slice(), member.index())
     }
 
     /// By how many ticks what the member sends or receives at the moment takes longer.
@@ -176,7 +198,7 @@ impl Scenario {
         ensures value { result ≡ extra_of self.now member at }
         ensures small { result ≤ 2 ^ 24 }
     {
-        extra_at(self.slows.as_slice(), member.index(), at.ticks())
+        extra_at(self.contents.slows.as_slice(), member.index(), at.ticks())
     }
 
     /// Whether what the one member sends to the other at the moment is lost, since the link from its
@@ -186,9 +208,9 @@ impl Scenario {
         requires receiver { to < member_count self.now }
         ensures { result ≡ is_cut self.now from to at }
     {
-        let from = group_at(self.groups.as_slice(), from.index());
-        let to = group_at(self.groups.as_slice(), to.index());
-        is_any_cut(self.cuts.as_slice(), from, to, at.ticks())
+        let from = group_at(self.contents.groups.as_slice(), from.index());
+        let to = group_at(self.contents.groups.as_slice(), to.index());
+        is_any_cut(self.contents.cuts.as_slice(), from, to, at.ticks())
     }
 
     /// The number of the member's group, in the order of the text.
@@ -196,7 +218,7 @@ impl Scenario {
         requires { member < member_count self.now }
         ensures { result ≡ group_at self.now.groups member }
     {
-        group_at(self.groups.as_slice(), member.index())
+        group_at(self.contents.groups.as_slice(), member.index())
     }
 
     /// The links between the members of groups, in the order of the text: the last one of two groups
@@ -204,14 +226,14 @@ impl Scenario {
     pub fn paths(&self) -> &[Path]
         ensures { result.now ≡ self.now.paths }
     {
-        self.paths.as_slice()
+        self.contents.paths.as_slice()
     }
 
     /// When members are slow, in the order of the text.
     pub fn slows(&self) -> &[Slow]
         ensures { result.now ≡ self.now.slows }
     {
-        self.slows.as_slice()
+        self.contents.slows.as_slice()
     }
 
     /// Which members leave, and when, in the order of the text; none in version 1.
@@ -219,7 +241,7 @@ impl Scenario {
         ensures value { result.now ≡ self.now.leaves }
         ensures sound { IsSound self.now }
     {
-        self.leaves.as_slice()
+        self.contents.leaves.as_slice()
     }
 
     /// When links between the members of groups are cut, in the order of the text; never in version 1.
@@ -227,7 +249,7 @@ impl Scenario {
         ensures value { result.now ≡ self.now.cuts }
         ensures sound { IsSound self.now }
     {
-        self.cuts.as_slice()
+        self.contents.cuts.as_slice()
     }
 
     /// The link of every pair of members whose groups no path names.
@@ -235,7 +257,7 @@ impl Scenario {
         ensures value { result ≡ self.now.link }
         ensures sound { IsSound self.now }
     {
-        self.link
+        self.contents.link
     }
 }
 

@@ -67,14 +67,14 @@ pub struct Path {
 
 /// Members of one name, told apart by an index.
 #[derive(Debug, Drop)]
-pub(crate) struct Group {
-    pub(crate) name: String,
+pub struct Group {
+    pub name: String,
     /// How many members it has.
-    pub(crate) count: u64,
+    pub count: u64,
     /// When they start.
-    pub(crate) start: Moment,
+    pub start: Moment,
     /// Whom they ask to let them join, where they start after moment 0.
-    pub(crate) contact: Option<MemberId>,
+    pub contact: Option<MemberId>,
 }
 
 /// A time in which what a member sends and receives takes longer.

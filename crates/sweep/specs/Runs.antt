@@ -3,7 +3,7 @@ use Rattle.std.specs.Prelude.{◌≡◌, ℕ, List, [], ◌∷◌, Option, Some,
 use Rattle.std.specs.List.{AllZip, flat_map, range_with_len}
 use Rattle.toml.specs.Data.{Data}
 use Rattle.scenario.specs.Setup.{Setup}
-use Rattle.scenario.specs.Rules.{document_verdict}
+use Rattle.scenario_reader.specs.Rules.{document_verdict}
 use Rattle.trace.specs.declared.row.Row.{Row}
 use Rattle.member_laws.specs.Runs.{IsRunOf}
 use Rattle.cases.specs.Sweep.{Sweep, seed_count}

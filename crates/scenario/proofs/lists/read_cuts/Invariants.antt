@@ -1,7 +1,0 @@
-use Rattle.std.proofs.Common.{◌≡◌, map, take}
-use Rattle.toml.specs.View.{view}
-use Rattle.scenario.specs.Reading.{cut_in}
-use Rattle.scenario.proofs.lists.read_cuts.Given as goal
-
-abbrev pub invariant-loop-item : goal.invariant-loop-item
-invariant-loop-item l = l.cuts.items ≡ map (λ v. cut_in l.roster (view v)) (take l.item-index l.list)

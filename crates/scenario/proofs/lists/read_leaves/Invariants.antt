@@ -1,7 +1,0 @@
-use Rattle.std.proofs.Common.{◌≡◌, map, take}
-use Rattle.toml.specs.View.{view}
-use Rattle.scenario.specs.Reading.{leave_in}
-use Rattle.scenario.proofs.lists.read_leaves.Given as goal
-
-abbrev pub invariant-loop-item : goal.invariant-loop-item
-invariant-loop-item l = l.leaves.items ≡ map (λ v. leave_in l.roster (view v)) (take l.item-index l.list)

@@ -1,7 +1,0 @@
-use Rattle.std.proofs.Common.{◌≡◌, map, take}
-use Rattle.toml.specs.View.{view}
-use Rattle.scenario.specs.Reading.{slow_in}
-use Rattle.scenario.proofs.lists.read_slows.Given as goal
-
-abbrev pub invariant-loop-item : goal.invariant-loop-item
-invariant-loop-item l = l.slows.items ≡ map (λ v. slow_in l.roster (view v)) (take l.item-index l.list)

@@ -1,5 +1,0 @@
-use Rattle.scenario.proofs.Sweep.{IsSwept}
-use Rattle.scenario.proofs.pairs.first_overlap.Given as goal
-
-abbrev pub invariant-loop-i : goal.invariant-loop-i
-invariant-loop-i l = IsSwept l.spans l.i l.longest

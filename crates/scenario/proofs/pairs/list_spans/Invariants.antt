@@ -1,7 +1,0 @@
-use Rattle.std.proofs.Common.{◌≡◌, map, take}
-use Rattle.toml.specs.View.{view}
-use Rattle.scenario.specs.Spans.{slow_of, plain_slow}
-use Rattle.scenario.proofs.pairs.list_spans.Given as goal
-
-abbrev pub invariant-loop-i : goal.invariant-loop-i
-invariant-loop-i l = map slow_of l.spans.items ≡ map (λ v. plain_slow l.roster (view v)) (take l.i l.list)

@@ -1,8 +1,0 @@
-use Rattle.std.proofs.Common.{◌≡◌, false, take}
-use Rattle.std.specs.List.{list_any}
-use Rattle.toml.specs.View.{view}
-use Rattle.scenario.specs.Rules.{names_no_member}
-use Rattle.scenario.proofs.references.first_stranger.Given as goal
-
-abbrev pub invariant-loop-i : goal.invariant-loop-i
-invariant-loop-i l = list_any (λ v. names_no_member l.roster (view v)) (take l.i l.list) ≡ false

@@ -1,7 +1,0 @@
-use Rattle.std.proofs.Common.{refl, ap, ◌∙◌}
-use Rattle.scenario.specs.Reading.{group_named}
-use Rattle.scenario.proofs.Find.{group_place}
-use Rattle.scenario.proofs.roster.Roster.group.Goals as goal
-
-pub returns : goal.returns
-returns c = c.get_index_of.ensures.index ∙ group_place c.args.name.now _ (λ k. refl) c.self.inside.groups.entries ∙ ap (λ gs. group_named gs c.args.name.now) c.self.view_is

@@ -1,8 +1,0 @@
-use Rattle.std.proofs.Common.{◌≡◌, false, take}
-use Rattle.std.specs.List.{list_any}
-use Rattle.toml.specs.View.{view}
-use Rattle.scenario.specs.Times.{is_early_in}
-use Rattle.scenario.proofs.times.first_early.Given as goal
-
-abbrev pub invariant-loop-i : goal.invariant-loop-i
-invariant-loop-i l = list_any (λ v. is_early_in l.roster (view v)) (take l.i l.list) ≡ false

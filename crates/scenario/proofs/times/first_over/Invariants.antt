@@ -1,8 +1,0 @@
-use Rattle.std.proofs.Common.{◌≡◌, false, take}
-use Rattle.std.specs.List.{list_any}
-use Rattle.toml.specs.View.{view}
-use Rattle.scenario.specs.Times.{is_over_in}
-use Rattle.scenario.proofs.times.first_over.Given as goal
-
-abbrev pub invariant-loop-i : goal.invariant-loop-i
-invariant-loop-i l = list_any (λ v. is_over_in (view v)) (take l.i l.list) ≡ false

@@ -1,0 +1,5 @@
+pub mod Roster
+pub mod Spans
+pub mod Times
+pub mod Reading
+pub mod Rules

@@ -1,0 +1,188 @@
+-- The rules on the values of a document, each as a test, the least rule that is broken, and so what a text is answered.
+use Rattle.std.specs.Prelude.{◌≡◌, ℕ, List, [], ◌∷◌, Bool, false, not, ◌&&◌, ◌||◌, if◌then◌else◌, Option, Some, None, is_none, Result, Ok, Err, nat_le, nat_lt, nat_eq, map, length, bytes_eq, option_map}
+use Rattle.std.specs.List.{list_any}
+use Rattle.std.specs.Option.{option_map_or, option_or}
+use Rattle.std.specs.Str.{is_utf8}
+use Rattle.toml.specs.Data.{Data, table}
+use Rattle.toml.specs.Parse.{parse_document}
+use Rattle.schema.specs.Schema.{most_members}
+use Rattle.schema.specs.Tree.{items_at}
+use Rattle.schema.specs.Values.{text_if, text_at}
+use Rattle.schema.specs.Shape.{least_broken_of_shape}
+use Rattle.schema.specs.declared.schema.Version.{Version}
+use Rattle.schema.specs.declared.schema.Version.TheVariants.{One}
+use Rattle.schema.specs.declared.schema.FormatKey.TheVariants as key
+use Rattle.scenario.specs.GroupNames.{is_group_name}
+use Rattle.scenario.specs.Setup.{Setup, Group, start_of, member_count}
+use Rattle.scenario_reader.specs.Reading.{version_of, added_items, plain_groups, member_named, group_named, setup_of_tree}
+use Rattle.scenario.specs.declared.settings.Slow.{Slow}
+use Rattle.scenario.specs.declared.settings.Crash.{Crash}
+use Rattle.scenario.specs.declared.settings.Leave.{Leave}
+use Rattle.scenario.specs.declared.settings.Cut.{Cut}
+
+-- a group of this name may not follow these groups: the name has another form or is taken
+abbrev pub breaks_name : List Group → List ℕ → Bool
+breaks_name groups name = not (is_group_name name) || list_any (λ g. bytes_eq name g.name) groups
+
+-- the test holds of two items at different places, the earlier one first
+abbrev pub any_two : {A : Type 0} → (A → A → Bool) → List A → Bool
+any_two test [] = false
+any_two test (x ∷ xs) = list_any (test x) xs || any_two test xs
+
+-- rule 6: a group name of another form, or two groups of one name
+unfoldable pub breaks_names : List Group → Bool
+breaks_names groups = list_any (λ g. not (is_group_name g.name)) groups || any_two bytes_eq (map (λ g. g.name) groups)
+
+-- a contact that is there and is no member
+abbrev pub has_lost_contact : List Group → Data → Bool
+has_lost_contact groups d = option_map_or (λ name. is_none (member_named groups name)) (text_if key.Contact d) false
+
+-- a slow time, a crash or a leave of nobody
+abbrev pub names_no_member : List Group → Data → Bool
+names_no_member groups d = is_none (member_named groups (text_at key.Member d))
+
+-- a path or a cut from or to a group that isn't there
+abbrev pub names_no_group : List Group → Data → Bool
+names_no_group groups d = is_none (group_named groups (text_at key.From d)) || is_none (group_named groups (text_at key.To d))
+
+-- rule 7: a name of no member or of no group
+unfoldable pub breaks_references : Data → List Group → Bool
+breaks_references tree groups =
+    list_any (has_lost_contact groups) (items_at key.Group tree)
+    || (list_any (names_no_member groups) (items_at key.Slow tree) || (list_any (names_no_member groups) (items_at key.Crash tree) || list_any (names_no_group groups) (items_at key.Path tree)))
+
+-- two crashes of one member
+abbrev pub is_same_member : Crash → Crash → Bool
+is_same_member a b = nat_eq a.member b.member
+
+-- two times in which one member is slow overlap
+abbrev pub overlaps : Slow → Slow → Bool
+overlaps a b = nat_eq a.member b.member && (nat_lt a.from b.until && nat_lt b.from a.until)
+
+-- rule 8: two crashes of one member, or two slow times of one member that overlap
+unfoldable pub breaks_pairs : List Crash → List Slow → Bool
+breaks_pairs crashes slows = any_two is_same_member crashes || any_two overlaps slows
+
+-- a contact of a group that starts at moment 0, or one that itself starts later
+abbrev pub is_bad_contact : Setup → Group → Bool
+is_bad_contact s g = option_map_or (λ c. nat_eq g.start 0 || nat_lt 0 (start_of s c)) g.contact false
+
+-- a crash that isn't after its member's start
+abbrev pub is_early : Setup → Crash → Bool
+is_early s c = nat_le c.at (start_of s c.member)
+
+-- a slow time that is over when it begins
+abbrev pub is_over : Slow → Bool
+is_over e = nat_le e.until e.from
+
+-- rule 9: the timeout isn't below the period, or one of these three
+unfoldable pub breaks_times : Setup → Bool
+breaks_times s = nat_le s.swim.period s.swim.timeout || (list_any (is_bad_contact s) s.groups || (list_any is_over s.slows || list_any (is_early s) s.crashes))
+
+-- ---- what version 2 adds
+
+-- to rule 7: a leave of nobody, or a cut from or to no group
+unfoldable pub breaks_added_references : Version → Data → List Group → Bool
+breaks_added_references v tree groups =
+    list_any (names_no_member groups) (added_items v key.Leave tree) || list_any (names_no_group groups) (added_items v key.Cut tree)
+
+-- two leaves of one member
+abbrev pub is_same_leaver : Leave → Leave → Bool
+is_same_leaver a b = nat_eq a.member b.member
+
+-- a leave of a member that crashes
+abbrev pub crashes_too : List Crash → Leave → Bool
+crashes_too crashes l = list_any (λ c. nat_eq c.member l.member) crashes
+
+-- to rule 8: two leaves, or a crash and a leave, of one member
+unfoldable pub breaks_departures : List Crash → List Leave → Bool
+breaks_departures crashes leaves = any_two is_same_leaver leaves || list_any (crashes_too crashes) leaves
+
+-- a leave that isn't after its member's start
+abbrev pub is_early_leave : Setup → Leave → Bool
+is_early_leave s l = nat_le l.at (start_of s l.member)
+
+-- a cut that is over when it begins
+abbrev pub is_cut_over : Cut → Bool
+is_cut_over c = nat_le c.until c.at
+
+-- to rule 9: one of these two
+unfoldable pub breaks_added_times : Setup → Bool
+breaks_added_times s = list_any (is_early_leave s) s.leaves || list_any is_cut_over s.cuts
+
+-- ---- the least rule, and the answer
+
+-- rule 10: more members than there may be in the version, 1,024 or 4,096
+abbrev pub breaks_size : Setup → Bool
+breaks_size s = nat_lt (most_members s.version) (member_count s)
+
+-- the document breaks none of the rules on its values, 6 to 10
+pub record KeepsValues (tree : Data) : Type 0 where
+  pub names : breaks_names (plain_groups tree) ≡ false
+  pub references : breaks_references tree (plain_groups tree) ≡ false
+  pub added_references : breaks_added_references (version_of tree) tree (plain_groups tree) ≡ false
+  pub pairs : breaks_pairs (setup_of_tree tree).crashes (setup_of_tree tree).slows ≡ false
+  pub departures : breaks_departures (setup_of_tree tree).crashes (setup_of_tree tree).leaves ≡ false
+  pub times : breaks_times (setup_of_tree tree) ≡ false
+  pub added_times : breaks_added_times (setup_of_tree tree) ≡ false
+  pub size : breaks_size (setup_of_tree tree) ≡ false
+
+-- the least of the rules 6 to 10 that are broken
+abbrev pub least_of : Bool → Bool → Bool → Bool → Bool → Option ℕ
+least_of names references pairs times size =
+    if names then Some 6
+    else if references then Some 7
+    else if pairs then Some 8
+    else if times then Some 9
+    else if size then Some 10
+    else None
+
+-- the least broken of the rules on the values
+unfoldable pub least_broken_by : Data → Setup → Option ℕ
+least_broken_by tree s =
+    least_of (breaks_names (plain_groups tree)) (breaks_references tree (plain_groups tree) || breaks_added_references s.version tree (plain_groups tree))
+    (breaks_pairs s.crashes s.slows || breaks_departures s.crashes s.leaves) (breaks_times s || breaks_added_times s) (breaks_size s)
+
+-- the least broken rule of a document
+unfoldable pub least_broken : Data → Option ℕ
+least_broken tree = option_or (least_broken_of_shape (version_of tree) tree) (least_broken_by tree (setup_of_tree tree))
+
+-- a document is answered with its scenario, or with the least rule that it breaks
+abbrev pub unless_broken : Setup → Option ℕ → Result Setup ℕ
+unless_broken s None = Ok s
+unless_broken s (Some rule) = Err rule
+
+-- what a document is answered
+abbrev pub document_verdict : Data → Result Setup ℕ
+document_verdict tree = unless_broken (setup_of_tree tree) (least_broken tree)
+
+-- rule 1: the bytes are no TOML document
+abbrev pub judged_if_read : (Data → Option ℕ) → Option Data → Result Setup ℕ
+judged_if_read least None = Err 1
+judged_if_read least (Some tree) = unless_broken (setup_of_tree tree) (least tree)
+
+-- the document that the bytes are
+abbrev pub tree_of : List ℕ → Option Data
+tree_of bytes = if is_utf8 bytes then option_map table (parse_document bytes) else None
+
+-- what a text is answered
+unfoldable pub verdict : List ℕ → Result Setup ℕ
+verdict bytes = judged_if_read least_broken (tree_of bytes)
+
+-- ---- version 1 by itself
+
+-- the least broken of the rules on the values, as it was before there was a version 2
+unfoldable pub first_least_broken_by : Data → Setup → Option ℕ
+first_least_broken_by tree s =
+    least_of (breaks_names (plain_groups tree)) (breaks_references tree (plain_groups tree)) (breaks_pairs s.crashes s.slows) (breaks_times s) (nat_lt 1024 (member_count s))
+
+unfoldable pub first_least_broken : Data → Option ℕ
+first_least_broken tree = option_or (least_broken_of_shape One tree) (first_least_broken_by tree (setup_of_tree tree))
+
+-- what a text was answered
+unfoldable pub first_verdict : List ℕ → Result Setup ℕ
+first_verdict bytes = judged_if_read first_least_broken (tree_of bytes)
+
+-- the version of a text; 1 where it is no document
+abbrev pub version_in : List ℕ → Version
+version_in bytes = option_map_or version_of (tree_of bytes) One

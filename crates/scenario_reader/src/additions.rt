@@ -1,0 +1,155 @@
+//! What version 2 adds to the rules on the values of a text: leaves and cuts.
+ghost use Rattle.std.specs.Prelude.{◌≡◌, ◌≢◌, ◌||◌, ℕ, true, false, is_some, nat_eq, map, IfOk, OnOk, IfErr};
+ghost use Rattle.std.specs.List.{list_any};
+ghost use Rattle.toml.specs.View.{view};
+ghost use Rattle.scenario_reader.specs.Reading.{version_of, added_items, member_at, plain_groups, crashes_in, leaves_in, setup_of_tree};
+ghost use Rattle.scenario_reader.specs.Rules.{breaks_added_references, breaks_departures, breaks_added_times};
+ghost use Rattle.scenario_reader.specs.Times.{is_cut_over_in};
+
+use crate::pairs::{check_crashes, member};
+use crate::references::{first_lost_path, first_stranger};
+use crate::refusal::Refusal;
+use crate::roster::Roster;
+use crate::times::first_early;
+use base::Memory;
+use indexmap::IndexSet;
+use schema::{FormatKey, Section, Version, items_at, number, whole_or};
+use std::alloc::Global;
+use toml::Value;
+
+/// The version of a document's format: 2 where it says so, else 1.
+#[tactic(auto, unfolding(crate::specs::Reading::version_of))]
+pub(crate) fn version_of(tree: &Value) -> Version
+    ensures { result ≡ version_of (view tree.now) }
+{
+    if whole_or(0, tree.get(FormatKey::Version.text())) == 2 {
+        Version::Two
+    } else {
+        Version::One
+    }
+}
+
+/// The items of a list that version 2 adds.
+pub(crate) fn added_items(version: Version, key: FormatKey, tree: &Value) -> &[Value]
+    ensures { map view result.now ≡ added_items version key (view tree.now) }
+{
+    match version {
+        Version::One => &[],
+        Version::Two => items_at(key, tree),
+    }
+}
+
+/// Refuses a leave or a cut that names no member or no group.
+pub(crate) fn check_added_references(
+    version: Version,
+    roster: &Roster,
+    tree: &Value,
+) -> Result<(), Refusal>
+    ensures ok { OnOk result (breaks_added_references version (view tree.now) roster.now ≡ false) }
+    ensures err { IfErr result (λ r. (r.rule ≡ 7) × (breaks_added_references version (view tree.now) roster.now ≡ true)) }
+{
+    if let Some(i) = first_stranger(roster, added_items(version, FormatKey::Leave, tree)) {
+        return Err(Refusal::in_item(7, i));
+    }
+    match first_lost_path(roster, added_items(version, FormatKey::Cut, tree)) {
+        Some(i) => Err(Refusal::in_item(7, i)),
+        None => Ok(()),
+    }
+}
+
+/// Refuses two leaves of one member, and a leave of a member that crashes.
+pub(crate) fn check_departures(
+    alloc: Global,
+    version: Version,
+    roster: &Roster,
+    tree: &Value,
+) -> Result<(), Refusal>
+    ensures ok { OnOk result (breaks_departures (crashes_in roster.now (view tree.now)) (leaves_in version roster.now (view tree.now)) ≡ false) }
+    ensures err { IfErr result (λ r. r.rule ≢ 11 → (r.rule ≡ 8) × (breaks_departures (crashes_in roster.now (view tree.now)) (leaves_in version roster.now (view tree.now)) ≡ true)) }
+{
+    let leaves = added_items(version, FormatKey::Leave, tree);
+    if let Err(refusal) = check_crashes(alloc, roster, leaves) {
+        return Err(refusal);
+    }
+    let Ok(crashing) = list_members(alloc, roster, items_at(FormatKey::Crash, tree)) else {
+        return Err(Refusal::memory());
+    };
+    match first_among(&crashing, roster, leaves) {
+        Some(i) => Err(Refusal::in_item(8, i)),
+        None => Ok(()),
+    }
+}
+
+/// The members of which the items of a list speak.
+fn list_members(alloc: Global, roster: &Roster, list: &[Value]) -> Result<IndexSet<u128>, Memory>
+    ensures { IfOk result (λ members. (k : ℕ) → list_any (nat_eq k) members.keys ≡ list_any (λ n. nat_eq n k) (map (λ v. member_at roster.now FormatKey.Member (view v)) list.now)) }
+{
+    let mut members = IndexSet::new(alloc);
+    for item in list {
+        match members.insert(member(roster, item)) {
+            Ok(_) => {}
+            Err(_) => return Err(Memory),
+        }
+    }
+    Ok(members)
+}
+
+/// The index of the first item that speaks of one of these members.
+fn first_among(members: &IndexSet<u128>, roster: &Roster, list: &[Value]) -> Option<usize>
+    ensures { is_some result ≡ list_any (λ v. list_any (nat_eq (member_at roster.now FormatKey.Member (view v))) members.now.keys) list.now }
+{
+    for (i, item) in list.iter().enumerate() {
+        if is_among(members, member(roster, item)) {
+            return Some(i);
+        }
+    }
+    None
+}
+
+/// Whether a member is one of these.
+fn is_among(members: &IndexSet<u128>, member: u128) -> bool
+    ensures { result ≡ list_any (nat_eq member) members.now.keys }
+{
+    members.contains(&member)
+}
+
+/// Refuses a leave that isn't after its member's start, and a cut that is over when it begins.
+pub(crate) fn check_added_times(
+    version: Version,
+    roster: &Roster,
+    tree: &Value,
+) -> Result<(), Refusal>
+    requires groups { roster.now ≡ plain_groups (view tree.now) }
+    requires version { version ≡ version_of (view tree.now) }
+    requires known { breaks_added_references version (view tree.now) roster.now ≡ false }
+    ensures ok { OnOk result (breaks_added_times (setup_of_tree (view tree.now)) ≡ false) }
+    ensures err { IfErr result (λ r. (r.rule ≡ 9) × (breaks_added_times (setup_of_tree (view tree.now)) ≡ true)) }
+{
+    if let Some(i) = first_early(roster, added_items(version, FormatKey::Leave, tree)) {
+        return Err(Refusal::in_item(9, i));
+    }
+    match first_cut_over(added_items(version, FormatKey::Cut, tree)) {
+        Some(i) => Err(Refusal::in_item(9, i)),
+        None => Ok(()),
+    }
+}
+
+/// The index of the first cut that is over when it begins.
+fn first_cut_over(list: &[Value]) -> Option<usize>
+    ensures { is_some result ≡ list_any (λ v. is_cut_over_in (view v)) list.now }
+{
+    for (i, item) in list.iter().enumerate() {
+        if is_cut_over(item) {
+            return Some(i);
+        }
+    }
+    None
+}
+
+/// Whether a cut is over when it begins.
+fn is_cut_over(cut: &Value) -> bool
+    ensures { result ≡ is_cut_over_in (view cut.now) }
+{
+    number(Section::Cut, FormatKey::Until, Some(cut))
+        <= number(Section::Cut, FormatKey::At, Some(cut))
+}
