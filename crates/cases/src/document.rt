@@ -9,7 +9,8 @@ ghost use Rattle.cases.specs.Document.{data_of, table_at, with_entry, with_choic
 use crate::choice::Choice;
 use crate::values::SettingValue;
 use base::Memory;
-use scenario::{Refusal, Scenario};
+use scenario::Scenario;
+use scenario_reader::Refusal;
 use schema::FormatKey;
 use std::alloc::Global;
 use toml::{Table, Value};
@@ -50,7 +51,7 @@ pub fn read_with(
     ensures numbered { IfErr result (λ r. (1 ≤ r.rule) × (r.rule ≤ 11)) }
 {
     match with_values(alloc, document, case, seed) {
-        Ok(tree) => scenario::read_document(alloc, &tree),
+        Ok(tree) => scenario_reader::read_document(alloc, &tree),
         Err(Memory) => Err(Refusal { rule: 11, place: 0 }),
     }
 }

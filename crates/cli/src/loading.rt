@@ -9,7 +9,8 @@ ghost use Rattle.cli.specs.SweepOutcomes.{HasDocument, HasNoDocument};
 use crate::simulation::{check, text_failure};
 use command_line::Failure;
 use files::{FileFault, Files};
-use scenario::{Scenario, document};
+use scenario::Scenario;
+use scenario_reader::document;
 use std::alloc::Global;
 use toml::Value;
 

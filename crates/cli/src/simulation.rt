@@ -28,7 +28,7 @@ pub fn check(alloc: Global, bytes: &[u8]) -> Result<Scenario, Failure<'static>>
     ensures accepted { IfOk result (λ scenario. verdict bytes.now ≡ Ok scenario) }
     ensures refused { IfErr result (RefusesText bytes.now) }
 {
-    match scenario::read(alloc, bytes) {
+    match scenario_reader::read(alloc, bytes) {
         Ok(scenario) => Ok(scenario),
         Err(refusal) => Err(text_failure(refusal.rule)),
     }

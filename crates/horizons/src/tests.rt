@@ -4,7 +4,8 @@ use crate::making::horizons;
 use crate::table::Horizons;
 use base::Moment;
 use links::Links;
-use scenario::{Division, Scenario, read};
+use scenario::{Division, Scenario};
+use scenario_reader::read;
 use std::alloc::Global;
 use std::process::Abort;
 

@@ -128,7 +128,7 @@ fn close_whole(relay: Relay, sender: SendSeat, taker: TakeSeat)
 
 #[test]
 fn eight_batches_come_in_order(rt: HostRuntime) -> Result<(), Fail> {
-    let scenario = scenario::read(rt.alloc(), TEXT)?;
+    let scenario = scenario_reader::read(rt.alloc(), TEXT)?;
     let (relay, sender, taker) = Relay::new(rt.alloc(), &scenario)?;
     let sender = send_all(&rt, &relay, sender, &scenario, 8);
     let taker = receive_all(&rt, &relay, taker, 8);
@@ -199,7 +199,7 @@ fn carry<R: Threads + Wait + Abort + AllocGlobal + Sync>(
 
 #[test]
 fn a_hundred_batches_go_to_another_thread(rt: HostRuntime) -> Result<(), Fail> {
-    let scenario = scenario::read(rt.alloc(), TEXT)?;
+    let scenario = scenario_reader::read(rt.alloc(), TEXT)?;
     carry(&rt, &scenario, 100)?;
     Ok(())
 }

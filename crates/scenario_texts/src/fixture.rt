@@ -1,6 +1,7 @@
 //! Texts with what `read` answers to them, and what an accepted text says.
 use base::MemberId;
-use scenario::{Lifeguard, Link, Scenario, Suspicion, Swim, read};
+use scenario::{Lifeguard, Link, Scenario, Suspicion, Swim};
+use scenario_reader::read;
 use std::alloc::Global;
 use std::process::Abort;
 

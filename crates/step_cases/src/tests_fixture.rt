@@ -319,7 +319,7 @@ fn scenario_of(alloc: Global, setting: Setting) -> Result<Scenario, Fail> {
     let text = format!(in alloc;
         "version = {version}\nseed = 7\nend = 0\n[swim]\n{swim}\n[link]\ndelay = 10\n{rest}\n{groups}"
     )?;
-    Ok(scenario::read(alloc, text.as_bytes())?)
+    Ok(scenario_reader::read(alloc, text.as_bytes())?)
 }
 
 /// A member handles events one after another, none of which is refused.

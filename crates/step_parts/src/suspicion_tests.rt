@@ -201,7 +201,7 @@ const USUAL_TEXT: &[u8] =
 
 #[test]
 fn a_scenario_gives_the_terms(rt: HostRuntime) -> Result<(), Fail> {
-    let scenario = scenario::read(rt.alloc(), USUAL_TEXT)?;
+    let scenario = scenario_reader::read(rt.alloc(), USUAL_TEXT)?;
     assert_eq!(rt; Terms::of(&scenario), USUAL);
     let mut suspicions = Suspicions::new(rt.alloc())?;
     let due = suspicions.start(SUBJECT, 3, MemberId(1), 100, Moment(0), 10, &scenario)?;

@@ -8,7 +8,7 @@ ghost use Rattle.sweep.specs.Judged.{AreAccepted, IsAcceptedAt, IsFirstRefused};
 use crate::planned::planned;
 use base::Memory;
 use cases::{Choice, Plan, read_with};
-use scenario::Refusal;
+use scenario_reader::Refusal;
 use std::alloc::Global;
 use toml::Value;
 

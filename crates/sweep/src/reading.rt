@@ -10,7 +10,8 @@ ghost use Rattle.sweep.specs.Table.{IsReadAt};
 use crate::planned::planned;
 use base::Memory;
 use cases::{Plan, read_with};
-use scenario::{Refusal, Scenario};
+use scenario::Scenario;
+use scenario_reader::Refusal;
 use std::alloc::Global;
 use toml::Value;
 

@@ -92,7 +92,7 @@ fn lost_ping() -> Row {
 
 #[test]
 fn two_members_that_start_are_two_lines(rt: HostRuntime) -> Result<(), Fail> {
-    let scenario = scenario::read(rt.alloc(), TEXT)?;
+    let scenario = scenario_reader::read(rt.alloc(), TEXT)?;
     let mut sink = MemorySink::new(rt.alloc());
     write_head(&mut sink)?;
     assert!(rt; sink.failures() == 0);
@@ -105,7 +105,7 @@ fn two_members_that_start_are_two_lines(rt: HostRuntime) -> Result<(), Fail> {
 
 #[test]
 fn a_line_shows_each_field_but_the_index(rt: HostRuntime) -> Result<(), Fail> {
-    let scenario = scenario::read(rt.alloc(), TEXT)?;
+    let scenario = scenario_reader::read(rt.alloc(), TEXT)?;
     let mut sink = MemorySink::new(rt.alloc());
     write(&rt, &[lost_ping()], &scenario, &mut sink)?;
     let line = b"1099511627776,n-0,n-0,18,ping-req,n-1,7,1\n";
@@ -115,7 +115,7 @@ fn a_line_shows_each_field_but_the_index(rt: HostRuntime) -> Result<(), Fail> {
 
 #[test]
 fn many_rows_are_their_lines_in_order(rt: HostRuntime) -> Result<(), Fail> {
-    let scenario = scenario::read(rt.alloc(), TEXT)?;
+    let scenario = scenario_reader::read(rt.alloc(), TEXT)?;
     let mut rows = Vec::new(rt.alloc());
     let mut lines = String::new(rt.alloc());
     for number in 0..1100 {
@@ -137,7 +137,7 @@ fn many_rows_are_their_lines_in_order(rt: HostRuntime) -> Result<(), Fail> {
 
 #[test]
 fn each_put_that_fails_leaves_a_beginning(rt: HostRuntime) -> Result<(), Fail> {
-    let scenario = scenario::read(rt.alloc(), TEXT)?;
+    let scenario = scenario_reader::read(rt.alloc(), TEXT)?;
     let rows = [start_of(0), start_of(1)];
     for number in 1..=46 {
         let mut sink = MemorySink::new(rt.alloc())
@@ -158,7 +158,7 @@ fn each_put_that_fails_leaves_a_beginning(rt: HostRuntime) -> Result<(), Fail> {
 /// Where an allocation is refused, wherever that is, the sink holds a beginning.
 #[test]
 fn refused_memory_leaves_a_beginning(rt: HostRuntime) -> Result<(), Fail> {
-    let Ok(scenario) = scenario::read(rt.alloc(), TEXT) else {
+    let Ok(scenario) = scenario_reader::read(rt.alloc(), TEXT) else {
         return Ok(());
     };
     let mut sink = MemorySink::new(rt.alloc());

@@ -118,7 +118,7 @@ pub(crate) fn assert_report(
     lines: &str,
     expected: &str,
 ) -> Result<(), Fail> {
-    let scenario = scenario::read(rt.alloc(), scenario.as_bytes())?;
+    let scenario = scenario_reader::read(rt.alloc(), scenario.as_bytes())?;
     let tallies = tallies_of(rt, lines, &scenario)?;
     let text = report(rt.alloc(), &tallies, &scenario)?;
     assert_eq!(rt; text.as_slice(), expected.as_bytes());
@@ -571,7 +571,7 @@ sent nack 0 lost 0
 /// Where memory is refused, the tallies stay as they were. Each of these false claims takes some.
 #[test]
 fn a_refused_row_changes_nothing(rt: HostRuntime) -> Result<(), Fail> {
-    let Ok(scenario) = scenario::read(rt.alloc(), TWO.as_bytes()) else {
+    let Ok(scenario) = scenario_reader::read(rt.alloc(), TWO.as_bytes()) else {
         return Ok(());
     };
     let row = Row {

@@ -7,7 +7,7 @@ use crate::cuts::{
 use crate::leaves::{BYE_LOST, BYE_TO_JOINER, CONTACT_LEAVES, JOINER_LEAVES, LEAVE_AND_CRASH};
 use crate::texts::{crash_detected, scenario_text, slow_member, trace_text};
 use exchange::run_one;
-use scenario::read;
+use scenario_reader::read;
 use std::process::Abort;
 use std::test::Fail;
 use trace::testing::MemorySink;

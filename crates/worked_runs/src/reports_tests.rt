@@ -4,7 +4,7 @@ use crate::texts::{TWO_MEMBERS, WORKED};
 use crate::turns_tests::{WAYS, Way, run_by};
 use base::Fault;
 use exchange::Summary;
-use scenario::read;
+use scenario_reader::read;
 use std::marker::Sync;
 use std::process::Abort;
 use std::sync::Wait;

@@ -267,7 +267,7 @@ fn value_at(alloc: Global, settings: &[&str], case: usize, key: usize) -> Option
 fn read_by(alloc: Global, text: &str, settings: &[&str], seed: Option<u64>) -> (u8, u64, u64)
     requires { ForSome seed (λ n. n < 2 ^ 63) }
 {
-    let Ok(document) = scenario::document(alloc, text.as_bytes()) else {
+    let Ok(document) = scenario_reader::document(alloc, text.as_bytes()) else {
         return (11, 0, 0);
     };
     let Ok(plan) = Plan::read(alloc, settings, None) else {

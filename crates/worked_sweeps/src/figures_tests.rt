@@ -174,7 +174,7 @@ fn assert_figures(
     told: &[Told],
     expected: &RunFigures,
 ) -> Result<(), Fail> {
-    let scenario = scenario::read(rt.alloc(), THREE.as_bytes())?;
+    let scenario = scenario_reader::read(rt.alloc(), THREE.as_bytes())?;
     let tallies = tallies_of(rt, told, &scenario)?;
     let figures = RunFigures::of(rt.alloc(), &tallies, &scenario)?;
     assert!(rt; figures == *expected);

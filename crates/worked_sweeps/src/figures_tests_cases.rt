@@ -64,7 +64,7 @@ fn assert_summary(rt: &impl Abort, case: CaseFigures, expected: &CaseSummary) ->
 /// A crash that nobody confirmed stands after all others, so the greatest time isn't there.
 #[test]
 fn three_runs_are_summed_up(rt: HostRuntime) -> Result<(), Fail> {
-    let scenario = scenario::read(rt.alloc(), THREE.as_bytes())?;
+    let scenario = scenario_reader::read(rt.alloc(), THREE.as_bytes())?;
     let case = CaseFigures::new(rt.alloc());
     let case = with_run(&rt, case, &RUN, &scenario)?;
     let case = with_run(&rt, case, &[], &scenario)?;
@@ -75,7 +75,7 @@ fn three_runs_are_summed_up(rt: HostRuntime) -> Result<(), Fail> {
 /// Where nobody crashed there are no times.
 #[test]
 fn a_run_without_rows_is_summed_up(rt: HostRuntime) -> Result<(), Fail> {
-    let scenario = scenario::read(rt.alloc(), THREE.as_bytes())?;
+    let scenario = scenario_reader::read(rt.alloc(), THREE.as_bytes())?;
     let case = with_run(&rt, CaseFigures::new(rt.alloc()), &[], &scenario)?;
     assert_summary(&rt, case, &ONE_RUN)
 }
@@ -98,9 +98,9 @@ count = 3
 /// Eight messages in each of two runs, whose three members last 8,000 and 2,000 ticks.
 #[test]
 fn each_run_lasts_as_long_as_its_scenario(rt: HostRuntime) -> Result<(), Fail> {
-    let scenario = scenario::read(rt.alloc(), THREE.as_bytes())?;
+    let scenario = scenario_reader::read(rt.alloc(), THREE.as_bytes())?;
     let case = with_run(&rt, CaseFigures::new(rt.alloc()), &RUN, &scenario)?;
-    let scenario = scenario::read(rt.alloc(), SOONER.as_bytes())?;
+    let scenario = scenario_reader::read(rt.alloc(), SOONER.as_bytes())?;
     let case = with_run(&rt, case, &RUN, &scenario)?;
     assert!(rt; case.runs() > 0);
     let summary = case.summary()?;
