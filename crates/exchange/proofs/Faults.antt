@@ -1,6 +1,6 @@
--- What a run answers of a fault that is handed on, and of two faults.
-use Rattle.std.proofs.Common.{◌≡◌, ◌≢◌, ◌⊎◌, ◌∙◌, inl, inr, Bool, true, false, nat_lt, if◌then◌else◌, Result, Ok, Err, IsErrAnd, ap, sym, refl}
-use Rattle.std.specs.Result.{OnErr, IsErrOf}
+-- What a run answers of two faults, and of a step's refusal.
+use Rattle.std.proofs.Common.{◌≡◌, ◌≢◌, ◌⊎◌, ◌∙◌, inl, inr, Bool, true, false, nat_lt, if◌then◌else◌, Result, Ok, Err, IsErrAnd, sym, refl}
+use Rattle.std.specs.Result.{IsErrOf}
 use Rattle.base.specs.declared.fault.Fault.{Fault}
 use Rattle.base.specs.declared.fault.Fault.TheVariants.{Memory, Worn, Write, Relay}
 use Rattle.member.specs.Faults.{fault_of}

@@ -1,15 +1,13 @@
--- Runs of a sound scenario: there is one, and in it no event takes the place of another.
-use Rattle.std.proofs.Common.{◌≡◌, ℕ, List, Option, inl}
+-- Runs of a sound scenario: there is but one, and in it no event takes the place of another.
+use Rattle.std.proofs.Common.{◌≡◌, List}
 use Rattle.std.specs.FinMap.{remove}
 use Rattle.base.specs.declared.key.Key.{Key}
 use Rattle.base.specs.World.{World, Run, events_of, outcome}
-use Rattle.base.specs.Run.{handled, trace, run-exists, one_run}
+use Rattle.base.specs.Run.{one_run}
 use Rattle.base.specs.Rising.{AreNew}
 use Rattle.base.proofs.Rising.{numbered_run, new_step}
 use Rattle.scenario.specs.Setup.{Setup, IsSound}
 use Rattle.trace.specs.declared.row.Row.{Row}
-use Rattle.trace.specs.Text.{trace_text}
-use Rattle.trace.proofs.Beginnings.{beginning-none, Keeps-same}
 use Rattle.member.specs.declared.content.Content.{Content}
 use Rattle.member.specs.State.{State}
 use Rattle.member.specs.Step.{step}
@@ -17,7 +15,6 @@ use Rattle.member.specs.Opening.{opening}
 use Rattle.member.proofs.Fair.{steps_later, steps_numbered}
 use Rattle.member_laws.proofs.Opened.{opening_numbered}
 use Rattle.member_laws.specs.Runs.{IsRunOf}
-use Rattle.outputs.specs.Promise.{WritesBeginning}
 
 pub same_rows : (s : Setup) (first second : List Row) → IsSound s → IsRunOf s first → IsRunOf s second → first ≡ second
 same_rows s first second sound a b =

@@ -1,12 +1,9 @@
 -- The rows of a run on their way to whoever writes them.
-use Rattle.std.specs.Prelude.{◌≡◌, ◌≢◌, ℕ, ◌≤◌, ◌^◌, ◌+◌, ◌++◌, true, false, List, [], length, Option, Result, Ok, Err, OnOk, OnErr, IfErr, IsErrOf, All}
-use Rattle.std.specs.Io.KnownBytes.{Appends}
-use Rattle.base.specs.declared.fault.Fault.{Fault}
+use Rattle.std.specs.Prelude.{◌≡◌, ◌≢◌, ℕ, ◌+◌, ◌++◌, true, false, List, [], Option, OnOk, IfErr, IsErrOf, All}
 use Rattle.base.specs.declared.fault.Fault.TheVariants as fault
 use Rattle.scenario.specs.Setup.{Setup}
 use Rattle.trace.specs.declared.row.Row.{Row}
-use Rattle.trace.specs.Sinks.{AppendsBeginning}
-use Rattle.trace.specs.Text.{NamesMembers, trace_text}
+use Rattle.trace.specs.Text.{NamesMembers}
 use Rattle.member_laws.specs.Runs.{IsRunOf, WearsOut}
 use Rattle.relay.specs.declared.relay.Relay.{Relay}
 use Rattle.relay.specs.declared.relay.SendSeat.{SendSeat}
@@ -14,6 +11,7 @@ use Rattle.relay.specs.declared.relay.TakeSeat.{TakeSeat}
 use Rattle.relay.specs.Lots.{rows_in, has_last}
 use Rattle.exchange.specs.declared.driver.Driven.{Driven}
 use Rattle.turns.specs.Beginning.{BeginsRun}
+use Rattle.outputs.specs.Written.{sink_failures, HasWritten}
 use Rattle.relay.specs.Seats.{scenario_of, sent_by, taken_by, IsSender, IsTaker}
 use Rattle.exchange.specs.declared.stream.Stream.{Stream}
 use Rattle.exchange.specs.declared.driver.Ended.{Ended}

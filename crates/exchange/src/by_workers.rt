@@ -15,7 +15,7 @@ ghost use Rattle.exchange.specs.Streams.{MaySend, MayTake};
 ghost use Rattle.outputs.specs.Promise.{KeepsPromise, BeginsTrace, WearsOutReport};
 
 use crate::driver::Ended;
-use crate::faults::first_fault;
+use crate::fault_order::first_fault;
 use crate::threads::within;
 use base::{Fault, Memory};
 use board::{Board, Site, posts_at, seats_of};

@@ -4,7 +4,7 @@
 
 mod by_workers;
 mod driver;
-mod faults;
+mod fault_order;
 mod in_turn;
 mod laws;
 mod sequential;

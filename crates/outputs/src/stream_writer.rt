@@ -1,4 +1,4 @@
-ghost use Rattle.std.specs.Prelude.{◌≡◌, ◌≢◌, ◌⊎◌, ◌+◌, ◌++◌, ◌<◌, ◌≤◌, ◌^◌, [], true, length, List, Option, OnOk, OnErr, IfErr, IsOk, IsErrOf, All, ℕ};
+ghost use Rattle.std.specs.Prelude.{◌≡◌, ◌+◌, ◌++◌, ◌<◌, ◌≤◌, ◌^◌, [], true, length, List, Option, OnOk, OnErr, IsErr, IsErrOf, All, ℕ};
 ghost use Rattle.std.specs.Io.KnownBytes.{Appends};
 ghost use Rattle.trace.specs.Text.{NamesMembers, rows_text};
 ghost use Rattle.trace.specs.Sinks.{AppendsBeginning};

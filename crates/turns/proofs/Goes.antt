@@ -61,7 +61,7 @@ use Rattle.turns.proofs.Lasting.{wears_nothing}
 use Rattle.windows.proofs.Wholes.{pending_kept}
 use Rattle.windows.proofs.Slots.{part_unworn}
 use Rattle.windows.proofs.WholeOpening.{opening_whole}
-use Rattle.turns.proofs.Turned.{led, sound_led, stand_after, whole_led, none_led, run_led, met_led}
+use Rattle.turns.proofs.After.{led, sound_led, stand_after, whole_led, none_led, run_led, met_led}
 
 -- ---- what pends in the parts pends in their world
 

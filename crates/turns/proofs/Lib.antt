@@ -4,7 +4,7 @@ mod Limits
 mod Releasing
 pub mod Turning
 mod RowOrders
-mod Turned
+mod After
 pub mod Goes
 pub mod Ends
 mod Wearing

@@ -10,7 +10,7 @@ use Rattle.windows.specs.WorldOf.{world_of}
 use Rattle.horizons.specs.Between.{part_number}
 use Rattle.turns.specs.Parts.{is_before, IsLeastMoment, IsInRowOrder, HaveCome, HaveTheirMembers}
 use Rattle.turns.proofs.RowOrders.{when_true, one_alone, windows_rise}
-use Rattle.turns.proofs.Turned.{new_to_parts, members_after, named_out, count_after}
+use Rattle.turns.proofs.After.{new_to_parts, members_after, named_out, count_after}
 use Rattle.turns.proofs.turns.exchanged.Goals as goal
 
 pub in_row_order-requires-clause-already : goal.in_row_order-requires-clause-already
