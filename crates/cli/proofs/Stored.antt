@@ -11,7 +11,7 @@ use Rattle.scenario.specs.Setup.{Setup}
 use Rattle.trace.specs.Text.{trace_text}
 use Rattle.reports.specs.Text.{report_text}
 use Rattle.exchange.specs.Runs.{WearsOut}
-use Rattle.exchange.specs.Promise.{WritesRun, WritesBeginning, WearsOutReport}
+use Rattle.outputs.specs.Promise.{WritesRun, WritesBeginning, WearsOutReport}
 use Rattle.command_line.specs.declared.failure.Failure.{Failure}
 use Rattle.command_line.specs.declared.failure.Failure.TheVariants as failure
 use Rattle.cli.specs.Told.{run_told}

@@ -10,7 +10,7 @@ use Rattle.trace.specs.Text.{trace_text}
 use Rattle.trace.specs.declared.row.Row.{Row}
 use Rattle.reports.specs.Text.{report_text}
 use Rattle.exchange.specs.Runs.{IsRunOf, WearsOut}
-use Rattle.exchange.specs.Promise.{WearsOutReport}
+use Rattle.outputs.specs.Promise.{WearsOutReport}
 use Rattle.clap.specs.Words.{Text}
 use Rattle.files.specs.Files.{KnownFile, Making, Holds, HoldsNow, CannotMake, CannotMakeSecond, AreThreeFiles}
 use Rattle.command_line.specs.Words.{AsksForRun, AsksForCheck, AsksForHelp, IsNoCommand}

@@ -6,7 +6,7 @@ ghost use Rattle.exchange.specs.Runs.{WearsOut};
 ghost use Rattle.command_line.specs.Failures.{RefusesText};
 ghost use Rattle.cli.specs.Told.{run_told, text_failure};
 ghost use Rattle.trace.specs.Writers.{writer_under, put_failures};
-ghost use Rattle.exchange.specs.Promise.{WritesRun, WritesBeginning, WearsOutReport};
+ghost use Rattle.outputs.specs.Promise.{WritesRun, WritesBeginning, WearsOutReport};
 
 use base::Fault;
 use command_line::Failure;

@@ -18,11 +18,14 @@ use Rattle.relay.specs.Seats.{sent_by, taken_by, IsSender}
 use Rattle.exchange.specs.declared.driver.Driven.{Driven}
 use Rattle.exchange.specs.declared.driver.Ended.{Ended}
 use Rattle.windows.specs.Play.{IsBeginning}
-use Rattle.exchange.specs.Promise.{BeginsRun, BeginsTrace, WearsOutReport}
-use Rattle.exchange.specs.Streams.{sink_failures, HasWritten, IsDriven, HasEnded}
-use Rattle.exchange.proofs.Goes.{begins_with, wears_report}
-use Rattle.exchange.proofs.Runs.{some_run}
-use Rattle.exchange.proofs.Streaming.{text_on}
+use Rattle.turns.specs.Beginning.{BeginsRun}
+use Rattle.outputs.specs.Promise.{BeginsTrace, WearsOutReport}
+use Rattle.outputs.specs.Written.{sink_failures, HasWritten}
+use Rattle.exchange.specs.Streams.{IsDriven, HasEnded}
+use Rattle.turns.proofs.Goes.{begins_with}
+use Rattle.exchange.proofs.Reported.{wears_report}
+use Rattle.outputs.proofs.Runs.{some_run}
+use Rattle.outputs.proofs.Streaming.{text_on}
 
 at_ok : {T E : Type 0} (P : Type 0) (o : Result T E) → IsOk o → OnOk o P → P
 at_ok P (Ok x) is p = p
@@ -123,7 +126,7 @@ module _ (s : Setup) (sound : IsSound s) (relay : ARelay) (held_old held_new : O
   -- where one of them, or both, met a fault
   pub worn_ended : IsErrOf ended.driven.outcome Worn ⊎ IsErrOf ended.written Worn → WearsOut s ⊎ WearsOutReport s
   worn_ended (inl e) = inl (is.driven.worn e)
-  worn_ended (inr e) = inr (wears_report s sound (rows_in (taken_by ended.taker)) begun (is.written.worn e))
+  worn_ended (inr e) = inr (wears_report s (rows_in (taken_by ended.taker)) begun (is.written.worn e))
 
   pub write_ended : IsErrOf ended.driven.outcome Write ⊎ IsErrOf ended.written Write → failed_old < failed_new
   write_ended (inl e) = absurd (IfErr-at_err (λ f. f ≢ Write) e is.driven.few refl)

@@ -1,6 +1,6 @@
--- What a run answers of a fault that is handed on, and of two faults.
-use Rattle.std.proofs.Common.{◌≡◌, ◌≢◌, ◌⊎◌, ◌∙◌, inl, inr, Bool, true, false, nat_lt, if◌then◌else◌, Result, Ok, Err, IsErrAnd, ap, sym, refl}
-use Rattle.std.specs.Result.{OnErr, IsErrOf}
+-- What a run answers of two faults, and of a step's refusal.
+use Rattle.std.proofs.Common.{◌≡◌, ◌≢◌, ◌⊎◌, ◌∙◌, inl, inr, Bool, true, false, nat_lt, if◌then◌else◌, Result, Ok, Err, IsErrAnd, sym, refl}
+use Rattle.std.specs.Result.{IsErrOf}
 use Rattle.base.specs.declared.fault.Fault.{Fault}
 use Rattle.base.specs.declared.fault.Fault.TheVariants.{Memory, Worn, Write, Relay}
 use Rattle.member.specs.Faults.{fault_of}
@@ -40,23 +40,10 @@ first_relay Relay Memory is = absurd (memory≢relay is)
 first_relay Relay Worn is = absurd (worn≢relay is)
 first_relay Relay Write is = absurd (write≢relay is)
 
--- ---- handed on
-
--- what holds holds at an error too
-pub on_err : {T E P : Type 0} (r : Result T E) → P → OnErr r P
-on_err (Ok x) p = tt
-on_err (Err e) p = p
+-- ---- a step's refusal
 
 memory≢worn : Memory ≢ Worn
 memory≢worn is = cc
-
--- what is handed on as it is, is what was met
-pub same_fault : {T E : Type 0} (r : Result T E) (e f : E) → IsErrAnd r (λ y. y ≡ e) → IsErrOf r f → e ≡ f
-same_fault (Ok x) e f gives is = absurd gives
-same_fault (Err y) e f gives is = let same : y ≡ f = cc in sym gives ∙ same
-
-pub handed_on : {T U E : Type 0} (r : Result T E) (e f : E) → IsErrAnd r (λ y. y ≡ e) → IsErrOf r f → IsErrOf {T = U} (Err e) f
-handed_on r e f gives is = ap Err (same_fault r e f gives is)
 
 -- a step's refusal is answered as Worn where a counter would pass its limit
 pub worn_step : {T U : Type 0} (r : Result T Fault) (e : StepError) → IsErrAnd r (λ y. y ≡ fault_of e) → IsErrOf r Worn → IsErrOf {T = U} (Err e) step_error.Worn

@@ -1,15 +1,13 @@
--- Runs of a sound scenario: there is one, and in it no event takes the place of another.
-use Rattle.std.proofs.Common.{◌≡◌, ℕ, List, Option, inl}
+-- Runs of a sound scenario: there is but one, and in it no event takes the place of another.
+use Rattle.std.proofs.Common.{◌≡◌, List}
 use Rattle.std.specs.FinMap.{remove}
 use Rattle.base.specs.declared.key.Key.{Key}
 use Rattle.base.specs.World.{World, Run, events_of, outcome}
-use Rattle.base.specs.Run.{handled, trace, run-exists, one_run}
+use Rattle.base.specs.Run.{one_run}
 use Rattle.base.specs.Rising.{AreNew}
 use Rattle.base.proofs.Rising.{numbered_run, new_step}
 use Rattle.scenario.specs.Setup.{Setup, IsSound}
 use Rattle.trace.specs.declared.row.Row.{Row}
-use Rattle.trace.specs.Text.{trace_text}
-use Rattle.trace.proofs.Beginnings.{beginning-none, Keeps-same}
 use Rattle.member.specs.declared.content.Content.{Content}
 use Rattle.member.specs.State.{State}
 use Rattle.member.specs.Step.{step}
@@ -17,22 +15,10 @@ use Rattle.member.specs.Opening.{opening}
 use Rattle.member.proofs.Fair.{steps_later, steps_numbered}
 use Rattle.member_laws.proofs.Opened.{opening_numbered}
 use Rattle.member_laws.specs.Runs.{IsRunOf}
-use Rattle.exchange.specs.Promise.{WritesBeginning}
-
-pub some_run : (s : Setup) → IsSound s → (rows : List Row) × IsRunOf s rows
-some_run s sound =
-    let later = steps_later s sound in
-    (trace (step s) later s.end (opening s), (handled (step s) later s.end (opening s), run-exists (step s) later s.end (opening s)))
 
 pub same_rows : (s : Setup) (first second : List Row) → IsSound s → IsRunOf s first → IsRunOf s second → first ≡ second
 same_rows s first second sound a b =
     (one_run (step s) (steps_later s sound) s.end a.0 b.0 (opening s) a.1.last b.1.last first second a.1.run a.1.over b.1.run b.1.over).1
-
--- nothing written is a beginning
-pub writes_nothing : (s : Setup) (trace report : Option (List ℕ)) → IsSound s → WritesBeginning s trace trace report report
-writes_nothing s trace report sound =
-    let run = some_run s sound in
-    record { rows = run.0; run = run.1; written = inl (beginning-none trace trace (trace_text s run.0) (Keeps-same trace), Keeps-same report) }
 
 pub new_events : (s : Setup) (keys : List Key) (rows : List Row) (w : World State Content) (k : Key) (c : Content) → IsSound s
     → Run (step s) s.end (opening s) keys rows w → AreNew (remove w.pending k) (events_of (outcome (step s) w k c))

@@ -26,9 +26,9 @@ use Rattle.windows.specs.Parts.{PartStep, PartRun, PartWindow, kept_by, for_own}
 use Rattle.windows.specs.Window.{is_own, RunsWindow}
 use Rattle.windows.specs.Wears.{WearsInWindow}
 use Rattle.windows.proofs.Members.{sound_stays, sound_opening}
-use Rattle.exchange.specs.Promise.{BeginsRun}
-use Rattle.exchange.proofs.Ends.{run_joins, settled_same}
-use Rattle.exchange.proofs.Lasting.{reached_sound, wears_nothing}
+use Rattle.turns.specs.Beginning.{BeginsRun}
+use Rattle.turns.proofs.Ends.{run_joins, settled_same}
+use Rattle.turns.proofs.Lasting.{reached_sound, wears_nothing}
 
 -- ---- a window of a part that owns every member
 

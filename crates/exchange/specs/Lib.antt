@@ -1,7 +1,2 @@
 pub use Rattle.member_laws.specs.Runs
-pub mod Promise
-pub mod Parts
-pub mod Bounds
-pub mod Course
 pub mod Streams
-pub mod Wheels

@@ -1,19 +1,17 @@
 -- The rows of a run on their way to whoever writes them.
-use Rattle.std.specs.Prelude.{◌≡◌, ◌≢◌, ℕ, ◌≤◌, ◌^◌, ◌+◌, ◌++◌, true, false, List, [], length, Option, Result, Ok, Err, OnOk, OnErr, IfErr, IsErrOf, All}
-use Rattle.std.specs.Io.KnownBytes.{Appends}
-use Rattle.base.specs.declared.fault.Fault.{Fault}
+use Rattle.std.specs.Prelude.{◌≡◌, ◌≢◌, ℕ, ◌+◌, ◌++◌, true, false, List, [], Option, OnOk, IfErr, IsErrOf, All}
 use Rattle.base.specs.declared.fault.Fault.TheVariants as fault
 use Rattle.scenario.specs.Setup.{Setup}
 use Rattle.trace.specs.declared.row.Row.{Row}
-use Rattle.trace.specs.Sinks.{AppendsBeginning}
-use Rattle.trace.specs.Text.{NamesMembers, trace_text}
+use Rattle.trace.specs.Text.{NamesMembers}
 use Rattle.member_laws.specs.Runs.{IsRunOf, WearsOut}
 use Rattle.relay.specs.declared.relay.Relay.{Relay}
 use Rattle.relay.specs.declared.relay.SendSeat.{SendSeat}
 use Rattle.relay.specs.declared.relay.TakeSeat.{TakeSeat}
 use Rattle.relay.specs.Lots.{rows_in, has_last}
 use Rattle.exchange.specs.declared.driver.Driven.{Driven}
-use Rattle.exchange.specs.Promise.{BeginsRun}
+use Rattle.turns.specs.Beginning.{BeginsRun}
+use Rattle.outputs.specs.Written.{sink_failures, HasWritten}
 use Rattle.relay.specs.Seats.{scenario_of, sent_by, taken_by, IsSender, IsTaker}
 use Rattle.exchange.specs.declared.stream.Stream.{Stream}
 use Rattle.exchange.specs.declared.driver.Ended.{Ended}
@@ -41,21 +39,6 @@ pub record IsOpen {R : Type 0} (stream : Stream R) : Type 0 where
   pub one : scenario_of stream.relay.now ≡ stream.scenario.now
   pub more : has_last (sent_by stream.seat) ≡ false
   pub named : All (NamesMembers stream.scenario.now) stream.rows.items
-
--- one failure of a sink where a write failed, and none else
-abbrev pub sink_failures : {T : Type 0} → Result T Fault → ℕ
-sink_failures (Ok _) = 0
-sink_failures (Err fault.Memory) = 0
-sink_failures (Err fault.Worn) = 0
-sink_failures (Err fault.Write) = 1
-sink_failures (Err fault.Relay) = 0
-
--- The trace of these rows was written, and they were tallied; or after a fault a beginning of it was. The report's counts
--- are full only where there are so many rows.
-pub record HasWritten {T : Type 0} (s : Setup) (rows : List Row) (held_old held_new : Option (List ℕ)) (tallied : List Row) (outcome : Result T Fault) : Type 0 where
-  pub whole : OnOk outcome (Appends held_old held_new (trace_text s rows) × (tallied ≡ rows))
-  pub part : OnErr outcome (AppendsBeginning held_old held_new (trace_text s rows))
-  pub worn : IsErrOf outcome fault.Worn → 2 ^ 63 ≤ length rows
 
 -- The driver of the scenario's run has sent all its rows over the relay; or after a fault the first of them.
 pub record IsDriven (s : Setup) (relay : Relay) (driven : Driven) : Type 0 where

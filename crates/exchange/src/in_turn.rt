@@ -9,24 +9,22 @@ ghost use Rattle.windows.specs.Cluster.{IsLeastDelay};
 ghost use Rattle.windows.specs.WorldOf.{world_of};
 ghost use Rattle.windows.specs.Window.{IsConsistentPart};
 ghost use Rattle.windows.specs.Several.{RanWindows, OneWears};
-ghost use Rattle.exchange.specs.Course.{IsCourse};
-ghost use Rattle.exchange.specs.Parts.{StandFor};
-ghost use Rattle.exchange.specs.Promise.{KeepsPromise};
+ghost use Rattle.turns.specs.Course.{IsCourse};
+ghost use Rattle.turns.specs.Parts.{StandFor};
+ghost use Rattle.outputs.specs.Promise.{KeepsPromise};
 
-use crate::bounds::{bounded_in_common, first_moment};
-use crate::opening::open_parts;
-use crate::outputs::write_run;
-use crate::rows::join;
-use crate::sequential::Summary;
-use crate::turns::{Course, Turned, course_of, exchanged};
 use base::{Fault, Moment};
 use links::Links;
 use member::{Event, StepError};
+use outputs::{Summary, write_run};
 use scenario::{Division, Scenario};
 use std::alloc::Global;
 use std::marker::Sync;
 use std::thread::Threads;
 use trace::{Row, Sink};
+use turns::{
+    Course, Turned, bounded_in_common, course_of, exchanged, first_moment, join, open_parts,
+};
 use windows::{Bounded, Done, Part};
 use worker_queue::EventQueue;
 

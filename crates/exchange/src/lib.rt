@@ -2,23 +2,15 @@
 //! and the report on that.
 #![tactic(auto)]
 
-mod bounds;
 mod by_workers;
 mod driver;
+mod fault_order;
 mod in_turn;
 mod laws;
-mod opening;
-mod outputs;
-mod parts;
-mod rows;
 mod sequential;
-mod slice;
 mod stream;
-mod stream_writer;
-mod tallied;
 mod tallying;
 mod threads;
-mod turns;
 
 pub use by_workers::run;
 pub use in_turn::run_in_turn;
@@ -26,6 +18,7 @@ pub use laws::{
     a_run_exists, events_are_new, keys_rise, rows_rise, the_run_is_one,
     the_window_of_all_is_the_run,
 };
-pub use sequential::{Summary, run_one};
+pub use outputs::Summary;
+pub use sequential::run_one;
 pub use tallying::tally_run;
 pub use workers::{Gate, OpenGate};

@@ -2,23 +2,16 @@ ghost use Rattle.std.specs.Prelude.{◌≡◌, ◌≢◌, ◌+◌, ◌<◌, ◌^
 ghost use Rattle.scenario.specs.Setup.{IsSound};
 ghost use Rattle.trace.specs.Text.{NamesMembers};
 ghost use Rattle.member_laws.specs.Runs.{IsRunOf, WearsOut};
-ghost use Rattle.exchange.specs.Promise.{KeepsPromise};
+ghost use Rattle.outputs.specs.Promise.{KeepsPromise};
 
-use crate::outputs::write_run;
 use base::{Fault, Moment};
 use links::Links;
+use outputs::{Summary, write_run};
 use scenario::Scenario;
 use std::alloc::Global;
 use trace::{Row, Sink};
 use windows::{Done, Part};
 use worker_queue::TreeQueue;
-
-/// What a run did.
-#[derive(Clone, Copy, Debug, PartialEq, Eq)]
-pub struct Summary {
-    /// How many rows the trace has, its header not counted.
-    pub rows: u64,
-}
 
 /// Runs the scenario on one thread, with one set of pending events, and writes its trace. Once the whole
 /// trace is written and its sink flushed, it writes the report, and flushes that sink too. After a fault the

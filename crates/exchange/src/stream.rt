@@ -1,4 +1,4 @@
-ghost use Rattle.std.specs.Prelude.{◌≡◌, ◌≢◌, ◌⊎◌, ◌++◌, [], All, OnOk, OnErr, IfErr, IsOk, IsErr, IsErrOf};
+ghost use Rattle.std.specs.Prelude.{◌≡◌, ◌≢◌, ◌⊎◌, ◌++◌, [], All, OnOk, OnErr, IfErr, IsOk, IsErrOf};
 ghost use Rattle.trace.specs.Text.{NamesMembers};
 ghost use Rattle.relay.specs.Lots.{rows_in, has_last};
 ghost use Rattle.relay.specs.Seats.{sent_by, IsSender};
@@ -6,14 +6,15 @@ ghost use Rattle.windows.specs.Play.{IsBeginning};
 ghost use Rattle.exchange.specs.Streams.{rows_so_far, IsOpen, MaySend};
 
 use crate::driver::Driven;
-use crate::rows::join;
 use base::Fault;
+use outputs::lost;
 use relay::{Batch, Relay, SendSeat};
 use scenario::Scenario;
 use std::alloc::Global;
 use std::mem;
 use std::sync::Wait;
 use trace::Row;
+use turns::join;
 
 /// How many rows are gathered before a batch goes out, so that a small window costs no message.
 const ROWS_OF_A_BATCH: usize = 4096;
@@ -146,17 +147,5 @@ impl<'a, R: Wait> Stream<'a, R> {
             seat: self.seat,
             outcome,
         }
-    }
-}
-
-/// What is answered where the last batch came back, or never came.
-pub(crate) fn lost(outcome: Result<(), Fault>) -> Result<(), Fault>
-    ensures none { IsErr result }
-    ensures relay { OnOk outcome (IsErrOf result Fault.Relay) }
-    ensures first { OnErr outcome (result ≡ outcome) }
-{
-    match outcome {
-        Ok(()) => Err(Fault::Relay),
-        Err(fault) => Err(fault),
     }
 }

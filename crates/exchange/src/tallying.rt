@@ -5,16 +5,16 @@ ghost use Rattle.trace.specs.Text.{NamesMembers};
 ghost use Rattle.member.specs.Opening.{opening};
 ghost use Rattle.member_laws.specs.Runs.{IsRunOf, WearsOut};
 ghost use Rattle.windows.specs.WorldOf.{world_of};
-ghost use Rattle.exchange.specs.Promise.{WearsOutReport};
+ghost use Rattle.outputs.specs.Promise.{WearsOutReport};
 
-use crate::slice::Slice;
-use crate::tallied::Tallied;
 use base::{Fault, Moment};
 use links::Links;
 use member::Event;
+use outputs::Tallied;
 use reports::Tallies;
 use scenario::Scenario;
 use std::alloc::Global;
+use turns::Slice;
 use windows::{Done, Part};
 use worker_queue::{EventQueue, WheelQueue};
 

@@ -2,17 +2,16 @@
 ghost use Rattle.std.specs.Prelude.{◌≡◌, ◌≢◌, ◌<◌, ◌^◌, [], IfOk, OnErr, IfErr};
 ghost use Rattle.std.specs.Thread.{IsSync, IsSend};
 ghost use Rattle.member.specs.Opening.{opening};
-ghost use Rattle.exchange.specs.Course.{GoTogether};
-ghost use Rattle.exchange.specs.Parts.{StandFor};
+ghost use Rattle.turns.specs.Course.{GoTogether};
+ghost use Rattle.turns.specs.Parts.{StandFor};
 ghost use Rattle.exchange.specs.Streams.{MaySend, MayTake, IsDriven, HasEnded};
 
 use crate::driver::{Driven, Drives, Ended, Task, drive};
-use crate::stream_writer::write_stream;
-use crate::tallied::Tallied;
 use base::{Fault, Memory};
 use board::Site;
 use links::Links;
 use member::Event;
+use outputs::{Tallied, write_stream};
 use relay::{Relay, SendSeat, TakeSeat};
 use scenario::{Division, Scenario};
 use std::alloc::Global;

@@ -5,7 +5,7 @@ use Rattle.base.specs.declared.fault.Fault.{Fault}
 use Rattle.base.specs.declared.fault.Fault.TheVariants as fault
 use Rattle.scenario.specs.Setup.{Setup}
 use Rattle.sweep.specs.Table.{IsCauseOf}
-use Rattle.exchange.specs.Streams.{sink_failures}
+use Rattle.outputs.specs.Written.{sink_failures}
 
 -- what holds holds at an error too
 pub on_err : {T E P : Type 0} (r : Result T E) → P → OnErr r P

@@ -10,7 +10,7 @@ use Rattle.trace.specs.Sinks.{AppendsBeginning}
 use Rattle.trace.specs.declared.write.WriteError.{WriteError}
 use Rattle.trace.specs.declared.write.WriteError.TheVariants as error
 use Rattle.member_laws.specs.Runs.{IsRunOf, WearsOut}
-use Rattle.exchange.specs.Promise.{WearsOutReport}
+use Rattle.outputs.specs.Promise.{WearsOutReport}
 use Rattle.figures.specs.Figures.{figures_of}
 use Rattle.figures.specs.Lines.{header_line, run_line}
 use Rattle.cases.specs.Keys.{key_name}

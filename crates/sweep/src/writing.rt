@@ -4,7 +4,7 @@ ghost use Rattle.std.specs.List.{AllZip};
 ghost use Rattle.toml.specs.View.{view};
 ghost use Rattle.scenario.specs.Setup.{Setup};
 ghost use Rattle.cases.specs.Sweep.{run_count};
-ghost use Rattle.exchange.specs.Streams.{sink_failures};
+ghost use Rattle.outputs.specs.Written.{sink_failures};
 ghost use Rattle.sweep.specs.Runs.{IsAskedFor};
 ghost use Rattle.sweep.specs.Summaries.{HasCome};
 ghost use Rattle.sweep.specs.Table.{BeginsLines, HasCause, IsReadAt, AreTold, fault_as};

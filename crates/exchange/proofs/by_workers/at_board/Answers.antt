@@ -1,7 +1,7 @@
 use Rattle.std.proofs.Common.{◌⊎◌, IsErrOf, subst}
 use Rattle.base.specs.declared.fault.Fault.TheVariants.{Worn}
 use Rattle.exchange.proofs.Endings.{begins_trace, run_ended, worn_ended}
-use Rattle.exchange.proofs.Faults.{on_err, same_fault}
+use Rattle.outputs.proofs.Faults.{on_err, same_fault}
 use Rattle.exchange.proofs.by_workers.at_board.Goals as goal
 
 pub returns-in_err-seats-clause-part : goal.returns-in_err-seats-clause-part

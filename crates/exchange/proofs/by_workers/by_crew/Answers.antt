@@ -1,6 +1,6 @@
 use Rattle.trace.specs.Text.{trace_text}
 use Rattle.trace.proofs.Beginnings.{beginning-whole}
-use Rattle.exchange.proofs.Faults.{on_err}
+use Rattle.outputs.proofs.Faults.{on_err}
 use Rattle.exchange.proofs.by_workers.by_crew.Goals as goal
 
 pub returns-in_err-close_board-clause-part : goal.returns-in_err-close_board-clause-part

@@ -2,7 +2,7 @@
 use Rattle.std.proofs.Common.{inl, inr, refl, rules, arith}
 use Rattle.trace.specs.Text.{trace_text}
 use Rattle.trace.proofs.Beginnings.{beginning-whole, Appends-kept, Keeps-same}
-use Rattle.exchange.proofs.Goes.{names_run}
+use Rattle.turns.proofs.Goes.{names_run}
 use Rattle.exchange.proofs.by_workers.run.Goals as goal
 
 pub returns-in-Err-clause-promise : goal.returns-in-Err-clause-promise

@@ -1,7 +1,7 @@
 use Rattle.std.proofs.Common.{ap, ◌∙◌, sym, subst}
 use Rattle.member.specs.Opening.{opening}
 use Rattle.relay.specs.Seats.{IsSender}
-use Rattle.exchange.specs.Parts.{StandFor}
+use Rattle.turns.specs.Parts.{StandFor}
 use Rattle.exchange.specs.Streams.{rows_so_far, IsDriven}
 use Rattle.exchange.proofs.Endings.{is_driven}
 use Rattle.exchange.proofs.driver.drive.Goals as goal

@@ -1,7 +1,7 @@
 use Rattle.std.proofs.Common.{[], sym, subst}
-use Rattle.exchange.specs.Promise.{BeginsRun}
-use Rattle.exchange.proofs.Goes.{not_yet, begins}
-use Rattle.exchange.proofs.Faults.{on_err}
+use Rattle.turns.specs.Beginning.{BeginsRun}
+use Rattle.turns.proofs.Goes.{not_yet, begins}
+use Rattle.outputs.proofs.Faults.{on_err}
 use Rattle.exchange.proofs.driver.turns_by_crew.Goals as goal
 
 pub returns-in_err-horizons-clause-beginning : goal.returns-in_err-horizons-clause-beginning

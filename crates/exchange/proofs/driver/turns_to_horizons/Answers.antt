@@ -1,9 +1,9 @@
 use Rattle.std.proofs.Common.{All, ◌+◌, [], ap, ◌∙◌, sym, subst, refl, arith}
 use Rattle.trace.specs.Text.{NamesMembers}
 use Rattle.exchange.specs.Streams.{rows_so_far}
-use Rattle.exchange.specs.Bounds.{IsFirstMoment}
-use Rattle.exchange.proofs.Goes.{IsUnderWay, not_yet, consistent, came, further, goes_on, one_wears, begins, ends_here, ends_past, names_on, begins_on}
-use Rattle.exchange.proofs.Faults.{on_err, handed_on}
+use Rattle.turns.specs.Bounds.{IsFirstMoment}
+use Rattle.turns.proofs.Goes.{IsUnderWay, not_yet, consistent, came, further, goes_on, one_wears, begins, ends_here, ends_past, names_on, begins_on}
+use Rattle.outputs.proofs.Faults.{on_err, handed_on}
 use Rattle.exchange.proofs.driver.turns_to_horizons.Goals as goal
 
 pub loop-from-init : goal.loop-from-init

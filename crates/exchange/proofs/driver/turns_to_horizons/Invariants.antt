@@ -1,6 +1,6 @@
 use Rattle.std.proofs.Common.{◌≡◌, ◌+◌, ◌-◌}
 use Rattle.exchange.specs.Streams.{rows_so_far, IsOpen}
-use Rattle.exchange.proofs.Goes.{IsUnderWay}
+use Rattle.turns.proofs.Goes.{IsUnderWay}
 use Rattle.exchange.proofs.driver.turns_to_horizons.Given as goal
 
 abbrev pub invariant-loop-from : goal.invariant-loop-from

@@ -2,7 +2,7 @@ use Rattle.std.proofs.Common.{IfOk, sym, subst}
 use Rattle.std.proofs.lemmas.Result.{IfOk-weaker}
 use Rattle.member_laws.specs.Runs.{IsRunOf}
 use Rattle.windows.specs.Cluster.{IsLeastDelay}
-use Rattle.exchange.proofs.Goes.{is_least, names_run}
+use Rattle.turns.proofs.Goes.{is_least, names_run}
 use Rattle.exchange.proofs.in_turn.rows_in_turn.Goals as goal
 
 pub returns-clause-run : goal.returns-clause-run

@@ -1,6 +1,6 @@
 use Rattle.std.proofs.Common.{◌+◌, [], sym, subst, arith}
-use Rattle.exchange.specs.Bounds.{IsFirstMoment}
-use Rattle.exchange.proofs.Goes.{IsUnderWay, not_yet, consistent, came, further, goes_on, one_wears, ends_here, ends_past}
+use Rattle.turns.specs.Bounds.{IsFirstMoment}
+use Rattle.turns.proofs.Goes.{IsUnderWay, not_yet, consistent, came, further, goes_on, one_wears, ends_here, ends_past}
 use Rattle.exchange.proofs.Faults.{worn_step}
 use Rattle.exchange.proofs.in_turn.turns_in_turn.Goals as goal
 

@@ -1,5 +1,5 @@
 use Rattle.std.proofs.Common.{◌+◌, ◌-◌}
-use Rattle.exchange.proofs.Goes.{IsUnderWay}
+use Rattle.turns.proofs.Goes.{IsUnderWay}
 use Rattle.exchange.proofs.in_turn.turns_in_turn.Given as goal
 
 abbrev pub invariant-loop-from : goal.invariant-loop-from

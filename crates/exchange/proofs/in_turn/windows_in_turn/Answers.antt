@@ -4,8 +4,8 @@ use Rattle.windows.specs.WorldOf.{world_of}
 use Rattle.windows.specs.Window.{IsConsistentPart, RunsWindow}
 use Rattle.windows.specs.Wears.{WearsInWindow}
 use Rattle.windows.specs.Several.{RanWindows}
-use Rattle.exchange.proofs.Turning.{one_window_more}
-use Rattle.exchange.proofs.Faults.{handed_on}
+use Rattle.turns.proofs.Turning.{one_window_more}
+use Rattle.outputs.proofs.Faults.{handed_on}
 use Rattle.exchange.proofs.in_turn.windows_in_turn.Goals as goal
 
 pub run-requires-clause-consistent : goal.run-requires-clause-consistent

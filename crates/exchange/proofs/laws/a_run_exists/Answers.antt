@@ -1,4 +1,4 @@
-use Rattle.exchange.proofs.Runs.{some_run}
+use Rattle.outputs.proofs.Runs.{some_run}
 use Rattle.exchange.proofs.laws.a_run_exists.Goals as goal
 
 pub returns : goal.returns

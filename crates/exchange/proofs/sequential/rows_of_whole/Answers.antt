@@ -5,7 +5,7 @@ use Rattle.windows.proofs.Slots.{part_unworn}
 use Rattle.worker_queue.specs.SetOf.{set_of}
 use Rattle.windows.proofs.WholeOpening.{opening_consistent}
 use Rattle.exchange.proofs.Whole.{at_opening, comes_on, comes_worn, comes_to_end, comes_unworn}
-use Rattle.exchange.proofs.Goes.{names_run}
+use Rattle.turns.proofs.Goes.{names_run}
 use Rattle.exchange.proofs.Faults.{worn_step}
 use Rattle.exchange.proofs.sequential.rows_of_whole.Goals as goal
 

@@ -1,4 +1,4 @@
-use Rattle.exchange.proofs.Goes.{names_run}
+use Rattle.turns.proofs.Goes.{names_run}
 use Rattle.exchange.proofs.tallying.tally_run.Goals as goal
 
 pub returns-clause-named : goal.returns-clause-named

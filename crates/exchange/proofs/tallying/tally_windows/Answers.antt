@@ -4,10 +4,12 @@ use Rattle.windows.specs.WorldOf.{world_of}
 use Rattle.windows.specs.Window.{IsConsistentPart}
 use Rattle.windows.proofs.Slots.{part_unworn}
 use Rattle.windows.proofs.WholeOpening.{opening_consistent}
-use Rattle.exchange.specs.Promise.{BeginsRun}
+use Rattle.turns.specs.Beginning.{BeginsRun}
 use Rattle.exchange.proofs.Whole.{HasComeTo, at_opening, comes_on, comes_worn, comes_first, comes_to_end, comes_unworn}
-use Rattle.exchange.proofs.Goes.{names_next, wears_report}
-use Rattle.exchange.proofs.Faults.{worn_step, handed_on}
+use Rattle.turns.proofs.Goes.{names_next}
+use Rattle.exchange.proofs.Reported.{wears_report}
+use Rattle.exchange.proofs.Faults.{worn_step}
+use Rattle.outputs.proofs.Faults.{handed_on}
 use Rattle.exchange.proofs.tallying.tally_windows.Goals as goal
 
 pub loop-from-init : goal.loop-from-init
@@ -43,7 +45,7 @@ returns-in_err-add_all-clause-worn g c = λ h.
     let before = c.loop-from.tallied.tallies in
     let after = world_of set c.in_ok-done.done.part in
     let on = comes_on s c.requires.sound c.loop-from.from (world_of set c.loop-from.part) before c.loop-from.invariant.come c.end-bound.result c.in_ok-done.done.out.items c.in_ok-done.done.rows.items after c.in_ok-done.ensures.ok in
-    inr (wears_report s c.requires.sound (before ++ c.deref.result.now)
+    inr (wears_report s (before ++ c.deref.result.now)
     (subst (λ l. BeginsRun s (before ++ l)) (sym c.deref.ensures.value) (comes_first s c.requires.sound c.end-bound.result after (before ++ c.in_ok-done.done.rows.items) on))
     (c.in_err-add_all.ensures.worn (handed_on c.from_residual-in_err-add_all.result _ _ c.from_residual-in_err-add_all.ensures.1 h)))
 

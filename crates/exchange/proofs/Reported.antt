@@ -1,0 +1,15 @@
+-- A run of more rows than its report can count.
+use Rattle.std.proofs.Common.{◌≤◌, ◌^◌, List, length, ap, ◌∙◌, arith}
+use Rattle.std.proofs.lemmas.List.{length-append}
+use Rattle.scenario.specs.Setup.{Setup}
+use Rattle.trace.specs.declared.row.Row.{Row}
+use Rattle.turns.specs.Beginning.{BeginsRun}
+use Rattle.outputs.specs.Promise.{WearsOutReport}
+
+-- where there are as many as the report can't count, the run has no fewer
+pub wears_report : (s : Setup) (front : List Row) → BeginsRun s front → 2 ^ 63 ≤ length front → WearsOutReport s
+wears_report s front begun many = record {
+  rows = begun.0;
+  run = begun.1;
+  many = let all = ap length begun.2.1 ∙ length-append front begun.2.0 in omega (arith, all, many);
+}

@@ -1,6 +1,0 @@
-use Rattle.std.proofs.Common.{take}
-use Rattle.exchange.specs.Parts.{IsLeastMoment}
-use Rattle.exchange.proofs.parts.least_moment.Given as goal
-
-abbrev pub invariant-loop-part : goal.invariant-loop-part
-invariant-loop-part g l = record { least : IsLeastMoment g.Q.EventQueue.set (take l.part-index l.parts) l.least }

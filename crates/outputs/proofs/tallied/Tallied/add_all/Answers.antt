@@ -1,0 +1,8 @@
+use Rattle.std.proofs.Common.{◌≤◌, ◌^◌, length, subst}
+use Rattle.outputs.proofs.Streaming.{fewer}
+use Rattle.outputs.proofs.Faults.{handed_on}
+use Rattle.outputs.proofs.tallied.Tallied.add_all.Goals as goal
+
+pub returns-in_err-add-clause-worn : goal.returns-in_err-add-clause-worn
+returns-in_err-add-clause-worn c = λ h.
+    fewer c.args.self.now.tallies c.args.rows.now c.loop-row.row-index (2 ^ 63) (subst (λ l. 2 ^ 63 ≤ length l) c.loop-row.invariant.tallied (c.in_err-add.ensures.worn (handed_on c.from_residual.result _ _ c.from_residual.ensures.1 h)))

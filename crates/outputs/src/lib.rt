@@ -1,0 +1,12 @@
+//! What a run writes, on its way into the sinks: its trace, and the report on that.
+#![tactic(auto)]
+
+mod stream_writer;
+mod summary;
+mod tallied;
+mod writing;
+
+pub use stream_writer::{lost, write_stream};
+pub use summary::Summary;
+pub use tallied::Tallied;
+pub use writing::{fault_of, flush, write_run, write_tallied};

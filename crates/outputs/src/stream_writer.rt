@@ -1,0 +1,122 @@
+ghost use Rattle.std.specs.Prelude.{◌≡◌, ◌+◌, ◌++◌, ◌<◌, ◌≤◌, ◌^◌, [], true, length, List, Option, OnOk, OnErr, IsErr, IsErrOf, All, ℕ};
+ghost use Rattle.std.specs.Io.KnownBytes.{Appends};
+ghost use Rattle.trace.specs.Text.{NamesMembers, rows_text};
+ghost use Rattle.trace.specs.Sinks.{AppendsBeginning};
+ghost use Rattle.trace.specs.declared.row.Row.{Row as ARow};
+ghost use Rattle.relay.specs.Lots.{rows_in, has_last};
+ghost use Rattle.relay.specs.Seats.{scenario_of, taken_by, IsTaker};
+ghost use Rattle.outputs.specs.Written.{sink_failures, HasWritten};
+
+use crate::tallied::Tallied;
+use crate::writing::fault_of;
+use base::Fault;
+use relay::{Relay, TakeSeat};
+use scenario::Scenario;
+use std::alloc::Global;
+use std::sync::Wait;
+use trace::{Row, Sink, write_head, write_rows};
+
+/// Writes the trace as its rows come over the relay, up to the last batch, and tallies them. After a fault it
+/// goes on receiving, so that whoever sends can come to an end, but puts nothing more.
+///
+/// Faults: `Memory`; `Worn` where a count of the report would pass 2^63; `Write` where the sink failed; `Relay`
+/// where the last batch never came.
+pub fn write_stream<A: Sink>(
+    rt: &impl Wait,
+    alloc: Global,
+    relay: &Relay,
+    seat: &mut TakeSeat,
+    scenario: &Scenario,
+    tallied: &mut Tallied,
+    trace: &mut A,
+) -> Result<(), Fault>
+    requires seat { IsTaker relay.now seat.old }
+    requires one { scenario_of relay.now ≡ scenario.now }
+    requires none_taken { taken_by seat.old ≡ [] }
+    requires none_tallied { tallied.old.tallies ≡ [] }
+    requires countable { A.failed trace.old < 2 ^ 63 }
+    ensures seat { IsTaker relay.now seat.new }
+    ensures last { OnOk result (has_last (taken_by seat.new) ≡ true) }
+    ensures written { HasWritten scenario.now (rows_in (taken_by seat.new)) (A.held trace.old) (A.held trace.new) tallied.new.tallies result }
+    ensures failures { A.failed trace.new ≡ A.failed trace.old + sink_failures result }
+{
+    let mut so_far = begin(trace);
+    for _ in rt.forever() {
+        let Some(batch) = relay.receive(rt, seat) else {
+            return lost(so_far);
+        };
+        so_far = go_on(so_far, alloc, &batch.rows, scenario, tallied, trace);
+        if batch.last {
+            return so_far;
+        }
+    }
+    unreachable!()
+}
+
+/// Writes the header.
+fn begin<A: Sink>(trace: &mut A) -> Result<(), Fault>
+    requires countable { A.failed trace.old < 2 ^ 63 }
+    ensures written { (s : _) → HasWritten s [] (A.held trace.old) (A.held trace.new) [] result }
+    ensures failures { A.failed trace.new ≡ A.failed trace.old + sink_failures result }
+{
+    match write_head(trace) {
+        Ok(()) => Ok(()),
+        Err(error) => Err(fault_of(error)),
+    }
+}
+
+/// Writes the rows of a batch, unless a fault came before.
+fn go_on<A: Sink>(
+    so_far: Result<(), Fault>,
+    alloc: Global,
+    rows: &[Row],
+    scenario: &Scenario,
+    tallied: &mut Tallied,
+    trace: &mut A,
+) -> Result<(), Fault>
+    requires named { All (NamesMembers scenario.now) rows.now }
+    requires countable { OnOk so_far (A.failed trace.old < 2 ^ 63) }
+    ensures written { (before : List ARow) (held : Option (List ℕ)) → HasWritten scenario.now before held (A.held trace.old) tallied.old.tallies so_far
+        → HasWritten scenario.now (before ++ rows.now) held (A.held trace.new) tallied.new.tallies result }
+    ensures failures { A.failed trace.new + sink_failures so_far ≡ A.failed trace.old + sink_failures result }
+{
+    match so_far {
+        Ok(()) => write_batch(alloc, rows, scenario, tallied, trace),
+        Err(fault) => Err(fault),
+    }
+}
+
+/// Writes the rows of a batch, and tallies them.
+fn write_batch<A: Sink>(
+    alloc: Global,
+    rows: &[Row],
+    scenario: &Scenario,
+    tallied: &mut Tallied,
+    trace: &mut A,
+) -> Result<(), Fault>
+    requires named { All (NamesMembers scenario.now) rows.now }
+    requires countable { A.failed trace.old < 2 ^ 63 }
+    ensures whole { OnOk result (Appends (A.held trace.old) (A.held trace.new) (rows_text scenario.now rows.now)) }
+    ensures tallied { OnOk result (tallied.new.tallies ≡ tallied.old.tallies ++ rows.now) }
+    ensures part { OnErr result (AppendsBeginning (A.held trace.old) (A.held trace.new) (rows_text scenario.now rows.now)) }
+    ensures worn { IsErrOf result Fault.Worn → 2 ^ 63 ≤ length (tallied.old.tallies ++ rows.now) }
+    ensures failures { A.failed trace.new ≡ A.failed trace.old + sink_failures result }
+{
+    tallied.add_all(rows, scenario)?;
+    match write_rows(alloc, rows, scenario, trace) {
+        Ok(()) => Ok(()),
+        Err(error) => Err(fault_of(error)),
+    }
+}
+
+/// What is answered where the last batch came back, or never came.
+pub fn lost(outcome: Result<(), Fault>) -> Result<(), Fault>
+    ensures none { IsErr result }
+    ensures relay { OnOk outcome (IsErrOf result Fault.Relay) }
+    ensures first { OnErr outcome (result ≡ outcome) }
+{
+    match outcome {
+        Ok(()) => Err(Fault::Relay),
+        Err(fault) => Err(fault),
+    }
+}

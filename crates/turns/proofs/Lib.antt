@@ -1,0 +1,12 @@
+mod Coming
+mod Bounding
+mod Limits
+mod Releasing
+pub mod Turning
+mod RowOrders
+mod After
+pub mod Goes
+pub mod Ends
+mod Wearing
+pub mod Lasting
+mod Admitted

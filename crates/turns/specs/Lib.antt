@@ -1,0 +1,5 @@
+pub mod Parts
+pub mod Bounds
+pub mod Course
+pub mod Wheels
+pub mod Beginning

@@ -1,0 +1,161 @@
+//! How far the next windows of a run's parts may go.
+ghost use Rattle.std.specs.Prelude.{◌≡◌, ◌+◌, ◌<◌, ◌≤◌, ◌^◌, ℕ, length, IfOk, IfSome, IfNone};
+ghost use Rattle.std.specs.List.{AllByRecursion};
+ghost use Rattle.scenario.specs.Setup.{Setup};
+ghost use Rattle.windows.specs.Cluster.{IsLeastDelay, IsPeopled};
+ghost use Rattle.windows.specs.declared.bounded.Bounded.{Bounded as ABounded};
+ghost use Rattle.windows.specs.Several.{parts_of};
+ghost use Rattle.horizons.specs.Walks.{AreWalksOf};
+ghost use Rattle.turns.specs.Parts.{NonePendsBefore, PendsFrom, AreFirstMoments, AreBounded};
+ghost use Rattle.turns.specs.Course.{IsCourse};
+ghost use Rattle.turns.specs.Bounds.{IsFirstMoment, AreLimitedHorizons, AreHorizonsOf};
+
+use crate::parts::least_moment;
+use crate::turns::Course;
+use base::{Memory, Moment};
+use horizons::Horizons;
+use member::Event;
+use std::alloc::Global;
+use windows::{Bounded, Part};
+use worker_queue::EventQueue;
+
+/// The first moment at which something pends, up to the end: None where nothing does.
+pub fn first_moment<Q: EventQueue<Event> + Drop>(parts: &[Part<Q>], end: Moment) -> Option<Moment>
+    requires end { end < 2 ^ 63 }
+    ensures over { IfNone result (NonePendsBefore Q.set parts.now (end + 1)) }
+    ensures first { IfSome result (IsFirstMoment Q.set parts.now end) }
+{
+    let first = match least_moment(parts) {
+        Some(first) => first,
+        None => return None,
+    };
+    let last = end.ticks();
+    if last < first.ticks() {
+        return None;
+    }
+    Some(first)
+}
+
+/// The parts with a common bound: as far past the first moment as any event takes to another member, and no
+/// later than the moment after the end.
+pub fn bounded_in_common<Q: EventQueue<Event> + Drop>(
+    alloc: Global,
+    parts: Vec<Part<Q>>,
+    first: Moment,
+    least_delay: Option<u64>,
+    course: &Course,
+) -> Result<Vec<Bounded<Q>>, Memory>
+    requires course { IsCourse course.now }
+    requires first { IsFirstMoment Q.set parts.items course.now.end first }
+    requires least { IsLeastDelay course.now.scenario.now least_delay }
+    ensures { IfOk result (λ bounded. AreBounded Q.set course.now.scenario.now course.now.division.now parts.items first bounded.items) }
+{
+    let last = course.end.ticks() + 1;
+    let bound = bound_after(first.ticks(), last, least_delay);
+    bound_all(alloc, parts, Moment(bound))
+}
+
+/// A bound past that moment, no more than the least delay past it, nor than the last bound.
+fn bound_after(first: u64, last: u64, least_delay: Option<u64>) -> u64
+    requires { first < last }
+    ensures in_time { result ≤ last }
+    ensures near { IfSome least_delay (λ d. result ≤ first + d) }
+    ensures past { IfSome least_delay (λ d. 0 < d) → first < result }
+{
+    match least_delay {
+        Some(delay) => {
+            if delay < last - first {
+                first + delay
+            } else {
+                last
+            }
+        }
+        None => last,
+    }
+}
+
+/// The parts, all with this bound.
+fn bound_all<Q: EventQueue<Event> + Drop>(
+    alloc: Global,
+    parts: Vec<Part<Q>>,
+    bound: Moment,
+) -> Result<Vec<Bounded<Q>>, Memory>
+    ensures parts { IfOk result (λ bounded. parts_of bounded.items ≡ parts.items) }
+    ensures bounds { IfOk result (λ bounded. AllByRecursion (λ (b : ABounded Q). b.bound ≡ bound) bounded.items) }
+{
+    let mut bounded = Vec::new(alloc);
+    for part in parts {
+        bounded.push(Bounded { part, bound })?;
+    }
+    Ok(bounded)
+}
+
+/// The parts, each with a bound of its own: its horizon, up to which nothing can come to it from what pends
+/// now in others, or the limit where that is less.
+pub fn bounded_by_horizons<Q: EventQueue<Event> + Drop>(
+    alloc: Global,
+    parts: Vec<Part<Q>>,
+    first: Moment,
+    limit: Moment,
+    horizons: &Horizons,
+    course: &Course,
+) -> Result<Vec<Bounded<Q>>, Memory>
+    requires course { IsCourse course.now }
+    requires count { length parts.items ≡ course.now.division.now.parts }
+    requires first { IsFirstMoment Q.set parts.items course.now.end first }
+    requires limit { first < limit }
+    requires horizons { AreHorizonsOf horizons.now course.now.scenario.now course.now.division.now }
+    ensures { IfOk result (λ bounded. AreBounded Q.set course.now.scenario.now course.now.division.now parts.items first bounded.items) }
+{
+    let firsts = first_moments(alloc, &parts)?;
+    bound_each(alloc, parts, &firsts, limit, horizons, course.end)
+}
+
+/// The first moment that pends in each part: None where nothing does.
+fn first_moments<Q: EventQueue<Event> + Drop>(
+    alloc: Global,
+    parts: &[Part<Q>],
+) -> Result<Vec<Option<Moment>>, Memory>
+    ensures { IfOk result (λ firsts. AreFirstMoments Q.set parts.now firsts.items) }
+{
+    let mut firsts = Vec::new(alloc);
+    for part in parts {
+        firsts.push(first_of(part))?;
+    }
+    Ok(firsts)
+}
+
+/// The first moment that pends in the part.
+fn first_of<Q: EventQueue<Event> + Drop>(part: &Part<Q>) -> Option<Moment>
+    ensures { PendsFrom Q.set part.now result }
+{
+    match part.least() {
+        Some(key) => Some(key.at),
+        None => None,
+    }
+}
+
+/// The parts, each with its horizon, or the limit where that is less.
+fn bound_each<Q: EventQueue<Event> + Drop>(
+    alloc: Global,
+    parts: Vec<Part<Q>>,
+    firsts: &[Option<Moment>],
+    limit: Moment,
+    horizons: &Horizons,
+    end: Moment,
+) -> Result<Vec<Bounded<Q>>, Memory>
+    requires parts { length parts.items ≡ horizons.now.parts }
+    requires one_each { length firsts.now ≡ horizons.now.parts }
+    requires end { end ≤ 2 ^ 40 }
+    ensures parts { IfOk result (λ bounded. parts_of bounded.items ≡ parts.items) }
+    ensures bounds { IfOk result (λ bounded. (s : Setup) (division : ℕ → ℕ) (between : ℕ → ℕ → ℕ) → AreWalksOf horizons.now s division between
+        → AreLimitedHorizons (IsPeopled s division) between firsts.now end limit bounded.items) }
+{
+    let mut bounded = Vec::new(alloc);
+    for part in parts {
+        let horizon = horizons.bound(bounded.len(), firsts, end);
+        let bound = Moment(horizon.ticks().min(limit.ticks()));
+        bounded.push(Bounded { part, bound })?;
+    }
+    Ok(bounded)
+}
