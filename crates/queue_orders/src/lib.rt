@@ -1,4 +1,4 @@
-//! Tests.
+//! Queues of events, in a tree and in a wheel: the tests of the order in which events leave them.
 #![tactic(auto)]
 
 #[cfg(test)]

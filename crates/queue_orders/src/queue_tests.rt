@@ -1,11 +1,12 @@
+//! Queues of events that leave in the order of their keys, worked out by hand, and both queues side by side.
 ghost use Rattle.std.specs.Prelude.{◌≡◌, ◌<◌, true, ℕ};
 ghost use Rattle.std.specs.FinMap.{contains_key};
 ghost use Rattle.base.specs.declared.key.Key.{Key};
 
-use crate::{EventQueue, TreeQueue, WheelQueue};
 use base::{Key, Keyed, MemberId, Memory, Moment};
 use std::process::Abort;
 use std::test::Fail;
+use worker_queue::{EventQueue, TreeQueue, WheelQueue};
 
 /// An event that is a key alone.
 #[derive(Clone, Copy, Debug)]

@@ -1,7 +1,7 @@
-//! Tests.
+//! The text of the trace, worked out by hand: the tests of rows and their lines, and of the sinks that take them.
 #![tactic(auto)]
 
 #[cfg(test)]
-mod tests_rows;
+mod row_tests;
 #[cfg(test)]
-mod write_tests;
+mod sink_tests;

@@ -1,6 +1,6 @@
-use Rattle.worker_queue.specs.declared.tests.Note.{Note}
-use Rattle.worker_queue.proofs.Numbers.{below_popped}
-use Rattle.worker_queue.proofs.tests.Numbered.pop_below.Goals as goal
+use Rattle.queue_orders.specs.declared.queue_tests.Note.{Note}
+use Rattle.queue_orders.proofs.Numbers.{below_popped}
+use Rattle.queue_orders.proofs.queue_tests.Numbered.pop_below.Goals as goal
 
 pub invariant_of-self : goal.invariant_of-self
 invariant_of-self g c = record {

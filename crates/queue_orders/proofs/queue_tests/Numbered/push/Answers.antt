@@ -1,6 +1,6 @@
 use Rattle.std.proofs.Common.{refl, arith}
-use Rattle.worker_queue.proofs.Numbers.{below_pushed}
-use Rattle.worker_queue.proofs.tests.Numbered.push.Goals as goal
+use Rattle.queue_orders.proofs.Numbers.{below_pushed}
+use Rattle.queue_orders.proofs.queue_tests.Numbered.push.Goals as goal
 
 pub invariant_of-self-2 : goal.invariant_of-self-2
 invariant_of-self-2 g c = record {

@@ -1,13 +1,15 @@
+//! Rows, their order and their lines, with the trace of two members as it is told to users.
 ghost use Rattle.std.specs.Prelude.{◌<◌, ◌^◌, ◌+◌, ◌≡◌};
 ghost use Rattle.trace.specs.Memory.{memory_failures};
 ghost use Rattle.trace.specs.Text.{NamesMembers};
 
-use crate::testing::MemorySink;
-use crate::{Row, Sink, What, WriteError, write_head, write_rows};
 use base::{MemberId, Moment};
 use scenario::Scenario;
+use std::fmt::Write;
 use std::process::Abort;
 use std::test::Fail;
+use trace::testing::MemorySink;
+use trace::{Row, Sink, What, WriteError, write_head, write_rows};
 
 /// Two members, `n-0` and `n-1`, and no event after their start.
 const TEXT: &[u8; 124] = b"version = 1
@@ -77,18 +79,17 @@ fn write(
 }
 
 /// A lost ping of the first member to the second, at a later moment.
-fn lost_ping() -> Row {
-    Row {
-        at: Moment(1_099_511_627_776),
-        number: 18,
-        index: 3,
-        what: What::PingReq,
-        about: Some(MemberId(1)),
-        value: 7,
-        lost: true,
-        ..start_of(0)
-    }
-}
+const LOST_PING: Row = Row {
+    at: Moment(1_099_511_627_776),
+    member: MemberId(0),
+    from: MemberId(0),
+    number: 18,
+    index: 3,
+    what: What::PingReq,
+    about: Some(MemberId(1)),
+    value: 7,
+    lost: true,
+};
 
 #[test]
 fn two_members_that_start_are_two_lines(rt: HostRuntime) -> Result<(), Fail> {
@@ -107,7 +108,7 @@ fn two_members_that_start_are_two_lines(rt: HostRuntime) -> Result<(), Fail> {
 fn a_line_shows_each_field_but_the_index(rt: HostRuntime) -> Result<(), Fail> {
     let scenario = scenario_reader::read(rt.alloc(), TEXT)?;
     let mut sink = MemorySink::new(rt.alloc());
-    write(&rt, &[lost_ping()], &scenario, &mut sink)?;
+    write(&rt, &[LOST_PING], &scenario, &mut sink)?;
     let line = b"1099511627776,n-0,n-0,18,ping-req,n-1,7,1\n";
     assert_eq!(rt; sink.bytes(), line.as_slice());
     Ok(())
@@ -184,4 +185,82 @@ fn refused_memory_leaves_a_beginning(rt: HostRuntime) -> Result<(), Fail> {
         }
     }
     Ok(())
+}
+
+/// What a row can tell of, and the word of the line for it.
+const WORDS: [(What, &str); 19] = [
+    (What::Start, "start"),
+    (What::Crash, "crash"),
+    (What::Joined, "joined"),
+    (What::Join, "join"),
+    (What::Welcome, "welcome"),
+    (What::Ping, "ping"),
+    (What::PingReq, "ping-req"),
+    (What::Ack, "ack"),
+    (What::Nack, "nack"),
+    (What::Fail, "fail"),
+    (What::Health, "health"),
+    (What::Alive, "alive"),
+    (What::Suspect, "suspect"),
+    (What::Confirm, "confirm"),
+    (What::Accuse, "accuse"),
+    (What::Refute, "refute"),
+    (What::Dead, "dead"),
+    (What::Leave, "leave"),
+    (What::Bye, "bye"),
+];
+
+#[test]
+fn each_kind_of_row_has_its_word(rt: HostRuntime) {
+    for (what, word) in &WORDS {
+        assert!(rt; what.word() == *word);
+    }
+}
+
+const FIRST: Row = Row {
+    at: Moment(5),
+    member: MemberId(1),
+    from: MemberId(2),
+    number: 3,
+    index: 1,
+    what: What::Suspect,
+    about: Some(MemberId(2)),
+    value: 0,
+    lost: false,
+};
+
+/// Rows that come after it, each by one part of its key, whatever stands behind that.
+const LATER: [Row; 5] = [
+    Row {
+        at: Moment(6),
+        member: MemberId(0),
+        ..FIRST
+    },
+    Row {
+        member: MemberId(2),
+        from: MemberId(0),
+        ..FIRST
+    },
+    Row {
+        from: MemberId(3),
+        number: 0,
+        ..FIRST
+    },
+    Row {
+        number: 4,
+        index: 0,
+        ..FIRST
+    },
+    Row {
+        index: 2,
+        what: What::Start,
+        ..FIRST
+    },
+];
+
+#[test]
+fn rows_are_ordered_by_their_key_first(rt: HostRuntime) {
+    for row in &LATER {
+        assert!(rt; FIRST < *row);
+    }
 }

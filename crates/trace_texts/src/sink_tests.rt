@@ -1,9 +1,10 @@
-use crate::testing::MemorySink;
-use crate::{Put, Row, Sink, Stopped, What, WriteError, put_all, write_head};
-use base::{MemberId, Moment};
+//! The header of the trace, as it comes to sinks of every kind that take it whole, in pieces, or not at all.
 use std::io;
 use std::io::Write;
+use std::process::Abort;
 use std::test::Fail;
+use trace::testing::MemorySink;
+use trace::{Put, Sink, Stopped, WriteError, put_all, write_head};
 
 /// The header as it is told to users, with its line feed.
 const HEADER: &[u8; 48] = b"moment,member,from,number,what,about,value,lost\n";
@@ -187,77 +188,4 @@ fn a_vector_is_a_sink(rt: HostRuntime) -> Result<(), Fail> {
     assert_eq!(rt; &text[..8], b"before: ".as_slice());
     assert_eq!(rt; &text[8..], HEADER.as_slice());
     Ok(())
-}
-
-#[test]
-fn each_kind_of_row_has_its_word(rt: HostRuntime) {
-    let words = [
-        (What::Start, "start"),
-        (What::Crash, "crash"),
-        (What::Joined, "joined"),
-        (What::Join, "join"),
-        (What::Welcome, "welcome"),
-        (What::Ping, "ping"),
-        (What::PingReq, "ping-req"),
-        (What::Ack, "ack"),
-        (What::Nack, "nack"),
-        (What::Fail, "fail"),
-        (What::Health, "health"),
-        (What::Alive, "alive"),
-        (What::Suspect, "suspect"),
-        (What::Confirm, "confirm"),
-        (What::Accuse, "accuse"),
-        (What::Refute, "refute"),
-        (What::Dead, "dead"),
-        (What::Leave, "leave"),
-        (What::Bye, "bye"),
-    ];
-    for (what, word) in words {
-        assert_eq!(rt; what.word(), word);
-    }
-}
-
-#[test]
-fn rows_are_ordered_by_their_key_first(rt: HostRuntime) {
-    let first = Row {
-        at: Moment(5),
-        member: MemberId(1),
-        from: MemberId(2),
-        number: 3,
-        index: 1,
-        what: What::Suspect,
-        about: Some(MemberId(2)),
-        value: 0,
-        lost: false,
-    };
-    let later = [
-        Row {
-            at: Moment(6),
-            member: MemberId(0),
-            ..first
-        },
-        Row {
-            member: MemberId(2),
-            from: MemberId(0),
-            ..first
-        },
-        Row {
-            from: MemberId(3),
-            number: 0,
-            ..first
-        },
-        Row {
-            number: 4,
-            index: 0,
-            ..first
-        },
-        Row {
-            index: 2,
-            what: What::Start,
-            ..first
-        },
-    ];
-    for row in later {
-        assert!(rt; first < row);
-    }
 }
