@@ -1,7 +1,6 @@
 //! Sweeps of a tiny scenario: the same table and the same figures as runs that are made one by one give, with any
 //! number of workers.
 
-use crate::{NoProgress, Progress, cases_text, judge, sweep};
 use base::Fault;
 use cases::{Plan, SettingValue};
 use exchange::tally_run;
@@ -11,6 +10,7 @@ use std::marker::Sync;
 use std::process::Abort;
 use std::test::Fail;
 use std::thread::Threads;
+use sweep::{NoProgress, Progress, cases_text, judge, sweep};
 use trace::Sink;
 use trace::testing::MemorySink;
 
