@@ -6,33 +6,18 @@ use scenario::DivisionFault;
 use std::process::Abort;
 use std::test::Fail;
 
-/// Failures, with the line that each tells and its status.
-const FAILURES: &[(Failure, &str, u8)] = &[
-    (Failure::File("a b"), "swimsim: file a b\n", 1),
-    (Failure::Usage, "swimsim: usage\n", 2),
-    (Failure::Rule(10), "swimsim: scenario rule 10\n", 3),
-    (Failure::Workers, "swimsim: workers\n", 4),
-    (
-        Failure::Division(DivisionFault::Length),
-        "swimsim: division V1\n",
-        4,
-    ),
-    (
-        Failure::Division(DivisionFault::PartNumber),
-        "swimsim: division V2\n",
-        4,
-    ),
-    (
-        Failure::Division(DivisionFault::Parts),
-        "swimsim: division V3\n",
-        4,
-    ),
-    (Failure::Run(Fault::Memory), "swimsim: run F1\n", 5),
-    (Failure::Run(Fault::Worn), "swimsim: run F2\n", 5),
-    (Failure::Run(Fault::Write), "swimsim: run F3\n", 5),
-    (Failure::Run(Fault::Relay), "swimsim: run F4\n", 5),
-    (Failure::Memory, "swimsim: memory\n", 5),
-    (Failure::Output, "", 1),
+/// The lines that tell of a division's faults, and of a run's.
+const DIVISIONS: &[(DivisionFault, &str)] = &[
+    (DivisionFault::Length, "swimsim: division V1\n"),
+    (DivisionFault::PartNumber, "swimsim: division V2\n"),
+    (DivisionFault::Parts, "swimsim: division V3\n"),
+];
+
+const RUNS: &[(Fault, &str)] = &[
+    (Fault::Memory, "swimsim: run F1\n"),
+    (Fault::Worn, "swimsim: run F2\n"),
+    (Fault::Write, "swimsim: run F3\n"),
+    (Fault::Relay, "swimsim: run F4\n"),
 ];
 
 /// Asserts that a failure has this status, also where standard error takes nothing, and tells this line.
@@ -46,8 +31,17 @@ fn assert_told(rt: &(impl Abort + AllocGlobal), failure: &Failure, line: &str, s
 
 #[test]
 fn each_failure_has_its_line_and_status(rt: HostRuntime) {
-    for (failure, line, status) in FAILURES {
-        assert_told(&rt, failure, line, *status);
+    assert_told(&rt, &Failure::File("a b"), "swimsim: file a b\n", 1);
+    assert_told(&rt, &Failure::Usage, "swimsim: usage\n", 2);
+    assert_told(&rt, &Failure::Rule(10), "swimsim: scenario rule 10\n", 3);
+    assert_told(&rt, &Failure::Workers, "swimsim: workers\n", 4);
+    assert_told(&rt, &Failure::Memory, "swimsim: memory\n", 5);
+    assert_told(&rt, &Failure::Output, "", 1);
+    for (fault, line) in DIVISIONS {
+        assert_told(&rt, &Failure::Division(*fault), line, 4);
+    }
+    for (fault, line) in RUNS {
+        assert_told(&rt, &Failure::Run(*fault), line, 5);
     }
 }
 
