@@ -1,87 +1,12 @@
-use crate::simulation::text_failure;
-use crate::{Failure, command, refuse};
-use base::Fault;
-use files::testing::{Failing, MemoryFiles, MemoryWriter};
-use scenario::DivisionFault;
+//! The status of each command, what it prints, and what it leaves.
+
+use crate::fixture::{Left, RUN, expect_refusal, files_with, holds, left_by};
+use cli::testing::{Failing, MemoryFiles};
 use std::process::Abort;
 use std::sync::Wait;
 use std::test::Fail;
 use std::thread::Threads;
 use worked_runs::TWO_MEMBERS;
-
-/// The words that run the scenario of two members.
-pub(crate) const RUN: &str = "run two.toml --trace t.csv";
-
-/// The words of a run that writes a report too.
-pub(crate) const REPORTED: &str = "run two.toml --trace t.csv --report r.txt";
-
-/// What a command left.
-#[derive(Drop)]
-pub(crate) struct Left {
-    pub(crate) status: u8,
-    pub(crate) out: MemoryWriter,
-    pub(crate) err: MemoryWriter,
-    pub(crate) progress: MemoryWriter,
-    pub(crate) files: MemoryFiles,
-}
-
-/// Files in memory that hold a scenario's text as `two.toml`.
-pub(crate) fn files_with(rt: &impl AllocGlobal, text: &str) -> Result<MemoryFiles, Fail> {
-    let mut files = MemoryFiles::new(rt.alloc());
-    files.keep("two.toml", text.as_bytes())?;
-    Ok(files)
-}
-
-/// The same files, with an older trace and an older report.
-pub(crate) fn older_files(rt: &impl AllocGlobal, text: &str) -> Result<MemoryFiles, Fail> {
-    let mut files = files_with(rt, text)?;
-    files.keep("t.csv", b"an older trace, which is replaced")?;
-    files.keep("r.txt", b"an older report")?;
-    Ok(files)
-}
-
-/// Gives a command the words of this line, parted by spaces, and the files, and a standard output that fails
-/// in this way.
-pub(crate) fn left_by(
-    rt: &(impl Threads + Wait + Sync + AllocGlobal),
-    line: &str,
-    files: MemoryFiles,
-    fails: Failing,
-) -> Result<Left, Fail> {
-    let words: Vec<&str> = line.split_whitespace().collect(rt.alloc())?;
-    let mut files = files;
-    let mut out = MemoryWriter::new(rt.alloc(), fails);
-    let mut err = MemoryWriter::new(rt.alloc(), Failing::Never);
-    let mut progress = MemoryWriter::new(rt.alloc(), Failing::Never);
-    let status = command(
-        rt,
-        rt.alloc(),
-        words.as_slice(),
-        &mut files,
-        &mut out,
-        &mut err,
-        &mut progress,
-    );
-    Ok(Left {
-        status,
-        out,
-        err,
-        progress,
-        files,
-    })
-}
-
-/// Whether the command left a file of this name that holds this text.
-pub(crate) fn holds(left: &Left, name: &str, text: &str) -> bool {
-    left.files.bytes(name) == Some(text.as_bytes())
-}
-
-/// Whether the command ended with this status, after this line on standard error alone.
-pub(crate) fn expect_refusal(rt: &impl Abort, left: &Left, status: u8, line: &str) {
-    assert_eq!(rt; left.err.bytes(), line.as_bytes());
-    assert_eq!(rt; left.status, status);
-    assert_eq!(rt; left.out.bytes().len(), 0);
-}
 
 /// Files that hold a scenario of two members, one of three, and a text that breaks rule 2.
 fn three_files(rt: &impl AllocGlobal) -> Result<MemoryFiles, Fail> {
@@ -94,15 +19,33 @@ fn three_files(rt: &impl AllocGlobal) -> Result<MemoryFiles, Fail> {
     Ok(files)
 }
 
-/// Status, standard output and standard error of a command over `three_files`, and the words that end so.
-const OUTCOMES: [(u8, &str, &str, &[&str]); 11] = [
-    (0, "members 2\n", "", &["check two.toml"]),
-    (0, "members 3\n", "", &["check three.toml"]),
-    (
-        0,
-        "rows 6\n",
-        "",
-        &[
+/// How commands over `three_files` end: their status, what they print on standard output and on standard error, and
+/// the words that end so.
+struct Outcome {
+    status: u8,
+    out: &'static str,
+    err: &'static str,
+    lines: &'static [&'static str],
+}
+
+const OUTCOMES: &[Outcome] = &[
+    Outcome {
+        status: 0,
+        out: "members 2\n",
+        err: "",
+        lines: &["check two.toml"],
+    },
+    Outcome {
+        status: 0,
+        out: "members 3\n",
+        err: "",
+        lines: &["check three.toml"],
+    },
+    Outcome {
+        status: 0,
+        out: "rows 6\n",
+        err: "",
+        lines: &[
             "run two.toml --trace t.csv",
             "run two.toml --trace t.csv --report r",
             "run --report=r --workers 2 --trace=t.csv two.toml",
@@ -117,24 +60,24 @@ const OUTCOMES: [(u8, &str, &str, &[&str]); 11] = [
             "run --trace t.csv two.toml",
             "run --trace t.csv -- two.toml",
         ],
-    ),
-    (
-        1,
-        "",
-        "swimsim: file absent\n",
-        &["check absent", "run absent --trace t.csv"],
-    ),
-    (
-        1,
-        "",
-        "swimsim: file a\\u{1b}[2J\n",
-        &["check a\u{1b}[2J", "run a\u{1b}[2J --trace t.csv"],
-    ),
-    (
-        2,
-        "",
-        "swimsim: usage\n",
-        &[
+    },
+    Outcome {
+        status: 1,
+        out: "",
+        err: "swimsim: file absent\n",
+        lines: &["check absent", "run absent --trace t.csv"],
+    },
+    Outcome {
+        status: 1,
+        out: "",
+        err: "swimsim: file a\\u{1b}[2J\n",
+        lines: &["check a\u{1b}[2J", "run a\u{1b}[2J --trace t.csv"],
+    },
+    Outcome {
+        status: 2,
+        out: "",
+        err: "swimsim: usage\n",
+        lines: &[
             "run two.toml --trace t.csv --parts 1 --division 0,0",
             "run two.toml --trace t.csv --workers",
             "run two.toml --trace t.csv --workers 1 --workers 1",
@@ -156,13 +99,18 @@ const OUTCOMES: [(u8, &str, &str, &[&str]); 11] = [
             "check two.toml --workers 2",
             "--version",
         ],
-    ),
-    (3, "", "swimsim: scenario rule 2\n", &["check bad.toml"]),
-    (
-        4,
-        "",
-        "swimsim: division V1\n",
-        &[
+    },
+    Outcome {
+        status: 3,
+        out: "",
+        err: "swimsim: scenario rule 2\n",
+        lines: &["check bad.toml"],
+    },
+    Outcome {
+        status: 4,
+        out: "",
+        err: "swimsim: division V1\n",
+        lines: &[
             "run two.toml --trace t.csv --division 0",
             "run two.toml --trace t.csv --division 0,0,0",
             "run two.toml --trace t.csv --division=",
@@ -170,12 +118,12 @@ const OUTCOMES: [(u8, &str, &str, &[&str]); 11] = [
             "run two.toml --trace t.csv --division 0,0,64",
             "run two.toml --trace t.csv --division a",
         ],
-    ),
-    (
-        4,
-        "",
-        "swimsim: division V2\n",
-        &[
+    },
+    Outcome {
+        status: 4,
+        out: "",
+        err: "swimsim: division V2\n",
+        lines: &[
             "run two.toml --trace t.csv --division 0,64",
             "run two.toml --trace t.csv --division 0,00",
             "run two.toml --trace t.csv --division 0,+1",
@@ -183,12 +131,12 @@ const OUTCOMES: [(u8, &str, &str, &[&str]); 11] = [
             "run two.toml --trace t.csv --division ,0",
             "run two.toml --trace t.csv --division 0,256",
         ],
-    ),
-    (
-        4,
-        "",
-        "swimsim: division V3\n",
-        &[
+    },
+    Outcome {
+        status: 4,
+        out: "",
+        err: "swimsim: division V3\n",
+        lines: &[
             "run two.toml --trace t.csv --parts 0",
             "run two.toml --trace t.csv --parts 65",
             "run two.toml --trace t.csv --parts 1000",
@@ -196,12 +144,12 @@ const OUTCOMES: [(u8, &str, &str, &[&str]); 11] = [
             "run two.toml --trace t.csv --parts +1",
             "run two.toml --trace t.csv --parts=",
         ],
-    ),
-    (
-        4,
-        "",
-        "swimsim: workers\n",
-        &[
+    },
+    Outcome {
+        status: 4,
+        out: "",
+        err: "swimsim: workers\n",
+        lines: &[
             "run two.toml --trace t.csv --workers 0",
             "run two.toml --trace t.csv --workers 65",
             "run two.toml --trace t.csv --workers 257",
@@ -212,35 +160,56 @@ const OUTCOMES: [(u8, &str, &str, &[&str]); 11] = [
             "run two.toml --trace t.csv --workers 1.",
             "run two.toml --trace t.csv --workers two",
         ],
-    ),
+    },
 ];
 
-/// Asserts that a command ended so, and left trace and report just where it did a run.
-fn expect_outcome(rt: &impl Abort, left: &Left, line: &str, (status, out, err): (u8, &str, &str)) {
-    assert_eq!(rt; left.err.bytes(), err.as_bytes(), "{line}");
-    assert_eq!(rt; left.out.bytes(), out.as_bytes(), "{line}");
-    assert_eq!(rt; left.status, status, "{line}");
-    let trace = (out == "rows 6\n").then_some(TWO_MEMBERS.trace.as_bytes());
-    assert_eq!(rt; left.files.bytes("t.csv"), trace, "{line}");
-    let report = (status == 0 && line.contains("--report")).then_some(
-        TWO_MEMBERS.report.as_bytes(),
-    );
-    assert_eq!(rt; left.files.bytes("r"), report, "{line}");
+/// Whether a file of this name was left just where it is to be there, and then holds this text.
+fn leaves(left: &Left, name: &str, text: &str, is_there: bool) -> bool {
+    match left.files.bytes(name) {
+        Some(bytes) => is_there && bytes == text.as_bytes(),
+        None => !is_there,
+    }
+}
+
+/// Asserts that a command left trace and report just where it did a run.
+fn expect_files(rt: &impl Abort, left: &Left, line: &str, outcome: &Outcome) {
+    let is_run = outcome.out == "rows 6\n";
+    assert!(rt; leaves(left, "t.csv", TWO_MEMBERS.trace, is_run), "{line}");
+    let is_told = outcome.status == 0 && line.contains("--report");
+    assert!(rt; leaves(left, "r", TWO_MEMBERS.report, is_told), "{line}");
+}
+
+/// Asserts that a command ended so.
+fn expect_outcome(rt: &impl Abort, left: &Left, line: &str, outcome: &Outcome) {
+    assert!(rt; left.err.bytes() == outcome.err.as_bytes(), "{line}");
+    assert!(rt; left.out.bytes() == outcome.out.as_bytes(), "{line}");
+    assert!(rt; left.status == outcome.status, "{line}");
+    expect_files(rt, left, line, outcome);
+}
+
+/// Asserts that the words of this line end so.
+fn assert_outcome(
+    rt: &(impl Abort + Threads + Wait + Sync + AllocGlobal),
+    line: &str,
+    outcome: &Outcome,
+) -> Result<(), Fail> {
+    let left = left_by(rt, line, three_files(rt)?, Failing::Never)?;
+    expect_outcome(rt, &left, line, outcome);
+    Ok(())
 }
 
 #[test]
 fn each_outcome_has_its_status_and_line(rt: HostRuntime) -> Result<(), Fail> {
-    for (status, out, err, lines) in OUTCOMES {
-        for line in lines {
-            let left = left_by(&rt, line, three_files(&rt)?, Failing::Never)?;
-            expect_outcome(&rt, &left, line, (status, out, err));
+    for outcome in OUTCOMES {
+        for line in outcome.lines {
+            assert_outcome(&rt, line, outcome)?;
         }
     }
     Ok(())
 }
 
 /// Words with several faults, where `t.csv` can't be made: the status and the line of the first.
-const FIRST: [(&str, u8, &str); 10] = [
+const FIRST: &[(&str, u8, &str)] = &[
     (
         "run absent --trace t.csv --parts 1 --division 0 --workers 0",
         2,
@@ -289,18 +258,29 @@ const FIRST: [(&str, u8, &str); 10] = [
     ("run two.toml --trace t.csv", 1, "swimsim: file t.csv\n"),
 ];
 
+/// Asserts that the words of this line end so, where `t.csv` can't be made.
+fn assert_first(
+    rt: &(impl Abort + Threads + Wait + Sync + AllocGlobal),
+    line: &str,
+    status: u8,
+    err: &str,
+) -> Result<(), Fail> {
+    let locked = three_files(rt)?.refusing_to_make("t.csv");
+    let left = left_by(rt, line, locked, Failing::Never)?;
+    expect_refusal(rt, &left, status, err);
+    Ok(())
+}
+
 #[test]
 fn the_first_check_that_fails_is_told(rt: HostRuntime) -> Result<(), Fail> {
     for (line, status, err) in FIRST {
-        let locked = three_files(&rt)?.refusing_to_make("t.csv");
-        let left = left_by(&rt, line, locked, Failing::Never)?;
-        expect_refusal(&rt, &left, status, err);
+        assert_first(&rt, line, *status, err)?;
     }
     Ok(())
 }
 
 /// Words that ask for help, and what it says.
-const HELP: [(&str, &str); 5] = [
+const HELP: &[(&str, &str)] = &[
     ("--help", "Usage: swimsim <COMMAND>"),
     ("-h", "Usage: swimsim <COMMAND>"),
     ("help", "Usage: swimsim <COMMAND>"),
@@ -311,21 +291,36 @@ const HELP: [(&str, &str); 5] = [
     ("check --help", "Usage: swimsim check <FILE>"),
 ];
 
+/// Whether these bytes are a text that holds another.
+fn is_text_with(bytes: &[u8], part: &str) -> bool {
+    match str::from_utf8(bytes) {
+        Ok(text) => text.contains(part),
+        Err(_) => false,
+    }
+}
+
+/// Asserts that the words of this line print a help that says how to use them.
+fn assert_help(
+    rt: &(impl Abort + Threads + Wait + Sync + AllocGlobal),
+    line: &str,
+    usage: &str,
+) -> Result<(), Fail> {
+    let left = left_by(rt, line, MemoryFiles::new(rt.alloc()), Failing::Never)?;
+    assert!(rt; left.status == 0 && left.err.bytes().is_empty(), "{line}");
+    assert!(rt; is_text_with(left.out.bytes(), usage), "{line}");
+    Ok(())
+}
+
 #[test]
 fn help_is_printed(rt: HostRuntime) -> Result<(), Fail> {
     for (line, usage) in HELP {
-        let files = files_with(&rt, TWO_MEMBERS.scenario)?;
-        let left = left_by(&rt, line, files, Failing::Never)?;
-        assert_eq!(rt; left.status, 0);
-        assert_eq!(rt; left.err.bytes().len(), 0);
-        let text = str::from_utf8(left.out.bytes()).ok().ok_or("no text")?;
-        assert!(rt; text.contains(usage), "{text}");
+        assert_help(&rt, line, usage)?;
     }
     Ok(())
 }
 
 /// What of the text of two members is replaced by what, and the line of the rule that this breaks.
-const BROKEN: [(&str, &str, &str); 10] = [
+const BROKEN: &[(&str, &str, &str)] = &[
     ("seed = 7", "seed = = 7", "swimsim: scenario rule 1\n"),
     ("seed = 7", "", "swimsim: scenario rule 2\n"),
     (
@@ -358,122 +353,76 @@ const BROKEN: [(&str, &str, &str); 10] = [
     ),
 ];
 
+/// Files with the text of two members, in which something is replaced.
+fn broken_files(rt: &impl AllocGlobal, old: &str, new: &str) -> Result<MemoryFiles, Fail> {
+    let text = TWO_MEMBERS.scenario.replace(rt.alloc(), old, new)?;
+    files_with(rt, text.as_str())
+}
+
+/// Asserts that a run over these files is refused by this line, and leaves no trace.
+fn assert_broken(
+    rt: &(impl Abort + Threads + Wait + Sync + AllocGlobal),
+    files: MemoryFiles,
+    line: &str,
+) -> Result<(), Fail> {
+    let left = left_by(rt, RUN, files, Failing::Never)?;
+    expect_refusal(rt, &left, 3, line);
+    assert!(rt; left.files.bytes("t.csv").is_none(), "{line}");
+    Ok(())
+}
+
 #[test]
 fn scenarios_are_refused_by_their_rule(rt: HostRuntime) -> Result<(), Fail> {
     for (old, new, line) in BROKEN {
-        let text = TWO_MEMBERS.scenario.replace(rt.alloc(), old, new)?;
-        let left = left_by(&rt, RUN, files_with(&rt, text.as_str())?, Failing::Never)?;
-        expect_refusal(&rt, &left, 3, line);
-        assert_eq!(rt; left.files.bytes("t.csv"), None);
+        assert_broken(&rt, broken_files(&rt, old, new)?, line)?;
     }
+    Ok(())
+}
+
+/// The words of each command that prints, and ways in which standard output fails.
+const PRINTING: &[&str] = &[RUN, "--help", "check two.toml"];
+
+const CLOSED: &[Failing] = &[Failing::AtWrite(1), Failing::After(3), Failing::AtFlush];
+
+/// Asserts that a command whose standard output fails so says nothing of it.
+fn assert_closed(
+    rt: &(impl Abort + Threads + Wait + Sync + AllocGlobal),
+    line: &str,
+    fails: Failing,
+) -> Result<(), Fail> {
+    let files = files_with(rt, TWO_MEMBERS.scenario)?;
+    let left = left_by(rt, line, files, fails)?;
+    assert!(rt; left.status == 1 && left.err.bytes().is_empty(), "{line}");
     Ok(())
 }
 
 #[test]
 fn standard_output_that_fails_ends_with_no_line(rt: HostRuntime) -> Result<(), Fail> {
-    for line in [RUN, "--help", "check two.toml"] {
-        for fails in [Failing::AtWrite(1), Failing::After(3), Failing::AtFlush] {
-            let left = left_by(&rt, line, files_with(&rt, TWO_MEMBERS.scenario)?, fails)?;
-            assert_eq!(rt; left.status, 1);
-            assert_eq!(rt; left.err.bytes().len(), 0);
+    for line in PRINTING {
+        for fails in CLOSED {
+            assert_closed(&rt, line, *fails)?;
         }
     }
     Ok(())
 }
 
-/// To be tried with allocations failing (`rt try --test --fail-alloc N`): what is told as done was
-/// done.
+/// Asserts that what is told as done was done.
+fn expect_honest(rt: &impl Abort, left: &Left) {
+    match left.status {
+        0 => {
+            assert!(rt; left.out.bytes() == b"rows 6\n".as_slice());
+            assert!(rt; holds(left, "t.csv", TWO_MEMBERS.trace));
+        }
+        1 => assert!(rt; left.out.bytes().len() < 7, "the line is cut"),
+        status => assert!(rt; status == 5 && left.out.bytes().is_empty(), "{status}"),
+    }
+}
+
+/// To be tried with allocations failing (`rt try --test --fail-alloc N`).
 #[test]
 fn want_of_memory_is_no_success(rt: HostRuntime) -> Result<(), Fail> {
     let files = files_with(&rt, TWO_MEMBERS.scenario)?;
     let left = left_by(&rt, RUN, files, Failing::Never)?;
-    match left.status {
-        0 => {
-            assert_eq!(rt; left.out.bytes(), b"rows 6\n".as_slice());
-            assert!(rt; holds(&left, "t.csv", TWO_MEMBERS.trace));
-        }
-        1 => assert!(rt; left.out.bytes().len() < 7, "the line is cut"),
-        status => {
-            assert_eq!(rt; status, 5);
-            assert_eq!(rt; left.out.bytes().len(), 0);
-        }
-    }
+    expect_honest(&rt, &left);
     Ok(())
-}
-
-/// A text can't ask for want of memory, which is rule 11.
-#[test]
-fn each_rule_is_told_by_its_number_but_memory(rt: HostRuntime) {
-    for rule in 1..=10u8 {
-        assert!(rt; text_failure(rule) == Failure::Rule(rule), "{rule}");
-    }
-    assert!(rt; text_failure(11) == Failure::Memory);
-}
-
-#[test]
-fn each_failure_has_its_line_and_status(rt: HostRuntime) {
-    for (failure, line, status) in [
-        (Failure::File("a b"), "swimsim: file a b\n", 1),
-        (Failure::Usage, "swimsim: usage\n", 2),
-        (Failure::Rule(10), "swimsim: scenario rule 10\n", 3),
-        (Failure::Workers, "swimsim: workers\n", 4),
-        (
-            Failure::Division(DivisionFault::Length),
-            "swimsim: division V1\n",
-            4,
-        ),
-        (
-            Failure::Division(DivisionFault::PartNumber),
-            "swimsim: division V2\n",
-            4,
-        ),
-        (
-            Failure::Division(DivisionFault::Parts),
-            "swimsim: division V3\n",
-            4,
-        ),
-        (Failure::Run(Fault::Memory), "swimsim: run F1\n", 5),
-        (Failure::Run(Fault::Worn), "swimsim: run F2\n", 5),
-        (Failure::Run(Fault::Write), "swimsim: run F3\n", 5),
-        (Failure::Run(Fault::Relay), "swimsim: run F4\n", 5),
-        (Failure::Memory, "swimsim: memory\n", 5),
-        (Failure::Output, "", 1),
-    ] {
-        let mut err = MemoryWriter::new(rt.alloc(), Failing::Never);
-        assert_eq!(rt; refuse(&failure, &mut err), status);
-        assert_eq!(rt; err.bytes(), line.as_bytes());
-        let mut closed = MemoryWriter::new(rt.alloc(), Failing::AtWrite(1));
-        assert_eq!(rt; refuse(&failure, &mut closed), status);
-    }
-}
-
-/// Names of files, and the lines that tell them.
-const NAMES: [(&str, &str); 9] = [
-    ("", "swimsim: file \n"),
-    (
-        "na\u{ef}ve \"\u{2713}\"",
-        "swimsim: file na\u{ef}ve \"\u{2713}\"\n",
-    ),
-    ("a\nb", "swimsim: file a\\nb\n"),
-    ("a\\nb", "swimsim: file a\\\\nb\n"),
-    ("\t\r\n", "swimsim: file \\t\\r\\n\n"),
-    ("\u{0}\u{b}\u{1f} ", "swimsim: file \\u{0}\\u{b}\\u{1f} \n"),
-    (
-        "~\u{7f}\u{80}\u{85}",
-        "swimsim: file ~\\u{7f}\\u{80}\\u{85}\n",
-    ),
-    ("\u{9f}\u{a0}", "swimsim: file \\u{9f}\u{a0}\n"),
-    (
-        "\u{2027}\u{2028}\u{2029}\u{202a}",
-        "swimsim: file \u{2027}\\u{2028}\\u{2029}\u{202a}\n",
-    ),
-];
-
-#[test]
-fn each_name_is_told_in_one_line(rt: HostRuntime) {
-    for (name, line) in NAMES {
-        let mut err = MemoryWriter::new(rt.alloc(), Failing::Never);
-        assert!(rt; refuse(&Failure::File(name), &mut err) == 1);
-        assert!(rt; err.bytes() == line.as_bytes(), "{line}");
-    }
 }

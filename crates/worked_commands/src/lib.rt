@@ -1,15 +1,14 @@
-//! Tests.
+//! What the program prints and leaves in files in memory for words that ask for a check, a run or a sweep, and for
+//! words that it refuses.
 #![tactic(auto)]
 
 #[cfg(test)]
 mod cli_tests;
 #[cfg(test)]
-mod command_line_tests;
-#[cfg(test)]
 mod file_tests;
 #[cfg(test)]
-mod sweep_tests;
+mod fixture;
 #[cfg(test)]
-mod system_tests;
+mod sweep_tests;
 #[cfg(test)]
 mod worked_tests;

@@ -1,9 +1,11 @@
 //! What a command leaves of a sweep, and what it tells of one that it doesn't do.
 
-use crate::tests::{Left, expect_refusal, files_with, holds, left_by};
-use files::testing::{Failing, MemoryFiles};
+use crate::fixture::{Left, expect_refusal, files_with, holds, left_by};
+use cli::testing::{Failing, MemoryFiles};
 use std::process::Abort;
+use std::sync::Wait;
 use std::test::Fail;
+use std::thread::Threads;
 use worked_runs::TWO_MEMBERS;
 
 /// A sweep of two cases, each with two seeds, over the scenario of two members.
@@ -29,31 +31,50 @@ false_suspect  thrown_out  runs_with  share_low  share_high  messages
 0.00           0          0        0.0        65.8    666.66
 ";
 
-/// How many workers make the runs, and what is told of them on the way.
-const WORKERS: [(&str, &str); 5] = [
-    ("", ""),
-    (" --workers 64", ""),
-    (" --progress", "1/4 runs\n2/4 runs\n3/4 runs\n4/4 runs\n"),
-    (" --workers 3 --progress", "3/4 runs\n4/4 runs\n"),
-    (" --workers 64 --progress", "4/4 runs\n"),
+/// The same by so many workers, and what is told of the runs on the way.
+const WORKERS: &[(&str, &str)] = &[
+    (SWEEP, ""),
+    (
+        "sweep two.toml --table t.csv --seeds 1..2 --set swim.period=1000,1200 --workers 64",
+        "",
+    ),
+    (
+        "sweep two.toml --table t.csv --seeds 1..2 --set swim.period=1000,1200 --progress",
+        "1/4 runs\n2/4 runs\n3/4 runs\n4/4 runs\n",
+    ),
+    (
+        "sweep two.toml --table t.csv --seeds 1..2 --set swim.period=1000,1200 --workers 3 --progress",
+        "3/4 runs\n4/4 runs\n",
+    ),
+    (
+        "sweep two.toml --table t.csv --seeds 1..2 --set swim.period=1000,1200 --workers 64 --progress",
+        "4/4 runs\n",
+    ),
 ];
 
 /// Asserts that the sweep was done, and told so on the way.
 fn expect_swept(rt: &impl Abort, left: &Left, told: &str) {
-    assert_eq!(rt; left.err.bytes().len(), 0);
-    assert_eq!(rt; left.status, 0);
-    assert_eq!(rt; left.out.bytes(), CASES.as_bytes());
+    assert!(rt; left.err.bytes().is_empty() && left.status == 0);
+    assert!(rt; left.out.bytes() == CASES.as_bytes());
     assert!(rt; holds(left, "t.csv", TABLE));
-    assert_eq!(rt; left.progress.bytes(), told.as_bytes());
+    assert!(rt; left.progress.bytes() == told.as_bytes(), "{told}");
+}
+
+/// Asserts that these words do the sweep, and tell this on the way.
+fn assert_swept(
+    rt: &(impl Abort + Threads + Wait + Sync + AllocGlobal),
+    line: &str,
+    told: &str,
+) -> Result<(), Fail> {
+    let left = left_by(rt, line, older_table(rt)?, Failing::Never)?;
+    expect_swept(rt, &left, told);
+    Ok(())
 }
 
 #[test]
 fn any_workers_leave_the_same_table(rt: HostRuntime) -> Result<(), Fail> {
-    for (more, told) in WORKERS {
-        let line = format!(in rt.alloc(); "{SWEEP}{more}")?;
-        let files = older_table(&rt)?;
-        let left = left_by(&rt, line.as_str(), files, Failing::Never)?;
-        expect_swept(&rt, &left, told);
+    for (line, told) in WORKERS {
+        assert_swept(&rt, line, told)?;
     }
     Ok(())
 }
@@ -69,7 +90,7 @@ fn older_table(rt: &impl AllocGlobal) -> Result<MemoryFiles, Fail> {
 
 /// Words of sweeps that are not done, where no file `locked.csv` can be made: the status, and the line of the
 /// first cause.
-const REFUSED: [(u8, &str, &[&str]); 9] = [
+const REFUSED: &[(u8, &str, &[&str])] = &[
     (
         2,
         "swimsim: usage\n",
@@ -133,45 +154,72 @@ const REFUSED: [(u8, &str, &[&str]); 9] = [
     ),
 ];
 
+/// Asserts that these words end so, and leave the files as they were.
+fn assert_refused(
+    rt: &(impl Abort + Threads + Wait + Sync + AllocGlobal),
+    line: &str,
+    status: u8,
+    told: &str,
+) -> Result<(), Fail> {
+    let files = older_table(rt)?.refusing_to_make("locked.csv");
+    let left = left_by(rt, line, files, Failing::Never)?;
+    expect_refusal(rt, &left, status, told);
+    assert!(rt; holds(&left, "t.csv", "an older table"), "{line}");
+    assert!(rt; holds(&left, "two.toml", TWO_MEMBERS.scenario), "{line}");
+    Ok(())
+}
+
 #[test]
 fn a_sweep_that_is_refused_leaves_the_files(rt: HostRuntime) -> Result<(), Fail> {
     for (status, told, lines) in REFUSED {
-        for line in lines {
-            let files = older_table(&rt)?.refusing_to_make("locked.csv");
-            let left = left_by(&rt, line, files, Failing::Never)?;
-            expect_refusal(&rt, &left, status, told);
-            assert!(rt; holds(&left, "t.csv", "an older table"), "{line}");
-            assert!(rt; holds(&left, "two.toml", TWO_MEMBERS.scenario), "{line}");
+        for line in *lines {
+            assert_refused(&rt, line, *status, told)?;
         }
     }
     Ok(())
 }
 
 /// Where a table fails, and what it has then got.
-const BROKEN_OFF: [(Failing, &str); 3] = [
+const BROKEN_OFF: &[(Failing, &str)] = &[
     (Failing::AtWrite(1), ""),
     (Failing::After(16), "swim.period,seed"),
     (Failing::AtFlush, TABLE),
 ];
 
+/// Asserts that a table that fails so has got this.
+fn assert_broken_off(
+    rt: &(impl Abort + Threads + Wait + Sync + AllocGlobal),
+    fails: Failing,
+    written: &str,
+) -> Result<(), Fail> {
+    let files = older_table(rt)?.failing(fails);
+    let left = left_by(rt, SWEEP, files, Failing::Never)?;
+    expect_refusal(rt, &left, 5, "swimsim: run F3\n");
+    assert!(rt; holds(&left, "t.csv", written));
+    Ok(())
+}
+
 #[test]
 fn a_table_that_fails_is_a_beginning(rt: HostRuntime) -> Result<(), Fail> {
     for (fails, written) in BROKEN_OFF {
-        let files = older_table(&rt)?.failing(fails);
-        let left = left_by(&rt, SWEEP, files, Failing::Never)?;
-        expect_refusal(&rt, &left, 5, "swimsim: run F3\n");
-        assert!(rt; holds(&left, "t.csv", written));
+        assert_broken_off(&rt, *fails, written)?;
     }
+    Ok(())
+}
+
+/// Asserts that a sweep whose standard output fails so says nothing of it, and leaves its table.
+fn assert_closed(
+    rt: &(impl Abort + Threads + Wait + Sync + AllocGlobal),
+    fails: Failing,
+) -> Result<(), Fail> {
+    let left = left_by(rt, SWEEP, older_table(rt)?, fails)?;
+    assert!(rt; left.status == 1 && left.err.bytes().is_empty());
+    assert!(rt; holds(&left, "t.csv", TABLE));
     Ok(())
 }
 
 #[test]
 fn standard_output_may_fail_after_the_table(rt: HostRuntime) -> Result<(), Fail> {
-    for fails in [Failing::AtWrite(1), Failing::AtFlush] {
-        let left = left_by(&rt, SWEEP, older_table(&rt)?, fails)?;
-        assert_eq!(rt; left.status, 1);
-        assert_eq!(rt; left.err.bytes().len(), 0);
-        assert!(rt; holds(&left, "t.csv", TABLE));
-    }
-    Ok(())
+    assert_closed(&rt, Failing::AtWrite(1))?;
+    assert_closed(&rt, Failing::AtFlush)
 }

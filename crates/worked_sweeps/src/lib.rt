@@ -1,11 +1,5 @@
-//! Tests.
+//! Sweeps of a tiny scenario by any number of workers, held against runs that are made one by one.
 #![tactic(auto)]
 
-#[cfg(test)]
-mod cases_tests;
-#[cfg(test)]
-mod figures_tests;
-#[cfg(test)]
-mod figures_tests_cases;
 #[cfg(test)]
 mod sweep_tests;

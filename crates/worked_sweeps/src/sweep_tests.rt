@@ -1,7 +1,6 @@
 //! Sweeps of a tiny scenario: the same table and the same figures as runs that are made one by one give, with any
 //! number of workers.
 
-use crate::{NoProgress, Progress, cases_text, judge, sweep};
 use base::Fault;
 use cases::{Plan, SettingValue};
 use exchange::tally_run;
@@ -12,6 +11,7 @@ use std::marker::Sync;
 use std::process::Abort;
 use std::test::Fail;
 use std::thread::Threads;
+use sweep::{NoProgress, Progress, Refused, cases_text, judge, sweep};
 use trace::Sink;
 use trace::testing::MemorySink;
 
@@ -40,7 +40,7 @@ const SETTINGS: [&str; 2] = ["swim.period=200,250", "swim.timeout=60,70"];
 const KEYS: [&str; 2] = ["swim.period", "swim.timeout"];
 
 /// The values of each case, in their order.
-const CASES: [[&str; 2]; 4] = [["200", "60"], ["200", "70"], ["250", "60"], ["250", "70"]];
+const CASES: &[[&str; 2]] = &[["200", "60"], ["200", "70"], ["250", "60"], ["250", "70"]];
 
 /// How many puts a table takes: one for its header and one for each run.
 const PUTS: u64 = 9;
@@ -146,10 +146,22 @@ fn write_one_by_one(rt: &(impl Abort + AllocGlobal), table: &mut MemorySink) -> 
     assert!(rt; table.failures() < 1 << 62);
     write_header(rt.alloc(), &KEYS, table)?;
     for case in CASES {
-        write_one(rt, case, 1, table)?;
-        write_one(rt, case, 2, table)?;
+        write_one(rt, *case, 1, table)?;
+        write_one(rt, *case, 2, table)?;
     }
     Ok(())
+}
+
+/// Asserts that so many workers write this table, and sum up the cases as when their runs are made one by one.
+fn assert_swept(
+    rt: &(impl Abort + AllocGlobal + Threads + Sync),
+    workers: usize,
+    expected: &MemorySink,
+) -> Result<(), Fail> {
+    let mut table = MemorySink::new(rt.alloc());
+    let summaries = sweep_by(rt, workers, &mut NoProgress, &mut table)??;
+    assert!(rt; table.bytes() == expected.bytes() && table.puts() == PUTS);
+    assert_summaries(rt, &summaries)
 }
 
 /// However many workers there are, the table and what is told of the cases are those of runs that are made one by
@@ -158,14 +170,10 @@ fn write_one_by_one(rt: &(impl Abort + AllocGlobal), table: &mut MemorySink) -> 
 fn any_workers_write_the_same_table(rt: HostRuntime) -> Result<(), Fail> {
     let mut expected = MemorySink::new(rt.alloc());
     write_one_by_one(&rt, &mut expected)?;
-    for workers in [1, 2, 3, 64usize] {
-        let mut table = MemorySink::new(rt.alloc());
-        let summaries = sweep_by(&rt, workers, &mut NoProgress, &mut table)??;
-        assert!(rt; table.bytes() == expected.bytes());
-        assert!(rt; table.puts() == PUTS);
-        assert_summaries(&rt, &summaries)?;
-    }
-    Ok(())
+    assert_swept(&rt, 1, &expected)?;
+    assert_swept(&rt, 2, &expected)?;
+    assert_swept(&rt, 3, &expected)?;
+    assert_swept(&rt, 64, &expected)
 }
 
 /// Three workers make three runs at a time, and at last two.
@@ -178,9 +186,21 @@ fn it_is_told_how_many_runs_were_made(rt: HostRuntime) -> Result<(), Fail> {
     };
     let mut table = MemorySink::new(rt.alloc());
     sweep_by(&rt, 3, &mut told, &mut table)??;
-    assert!(rt; told.often == 3);
-    assert!(rt; told.made == 8);
-    assert!(rt; told.all == 8);
+    assert!(rt; told.often == 3 && told.made == 8 && told.all == 8);
+    Ok(())
+}
+
+/// Asserts that the table has got a beginning of this one where this put fails.
+fn assert_beginning(
+    rt: &(impl Abort + AllocGlobal + Threads + Sync),
+    put: u64,
+    expected: &MemorySink,
+) -> Result<(), Fail> {
+    let mut table = MemorySink::new(rt.alloc()).failing_at_put(put);
+    let swept = sweep_by(rt, 3, &mut NoProgress, &mut table)?;
+    assert_stopped(rt, swept);
+    assert!(rt; table.failures() == 1 && table.puts() == put);
+    assert!(rt; expected.bytes().starts_with(table.bytes()));
     Ok(())
 }
 
@@ -190,12 +210,7 @@ fn a_sink_that_stops_has_a_beginning(rt: HostRuntime) -> Result<(), Fail> {
     let mut expected = MemorySink::new(rt.alloc());
     write_one_by_one(&rt, &mut expected)?;
     for put in 1..PUTS + 1 {
-        let mut table = MemorySink::new(rt.alloc()).failing_at_put(put);
-        let swept = sweep_by(&rt, 3, &mut NoProgress, &mut table)?;
-        assert_stopped(&rt, swept);
-        assert!(rt; table.failures() == 1);
-        assert!(rt; table.puts() == put);
-        assert!(rt; expected.bytes().starts_with(table.bytes()));
+        assert_beginning(&rt, put, &expected)?;
     }
     Ok(())
 }
@@ -272,6 +287,14 @@ fn each_case_has_a_line(rt: HostRuntime) -> Result<(), Fail> {
     Ok(())
 }
 
+/// Asserts that a case is refused, told by its two settings without a seed, and that it breaks rule 9.
+fn assert_refused(rt: &impl Abort, refused: &Refused, period: SettingValue, timeout: SettingValue) {
+    assert!(rt; refused.refusal.rule == 9);
+    assert!(rt; refused.seed.is_none() && refused.case.len() == 2);
+    assert!(rt; refused.case[0].value == period);
+    assert!(rt; refused.case[1].value == timeout);
+}
+
 /// Of four cases the second has a timeout that isn't below its period.
 #[test]
 fn the_first_refused_case_is_told(rt: HostRuntime) -> Result<(), Fail> {
@@ -281,10 +304,11 @@ fn the_first_refused_case_is_told(rt: HostRuntime) -> Result<(), Fail> {
     let Err(refused) = judge(rt.alloc(), &plan, &text) else {
         panic!(rt; "accepted");
     };
-    assert!(rt; refused.refusal.rule == 9);
-    assert!(rt; refused.seed == None);
-    assert!(rt; refused.case.len() == 2);
-    assert!(rt; refused.case[0].value == SettingValue::Whole(200));
-    assert!(rt; refused.case[1].value == SettingValue::Whole(300));
+    assert_refused(
+        &rt,
+        &refused,
+        SettingValue::Whole(200),
+        SettingValue::Whole(300),
+    );
     Ok(())
 }

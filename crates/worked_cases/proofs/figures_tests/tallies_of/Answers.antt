@@ -1,6 +1,6 @@
 use Rattle.std.proofs.lemmas.List.Elements.{All-push}
 use Rattle.trace.specs.Text.{NamesMembers}
-use Rattle.figures.proofs.tests.tallies_of.Goals as goal
+use Rattle.worked_cases.proofs.figures_tests.tallies_of.Goals as goal
 
 pub loop-told-preserved : goal.loop-told-preserved
 loop-told-preserved g c =

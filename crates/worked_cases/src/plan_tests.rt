@@ -3,7 +3,7 @@
 ghost use Rattle.std.specs.Prelude.{◌<◌, ◌^◌};
 ghost use Rattle.std.specs.Option.{ForSome};
 
-use crate::{Plan, SettingKey, SettingValue, read_with, settings_text};
+use cases::{Plan, SettingKey, SettingValue, read_with, settings_text};
 use std::alloc::Global;
 
 const TEXT: &str = "version = 1

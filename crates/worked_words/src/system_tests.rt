@@ -1,7 +1,7 @@
 //! The words that a program takes of those that it is given.
 
-use crate::Failure;
-use crate::system::words;
+use command_line::Failure;
+use command_line::system::words;
 use std::env::{Env, FillError};
 use std::process::Abort;
 

@@ -3,8 +3,8 @@ ghost use Rattle.std.specs.Prelude.{All, IfOk, ◌<◌};
 ghost use Rattle.scenario.specs.Setup.{member_count};
 ghost use Rattle.trace.specs.Text.{NamesMembers};
 
-use crate::{RunFigures, write_header, write_run};
 use base::{MemberId, Moment};
+use figures::{RunFigures, write_header, write_run};
 use reports::Tallies;
 use scenario::Scenario;
 use std::process::Abort;

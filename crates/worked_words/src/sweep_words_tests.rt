@@ -1,5 +1,5 @@
-//! The words of a sweep, their help, and the line that tells of a case.
-use crate::{Asked, Failure, SweepWords, parse, print_help, refuse};
+//! The words of a sweep, and their help.
+use command_line::{Asked, Failure, SweepWords, parse, print_help};
 use std::process::Abort;
 use std::test::Fail;
 
@@ -124,26 +124,5 @@ fn help_tells_of_sweeps(rt: HostRuntime) -> Result<(), Fail> {
         "{text}"
     );
     assert!(rt; text.contains("--set <KEY=V1,V2,..>"), "{text}");
-    Ok(())
-}
-
-/// The settings of a case that breaks rule 9, and the line that tells it.
-const CASES: &[(&str, &str)] = &[
-    ("", "swimsim: scenario rule 9\n"),
-    (
-        "swim.period=200 suspicion.alpha=5",
-        "swimsim: scenario rule 9 with swim.period=200 suspicion.alpha=5\n",
-    ),
-];
-
-#[test]
-fn each_case_is_told_in_one_line(rt: HostRuntime) -> Result<(), Fail> {
-    for (settings, line) in CASES {
-        let mut err = Vec::new(rt.alloc());
-        let settings = String::from_str(rt.alloc(), *settings)?;
-        let failure = Failure::Case { rule: 9, settings };
-        assert!(rt; refuse(&failure, &mut err) == 3);
-        assert!(rt; err.as_slice() == line.as_bytes(), "{line}");
-    }
     Ok(())
 }

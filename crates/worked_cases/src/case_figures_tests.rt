@@ -1,6 +1,6 @@
 //! What is told of small cases, and their lines, worked out by hand.
-use crate::tests::{RUN, THREE, Told, tallies_of};
-use crate::{CaseFigures, CaseSummary, RunFigures, push_case_header, push_case_line};
+use crate::figures_tests::{RUN, THREE, Told, tallies_of};
+use figures::{CaseFigures, CaseSummary, RunFigures, push_case_header, push_case_line};
 use scenario::Scenario;
 use std::process::Abort;
 use std::test::Fail;
