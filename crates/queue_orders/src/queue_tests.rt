@@ -144,16 +144,25 @@ fn events_leave_a_wheel_in_the_order_of_their_keys(rt: HostRuntime) -> Result<()
     leave_in_order(&rt, wheel(&rt)?, APART, APART_ORDER)
 }
 
+/// Bounds, and what leaves below each, one after the other, where an event of moment 10 pends.
+const BOUNDS: [(u64, Option<u64>); 5] = [
+    (0, None),
+    (9, None),
+    (10, None),
+    (11, Some(1)),
+    (11, None),
+];
+
 /// Only what lies below the bound leaves.
 fn leave_below<Q: EventQueue<Note> + Drop>(
     rt: &impl Abort,
     mut notes: Numbered<Q>,
 ) -> Result<(), Fail> {
     notes.push(10, 0, 0)?;
-    for (bound, number) in [(0, None), (9, None), (10, None), (11, Some(1)), (11, None)] {
-        assert_eq!(rt; notes.pop_below(bound), number);
+    for (bound, number) in &BOUNDS {
+        assert!(rt; notes.pop_below(*bound) == *number);
     }
-    assert_eq!(rt; notes.queue.len(), 0);
+    assert!(rt; notes.queue.len() == 0);
     Ok(())
 }
 
@@ -163,20 +172,24 @@ fn only_what_lies_below_the_bound_leaves(rt: HostRuntime) -> Result<(), Fail> {
     leave_below(&rt, wheel(&rt)?)
 }
 
+/// What least and how many there are, after a push at each moment.
+const PUSHED: [(u64, u64, usize); 3] = [(30, 30, 1), (4000, 30, 2), (20, 20, 3)];
+
+/// The same after each pop.
+const POPPED: [(Option<u64>, usize); 3] = [(Some(30), 2), (Some(4000), 1), (None, 0)];
+
 /// `least` and `len` follow pushes and pops.
 fn follow<Q: EventQueue<Note> + Drop>(rt: &impl Abort, mut notes: Numbered<Q>) -> Result<(), Fail> {
-    assert_eq!(rt; notes.least(), None);
+    assert!(rt; notes.least() == None);
     assert!(rt; notes.queue.is_empty());
-    for (at, least, len) in [(30, 30, 1), (4000, 30, 2), (20, 20, 3)] {
-        notes.push(at, 0, 0)?;
-        assert_eq!(rt; notes.least(), Some(least));
-        assert_eq!(rt; notes.queue.len(), len);
+    for (at, least, len) in &PUSHED {
+        notes.push(*at, 0, 0)?;
+        assert!(rt; notes.least() == Some(*least) && notes.queue.len() == *len);
     }
-    for (least, len) in [(Some(30), 2), (Some(4000), 1), (None, 0)] {
+    for (least, len) in &POPPED {
         assert!(rt; !notes.queue.is_empty());
         assert!(rt; notes.pop_below(10_000).is_some());
-        assert_eq!(rt; notes.least(), least);
-        assert_eq!(rt; notes.queue.len(), len);
+        assert!(rt; notes.least() == *least && notes.queue.len() == *len);
     }
     assert!(rt; notes.queue.is_empty());
     Ok(())
@@ -193,16 +206,16 @@ fn leave_by_number<Q: EventQueue<Note> + Drop>(
     rt: &impl Abort,
     mut notes: Numbered<Q>,
 ) -> Result<(), Fail> {
-    for at in [5, 1028, 2000, 3, 5] {
-        notes.push(at, 4, 2)?;
+    for at in &[5, 1028, 2000, 3, 5] {
+        notes.push(*at, 4, 2)?;
     }
-    for number in [4, 1, 5, 2] {
-        assert_eq!(rt; notes.pop_below(2000), Some(number));
+    for number in &[4, 1, 5, 2] {
+        assert!(rt; notes.pop_below(2000) == Some(*number));
     }
-    assert_eq!(rt; notes.pop_below(2000), None);
-    assert_eq!(rt; notes.least(), Some(2000));
+    assert!(rt; notes.pop_below(2000) == None);
+    assert!(rt; notes.least() == Some(2000));
     notes.push(1, 4, 2)?;
-    assert_eq!(rt; notes.pop_below(2000), Some(6));
+    assert!(rt; notes.pop_below(2000) == Some(6));
     Ok(())
 }
 
@@ -212,35 +225,41 @@ fn events_of_one_sender_leave_by_moment_then_number(rt: HostRuntime) -> Result<(
     leave_by_number(&rt, wheel(&rt)?)
 }
 
+/// Events for three receivers.
+const RECEIVED: [(u64, u16, u16); 6] = [
+    (7, 2, 0),
+    (7, 1, 9),
+    (3, 9, 1),
+    (7, 1, 0),
+    (9, 1, 0),
+    (8, 2, 1),
+];
+
+/// Receivers and bounds, and what leaves for each below it, one after the other.
+const TAKEN: [(u16, u64, Option<u64>); 10] = [
+    (1, 7, None),
+    (1, 10, Some(4)),
+    (1, 10, Some(2)),
+    (2, 8, Some(1)),
+    (2, 8, None),
+    (9, 3, None),
+    (9, 4, Some(3)),
+    (1, 9, None),
+    (1, 10, Some(5)),
+    (5, 100, None),
+];
+
 #[test]
 fn the_least_event_of_a_receiver_leaves(rt: HostRuntime) -> Result<(), Fail> {
     let mut notes = tree(&rt);
-    for (at, to, from) in [
-        (7, 2, 0),
-        (7, 1, 9),
-        (3, 9, 1),
-        (7, 1, 0),
-        (9, 1, 0),
-        (8, 2, 1),
-    ] {
-        notes.push(at, to, from)?;
+    for (at, to, from) in &RECEIVED {
+        notes.push(*at, *to, *from)?;
     }
-    for (receiver, bound, number) in [
-        (1, 7, None),
-        (1, 10, Some(4)),
-        (1, 10, Some(2)),
-        (2, 8, Some(1)),
-        (2, 8, None),
-        (9, 3, None),
-        (9, 4, Some(3)),
-        (1, 9, None),
-        (1, 10, Some(5)),
-        (5, 100, None),
-    ] {
-        assert_eq!(rt; take_for(&mut notes, receiver, bound), number);
+    for (receiver, bound, number) in &TAKEN {
+        assert!(rt; take_for(&mut notes, *receiver, *bound) == *number);
     }
-    assert_eq!(rt; notes.queue.len(), 1);
-    assert_eq!(rt; notes.pop_below(100), Some(6));
+    assert!(rt; notes.queue.len() == 1);
+    assert!(rt; notes.pop_below(100) == Some(6));
     Ok(())
 }
 
