@@ -1,27 +1,26 @@
-//! Tests.
+//! What one member makes of single events, as tables of cases that were worked out from the protocol's text: the tests
+//! of `member`, through what it makes public.
 #![tactic(auto)]
 
 #[cfg(test)]
-mod tests_claims;
+mod claims_tests;
 #[cfg(test)]
-mod tests_draws;
+mod draws_tests;
 #[cfg(test)]
-mod tests_fixture;
+mod fixture;
 #[cfg(test)]
-mod tests_joins;
+mod joins_tests;
 #[cfg(test)]
-mod tests_leaves;
+mod leaves_tests;
 #[cfg(test)]
-mod tests_messages;
+mod lines;
 #[cfg(test)]
-mod tests_period;
+mod messages_tests;
 #[cfg(test)]
-mod tests_start;
+mod period_tests;
 #[cfg(test)]
-mod tests_suspicions;
+mod start_tests;
 #[cfg(test)]
-mod tests_text;
+mod suspicions_tests;
 #[cfg(test)]
-mod tests_updates;
-#[cfg(test)]
-mod tests_worn;
+mod updates_tests;

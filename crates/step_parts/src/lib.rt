@@ -1,4 +1,5 @@
-//! Tests.
+//! What the parts of a member do: the tests of its table, its buffer, its rota, its suspicions, its health and its
+//! stream of draws, through what these make public.
 #![tactic(auto)]
 
 #[cfg(test)]

@@ -1,5 +1,6 @@
-use crate::{Health, Probe, Relays, nack_delay};
 use base::{MemberId, Memory};
+use lifeguard::{Health, Probe, Relays, nack_delay};
+use std::process::Abort;
 use std::test::Fail;
 
 /// A probe that failed, with so many nacks expected and so many come.
@@ -16,16 +17,19 @@ fn failed_probe(expected: u8, nacks: u8) -> Probe {
 fn good_leaves_full_health(rt: HostRuntime) {
     let mut health = Health::new(8);
     health.good();
-    assert_eq!(rt; health.counter(), 0);
-    assert_eq!(rt; health, Health::new(8));
+    assert!(rt; health.counter() == 0);
+    assert!(rt; health == Health::new(8));
 }
+
+/// What a failed probe adds, by how many nacks were expected and how many came.
+const ADDED: &[(u8, u8, u32)] = &[(1, 1, 1), (2, 1, 2), (0, 0, 1), (3, 0, 2), (0, 1, 1)];
 
 #[test]
 fn failed_probe_adds_one_or_two(rt: HostRuntime) {
-    for (expected, nacks, added) in [(1, 1, 1), (2, 1, 2), (0, 0, 1), (3, 0, 2), (0, 1, 1)] {
+    for (expected, nacks, added) in ADDED {
         let mut health = Health::new(8);
-        health.probe_ended(&failed_probe(expected, nacks));
-        assert_eq!(rt; health.counter(), added, "{nacks} nacks of {expected}");
+        health.probe_ended(&failed_probe(*expected, *nacks));
+        assert!(rt; health.counter() == *added, "{nacks} nacks of {expected}");
     }
 }
 
@@ -37,9 +41,9 @@ fn answered_probe_takes_one_off(rt: HostRuntime) {
     let mut probe = failed_probe(3, 0);
     probe.acked = true;
     health.probe_ended(&probe);
-    assert_eq!(rt; health.counter(), 1);
+    assert!(rt; health.counter() == 1);
     health.good();
-    assert_eq!(rt; health.counter(), 0);
+    assert!(rt; health.counter() == 0);
 }
 
 #[test]
@@ -48,9 +52,9 @@ fn counter_stops_at_the_ceiling(rt: HostRuntime) {
     for _ in 0..7 {
         health.bad();
     }
-    assert_eq!(rt; health.counter(), 7);
+    assert!(rt; health.counter() == 7);
     health.probe_ended(&failed_probe(2, 1));
-    assert_eq!(rt; health.counter(), 8);
+    assert!(rt; health.counter() == 8);
 }
 
 #[test]
@@ -59,45 +63,46 @@ fn ceiling_of_zero_keeps_the_counter_there(rt: HostRuntime) {
     health.bad();
     health.missed();
     health.refuted();
-    assert_eq!(rt; health.counter(), 0);
-    assert_eq!(rt; health.scaled(1000), 1000);
+    assert!(rt; health.counter() == 0);
+    assert!(rt; health.scaled(1000) == 1000);
 }
 
 #[test]
 fn times_are_scaled_by_the_counter_plus_one(rt: HostRuntime) {
     let mut health = Health::new(16);
-    assert_eq!(rt; health.scaled(1000), 1000);
+    assert!(rt; health.scaled(1000) == 1000);
     health.bad();
     health.missed();
-    assert_eq!(rt; health.scaled(1000), 3000);
+    assert!(rt; health.scaled(1000) == 3000);
     for _ in 0..16 {
         health.refuted();
     }
-    assert_eq!(rt; health.scaled(1 << 24), 17 << 24);
+    assert!(rt; health.scaled(1 << 24) == 17 << 24);
 }
 
 #[test]
 fn sixteen_nacks_are_counted_at_most(rt: HostRuntime) {
-    assert_eq!(rt; failed_probe(3, 15).nacks, 15);
-    assert_eq!(rt; failed_probe(3, 16).nacks, 16);
-    assert_eq!(rt; failed_probe(3, 20).nacks, 16);
+    assert!(rt; failed_probe(3, 15).nacks == 15);
+    assert!(rt; failed_probe(3, 16).nacks == 16);
+    assert!(rt; failed_probe(3, 20).nacks == 16);
+}
+
+/// That a nack comes so late at such a percentage of a timeout.
+fn expect_delay(rt: &impl Abort, nack_percent: u32, timeout: u64, delay: u64) {
+    assert!(rt; nack_percent <= 100 && timeout <= 1 << 24);
+    assert!(rt;
+        nack_delay(nack_percent, timeout) == delay,
+        "{nack_percent} of {timeout}"
+    );
 }
 
 #[test]
 fn nack_delay_is_a_share_of_the_timeout(rt: HostRuntime) {
-    for (nack_percent, timeout, delay) in [
-        (80, 300, 240),
-        (80, 1, 1),
-        (100, 300, 300),
-        (33, 10, 3),
-        (1, 99, 1),
-    ] {
-        assert_eq!(rt;
-            nack_delay(nack_percent, timeout),
-            delay,
-            "{nack_percent} of {timeout}"
-        );
-    }
+    expect_delay(&rt, 80, 300, 240);
+    expect_delay(&rt, 80, 1, 1);
+    expect_delay(&rt, 100, 300, 300);
+    expect_delay(&rt, 33, 10, 3);
+    expect_delay(&rt, 1, 99, 1);
 }
 
 #[test]

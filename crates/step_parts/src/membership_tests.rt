@@ -1,6 +1,6 @@
-use super::*;
 use base::{MemberId, Memory};
 use incarnation::{Claim, Update};
+use membership::{Table, does_override, is_confirm, is_suspect};
 use std::test::Fail;
 
 // A table in which 1 and 4 are up, 2 is suspected at number 3, and 7 is confirmed at number 5.
@@ -15,21 +15,21 @@ fn table_of_four(rt: &impl AllocGlobal) -> Result<Table, Memory> {
 #[test]
 fn what_is_held_is_the_last_claim(rt: HostRuntime) -> Result<(), Fail> {
     let mut table = table_of_four(&rt)?;
-    assert_eq!(rt; table.get(MemberId(1)), Some((Claim::Alive, 0)));
-    assert_eq!(rt; table.get(MemberId(7)), Some((Claim::Confirm, 5)));
-    assert_eq!(rt; table.get(MemberId(3)), None);
+    assert!(rt; table.get(MemberId(1)) == Some((Claim::Alive, 0)));
+    assert!(rt; table.get(MemberId(7)) == Some((Claim::Confirm, 5)));
+    assert!(rt; table.get(MemberId(3)) == None);
     table.remove(MemberId(7));
-    assert_eq!(rt; table.get(MemberId(7)), None);
+    assert!(rt; table.get(MemberId(7)) == None);
     Ok(())
 }
 
 #[test]
 fn the_confirmed_are_not_counted_and_suspects_do_not_help(rt: HostRuntime) -> Result<(), Fail> {
     let table = table_of_four(&rt)?;
-    assert_eq!(rt; table.live_count(), 4);
+    assert!(rt; table.live_count() == 4);
     let helpers = table.alive_but(rt.alloc(), MemberId(4))?;
-    assert_eq!(rt; helpers.as_slice(), [MemberId(1)].as_slice());
-    assert_eq!(rt; Table::new(rt.alloc()).live_count(), 1);
+    assert!(rt; helpers.as_slice() == [MemberId(1)].as_slice());
+    assert!(rt; Table::new(rt.alloc()).live_count() == 1);
     Ok(())
 }
 
@@ -42,7 +42,7 @@ fn updates_come_in_the_order_of_their_subjects(rt: HostRuntime) -> Result<(), Fa
         (4, Claim::Alive, 0),
         (7, Claim::Confirm, 5),
     ];
-    assert_eq!(rt; updates.len(), held.len());
+    assert!(rt; updates.len() == held.len());
     for (update, (subject, claim, inc)) in updates.iter().zip(held) {
         let wanted = Update {
             subject: MemberId(subject),
@@ -50,7 +50,7 @@ fn updates_come_in_the_order_of_their_subjects(rt: HostRuntime) -> Result<(), Fa
             inc,
             accuser: MemberId(9),
         };
-        assert_eq!(rt; *update, wanted);
+        assert!(rt; *update == wanted);
     }
     Ok(())
 }

@@ -1,8 +1,10 @@
 ghost use Rattle.std.specs.Prelude.{◌<◌};
 
-use super::*;
 use crate::plain::Plain;
-use incarnation::Claim;
+use base::{MemberId, Memory};
+use incarnation::{Claim, Update};
+use piggyback::Buffer;
+use std::alloc::Global;
 use std::process::Abort;
 use std::test::Fail;
 
@@ -50,13 +52,28 @@ fn unevenly_sent(rt: &impl AllocGlobal) -> Result<Buffer, Memory> {
     Ok(buffer)
 }
 
+// That updates are these.
+fn expect_updates(rt: &impl Abort, updates: &[Update], wanted: &[Update]) {
+    assert!(rt; updates == wanted);
+}
+
+// That these are the counts.
+fn expect_counts(rt: &impl Abort, buffer: &Buffer, wanted: [Option<u64>; 4]) {
+    assert!(rt; counts(buffer) == wanted);
+}
+
+// That the buffer holds this of a member.
+fn expect_held(rt: &impl Abort, buffer: &Buffer, subject: u16, held: Option<(Update, u64)>) {
+    assert!(rt; buffer.of(MemberId(subject)) == held);
+}
+
 #[test]
 fn the_least_sent_go_first(rt: HostRuntime) -> Result<(), Fail> {
     let mut buffer = unevenly_sent(&rt)?;
-    assert_eq!(rt; counts(&buffer), [Some(2), Some(1), Some(0), Some(0)]);
+    expect_counts(&rt, &buffer, [Some(2), Some(1), Some(0), Some(0)]);
     let updates = buffer.pick(2, 9, None)?;
-    assert_eq!(rt; updates.as_slice(), [alive(3), alive(4)].as_slice());
-    assert_eq!(rt; counts(&buffer), [Some(2), Some(1), Some(1), Some(1)]);
+    expect_updates(&rt, &updates, &[alive(3), alive(4)]);
+    expect_counts(&rt, &buffer, [Some(2), Some(1), Some(1), Some(1)]);
     Ok(())
 }
 
@@ -64,9 +81,9 @@ fn the_least_sent_go_first(rt: HostRuntime) -> Result<(), Fail> {
 fn a_buddy_goes_before_all(rt: HostRuntime) -> Result<(), Fail> {
     let mut buffer = unevenly_sent(&rt)?;
     let updates = buffer.pick(2, 9, Some(suspect(1)))?;
-    assert_eq!(rt; updates.as_slice(), [suspect(1), alive(3)].as_slice());
-    assert_eq!(rt; counts(&buffer), [Some(3), Some(1), Some(1), Some(0)]);
-    assert_eq!(rt; buffer.of(MemberId(1)), Some((alive(1), 3)));
+    expect_updates(&rt, &updates, &[suspect(1), alive(3)]);
+    expect_counts(&rt, &buffer, [Some(3), Some(1), Some(1), Some(0)]);
+    expect_held(&rt, &buffer, 1, Some((alive(1), 3)));
     Ok(())
 }
 
@@ -75,10 +92,11 @@ fn a_buddy_needs_no_entry_and_no_room(rt: HostRuntime) -> Result<(), Fail> {
     let mut buffer = Buffer::new(rt.alloc())?;
     buffer.put(alive(1))?;
     let updates = buffer.pick(6, 9, Some(suspect(7)))?;
-    assert_eq!(rt; updates.as_slice(), [suspect(7), alive(1)].as_slice());
-    assert_eq!(rt; buffer.of(MemberId(7)), None);
-    assert_eq!(rt; buffer.pick(0, 9, Some(suspect(1)))?.len(), 0);
-    assert_eq!(rt; count_of(&buffer, 1), Some(1));
+    expect_updates(&rt, &updates, &[suspect(7), alive(1)]);
+    expect_held(&rt, &buffer, 7, None);
+    let nothing = buffer.pick(0, 9, Some(suspect(1)))?;
+    expect_updates(&rt, &nothing, &[]);
+    assert!(rt; count_of(&buffer, 1) == Some(1));
     Ok(())
 }
 
@@ -86,8 +104,8 @@ fn a_buddy_needs_no_entry_and_no_room(rt: HostRuntime) -> Result<(), Fail> {
 fn a_put_begins_anew(rt: HostRuntime) -> Result<(), Fail> {
     let mut buffer = unevenly_sent(&rt)?;
     buffer.put(suspect(1))?;
-    assert_eq!(rt; buffer.of(MemberId(1)), Some((suspect(1), 0)));
-    assert_eq!(rt; counts(&buffer), [Some(0), Some(1), Some(0), Some(0)]);
+    expect_held(&rt, &buffer, 1, Some((suspect(1), 0)));
+    expect_counts(&rt, &buffer, [Some(0), Some(1), Some(0), Some(0)]);
     Ok(())
 }
 
@@ -96,14 +114,29 @@ fn what_was_sent_often_enough_is_dropped(rt: HostRuntime) -> Result<(), Fail> {
     let mut buffer = unevenly_sent(&rt)?;
     // Subject 1 was sent twice already, so under a limit of 2 it is dropped without being carried.
     let updates = buffer.pick(6, 2, None)?;
-    assert_eq!(rt;
-        updates.as_slice(),
-        [alive(3), alive(4), alive(2)].as_slice()
-    );
-    assert_eq!(rt; counts(&buffer), [None, None, Some(1), Some(1)]);
-    assert_eq!(rt; buffer.pick(6, 2, None)?.len(), 2);
-    assert_eq!(rt; counts(&buffer), [None; 4]);
+    expect_updates(&rt, &updates, &[alive(3), alive(4), alive(2)]);
+    expect_counts(&rt, &buffer, [None, None, Some(1), Some(1)]);
+    let updates = buffer.pick(6, 2, None)?;
+    assert!(rt; updates.len() == 2);
+    expect_counts(&rt, &buffer, [None; 4]);
     Ok(())
+}
+
+// A put that is refused changes nothing.
+fn expect_put(rt: &impl Abort, buffer: &mut Buffer, subject: u16) {
+    let before = counts(buffer);
+    if buffer.put(alive(subject)).is_err() {
+        expect_counts(rt, buffer, before);
+    }
+}
+
+// A pick that is refused changes nothing.
+fn expect_pick(rt: &impl Abort, buffer: &mut Buffer, buddy: Option<Update>) {
+    let before = counts(buffer);
+    match buffer.pick(2, 2, buddy) {
+        Ok(updates) => assert!(rt; updates.len() == 2),
+        Err(Memory) => expect_counts(rt, buffer, before),
+    }
 }
 
 // With ample memory nothing is refused here. To see refusals, run the tests with an allocation that
@@ -112,18 +145,10 @@ fn what_was_sent_often_enough_is_dropped(rt: HostRuntime) -> Result<(), Fail> {
 fn a_refusal_changes_nothing(rt: HostRuntime) -> Result<(), Fail> {
     let mut buffer = Buffer::new(rt.alloc())?;
     for subject in [1, 4, 3, 2] {
-        let before = counts(&buffer);
-        if buffer.put(alive(subject)).is_err() {
-            assert_eq!(rt; counts(&buffer), before, "after a put that was refused");
-        }
+        expect_put(&rt, &mut buffer, subject);
     }
-    for buddy in [None, Some(suspect(1))] {
-        let before = counts(&buffer);
-        match buffer.pick(2, 2, buddy) {
-            Ok(updates) => assert_eq!(rt; updates.len(), 2),
-            Err(Memory) => assert_eq!(rt; counts(&buffer), before, "after a pick that was refused"),
-        }
-    }
+    expect_pick(&rt, &mut buffer, None);
+    expect_pick(&rt, &mut buffer, Some(suspect(1)));
     Ok(())
 }
 

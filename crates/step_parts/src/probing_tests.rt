@@ -1,9 +1,12 @@
-ghost use Rattle.std.specs.Prelude.{◌≡◌, IsTrue};
-ghost use Rattle.probing.specs.ProbeOrder.{NoRepeats, times_in};
+ghost use Rattle.std.specs.Prelude.{◌≡◌, IfOk};
+ghost use Rattle.probing.specs.ProbeOrder.{NoRepeats, IsSoundOrder};
 
-use super::*;
+use base::{MemberId, Memory};
+use probing::{Rota, helpers};
+use std::alloc::AllocError;
 use std::process::Abort;
 use std::test::Fail;
+use streams::Stream;
 
 const NEW: MemberId = MemberId(9);
 
@@ -17,54 +20,81 @@ fn four() -> [MemberId; 4]
     [MemberId(5), MemberId(3), MemberId(8), MemberId(1)]
 }
 
-// The four as a shuffle puts them that takes the first words of the seed's stream.
-fn four_shuffled(seed: u64) -> [MemberId; 4] {
+// The four as a shuffle puts them.
+fn four_shuffled(draws: &mut Stream) -> [MemberId; 4] {
     let mut order = four();
-    stream(seed).shuffle(&mut order);
+    draws.shuffle(&mut order);
     order
 }
 
-fn rota_of_four(rt: &impl AllocGlobal) -> Result<Rota, Fail> {
+fn rota_of_four(rt: &impl AllocGlobal) -> Result<Rota, Fail>
+    ensures { IfOk result IsSoundOrder }
+{
     let members = Vec::from_array(rt.alloc(), four())?;
     Ok(Rota::of(members)?)
 }
 
 // The same with two probes of a round behind it.
-fn in_a_round(rt: &impl AllocGlobal, draws: &mut Stream) -> Result<Rota, Fail> {
+fn in_a_round(rt: &impl AllocGlobal, draws: &mut Stream) -> Result<Rota, Fail>
+    ensures { IfOk result IsSoundOrder }
+{
     let mut rota = rota_of_four(rt)?;
-    for _ in 0..2 {
-        let _ = rota.next(draws);
-    }
+    let _ = rota.next(draws);
+    let _ = rota.next(draws);
     Ok(rota)
 }
 
-fn is_absent(rota: &Rota, member: MemberId) -> bool
-    ensures { IsTrue result → times_in rota.now.members member ≡ 0 }
+// Puts in a member that isn't there: to take it out before changes nothing, and then the proof knows that it
+// isn't.
+fn insert_new(rota: &mut Rota, member: MemberId, draws: &mut Stream) -> Result<(), Memory>
+    requires { IsSoundOrder rota.old }
 {
-    match place_of(&rota.members, member) {
-        Some(_) => false,
-        None => true,
+    rota.remove(member);
+    rota.insert(member, draws)
+}
+
+// What the next probes are to be.
+fn expect_next(rt: &impl Abort, rota: &mut Rota, draws: &mut Stream, members: &[MemberId]) {
+    for member in members {
+        assert!(rt; rota.next(draws) == Some(*member));
     }
 }
 
-// What the next probes of a round are to be.
-fn expect_next(rt: &impl Abort, rota: &mut Rota, draws: &mut Stream, members: &[MemberId]) {
-    for member in members {
-        assert_eq!(rt; rota.next(draws), Some(*member));
-    }
+// That two streams go on alike.
+fn expect_same(rt: &impl Abort, draws: &mut Stream, twin: &mut Stream) {
+    assert!(rt; draws.below(1000) == twin.below(1000));
+}
+
+// That a new round goes over these members, in the order of a shuffle by the twin of the draws.
+fn expect_round(
+    rt: &impl Abort,
+    rota: &mut Rota,
+    draws: &mut Stream,
+    twin: &mut Stream,
+    members: &mut [MemberId],
+) {
+    twin.shuffle(members);
+    expect_next(rt, rota, draws, members);
+    expect_same(rt, draws, twin);
 }
 
 #[test]
 fn a_lone_member_is_probed_without_a_draw(rt: HostRuntime) -> Result<(), Fail> {
     let mut rota = Rota::of(Vec::new(rt.alloc()))?;
     let mut draws = stream(3);
-    assert_eq!(rt; rota.next(&mut draws), None);
+    assert!(rt; rota.next(&mut draws) == None);
     let lone = MemberId(7);
-    assert!(rt; is_absent(&rota, lone));
-    rota.insert(lone, &mut draws)?;
+    insert_new(&mut rota, lone, &mut draws)?;
     expect_next(&rt, &mut rota, &mut draws, &[lone, lone, lone]);
-    assert_eq!(rt; draws.below(1000), stream(3).below(1000));
+    expect_same(&rt, &mut draws, &mut stream(3));
     Ok(())
+}
+
+// That these are the four, in whatever order.
+fn expect_four(rt: &impl Abort, order: [MemberId; 4]) {
+    let mut sorted = order;
+    sorted.sort_unstable();
+    assert!(rt; sorted == [MemberId(1), MemberId(3), MemberId(5), MemberId(8)]);
 }
 
 // Round after round in the order of a shuffle, and no draw between two of them.
@@ -73,53 +103,72 @@ fn each_member_is_probed_once_a_round(rt: HostRuntime) -> Result<(), Fail> {
     let mut rota = rota_of_four(&rt)?;
     let mut draws = stream(11);
     let mut order = four();
-    let mut shuffles = stream(11);
+    let mut twin = stream(11);
     let mut is_reordered = false;
     for _ in 0..6 {
         let before = order;
-        shuffles.shuffle(&mut order);
+        expect_round(&rt, &mut rota, &mut draws, &mut twin, &mut order);
         is_reordered |= order != before;
-        expect_next(&rt, &mut rota, &mut draws, &order);
-        let mut sorted = order;
-        sorted.sort_unstable();
-        assert_eq!(rt;
-            sorted,
-            [MemberId(1), MemberId(3), MemberId(5), MemberId(8)]
-        );
+        expect_four(&rt, order);
     }
     assert!(rt; is_reordered);
-    assert_eq!(rt; draws.below(1000), shuffles.below(1000));
     Ok(())
+}
+
+// The four in this order, with a new member at a place.
+fn with_new(order: [MemberId; 4], place: u32) -> [MemberId; 5] {
+    let [first, second, third, fourth] = order;
+    match place {
+        0 => [NEW, first, second, third, fourth],
+        1 => [first, NEW, second, third, fourth],
+        2 => [first, second, NEW, third, fourth],
+        3 => [first, second, third, NEW, fourth],
+        _ => [first, second, third, fourth, NEW],
+    }
+}
+
+// That the rest of a round, after two probes, goes on with these members after an insert at a place, and that
+// the next round is of all.
+fn expect_all(
+    rt: &impl Abort,
+    rota: &mut Rota,
+    draws: &mut Stream,
+    twin: &mut Stream,
+    members: [MemberId; 5],
+    place: u32,
+) {
+    let [_, _, third, fourth, fifth] = members;
+    if place >= 2 {
+        expect_next(rt, rota, draws, &[third]);
+    }
+    expect_next(rt, rota, draws, &[fourth, fifth]);
+    let mut all = members;
+    expect_round(rt, rota, draws, twin, &mut all);
+}
+
+// Where the draws of a seed put a new member, after which the probes are as they should be.
+fn place_of_insert(rt: &(impl Abort + AllocGlobal), seed: u64) -> Result<u32, Fail> {
+    let mut draws = stream(seed);
+    let mut rota = in_a_round(rt, &mut draws)?;
+    insert_new(&mut rota, NEW, &mut draws)?;
+    let mut twin = stream(seed);
+    let order = four_shuffled(&mut twin);
+    let place = twin.below(5);
+    let all = with_new(order, place);
+    expect_all(rt, &mut rota, &mut draws, &mut twin, all, place);
+    Ok(place)
 }
 
 // Before the mark a new member waits for the next round, behind it it comes in this one.
 #[test]
 fn an_insert_comes_before_the_mark_or_behind_it(rt: HostRuntime) -> Result<(), Fail> {
-    let mut is_before = false;
-    let mut is_behind = false;
+    let mut before = 0u32;
     for seed in 0..20 {
-        let mut draws = stream(seed);
-        let mut rota = in_a_round(&rt, &mut draws)?;
-        assert!(rt; is_absent(&rota, NEW));
-        rota.insert(NEW, &mut draws)?;
-
-        let mut order = four();
-        let mut twin = stream(seed);
-        twin.shuffle(&mut order);
-        let [_, _, third, fourth] = order;
-        let coming = match twin.below(5) {
-            0 | 1 => [third, fourth].to_vec(rt.alloc())?,
-            2 => [NEW, third, fourth].to_vec(rt.alloc())?,
-            3 => [third, NEW, fourth].to_vec(rt.alloc())?,
-            _ => [third, fourth, NEW].to_vec(rt.alloc())?,
-        };
-        expect_next(&rt, &mut rota, &mut draws, &coming);
-        assert_eq!(rt; rota.mark, 5);
-        assert_eq!(rt; draws.below(1000), twin.below(1000));
-        is_before |= coming.len() == 2;
-        is_behind |= coming.len() == 3;
+        if place_of_insert(&rt, seed)? < 2 {
+            before = before.saturating_add(1);
+        }
     }
-    assert!(rt; is_before && is_behind);
+    assert!(rt; before > 0 && before < 20);
     Ok(())
 }
 
@@ -128,16 +177,27 @@ fn an_insert_comes_before_the_mark_or_behind_it(rt: HostRuntime) -> Result<(), F
 fn a_refused_insert_changes_nothing(rt: HostRuntime) -> Result<(), Fail> {
     let mut draws = stream(4);
     let mut rota = in_a_round(&rt, &mut draws)?;
-    assert!(rt; is_absent(&rota, NEW));
-    if rota.insert(NEW, &mut draws).is_err() {
-        let mut order = four();
+    if insert_new(&mut rota, NEW, &mut draws).is_err() {
         let mut twin = stream(4);
-        twin.shuffle(&mut order);
-        assert_eq!(rt; rota.members.as_slice(), order.as_slice());
-        assert_eq!(rt; rota.mark, 2);
-        assert_eq!(rt; draws.below(1000), twin.below(1000));
+        let mut order = four_shuffled(&mut twin);
+        let [_, _, third, fourth] = order;
+        expect_next(&rt, &mut rota, &mut draws, &[third, fourth]);
+        expect_round(&rt, &mut rota, &mut draws, &mut twin, &mut order);
     }
     Ok(())
+}
+
+// Two lists as one.
+fn joined(
+    rt: &impl AllocGlobal,
+    first: &[MemberId],
+    second: &[MemberId],
+) -> Result<Vec<MemberId>, AllocError> {
+    let mut all = first.to_vec(rt.alloc())?;
+    for member in second {
+        all.push(*member)?;
+    }
+    Ok(all)
 }
 
 // That a removal leaves these members before the mark, and these behind it.
@@ -150,16 +210,17 @@ fn expect_left(
     let mut draws = stream(5);
     let mut rota = in_a_round(rt, &mut draws)?;
     rota.remove(gone);
-    assert_eq!(rt; rota.mark, probed.len());
-    assert!(rt; rota.members.starts_with(probed));
     expect_next(rt, &mut rota, &mut draws, coming);
-    assert_eq!(rt; rota.mark, rota.members.len());
+    let mut twin = stream(5);
+    let _order = four_shuffled(&mut twin);
+    let mut all = joined(rt, probed, coming)?;
+    expect_round(rt, &mut rota, &mut draws, &mut twin, &mut all);
     Ok(())
 }
 
 #[test]
 fn a_removal_keeps_the_others(rt: HostRuntime) -> Result<(), Fail> {
-    let [first, second, third, fourth] = four_shuffled(5);
+    let [first, second, third, fourth] = four_shuffled(&mut stream(5));
     expect_left(&rt, first, &[second], &[third, fourth])?;
     expect_left(&rt, second, &[first], &[third, fourth])?;
     expect_left(&rt, third, &[first, second], &[fourth])?;
@@ -167,14 +228,24 @@ fn a_removal_keeps_the_others(rt: HostRuntime) -> Result<(), Fail> {
     expect_left(&rt, NEW, &[first, second], &[third, fourth])
 }
 
+// That so many helpers are the first of a new order.
+fn expect_helpers(
+    rt: &(impl Abort + AllocGlobal),
+    k: usize,
+    wanted: &[MemberId],
+) -> Result<(), Fail> {
+    let chosen = helpers(Vec::from_array(rt.alloc(), four())?, k, &mut stream(2));
+    assert!(rt; chosen.as_slice() == wanted, "{k} helpers");
+    Ok(())
+}
+
 #[test]
 fn helpers_are_the_first_of_a_new_order(rt: HostRuntime) -> Result<(), Fail> {
-    let order = four_shuffled(2);
-    for (k, number) in [(0, 0), (3, 3), (4, 4), (5, 4)] {
-        let mut draws = stream(2);
-        let chosen = helpers(Vec::from_array(rt.alloc(), four())?, k, &mut draws);
-        assert_eq!(rt; chosen.as_slice(), &order[..number], "{k} helpers");
-    }
+    let order = four_shuffled(&mut stream(2));
+    expect_helpers(&rt, 0, &[])?;
+    expect_helpers(&rt, 3, &order[..3])?;
+    expect_helpers(&rt, 4, &order)?;
+    expect_helpers(&rt, 5, &order)?;
     let none = helpers(Vec::new(rt.alloc()), 3, &mut stream(2));
     assert!(rt; none.is_empty());
     Ok(())

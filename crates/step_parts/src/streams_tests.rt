@@ -1,7 +1,11 @@
-use super::{MILLION, Stream};
 use base::MemberId;
+use rand::seq::SliceRandom;
 use rand_core::Rng;
 use rand_pcg::Lcg64Xsh32;
+use std::process::Abort;
+use streams::Stream;
+
+const MILLION: u32 = 1_000_000;
 
 /// The first words of PCG's C code for PCG32 at state 42 and stream 54.
 const REFERENCE: [u32; 6] = [
@@ -12,71 +16,99 @@ fn reference() -> Stream {
     Stream::of(42, MemberId(54))
 }
 
+/// That the next numbers of the reference stream below a bound are these.
+fn expect_numbers(rt: &impl Abort, bound: u32, wanted: &[u32]) {
+    assert!(rt; bound >= 1);
+    let mut stream = reference();
+    for number in wanted {
+        assert!(rt; stream.below(bound) == *number, "below {bound}");
+    }
+}
+
+// A number below 2^31 is its word without the last bit.
 #[test]
 fn a_stream_has_the_reference_words(rt: HostRuntime) {
+    let mut generator = Lcg64Xsh32::new(42, 54);
     let mut stream = reference();
     for word in REFERENCE {
-        assert_eq!(rt; stream.generator.next_u32(), word);
+        assert!(rt; generator.next_u32() == word);
+        assert!(rt; stream.below(1 << 31) == word >> 1);
     }
 }
 
-// A word times the bound, over 2^32: worked out by hand from the reference words.
+/// Numbers below a bound: a word times the bound, over 2^32, worked out by hand from the reference words.
+const FRACTIONS: &[(u32, &[u32])] = &[
+    (2, &[1, 0, 1, 1, 1, 1]),
+    (6, &[3, 2, 4, 3, 4, 4]),
+    (1024, &[645, 493, 744, 527, 766, 815]),
+    (
+        MILLION,
+        &[630_310, 481_566, 727_008, 514_937, 748_603, 796_590],
+    ),
+];
+
+/// That the streams' first numbers are these.
+fn expect_all(rt: &impl Abort, table: &[(u32, &[u32])]) {
+    for (bound, wanted) in table {
+        expect_numbers(rt, *bound, wanted);
+    }
+}
+
 #[test]
 fn numbers_are_fractions_of_the_words(rt: HostRuntime) {
-    for (bound, wanted) in [
-        (2, [1, 0, 1, 1, 1, 1]),
-        (6, [3, 2, 4, 3, 4, 4]),
-        (1024, [645, 493, 744, 527, 766, 815]),
-        (
-            MILLION,
-            [630_310, 481_566, 727_008, 514_937, 748_603, 796_590],
-        ),
-    ] {
-        let mut stream = reference();
-        for number in wanted {
-            assert_eq!(rt; stream.below(bound), number, "below {bound}");
-        }
-    }
+    expect_all(&rt, FRACTIONS);
 }
 
-// Where the digits past the point could carry, a second word decides: the second number below
-// 2^31 + 1 takes two words, and each number below 2^32 - 1.
+/// Where the digits past the point could carry, a second word decides: the second number below 2^31 + 1 takes
+/// two words, and each number below 2^32 - 1.
+const CARRIES: &[(u32, &[u32])] = &[
+    (
+        2_147_483_649,
+        &[1_353_580_892, 1_034_156_549, 1_105_819_978, 1_607_613_478],
+    ),
+    (u32::MAX, &[2_707_161_782, 3_122_475_823, 3_215_226_955]),
+];
+
 #[test]
 fn a_second_word_decides_a_carry(rt: HostRuntime) {
+    expect_all(&rt, CARRIES);
+}
+
+/// That a message is lost at so many parts in a million, or isn't.
+fn expect_loss(rt: &impl Abort, parts: u32, is_lost: bool) {
     let mut stream = reference();
-    for number in [1_353_580_892, 1_034_156_549, 1_105_819_978, 1_607_613_478] {
-        assert_eq!(rt; stream.below(2_147_483_649), number);
-    }
-    let mut stream = reference();
-    for number in [2_707_161_782, 3_122_475_823, 3_215_226_955] {
-        assert_eq!(rt; stream.below(u32::MAX), number);
-    }
+    assert!(rt; stream.lost(parts) == is_lost, "{parts} in a million");
+    assert!(rt; stream.below(MILLION) == 481_566);
 }
 
 #[test]
 fn a_loss_is_a_number_below_the_parts(rt: HostRuntime) {
-    for (parts, is_lost) in [
-        (1, false),
-        (630_310, false),
-        (630_311, true),
-        (999_999, true),
-    ] {
-        let mut stream = reference();
-        assert_eq!(rt; stream.lost(parts), is_lost, "{parts} in a million");
-        assert_eq!(rt; stream.below(MILLION), 481_566);
-    }
+    expect_loss(&rt, 1, false);
+    expect_loss(&rt, 630_310, false);
+    expect_loss(&rt, 630_311, true);
+    expect_loss(&rt, 999_999, true);
 }
 
-// The order that `rand` publishes among its tests of stable values.
+/// So many members in their order.
+fn thirteen() -> [MemberId; 13] {
+    [0u16, 1, 2, 3, 4, 5, 6, 7, 8, 9, 10, 11, 12].map(|number| MemberId(number))
+}
+
+/// The same shuffled by `rand`, over PCG32 at a state and a stream.
+fn shuffled_by_rand(state: u64, stream: u64) -> [MemberId; 13] {
+    let mut items = thirteen();
+    items.shuffle(&mut Lcg64Xsh32::new(state, stream));
+    items
+}
+
+// A stream shuffles as `rand` does, whose order is the one that it publishes among its tests of stable values.
 #[test]
 fn a_shuffle_is_the_published_order(rt: HostRuntime) {
-    let mut stream = Stream {
-        generator: Lcg64Xsh32::new(414, 11634580027462260723),
-    };
-    let mut items = [0u16, 1, 2, 3, 4, 5, 6, 7, 8, 9, 10, 11, 12].map(|number| MemberId(number));
-    stream.shuffle(&mut items);
     let wanted = [5u16, 11, 0, 8, 7, 12, 6, 4, 9, 3, 1, 2, 10].map(|number| MemberId(number));
-    assert_eq!(rt; items, wanted);
+    assert!(rt; shuffled_by_rand(414, 11634580027462260723) == wanted);
+    let mut items = thirteen();
+    reference().shuffle(&mut items);
+    assert!(rt; items == shuffled_by_rand(42, 54));
 }
 
 #[test]
@@ -89,13 +121,11 @@ fn members_of_one_seed_draw_apart(rt: HostRuntime) {
 #[test]
 fn certain_draws_take_no_word(rt: HostRuntime) {
     let mut stream = reference();
-    assert_eq!(rt; stream.below(1), 0);
-    assert!(rt; !stream.lost(0));
-    assert!(rt; stream.lost(MILLION));
-    assert!(rt; stream.lost(u32::MAX));
+    assert!(rt; stream.below(1) == 0);
+    assert!(rt; !stream.lost(0) && stream.lost(MILLION) && stream.lost(u32::MAX));
     stream.shuffle(&mut []);
     let mut alone = [MemberId(3)];
     stream.shuffle(&mut alone);
-    assert_eq!(rt; alone, [MemberId(3)]);
-    assert_eq!(rt; stream.below(MILLION), 630_310);
+    assert!(rt; alone == [MemberId(3)]);
+    assert!(rt; stream.below(MILLION) == 630_310);
 }

@@ -1,7 +1,7 @@
 //! Suspicions: further accusers, the settings, how they end, and how they start anew.
 
-use crate::tests_fixture::Asks::{Ping, PingReq, Start, SuspicionTimer};
-use crate::tests_fixture::{Case, GROWING, Input, ROWS, SILENT, Setting, assert_cases};
+use crate::fixture::Asks::{Ping, PingReq, Start, SuspicionTimer};
+use crate::fixture::{Case, GROWING, Input, ROWS, SILENT, Setting, assert_cases};
 use incarnation::Claim::{Alive, Confirm, Suspect};
 use std::test::Fail;
 

@@ -1,12 +1,10 @@
 //! Starts, crashes, joins and welcomes.
 
-use crate::tests_fixture::Asks::{
+use crate::fixture::Asks::{
     Ack, Crash, Join, JoinTimer, Nack, NackTimer, PeriodTimer, Ping, PingReq, Start,
     SuspicionTimer, TimeoutTimer, Welcome,
 };
-use crate::tests_fixture::{
-    Case, GROWING, GROWING_LOST, Input, PAIR, SILENT, Setting, assert_cases,
-};
+use crate::fixture::{Case, GROWING, GROWING_LOST, Input, PAIR, SILENT, Setting, assert_cases};
 use incarnation::Claim::{Alive, Confirm, Suspect};
 use std::test::Fail;
 

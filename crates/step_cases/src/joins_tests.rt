@@ -1,7 +1,7 @@
 //! Joins and welcomes.
 
-use crate::tests_fixture::Asks::{Join, PeriodTimer, Ping, Start, SuspicionTimer, Welcome};
-use crate::tests_fixture::{Case, Input, ROWS, SILENT, assert_cases};
+use crate::fixture::Asks::{Join, PeriodTimer, Ping, Start, SuspicionTimer, Welcome};
+use crate::fixture::{Case, Input, ROWS, SILENT, assert_cases};
 use incarnation::Claim::{Alive, Confirm, Suspect};
 use std::test::Fail;
 

@@ -1,9 +1,7 @@
 //! Leaves and byes.
 
-use crate::tests_fixture::Asks::{
-    Bye, Crash, Join, Leave, PeriodTimer, Ping, Start, SuspicionTimer,
-};
-use crate::tests_fixture::{
+use crate::fixture::Asks::{Bye, Crash, Join, Leave, PeriodTimer, Ping, Start, SuspicionTimer};
+use crate::fixture::{
     Case, GROWING, GROWING_LOST, Input, Outcome, PAIR, SILENT, Setting, assert_cases, outcome_of,
 };
 use incarnation::Claim::{Alive, Confirm, Suspect};
@@ -261,7 +259,7 @@ fn assert_byes(rt: &(impl Abort + AllocGlobal), case: &Told) -> Result<(), Fail>
         swim: case.swim,
         ..GROWING
     };
-    let outcome = outcome_of(rt, setting, 0, KNOWN, None)?;
+    let outcome = outcome_of(rt, setting, 0, KNOWN)?;
     assert_told(rt, case, &outcome);
     Ok(())
 }

@@ -1,9 +1,7 @@
 //! The updates that ride on messages.
 
-use crate::tests_fixture::Asks::{PeriodTimer, Ping, PingReq, Start};
-use crate::tests_fixture::{
-    Case, GROWING, GROWING_TERSE, Input, ROWS, SILENT, Setting, assert_cases,
-};
+use crate::fixture::Asks::{PeriodTimer, Ping, PingReq, Start};
+use crate::fixture::{Case, GROWING, GROWING_TERSE, Input, ROWS, SILENT, Setting, assert_cases};
 use incarnation::Claim::{Alive, Confirm, Suspect};
 use std::test::Fail;
 

@@ -1,22 +1,16 @@
 //! Members brought into a state by events in short form, and tables of what the last of these makes.
 
-ghost use Rattle.std.specs.Prelude.{◌≡◌, ◌<◌, ◌≤◌, ◌^◌, All, IsTrue, OnOk, IfOk};
+ghost use Rattle.std.specs.Prelude.{◌<◌, All, IsTrue, OnOk, IfOk};
 ghost use Rattle.scenario.specs.Setup.{member_count};
 ghost use Rattle.links.specs.Arrival.{AreLinksOf};
 ghost use Rattle.member.specs.Here.{HoldsMembers, MentionsMembers};
 ghost use Rattle.member.specs.StateOf.{state_of};
 
-use crate::content::Content;
-use crate::event::{Effects, Event};
-use crate::member::Member;
-use crate::tests_text::{assert_events, assert_rows, push_events, push_lines, push_rows};
-use crate::turn::StepError;
-use crate::updates::Updates;
-use base::limits::COUNTER_LIMIT;
+use crate::lines::{assert_events, assert_rows, push_events, push_lines, push_rows};
 use base::{Key, MemberId, Moment};
 use incarnation::{Claim, Update};
-use lifeguard::Probe;
 use links::Links;
+use member::{Content, Effects, Event, Member, StepError, Updates};
 use scenario::Scenario;
 use std::alloc::{AllocError, Global};
 use std::process::Abort;
@@ -111,14 +105,6 @@ pub(crate) enum Asks<'a> {
 /// An event: its moment, its sender, the sender's number of it, and what it asks.
 pub(crate) type Input<'a> = (u64, u16, u64, Asks<'a>);
 
-/// Counters of a member that a test sets before the last event.
-#[derive(Clone, Copy)]
-pub(crate) struct Counters {
-    pub(crate) next_number: u64,
-    pub(crate) sequence: u64,
-    pub(crate) incarnation: u64,
-}
-
 /// What the last of some events makes of a member.
 #[derive(Clone, Copy)]
 pub(crate) struct Case<'a> {
@@ -151,20 +137,13 @@ pub(crate) const ROWS: Case = Case {
     ..SILENT
 };
 
-/// What the last event made, whether it was refused, and of the member after it what a test looks at.
+/// What the last event made, and whether it was refused.
 #[derive(Drop)]
 pub(crate) struct Outcome {
     pub(crate) rows: String,
     pub(crate) events: String,
     pub(crate) answer: Result<(), StepError>,
-    pub(crate) next_number: u64,
-    pub(crate) probe: Option<Probe>,
-    /// What it would draw next below `BOUND`.
-    pub(crate) next_draw: u32,
 }
-
-/// So many values have the draws by which streams are compared.
-pub(crate) const BOUND: u32 = 1_000_000;
 
 /// The updates of an event in short form.
 fn updates_of(alloc: Global, told: &[Told]) -> Result<Updates, AllocError> {
@@ -343,17 +322,6 @@ fn handle_all(
     Ok(())
 }
 
-/// Asserts that counters are within their limit.
-fn assert_within(rt: &impl Abort, counters: &Counters)
-    ensures next_number { counters.now.next_number ≤ 2 ^ 63 }
-    ensures sequence { counters.now.sequence ≤ 2 ^ 63 }
-    ensures incarnation { counters.now.incarnation ≤ 2 ^ 63 }
-{
-    assert!(rt; counters.next_number <= COUNTER_LIMIT);
-    assert!(rt; counters.sequence <= COUNTER_LIMIT);
-    assert!(rt; counters.incarnation <= COUNTER_LIMIT);
-}
-
 /// The rows of a step as lines.
 fn rows_told(
     rt: &(impl Abort + AllocGlobal),
@@ -380,30 +348,10 @@ fn events_told(
     Ok(text)
 }
 
-/// What a step came to, by its answer, what it made and the member after it.
-fn outcome_from(
-    rt: &(impl Abort + AllocGlobal),
-    answer: Result<(), StepError>,
-    effects: &Effects,
-    member: &mut Member,
-    step: Input,
-    oneself: MemberId,
-) -> Result<Outcome, AllocError> {
-    Ok(Outcome {
-        rows: rows_told(rt, &effects.rows, step, oneself)?,
-        events: events_told(rt, &effects.events, step, oneself)?,
-        answer,
-        next_number: member.next_number,
-        probe: member.probe,
-        next_draw: member.stream.below(BOUND),
-    })
-}
-
-/// A member handles its last event, before which the counters, if given, are set.
+/// A member handles its last event.
 fn handle_last(
     rt: &(impl Abort + AllocGlobal),
     member: &mut Member,
-    counters: Option<Counters>,
     step: Input,
     oneself: MemberId,
     scenario: &Scenario,
@@ -413,15 +361,13 @@ fn handle_last(
     requires oneself { oneself < member_count scenario.now }
     requires known { HoldsMembers scenario.now oneself (state_of member.old) }
 {
-    if let Some(counters) = counters {
-        assert_within(rt, &counters);
-        member.next_number = counters.next_number;
-        member.sequence = counters.sequence;
-        member.incarnation = counters.incarnation;
-    }
     let mut out = nothing(rt.alloc());
     let answer = handle(rt, member, step, oneself, scenario, links, &mut out)?;
-    outcome_from(rt, answer, &out, member, step, oneself)
+    Ok(Outcome {
+        rows: rows_told(rt, &out.rows, step, oneself)?,
+        events: events_told(rt, &out.events, step, oneself)?,
+        answer,
+    })
 }
 
 /// A member of the scenario handles the events, each but the last without refusal.
@@ -431,7 +377,6 @@ fn outcome_in(
     links: &Links,
     oneself: MemberId,
     steps: &[Input],
-    counters: Option<Counters>,
 ) -> Result<Outcome, Fail>
     requires links { AreLinksOf links.now scenario.now }
     requires oneself { oneself < member_count scenario.now }
@@ -441,24 +386,22 @@ fn outcome_in(
     };
     let mut member = Member::of(rt.alloc(), scenario, oneself)?;
     handle_all(rt, &mut member, earlier, oneself, scenario, links)?;
-    let outcome = handle_last(rt, &mut member, counters, *last, oneself, scenario, links)?;
+    let outcome = handle_last(rt, &mut member, *last, oneself, scenario, links)?;
     Ok(outcome)
 }
 
-/// A member of the setting handles events one after another, each but the last without refusal. The
-/// counters, if given, are set before the last.
+/// A member of the setting handles events one after another, each but the last without refusal.
 pub(crate) fn outcome_of(
     rt: &(impl Abort + AllocGlobal),
     setting: Setting,
     number: u16,
     steps: &[Input],
-    counters: Option<Counters>,
 ) -> Result<Outcome, Fail> {
     let scenario = scenario_of(rt.alloc(), setting)?;
     let links = Links::of(rt.alloc(), &scenario)?;
     let oneself = MemberId(number);
     assert!(rt; oneself.index() < scenario.members());
-    outcome_in(rt, &scenario, &links, oneself, steps, counters)
+    outcome_in(rt, &scenario, &links, oneself, steps)
 }
 
 /// No effects.
@@ -487,8 +430,13 @@ pub(crate) fn assert_text(rt: &impl Abort, name: &str, text: &str, wanted: &str)
     assert_eq!(rt; text, wanted, "{name}");
 }
 
+/// Asserts that a text begins so.
+pub(crate) fn assert_beginning(rt: &impl Abort, name: &str, text: &str, beginning: &str) {
+    assert!(rt; text.starts_with(beginning), "{name}");
+}
+
 /// Asserts that the last event was not refused.
-pub(crate) fn assert_heard(rt: &impl Abort, name: &str, outcome: &Outcome) {
+fn assert_heard(rt: &impl Abort, name: &str, outcome: &Outcome) {
     assert_eq!(rt; outcome.answer, Ok(()), "{name}");
 }
 
@@ -508,7 +456,7 @@ fn assert_outcome(
 
 /// Asserts that a case comes out as it says.
 fn assert_case(rt: &(impl Abort + AllocGlobal), case: &Case) -> Result<(), Fail> {
-    let outcome = outcome_of(rt, case.setting, case.member, case.steps, None)?;
+    let outcome = outcome_of(rt, case.setting, case.member, case.steps)?;
     assert_outcome(rt, case, &outcome)
 }
 

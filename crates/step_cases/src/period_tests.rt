@@ -1,7 +1,7 @@
 //! The period timer: how a probe ends, LHA-Probe's health, and the next probe.
 
-use crate::tests_fixture::Asks::{Ack, Nack, PeriodTimer, Ping, Start, TimeoutTimer};
-use crate::tests_fixture::{
+use crate::fixture::Asks::{Ack, Nack, PeriodTimer, Ping, Start, TimeoutTimer};
+use crate::fixture::{
     ALONE, Case, GROWING, GROWING_UNAWARE, Input, PAIR, ROWS, SILENT, Setting, assert_cases,
 };
 use incarnation::Claim::{Alive, Confirm, Suspect};

@@ -1,11 +1,9 @@
 //! Rows and events as lines of text, so that a test reads as they're told.
 
-use crate::content::Content;
-use crate::event::Event;
-use crate::tests_fixture::Input;
-use crate::updates::Updates;
+use crate::fixture::Input;
 use base::{Key, MemberId, Moment};
 use incarnation::{Claim, Update};
+use member::{Content, Event, Updates};
 use std::alloc::AllocError;
 use std::process::Abort;
 use trace::Row;

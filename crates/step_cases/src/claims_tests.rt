@@ -1,7 +1,7 @@
 //! What a member makes of an update: each claim on each other, and claims about itself.
 
-use crate::tests_fixture::Asks::{PeriodTimer, Ping, Start};
-use crate::tests_fixture::{
+use crate::fixture::Asks::{PeriodTimer, Ping, Start};
+use crate::fixture::{
     Case, GROWING, GROWING_UNAWARE, Input, ROWS, SILENT, Setting, assert_cases, assert_lines,
     outcome_of,
 };
@@ -229,7 +229,7 @@ fn assert_end(rt: &impl Abort, name: &str, text: &str, end: &str) {
 
 /// Asserts what the second of two claims about member 1 makes.
 fn assert_claims(rt: &(impl Abort + AllocGlobal), claims: &Claims) -> Result<(), Fail> {
-    let outcome = outcome_of(rt, GROWING, 0, claims.steps, None)?;
+    let outcome = outcome_of(rt, GROWING, 0, claims.steps)?;
     assert_end(rt, claims.name, outcome.events.as_str(), claims.end);
     assert_lines(rt, claims.name, outcome.rows.as_str(), claims.rows)
 }

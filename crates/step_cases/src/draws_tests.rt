@@ -1,11 +1,11 @@
 //! What a member draws, and in which order: the words are those of its stream from the first on.
 
-use crate::tests_fixture::Asks::{
+use crate::fixture::Asks::{
     Ack, Crash, Join, JoinTimer, Leave, Nack, NackTimer, PeriodTimer, Ping, PingReq, Start,
     SuspicionTimer, TimeoutTimer, Welcome,
 };
-use crate::tests_fixture::{
-    BOUND, GROWING, Input, Outcome, PAIR, Setting, assert_text, outcome_of,
+use crate::fixture::{
+    GROWING, Input, Outcome, PAIR, Setting, assert_beginning, assert_text, outcome_of,
 };
 use base::MemberId;
 use incarnation::Claim::{Alive, Confirm, Suspect};
@@ -49,51 +49,92 @@ const SPREAD: Setting = Setting {
 /// Nobody is asked for help.
 const NO_HELPERS: Setting = Setting {
     swim: "period = 1000\ntimeout = 300\nhelpers = 0",
+    ..WATCHED
+};
+
+/// So many moments may the events have by which streams are compared.
+const BOUND: u32 = 1_000_000;
+
+/// The growing cluster and member 6, a witness: what it is sent arrives at one of `BOUND` moments.
+const WATCHED: Setting = Setting {
+    groups: "[[group]]\nname = \"n\"\ncount = 2\n[[group]]\nname = \"j\"\ncount = 4\nstart = 5\ncontact = \"n-0\"\n[[group]]\nname = \"w\"\ncount = 1\nstart = 5\ncontact = \"n-0\"\n[[path]]\nfrom = \"n\"\nto = \"w\"\njitter = 999999\nloss = 0\n[[path]]\nfrom = \"j\"\nto = \"w\"\njitter = 999999\nloss = 0\n",
     ..GROWING
 };
 
-/// What a member draws while it handles events: how many values there are to draw from, in order. A draw
-/// from one value is none, so it isn't listed.
-struct Drawn<'a> {
+/// The witness pings, so that the arrival of the ack shows what is drawn next.
+const WITNESS: Input = (3000, 6, 3, Ping(6, 9, &[]));
+
+/// Messages take up to 5 ticks more, but for those to the witness.
+const WATCHED_JITTER: Setting = Setting {
+    rest: "jitter = 5",
+    ..WATCHED
+};
+
+/// Each message arrives at one of `BOUND` moments.
+const WIDE_JITTER: Setting = Setting {
+    rest: "jitter = 999999",
+    ..GROWING
+};
+
+/// The first period begins at one of `BOUND` moments.
+const WIDE_SPREAD: Setting = Setting {
+    swim: "period = 1000\ntimeout = 300\nspread = 1000000",
+    rest: "jitter = 5",
+    ..GROWING
+};
+
+/// An event whose moment is drawn: what is drawn before it, that is how many values there are to draw from,
+/// in order, where a draw from one value is none and isn't listed; its number, its first moment, how many
+/// moments it may have, and how it is told.
+#[derive(Clone, Copy)]
+struct Late<'a> {
     name: &'a str,
     setting: Setting<'a>,
     member: u16,
     steps: &'a [Input<'a>],
     bounds: &'a [u32],
+    number: u64,
+    at: u64,
+    moments: u32,
+    told: &'a str,
 }
 
-/// Member 0 of the growing cluster, which draws nothing: one member is to be probed, no message has jitter
-/// or may be lost, and nobody may help.
-const UNDRAWN: Drawn = Drawn {
+/// Member 0, which draws nothing before it answers the witness: one member is to be probed, no message has
+/// jitter or may be lost, and nobody may help.
+const UNDRAWN: Late = Late {
     name: "",
-    setting: GROWING,
+    setting: WATCHED,
     member: 0,
     steps: &[],
     bounds: &[],
+    number: 5,
+    at: 3010,
+    moments: BOUND,
+    told: "to 6 ack 6 9",
 };
 
-const DRAWN: &[Drawn] = &[
-    Drawn {
+const DRAWN: &[Late] = &[
+    Late {
         name: "a timeout of another probe",
-        steps: &[START, FIRST, (20, 0, 3, TimeoutTimer(9))],
+        steps: &[START, FIRST, (20, 0, 3, TimeoutTimer(9)), WITNESS],
         ..UNDRAWN
     },
-    Drawn {
+    Late {
         name: "a nack timer without a relay",
-        steps: &[START, FIRST, (20, 0, 3, NackTimer(1, 1))],
+        steps: &[START, FIRST, (20, 0, 3, NackTimer(1, 1)), WITNESS],
         ..UNDRAWN
     },
-    Drawn {
+    Late {
         name: "a suspicion timer without a suspicion",
-        steps: &[START, FIRST, (20, 0, 3, SuspicionTimer(1))],
+        steps: &[START, FIRST, (20, 0, 3, SuspicionTimer(1)), WITNESS],
         ..UNDRAWN
     },
-    Drawn {
+    Late {
         name: "a nack",
-        steps: &[START, FIRST, (20, 1, 3, Nack(9))],
+        steps: &[START, FIRST, (20, 1, 3, Nack(9)), WITNESS],
         ..UNDRAWN
     },
-    Drawn {
+    Late {
         name: "claims that are no news, or about oneself",
         steps: &[
             START,
@@ -108,10 +149,13 @@ const DRAWN: &[Drawn] = &[
                     &[(1, Alive, 0, 1), (0, Suspect, 0, 1), (0, Confirm, 0, 1)],
                 ),
             ),
+            WITNESS,
         ],
+        number: 6,
+        told: "to 6 ack 6 9, 0 alive 1 by 0",
         ..UNDRAWN
     },
-    Drawn {
+    Late {
         name: "claims about known members, and of an unknown one that is confirmed",
         steps: &[
             START,
@@ -126,53 +170,70 @@ const DRAWN: &[Drawn] = &[
                     &[(1, Suspect, 0, 1), (1, Alive, 1, 1), (2, Confirm, 0, 1)],
                 ),
             ),
+            WITNESS,
         ],
+        number: 7,
+        told: "to 6 ack 6 9, 1 alive 1 by 1, 2 confirm 0 by 1",
         ..UNDRAWN
     },
-    Drawn {
+    Late {
         name: "a request",
-        steps: &[START, FIRST, (20, 1, 3, PingReq(1, 1, &[]))],
+        steps: &[START, FIRST, (20, 1, 3, PingReq(1, 1, &[])), WITNESS],
+        number: 7,
         ..UNDRAWN
     },
-    Drawn {
+    Late {
         name: "a timeout where nobody may help",
-        steps: &[START, FIRST, (301, 0, 3, TimeoutTimer(1))],
+        steps: &[START, FIRST, (301, 0, 3, TimeoutTimer(1)), WITNESS],
         ..UNDRAWN
     },
-    Drawn {
+    Late {
         name: "a second period with one member to probe",
-        steps: &[START, FIRST, (1001, 0, 4, PeriodTimer)],
+        steps: &[START, FIRST, (1001, 0, 4, PeriodTimer), WITNESS],
+        number: 9,
+        told: "to 6 ack 6 9, 1 suspect 0 by 0",
         ..UNDRAWN
     },
-    Drawn {
+    Late {
         name: "an unknown member that is alive goes to one of two places",
-        steps: &[START, (20, 1, 3, Ping(1, 9, &[(2, Alive, 0, 1)]))],
+        steps: &[START, (20, 1, 3, Ping(1, 9, &[(2, Alive, 0, 1)])), WITNESS],
         bounds: &[2],
+        number: 3,
+        told: "to 6 ack 6 9, 2 alive 0 by 1",
         ..UNDRAWN
     },
-    Drawn {
+    Late {
         name: "and so does one that is suspected",
-        steps: &[START, (20, 1, 3, Ping(1, 9, &[(2, Suspect, 0, 1)]))],
+        steps: &[
+            START,
+            (20, 1, 3, Ping(1, 9, &[(2, Suspect, 0, 1)])),
+            WITNESS,
+        ],
         bounds: &[2],
+        number: 4,
+        told: "to 6 ack 6 9, 2 suspect 0 by 1",
         ..UNDRAWN
     },
-    Drawn {
+    Late {
         name: "nobody is shuffled where no help is wanted",
         setting: NO_HELPERS,
-        steps: &[START, FIRST, NEWS, (301, 0, 3, TimeoutTimer(1))],
+        steps: &[START, FIRST, NEWS, (301, 0, 3, TimeoutTimer(1)), WITNESS],
         bounds: &[2, 3],
+        number: 6,
+        told: "to 6 ack 6 9, 2 alive 0 by 2, 3 alive 0 by 3",
         ..UNDRAWN
     },
-    Drawn {
+    Late {
         name: "of those that a welcome brings the first has one place alone, and a confirmed one none",
         member: 2,
-        steps: &[LATE, WELCOME],
+        steps: &[LATE, WELCOME, WITNESS],
         bounds: &[2],
+        number: 5,
         ..UNDRAWN
     },
-    Drawn {
+    Late {
         name: "a member that waits draws nothing",
-        setting: JITTER,
+        setting: WIDE_SPREAD,
         steps: &[
             (20, 0, 1, Crash),
             (20, 0, 2, JoinTimer),
@@ -186,31 +247,16 @@ const DRAWN: &[Drawn] = &[
             (20, 1, 4, PingReq(1, 2, &[(1, Suspect, 0, 1)])),
             (20, 1, 5, Ack(2, 1, &[(1, Suspect, 0, 1)])),
             (20, 1, 6, Nack(1)),
+            (21, 0, 0, Start),
         ],
+        number: 1,
+        at: 22,
+        told: "to 0 period",
         ..UNDRAWN
     },
-    Drawn {
-        name: "nor does one that is down",
-        setting: JITTER,
-        steps: &[
-            START,
-            (19, 0, 1, Crash),
-            (20, 0, 0, Start),
-            (20, 0, 2, JoinTimer),
-            (20, 0, 3, PeriodTimer),
-            (20, 0, 4, TimeoutTimer(1)),
-            (20, 1, 1, Join),
-            (20, 2, 1, Join),
-            (20, 1, 2, Welcome(&[(1, Alive, 0, 1), (2, Alive, 0, 1)])),
-            (20, 1, 3, Ping(1, 1, &[(2, Suspect, 0, 1)])),
-            (20, 1, 4, PingReq(1, 2, &[(2, Suspect, 0, 1)])),
-            (20, 1, 5, Ack(2, 1, &[(2, Suspect, 0, 1)])),
-        ],
-        ..UNDRAWN
-    },
-    Drawn {
+    Late {
         name: "one that joins draws for its own message alone",
-        setting: JITTER,
+        setting: WIDE_JITTER,
         member: 2,
         steps: &[
             LATE,
@@ -219,19 +265,25 @@ const DRAWN: &[Drawn] = &[
             (20, 1, 3, Ping(1, 1, &[(1, Suspect, 0, 1)])),
             (20, 1, 4, PingReq(1, 0, &[(1, Suspect, 0, 1)])),
             (20, 1, 5, Ack(0, 1, &[(1, Suspect, 0, 1)])),
+            (1005, 2, 2, JoinTimer),
         ],
-        bounds: &[6],
+        bounds: &[BOUND],
+        number: 3,
+        at: 1015,
+        told: "to 0 join",
         ..UNDRAWN
     },
-    Drawn {
+    Late {
         name: "one that runs draws nothing for a second welcome",
-        setting: JITTER,
+        setting: WATCHED_JITTER,
         steps: &[
             START,
             (20, 0, 0, Start),
             (20, 0, 2, JoinTimer),
             (20, 1, 2, Welcome(&[(1, Alive, 0, 1), (2, Alive, 0, 1)])),
+            WITNESS,
         ],
+        number: 2,
         ..UNDRAWN
     },
 ];
@@ -246,45 +298,9 @@ fn stream_after(rt: &impl Abort, member: u16, bounds: &[u32]) -> Stream {
     stream
 }
 
-/// Asserts that a member drew as much as a stream, and no more: the next draws agree.
-fn assert_next(rt: &impl Abort, name: &str, outcome: &Outcome, wanted: &mut Stream) {
-    let next = wanted.below(BOUND);
-    assert_eq!(rt; outcome.next_draw, next, "{name}");
-}
-
-/// Asserts that a member drew what a case says.
-fn assert_drawn(rt: &(impl Abort + AllocGlobal), drawn: &Drawn) -> Result<(), Fail> {
-    let outcome = outcome_of(rt, drawn.setting, drawn.member, drawn.steps, None)?;
-    let mut wanted = stream_after(rt, drawn.member, drawn.bounds);
-    assert_next(rt, drawn.name, &outcome, &mut wanted);
-    Ok(())
-}
-
-/// Asserts it of each case.
-fn assert_all_drawn(rt: &(impl Abort + AllocGlobal), cases: &[Drawn]) -> Result<(), Fail> {
-    for drawn in cases {
-        assert_drawn(rt, drawn)?;
-    }
-    Ok(())
-}
-
 #[test]
 fn draws_are_those_of_the_sentences_alone(rt: HostRuntime) -> Result<(), Fail> {
-    assert_all_drawn(&rt, DRAWN)
-}
-
-/// An event whose moment is drawn: what is drawn before it, its first moment, the number of those that it
-/// may have, and how it is told.
-struct Late<'a> {
-    name: &'a str,
-    setting: Setting<'a>,
-    member: u16,
-    steps: &'a [Input<'a>],
-    bounds: &'a [u32],
-    number: u64,
-    at: u64,
-    moments: u32,
-    told: &'a str,
+    assert_all_late(&rt, DRAWN)
 }
 
 const LATER: &[Late] = &[
@@ -411,11 +427,6 @@ fn push_late(text: &mut String, late: &Late, at: u64) -> Result<(), AllocError> 
     writeln!(text, "{number} at {at} {told}")
 }
 
-/// Asserts that a text begins so.
-fn assert_beginning(rt: &impl Abort, name: &str, text: &str, beginning: &str) {
-    assert!(rt; text.starts_with(beginning), "{name}");
-}
-
 /// Asserts that the first of these events is the one of a case.
 fn assert_first(rt: &(impl Abort + AllocGlobal), late: &Late, events: &str) -> Result<(), Fail> {
     let mut event = String::new(rt.alloc());
@@ -426,7 +437,7 @@ fn assert_first(rt: &(impl Abort + AllocGlobal), late: &Late, events: &str) -> R
 
 /// Asserts when the first event comes that the last step makes.
 fn assert_late(rt: &(impl Abort + AllocGlobal), late: &Late) -> Result<(), Fail> {
-    let outcome = outcome_of(rt, late.setting, late.member, late.steps, None)?;
+    let outcome = outcome_of(rt, late.setting, late.member, late.steps)?;
     assert_first(rt, late, outcome.events.as_str())
 }
 
@@ -479,7 +490,7 @@ fn assert_period(rt: &(impl Abort + AllocGlobal), events: &str) -> Result<(), Fa
 
 #[test]
 fn rota_is_shuffled_before_the_arrival(rt: HostRuntime) -> Result<(), Fail> {
-    let outcome = outcome_of(&rt, THREE, 0, PERIOD, None)?;
+    let outcome = outcome_of(&rt, THREE, 0, PERIOD)?;
     assert_period(&rt, outcome.events.as_str())
 }
 
@@ -555,7 +566,7 @@ fn assert_helpers(rt: &(impl Abort + AllocGlobal), outcome: &Outcome) -> Result<
 
 #[test]
 fn helpers_are_drawn_before_the_arrivals(rt: HostRuntime) -> Result<(), Fail> {
-    let outcome = outcome_of(&rt, JITTER, 0, ASKS, None)?;
+    let outcome = outcome_of(&rt, JITTER, 0, ASKS)?;
     assert_helpers(&rt, &outcome)
 }
 
@@ -599,58 +610,84 @@ fn assert_byes(rt: &(impl Abort + AllocGlobal), events: &str) -> Result<(), Fail
 
 #[test]
 fn who_hears_a_bye_is_drawn_before_the_arrivals(rt: HostRuntime) -> Result<(), Fail> {
-    let outcome = outcome_of(&rt, THREE, 0, &[START, (500, 0, 1, Leave)], None)?;
+    let outcome = outcome_of(&rt, THREE, 0, &[START, (500, 0, 1, Leave)])?;
     assert_byes(&rt, outcome.events.as_str())
 }
 
-/// The first period of member 0 with this loss.
-fn period_with_loss(rt: &(impl Abort + AllocGlobal), loss: u32) -> Result<Outcome, Fail> {
-    let mut rest = String::new(rt.alloc());
-    write!(rest, "jitter = 5\nloss = {loss}")?;
-    let setting = Setting {
-        rest: rest.as_str(),
-        ..GROWING
+/// Appends what a scenario says of its links with this loss.
+fn push_loss(text: &mut String, loss: u32) -> Result<(), AllocError> {
+    write!(text, "jitter = 5\nloss = {loss}")
+}
+
+/// Asserts the rows of the first period with these links.
+fn assert_rows(rt: &(impl Abort + AllocGlobal), rest: &str, rows: &str) -> Result<(), Fail> {
+    let setting = Setting { rest, ..WATCHED };
+    let outcome = outcome_of(rt, setting, 0, PERIOD)?;
+    assert_text(rt, rest, outcome.rows.as_str(), rows);
+    Ok(())
+}
+
+/// It starts, begins its first period, and answers the witness.
+const PERIOD_AND_WITNESS: &[Input] = &[START, FIRST, WITNESS];
+
+/// Asserts that a ping is lost by these links: its loss is drawn, and nothing more.
+fn assert_lost(rt: &(impl Abort + AllocGlobal), rest: &str) -> Result<(), Fail> {
+    assert_rows(rt, rest, "ping 1 1 lost\n")?;
+    let outcome = outcome_of(rt, Setting { rest, ..WATCHED }, 0, PERIOD)?;
+    assert_beginning(
+        rt,
+        rest,
+        outcome.events.as_str(),
+        "3 at 301 to 0 timeout 1\n",
+    );
+    let answer = Late {
+        name: rest,
+        setting: Setting { rest, ..WATCHED },
+        steps: PERIOD_AND_WITNESS,
+        bounds: &[BOUND],
+        ..UNDRAWN
     };
-    outcome_of(rt, setting, 0, PERIOD, None)
+    assert_late(rt, &answer)
 }
 
-/// Asserts that the ping of the first period is lost with this loss: nothing more is drawn.
-fn assert_lost(rt: &(impl Abort + AllocGlobal), loss: u32) -> Result<(), Fail> {
-    let outcome = period_with_loss(rt, loss)?;
-    assert_text(rt, "a loss", outcome.rows.as_str(), "ping 1 1 lost\n");
-    let beginning = "3 at 301 to 0 timeout 1\n";
-    assert_beginning(rt, "a loss", outcome.events.as_str(), beginning);
-    let mut wanted = stream_after(rt, 0, &[BOUND]);
-    assert_next(rt, "a loss", &outcome, &mut wanted);
-    Ok(())
+/// Asserts that a ping arrives by these links: its loss is drawn, and then its jitter.
+fn assert_sent(rt: &(impl Abort + AllocGlobal), rest: &str) -> Result<(), Fail> {
+    assert_rows(rt, rest, "ping 1 1\n")?;
+    let ping = Late {
+        name: rest,
+        setting: Setting { rest, ..WATCHED },
+        steps: PERIOD,
+        bounds: &[BOUND],
+        number: 2,
+        at: 11,
+        moments: 6,
+        told: "to 1 ping 0 1",
+        ..UNDRAWN
+    };
+    assert_late(rt, &ping)?;
+    let answer = Late {
+        name: rest,
+        setting: Setting { rest, ..WATCHED },
+        steps: PERIOD_AND_WITNESS,
+        bounds: &[BOUND, 6],
+        ..UNDRAWN
+    };
+    assert_late(rt, &answer)
 }
 
-/// Appends the line of the ping of the first period.
-fn push_ping(text: &mut String, at: u32) -> Result<(), AllocError> {
-    writeln!(text, "2 at {at} to 1 ping 0 1")
-}
-
-/// Asserts that a ping was drawn to arrive, its jitter after its loss.
-fn assert_arrival(rt: &(impl Abort + AllocGlobal), outcome: &Outcome) -> Result<(), Fail> {
-    let mut wanted = stream_after(rt, 0, &[BOUND]);
-    let mut event = String::new(rt.alloc());
-    push_ping(&mut event, 11 + wanted.below(6))?;
-    assert_beginning(rt, "no loss", outcome.events.as_str(), event.as_str());
-    assert_next(rt, "no loss", outcome, &mut wanted);
-    Ok(())
-}
-
-/// Asserts that the ping arrives with this loss.
-fn assert_sent(rt: &(impl Abort + AllocGlobal), loss: u32) -> Result<(), Fail> {
-    let outcome = period_with_loss(rt, loss)?;
-    assert_text(rt, "no loss", outcome.rows.as_str(), "ping 1 1\n");
-    assert_arrival(rt, &outcome)
+/// Asserts that the ping of the first period arrives with this loss, and is lost with one more.
+fn assert_losses(rt: &(impl Abort + AllocGlobal), loss: u32) -> Result<(), Fail> {
+    assert!(rt; loss < BOUND);
+    let mut rest = String::new(rt.alloc());
+    push_loss(&mut rest, loss)?;
+    assert_sent(rt, rest.as_str())?;
+    rest.clear();
+    push_loss(&mut rest, loss + 1)?;
+    assert_lost(rt, rest.as_str())
 }
 
 #[test]
 fn loss_is_drawn_before_the_jitter(rt: HostRuntime) -> Result<(), Fail> {
     let drawn = stream_after(&rt, 0, &[]).below(BOUND);
-    assert_sent(&rt, drawn)?;
-    assert!(rt; drawn < BOUND);
-    assert_lost(&rt, drawn + 1)
+    assert_losses(&rt, drawn)
 }

@@ -1,15 +1,11 @@
 //! The messages of probes: timeouts, pings for others, acks and nacks.
 
-use crate::tests_fixture::Asks::{
-    Ack, Nack, NackTimer, PeriodTimer, Ping, PingReq, Start, TimeoutTimer,
-};
-use crate::tests_fixture::{
+use crate::fixture::Asks::{Ack, Nack, NackTimer, PeriodTimer, Ping, PingReq, Start, TimeoutTimer};
+use crate::fixture::{
     Case, GROWING, GROWING_LOST, GROWING_UNAWARE, Input, Outcome, PAIR, ROWS, SILENT, Setting,
-    Told, assert_cases, outcome_of,
+    Told, assert_beginning, assert_cases, outcome_of,
 };
-use base::MemberId;
 use incarnation::Claim::{Alive, Confirm, Suspect};
-use lifeguard::Probe;
 use std::process::Abort;
 use std::test::Fail;
 
@@ -114,11 +110,10 @@ fn timeouts(rt: HostRuntime) -> Result<(), Fail> {
     assert_cases(&rt, TIMEOUTS)
 }
 
-/// How many of three candidates are asked for help, whoever they are, and how many nacks are expected.
+/// How many of three candidates are asked for help, whoever they are.
 struct Asked<'a> {
     setting: Setting<'a>,
     asked: usize,
-    expected: u8,
 }
 
 /// Two are asked for help.
@@ -127,72 +122,78 @@ const TWO_HELPERS: Setting = Setting {
     ..GROWING
 };
 
+/// One is asked for help.
+const ONE_HELPER: Setting = Setting {
+    swim: "period = 1000\ntimeout = 300\nhelpers = 1",
+    ..GROWING
+};
+
+/// Three are asked for help.
+const THREE_HELPERS: Setting = Setting {
+    swim: "period = 1000\ntimeout = 300\nhelpers = 3",
+    ..GROWING
+};
+
+/// All are asked for help.
+const ALL_HELP: Setting = Setting {
+    swim: "period = 1000\ntimeout = 300\nhelpers = 16",
+    ..GROWING
+};
+
+/// Two are asked for help, and each request is lost.
+const HELPERS_LOST: Setting = Setting {
+    rest: "loss = 1000000",
+    ..TWO_HELPERS
+};
+
+/// Two are asked for help, without LHA-Probe.
+const HELPERS_UNAWARE: Setting = Setting {
+    rest: "[lifeguard]\nprobe = false",
+    ..TWO_HELPERS
+};
+
 const ASKED: &[Asked] = &[
     Asked {
-        setting: Setting {
-            swim: "period = 1000\ntimeout = 300\nhelpers = 1",
-            ..GROWING
-        },
+        setting: ONE_HELPER,
         asked: 1,
-        expected: 1,
     },
     Asked {
         setting: TWO_HELPERS,
         asked: 2,
-        expected: 2,
     },
     Asked {
-        setting: Setting {
-            swim: "period = 1000\ntimeout = 300\nhelpers = 3",
-            ..GROWING
-        },
+        setting: THREE_HELPERS,
         asked: 3,
-        expected: 3,
     },
     Asked {
-        setting: Setting {
-            swim: "period = 1000\ntimeout = 300\nhelpers = 16",
-            ..GROWING
-        },
+        setting: ALL_HELP,
         asked: 3,
-        expected: 3,
     },
     // A lost request is one of them.
     Asked {
-        setting: Setting {
-            rest: "loss = 1000000",
-            ..TWO_HELPERS
-        },
+        setting: HELPERS_LOST,
         asked: 2,
-        expected: 2,
     },
-    // Without LHA-Probe no nack is expected.
     Asked {
-        setting: Setting {
-            rest: "[lifeguard]\nprobe = false",
-            ..TWO_HELPERS
-        },
+        setting: HELPERS_UNAWARE,
         asked: 2,
-        expected: 0,
     },
 ];
 
-/// It hears of three members, and then the time of its probe is up.
-const ASKS: &[Input] = &[
-    START,
-    FIRST,
-    (
-        5,
+/// It hears of three members.
+const KNOWN: Input = (
+    5,
+    1,
+    3,
+    Ping(
         1,
-        3,
-        Ping(
-            1,
-            9,
-            &[(2, Alive, 0, 2), (3, Alive, 0, 2), (4, Alive, 0, 2)],
-        ),
+        9,
+        &[(2, Alive, 0, 2), (3, Alive, 0, 2), (4, Alive, 0, 2)],
     ),
-    TIMEOUT,
-];
+);
+
+/// Then the time of its probe is up.
+const ASKS: &[Input] = &[START, FIRST, KNOWN, TIMEOUT];
 
 /// Asserts how many requests are among the rows.
 fn assert_requests(rt: &impl Abort, case: &Asked, outcome: &Outcome) {
@@ -201,21 +202,10 @@ fn assert_requests(rt: &impl Abort, case: &Asked, outcome: &Outcome) {
     assert_eq!(rt; asked, case.asked, "{swim} {rest}");
 }
 
-/// Asserts that the probe that is under way is this.
-fn assert_probe(rt: &impl Abort, setting: Setting, outcome: &Outcome, wanted: Probe) {
-    let Setting { swim, rest, .. } = setting;
-    assert_eq!(rt; outcome.probe, Some(wanted), "{swim} {rest}");
-}
-
 /// Asserts how many are asked.
 fn assert_asked(rt: &(impl Abort + AllocGlobal), case: &Asked) -> Result<(), Fail> {
-    let outcome = outcome_of(rt, case.setting, 0, ASKS, None)?;
+    let outcome = outcome_of(rt, case.setting, 0, ASKS)?;
     assert_requests(rt, case, &outcome);
-    let probe = Probe {
-        expected: case.expected,
-        ..Probe::new(1, MemberId(1))
-    };
-    assert_probe(rt, case.setting, &outcome, probe);
     Ok(())
 }
 
@@ -556,70 +546,228 @@ fn nack_timers(rt: HostRuntime) -> Result<(), Fail> {
 }
 
 /// A nack to the probe 1.
-const NACK: Input = (21, 1, 11, Nack(1));
+const NACK: Input = (500, 2, 11, Nack(1));
 
 /// A nack to a probe that is not there.
-const STRAY: Input = (21, 1, 12, Nack(2));
+const STRAY: Input = (501, 2, 12, Nack(2));
 
-/// Nacks to a probe, with as many stray ones between them, and how many of them are counted.
-const NACKED: &[(&[Input], u8)] = &[
-    (&[START, FIRST], 0),
-    (&[START, FIRST, STRAY], 0),
-    (&[START, FIRST, NACK], 1),
-    (&[START, FIRST, NACK, STRAY], 1),
-    (&[START, FIRST, NACK, STRAY, NACK, STRAY], 2),
-    (
+/// Members 0 and 1 from the beginning, and 17 that start at 5; 16 are asked for help.
+const MANY: Setting = Setting {
+    groups: "[[group]]\nname = \"n\"\ncount = 2\n[[group]]\nname = \"j\"\ncount = 17\nstart = 5\ncontact = \"n-0\"\n",
+    ..ALL_HELP
+};
+
+/// It hears of all of these.
+const MANY_KNOWN: Input = (
+    5,
+    1,
+    3,
+    Ping(
+        1,
+        9,
         &[
-            START, FIRST, NACK, NACK, NACK, NACK, NACK, NACK, NACK, NACK, NACK, NACK, NACK, NACK,
-            NACK, NACK, NACK,
+            (2, Alive, 0, 2),
+            (3, Alive, 0, 2),
+            (4, Alive, 0, 2),
+            (5, Alive, 0, 2),
+            (6, Alive, 0, 2),
+            (7, Alive, 0, 2),
+            (8, Alive, 0, 2),
+            (9, Alive, 0, 2),
+            (10, Alive, 0, 2),
+            (11, Alive, 0, 2),
+            (12, Alive, 0, 2),
+            (13, Alive, 0, 2),
+            (14, Alive, 0, 2),
+            (15, Alive, 0, 2),
+            (16, Alive, 0, 2),
+            (17, Alive, 0, 2),
+            (18, Alive, 0, 2),
         ],
-        15,
     ),
-    (
-        &[
-            START, FIRST, NACK, NACK, NACK, NACK, NACK, NACK, NACK, NACK, NACK, NACK, NACK, NACK,
-            NACK, NACK, NACK, NACK,
-        ],
-        16,
-    ),
-    (
-        &[
-            START, FIRST, NACK, NACK, NACK, NACK, NACK, NACK, NACK, NACK, NACK, NACK, NACK, NACK,
-            NACK, NACK, NACK, NACK, NACK,
-        ],
-        16,
-    ),
-    (
-        &[
-            START, FIRST, NACK, NACK, NACK, NACK, NACK, NACK, NACK, NACK, NACK, NACK, NACK, NACK,
-            NACK, NACK, NACK, NACK, NACK, NACK, NACK, NACK,
-        ],
-        16,
-    ),
+);
+
+/// How a probe without an ack ends: the health is worse by 2 where a nack is missed, else by 1.
+struct Failure<'a> {
+    name: &'a str,
+    setting: Setting<'a>,
+    steps: &'a [Input<'a>],
+    /// The first rows.
+    rows: &'a str,
+}
+
+/// A nack that is expected doesn't come.
+const MISSED: Failure = Failure {
+    name: "",
+    setting: GROWING,
+    steps: &[],
+    rows: "fail 1 1\nhealth - 2\nsuspect 1 0\n",
+};
+
+/// None is missed.
+const NOT_MISSED: Failure = Failure {
+    rows: "fail 1 1\nhealth - 1\nsuspect 1 0\n",
+    ..MISSED
+};
+
+const EXPECTED: &[Failure] = &[
+    Failure {
+        name: "one helper, no nack",
+        setting: ONE_HELPER,
+        steps: &[START, FIRST, KNOWN, TIMEOUT, SECOND],
+        ..MISSED
+    },
+    Failure {
+        name: "one helper, its nack",
+        setting: ONE_HELPER,
+        steps: &[START, FIRST, KNOWN, TIMEOUT, NACK, SECOND],
+        ..NOT_MISSED
+    },
+    Failure {
+        name: "two helpers, one nack",
+        setting: TWO_HELPERS,
+        steps: &[START, FIRST, KNOWN, TIMEOUT, NACK, SECOND],
+        ..MISSED
+    },
+    Failure {
+        name: "two helpers, two nacks",
+        setting: TWO_HELPERS,
+        steps: &[START, FIRST, KNOWN, TIMEOUT, NACK, NACK, SECOND],
+        ..NOT_MISSED
+    },
+    Failure {
+        name: "three helpers, two nacks",
+        setting: THREE_HELPERS,
+        steps: &[START, FIRST, KNOWN, TIMEOUT, NACK, NACK, SECOND],
+        ..MISSED
+    },
+    Failure {
+        name: "three helpers, three nacks",
+        setting: THREE_HELPERS,
+        steps: &[START, FIRST, KNOWN, TIMEOUT, NACK, NACK, NACK, SECOND],
+        ..NOT_MISSED
+    },
+    Failure {
+        name: "three candidates of 16, two nacks",
+        setting: ALL_HELP,
+        steps: &[START, FIRST, KNOWN, TIMEOUT, NACK, NACK, SECOND],
+        ..MISSED
+    },
+    Failure {
+        name: "three candidates of 16, three nacks",
+        setting: ALL_HELP,
+        steps: &[START, FIRST, KNOWN, TIMEOUT, NACK, NACK, NACK, SECOND],
+        ..NOT_MISSED
+    },
+    Failure {
+        name: "two lost requests, one nack",
+        setting: HELPERS_LOST,
+        steps: &[START, FIRST, KNOWN, TIMEOUT, NACK, SECOND],
+        ..MISSED
+    },
+    Failure {
+        name: "two lost requests, two nacks",
+        setting: HELPERS_LOST,
+        steps: &[START, FIRST, KNOWN, TIMEOUT, NACK, NACK, SECOND],
+        ..NOT_MISSED
+    },
+    Failure {
+        name: "without LHA-Probe there is no health",
+        setting: HELPERS_UNAWARE,
+        steps: &[START, FIRST, KNOWN, TIMEOUT, SECOND],
+        rows: "fail 1 1\nsuspect 1 0\n",
+        ..MISSED
+    },
 ];
 
-/// Asserts how many nacks are counted.
-fn assert_nacks(rt: &(impl Abort + AllocGlobal), steps: &[Input], nacks: u8) -> Result<(), Fail> {
-    let outcome = outcome_of(rt, PAIR, 0, steps, None)?;
-    let wanted = Probe {
-        nacks,
-        ..Probe::new(1, MemberId(1))
-    };
-    assert_probe(rt, PAIR, &outcome, wanted);
+const NACKED: &[Failure] = &[
+    Failure {
+        name: "a stray nack alone",
+        setting: ONE_HELPER,
+        steps: &[START, FIRST, KNOWN, TIMEOUT, STRAY, SECOND],
+        ..MISSED
+    },
+    Failure {
+        name: "a stray nack after the one that is expected",
+        setting: ONE_HELPER,
+        steps: &[START, FIRST, KNOWN, TIMEOUT, NACK, STRAY, SECOND],
+        ..NOT_MISSED
+    },
+    Failure {
+        name: "a stray nack in place of the second",
+        setting: TWO_HELPERS,
+        steps: &[START, FIRST, KNOWN, TIMEOUT, NACK, STRAY, SECOND],
+        ..MISSED
+    },
+    Failure {
+        name: "stray nacks between two",
+        setting: TWO_HELPERS,
+        steps: &[
+            START, FIRST, KNOWN, TIMEOUT, NACK, STRAY, NACK, STRAY, SECOND,
+        ],
+        ..NOT_MISSED
+    },
+    Failure {
+        name: "15 of 16",
+        setting: MANY,
+        steps: &[
+            START, FIRST, MANY_KNOWN, TIMEOUT, NACK, NACK, NACK, NACK, NACK, NACK, NACK, NACK,
+            NACK, NACK, NACK, NACK, NACK, NACK, NACK, SECOND,
+        ],
+        ..MISSED
+    },
+    Failure {
+        name: "16 of 16",
+        setting: MANY,
+        steps: &[
+            START, FIRST, MANY_KNOWN, TIMEOUT, NACK, NACK, NACK, NACK, NACK, NACK, NACK, NACK,
+            NACK, NACK, NACK, NACK, NACK, NACK, NACK, NACK, SECOND,
+        ],
+        ..NOT_MISSED
+    },
+    Failure {
+        name: "17 of 16",
+        setting: MANY,
+        steps: &[
+            START, FIRST, MANY_KNOWN, TIMEOUT, NACK, NACK, NACK, NACK, NACK, NACK, NACK, NACK,
+            NACK, NACK, NACK, NACK, NACK, NACK, NACK, NACK, NACK, SECOND,
+        ],
+        ..NOT_MISSED
+    },
+    Failure {
+        name: "20 of 16",
+        setting: MANY,
+        steps: &[
+            START, FIRST, MANY_KNOWN, TIMEOUT, NACK, NACK, NACK, NACK, NACK, NACK, NACK, NACK,
+            NACK, NACK, NACK, NACK, NACK, NACK, NACK, NACK, NACK, NACK, NACK, NACK, SECOND,
+        ],
+        ..NOT_MISSED
+    },
+];
+
+/// Asserts how a probe ends.
+fn assert_failure(rt: &(impl Abort + AllocGlobal), case: &Failure) -> Result<(), Fail> {
+    let outcome = outcome_of(rt, case.setting, 0, case.steps)?;
+    assert_beginning(rt, case.name, outcome.rows.as_str(), case.rows);
     Ok(())
 }
 
 /// Asserts it of each case.
-fn assert_all_nacks(rt: &(impl Abort + AllocGlobal), cases: &[(&[Input], u8)]) -> Result<(), Fail> {
-    for (steps, nacks) in cases {
-        assert_nacks(rt, steps, *nacks)?;
+fn assert_failures(rt: &(impl Abort + AllocGlobal), cases: &[Failure]) -> Result<(), Fail> {
+    for case in cases {
+        assert_failure(rt, case)?;
     }
     Ok(())
 }
 
 #[test]
+fn nacks_are_expected_of_each_helper(rt: HostRuntime) -> Result<(), Fail> {
+    assert_failures(&rt, EXPECTED)
+}
+
+#[test]
 fn nacks_are_counted_up_to_16(rt: HostRuntime) -> Result<(), Fail> {
-    assert_all_nacks(&rt, NACKED)
+    assert_failures(&rt, NACKED)
 }
 
 const NACKS: &[Case] = &[Case {
