@@ -9,8 +9,6 @@ mod lengths;
 mod making;
 mod settle;
 mod table;
-#[cfg(test)]
-mod tests;
 mod twins;
 
 pub use laws::{

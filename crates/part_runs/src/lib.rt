@@ -1,9 +1,12 @@
 //! Windows of parts and choices of members, worked out by hand: the tests of a part that runs its window, of a
-//! cluster that runs by choices, and of the workers that run the windows of several parts.
+//! cluster that runs by choices, of how far parts may run by themselves, and of the workers that run the windows of
+//! several parts.
 #![tactic(auto)]
 
 #[cfg(test)]
 mod choices_tests;
+#[cfg(test)]
+mod horizons_tests;
 #[cfg(test)]
 mod part_tests;
 #[cfg(test)]

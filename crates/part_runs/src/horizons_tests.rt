@@ -1,8 +1,7 @@
 //! Divisions of few members, worked out by hand, and one of 64 parts.
 
-use crate::making::horizons;
-use crate::table::Horizons;
 use base::Moment;
+use horizons::{Horizons, horizons};
 use links::Links;
 use scenario::{Division, Scenario};
 use scenario_reader::read;
