@@ -394,7 +394,7 @@ module _ (s : Setup) (sound : IsSound s) (k : Key) (n : ℕ) where
   fair_plain PeriodTimer Running o fair = fair_period o fair
   fair_plain (TimeoutTimer seq) Running o fair = fair_timed_out seq o.state.probe o fair
   fair_plain (Ping initiator seq us) Running o fair = fair_ping_heard initiator seq us o fair
-  fair_plain (PingReq seq target us) Running o fair = fair_ping_req_heard seq target us o fair
+  fair_plain (PingReq target seq us) Running o fair = fair_ping_req_heard seq target us o fair
   fair_plain (Ack initiator seq us) Running o fair = fair_ack_heard initiator seq us o fair
   fair_plain (NackTimer initiator seq) Running o fair = fair_nack_due initiator seq o fair
   fair_plain (Nack seq) Running o fair = fair_nack_heard seq o fair

@@ -6,9 +6,9 @@ use Rattle.base.specs.declared.key.Key.{Key}
 use Rattle.scenario.specs.Setup.{Setup, contact_of}
 use Rattle.trace.specs.declared.row.What.{What}
 use Rattle.member.specs.declared.content.Content.{Content}
+use Rattle.member.specs.declared.event.Effects.{Effects}
 use Rattle.member.specs.declared.here.Here.{Here}
 use Rattle.member.specs.declared.member.Member.{Member}
-use Rattle.member.specs.declared.turn.Turn.{Turn}
 use Rattle.member.specs.declared.turn.StepError.{StepError}
 use Rattle.member.specs.declared.turn.StepError.TheVariants.{Worn}
 use Rattle.member.specs.Makes.{Makes}
@@ -37,13 +37,13 @@ not_worn m worn =
     elim worn [ inl h ↦ omega arith | inr more ↦ elim more [ inl h ↦ omega arith | inr h ↦ omega arith ] ]
 
 -- a part whose refusal is handed on: what it wears is worn by the whole
-pub refused : {here : Here} {old new : Member} {before after : Turn} {change : Effect → Effect} (r : Result (Unit {0}) StepError) (e : StepError) → IsErrAnd r (λ y. y ≡ e)
+pub refused : {here : Here} {old new : Member} {before after : Effects} {change : Effect → Effect} (r : Result (Unit {0}) StepError) (e : StepError) → IsErrAnd r (λ y. y ≡ e)
     → (IsErrOf {T = Unit {0}} (Err e) Worn → IsWorn (change (effect_of old before)).state) → Makes here r old before new after change
 refused (Ok t) e gives wears = absurd gives
 refused (Err y) e gives wears = record { ok = tt; worn = λ is. wears (let same : y ≡ Worn = cc in ap Err (sym gives ∙ same)); kept = tt }
 
 -- the counter stands at its limit, and would have to rise
-pub worn_out : {here : Here} {old new : Member} {before after : Turn} {change : Effect → Effect} → IsWorn (change (effect_of old before)).state
+pub worn_out : {here : Here} {old new : Member} {before after : Effects} {change : Effect → Effect} → IsWorn (change (effect_of old before)).state
     → Makes here (Err Worn) old before new after change
 worn_out worn = record { ok = tt; worn = λ _. worn; kept = tt }
 

@@ -48,7 +48,7 @@ HoldsMembers s m t = HoldsOthers s m t.table t.rota
 abbrev pub MentionsMembers : ℕ → Content → Type 0
 MentionsMembers n (Welcome entries) = All (λ u. u.subject < n) entries
 MentionsMembers n (Ping initiator seq updates) = (initiator < n) × All (λ u. u.subject < n) updates
-MentionsMembers n (PingReq seq target updates) = (target < n) × All (λ u. u.subject < n) updates
+MentionsMembers n (PingReq target seq updates) = (target < n) × All (λ u. u.subject < n) updates
 MentionsMembers n (Ack initiator seq updates) = (initiator < n) × All (λ u. u.subject < n) updates
 MentionsMembers n (NackTimer initiator seq) = initiator < n
 MentionsMembers n _ = Unit {0}

@@ -3,9 +3,9 @@ use Rattle.std.specs.Prelude.{◌≡◌, ℕ, ◌<◌, List, All, Result, OnOk, 
 use Rattle.scenario.specs.Setup.{member_count}
 use Rattle.incarnation.specs.declared.Update.{Update}
 use Rattle.streams.specs.Draw.{Words}
+use Rattle.member.specs.declared.event.Effects.{Effects}
 use Rattle.member.specs.declared.here.Here.{Here}
 use Rattle.member.specs.declared.member.Member.{Member}
-use Rattle.member.specs.declared.turn.Turn.{Turn}
 use Rattle.member.specs.declared.turn.StepError.{StepError}
 use Rattle.member.specs.declared.turn.StepError.TheVariants.{Memory, Worn}
 use Rattle.member.specs.Here.{HoldsMembers}
@@ -37,7 +37,7 @@ pub record IsMade {T A : Type 0} (result : Result T StepError) (made wanted : A)
 
 -- A part makes a change, and the receiver still knows members of the scenario alone; or it is refused, for want of memory or as
 -- worn: then the change would bring a counter past its limit.
-pub record Makes (here : Here) (result : Result (Unit {0}) StepError) (old : Member) (before : Turn) (new : Member) (after : Turn) (change : Effect → Effect) : Type 0 where
+pub record Makes (here : Here) (result : Result (Unit {0}) StepError) (old : Member) (before : Effects) (new : Member) (after : Effects) (change : Effect → Effect) : Type 0 where
   pub ok : OnOk result (effect_of new after ≡ change (effect_of old before))
   pub worn : IsErrOf result Worn → IsWorn (change (effect_of old before)).state
   pub kept : OnOk result (KnowsMembers here new)

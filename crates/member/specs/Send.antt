@@ -62,7 +62,7 @@ ping_sent s k to initiator seq o =
 
 -- The request to a helper to ping the target (SWIM, section 3.1).
 unfoldable pub ping_req_sent : Setup → Key → ℕ → ℕ → ℕ → Effect → Effect
-ping_req_sent s k target seq to o = sent s k what.PingReq to seq (PingReq seq target (carried s None o.state)) (on_state (with_picks s None) o)
+ping_req_sent s k target seq to o = sent s k what.PingReq to seq (PingReq target seq (carried s None o.state)) (on_state (with_picks s None) o)
 
 -- An ack on its way to the initiator of the probe (SWIM, section 3.1).
 unfoldable pub ack_sent : Setup → Key → ℕ → ℕ → ℕ → Effect → Effect

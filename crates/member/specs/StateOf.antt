@@ -3,9 +3,9 @@ use Rattle.std.specs.Prelude.{map}
 use Rattle.base.specs.declared.key.Key.{Key}
 use Rattle.streams.specs.Draw.{words_of}
 use Rattle.member.specs.declared.content.Content.{Content}
+use Rattle.member.specs.declared.event.Effects.{Effects}
 use Rattle.member.specs.declared.event.Event.{Event}
 use Rattle.member.specs.declared.member.Member.{Member}
-use Rattle.member.specs.declared.turn.Turn.{Turn}
 use Rattle.member.specs.State.{State}
 use Rattle.member.specs.Turn.{Effect}
 
@@ -32,5 +32,5 @@ abbrev pub pair_of : Event → Key × Content
 pair_of e = (e.key, e.content)
 
 -- what a member and its turn have made so far
-abbrev pub effect_of : Member → Turn → Effect
+abbrev pub effect_of : Member → Effects → Effect
 effect_of m turn = record { state = state_of m; events = map pair_of turn.events.items; rows = turn.rows.items }

@@ -246,7 +246,7 @@ bye_heard s k o = confirmed s k k.from (get o.state.table k.from) o
 -- the messages of a probe, at a member that runs
 abbrev pub probing_handled : Setup → Key → Content → Effect → Effect
 probing_handled s k (Ping initiator seq updates) o = ping_heard s k initiator seq updates o
-probing_handled s k (PingReq seq target updates) o = ping_req_heard s k seq target updates o
+probing_handled s k (PingReq target seq updates) o = ping_req_heard s k seq target updates o
 probing_handled s k (Ack initiator seq updates) o = ack_heard s k initiator seq updates o
 probing_handled s k _ o = o
 
@@ -262,7 +262,7 @@ plain_handled s k (Welcome entries) Joining o = joined s k entries o
 plain_handled s k PeriodTimer Running o = period_begun s k o
 plain_handled s k (TimeoutTimer seq) Running o = timed_out s k seq o.state.probe o
 plain_handled s k (Ping initiator seq updates) Running o = ping_heard s k initiator seq updates o
-plain_handled s k (PingReq seq target updates) Running o = ping_req_heard s k seq target updates o
+plain_handled s k (PingReq target seq updates) Running o = ping_req_heard s k seq target updates o
 plain_handled s k (Ack initiator seq updates) Running o = ack_heard s k initiator seq updates o
 plain_handled s k (NackTimer initiator seq) Running o = nack_due s k initiator seq o
 plain_handled s k (Nack seq) Running o = nack_heard seq o

@@ -3,9 +3,10 @@ ghost use Rattle.member.specs.Makes.{AreAboutMembers, IsMember, KnowsMembers, Ma
 ghost use Rattle.member.specs.Step.{answered, ack_taken, ack_heard, nack_heard};
 ghost use Rattle.member.specs.StateOf.{effect_of, state_of};
 
+use crate::event::Effects;
 use crate::here::Here;
 use crate::member::Member;
-use crate::turn::{StepError, Turn};
+use crate::turn::StepError;
 use base::MemberId;
 use incarnation::Update;
 
@@ -27,7 +28,7 @@ impl Member {
     #[tactic(auto, unfolding(crate::specs::Step::ack_taken))]
     fn take_ack(
         &mut self,
-        turn: &mut Turn,
+        turn: &mut Effects,
         here: &Here,
         initiator: MemberId,
         seq: u64,
@@ -48,7 +49,7 @@ impl Member {
     #[tactic(auto, unfolding(crate::specs::Step::ack_heard))]
     pub(crate) fn hear_ack(
         &mut self,
-        turn: &mut Turn,
+        turn: &mut Effects,
         here: &Here,
         initiator: MemberId,
         seq: u64,
@@ -65,7 +66,7 @@ impl Member {
 
     /// A nack of a helper counts for the probe that is under way, if it has its number.
     #[tactic(auto, unfolding(crate::specs::Step::nack_heard))]
-    pub(crate) fn hear_nack(&mut self, turn: &Turn, here: &Here, seq: u64)
+    pub(crate) fn hear_nack(&mut self, turn: &Effects, here: &Here, seq: u64)
         requires { KnowsMembers here.now self.old }
         ensures state { effect_of self.new turn.now ≡ nack_heard seq (effect_of self.old turn.now) }
         ensures kept { KnowsMembers here.now self.new }

@@ -3,9 +3,10 @@ ghost use Rattle.member.specs.Makes.{AreAboutMembers, IsMade, IsMember, KnowsMem
 ghost use Rattle.member.specs.Apply.{with_health, refuted, heard_dead, own_applied, other_applied, applied, all_applied, is_repeated};
 ghost use Rattle.member.specs.StateOf.{effect_of};
 
+use crate::event::Effects;
 use crate::here::Here;
 use crate::member::Member;
-use crate::turn::{StepError, Turn};
+use crate::turn::StepError;
 use base::limits::COUNTER_LIMIT;
 use incarnation::{Claim, Update};
 use lifeguard::Health;
@@ -17,7 +18,7 @@ impl Member {
     #[tactic(auto, unfolding(crate::specs::Apply::with_health))]
     pub(crate) fn set_health(
         &mut self,
-        turn: &mut Turn,
+        turn: &mut Effects,
         here: &Here,
         health: Health,
     ) -> Result<(), StepError>
@@ -38,7 +39,7 @@ impl Member {
     /// Refutes a suspicion of oneself by the next incarnation number (SWIM, section 4.2). Worn where
     /// that number stands at its limit.
     #[tactic(auto, unfolding(crate::specs::Apply::refuted))]
-    fn refute(&mut self, turn: &mut Turn, here: &Here) -> Result<(), StepError>
+    fn refute(&mut self, turn: &mut Effects, here: &Here) -> Result<(), StepError>
         requires { KnowsMembers here.now self.old }
         ensures { Makes here.now result self.old turn.old self.new turn.new (refuted here.now.key) }
     {
@@ -62,7 +63,7 @@ impl Member {
 
     /// Hears for the first time that one was confirmed to have failed.
     #[tactic(auto, unfolding(crate::specs::Apply::heard_dead))]
-    fn hear_dead(&mut self, turn: &mut Turn, here: &Here, number: u64) -> Result<(), StepError>
+    fn hear_dead(&mut self, turn: &mut Effects, here: &Here, number: u64) -> Result<(), StepError>
         requires { KnowsMembers here.now self.old }
         ensures { Makes here.now result self.old turn.old self.new turn.new (heard_dead here.now.key number) }
     {
@@ -73,7 +74,7 @@ impl Member {
     /// Applies a claim about oneself.
     fn apply_own(
         &mut self,
-        turn: &mut Turn,
+        turn: &mut Effects,
         here: &Here,
         claim: Claim,
         number: u64,
@@ -103,7 +104,7 @@ impl Member {
     /// Applies an update about another member, of which the table has this.
     fn apply_other(
         &mut self,
-        turn: &mut Turn,
+        turn: &mut Effects,
         here: &Here,
         loud: bool,
         update: &Update,
@@ -130,7 +131,7 @@ impl Member {
     #[tactic(auto, unfolding(crate::specs::Apply::applied))]
     pub(crate) fn apply(
         &mut self,
-        turn: &mut Turn,
+        turn: &mut Effects,
         here: &Here,
         loud: bool,
         update: &Update,
@@ -149,7 +150,7 @@ impl Member {
     /// Applies updates in their order.
     pub(crate) fn apply_all(
         &mut self,
-        turn: &mut Turn,
+        turn: &mut Effects,
         here: &Here,
         loud: bool,
         updates: &[Update],

@@ -3,9 +3,10 @@ ghost use Rattle.member.specs.Makes.{KnowsMembers, Makes};
 ghost use Rattle.member.specs.Step.{confirmed, suspicion_over};
 ghost use Rattle.member.specs.StateOf.{state_of};
 
+use crate::event::Effects;
 use crate::here::Here;
 use crate::member::Member;
-use crate::turn::{StepError, Turn};
+use crate::turn::StepError;
 use base::MemberId;
 use incarnation::{Claim, Update};
 
@@ -13,7 +14,7 @@ impl Member {
     /// Confirms a member at the number at which the table holds it.
     pub(crate) fn confirm(
         &mut self,
-        turn: &mut Turn,
+        turn: &mut Effects,
         here: &Here,
         subject: MemberId,
     ) -> Result<(), StepError>
@@ -36,7 +37,7 @@ impl Member {
     #[tactic(auto, unfolding(crate::specs::Step::suspicion_over))]
     pub(crate) fn end_suspicion(
         &mut self,
-        turn: &mut Turn,
+        turn: &mut Effects,
         here: &Here,
         subject: MemberId,
     ) -> Result<(), StepError>

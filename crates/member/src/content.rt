@@ -41,8 +41,8 @@ pub enum Content {
     },
     /// The sender asks to probe the target on its behalf (SWIM, section 3.1).
     PingReq {
-        seq: u64,
         target: MemberId,
+        seq: u64,
         updates: Updates,
     },
     /// The answer to a probe, on its way to the initiator.

@@ -5,9 +5,10 @@ ghost use Rattle.membership.specs.Table.{alive_but};
 ghost use Rattle.member.specs.Step.{all_asked, help_asked, timed_out};
 ghost use Rattle.member.specs.StateOf.{state_of};
 
+use crate::event::Effects;
 use crate::here::Here;
 use crate::member::Member;
-use crate::turn::{StepError, Turn};
+use crate::turn::StepError;
 use base::MemberId;
 use lifeguard::Probe;
 use probing::helpers;
@@ -36,7 +37,7 @@ impl Member {
     /// Asks helpers, one after another, to ping the target.
     fn ask_all(
         &mut self,
-        turn: &mut Turn,
+        turn: &mut Effects,
         here: &Here,
         target: MemberId,
         seq: u64,
@@ -54,7 +55,7 @@ impl Member {
 
     /// Asks helpers to ping the target. With LHA-Probe the probe expects an answer of each.
     #[tactic(auto, unfolding(crate::specs::Step::help_asked))]
-    fn ask_help(&mut self, turn: &mut Turn, here: &Here, probe: &Probe) -> Result<(), StepError>
+    fn ask_help(&mut self, turn: &mut Effects, here: &Here, probe: &Probe) -> Result<(), StepError>
         requires { KnowsMembers here.now self.old }
         ensures { Makes here.now result self.old turn.old self.new turn.new (help_asked here.now.scenario.now here.now.key probe.now) }
     {
@@ -73,7 +74,7 @@ impl Member {
     #[tactic(auto, unfolding(crate::specs::Step::timed_out))]
     pub(crate) fn time_out(
         &mut self,
-        turn: &mut Turn,
+        turn: &mut Effects,
         here: &Here,
         seq: u64,
     ) -> Result<(), StepError>

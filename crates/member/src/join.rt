@@ -4,10 +4,11 @@ ghost use Rattle.member.specs.Makes.{AreAboutMembers, KnowsMembers, Makes};
 ghost use Rattle.member.specs.Step.{first_period_set, first_others, began, join_asked, joining_begun, started, crashed, join_handled, about_others, joined};
 
 use crate::content::Content;
+use crate::event::Effects;
 use crate::here::Here;
 use crate::member::{Member, Phase};
 use crate::opening::empty_rota;
-use crate::turn::{StepError, Turn};
+use crate::turn::StepError;
 use base::{MemberId, Moment};
 use incarnation::{Claim, Update};
 use membership::Table;
@@ -19,7 +20,7 @@ use trace::What;
 impl Member {
     /// The first period begins at a moment that chance decides.
     #[tactic(auto, unfolding(crate::specs::Step::first_period_set))]
-    fn set_first_period(&mut self, turn: &mut Turn, here: &Here) -> Result<(), StepError>
+    fn set_first_period(&mut self, turn: &mut Effects, here: &Here) -> Result<(), StepError>
         requires { KnowsMembers here.now self.old }
         ensures { Makes here.now result self.old turn.old self.new turn.new (first_period_set here.now.scenario.now here.now.key) }
     {
@@ -30,7 +31,7 @@ impl Member {
 
     /// A member that starts at moment 0 knows all others that do, and probes them.
     #[tactic(auto, unfolding(crate::specs::Step::began))]
-    fn begin(&mut self, turn: &mut Turn, here: &Here) -> Result<(), StepError>
+    fn begin(&mut self, turn: &mut Effects, here: &Here) -> Result<(), StepError>
         requires { KnowsMembers here.now self.old }
         ensures { Makes here.now result self.old turn.old self.new turn.new (began here.now.scenario.now here.now.key) }
     {
@@ -46,7 +47,7 @@ impl Member {
 
     /// Asks the contact to let the member join, and again after a period.
     #[tactic(auto, unfolding(crate::specs::Step::join_asked))]
-    pub(crate) fn ask_join(&mut self, turn: &mut Turn, here: &Here) -> Result<(), StepError>
+    pub(crate) fn ask_join(&mut self, turn: &mut Effects, here: &Here) -> Result<(), StepError>
         requires { KnowsMembers here.now self.old }
         ensures { Makes here.now result self.old turn.old self.new turn.new (join_asked here.now.scenario.now here.now.key) }
     {
@@ -56,7 +57,7 @@ impl Member {
 
     /// A member that starts later knows nobody, and joins.
     #[tactic(auto, unfolding(crate::specs::Step::joining_begun))]
-    fn begin_joining(&mut self, turn: &mut Turn, here: &Here) -> Result<(), StepError>
+    fn begin_joining(&mut self, turn: &mut Effects, here: &Here) -> Result<(), StepError>
         requires { KnowsMembers here.now self.old }
         ensures { Makes here.now result self.old turn.old self.new turn.new (joining_begun here.now.scenario.now here.now.key) }
     {
@@ -69,7 +70,7 @@ impl Member {
 
     /// The member starts.
     #[tactic(auto, unfolding(crate::specs::Step::started))]
-    pub(crate) fn start(&mut self, turn: &mut Turn, here: &Here) -> Result<(), StepError>
+    pub(crate) fn start(&mut self, turn: &mut Effects, here: &Here) -> Result<(), StepError>
         requires { KnowsMembers here.now self.old }
         ensures { Makes here.now result self.old turn.old self.new turn.new (started here.now.scenario.now here.now.key) }
     {
@@ -83,7 +84,7 @@ impl Member {
 
     /// The member crashes, for good.
     #[tactic(auto, unfolding(crate::specs::Step::crashed))]
-    pub(crate) fn crash(&mut self, turn: &mut Turn, here: &Here) -> Result<(), StepError>
+    pub(crate) fn crash(&mut self, turn: &mut Effects, here: &Here) -> Result<(), StepError>
         requires { KnowsMembers here.now self.old }
         ensures { Makes here.now result self.old turn.old self.new turn.new (crashed here.now.key) }
     {
@@ -93,7 +94,7 @@ impl Member {
 
     /// A member that asks to join is alive, and is told all that one knows.
     #[tactic(auto, unfolding(crate::specs::Step::join_handled))]
-    pub(crate) fn hear_join(&mut self, turn: &mut Turn, here: &Here) -> Result<(), StepError>
+    pub(crate) fn hear_join(&mut self, turn: &mut Effects, here: &Here) -> Result<(), StepError>
         requires { KnowsMembers here.now self.old }
         ensures { Makes here.now result self.old turn.old self.new turn.new (join_handled here.now.scenario.now here.now.key) }
     {
@@ -111,7 +112,7 @@ impl Member {
     #[tactic(auto, unfolding(crate::specs::Step::joined))]
     pub(crate) fn join(
         &mut self,
-        turn: &mut Turn,
+        turn: &mut Effects,
         here: &Here,
         entries: &[Update],
     ) -> Result<(), StepError>

@@ -3,16 +3,17 @@ ghost use Rattle.member.specs.Makes.{IsMember, KnowsMembers, Makes};
 ghost use Rattle.member.specs.Send.{sent_to_each, bye_sent};
 ghost use Rattle.member.specs.Step.{withdrawn, byes_said, departed};
 
+use crate::event::Effects;
 use crate::here::Here;
 use crate::member::{Member, Phase};
-use crate::turn::{StepError, Turn};
+use crate::turn::StepError;
 use base::MemberId;
 use trace::What;
 
 impl Member {
     /// A member that joins leaves, for good. Nobody has to be told.
     #[tactic(auto, unfolding(crate::specs::Step::withdrawn))]
-    pub(crate) fn withdraw(&mut self, turn: &mut Turn, here: &Here) -> Result<(), StepError>
+    pub(crate) fn withdraw(&mut self, turn: &mut Effects, here: &Here) -> Result<(), StepError>
         requires { KnowsMembers here.now self.old }
         ensures { Makes here.now result self.old turn.old self.new turn.new (withdrawn here.now.key) }
     {
@@ -24,7 +25,7 @@ impl Member {
     /// Says bye to members, one after another.
     fn send_byes(
         &mut self,
-        turn: &mut Turn,
+        turn: &mut Effects,
         here: &Here,
         others: &[MemberId],
     ) -> Result<(), StepError>
@@ -40,7 +41,7 @@ impl Member {
 
     /// Says bye to members that are held to be alive: as many as help with a probe, but one at least.
     #[tactic(auto, unfolding(crate::specs::Step::byes_said))]
-    fn say_byes(&mut self, turn: &mut Turn, here: &Here) -> Result<(), StepError>
+    fn say_byes(&mut self, turn: &mut Effects, here: &Here) -> Result<(), StepError>
         requires { KnowsMembers here.now self.old }
         ensures { Makes here.now result self.old turn.old self.new turn.new (byes_said here.now.scenario.now here.now.key) }
     {
@@ -51,7 +52,7 @@ impl Member {
 
     /// A member that runs says bye, and leaves for good.
     #[tactic(auto, unfolding(crate::specs::Step::departed))]
-    pub(crate) fn depart(&mut self, turn: &mut Turn, here: &Here) -> Result<(), StepError>
+    pub(crate) fn depart(&mut self, turn: &mut Effects, here: &Here) -> Result<(), StepError>
         requires { KnowsMembers here.now self.old }
         ensures { Makes here.now result self.old turn.old self.new turn.new (departed here.now.scenario.now here.now.key) }
     {

@@ -4,9 +4,10 @@ ghost use Rattle.member.specs.Apply.{with_put, passed_on, with_told, claim_kept,
 ghost use Rattle.member.specs.StateOf.{effect_of, state_of};
 
 use crate::content::Content;
+use crate::event::Effects;
 use crate::here::Here;
 use crate::member::Member;
-use crate::turn::{StepError, Turn};
+use crate::turn::StepError;
 use base::MemberId;
 use incarnation::{Claim, Update};
 use membership::is_confirm;
@@ -42,7 +43,7 @@ impl Member {
     /// Writes a row about another member, unless the application is quiet.
     fn tell(
         &self,
-        turn: &mut Turn,
+        turn: &mut Effects,
         here: &Here,
         loud: bool,
         what: What,
@@ -80,7 +81,7 @@ impl Member {
     #[tactic(auto, unfolding(crate::specs::Apply::alive_heard))]
     fn hear_alive(
         &mut self,
-        turn: &mut Turn,
+        turn: &mut Effects,
         here: &Here,
         loud: bool,
         update: &Update,
@@ -96,7 +97,7 @@ impl Member {
     #[tactic(auto, unfolding(crate::specs::Apply::suspect_heard))]
     fn hear_suspect(
         &mut self,
-        turn: &mut Turn,
+        turn: &mut Effects,
         here: &Here,
         loud: bool,
         update: &Update,
@@ -125,7 +126,7 @@ impl Member {
     #[tactic(auto, unfolding(crate::specs::Apply::confirm_heard))]
     fn hear_confirm(
         &mut self,
-        turn: &mut Turn,
+        turn: &mut Effects,
         here: &Here,
         loud: bool,
         update: &Update,
@@ -141,7 +142,7 @@ impl Member {
     /// Acts upon a claim about another member.
     fn hear_claim(
         &mut self,
-        turn: &mut Turn,
+        turn: &mut Effects,
         here: &Here,
         loud: bool,
         update: &Update,
@@ -160,7 +161,7 @@ impl Member {
     #[tactic(auto, unfolding(crate::specs::Apply::news_heard))]
     pub(crate) fn hear_news(
         &mut self,
-        turn: &mut Turn,
+        turn: &mut Effects,
         here: &Here,
         loud: bool,
         update: &Update,
@@ -178,7 +179,7 @@ impl Member {
     /// Tells of an accusation that counts, sets the suspicion's timer again, and passes it on.
     fn count_accusation(
         &mut self,
-        turn: &mut Turn,
+        turn: &mut Effects,
         here: &Here,
         loud: bool,
         update: &Update,
@@ -209,7 +210,7 @@ impl Member {
     #[tactic(auto, unfolding(crate::specs::Apply::accusation_heard))]
     pub(crate) fn hear_accusation(
         &mut self,
-        turn: &mut Turn,
+        turn: &mut Effects,
         here: &Here,
         loud: bool,
         update: &Update,

@@ -6,9 +6,10 @@ ghost use Rattle.member.specs.Step.{probe_ended, probe_failed, suspected, probe_
 ghost use Rattle.member.specs.StateOf.{state_of};
 
 use crate::content::Content;
+use crate::event::Effects;
 use crate::here::Here;
 use crate::member::Member;
-use crate::turn::{StepError, Turn};
+use crate::turn::StepError;
 use base::MemberId;
 use base::limits::COUNTER_LIMIT;
 use incarnation::{Claim, Update};
@@ -19,7 +20,7 @@ use trace::What;
 impl Member {
     /// What the end of a period says of its probe, if there was one.
     #[tactic(auto, unfolding(crate::specs::Step::probe_ended))]
-    fn end_probe(&mut self, turn: &mut Turn, here: &Here) -> Result<(), StepError>
+    fn end_probe(&mut self, turn: &mut Effects, here: &Here) -> Result<(), StepError>
         requires { KnowsMembers here.now self.old }
         ensures { Makes here.now result self.old turn.old self.new turn.new (probe_ended here.now.scenario.now here.now.key (state_of self.old).probe) }
     {
@@ -36,7 +37,12 @@ impl Member {
 
     /// A probe without an ack has failed: the member may be slow, and the target may be down.
     #[tactic(auto, unfolding(crate::specs::Step::probe_failed))]
-    fn fail_probe(&mut self, turn: &mut Turn, here: &Here, probe: &Probe) -> Result<(), StepError>
+    fn fail_probe(
+        &mut self,
+        turn: &mut Effects,
+        here: &Here,
+        probe: &Probe,
+    ) -> Result<(), StepError>
         requires { KnowsMembers here.now self.old }
         ensures { Makes here.now result self.old turn.old self.new turn.new (probe_failed here.now.scenario.now here.now.key probe.now) }
     {
@@ -48,7 +54,12 @@ impl Member {
     }
 
     /// Suspects the target of a failed probe, unless it is unknown or confirmed (SWIM, section 4.2).
-    fn suspect(&mut self, turn: &mut Turn, here: &Here, target: MemberId) -> Result<(), StepError>
+    fn suspect(
+        &mut self,
+        turn: &mut Effects,
+        here: &Here,
+        target: MemberId,
+    ) -> Result<(), StepError>
         requires { KnowsMembers here.now self.old }
         ensures { Makes here.now result self.old turn.old self.new turn.new (suspected here.now.scenario.now here.now.key target (get (state_of self.old).table target)) }
     {
@@ -84,7 +95,7 @@ impl Member {
     #[tactic(auto, unfolding(crate::specs::Step::probe_begun))]
     fn begin_probe(
         &mut self,
-        turn: &mut Turn,
+        turn: &mut Effects,
         here: &Here,
         target: MemberId,
     ) -> Result<(), StepError>
@@ -105,7 +116,7 @@ impl Member {
 
     /// Probes the next member, where there is one.
     #[tactic(auto, unfolding(crate::specs::Step::next_probed))]
-    fn probe_next(&mut self, turn: &mut Turn, here: &Here) -> Result<(), StepError>
+    fn probe_next(&mut self, turn: &mut Effects, here: &Here) -> Result<(), StepError>
         requires { KnowsMembers here.now self.old }
         ensures { Makes here.now result self.old turn.old self.new turn.new (next_probed here.now.scenario.now here.now.key) }
     {
@@ -121,7 +132,7 @@ impl Member {
     /// A protocol period: the last probe ends, the next begins, and a timer is set for the next period,
     /// which LHA-Probe scales.
     #[tactic(auto, unfolding(crate::specs::Step::period_begun))]
-    pub(crate) fn begin_period(&mut self, turn: &mut Turn, here: &Here) -> Result<(), StepError>
+    pub(crate) fn begin_period(&mut self, turn: &mut Effects, here: &Here) -> Result<(), StepError>
         requires { KnowsMembers here.now self.old }
         ensures { Makes here.now result self.old turn.old self.new turn.new (period_begun here.now.scenario.now here.now.key) }
     {

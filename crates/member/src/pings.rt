@@ -3,9 +3,10 @@ ghost use Rattle.member.specs.Makes.{AreAboutMembers, IsMember, KnowsMembers, Ma
 ghost use Rattle.member.specs.Step.{ping_heard, with_relay, ping_req_heard, nack_due};
 
 use crate::content::Content;
+use crate::event::Effects;
 use crate::here::Here;
 use crate::member::Member;
-use crate::turn::{StepError, Turn};
+use crate::turn::StepError;
 use base::MemberId;
 use incarnation::Update;
 use lifeguard::nack_delay;
@@ -15,7 +16,7 @@ impl Member {
     #[tactic(auto, unfolding(crate::specs::Step::ping_heard))]
     pub(crate) fn hear_ping(
         &mut self,
-        turn: &mut Turn,
+        turn: &mut Effects,
         here: &Here,
         initiator: MemberId,
         seq: u64,
@@ -30,7 +31,7 @@ impl Member {
     }
 
     /// Owes the initiator an answer, which comes before its time is up (LHA-Probe).
-    fn add_relay(&mut self, turn: &mut Turn, here: &Here, seq: u64) -> Result<(), StepError>
+    fn add_relay(&mut self, turn: &mut Effects, here: &Here, seq: u64) -> Result<(), StepError>
         requires { KnowsMembers here.now self.old }
         ensures { Makes here.now result self.old turn.old self.new turn.new (with_relay here.now.scenario.now here.now.key seq) }
     {
@@ -48,7 +49,7 @@ impl Member {
     #[tactic(auto, unfolding(crate::specs::Step::ping_req_heard))]
     pub(crate) fn hear_ping_req(
         &mut self,
-        turn: &mut Turn,
+        turn: &mut Effects,
         here: &Here,
         seq: u64,
         target: MemberId,
@@ -72,7 +73,7 @@ impl Member {
     #[tactic(auto, unfolding(crate::specs::Step::nack_due))]
     pub(crate) fn end_relay(
         &mut self,
-        turn: &mut Turn,
+        turn: &mut Effects,
         here: &Here,
         initiator: MemberId,
         seq: u64,

@@ -6,9 +6,10 @@ ghost use Rattle.member.specs.Send.{whole_table, sent, sent_off, carried, with_p
 ghost use Rattle.member.specs.StateOf.{state_of};
 
 use crate::content::Content;
+use crate::event::Effects;
 use crate::here::Here;
 use crate::member::Member;
-use crate::turn::{StepError, Turn};
+use crate::turn::StepError;
 use crate::updates::Updates;
 use base::{MemberId, Moment, digits};
 use incarnation::{Claim, Update};
@@ -30,7 +31,7 @@ impl Member {
     /// A message arrives, or is lost.
     fn send_off(
         &mut self,
-        turn: &mut Turn,
+        turn: &mut Effects,
         here: &Here,
         to: MemberId,
         content: Content,
@@ -49,7 +50,7 @@ impl Member {
     #[tactic(auto, unfolding(crate::specs::Send::sent))]
     fn send(
         &mut self,
-        turn: &mut Turn,
+        turn: &mut Effects,
         here: &Here,
         what: What,
         to: MemberId,
@@ -114,7 +115,7 @@ impl Member {
     #[tactic(auto, unfolding(crate::specs::Send::ping_sent))]
     pub(crate) fn send_ping(
         &mut self,
-        turn: &mut Turn,
+        turn: &mut Effects,
         here: &Here,
         to: MemberId,
         initiator: MemberId,
@@ -138,7 +139,7 @@ impl Member {
     #[tactic(auto, unfolding(crate::specs::Send::ping_req_sent))]
     pub(crate) fn send_ping_req(
         &mut self,
-        turn: &mut Turn,
+        turn: &mut Effects,
         here: &Here,
         target: MemberId,
         seq: u64,
@@ -150,8 +151,8 @@ impl Member {
     {
         let updates = self.pick(here, None)?;
         let request = Content::PingReq {
-            seq,
             target,
+            seq,
             updates,
         };
         self.send(turn, here, What::PingReq, to, seq, request)
@@ -161,7 +162,7 @@ impl Member {
     #[tactic(auto, unfolding(crate::specs::Send::ack_sent))]
     pub(crate) fn send_ack(
         &mut self,
-        turn: &mut Turn,
+        turn: &mut Effects,
         here: &Here,
         to: MemberId,
         initiator: MemberId,
@@ -184,7 +185,7 @@ impl Member {
     #[tactic(auto, unfolding(crate::specs::Send::nack_sent))]
     pub(crate) fn send_nack(
         &mut self,
-        turn: &mut Turn,
+        turn: &mut Effects,
         here: &Here,
         to: MemberId,
         seq: u64,
@@ -198,7 +199,7 @@ impl Member {
 
     /// Asks the contact, where there is one, to let the member join.
     #[tactic(auto, unfolding(crate::specs::Send::join_sent))]
-    pub(crate) fn send_join(&mut self, turn: &mut Turn, here: &Here) -> Result<(), StepError>
+    pub(crate) fn send_join(&mut self, turn: &mut Effects, here: &Here) -> Result<(), StepError>
         requires { KnowsMembers here.now self.old }
         ensures { Makes here.now result self.old turn.old self.new turn.new (join_sent here.now.scenario.now here.now.key) }
     {
@@ -226,7 +227,7 @@ impl Member {
     #[tactic(auto, unfolding(crate::specs::Send::welcome_sent))]
     pub(crate) fn send_welcome(
         &mut self,
-        turn: &mut Turn,
+        turn: &mut Effects,
         here: &Here,
         to: MemberId,
     ) -> Result<(), StepError>
@@ -248,7 +249,7 @@ impl Member {
     #[tactic(auto, unfolding(crate::specs::Send::bye_sent))]
     pub(crate) fn send_bye(
         &mut self,
-        turn: &mut Turn,
+        turn: &mut Effects,
         here: &Here,
         to: MemberId,
     ) -> Result<(), StepError>

@@ -1,4 +1,6 @@
-ghost use Rattle.std.specs.Prelude.{◌≡◌, ◌++◌, OnOk, IfErr, IsErrOf};
+ghost use Rattle.std.specs.Prelude.{◌≡◌, ◌++◌, [], OnOk, IfErr, IsErrOf};
+ghost use Rattle.std.specs.Option.{option_map_or};
+ghost use Rattle.member.specs.declared.event.Effects.{Effects as Made};
 ghost use Rattle.scenario.specs.Setup.{member_count};
 ghost use Rattle.member.specs.Here.{IsSoundSetting, HoldsMembers};
 ghost use Rattle.member.specs.Makes.{KnowsMembers, Makes};
@@ -12,17 +14,18 @@ use crate::content::Content;
 use crate::event::{Effects, Event};
 use crate::here::Here;
 use crate::member::{Member, Phase};
-use crate::turn::{StepError, Turn};
+use crate::turn::StepError;
 use links::Links;
 use scenario::Scenario;
 use std::alloc::Global;
+use std::mem::replace;
 
 impl Member {
     /// A member that waits heeds its start alone.
     #[tactic(auto, unfolding(crate::specs::Step::handled, crate::specs::Step::plain_handled))]
     fn handle_waiting(
         &mut self,
-        turn: &mut Turn,
+        turn: &mut Effects,
         here: &Here,
         content: &Content,
     ) -> Result<(), StepError>
@@ -39,7 +42,7 @@ impl Member {
     #[tactic(auto, unfolding(crate::specs::Step::handled, crate::specs::Step::plain_handled))]
     fn handle_joining(
         &mut self,
-        turn: &mut Turn,
+        turn: &mut Effects,
         here: &Here,
         content: &Content,
     ) -> Result<(), StepError>
@@ -60,7 +63,7 @@ impl Member {
     #[tactic(auto, unfolding(crate::specs::Step::handled, crate::specs::Step::plain_handled))]
     fn handle_running(
         &mut self,
-        turn: &mut Turn,
+        turn: &mut Effects,
         here: &Here,
         content: &Content,
     ) -> Result<(), StepError>
@@ -88,7 +91,7 @@ impl Member {
     /// The messages of a probe, on which updates ride.
     fn handle_probing(
         &mut self,
-        turn: &mut Turn,
+        turn: &mut Effects,
         here: &Here,
         content: &Content,
     ) -> Result<(), StepError>
@@ -103,8 +106,8 @@ impl Member {
                 updates,
             } => self.hear_ping(turn, here, *initiator, *seq, updates.as_slice()),
             Content::PingReq {
-                seq,
                 target,
+                seq,
                 updates,
             } => self.hear_ping_req(turn, here, *seq, *target, updates.as_slice()),
             Content::Ack {
@@ -118,7 +121,12 @@ impl Member {
 
     /// By the phase of the member.
     #[tactic(auto, unfolding(crate::specs::Step::handled, crate::specs::Step::plain_handled))]
-    fn handle(&mut self, turn: &mut Turn, here: &Here, content: &Content) -> Result<(), StepError>
+    fn handle(
+        &mut self,
+        turn: &mut Effects,
+        here: &Here,
+        content: &Content,
+    ) -> Result<(), StepError>
         requires known { KnowsMembers here.now self.old }
         requires names { MentionsMembers (member_count here.now.scenario.now) content.now }
         ensures { Makes here.now result self.old turn.old self.new turn.new (handled here.now.scenario.now here.now.key content.now (state_of self.old).phase) }
@@ -160,32 +168,40 @@ impl Member {
             scenario,
             links,
         };
-        let mut turn = Turn::over(alloc, out);
-        self.handle(&mut turn, &here, &content)?;
-        append(turn, out)
+        let before = set_aside(alloc, out);
+        self.handle(out, &here, &content)?;
+        put_before(before, out)
     }
 }
 
-/// Appends what a turn has made.
-fn append(turn: Turn, out: &mut Effects) -> Result<(), StepError>
-    ensures events { OnOk result (out.new.events.items ≡ out.old.events.items ++ turn.events.items) }
-    ensures rows { OnOk result (out.new.rows.items ≡ out.old.rows.items ++ turn.rows.items) }
-    ensures err { IfErr result (λ e. e ≡ StepError.Memory) }
+/// Takes out what was made before, if anything was.
+fn set_aside(alloc: Global, out: &mut Effects) -> Option<Effects>
+    ensures no_events { out.new.events.items ≡ [] }
+    ensures no_rows { out.new.rows.items ≡ [] }
+    ensures events { option_map_or (λ (b : Made). b.events.items) result [] ≡ out.old.events.items }
+    ensures rows { option_map_or (λ (b : Made). b.rows.items) result [] ≡ out.old.rows.items }
 {
-    let Turn { events, rows } = turn;
-    move_behind(events, &mut out.events)?;
-    move_behind(rows, &mut out.rows)
+    if out.events.is_empty() && out.rows.is_empty() {
+        return None;
+    }
+    let nothing = Effects {
+        events: Vec::new(alloc),
+        rows: Vec::new(alloc),
+    };
+    Some(replace(out, nothing))
 }
 
-/// Moves items behind those of a list. They become the list where it is empty, which takes no memory.
-fn move_behind<T: Drop>(mut items: Vec<T>, list: &mut Vec<T>) -> Result<(), StepError>
-    ensures ok { OnOk result (list.new.items ≡ list.old.items ++ items.items) }
+/// Puts what was made before, if anything was, before what a step has made.
+fn put_before(before: Option<Effects>, out: &mut Effects) -> Result<(), StepError>
+    ensures events { OnOk result (out.new.events.items ≡ option_map_or (λ (b : Made). b.events.items) before [] ++ out.old.events.items) }
+    ensures rows { OnOk result (out.new.rows.items ≡ option_map_or (λ (b : Made). b.rows.items) before [] ++ out.old.rows.items) }
     ensures err { IfErr result (λ e. e ≡ StepError.Memory) }
 {
-    if list.is_empty() {
-        *list = items;
-    } else {
-        list.append(&mut items)?;
-    }
+    let Some(mut before) = before else {
+        return Ok(());
+    };
+    before.events.append(&mut out.events)?;
+    before.rows.append(&mut out.rows)?;
+    *out = before;
     Ok(())
 }

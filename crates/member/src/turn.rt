@@ -1,4 +1,4 @@
-ghost use Rattle.std.specs.Prelude.{◌≡◌, ◌≤◌, ◌^◌, [], OnOk, IsErrOf};
+ghost use Rattle.std.specs.Prelude.{◌≡◌, ◌≤◌, ◌^◌, OnOk, IsErrOf};
 ghost use Rattle.member.specs.Makes.{IsMade, KnowsMembers, Makes};
 ghost use Rattle.member.specs.Turn.{with_row, with_event, with_number, with_timer};
 ghost use Rattle.member.specs.StateOf.{effect_of, state_of};
@@ -12,8 +12,7 @@ use crate::here::Here;
 use crate::member::Member;
 use base::limits::COUNTER_LIMIT;
 use base::{Fault, Key, MemberId, Memory, Moment};
-use std::alloc::{AllocError, AllocFailed, Global};
-use std::mem::replace;
+use std::alloc::{AllocError, AllocFailed};
 use trace::{Row, What};
 
 /// Why a step was refused.
@@ -60,48 +59,12 @@ impl From<StepError> for Fault {
     }
 }
 
-/// What the handling of one event has made so far.
-#[derive(Drop)]
-pub(crate) struct Turn {
-    pub(crate) events: Vec<Event>,
-    pub(crate) rows: Vec<Row>,
-}
-
-impl Turn {
-    /// A turn that has made nothing. Its lists are those of `out` where they are empty, so that what these
-    /// have room for takes no memory again.
-    pub(crate) fn over(alloc: Global, out: &mut Effects) -> Self
-        ensures events { result.events.items ≡ [] }
-        ensures rows { result.rows.items ≡ [] }
-        ensures same_events { out.new.events.items ≡ out.old.events.items }
-        ensures same_rows { out.new.rows.items ≡ out.old.rows.items }
-    {
-        Turn {
-            events: empty_list(alloc, &mut out.events),
-            rows: empty_list(alloc, &mut out.rows),
-        }
-    }
-}
-
-/// An empty list: this one where it is empty, which is then left without its room, or else a new one.
-fn empty_list<T: Drop>(alloc: Global, list: &mut Vec<T>) -> Vec<T>
-    ensures empty { result.items ≡ [] }
-    ensures same { list.new.items ≡ list.old.items }
-{
-    let nothing = Vec::new(alloc);
-    if list.is_empty() {
-        replace(list, nothing)
-    } else {
-        nothing
-    }
-}
-
 impl Member {
     /// Writes the next row of the event.
     #[tactic(auto, unfolding(crate::specs::Turn::with_row))]
     pub(crate) fn write_row(
         &self,
-        turn: &mut Turn,
+        turn: &mut Effects,
         here: &Here,
         what: What,
         about: Option<MemberId>,
@@ -148,7 +111,7 @@ impl Member {
     #[tactic(auto, using(crate::proofs::Worn::worn_event), unfolding(crate::specs::Turn::with_event))]
     pub(crate) fn make_event(
         &mut self,
-        turn: &mut Turn,
+        turn: &mut Effects,
         here: &Here,
         at: Moment,
         to: MemberId,
@@ -176,7 +139,7 @@ impl Member {
     #[tactic(auto, unfolding(crate::specs::Turn::with_timer))]
     pub(crate) fn set_timer(
         &mut self,
-        turn: &mut Turn,
+        turn: &mut Effects,
         here: &Here,
         ticks: u64,
         content: Content,

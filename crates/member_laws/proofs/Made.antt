@@ -472,10 +472,10 @@ module _ (s : Setup) (k : Key) (Named : ℕ → Type 0) (R : State → Type 0) (
   by_plain (Ping initiator seq updates) Joining o sender named r once late h = h
   by_plain (Ping initiator seq updates) Running o sender named r once late h = by_ping_heard initiator seq updates o sender named.0 named.1 (r runs) h
   by_plain (Ping initiator seq updates) Down o sender named r once late h = h
-  by_plain (PingReq seq target updates) Waiting o sender named r once late h = h
-  by_plain (PingReq seq target updates) Joining o sender named r once late h = h
-  by_plain (PingReq seq target updates) Running o sender named r once late h = by_ping_req_heard seq target updates o sender named.0 named.1 (r runs) h
-  by_plain (PingReq seq target updates) Down o sender named r once late h = h
+  by_plain (PingReq target seq updates) Waiting o sender named r once late h = h
+  by_plain (PingReq target seq updates) Joining o sender named r once late h = h
+  by_plain (PingReq target seq updates) Running o sender named r once late h = by_ping_req_heard seq target updates o sender named.0 named.1 (r runs) h
+  by_plain (PingReq target seq updates) Down o sender named r once late h = h
   by_plain (Ack initiator seq updates) Waiting o sender named r once late h = h
   by_plain (Ack initiator seq updates) Joining o sender named r once late h = h
   by_plain (Ack initiator seq updates) Running o sender named r once late h = by_ack_heard initiator seq updates o named.0 named.1 (r runs) h
