@@ -289,8 +289,8 @@ fn each_case_has_a_line(rt: HostRuntime) -> Result<(), Fail> {
 
 /// Asserts that a case is refused, told by its two settings without a seed, and that it breaks rule 9.
 fn assert_refused(rt: &impl Abort, refused: &Refused, period: SettingValue, timeout: SettingValue) {
-    assert!(rt; refused.refusal.rule == 9);
-    assert!(rt; refused.seed.is_none() && refused.case.len() == 2);
+    assert!(rt; refused.refusal.rule == 9 && refused.seed.is_none());
+    assert!(rt; refused.case.len() == 2);
     assert!(rt; refused.case[0].value == period);
     assert!(rt; refused.case[1].value == timeout);
 }
