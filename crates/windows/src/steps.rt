@@ -128,13 +128,28 @@ pub(crate) fn handle_taken<Q: EventQueue<Event>>(
     spare.events.clear();
     spare.rows.clear();
     part.members.handle(alloc, event, setting, spare)?;
-    out.rows.append(&mut spare.rows)?;
+    move_behind(&mut spare.rows, &mut out.rows)?;
     deliver(
         &part.members,
         &mut part.queue,
         &mut spare.events,
         &mut out.events,
     )?;
+    Ok(())
+}
+
+/// Moves items behind those of a list. Where there is one, it moves by itself: a list's bytes, copied as a block
+/// right after they were written in parts, wait until all writes before them are done.
+fn move_behind<T: Drop>(items: &mut Vec<T>, list: &mut Vec<T>) -> Result<(), Memory>
+    ensures { OnOk result (list.new.items ≡ list.old.items ++ items.old.items) }
+{
+    if items.len() > 1 {
+        list.append(items)?;
+        return Ok(());
+    }
+    if let Some(item) = items.pop() {
+        list.push(item)?;
+    }
     Ok(())
 }
 
