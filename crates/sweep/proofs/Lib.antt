@@ -1,5 +1,6 @@
 mod Flat
 mod Handing
+mod Lots
 mod Steps
 mod Gathered
 mod Pushed

@@ -1,10 +1,12 @@
 -- The table of a sweep, and how far it has come.
-use Rattle.std.specs.Prelude.{◌≡◌, ℕ, ◌⊎◌, List, ◌++◌, Option, Result, Ok, Err, map, take}
+use Rattle.std.specs.Prelude.{◌≡◌, ℕ, ◌⊎◌, List, ◌++◌, Option, Result, Ok, Err, IfOk, Vec, map, take}
 use Rattle.std.specs.List.{AllZip, flat_map}
 use Rattle.std.specs.Io.KnownBytes.{Appends}
+use Rattle.std.specs.declared.alloc.Global.{Global}
 use Rattle.toml.specs.Data.{Data}
 use Rattle.base.specs.declared.fault.Fault.{Fault}
 use Rattle.base.specs.declared.fault.Fault.TheVariants as fault
+use Rattle.base.specs.declared.fault.Memory.{Memory}
 use Rattle.scenario.specs.Setup.{Setup}
 use Rattle.trace.specs.Sinks.{AppendsBeginning}
 use Rattle.trace.specs.declared.write.WriteError.{WriteError}
@@ -91,6 +93,10 @@ pub record IsTold (s : Setup) (told : ToldRun) : Type 0 where
 abbrev pub AreTold : Setup → Result ToldRun Fault → Type 0
 AreTold s (Ok told) = IsTold s told
 AreTold s (Err f) = IsCauseOf s f
+
+-- the runs of some scenarios were told, one by one, unless memory was refused
+abbrev pub IsToldLot : List Setup → Result (Vec (Result ToldRun Fault) Global) Memory → Type 0
+IsToldLot scenarios lot = IfOk lot (λ told. AllZip AreTold scenarios told.items)
 
 -- the scenario is that of the run of this number
 abbrev pub IsReadAt : Data → Sweep → ℕ → Setup → Type 0

@@ -26,9 +26,13 @@ use std::thread::Threads;
 use toml::Value;
 use trace::{Sink, Stopped};
 
+/// How many runs each worker makes before their lines are written, so that one which is through waits for the
+/// others seldom.
+const RUNS_OF_A_WORKER: usize = 4;
+
 /// Makes the runs of a sweep, and writes their table: a header, and a line for each run, in the order of the
-/// cases and of the seeds; at the end the table is flushed. Runs are made some at a time, as many as there are
-/// workers, side by side, and each of these keeps a cluster in memory; each time it is told how many were made.
+/// cases and of the seeds; at the end the table is flushed. Runs are made some at a time, as many side by side
+/// as there are workers, each of which keeps a cluster in memory; each time it is told how many were made.
 /// Gives what is told of each case, in their order. Each document must have been judged to be accepted. After a
 /// fault the table has got a beginning of that.
 ///
@@ -56,7 +60,12 @@ pub fn sweep<S: Sink, P: Progress>(
     ensures failures { S.failed table.new ≡ S.failed table.old + sink_failures result }
 {
     let mut gathering = Gathering::new(alloc, plan.runs_of_case() as u64);
-    match write_table(
+    a_run_exists();
+    match write_names(alloc, plan.settings(), table) {
+        Ok(()) => {}
+        Err(error) => return Err(fault_of(error)),
+    }
+    make_runs(
         rt,
         alloc,
         plan,
@@ -65,41 +74,9 @@ pub fn sweep<S: Sink, P: Progress>(
         progress,
         &mut gathering,
         table,
-    ) {
-        Ok(()) => Ok(gathering.into_summaries()),
-        Err(fault) => Err(fault),
-    }
-}
-
-/// Writes the table, and gathers what is told of the runs.
-fn write_table<S: Sink, P: Progress>(
-    rt: &(impl Threads + Sync),
-    alloc: Global,
-    plan: &Plan,
-    document: &Value,
-    workers: Workers,
-    progress: &mut P,
-    gathering: &mut Gathering,
-    table: &mut S,
-) -> Result<(), Fault>
-    requires asked { IsAskedFor plan.now }
-    requires judged { AreAccepted (view document.now) plan.now }
-    requires countable { S.failed table.old < 2 ^ 63 }
-    requires fresh { IsGathered plan.now [] gathering.old }
-    ensures whole { OnOk result (HasCome (view document.now) plan.now (S.held table.old) (S.held table.new) gathering.new (run_count plan.now)) }
-    ensures part { OnErr result (BeginsTable (view document.now) plan.now (S.held table.old) (S.held table.new)) }
-    ensures causes { IfErr result (HasCause (view document.now) plan.now) }
-    ensures failures { S.failed table.new ≡ S.failed table.old + sink_failures result }
-{
-    a_run_exists();
-    match write_names(alloc, plan.settings(), table) {
-        Ok(()) => {}
-        Err(error) => return Err(fault_of(error)),
-    }
-    make_runs(
-        rt, alloc, plan, document, workers, progress, gathering, table,
     )?;
-    flush(table)
+    flush(table)?;
+    Ok(gathering.into_summaries())
 }
 
 /// Has the table hand on what it took.
@@ -137,24 +114,27 @@ fn make_runs<S: Sink, P: Progress>(
     ensures failures { S.failed table.new ≡ S.failed table.old + sink_failures result }
 {
     let runs = plan.runs();
-    let at_once = workers.count();
+    let at_once = workers.count() * RUNS_OF_A_WORKER;
     let mut from = 0;
     while from < runs {
         let till = runs.min(from + at_once);
-        make_some(rt, alloc, plan, document, from, till, gathering, table)?;
+        make_some(
+            rt, alloc, plan, document, workers, from, till, gathering, table,
+        )?;
         from = till;
         progress.runs_made(from, runs);
     }
     Ok(())
 }
 
-/// Makes the runs from one number to before another, side by side, writes their lines, and gathers what is told
-/// of them.
+/// Makes the runs from one number to before another, as many side by side as there are workers, writes their
+/// lines, and gathers what is told of them.
 fn make_some<S: Sink>(
     rt: &(impl Threads + Sync),
     alloc: Global,
     plan: &Plan,
     document: &Value,
+    workers: Workers,
     from: usize,
     till: usize,
     gathering: &mut Gathering,
@@ -173,9 +153,8 @@ fn make_some<S: Sink>(
     ensures failures { S.failed table.new ≡ S.failed table.old + sink_failures result }
 {
     let scenarios = read_runs(alloc, plan, document, from, till)?;
-    let Ok(told) = told_side_by_side(rt, alloc, &scenarios) else {
-        return Err(Fault::Memory);
-    };
+    let each = (till - from).div_ceil(workers.count()).max(1);
+    let told = told_side_by_side(rt, alloc, &scenarios, each)?;
     write_lines(
         alloc, plan, document, from, &scenarios, &told, gathering, table,
     )

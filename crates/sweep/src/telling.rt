@@ -1,15 +1,16 @@
 //! What is told of runs, side by side.
-ghost use Rattle.std.specs.Prelude.{◌≡◌, IfOk};
-ghost use Rattle.std.specs.List.{AllZip};
-ghost use Rattle.sweep.specs.Table.{AreTold};
+ghost use Rattle.std.specs.Prelude.{◌≡◌, ◌<◌, List, IfOk};
+ghost use Rattle.std.specs.List.{AllZip, flat_map};
+ghost use Rattle.scenario.specs.Setup.{Setup};
+ghost use Rattle.sweep.specs.Table.{AreTold, IsToldLot};
 
-use base::Fault;
+use base::{Fault, Memory};
 use exchange::tally_run;
 use figures::RunFigures;
 use rayon::prelude::*;
 use reports::Tallies;
 use scenario::Scenario;
-use std::alloc::{AllocError, Global};
+use std::alloc::Global;
 use std::marker::Sync;
 use std::thread::Threads;
 
@@ -22,24 +23,55 @@ pub(crate) struct ToldRun {
     pub(crate) figures: RunFigures,
 }
 
-/// What is told of the run of each scenario, or why there is nothing, in their order: as many threads as there
-/// are processors make the runs, side by side.
+/// What is told of the run of each scenario, or why there is nothing, in their order. The scenarios are dealt
+/// out in lots of so many; as many threads as there are processors, and no more than there are lots, make the
+/// runs of the lots, side by side.
 pub(crate) fn told_side_by_side(
     rt: &(impl Threads + Sync),
     alloc: Global,
     scenarios: &[Scenario],
-) -> Result<Vec<Result<ToldRun, Fault>>, AllocError>
+    each: usize,
+) -> Result<Vec<Result<ToldRun, Fault>>, Memory>
+    requires some { 0 < each }
     ensures { IfOk result (λ told. AllZip AreTold scenarios.now told.items) }
 {
-    scenarios
-        .par_iter()
+    let lots: Vec<Result<Vec<Result<ToldRun, Fault>>, Memory>> = scenarios
+        .par_chunks(each)
         .with_min_len(1)
         .map(
-            |scenario: &Scenario| -> Result<ToldRun, Fault>
-                ensures { AreTold scenario.now result }
-            { told(alloc, scenario) },
+            |lot: &[Scenario]| -> Result<Vec<Result<ToldRun, Fault>>, Memory>
+                ensures { IsToldLot lot.now result }
+            { told_in_turn(alloc, lot) },
         )
-        .collect(rt, alloc)
+        .collect(rt, alloc)?;
+    joined(alloc, lots)
+}
+
+/// What is told of the runs of a lot, one after the other.
+fn told_in_turn(alloc: Global, lot: &[Scenario]) -> Result<Vec<Result<ToldRun, Fault>>, Memory>
+    ensures { IsToldLot lot.now result }
+{
+    let mut all = Vec::new(alloc);
+    for scenario in lot {
+        all.push(told(alloc, scenario))?;
+    }
+    Ok(all)
+}
+
+/// What is told of the runs of all lots, one lot after the other.
+fn joined(
+    alloc: Global,
+    lots: Vec<Result<Vec<Result<ToldRun, Fault>>, Memory>>,
+) -> Result<Vec<Result<ToldRun, Fault>>, Memory>
+    ensures { IfOk result (λ all. (scenarios : List (List Setup)) → AllZip IsToldLot scenarios lots.items
+        → AllZip AreTold (flat_map (λ lot. lot) scenarios) all.items) }
+{
+    let mut all = Vec::new(alloc);
+    for lot in lots {
+        let mut told = lot?;
+        all.append(&mut told)?;
+    }
+    Ok(all)
 }
 
 /// What is told of a scenario's run.

@@ -3,7 +3,6 @@ pub mod Contents
 mod Ends
 mod Events
 mod Lists
-mod Numbers
 mod Receivers
 mod Turned
 mod Unions

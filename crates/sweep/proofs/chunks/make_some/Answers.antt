@@ -2,7 +2,8 @@ use Rattle.std.proofs.Common.{◌≡◌, ◌+◌, ℕ, List, ap, subst, length, 
 use Rattle.std.specs.Prelude.{Option}
 use Rattle.toml.specs.View.{view}
 use Rattle.sweep.specs.Summaries.{HasCome}
-use Rattle.sweep.proofs.Handing.{on_ok_then}
+use Rattle.sweep.proofs.Handing.{on_err, on_ok_then}
+use Rattle.sweep.proofs.Steps.{have_begun}
 use Rattle.sweep.proofs.chunks.make_some.Goals as goal
 
 pub returns-clause-whole : goal.returns-clause-whole
@@ -18,3 +19,8 @@ returns-clause-whole g c =
     on_ok_then ((start : Option (List ℕ)) → HasCome tree plan start old before c.args.from → HasCome tree plan start new after end)
     ((start : Option (List ℕ)) → HasCome tree plan start old before c.args.from → HasCome tree plan start new after c.args.till)
     c.write_lines.result c.write_lines.ensures.whole (λ go start come. subst (HasCome tree plan start new after) all (go start come))
+
+pub returns-in_err-told-clause-part : goal.returns-in_err-told-clause-part
+returns-in_err-told-clause-part g c =
+    on_err c.from_residual-in_err-told.result
+    (λ start come. have_begun (view c.args.document.now) c.args.plan.now start (g.S.Sink.held c.args.table.now) c.args.from come.lines)
