@@ -22,8 +22,9 @@ use Rattle.turns.specs.Beginning.{BeginsRun}
 use Rattle.outputs.specs.Promise.{BeginsTrace, WearsOutReport}
 use Rattle.outputs.specs.Written.{sink_failures, HasWritten}
 use Rattle.exchange.specs.Streams.{IsDriven, HasEnded}
+use Rattle.exchange.proofs.Faults.{worn≢relay}
 use Rattle.turns.proofs.Goes.{begins_with}
-use Rattle.exchange.proofs.Reported.{wears_report}
+use Rattle.whole_runs.proofs.Reported.{wears_report}
 use Rattle.outputs.proofs.Runs.{some_run}
 use Rattle.outputs.proofs.Streaming.{text_on}
 
@@ -39,9 +40,6 @@ on_came P (Err e) came is p = tt
 on_both : {T E P Q R : Type 0} (o : Result T E) → (P → Q → R) → OnOk o P → OnOk o Q → OnOk o R
 on_both (Ok x) f p q = f p q
 on_both (Err e) f p q = tt
-
-worn≢relay : Worn ≢ Relay
-worn≢relay is = cc
 
 relay≢write : Relay ≢ Write
 relay≢write is = cc

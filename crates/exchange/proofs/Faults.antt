@@ -1,11 +1,7 @@
--- What a run answers of two faults, and of a step's refusal.
-use Rattle.std.proofs.Common.{◌≡◌, ◌≢◌, ◌⊎◌, ◌∙◌, inl, inr, Bool, true, false, nat_lt, if◌then◌else◌, Result, Ok, Err, IsErrAnd, sym, refl}
-use Rattle.std.specs.Result.{IsErrOf}
+-- What a run answers of two faults.
+use Rattle.std.proofs.Common.{◌≡◌, ◌≢◌, ◌⊎◌, inl, inr, Bool, true, false, nat_lt, if◌then◌else◌, refl}
 use Rattle.base.specs.declared.fault.Fault.{Fault}
 use Rattle.base.specs.declared.fault.Fault.TheVariants.{Memory, Worn, Write, Relay}
-use Rattle.member.specs.Faults.{fault_of}
-use Rattle.member.specs.declared.turn.StepError.{StepError}
-use Rattle.member.specs.declared.turn.StepError.TheVariants as step_error
 use Rattle.workers.specs.Faults.{rank_of, first_of}
 
 either_way : {A : Type 0} (test : Bool) (one other : A) → ((if test then other else one) ≡ one) ⊎ ((if test then other else one) ≡ other)
@@ -18,7 +14,7 @@ first_either one other = either_way (nat_lt (rank_of other) (rank_of one)) one o
 memory≢relay : Memory ≢ Relay
 memory≢relay is = cc
 
-worn≢relay : Worn ≢ Relay
+pub worn≢relay : Worn ≢ Relay
 worn≢relay is = cc
 
 write≢relay : Write ≢ Relay
@@ -39,14 +35,3 @@ first_relay Write Write is = absurd (write≢relay is)
 first_relay Relay Memory is = absurd (memory≢relay is)
 first_relay Relay Worn is = absurd (worn≢relay is)
 first_relay Relay Write is = absurd (write≢relay is)
-
--- ---- a step's refusal
-
-memory≢worn : Memory ≢ Worn
-memory≢worn is = cc
-
--- a step's refusal is answered as Worn where a counter would pass its limit
-pub worn_step : {T U : Type 0} (r : Result T Fault) (e : StepError) → IsErrAnd r (λ y. y ≡ fault_of e) → IsErrOf r Worn → IsErrOf {T = U} (Err e) step_error.Worn
-worn_step (Ok x) e gives is = absurd gives
-worn_step (Err y) step_error.Memory gives is = let same : y ≡ Worn = cc in absurd (memory≢worn (sym gives ∙ same))
-worn_step (Err y) step_error.Worn gives is = refl

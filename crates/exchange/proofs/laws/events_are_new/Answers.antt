@@ -1,5 +1,0 @@
-use Rattle.exchange.proofs.Runs.{new_events}
-use Rattle.exchange.proofs.laws.events_are_new.Goals as goal
-
-pub returns : goal.returns
-returns c = λ s keys rows w k content sound run _. new_events s keys rows w k content sound run

@@ -1,5 +1,0 @@
-use Rattle.exchange.proofs.Runs.{same_rows}
-use Rattle.exchange.proofs.laws.the_run_is_one.Goals as goal
-
-pub returns : goal.returns
-returns c = same_rows

@@ -1,0 +1,5 @@
+mod Runs
+mod Faults
+mod Whole
+pub mod Reported
+mod FirstVersion
