@@ -17,7 +17,6 @@ use crate::values::write_names;
 use crate::writing::{fault_of, write_lines};
 use base::Fault;
 use cases::Plan;
-use exchange::a_run_exists;
 use figures::CaseSummary;
 use scenario::Workers;
 use std::alloc::Global;
@@ -25,6 +24,7 @@ use std::marker::Sync;
 use std::thread::Threads;
 use toml::Value;
 use trace::{Sink, Stopped};
+use whole_runs::a_run_exists;
 
 /// How many runs each worker makes before their lines are written, so that one which is through waits for the
 /// others seldom.

@@ -5,7 +5,6 @@ ghost use Rattle.scenario.specs.Setup.{Setup};
 ghost use Rattle.sweep.specs.Table.{AreTold, IsToldLot};
 
 use base::{Fault, Memory};
-use exchange::tally_run;
 use figures::RunFigures;
 use rayon::prelude::*;
 use reports::Tallies;
@@ -13,6 +12,7 @@ use scenario::Scenario;
 use std::alloc::Global;
 use std::marker::Sync;
 use std::thread::Threads;
+use whole_runs::tally_run;
 
 /// What is told of a run.
 #[derive(Drop)]
