@@ -40,11 +40,11 @@ const WORKERS: &[(&str, &str)] = &[
     ),
     (
         "sweep two.toml --table t.csv --seeds 1..2 --set swim.period=1000,1200 --progress",
-        "1/4 runs\n2/4 runs\n3/4 runs\n4/4 runs\n",
+        "4/4 runs\n",
     ),
     (
         "sweep two.toml --table t.csv --seeds 1..2 --set swim.period=1000,1200 --workers 3 --progress",
-        "3/4 runs\n4/4 runs\n",
+        "4/4 runs\n",
     ),
     (
         "sweep two.toml --table t.csv --seeds 1..2 --set swim.period=1000,1200 --workers 64 --progress",

@@ -3,7 +3,6 @@
 
 use base::Fault;
 use cases::{Plan, SettingValue};
-use exchange::tally_run;
 use figures::{CaseFigures, CaseSummary, RunFigures, write_header, write_run};
 use scenario::{Scenario, Workers};
 use scenario_reader::{document, read};
@@ -14,6 +13,7 @@ use std::thread::Threads;
 use sweep::{NoProgress, Progress, Refused, cases_text, judge, sweep};
 use trace::Sink;
 use trace::testing::MemorySink;
+use whole_runs::tally_run;
 
 /// Three members, of which one crashes; the text sets other values than the sweep.
 const THREE: &str = "version = 2
@@ -176,7 +176,7 @@ fn any_workers_write_the_same_table(rt: HostRuntime) -> Result<(), Fail> {
     assert_swept(&rt, 64, &expected)
 }
 
-/// Three workers make three runs at a time, and at last two.
+/// One worker makes four runs, and then the other four.
 #[test]
 fn it_is_told_how_many_runs_were_made(rt: HostRuntime) -> Result<(), Fail> {
     let mut told = Told {
@@ -185,8 +185,8 @@ fn it_is_told_how_many_runs_were_made(rt: HostRuntime) -> Result<(), Fail> {
         all: 0,
     };
     let mut table = MemorySink::new(rt.alloc());
-    sweep_by(&rt, 3, &mut told, &mut table)??;
-    assert!(rt; told.often == 3 && told.made == 8 && told.all == 8);
+    sweep_by(&rt, 1, &mut told, &mut table)??;
+    assert!(rt; told.often == 2 && told.made == 8 && told.all == 8);
     Ok(())
 }
 
