@@ -1,8 +1,10 @@
 -- What words ask for, as `clap` reads them by the commands below.
 use Rattle.std.specs.Prelude.{◌≡◌, ◌≢◌, ◌⊎◌, List, Option, Some, None, [], Bool, true, false, codes, option_map, unwrap_or}
 use Rattle.std.specs.Str.{bytes_eq}
-use Rattle.clap.specs.Words.{App, Row, Rule, Text, new_app, new_rule, with_rule, with_subcommand}
+use Rattle.clap.specs.Words.{App, Row, Rule, Text, app_of, new_app, new_rule, with_rule, with_subcommand}
 use Rattle.clap.specs.Words.{all_of, first_of, fault_of, subcommand_of, kind_of, IsAmong}
+use Rattle.clap.specs.declared.builder.command.Command.{Command}
+use Rattle.clap.specs.declared.builder.command.Command.TheViews.{out-Command}
 use Rattle.clap.specs.declared.builder.action.ArgAction.TheVariants.{Append, SetTrue}
 use Rattle.clap.specs.declared.error.kind.ErrorKind.{ErrorKind}
 use Rattle.clap.specs.declared.error.kind.ErrorKind.TheVariants.{DisplayHelp}
@@ -23,13 +25,18 @@ file_rule = record (new_rule (codes "FILE")) { required = true }
 abbrev pub option_rule : Text → Rule
 option_rule name = record (new_rule name) { long = Some name; value_names = 1 }
 
-abbrev pub trace_rule : Rule
-trace_rule = record (option_rule (codes "trace")) { required = true }
+-- one that must be given
+abbrev pub required_rule : Text → Rule
+required_rule name = record (option_rule name) { required = true }
+
+-- one that may be given any number of times, with a value each time
+abbrev pub repeated_rule : Text → Rule
+repeated_rule name = record (option_rule name) { action = Some Append }
 
 -- the command `run`: a file and the option --trace, both required, and four options more
 abbrev pub run_app : App
 run_app =
-    let traced = with_rule (with_rule (new_app (codes "run")) file_rule) trace_rule in
+    let traced = with_rule (with_rule (new_app (codes "run")) file_rule) (required_rule (codes "trace")) in
     let reported = with_rule traced (option_rule (codes "report")) in
     let worked = with_rule reported (option_rule (codes "workers")) in
     with_rule (with_rule worked (option_rule (codes "parts"))) (option_rule (codes "division"))
@@ -37,13 +44,6 @@ run_app =
 -- the command `check`: a file
 abbrev pub check_app : App
 check_app = with_rule (new_app (codes "check")) file_rule
-
-abbrev pub table_rule : Rule
-table_rule = record (option_rule (codes "table")) { required = true }
-
--- an option that may be given any number of times, with a value each time
-abbrev pub set_rule : Rule
-set_rule = record (option_rule (codes "set")) { action = Some Append }
 
 -- a flag, which takes no value and may be left out
 abbrev pub flag_rule : Text → Rule
@@ -53,9 +53,9 @@ flag_rule name = record (new_rule name) { long = Some name; action = Some SetTru
 -- and the flag --progress
 abbrev pub sweep_app : App
 sweep_app =
-    let tabled = with_rule (with_rule (new_app (codes "sweep")) file_rule) table_rule in
+    let tabled = with_rule (with_rule (new_app (codes "sweep")) file_rule) (required_rule (codes "table")) in
     let seeded = with_rule tabled (option_rule (codes "seeds")) in
-    let set = with_rule seeded set_rule in
+    let set = with_rule seeded (repeated_rule (codes "set")) in
     with_rule (with_rule set (option_rule (codes "workers"))) (flag_rule (codes "progress"))
 
 -- the program, whose words come without its name
@@ -65,6 +65,10 @@ bare_app = let app = new_app (codes "swimsim") in
 
 abbrev pub swimsim_app : App
 swimsim_app = with_subcommand (with_subcommand (with_subcommand bare_app run_app.top) check_app.top) sweep_app.top
+
+-- what `clap` knows as this, with no argument that holds for what stands below it
+abbrev pub IsLocal : App → Command → Type 0
+IsLocal app command = (app_of command ≡ app) × ((out-Command command).has_globals ≡ false)
 
 -- how the members are to be divided: by --parts, by --division or, with neither, by the number of workers
 abbrev pub IsSplitIn : List Row → Split → Type 0

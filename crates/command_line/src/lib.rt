@@ -1,6 +1,7 @@
 //! What the words of a command line ask for, and what a command prints.
 #![tactic(auto)]
 
+mod commands;
 mod division;
 mod failure;
 mod printing;

@@ -1,17 +1,17 @@
 //! What the words of a command line ask for.
 ghost use Rattle.std.specs.Prelude.{◌≡◌, ◌⊎◌, map, option_map, unwrap_or, IfOk, IfErr, IfSome, IsNone, IsErrOf, List, [], ℕ, false};
-ghost use Rattle.clap.specs.Words.{FailsBy, all_of, app_of, fault_of, first_of, found_of, rows_of, rule_of, subcommand_of, subcommand_rows_of};
-ghost use Rattle.clap.specs.declared.builder.command.Command.TheViews.{out-Command};
+ghost use Rattle.clap.specs.Words.{FailsBy, all_of, fault_of, first_of, found_of, rows_of, subcommand_of, subcommand_rows_of};
 ghost use Rattle.cases.specs.Sweep.{Sweep as Planned};
 ghost use Rattle.command_line.specs.declared.words.RunWords.{RunWords as Wish};
 ghost use Rattle.command_line.specs.declared.words.Split.{Split as Wanted};
 ghost use Rattle.command_line.specs.declared.words.SweepWords.{SweepWords as Sought};
-ghost use Rattle.command_line.specs.Words.{check_app, file_rule, flag_rule, is_given, option_rule, run_app, sweep_app, swimsim_app, Answers, IsCheckIn, IsNoCommand, IsPlanIn, IsRunIn, IsSplitIn, IsSweepIn};
+ghost use Rattle.command_line.specs.Words.{is_given, swimsim_app, Answers, IsCheckIn, IsNoCommand, IsPlanIn, IsRunIn, IsSplitIn, IsSweepIn};
 
+use crate::commands::program_command;
 use crate::failure::Failure;
 use cases::{Plan, PlanFault};
 use clap::error::ErrorKind;
-use clap::{Arg, ArgAction, ArgMatches, Command, Error};
+use clap::{ArgMatches, Error};
 use std::alloc::{AllocError, Global};
 use std::convert::AsStr;
 
@@ -100,151 +100,6 @@ fn matches_of<'a, S: AsStr>(alloc: Global, words: &'a [S]) -> Result<ArgMatches<
     ensures kinds { FailsBy (fault_of swimsim_app (map S.text words.entry.now)) result }
 {
     program_command(alloc)?.try_get_matches_from(words)
-}
-
-/// The program's command line, as `clap` knows it.
-fn program_command<'a>(alloc: Global) -> Result<Command<'a>, AllocError>
-    ensures { IfOk result (λ command. app_of command ≡ swimsim_app) }
-{
-    Command::new(alloc, "swimsim")
-        .bin_name("swimsim")?
-        .about("Simulates clusters of the SWIM membership protocol")
-        .no_binary_name(true)
-        .subcommand_required(true)
-        .subcommand(run_command(alloc)?)?
-        .subcommand(check_command(alloc)?)?
-        .subcommand(sweep_command(alloc)?)
-}
-
-/// The command `run`, as `clap` knows it.
-fn run_command<'a>(alloc: Global) -> Result<Command<'a>, AllocError>
-    ensures app { IfOk result (λ command. app_of command ≡ run_app) }
-    ensures local { IfOk result (λ command. (out-Command command).has_globals ≡ false) }
-{
-    let trace = option(
-        alloc,
-        "trace",
-        "T",
-        "The file that takes the trace; one that is there is replaced",
-    );
-    let report = option(
-        alloc,
-        "report",
-        "R",
-        "The file that takes the report; one that is there is replaced",
-    );
-    let workers = option(
-        alloc,
-        "workers",
-        "N",
-        "How many workers run the parts, 1 to 64 [default: 1]",
-    );
-    let parts = option(
-        alloc,
-        "parts",
-        "P",
-        "To how many parts the members are dealt in turn, 1 to 64 [default: the number of workers]",
-    );
-    let division = option(
-        alloc,
-        "division",
-        "LIST",
-        "The part of each member, 0 to 63, parted by commas; not together with --parts",
-    );
-    Command::new(alloc, "run")
-        .about("Runs a scenario, and writes its trace")
-        .arg(file_argument(alloc))?
-        .arg(trace.required(true))?
-        .arg(report)?
-        .arg(workers)?
-        .arg(parts)?
-        .arg(division)
-}
-
-/// The command `check`, as `clap` knows it.
-fn check_command<'a>(alloc: Global) -> Result<Command<'a>, AllocError>
-    ensures app { IfOk result (λ command. app_of command ≡ check_app) }
-    ensures local { IfOk result (λ command. (out-Command command).has_globals ≡ false) }
-{
-    Command::new(alloc, "check")
-        .about("Reads a scenario, and prints how many members it has")
-        .arg(file_argument(alloc))
-}
-
-/// The command `sweep`, as `clap` knows it.
-fn sweep_command<'a>(alloc: Global) -> Result<Command<'a>, AllocError>
-    ensures app { IfOk result (λ command. app_of command ≡ sweep_app) }
-    ensures local { IfOk result (λ command. (out-Command command).has_globals ≡ false) }
-{
-    let table = option(
-        alloc,
-        "table",
-        "T",
-        "The file that takes the table, a line for each run; one that is there is replaced",
-    );
-    let seeds = option(
-        alloc,
-        "seeds",
-        "A..B",
-        "The seeds of each case, from A to B, both included [default: the scenario's seed]",
-    );
-    let set = option(
-        alloc,
-        "set",
-        "KEY=V1,V2,..",
-        "A key of the scenario and its values, each of which makes cases; for any number of keys",
-    );
-    let workers = option(
-        alloc,
-        "workers",
-        "N",
-        "How many workers make the runs, 1 to 64 [default: 1]",
-    );
-    let progress = flag(
-        alloc,
-        "progress",
-        "Tells on standard error how far the sweep has come",
-    );
-    Command::new(alloc, "sweep")
-        .about("Runs a scenario by many seeds and settings, and writes a table of the runs")
-        .arg(file_argument(alloc))?
-        .arg(table.required(true))?
-        .arg(seeds)?
-        .arg(set.action(ArgAction::Append))?
-        .arg(workers)?
-        .arg(progress)
-}
-
-/// The argument for the scenario's file.
-fn file_argument<'a>(alloc: Global) -> Arg<'a>
-    ensures rule { rule_of result ≡ file_rule }
-    ensures local { result.global ≡ false }
-{
-    Arg::new(alloc, "FILE")
-        .help("The scenario, a TOML document")
-        .required(true)
-}
-
-/// An option with one value, which may be left out.
-fn option<'a>(alloc: Global, name: &'a str, value: &'a str, help: &'a str) -> Arg<'a>
-    ensures rule { rule_of result ≡ option_rule name.entry.now }
-    ensures local { result.global ≡ false }
-{
-    Arg::new(alloc, name)
-        .long(name)
-        .value_name(value)
-        .help(help)
-}
-
-/// A flag, which takes no value and may be left out.
-fn flag<'a>(alloc: Global, name: &'a str, help: &'a str) -> Arg<'a>
-    ensures rule { rule_of result ≡ flag_rule name.entry.now }
-    ensures local { result.global ≡ false }
-{
-    Arg::new(alloc, name)
-        .long(name)
-        .action(ArgAction::SetTrue)
-        .help(help)
 }
 
 /// The run that is asked for by words that `clap` took.

@@ -3,7 +3,7 @@ use Rattle.std.proofs.lemmas.Result.{IfOk-weaker}
 use Rattle.clap.specs.Words.{App, app_of, new_app, with_subcommand}
 use Rattle.clap.specs.Simple.{app_of_fields}
 use Rattle.command_line.specs.Words.{bare_app}
-use Rattle.command_line.proofs.words.program_command.Goals as goal
+use Rattle.command_line.proofs.commands.program_command.Goals as goal
 
 -- the two settings of the program's command
 abbrev nameless : App → App
@@ -18,8 +18,8 @@ returns c =
     = ap app_of_fields c.about.ensures ∙ (ap app_of_fields c.in_ok-bin_name.ensures.0 ∙ c.new.ensures.app) in
     let bare_is : app_of c.subcommand_required.result ≡ bare_app
     = ap app_of_fields c.subcommand_required.ensures ∙ ap commanded (ap app_of_fields c.no_binary_name.ensures ∙ ap nameless named_is) in
-    let runs = c.in_ok-subcommand.ensures.shape c.in_ok-run_command.ensures.local ∙ ap₂ with_subcommand bare_is (ap (λ (a : App). a.top) c.in_ok-run_command.ensures.app) in
-    let checks = c.in_ok-subcommand-2.ensures.shape c.in_ok-check_command.ensures.local
-    ∙ ap₂ with_subcommand runs (ap (λ (a : App). a.top) c.in_ok-check_command.ensures.app) in
-    IfOk-weaker c.subcommand-3.result _ _ (λ command h. h.shape c.in_ok-sweep_command.ensures.local
-    ∙ ap₂ with_subcommand checks (ap (λ (a : App). a.top) c.in_ok-sweep_command.ensures.app)) c.subcommand-3.ensures
+    let runs = c.in_ok-subcommand.ensures.shape c.in_ok-run_command.ensures.1 ∙ ap₂ with_subcommand bare_is (ap (λ (a : App). a.top) c.in_ok-run_command.ensures.0) in
+    let checks = c.in_ok-subcommand-2.ensures.shape c.in_ok-check_command.ensures.1
+    ∙ ap₂ with_subcommand runs (ap (λ (a : App). a.top) c.in_ok-check_command.ensures.0) in
+    IfOk-weaker c.subcommand-3.result _ _ (λ command h. h.shape c.in_ok-sweep_command.ensures.1
+    ∙ ap₂ with_subcommand checks (ap (λ (a : App). a.top) c.in_ok-sweep_command.ensures.0)) c.subcommand-3.ensures

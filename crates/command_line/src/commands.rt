@@ -1,0 +1,212 @@
+//! The program's commands, as `clap` knows them.
+ghost use Rattle.std.specs.Prelude.{◌≡◌, IfOk, false};
+ghost use Rattle.clap.specs.Words.{App, app_of, rule_of, with_rule};
+ghost use Rattle.command_line.specs.Words.{check_app, file_rule, flag_rule, option_rule, required_rule, repeated_rule, run_app, sweep_app, swimsim_app, IsLocal};
+
+use clap::{Arg, ArgAction, Command};
+use std::alloc::{AllocError, Global};
+
+/// The whole command line.
+pub(crate) fn program_command<'a>(alloc: Global) -> Result<Command<'a>, AllocError>
+    ensures { IfOk result (λ command. app_of command ≡ swimsim_app) }
+{
+    Command::new(alloc, "swimsim")
+        .bin_name("swimsim")?
+        .about("Simulates clusters of the SWIM membership protocol")
+        .no_binary_name(true)
+        .subcommand_required(true)
+        .subcommand(run_command(alloc)?)?
+        .subcommand(check_command(alloc)?)?
+        .subcommand(sweep_command(alloc)?)
+}
+
+/// The command `run`.
+fn run_command<'a>(alloc: Global) -> Result<Command<'a>, AllocError>
+    ensures { IfOk result (IsLocal run_app) }
+{
+    let filed = with_file(
+        alloc,
+        Command::new(alloc, "run").about("Runs a scenario, and writes its trace"),
+    )?;
+    let traced = with_required(
+        alloc,
+        filed,
+        "trace",
+        "T",
+        "The file that takes the trace; one that is there is replaced",
+    )?;
+    let reported = with_option(
+        alloc,
+        traced,
+        "report",
+        "R",
+        "The file that takes the report; one that is there is replaced",
+    )?;
+    let worked = with_option(
+        alloc,
+        reported,
+        "workers",
+        "N",
+        "How many workers run the parts, 1 to 64 [default: 1]",
+    )?;
+    let parted = with_option(
+        alloc,
+        worked,
+        "parts",
+        "P",
+        "To how many parts the members are dealt in turn, 1 to 64 [default: the number of workers]",
+    )?;
+    with_option(
+        alloc,
+        parted,
+        "division",
+        "LIST",
+        "The part of each member, 0 to 63, parted by commas; not together with --parts",
+    )
+}
+
+/// The command `check`.
+fn check_command<'a>(alloc: Global) -> Result<Command<'a>, AllocError>
+    ensures { IfOk result (IsLocal check_app) }
+{
+    with_file(
+        alloc,
+        Command::new(alloc, "check").about("Reads a scenario, and prints how many members it has"),
+    )
+}
+
+/// The command `sweep`.
+fn sweep_command<'a>(alloc: Global) -> Result<Command<'a>, AllocError>
+    ensures { IfOk result (IsLocal sweep_app) }
+{
+    let filed = with_file(
+        alloc,
+        Command::new(alloc, "sweep").about(
+            "Runs a scenario by many seeds and settings, and writes a table of the runs",
+        ),
+    )?;
+    let tabled = with_required(
+        alloc,
+        filed,
+        "table",
+        "T",
+        "The file that takes the table, a line for each run; one that is there is replaced",
+    )?;
+    let seeded = with_option(
+        alloc,
+        tabled,
+        "seeds",
+        "A..B",
+        "The seeds of each case, from A to B, both included [default: the scenario's seed]",
+    )?;
+    let set = with_repeated(
+        alloc,
+        seeded,
+        "set",
+        "KEY=V1,V2,..",
+        "A key of the scenario and its values, each of which makes cases; for any number of keys",
+    )?;
+    let worked = with_option(
+        alloc,
+        set,
+        "workers",
+        "N",
+        "How many workers make the runs, 1 to 64 [default: 1]",
+    )?;
+    with_flag(
+        alloc,
+        worked,
+        "progress",
+        "Tells on standard error how far the sweep has come",
+    )
+}
+
+/// A command with the scenario's file more.
+fn with_file<'a>(alloc: Global, command: Command<'a>) -> Result<Command<'a>, AllocError>
+    ensures { (app : App) → IsLocal app command.entry → IfOk result (IsLocal (with_rule app file_rule)) }
+{
+    command.arg(file_argument(alloc))
+}
+
+/// A command with an option more, which has one value and may be left out.
+fn with_option<'a>(
+    alloc: Global,
+    command: Command<'a>,
+    name: &'a str,
+    value: &'a str,
+    help: &'a str,
+) -> Result<Command<'a>, AllocError>
+    ensures { (app : App) → IsLocal app command.entry → IfOk result (IsLocal (with_rule app (option_rule name.entry.now))) }
+{
+    command.arg(option(alloc, name, value, help))
+}
+
+/// A command with an option more, which has one value and must be given.
+fn with_required<'a>(
+    alloc: Global,
+    command: Command<'a>,
+    name: &'a str,
+    value: &'a str,
+    help: &'a str,
+) -> Result<Command<'a>, AllocError>
+    ensures { (app : App) → IsLocal app command.entry → IfOk result (IsLocal (with_rule app (required_rule name.entry.now))) }
+{
+    command.arg(option(alloc, name, value, help).required(true))
+}
+
+/// A command with an option more, which may be given any number of times, with a value each time.
+fn with_repeated<'a>(
+    alloc: Global,
+    command: Command<'a>,
+    name: &'a str,
+    value: &'a str,
+    help: &'a str,
+) -> Result<Command<'a>, AllocError>
+    ensures { (app : App) → IsLocal app command.entry → IfOk result (IsLocal (with_rule app (repeated_rule name.entry.now))) }
+{
+    command.arg(option(alloc, name, value, help).action(ArgAction::Append))
+}
+
+/// A command with a flag more, which takes no value and may be left out.
+fn with_flag<'a>(
+    alloc: Global,
+    command: Command<'a>,
+    name: &'a str,
+    help: &'a str,
+) -> Result<Command<'a>, AllocError>
+    ensures { (app : App) → IsLocal app command.entry → IfOk result (IsLocal (with_rule app (flag_rule name.entry.now))) }
+{
+    command.arg(flag(alloc, name, help))
+}
+
+/// The argument for the scenario's file.
+fn file_argument<'a>(alloc: Global) -> Arg<'a>
+    ensures rule { rule_of result ≡ file_rule }
+    ensures local { result.global ≡ false }
+{
+    Arg::new(alloc, "FILE")
+        .help("The scenario, a TOML document")
+        .required(true)
+}
+
+/// An option with one value, which may be left out.
+fn option<'a>(alloc: Global, name: &'a str, value: &'a str, help: &'a str) -> Arg<'a>
+    ensures rule { rule_of result ≡ option_rule name.entry.now }
+    ensures local { result.global ≡ false }
+{
+    Arg::new(alloc, name)
+        .long(name)
+        .value_name(value)
+        .help(help)
+}
+
+/// A flag, which takes no value and may be left out.
+fn flag<'a>(alloc: Global, name: &'a str, help: &'a str) -> Arg<'a>
+    ensures rule { rule_of result ≡ flag_rule name.entry.now }
+    ensures local { result.global ≡ false }
+{
+    Arg::new(alloc, name)
+        .long(name)
+        .action(ArgAction::SetTrue)
+        .help(help)
+}
