@@ -6,7 +6,7 @@ use std::process::Abort;
 use std::sync::Wait;
 use std::test::Fail;
 use std::thread::Threads;
-use worked_runs::{CRASH_DETECTED, JOIN, LOST_PATH, Seeded, THREE_HELPERS, WORKED, Worked};
+use worked_runs::{CRASH_DETECTED, JOIN, LOST_PATH, Seeded, THREE_HELPERS, Worked, all_worked};
 
 /// What the command leaves that runs this text, where an older trace and an older report stand.
 fn run_of(rt: &(impl Threads + Wait + Sync + AllocGlobal), text: &str) -> Result<Left, Fail> {
@@ -49,7 +49,7 @@ fn assert_worked(
 
 #[test]
 fn each_worked_run_leaves_its_trace_and_report(rt: HostRuntime) -> Result<(), Fail> {
-    for run in &WORKED {
+    for run in all_worked() {
         assert_worked(&rt, run)?;
     }
     Ok(())

@@ -1,7 +1,7 @@
 //! The reports of worked runs, byte for byte, and every way in which a report's sink fails.
 
-use crate::texts::{TWO_MEMBERS, WORKED};
-use crate::turns_tests::{WAYS, Way, run_by};
+use crate::texts::{TWO_MEMBERS, all_worked};
+use crate::turns_tests::{Way, run_by, ways};
 use base::Fault;
 use exchange::Summary;
 use scenario_reader::read;
@@ -70,11 +70,11 @@ fn assert_part(rt: &impl Abort, left: &Left, bytes: usize) {
 
 #[test]
 fn each_worked_run_has_its_report(rt: HostRuntime) {
-    for run in WORKED {
-        for way in WAYS {
+    for run in all_worked() {
+        for way in ways() {
             let trace = MemorySink::new(rt.alloc());
             let report = MemorySink::new(rt.alloc());
-            let left = run_into(&rt, way, run.scenario, trace, report);
+            let left = run_into(&rt, *way, run.scenario, trace, report);
             assert!(rt; left.outcome.is_ok());
             assert_eq!(rt; left.report.bytes(), run.report.as_bytes());
             assert_eq!(rt; left.report.failures(), 0);
@@ -86,7 +86,7 @@ fn each_worked_run_has_its_report(rt: HostRuntime) {
 /// none.
 #[test]
 fn each_worked_run_has_one_line_more_in_version_2(rt: HostRuntime) -> Result<(), Fail> {
-    for run in WORKED {
+    for run in all_worked() {
         if run.scenario.starts_with("version = 1\n") {
             let text = run
                 .scenario
@@ -94,7 +94,7 @@ fn each_worked_run_has_one_line_more_in_version_2(rt: HostRuntime) -> Result<(),
             let lines = format!(in rt.alloc(); "{}sent bye 0 lost 0\n", run.report)?;
             let trace = MemorySink::new(rt.alloc());
             let report = MemorySink::new(rt.alloc());
-            let left = run_into(&rt, WAYS[0], text.as_str(), trace, report);
+            let left = run_into(&rt, Way::AsOne, text.as_str(), trace, report);
             assert_eq!(rt; left.outcome, Ok(Summary { rows: run.rows }));
             assert_eq!(rt; left.trace.bytes(), run.trace.as_bytes());
             assert_eq!(rt; left.report.bytes(), lines.as_bytes());
@@ -105,10 +105,10 @@ fn each_worked_run_has_one_line_more_in_version_2(rt: HostRuntime) -> Result<(),
 
 #[test]
 fn one_byte_a_put_gives_the_same_trace_and_report(rt: HostRuntime) {
-    for way in WAYS {
+    for way in ways() {
         let trace = MemorySink::new(rt.alloc()).with_short_puts();
         let report = MemorySink::new(rt.alloc()).with_short_puts();
-        let left = run_into(&rt, way, TWO_MEMBERS.scenario, trace, report);
+        let left = run_into(&rt, *way, TWO_MEMBERS.scenario, trace, report);
         assert_eq!(rt; left.outcome, Ok(Summary { rows: 6 }));
         assert_eq!(rt; left.trace.bytes(), TWO_MEMBERS.trace.as_bytes());
         assert_eq!(rt; left.report.bytes(), TWO_MEMBERS.report.as_bytes());
@@ -118,11 +118,11 @@ fn one_byte_a_put_gives_the_same_trace_and_report(rt: HostRuntime) {
 #[test]
 fn each_put_of_the_report_may_fail(rt: HostRuntime) {
     for place in 0..TWO_MEMBERS.report.len() {
-        for way in WAYS {
+        for way in ways() {
             let sink = MemorySink::new(rt.alloc())
                 .with_short_puts()
                 .failing_at_put(place as u64 + 1);
-            assert_part(&rt, &report_into(&rt, way, sink), place);
+            assert_part(&rt, &report_into(&rt, *way, sink), place);
         }
     }
 }
@@ -130,31 +130,31 @@ fn each_put_of_the_report_may_fail(rt: HostRuntime) {
 #[test]
 fn each_byte_of_the_report_may_have_no_room(rt: HostRuntime) {
     for bytes in 0..TWO_MEMBERS.report.len() {
-        for way in WAYS {
+        for way in ways() {
             let sink = MemorySink::new(rt.alloc()).failing_after(bytes);
-            assert_part(&rt, &report_into(&rt, way, sink), bytes);
+            assert_part(&rt, &report_into(&rt, *way, sink), bytes);
             let zero = MemorySink::new(rt.alloc())
                 .failing_after(bytes)
                 .answering_zero();
-            assert_part(&rt, &report_into(&rt, way, zero), bytes);
+            assert_part(&rt, &report_into(&rt, *way, zero), bytes);
         }
     }
 }
 
 #[test]
 fn the_report_is_flushed(rt: HostRuntime) {
-    for way in WAYS {
+    for way in ways() {
         let sink = MemorySink::new(rt.alloc()).failing_at_flush();
-        assert_part(&rt, &report_into(&rt, way, sink), TWO_MEMBERS.report.len());
+        assert_part(&rt, &report_into(&rt, *way, sink), TWO_MEMBERS.report.len());
     }
 }
 
 #[test]
 fn no_report_follows_a_trace_that_was_not_flushed(rt: HostRuntime) {
-    for way in WAYS {
+    for way in ways() {
         let trace = MemorySink::new(rt.alloc()).failing_at_flush();
         let report = MemorySink::new(rt.alloc());
-        let left = run_into(&rt, way, TWO_MEMBERS.scenario, trace, report);
+        let left = run_into(&rt, *way, TWO_MEMBERS.scenario, trace, report);
         assert_eq!(rt; left.outcome, Err(Fault::Write));
         assert_eq!(rt; left.trace.bytes(), TWO_MEMBERS.trace.as_bytes());
         assert_eq!(rt; left.report.puts(), 0);

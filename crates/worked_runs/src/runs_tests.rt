@@ -1,7 +1,7 @@
 //! Whole runs byte for byte, and every way in which a run is refused.
 
-use crate::texts::{CRASH_DETECTED, JOIN, LARGEST_MOMENTS, START_ONLY, WORKED};
-use crate::turns_tests::{WAYS, Way, run_by};
+use crate::texts::{CRASH_DETECTED, JOIN, LARGEST_MOMENTS, START_ONLY, all_worked};
+use crate::turns_tests::{Way, run_by, ways};
 use base::{Fault, MemberId};
 use exchange::Summary;
 use scenario::Scenario;
@@ -39,10 +39,10 @@ fn run_into(
 
 #[test]
 fn each_worked_run_is_byte_for_byte(rt: HostRuntime) {
-    for run in WORKED {
-        for way in WAYS {
+    for run in all_worked() {
+        for way in ways() {
             let sink = MemorySink::new(rt.alloc());
-            let (outcome, sink) = run_into(&rt, way, run.scenario, sink);
+            let (outcome, sink) = run_into(&rt, *way, run.scenario, sink);
             assert_eq!(rt; outcome, Ok(Summary { rows: run.rows }));
             assert_eq!(rt; sink.bytes(), run.trace.as_bytes());
             assert_eq!(rt; sink.failures(), 0);
@@ -52,9 +52,9 @@ fn each_worked_run_is_byte_for_byte(rt: HostRuntime) {
 
 #[test]
 fn a_sink_of_40_bytes_has_the_beginning_of_the_header(rt: HostRuntime) {
-    for way in WAYS {
+    for way in ways() {
         let sink = MemorySink::new(rt.alloc()).failing_after(40);
-        let (outcome, sink) = run_into(&rt, way, START_ONLY.scenario, sink);
+        let (outcome, sink) = run_into(&rt, *way, START_ONLY.scenario, sink);
         assert_eq!(rt; outcome, Err(Fault::Write));
         assert_eq!(rt;
             sink.bytes(),
@@ -65,10 +65,10 @@ fn a_sink_of_40_bytes_has_the_beginning_of_the_header(rt: HostRuntime) {
 
 #[test]
 fn one_byte_a_put_gives_the_same_trace(rt: HostRuntime) {
-    for run in WORKED {
-        for way in WAYS {
+    for run in all_worked() {
+        for way in ways() {
             let sink = MemorySink::new(rt.alloc()).with_short_puts();
-            let (outcome, sink) = run_into(&rt, way, run.scenario, sink);
+            let (outcome, sink) = run_into(&rt, *way, run.scenario, sink);
             assert_eq!(rt; outcome, Ok(Summary { rows: run.rows }));
             assert_eq!(rt; sink.bytes(), run.trace.as_bytes());
         }
@@ -78,11 +78,11 @@ fn one_byte_a_put_gives_the_same_trace(rt: HostRuntime) {
 #[test]
 fn each_put_that_fails_leaves_a_beginning(rt: HostRuntime) {
     for place in 0..CRASH_DETECTED.trace.len() {
-        for way in WAYS {
+        for way in ways() {
             let sink = MemorySink::new(rt.alloc())
                 .with_short_puts()
                 .failing_at_put(place as u64 + 1);
-            let (outcome, sink) = run_into(&rt, way, CRASH_DETECTED.scenario, sink);
+            let (outcome, sink) = run_into(&rt, *way, CRASH_DETECTED.scenario, sink);
             assert_eq!(rt; outcome, Err(Fault::Write));
             assert_eq!(rt; sink.puts(), place as u64 + 1);
             assert!(rt; CRASH_DETECTED.trace.as_bytes().starts_with(sink.bytes()));
@@ -106,14 +106,14 @@ fn assert_no_room(
 #[test]
 fn each_byte_that_has_no_room_leaves_the_bytes_before_it(rt: HostRuntime) {
     for bytes in 0..CRASH_DETECTED.trace.len() {
-        for way in WAYS {
+        for way in ways() {
             let failing = MemorySink::new(rt.alloc()).failing_after(bytes);
-            let (outcome, sink) = run_into(&rt, way, CRASH_DETECTED.scenario, failing);
+            let (outcome, sink) = run_into(&rt, *way, CRASH_DETECTED.scenario, failing);
             assert_no_room(&rt, bytes, outcome, &sink);
             let full = MemorySink::new(rt.alloc())
                 .failing_after(bytes)
                 .answering_zero();
-            let (outcome, sink) = run_into(&rt, way, CRASH_DETECTED.scenario, full);
+            let (outcome, sink) = run_into(&rt, *way, CRASH_DETECTED.scenario, full);
             assert_no_room(&rt, bytes, outcome, &sink);
         }
     }
@@ -121,9 +121,9 @@ fn each_byte_that_has_no_room_leaves_the_bytes_before_it(rt: HostRuntime) {
 
 #[test]
 fn the_trace_is_flushed(rt: HostRuntime) {
-    for way in WAYS {
+    for way in ways() {
         let sink = MemorySink::new(rt.alloc()).failing_at_flush();
-        let (outcome, sink) = run_into(&rt, way, CRASH_DETECTED.scenario, sink);
+        let (outcome, sink) = run_into(&rt, *way, CRASH_DETECTED.scenario, sink);
         assert_eq!(rt; outcome, Err(Fault::Write));
         assert_eq!(rt; sink.bytes(), CRASH_DETECTED.trace.as_bytes());
     }
@@ -180,8 +180,8 @@ fn refused_memory_leaves_a_beginning(rt: HostRuntime) {
     match read(rt.alloc(), JOIN.scenario.as_bytes()) {
         Err(refusal) => assert_eq!(rt; refusal.rule, 11),
         Ok(scenario) => {
-            for way in WAYS {
-                assert_beginning(&rt, way, &scenario);
+            for way in ways() {
+                assert_beginning(&rt, *way, &scenario);
             }
         }
     }

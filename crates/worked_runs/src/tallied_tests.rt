@@ -1,7 +1,7 @@
 //! Runs that are tallied, none of whose rows is kept: the report on the tallies is the one that `run_one` writes.
 
-use crate::meeting_tests::{MEETINGS, text_of};
-use crate::texts::{JOIN, LOST_PATH, THREE_HELPERS, WORKED};
+use crate::meeting_tests::{meetings, text_of};
+use crate::texts::{JOIN, LOST_PATH, THREE_HELPERS, all_worked};
 use crate::turns_tests::{Way, run_by};
 use crate::workers_tests::MANY_ROWS;
 use base::{Fault, Memory};
@@ -43,7 +43,7 @@ fn assert_same_report(
 
 #[test]
 fn each_worked_run_has_its_tallies(rt: HostRuntime) -> Result<(), Fail> {
-    for run in WORKED {
+    for run in all_worked() {
         let scenario = read(rt.alloc(), run.scenario.as_bytes())?;
         let report = report_of(rt.alloc(), &scenario)?;
         assert!(rt; report.as_slice() == run.report.as_bytes());
@@ -54,7 +54,7 @@ fn each_worked_run_has_its_tallies(rt: HostRuntime) -> Result<(), Fail> {
 /// The last of them goes on for more than a slice.
 #[test]
 fn each_run_has_the_tallies_of_its_rows(rt: HostRuntime) -> Result<(), Fail> {
-    for meeting in MEETINGS {
+    for meeting in meetings() {
         for seed in meeting.seeds.0..meeting.seeds.1 {
             let text = text_of(&rt, seed, meeting.scenario)?;
             assert_same_report(&rt, text.as_str())?;

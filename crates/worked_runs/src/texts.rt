@@ -534,7 +534,7 @@ pub const CUT: Worked = Worked {
     rows: 22,
 };
 
-pub const WORKED: [Worked; 15] = [
+const WORKED: [Worked; 15] = [
     START_ONLY,
     ONE_MEMBER,
     TWO_MEMBERS,
@@ -551,6 +551,11 @@ pub const WORKED: [Worked; 15] = [
     LEAVE,
     CUT,
 ];
+
+/// All of them. A test that named the table would be proved with all its texts.
+pub fn all_worked<'a>() -> &'a [Worked] {
+    &WORKED
+}
 
 /// Three members, and no message of the first one reaches the last one.
 pub const LOST_PATH: Seeded = Seeded {

@@ -1,7 +1,7 @@
 //! Runs by parts: whatever the division is, and whoever runs them, they write what `run_one` writes.
 
-use crate::meeting_tests::{MEETINGS, text_of};
-use crate::texts::{LOST_PATH, THREE_HELPERS, WORKED};
+use crate::meeting_tests::{meetings, text_of};
+use crate::texts::{LOST_PATH, THREE_HELPERS, all_worked};
 use base::{Fault, Memory};
 use exchange::{Summary, run, run_in_turn, run_one};
 use scenario::{Division, Scenario, Workers};
@@ -15,7 +15,6 @@ use trace::Sink;
 use trace::testing::MemorySink;
 use workers::OpenGate;
 
-/// Runs by parts, in turn and by threads: 64 parts are more than any of the scenarios has members.
 const BY_PARTS: [Way; 20] = [
     Way::InTurn(1),
     Way::InTurn(2),
@@ -38,6 +37,11 @@ const BY_PARTS: [Way; 20] = [
     Way::ByWorkers(64, 3),
     Way::ByWorkers(64, 64),
 ];
+
+/// Runs by parts, in turn and by threads: 64 parts are more than any of the scenarios has members.
+fn by_parts<'a>() -> &'a [Way] {
+    &BY_PARTS
+}
 
 /// The division into so many parts with these members in each. `Memory` where it is refused.
 pub(crate) fn divided(
@@ -105,13 +109,17 @@ pub(crate) enum Way {
     BySite(u8, u8),
 }
 
-/// The ways in which tests of whole runs and of failing sinks run their scenarios.
-pub(crate) const WAYS: [Way; 4] = [
+const WAYS: [Way; 4] = [
     Way::AsOne,
     Way::InTurn(1),
     Way::InTurn(2),
     Way::ByWorkers(2, 2),
 ];
+
+/// The ways in which tests of whole runs and of failing sinks run their scenarios.
+pub(crate) fn ways<'a>() -> &'a [Way] {
+    &WAYS
+}
 
 /// How that way divides the scenario.
 fn division_of(
@@ -180,15 +188,15 @@ fn assert_same(
     let mut report = MemorySink::new(rt.alloc());
     let outcome = run_by(rt, Way::AsOne, &scenario, &mut trace, &mut report);
     assert!(rt; outcome.is_ok());
-    for way in BY_PARTS {
-        assert_writes(rt, way, &scenario, outcome, &trace, &report);
+    for way in by_parts() {
+        assert_writes(rt, *way, &scenario, outcome, &trace, &report);
     }
     Ok(())
 }
 
 #[test]
 fn each_worked_run_is_the_same_by_any_parts_and_workers(rt: HostRuntime) -> Result<(), Fail> {
-    for run in WORKED {
+    for run in all_worked() {
         assert_same(&rt, run.scenario)?;
     }
     assert_same(&rt, LOST_PATH.scenario)?;
@@ -197,7 +205,7 @@ fn each_worked_run_is_the_same_by_any_parts_and_workers(rt: HostRuntime) -> Resu
 
 #[test]
 fn each_meeting_is_the_same_by_any_parts_and_workers(rt: HostRuntime) -> Result<(), Fail> {
-    for meeting in MEETINGS {
+    for meeting in meetings() {
         for seed in meeting.seeds.0..meeting.seeds.1 {
             let text = text_of(&rt, seed, meeting.scenario)?;
             assert_same(&rt, text.as_str())?;
