@@ -11,14 +11,14 @@ ghost use Rattle.sweep.specs.Summaries.{MakesAll, HasCome, IsGathered};
 
 use crate::gathering::Gathering;
 use crate::progress::Progress;
-use crate::reading::read_runs;
+use crate::reading::{read_run, read_runs};
 use crate::telling::told_side_by_side;
 use crate::values::write_names;
 use crate::writing::{fault_of, write_lines};
 use base::Fault;
 use cases::Plan;
 use figures::CaseSummary;
-use scenario::Workers;
+use scenario::{Scenario, Workers};
 use std::alloc::Global;
 use std::marker::Sync;
 use std::thread::Threads;
@@ -26,9 +26,11 @@ use toml::Value;
 use trace::{Sink, Stopped};
 use whole_runs::a_run_exists;
 
-/// How many runs each worker makes before their lines are written, so that one which is through waits for the
-/// others seldom.
-const RUNS_OF_A_WORKER: usize = 4;
+/// The most runs that each worker makes before their lines are written.
+const MOST_RUNS_OF_A_WORKER: u64 = 16;
+
+/// How many periods of members a worker runs, about, before lines are written: some fifty milliseconds of work.
+const MEMBER_PERIODS: u64 = 100_000;
 
 /// Makes the runs of a sweep, and writes their table: a header, and a line for each run, in the order of the
 /// cases and of the seeds; at the end the table is flushed. Runs are made some at a time, as many side by side
@@ -114,10 +116,10 @@ fn make_runs<S: Sink, P: Progress>(
     ensures failures { S.failed table.new ≡ S.failed table.old + sink_failures result }
 {
     let runs = plan.runs();
-    let at_once = workers.count() * RUNS_OF_A_WORKER;
     let mut from = 0;
     while from < runs {
-        let till = runs.min(from + at_once);
+        let next = read_run(alloc, plan, document, from)?;
+        let till = runs.min(from + workers.count() * runs_of_a_worker(&next));
         make_some(
             rt, alloc, plan, document, workers, from, till, gathering, table,
         )?;
@@ -125,6 +127,17 @@ fn make_runs<S: Sink, P: Progress>(
         progress.runs_made(from, runs);
     }
     Ok(())
+}
+
+/// How many runs like that of this scenario each worker makes before their lines are written: several short ones,
+/// so that one which is through waits for the others seldom, and few long ones, so that progress is told often.
+fn runs_of_a_worker(scenario: &Scenario) -> usize
+    ensures least { 1 ≤ result }
+    ensures most { result ≤ 16 }
+{
+    let periods = scenario.end().ticks() / scenario.period().max(1);
+    let of_all = periods.saturating_mul(scenario.members() as u64).max(1);
+    (MEMBER_PERIODS / of_all).min(MOST_RUNS_OF_A_WORKER).max(1) as usize
 }
 
 /// Makes the runs from one number to before another, as many side by side as there are workers, writes their

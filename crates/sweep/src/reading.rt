@@ -40,8 +40,8 @@ pub(crate) fn read_runs(
     Ok(scenarios)
 }
 
-/// The scenario of the run of this number.
-fn read_run(alloc: Global, plan: &Plan, document: &Value, number: usize) -> Result<Scenario, Memory>
+/// The scenario of the run of this number. Its document was judged, so an error is want of memory.
+pub(crate) fn read_run(alloc: Global, plan: &Plan, document: &Value, number: usize) -> Result<Scenario, Memory>
     requires asked { IsAskedFor plan.now }
     requires judged { AreAccepted (view document.now) plan.now }
     requires within { number < run_count plan.now }

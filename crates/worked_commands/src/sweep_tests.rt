@@ -79,6 +79,16 @@ fn any_workers_leave_the_same_table(rt: HostRuntime) -> Result<(), Fail> {
     Ok(())
 }
 
+/// More runs than a worker makes at once are told of in between.
+#[test]
+fn a_long_sweep_is_told_of_in_between(rt: HostRuntime) -> Result<(), Fail> {
+    let line = "sweep two.toml --table t.csv --seeds 1..20 --progress";
+    let left = left_by(&rt, line, older_table(&rt)?, Failing::Never)?;
+    assert!(rt; left.status == 0);
+    assert!(rt; left.progress.bytes() == b"16/20 runs\n20/20 runs\n".as_slice());
+    Ok(())
+}
+
 /// Files that hold the scenario of two members, texts that are refused, and an older table.
 fn older_table(rt: &impl AllocGlobal) -> Result<MemoryFiles, Fail> {
     let mut files = files_with(rt, TWO_MEMBERS.scenario)?;
