@@ -41,7 +41,12 @@ pub(crate) fn read_runs(
 }
 
 /// The scenario of the run of this number. Its document was judged, so an error is want of memory.
-pub(crate) fn read_run(alloc: Global, plan: &Plan, document: &Value, number: usize) -> Result<Scenario, Memory>
+pub(crate) fn read_run(
+    alloc: Global,
+    plan: &Plan,
+    document: &Value,
+    number: usize,
+) -> Result<Scenario, Memory>
     requires asked { IsAskedFor plan.now }
     requires judged { AreAccepted (view document.now) plan.now }
     requires within { number < run_count plan.now }
