@@ -116,30 +116,42 @@ const ALONE: Divided = Divided {
     part_of: &[1, 1, 1, 1],
 };
 
-/// A division, two parts, and the length of the least walk from the one to the other.
-const WALKS: [(Divided, usize, usize, Option<u64>); 22] = [
-    (BY_SITES, 0, 1, Some(10)),
-    (BY_SITES, 1, 2, Some(20)),
-    (BY_SITES, 0, 2, Some(30)),
-    (BY_SITES, 2, 0, Some(50)),
-    (BY_SITES, 0, 0, Some(60)),
-    (BY_SITES, 1, 1, Some(60)),
-    (BY_SITES, 2, 2, Some(70)),
-    (WITH_EMPTY, 0, 3, Some(30)),
-    (WITH_EMPTY, 0, 0, Some(60)),
-    (WITH_EMPTY, 0, 1, None),
-    (WITH_EMPTY, 1, 0, None),
-    (WITH_EMPTY, 4, 4, None),
-    (TWO, 0, 1, Some(3)),
-    (TWO, 1, 0, Some(7)),
-    (TWO, 0, 0, Some(10)),
-    (TWO, 1, 1, Some(10)),
-    (MIXED, 0, 1, Some(1)),
-    (MIXED, 0, 0, Some(2)),
-    (ONE, 0, 0, None),
-    (ALONE, 1, 1, None),
-    (ALONE, 0, 1, None),
-    (ALONE, 1, 0, None),
+/// A division, and of two of its parts the length of the least walk from the one to the other.
+const WALKS: [(Divided, &[(usize, usize, Option<u64>)]); 6] = [
+    (
+        BY_SITES,
+        &[
+            (0, 1, Some(10)),
+            (1, 2, Some(20)),
+            (0, 2, Some(30)),
+            (2, 0, Some(50)),
+            (0, 0, Some(60)),
+            (1, 1, Some(60)),
+            (2, 2, Some(70)),
+        ],
+    ),
+    (
+        WITH_EMPTY,
+        &[
+            (0, 3, Some(30)),
+            (0, 0, Some(60)),
+            (0, 1, None),
+            (1, 0, None),
+            (4, 4, None),
+        ],
+    ),
+    (
+        TWO,
+        &[
+            (0, 1, Some(3)),
+            (1, 0, Some(7)),
+            (0, 0, Some(10)),
+            (1, 1, Some(10)),
+        ],
+    ),
+    (MIXED, &[(0, 1, Some(1)), (0, 0, Some(2))]),
+    (ONE, &[(0, 0, None)]),
+    (ALONE, &[(1, 1, None), (0, 1, None), (1, 0, None)]),
 ];
 
 /// What is asked of the three sites: for which part, the least pending moment of each, the end, and
@@ -188,13 +200,24 @@ fn horizons_of(
         .expect(rt, "memory")
 }
 
-#[test]
-fn walks_are_least(rt: HostRuntime) {
-    for (case, from, to, wanted) in &WALKS {
-        let made = horizons_of(rt.alloc(), &rt, case.text, case.parts, case.part_of);
+/// Asserts how long the least walks between parts of this division are.
+fn assert_walks(
+    rt: &(impl Abort + AllocGlobal),
+    case: &Divided,
+    walks: &[(usize, usize, Option<u64>)],
+) {
+    let made = horizons_of(rt.alloc(), rt, case.text, case.parts, case.part_of);
+    for (from, to, wanted) in walks {
         assert!(rt; *from < made.parts());
         assert!(rt; *to < made.parts());
         assert_eq!(rt; made.walk(*from, *to), *wanted, "from {from} to {to}");
+    }
+}
+
+#[test]
+fn walks_are_least(rt: HostRuntime) {
+    for (case, walks) in &WALKS {
+        assert_walks(&rt, case, walks);
     }
 }
 
