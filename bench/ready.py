@@ -4,7 +4,8 @@
     bench/ready.py
 
 It formats each crate that isn't in rt's layout and says so, and tells each must-fail edit whose old text doesn't
-stand exactly once in its file, after the pairs before it. The status is 0 where there was nothing to tell.
+stand exactly once in its file, after the pairs before it, and each line of a document's text that is too long. The
+status is 0 where there was nothing to tell.
 """
 
 import subprocess
@@ -13,6 +14,8 @@ from pathlib import Path
 
 TOP = Path(__file__).resolve().parent.parent
 CRATES = sorted((TOP / 'crates').iterdir())
+DOCUMENTS = [TOP / 'README.md', *sorted((TOP / 'docs').glob('*.md'))]
+WIDTH = 100
 
 
 def formatted_anew(crate):
@@ -39,9 +42,20 @@ def faults_of(edit):
     return faults
 
 
+def long_lines(document):
+    """The lines of a document that are too long, but those of tables and of code."""
+    found, is_code = [], False
+    for number, line in enumerate(document.read_text().splitlines(), 1):
+        is_code ^= line.startswith('```')
+        if len(line) > WIDTH and not is_code and not line.startswith('|'):
+            found.append(f'{document.relative_to(TOP)}:{number}: longer than {WIDTH} characters')
+    return found
+
+
 def main():
     told = [line for crate in CRATES for line in formatted_anew(crate)]
     told += [line for crate in CRATES for edit in sorted(crate.glob('must-fail/*.edit')) for line in faults_of(edit)]
+    told += [line for document in DOCUMENTS for line in long_lines(document)]
     print('\n'.join(told) or 'ready')
     sys.exit(bool(told))
 
