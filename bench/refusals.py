@@ -4,10 +4,11 @@
     bench/refusals.py [--program FILE] [--scenario FILE]
 
 The program is the one that ./swimsim has built, or FILE; nothing of it is built here. The scenario is one in which a
-join, a crash, losses, relays, suspicions and refutations meet, or FILE. `check`, and `run` by one part and by three, are called with the first
-allocation refused, then with the second, and so on until a call needs no more. Each must end well, with all that it
-writes without a refusal, or with status 5: nothing on standard output, `swimsim: memory` or `swimsim: run F1` on
-standard error, a beginning of the trace, and nothing of the report unless the whole trace is there.
+join, a crash, losses, relays, suspicions and refutations meet, or FILE. `check`, and `run` by one part and by three,
+are called with the first allocation refused, then with the second, and so on until a call needs no more. Each must end
+well, with all that it writes without a refusal, or with status 5: nothing on standard output, `swimsim: memory` or
+`swimsim: run F1` on standard error, a beginning of the trace, and nothing of the report unless the whole trace is
+there; or, where it was a thread that couldn't be started for it, `swimsim: run F4`, and nothing written.
 Needs gcc, for the `malloc` that refuses.
 """
 
@@ -81,6 +82,7 @@ extra = 1200
 '''
 
 LINES = (b'swimsim: memory\n', b'swimsim: run F1\n')
+NOT_STARTED = b'swimsim: run F4\n'
 
 
 def read(path):
@@ -100,7 +102,8 @@ def is_refusal(left, whole):
     """Whether that is what a refusal leaves of what there is without one."""
     status, out, err, trace, report = left
     in_order = whole[3].startswith(trace) and whole[4].startswith(report) and (not report or trace == whole[3])
-    return status == 5 and out == b'' and err in LINES and in_order
+    is_told = err in LINES or (err == NOT_STARTED and not trace and not report)
+    return status == 5 and out == b'' and is_told and in_order
 
 
 def refuse_each(words, folder):
