@@ -224,6 +224,51 @@ fn sending<Q: EventQueue<Event> + Drop>(
     }
 }
 
+/// The windows of both parts in which each member sends the other one message, of this kind at this moment; both
+/// messages have come.
+fn each_sends<Q: EventQueue<Event> + Drop>(
+    rt: &impl Abort,
+    alloc: Global,
+    scenario: &Scenario,
+    first: Part<Q>,
+    second: Part<Q>,
+    at: u8,
+    what: What,
+) -> Result<(Part<Q>, Part<Q>), Memory>
+    requires consistent { IsConsistentPart scenario.now (world_of Q.set first) }
+    requires single { IsSingle Q.set first }
+    requires consistent_second { IsConsistentPart scenario.now (world_of Q.set second) }
+    requires single_second { IsSingle Q.set second }
+    ensures consistent { IfOk result (λ parts. IsConsistentPart scenario.now (world_of Q.set parts.0)) }
+    ensures single { IfOk result (λ parts. IsSingle Q.set parts.0) }
+    ensures consistent_second { IfOk result (λ parts. IsConsistentPart scenario.now (world_of Q.set parts.1)) }
+    ensures single_second { IfOk result (λ parts. IsSingle Q.set parts.1) }
+{
+    let at = u64::from(at);
+    let bound = at + 1;
+    let (mut first, to_second) = sending(
+        rt,
+        alloc,
+        scenario,
+        first,
+        bound,
+        &[(at, 0, what)],
+        (bound, 1),
+    );
+    let (mut second, to_first) = sending(
+        rt,
+        alloc,
+        scenario,
+        second,
+        bound,
+        &[(at, 1, what)],
+        (bound, 0),
+    );
+    receive(rt, scenario, &mut first, to_first)?;
+    receive(rt, scenario, &mut second, to_second)?;
+    Ok((first, second))
+}
+
 /// Both start, each pings the other, and each is answered.
 #[test]
 fn two_parts_run_window_by_window(rt: HostRuntime) -> Result<(), Fail> {
@@ -239,50 +284,10 @@ fn two_parts_run_window_by_window(rt: HostRuntime) -> Result<(), Fail> {
     assert_least(&rt, &first, 1);
     assert_least(&rt, &second, 1);
 
-    let (mut first, to_second) = sending(
-        &rt,
-        alloc,
-        &scenario,
-        first,
-        2,
-        &[(1, 0, What::Ping)],
-        (2, 1),
-    );
-    let (mut second, to_first) = sending(
-        &rt,
-        alloc,
-        &scenario,
-        second,
-        2,
-        &[(1, 1, What::Ping)],
-        (2, 0),
-    );
-    assert_least(&rt, &first, 301);
-    assert_least(&rt, &second, 301);
-    receive(&rt, &scenario, &mut first, to_first)?;
-    receive(&rt, &scenario, &mut second, to_second)?;
+    let (first, second) = each_sends(&rt, alloc, &scenario, first, second, 1, What::Ping)?;
     assert_least(&rt, &first, 2);
-
-    let (mut first, to_second) = sending(
-        &rt,
-        alloc,
-        &scenario,
-        first,
-        3,
-        &[(2, 0, What::Ack)],
-        (3, 1),
-    );
-    let (mut second, to_first) = sending(
-        &rt,
-        alloc,
-        &scenario,
-        second,
-        3,
-        &[(2, 1, What::Ack)],
-        (3, 0),
-    );
-    receive(&rt, &scenario, &mut first, to_first)?;
-    receive(&rt, &scenario, &mut second, to_second)?;
+    assert_least(&rt, &second, 2);
+    let (first, second) = each_sends(&rt, alloc, &scenario, first, second, 2, What::Ack)?;
 
     let first = quiet(&rt, alloc, &scenario, first, 4, &[]);
     let second = quiet(&rt, alloc, &scenario, second, 4, &[]);

@@ -378,9 +378,7 @@ count = 4
 ";
 
 /// Three crashes, one of them undetected, and something for each figure to count.
-#[test]
-fn each_figure_counts_its_rows(rt: HostRuntime) -> Result<(), Fail> {
-    let lines = "100,n-0,n-0,3,suspect,n-3,0,0
+const EACH_FIGURE: &str = "100,n-0,n-0,3,suspect,n-3,0,0
 200,n-3,n-3,1,crash,,0,0
 250,n-1,n-1,4,suspect,n-3,0,0
 300,n-2,n-1,5,suspect,n-3,0,0
@@ -415,7 +413,9 @@ fn each_figure_counts_its_rows(rt: HostRuntime) -> Result<(), Fail> {
 1000,n-0,n-0,28,ack,n-2,7,0
 1100,n-2,n-2,1,crash,,0,0
 ";
-    let expected = "members 4
+
+/// The report on them.
+const EACH_FIGURE_REPORT: &str = "members 4
 end 9000
 rows 34
 crash n-3 200 suspect 250 confirm 500 last 600 confirmers 2 latency 300
@@ -435,7 +435,10 @@ sent ping-req 2 lost 1
 sent ack 4 lost 1
 sent nack 1 lost 1
 ";
-    assert_report(&rt, FOUR, lines, expected)
+
+#[test]
+fn each_figure_counts_its_rows(rt: HostRuntime) -> Result<(), Fail> {
+    assert_report(&rt, FOUR, EACH_FIGURE, EACH_FIGURE_REPORT)
 }
 
 /// A member's second crash row begins anew: each crash is detected by the rows after it.
