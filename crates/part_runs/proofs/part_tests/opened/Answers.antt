@@ -5,10 +5,10 @@ use Rattle.member.specs.declared.content.Content.{Content}
 use Rattle.member.specs.State.{State}
 use Rattle.worker_queue.proofs.Contents.{contents_by-empty}
 use Rattle.windows.specs.Admitting.{with_member}
-use Rattle.windows.specs.WorldOf.{world_of, contents_in, content_of}
+use Rattle.windows.specs.WorldOf.{contents_in, content_of}
 use Rattle.windows.specs.Window.{IsConsistentPart, is_own}
 use Rattle.windows.proofs.Admitting.{with_pending}
-use Rattle.part_runs.proofs.Opened.{alone, alone_consistent, alone_single, none_from_below}
+use Rattle.part_runs.proofs.Opened.{alone_consistent, alone_single, none_from_below}
 use Rattle.part_runs.proofs.part_tests.opened.Goals as goal
 
 pub admit-requires-clause-earlier : goal.admit-requires-clause-earlier

@@ -1,4 +1,4 @@
-use Rattle.std.proofs.Common.{nat_eq, ◌≡◌, true, false, ◌∙◌, refl, sym, ap}
+use Rattle.std.proofs.Common.{◌∙◌, refl, sym}
 use Rattle.windows.specs.WorldOf.{world_of}
 use Rattle.part_runs.proofs.Opened.{received_consistent, if_received, if_single}
 use Rattle.part_runs.proofs.part_tests.receive.Goals as goal
