@@ -8,9 +8,7 @@ use Rattle.base.specs.declared.fault.Fault.{Fault}
 use Rattle.base.specs.declared.fault.Fault.TheVariants.{Worn, Write, Relay}
 use Rattle.scenario.specs.Setup.{Setup, IsSound}
 use Rattle.trace.specs.declared.row.Row.{Row}
-use Rattle.trace.specs.Text.{rows_text, trace_text}
-use Rattle.trace.specs.Sinks.{AppendsBeginning}
-use Rattle.trace.proofs.Beginnings.{beginning-none, beginning-first, beginning-whole, beginning-of, Keeps-same}
+use Rattle.trace.specs.Text.{trace_text}
 use Rattle.member_laws.specs.Runs.{IsRunOf, WearsOut}
 use Rattle.relay.specs.declared.relay.Relay.{Relay as ARelay}
 use Rattle.relay.specs.Lots.{rows_in, has_last}
@@ -20,13 +18,12 @@ use Rattle.exchange.specs.declared.driver.Ended.{Ended}
 use Rattle.windows.specs.Play.{IsBeginning}
 use Rattle.turns.specs.Beginning.{BeginsRun}
 use Rattle.outputs.specs.Promise.{BeginsTrace, WearsOutReport}
-use Rattle.outputs.specs.Written.{sink_failures, HasWritten}
+use Rattle.outputs.specs.Written.{sink_failures}
 use Rattle.exchange.specs.Streams.{IsDriven, HasEnded}
 use Rattle.exchange.proofs.Faults.{worn≢relay}
 use Rattle.turns.proofs.Goes.{begins_with}
 use Rattle.whole_runs.proofs.Reported.{wears_report}
-use Rattle.outputs.proofs.Runs.{some_run}
-use Rattle.outputs.proofs.Streaming.{text_on}
+use Rattle.whole_runs.proofs.Streamed.{begins_trace as begins_with_these}
 
 at_ok : {T E : Type 0} (P : Type 0) (o : Result T E) → IsOk o → OnOk o P → P
 at_ok P (Ok x) is p = p
@@ -69,33 +66,14 @@ module _ (s : Setup) (sound : IsSound s) (relay : ARelay) (driven : Driven) (all
 
 -- ---- all threads
 
--- where nothing was written
-pub begins_nothing : (s : Setup) (held : Option (List ℕ)) → IsSound s → BeginsTrace s held held
-begins_nothing s held sound =
-    let run = some_run s sound in
-    record { rows = run.0; run = run.1; written = beginning-none held held (trace_text s run.0) (Keeps-same held) }
-
 module _ (s : Setup) (sound : IsSound s) (relay : ARelay) (held_old held_new : Option (List ℕ)) (failed_old failed_new : ℕ) (ended : Ended) (is : HasEnded s relay held_old held_new failed_old failed_new ended)
     (whole : has_last (taken_by ended.taker) ≡ true → taken_by ended.taker ≡ sent_by ended.driven.seat) (part : IsBeginning (rows_in (taken_by ended.taker)) (rows_in (sent_by ended.driven.seat))) where
   -- the rows that were written are the first of the run
   begun : BeginsRun s (rows_in (taken_by ended.taker))
   begun = begins_with s sound (rows_in (taken_by ended.taker)) (rows_in (sent_by ended.driven.seat)) part is.driven.begins
 
-  some_written : (o : Result (Unit {0}) Fault) → HasWritten s (rows_in (taken_by ended.taker)) held_old held_new ended.tallied.tallies o → AppendsBeginning held_old held_new (trace_text s (rows_in (taken_by ended.taker)))
-  some_written (Ok x) wrote = beginning-whole held_old held_new (trace_text s (rows_in (taken_by ended.taker))) wrote.whole.0
-  some_written (Err e) wrote = wrote.part
-
   pub begins_trace : BeginsTrace s held_old held_new
-  begins_trace =
-      let taken = rows_in (taken_by ended.taker) in
-      let rest = begun.2.0 in
-      record {
-        rows = begun.0;
-        run = begun.1;
-        written =
-            beginning-of held_old held_new (trace_text s taken ++ rows_text s rest) (trace_text s begun.0) (text_on s taken rest ∙ ap (trace_text s) (sym begun.2.1))
-            (beginning-first held_old held_new (trace_text s taken) (rows_text s rest) (some_written ended.written is.written));
-      }
+  begins_trace = begins_with_these s (rows_in (taken_by ended.taker)) ended.tallied.tallies held_old held_new ended.written begun is.written
 
   -- where both sides came to their end
   module _ (drove : IsOk ended.driven.outcome) (wrote : IsOk ended.written) where

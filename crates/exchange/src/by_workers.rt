@@ -1,5 +1,5 @@
 //! A run by threads that live as long as it does: workers run the windows of the parts, a driver deals and
-//! exchanges, and the calling thread writes.
+//! exchanges, and the calling thread writes. One worker alone takes no other thread.
 ghost use Rattle.std.specs.Prelude.{◌≡◌, ◌<◌, ◌^◌, ◌⊎◌, [], length, IfOk, OnOk, OnErr, IsErrOf};
 ghost use Rattle.std.specs.Io.KnownBytes.{Appends};
 ghost use Rattle.board.specs.Deal.{whole};
@@ -30,6 +30,7 @@ use std::sync::Wait;
 use std::thread::Threads;
 use trace::Sink;
 use turns::open_wheels;
+use whole_runs::stream_run;
 use windows::Part;
 use worker_queue::EventQueue;
 use workers::{Crew, ErrandBoard, ErrandPost, ErrandSeat, Gate, SEATS, Signals, close_board};
@@ -37,8 +38,9 @@ use workers::{Crew, ErrandBoard, ErrandPost, ErrandSeat, Gate, SEATS, Signals, c
 /// Runs the scenario by the parts of a division of its members: window after window, in each the parts by as
 /// many workers as are asked for, but no more than there are parts. It writes what `run_one` writes, whatever
 /// the division and the number of workers are: the trace, and once that is whole and its sink flushed the
-/// report, whose sink is flushed too. After a fault the sinks have got a beginning of that. A worker tells the
-/// gate of each part before it runs it. The sinks stay on the calling thread. It waits for its threads.
+/// report, whose sink is flushed too. After a fault the sinks have got a beginning of that. Each of several workers
+/// tells the gate of a part before it runs it; one alone is the calling thread, runs the scenario as one part and
+/// tells nobody. The sinks stay on the calling thread. It waits for its threads.
 ///
 /// Faults: `Memory`; `Worn` where a counter of the run or of the report would pass 2^63; `Write` where a sink
 /// failed; `Relay` where a thread could not be started, or did not hand on what it was given. Of several the
@@ -80,8 +82,8 @@ pub fn run<A: Sink, B: Sink, G: Gate, R: Threads + Wait + Sync>(
     }
 }
 
-/// Runs the scenario by threads, and writes its trace; nothing is flushed yet.
-#[tactic(auto, using(crate::proofs::Endings::begins_nothing))]
+/// Runs the scenario, by threads where there are several workers, and writes its trace; nothing is flushed yet.
+#[tactic(auto, using(outputs::proofs::Runs::begins_nothing))]
 fn run_into<A: Sink, G: Gate, R: Threads + Wait + Sync>(
     rt: &R,
     alloc: Global,
@@ -104,16 +106,19 @@ fn run_into<A: Sink, G: Gate, R: Threads + Wait + Sync>(
     ensures sound { IsSound scenario.now }
 {
     let _end = scenario.end();
+    let hands = workers.count().min(division.parts());
+    if hands == 1 {
+        return stream_run(alloc, scenario, trace);
+    }
     let links = Links::of(alloc, scenario)?;
     let parts = open_wheels(alloc, scenario, division)?;
-    let hands = workers.count().min(division.parts());
     by_crew(
         rt, alloc, parts, hands, gate, scenario, &links, division, trace,
     )
 }
 
 /// Runs these parts by a crew of so many workers, over a board that is closed at the end, and writes the trace.
-#[tactic(auto, using(crate::proofs::Endings::begins_nothing))]
+#[tactic(auto, using(outputs::proofs::Runs::begins_nothing))]
 fn by_crew<'a, A: Sink, Q: EventQueue<Event> + Drop + Send, G: Gate, R: Threads + Wait + Sync>(
     rt: &R,
     alloc: Global,
@@ -153,7 +158,7 @@ fn by_crew<'a, A: Sink, Q: EventQueue<Event> + Drop + Send, G: Gate, R: Threads 
 }
 
 /// The same over this board, with a post at each of its seats: the rows' tallies, and the seats.
-#[tactic(auto, using(crate::proofs::Endings::begins_nothing, crate::proofs::Endings::begins_trace, crate::proofs::Endings::run_ended, crate::proofs::Endings::trace_ended, crate::proofs::Endings::lasts_ended, crate::proofs::Endings::unfailed, crate::proofs::Endings::worn_ended, crate::proofs::Endings::write_ended, crate::proofs::Endings::relay_ended))]
+#[tactic(auto, using(outputs::proofs::Runs::begins_nothing, crate::proofs::Endings::begins_trace, crate::proofs::Endings::run_ended, crate::proofs::Endings::trace_ended, crate::proofs::Endings::lasts_ended, crate::proofs::Endings::unfailed, crate::proofs::Endings::worn_ended, crate::proofs::Endings::write_ended, crate::proofs::Endings::relay_ended))]
 fn at_board<
     'a,
     A: Sink,

@@ -9,7 +9,7 @@ use Rattle.member.specs.Step.{step}
 use Rattle.member.specs.Opening.{opening}
 use Rattle.member.proofs.Fair.{steps_later}
 use Rattle.member_laws.specs.Runs.{IsRunOf}
-use Rattle.outputs.specs.Promise.{WritesBeginning}
+use Rattle.outputs.specs.Promise.{BeginsTrace, WritesBeginning}
 
 pub some_run : (s : Setup) → IsSound s → (rows : List Row) × IsRunOf s rows
 some_run s sound =
@@ -21,3 +21,9 @@ pub writes_nothing : (s : Setup) (trace report : Option (List ℕ)) → IsSound 
 writes_nothing s trace report sound =
     let run = some_run s sound in
     record { rows = run.0; run = run.1; written = inl (beginning-none trace trace (trace_text s run.0) (Keeps-same trace), Keeps-same report) }
+
+-- neither of the trace
+pub begins_nothing : (s : Setup) (held : Option (List ℕ)) → IsSound s → BeginsTrace s held held
+begins_nothing s held sound =
+    let run = some_run s sound in
+    record { rows = run.0; run = run.1; written = beginning-none held held (trace_text s run.0) (Keeps-same held) }

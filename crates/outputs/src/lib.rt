@@ -6,7 +6,7 @@ mod summary;
 mod tallied;
 mod writing;
 
-pub use stream_writer::{lost, write_stream};
+pub use stream_writer::{begin_trace, lost, write_batch, write_stream};
 pub use summary::Summary;
 pub use tallied::Tallied;
 pub use writing::{fault_of, flush, write_run, write_tallied};

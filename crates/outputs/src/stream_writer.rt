@@ -40,7 +40,7 @@ pub fn write_stream<A: Sink>(
     ensures written { HasWritten scenario.now (rows_in (taken_by seat.new)) (A.held trace.old) (A.held trace.new) tallied.new.tallies result }
     ensures failures { A.failed trace.new ≡ A.failed trace.old + sink_failures result }
 {
-    let mut so_far = begin(trace);
+    let mut so_far = begin_trace(trace);
     for _ in rt.forever() {
         let Some(batch) = relay.receive(rt, seat) else {
             return lost(so_far);
@@ -53,8 +53,8 @@ pub fn write_stream<A: Sink>(
     unreachable!()
 }
 
-/// Writes the header.
-fn begin<A: Sink>(trace: &mut A) -> Result<(), Fault>
+/// Writes the header of the trace.
+pub fn begin_trace<A: Sink>(trace: &mut A) -> Result<(), Fault>
     requires countable { A.failed trace.old < 2 ^ 63 }
     ensures written { (s : _) → HasWritten s [] (A.held trace.old) (A.held trace.new) [] result }
     ensures failures { A.failed trace.new ≡ A.failed trace.old + sink_failures result }
@@ -86,8 +86,10 @@ fn go_on<A: Sink>(
     }
 }
 
-/// Writes the rows of a batch, and tallies them.
-fn write_batch<A: Sink>(
+/// Tallies the next rows of a run, and writes them.
+///
+/// Faults: `Memory`; `Worn` where a count of the report would pass 2^63; `Write` where the sink failed.
+pub fn write_batch<A: Sink>(
     alloc: Global,
     rows: &[Row],
     scenario: &Scenario,

@@ -1,11 +1,11 @@
 -- Of the rows of a run, those that come before some moment.
 use Rattle.std.proofs.Common.{◌≡◌, ◌⊎◌, ℕ, ◌≤◌, Bool, true, false, cond, not, List, [], ◌∷◌, ◌++◌, Option, Some, None, ap, ◌∙◌, sym, subst, refl, arith, inl, inr}
-use Rattle.std.specs.List.{AllByRecursion, filter, sum_by}
+use Rattle.std.specs.List.{AllByRecursion, filter, list_all, sum_by}
 use Rattle.std.specs.List.Sorted.{IsPermutation, IsSorted}
 use Rattle.std.specs.Cmp.{IsTotalOrder}
 use Rattle.std.specs.declared.cmp.Ordering.{Ordering}
 use Rattle.std.specs.declared.cmp.Ordering.TheVariants.{Less}
-use Rattle.std.proofs.lemmas.Bool.{false≢true, ltb-true, lt-ltb}
+use Rattle.std.proofs.lemmas.Bool.{false≢true, and_parts, ltb-true, lt-ltb}
 use Rattle.std.proofs.lemmas.List.Sums.{sum_by-cons}
 use Rattle.std.proofs.lemmas.List.Sorted.{All-permutation, sum_by-IsPermutation}
 use Rattle.std.proofs.lemmas.List.Elements.{recursion_from_All, All-from_recursion}
@@ -113,6 +113,17 @@ module _ {A : Type 0} where
 
   abbrev others : (A → Bool) → A → Bool
   others test x = not (test x)
+
+  each_passes : (test : A → Bool) (xs : List A) → list_all test xs ≡ true → AllByRecursion (λ x. test x ≡ true) xs
+  each_passes test [] all = tt
+  each_passes test (x ∷ xs) all = let both = and_parts _ _ all in (both.0, each_passes test xs both.1)
+
+  -- where all pass, these are all, and there are no others
+  pub all_kept : (test : A → Bool) (xs : List A) → list_all test xs ≡ true → xs ≡ filter test xs
+  all_kept test xs all = sym (all_kept_same test xs (each_passes test xs all))
+
+  pub no_others : (test : A → Bool) (xs : List A) → list_all test xs ≡ true → [] ≡ filter (others test) xs
+  no_others test xs all = sym (none_kept (others test) xs (all_weaker _ _ (λ x passes. ap not passes) xs (each_passes test xs all)))
 
   -- those of a list are those of its items
   kept_items : (test : A → Bool) (whole items : List A) → AreItemsOf whole items → AreItemsOf (filter test whole) (filter test items)

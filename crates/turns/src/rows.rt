@@ -1,6 +1,6 @@
 ghost use Rattle.std.specs.Prelude.{◌≡◌, ◌<◌, ◌==◌, ◌++◌, ◌∷◌, [], true, not, map, count_by, IfOk, OnOk, OnErr};
 ghost use Rattle.std.specs.Bool.{OnTrue};
-ghost use Rattle.std.specs.List.{filter};
+ghost use Rattle.std.specs.List.{filter, list_all};
 ghost use Rattle.std.specs.Vec.{vec_len};
 ghost use Rattle.std.specs.List.Sorted.{IsPermutation, IsSorted};
 ghost use Rattle.base.specs.Rising.{IsRising, IsPlaceBefore};
@@ -77,8 +77,32 @@ pub(crate) struct Split {
     pub(crate) kept: Vec<Row>,
 }
 
-/// Of rows those that come before the first moment that pends, or all where nothing does, and the others.
-pub(crate) fn released(alloc: Global, rows: &[Row], first: Option<Moment>) -> Result<Split, Memory>
+/// Of rows those that come before the first moment that pends, or all where nothing does, and the others. Where
+/// all of them do, as they mostly do, none is copied.
+pub(crate) fn released(
+    alloc: Global,
+    rows: Vec<Row>,
+    first: Option<Moment>,
+) -> Result<Split, Memory>
+    ensures before { IfOk result (λ split. split.rows.items ≡ filter (is_before first) rows.items) }
+    ensures others { IfOk result (λ split. split.kept.items ≡ filter (λ row. not (is_before first row)) rows.items) }
+{
+    if all_come_before(&rows, &first) {
+        let kept = Vec::new(alloc);
+        return Ok(Split { rows, kept });
+    }
+    parted(alloc, &rows, first)
+}
+
+/// Whether each of the rows comes before the moment, if there is one.
+fn all_come_before(rows: &[Row], first: &Option<Moment>) -> bool
+    ensures { result ≡ list_all (is_before first.now) rows.now }
+{
+    rows.iter().all(|row| comes_before(row, first))
+}
+
+/// Copies of the rows that come before the first moment that pends, and of the others.
+fn parted(alloc: Global, rows: &[Row], first: Option<Moment>) -> Result<Split, Memory>
     ensures before { IfOk result (λ split. split.rows.items ≡ filter (is_before first) rows.now) }
     ensures others { IfOk result (λ split. split.kept.items ≡ filter (λ row. not (is_before first row)) rows.now) }
 {

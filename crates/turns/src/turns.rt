@@ -84,7 +84,7 @@ pub fn exchanged<Q: EventQueue<Event> + Drop>(
     let rows = in_row_order(rt, alloc, rows, ordered)?;
     deliver(&mut parts, out, division)?;
     let first = least_moment(&parts);
-    let split = released(alloc, &rows, first)?;
+    let split = released(alloc, rows, first)?;
     let Split { rows, kept } = split;
     Ok(Turned { parts, rows, kept })
 }

@@ -1,5 +1,6 @@
 mod Runs
 mod Faults
+pub mod Streamed
 mod Whole
 pub mod Reported
 mod FirstVersion

@@ -4,6 +4,7 @@
 mod in_turn;
 mod laws;
 mod sequential;
+mod streaming;
 mod tallying;
 
 pub use in_turn::run_in_turn;
@@ -12,4 +13,5 @@ pub use laws::{
     the_window_of_all_is_the_run,
 };
 pub use sequential::run_one;
+pub use streaming::stream_run;
 pub use tallying::tally_run;

@@ -8,6 +8,7 @@ ghost use Rattle.windows.specs.WorldOf.{states_in};
 ghost use Rattle.windows.specs.Handling.{Handles, WearsReceiver};
 
 use crate::setting::Setting;
+use crate::steps::in_parts;
 use base::{MemberId, Memory};
 use member::{Effects, Event, Member, StepError};
 use std::alloc::Global;
@@ -78,7 +79,7 @@ impl OwnMembers {
         let Some(member) = &mut self.slots[receiver] else {
             return Ok(());
         };
-        member.step(alloc, event, setting.scenario, setting.links, out)
+        member.step(alloc, in_parts(event), setting.scenario, setting.links, out)
     }
 }
 

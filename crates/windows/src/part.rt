@@ -17,7 +17,7 @@ ghost use Rattle.windows.specs.Wears.{WearsInWindow};
 
 use crate::own_members::OwnMembers;
 use crate::setting::Setting;
-use crate::steps::run_from;
+use crate::steps::{in_parts, run_from};
 use base::{Key, MemberId, Memory, Moment};
 use links::Links;
 use member::{Content, Event, Member, StepError};
@@ -192,7 +192,7 @@ pub(crate) fn push<Q: EventQueue<Event>>(queue: &mut Q, event: Event) -> Result<
     requires { contains_key (contents_in (Q.set queue.old)) event.key ≡ false }
     ensures { OnOk result (contents_in (Q.set queue.new) ≡ insert (contents_in (Q.set queue.old)) event.key event.content) }
 {
-    match queue.push(event) {
+    match queue.push(in_parts(event)) {
         Ok(()) => Ok(()),
         Err(_) => Err(Memory),
     }

@@ -29,11 +29,12 @@ impl Gate for Counting {
     }
 }
 
-/// Runs the scenario by one worker and by so many parts, with these members in each.
+/// Runs the scenario by so many workers and parts, with these members in each.
 fn run_counted(
     rt: &(impl Abort + AllocGlobal + Threads + Wait + Sync),
     gate: &Counting,
     text: &str,
+    workers: usize,
     parts: u8,
     part_of: &[u8],
     trace: &mut MemorySink,
@@ -53,7 +54,7 @@ fn run_counted(
     assert!(rt; trace.failures() < 1 << 62);
     let mut report = MemorySink::new(rt.alloc());
     assert!(rt; report.failures() < 1 << 62);
-    let workers = Workers::new(1).expect(rt, "workers");
+    let workers = Workers::new(workers).expect(rt, "workers");
     run(
         rt,
         rt.alloc(),
@@ -66,17 +67,18 @@ fn run_counted(
     )
 }
 
-/// Nothing bounds the window of one part alone but the end.
+/// One worker runs the scenario as one part, whatever its division is, and tells nobody of it.
 #[test]
-fn one_part_has_one_window(rt: HostRuntime) {
+fn one_worker_tells_no_gate(rt: HostRuntime) {
     let gate = Counting {
         entered: AtomicU64::new(0),
     };
     let mut trace = MemorySink::new(rt.alloc());
-    let outcome = run_counted(&rt, &gate, CRASH_DETECTED.scenario, 1, &[0, 0], &mut trace);
+    let text = CRASH_DETECTED.scenario;
+    let outcome = run_counted(&rt, &gate, text, 1, 2, &[0, 1], &mut trace);
     assert!(rt; outcome.is_ok());
     assert_eq!(rt; trace.bytes(), CRASH_DETECTED.trace.as_bytes());
-    assert_eq!(rt; gate.entered.load(Ordering::SeqCst), 1);
+    assert_eq!(rt; gate.entered.load(Ordering::SeqCst), 0);
 }
 
 /// Four sites of two members a hundred ticks apart, in each of which a message takes one tick.
@@ -96,7 +98,7 @@ fn parts_of_far_sites_have_few_windows(rt: HostRuntime) -> Result<(), Fail> {
     };
     let mut trace = MemorySink::new(rt.alloc());
     let by_site = [0, 0, 1, 1, 2, 2, 3, 3];
-    let outcome = run_counted(&rt, &gate, FOUR_SITES, 4, &by_site, &mut trace);
+    let outcome = run_counted(&rt, &gate, FOUR_SITES, 2, 4, &by_site, &mut trace);
     assert!(rt; outcome.is_ok());
     let scenario = read(rt.alloc(), FOUR_SITES.as_bytes())?;
     let mut one_trace = MemorySink::new(rt.alloc());
@@ -104,7 +106,8 @@ fn parts_of_far_sites_have_few_windows(rt: HostRuntime) -> Result<(), Fail> {
     let as_one = run_by(&rt, Way::AsOne, &scenario, &mut one_trace, &mut one_report);
     assert_eq!(rt; as_one, outcome);
     assert!(rt; trace.bytes() == one_trace.bytes());
-    assert!(rt; gate.entered.load(Ordering::SeqCst) < 200);
+    let entered = gate.entered.load(Ordering::SeqCst);
+    assert!(rt; 4 < entered && entered < 200, "entered {entered} times");
     Ok(())
 }
 

@@ -1,5 +1,5 @@
 use Rattle.std.proofs.Common.{◌<◌, ◌++◌, eqb, not, vec_len, length, map, All, count_by, ap, ◌∙◌, sym, subst}
-use Rattle.std.specs.List.{slice_get, flat_map, filter}
+use Rattle.std.specs.List.{slice_get, flat_map}
 use Rattle.std.proofs.lemmas.List.Elements.{All-from_recursion}
 use Rattle.base.specs.Rising.{IsRising, IsPlaceBefore, AreNew}
 use Rattle.member.specs.Places.{place_of}
@@ -8,7 +8,7 @@ use Rattle.member.specs.StateOf.{pair_of}
 use Rattle.windows.specs.Parts.{for_own, is_in}
 use Rattle.windows.specs.WorldOf.{world_of}
 use Rattle.horizons.specs.Between.{part_number}
-use Rattle.turns.specs.Parts.{is_before, IsLeastMoment, IsInRowOrder, HaveCome, HaveTheirMembers}
+use Rattle.turns.specs.Parts.{IsLeastMoment, IsInRowOrder, HaveCome, HaveTheirMembers}
 use Rattle.turns.proofs.RowOrders.{when_true, one_alone, windows_rise}
 use Rattle.turns.proofs.After.{new_to_parts, members_after, named_out, count_after}
 use Rattle.turns.proofs.turns.exchanged.Goals as goal
@@ -60,6 +60,6 @@ returns g c =
       order = subst (λ l. IsInRowOrder l c.in_ok-rows.rows.items) c.in_ok-gathered.ensures.rows c.in_ok-rows.ensures;
       least = c.least_moment-first.result;
       first = subst (λ l. IsLeastMoment set l c.least_moment-first.result) c.deref-3.ensures.value c.least_moment-first.ensures;
-      released_are = c.in_ok-split.ensures.before ∙ ap (filter (is_before c.least_moment-first.result)) c.deref-4.ensures.value;
-      kept_are = c.in_ok-split.ensures.others ∙ ap (filter (λ row. not (is_before c.least_moment-first.result row))) c.deref-4.ensures.value;
+      released_are = c.in_ok-split.ensures.before;
+      kept_are = c.in_ok-split.ensures.others;
     }

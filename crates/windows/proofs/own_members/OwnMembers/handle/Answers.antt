@@ -1,8 +1,14 @@
-use Rattle.std.proofs.Common.{◌<◌, length, ap, ◌∙◌, refl, arith}
+use Rattle.std.proofs.Common.{◌<◌, length, ap, ◌∙◌, sym, subst, refl, arith}
+use Rattle.std.specs.Result.{OnOk}
 use Rattle.std.specs.Option.{option_map}
 use Rattle.std.specs.FinMap.{insert}
 use Rattle.std.proofs.lemmas.Option.{slice_get_read}
 use Rattle.member.specs.StateOf.{state_of}
+use Rattle.member.specs.Here.{HoldsMembers}
+use Rattle.member.specs.Step.{step}
+use Rattle.member.specs.Steps.{Steps}
+use Rattle.member.specs.Worn.{IsWorn}
+use Rattle.member.specs.declared.event.Event.{Event}
 use Rattle.windows.proofs.Slots.{by_place, nobody_past, receiver_at, put_at, put_back}
 use Rattle.windows.proofs.Deliveries.{if_ok, handled_by, handled_by_none}
 use Rattle.windows.proofs.own_members.OwnMembers.handle.Goals as goal
@@ -34,7 +40,8 @@ step-requires-clause-known c =
     let count = c.len.ensures in
     let within : i < length slots = omega (arith, low, count) in
     let here = slice_get_read slots (length slots) i c.index_mut.result.now refl within c.index_mut.ensures.value in
-    c.requires.known (state_of c.in-Some.member) (receiver_at slots i c.args.event.key.to c.index_mut.result.now c.receiver_of-receiver.ensures here ∙ ap (option_map state_of) c.in-Some.is)
+    subst (λ (event : Event). HoldsMembers c.args.setting.now.scenario.now event.key.to (state_of c.in-Some.member)) (sym c.in_parts.ensures)
+    (c.requires.known (state_of c.in-Some.member) (receiver_at slots i c.args.event.key.to c.index_mut.result.now c.receiver_of-receiver.ensures here ∙ ap (option_map state_of) c.in-Some.is))
 
 pub returns-clause-ok : goal.returns-clause-ok
 returns-clause-ok c =
@@ -47,7 +54,8 @@ returns-clause-ok c =
     let within : i < length slots = omega (arith, low, count) in
     let here = slice_get_read slots (length slots) i c.index_mut.result.now refl within c.index_mut.ensures.value in
     let t = state_of c.in-Some.member in
-    if_ok c.step.result c.step.ensures.ok (λ steps.
+    let made = subst (λ (e : Event). OnOk c.step.result (Steps s e c.in-Some.member c.step.new.self c.args.out.now c.step.new.out)) c.in_parts.ensures c.step.ensures.ok in
+    if_ok c.step.result made (λ steps.
     handled_by s event _ _ c.args.out.now c.step.new.out t (receiver_at slots i event.key.to c.index_mut.result.now c.receiver_of-receiver.ensures here ∙ ap (option_map state_of) c.in-Some.is)
     (put_at slots i c.step.new.self within ∙ ap (λ q. insert (by_place slots) q (state_of c.step.new.self)) c.receiver_of-receiver.ensures ∙ ap (insert (by_place slots) event.key.to) steps.state)
     steps.events steps.rows)
@@ -63,5 +71,6 @@ returns-clause-worn c = λ worn.
     record {
       member = state_of c.in-Some.member;
       there = receiver_at slots i c.args.event.key.to c.index_mut.result.now c.receiver_of-receiver.ensures here ∙ ap (option_map state_of) c.in-Some.is;
-      worn = c.step.ensures.worn worn;
+      worn =
+          subst (λ (e : Event). IsWorn (step c.args.setting.now.scenario.now e.key e.content (state_of c.in-Some.member)).state) c.in_parts.ensures (c.step.ensures.worn worn);
     }

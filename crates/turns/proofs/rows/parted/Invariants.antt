@@ -1,7 +1,7 @@
 use Rattle.std.proofs.Common.{◌≡◌, not, take}
 use Rattle.std.specs.List.{filter}
 use Rattle.turns.specs.Parts.{is_before}
-use Rattle.turns.proofs.rows.released.Given as goal
+use Rattle.turns.proofs.rows.parted.Given as goal
 
 abbrev pub invariant-loop-row : goal.invariant-loop-row
 invariant-loop-row l = record {
