@@ -106,12 +106,12 @@ fn run_into<A: Sink, G: Gate, R: Threads + Wait + Sync>(
     ensures sound { IsSound scenario.now }
 {
     let _end = scenario.end();
-    let hands = workers.count().min(division.parts());
-    if hands == 1 {
+    if workers.count() == 1 {
         return stream_run(alloc, scenario, trace);
     }
     let links = Links::of(alloc, scenario)?;
     let parts = open_wheels(alloc, scenario, division)?;
+    let hands = workers.count().min(division.parts());
     by_crew(
         rt, alloc, parts, hands, gate, scenario, &links, division, trace,
     )

@@ -81,6 +81,20 @@ fn one_worker_tells_no_gate(rt: HostRuntime) {
     assert_eq!(rt; gate.entered.load(Ordering::SeqCst), 0);
 }
 
+/// Nothing bounds the window of one part alone but the end.
+#[test]
+fn one_part_has_one_window(rt: HostRuntime) {
+    let gate = Counting {
+        entered: AtomicU64::new(0),
+    };
+    let mut trace = MemorySink::new(rt.alloc());
+    let text = CRASH_DETECTED.scenario;
+    let outcome = run_counted(&rt, &gate, text, 2, 1, &[0, 0], &mut trace);
+    assert!(rt; outcome.is_ok());
+    assert_eq!(rt; trace.bytes(), CRASH_DETECTED.trace.as_bytes());
+    assert_eq!(rt; gate.entered.load(Ordering::SeqCst), 1);
+}
+
 /// Four sites of two members a hundred ticks apart, in each of which a message takes one tick.
 const FOUR_SITES: &str = scenario_text!(
     end 3000, seed 5, period 100, timeout 30, spread 100, delay 100;
