@@ -1,4 +1,4 @@
-ghost use Rattle.std.specs.Prelude.{◌≡◌, ◌+◌, ◌++◌, ◌<◌, ◌≤◌, ◌^◌, [], true, length, List, Option, OnOk, OnErr, IsErr, IsErrOf, All, ℕ};
+ghost use Rattle.std.specs.Prelude.{◌≡◌, ◌≢◌, ◌+◌, ◌++◌, ◌<◌, ◌≤◌, ◌^◌, [], true, length, List, Option, OnOk, OnErr, IfErr, IsErr, IsErrOf, All, ℕ};
 ghost use Rattle.std.specs.Io.KnownBytes.{Appends};
 ghost use Rattle.trace.specs.Text.{NamesMembers, rows_text};
 ghost use Rattle.trace.specs.Sinks.{AppendsBeginning};
@@ -53,11 +53,12 @@ pub fn write_stream<A: Sink>(
     unreachable!()
 }
 
-/// Writes the header of the trace.
+/// Writes the header of the trace. Faults: `Memory`; `Write` where the sink failed.
 pub fn begin_trace<A: Sink>(trace: &mut A) -> Result<(), Fault>
     requires countable { A.failed trace.old < 2 ^ 63 }
     ensures written { (s : _) → HasWritten s [] (A.held trace.old) (A.held trace.new) [] result }
     ensures failures { A.failed trace.new ≡ A.failed trace.old + sink_failures result }
+    ensures relay { IfErr result (λ fault. fault ≢ Fault.Relay) }
 {
     match write_head(trace) {
         Ok(()) => Ok(()),
@@ -103,6 +104,7 @@ pub fn write_batch<A: Sink>(
     ensures part { OnErr result (AppendsBeginning (A.held trace.old) (A.held trace.new) (rows_text scenario.now rows.now)) }
     ensures worn { IsErrOf result Fault.Worn → 2 ^ 63 ≤ length (tallied.old.tallies ++ rows.now) }
     ensures failures { A.failed trace.new ≡ A.failed trace.old + sink_failures result }
+    ensures relay { IfErr result (λ fault. fault ≢ Fault.Relay) }
 {
     tallied.add_all(rows, scenario)?;
     match write_rows(alloc, rows, scenario, trace) {

@@ -1,4 +1,4 @@
-ghost use Rattle.std.specs.Prelude.{◌≡◌, ◌⊎◌, ◌<◌, ◌^◌, IfOk, OnOk, OnErr, IsErrOf};
+ghost use Rattle.std.specs.Prelude.{◌≡◌, ◌≢◌, ◌⊎◌, ◌<◌, ◌^◌, IfOk, OnOk, IfErr, OnErr, IsErrOf};
 ghost use Rattle.std.specs.Io.KnownBytes.{Appends};
 ghost use Rattle.scenario.specs.Setup.{IsSound};
 ghost use Rattle.links.specs.Arrival.{AreLinksOf};
@@ -40,7 +40,7 @@ pub fn stream_run<A: Sink>(
     ensures worn { IsErrOf result Fault.Worn → WearsOut scenario.now ⊎ WearsOutReport scenario.now }
     ensures write { IsErrOf result Fault.Write → A.failed trace.old < A.failed trace.new }
     ensures unfailed { OnOk result (A.failed trace.new ≡ A.failed trace.old) }
-    ensures relay { IsErrOf result Fault.Relay → A.failed trace.new ≡ A.failed trace.old }
+    ensures relay { IfErr result (λ fault. fault ≢ Fault.Relay) }
 {
     let _end = scenario.end();
     let links = Links::of(alloc, scenario)?;
@@ -69,7 +69,7 @@ fn stream_windows<A: Sink, Q: EventQueue<Event> + Drop>(
     ensures worn { IsErrOf result Fault.Worn → WearsOut scenario.now ⊎ WearsOutReport scenario.now }
     ensures write { IsErrOf result Fault.Write → A.failed trace.old < A.failed trace.new }
     ensures unfailed { OnOk result (A.failed trace.new ≡ A.failed trace.old) }
-    ensures relay { IsErrOf result Fault.Relay → A.failed trace.new ≡ A.failed trace.old }
+    ensures relay { IfErr result (λ fault. fault ≢ Fault.Relay) }
 {
     let mut tallied = Tallied::new(alloc)?;
     begin_trace(trace)?;
