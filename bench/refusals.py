@@ -4,7 +4,7 @@
     bench/refusals.py [--program FILE] [--scenario FILE]
 
 The program is the one that ./swimsim has built, or FILE; nothing of it is built here. The scenario is one in which a
-join, a crash, losses, relays, suspicions and refutations meet, or FILE. `check`, and `run` by one part and by three,
+join, a crash, losses, relays, suspicions and refutations meet, or FILE. `check`, and `run` by one worker and by three,
 are called with the first allocation refused, then with the second, and so on until a call needs no more. Each must end
 well, with all that it writes without a refusal, or with status 5: nothing on standard output, `swimsim: memory` or
 `swimsim: run F1` on standard error, a beginning of the trace, and nothing of the report unless the whole trace is
@@ -142,8 +142,8 @@ def main():
         if options.scenario is None:
             scenario.write_text(SCENARIO)
         refuse_each([program, 'check', scenario], folder)
-        for parts in '1', '3':
-            words = [program, 'run', scenario, '--trace', folder / 't.csv', '--report', folder / 'r.txt', '--parts', parts]
+        for workers in '1', '3':
+            words = [program, 'run', scenario, '--trace', folder / 't.csv', '--report', folder / 'r.txt', '--workers', workers]
             refuse_each(words, folder)
 
 
