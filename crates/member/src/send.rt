@@ -83,6 +83,9 @@ impl Member {
         ensures state { IsMade result (state_of self.new) (with_picks here.now.scenario.now buddy (state_of self.old)) }
         ensures kept { OnOk result (KnowsMembers here.now self.new) }
     {
+        if buddy.is_none() && self.buffer.is_empty() {
+            return Ok(Updates::of(Vec::new(here.alloc)));
+        }
         let swim = here.scenario.swim();
         let limit = swim.lambda * u64::from(digits(self.live_members(here)));
         let updates = self.buffer.pick(swim.carry as usize, limit, buddy)?;

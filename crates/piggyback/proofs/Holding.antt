@@ -1,10 +1,12 @@
 -- A buffer's entries and the map that they stand for.
-use Rattle.std.proofs.Common.{◌≡◌, ℕ, ◌≤◌, Bool, true, cond, eqb, List, ◌++◌, map, filter, take, Option, Some, Result, Ok, Err, OnOk, OnErr, sym, ap, subst, ◌∙◌}
+use Rattle.std.proofs.Common.{◌≡◌, ℕ, ◌≤◌, Bool, true, false, cond, eqb, List, [], ◌∷◌, ◌++◌, map, filter, take, Option, Some, None, Result, Ok, Err, OnOk, OnErr, sym, ap, subst, ◌∙◌, refl}
 use Rattle.std.specs.List.{count_by}
 use Rattle.std.specs.Ordering.{nat_cmp, eq_by_cmp}
-use Rattle.std.specs.Option.{option_to_list, option_and_then}
+use Rattle.std.specs.Option.{is_some, option_to_list, option_and_then}
 use Rattle.std.specs.Cmp.{nat_cmp_total}
-use Rattle.std.specs.FinMap.{from_entries, values, get, insert, get-entries, get-from_entries, get-insert, same_map, nat_cmp-IsAntisymmetric}
+use Rattle.std.specs.FinMap.{from_entries, empty, values, get, insert, get-empty, get-entries, get-from_entries, get-insert, same_map, nat_cmp-IsAntisymmetric}
+use Rattle.std.proofs.lemmas.Bool.{false≢true, eq-eqb}
+use Rattle.std.proofs.Math.Seq.{take-nil}
 use Rattle.std.specs.FinMap.Entries as by
 use Rattle.incarnation.specs.declared.Update.{Update}
 use Rattle.piggyback.specs.Picked.{Counted, HeldUpdates, IsOwn, left_after, is_candidate, in_order, picked}
@@ -22,6 +24,17 @@ held_by these = from_entries (keyed these)
 
 pub get-keyed : (these : List Counted) (subject : ℕ) → get (held_by these) subject ≡ found_of subject these
 get-keyed these subject = get-from_entries nat_cmp_total (keyed these) subject
+
+-- it is empty where there are no entries, and only there
+pub empty-keyed : (these : List Counted) → these ≡ [] → held_by these ≡ empty
+empty-keyed these none = ap held_by none
+
+pub keyed-empty : (these : List Counted) → held_by these ≡ empty → these ≡ []
+keyed-empty [] none = refl
+keyed-empty (x ∷ these) none =
+    let subject = x.0.subject in
+    let first = ap (λ b. cond b (Some x) (found_of subject these)) (ties subject subject ∙ eq-eqb subject subject refl) in
+    absurd (false≢true (ap is_some (sym (get-empty nat_cmp subject) ∙ ap (λ held. get held subject) (sym none) ∙ get-keyed (x ∷ these) subject ∙ first)))
 
 -- it is the one in which the same stands of each subject
 map_is : (these : List Counted) (held : HeldUpdates) → ((subject : ℕ) → found_of subject these ≡ get held subject) → held_by these ≡ held
@@ -83,3 +96,11 @@ picked-keyed these carry limit buddy ordered =
 pub once-keyed : (these : List Counted) (carry limit : ℕ) (buddy : Option Update) (subject : ℕ) → count_by (λ (update : Update). eqb update.subject subject) (picked (held_by these) carry limit buddy) ≤ 1
 once-keyed these carry limit buddy subject =
     picked_once (values (held_by these)) (rising-values (held_by these) (own-held these)) limit carry buddy subject
+
+-- where there are no updates none is picked but the buddy, and none is left
+pub picked-empty : (held : HeldUpdates) (carry limit : ℕ) (buddy : Option Update) → held ≡ empty → is_some buddy ≡ false → picked held carry limit buddy ≡ []
+picked-empty held carry limit None none alone = ap (λ h. picked h carry limit None) none ∙ sym (picked-keyed [] carry limit None refl) ∙ take-nil carry
+picked-empty held carry limit (Some buddy) none alone = absurd (false≢true (sym alone))
+
+pub left-empty : (held : HeldUpdates) (updates : List Update) (limit : ℕ) → held ≡ empty → left_after held updates limit ≡ held
+left-empty held updates limit none = ap (λ h. left_after h updates limit) none ∙ sym (held-sent updates limit [] [] record { ordered = refl; stands = λ subject. refl }) ∙ sym none

@@ -3,7 +3,7 @@
 //! Buddy System).
 #![tactic(auto)]
 
-ghost use Rattle.std.specs.Prelude.{◌≡◌, ℕ, ◌≤◌, ◌==◌, IsSome, IfSome, IsOk, IfOk, OnOk, OnErr, IsOkAnd, vec_len, count_by};
+ghost use Rattle.std.specs.Prelude.{◌≡◌, ℕ, ◌≤◌, ◌==◌, ◌↔◌, IsTrue, IsSome, IfSome, IsOk, IfOk, OnOk, OnErr, IsOkAnd, vec_len, count_by};
 ghost use Rattle.std.specs.FinMap.{empty, get, insert};
 ghost use Rattle.piggyback.specs.Picked.{picked, left_by_pick};
 
@@ -87,6 +87,13 @@ impl Buffer {
         let updates = picked_of(alloc, &self.entries, carry, limit, buddy)?;
         count_sent(&mut self.entries, &updates, limit);
         Ok(updates)
+    }
+
+    /// Whether it has no updates.
+    pub fn is_empty(&self) -> bool
+        ensures { IsTrue result ↔ (self.now ≡ empty) }
+    {
+        self.entries.is_empty()
     }
 
     /// The update about a member, if there is one, and how often it was sent.

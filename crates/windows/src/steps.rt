@@ -1,8 +1,7 @@
-ghost use Rattle.std.specs.Prelude.{◌≡◌, ◌+◌, ◌<◌, ◌≤◌, ◌++◌, ◌∷◌, [], false, map, Some, All, IfOk, IfSome, IfNone, OnOk, IsErrOf};
+ghost use Rattle.std.specs.Prelude.{◌≡◌, ◌+◌, ◌<◌, ◌≤◌, ◌++◌, ◌∷◌, [], false, map, Some, All, IfOk, OnOk, IsErrOf};
 ghost use Rattle.std.specs.Bool.{OnTrue, OnFalse};
 ghost use Rattle.std.specs.List.{list_all};
-ghost use Rattle.std.specs.FinMap.{get, contains_key, remove};
-ghost use Rattle.base.specs.Run.{IsFirst};
+ghost use Rattle.std.specs.FinMap.{get, contains_key};
 ghost use Rattle.base.specs.World.{with_events, events_of};
 ghost use Rattle.base.specs.Rising.{AreNew};
 ghost use Rattle.scenario.specs.Setup.{IsSound, member_count};
@@ -22,7 +21,7 @@ ghost use Rattle.windows.specs.Handling.{HandlesTaken, WearsReceiver, Advances, 
 use crate::own_members::OwnMembers;
 use crate::part::{Done, Part, push};
 use crate::setting::Setting;
-use base::{Key, Memory, Moment};
+use base::{Key, Memory};
 use member::{Effects, Event, StepError};
 use std::alloc::Global;
 use worker_queue::EventQueue;
@@ -84,26 +83,12 @@ fn advance<Q: EventQueue<Event>>(
     ensures number { OnOk result (part.new.number ≡ part.old.number) }
     ensures worn { IsErrOf result StepError.Worn → WearsInWindow setting.now.scenario.now setting.now.bound (world_of Q.set part.old) }
 {
-    let event = match take_below(&mut part.queue, setting.bound) {
+    let event = match part.queue.pop_below(setting.bound) {
         Some(event) => event,
         None => return Ok(false),
     };
     handle_taken(alloc, part, event, setting, spare, out)?;
     Ok(true)
-}
-
-/// Takes out the event with the least key, if its moment is below the bound, with its key put together anew.
-fn take_below<Q: EventQueue<Event>>(queue: &mut Q, bound: Moment) -> Option<Event>
-    ensures first { IfSome result (λ event. IsFirst (Q.set queue.old) event.key event) }
-    ensures below { IfSome result (λ event. event.key.at < bound) }
-    ensures taken { IfSome result (λ event. Q.set queue.new ≡ remove (Q.set queue.old) event.key) }
-    ensures none { IfNone result (NoneIsBelow (Q.set queue.old) bound) }
-    ensures unchanged { IfNone result (Q.set queue.new ≡ Q.set queue.old) }
-{
-    match queue.pop_below(bound) {
-        Some(event) => Some(in_parts(event)),
-        None => None,
-    }
 }
 
 /// Handles an event that was just taken out of the part's queue. What its receiver makes for members of

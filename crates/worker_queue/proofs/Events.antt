@@ -1,5 +1,5 @@
 -- A tree of events as a set.
-use Rattle.std.proofs.Common.{◌≡◌, ℕ, ◌+◌, ◌≤◌, ◌<◌, Bool, true, false, cond, List, [], ◌∷◌, Option, Some, None, Ok, Err, Result, OnOk, OnErr, IfSome, IsTrue, nat_eq, length, ap, ◌∙◌, sym, refl, arith}
+use Rattle.std.proofs.Common.{◌≡◌, ℕ, ◌+◌, ◌≤◌, ◌<◌, Bool, true, false, cond, List, [], ◌∷◌, Option, Some, None, Ok, Err, Result, OnOk, OnErr, IfSome, IsTrue, nat_eq, length, ap, ◌∙◌, sym, subst, refl, arith}
 use Rattle.std.specs.Option.{is_some, IsSome, IfNone}
 use Rattle.std.specs.List.{AllByRecursion}
 use Rattle.std.specs.List.Sorted.{IsStrictlySortedBy}
@@ -109,7 +109,18 @@ at_most_by_cmp a b = at_most a b (nat_cmp a b) (ranks a b)
 pub above_by_cmp : (a b : ℕ) → false ≡ is_le (nat_cmp a b) → b < a
 above_by_cmp a b = above a b (nat_cmp a b) (ranks a b)
 
--- what is stated of a missing value
+-- what is stated of a value that is there, or of none
+pub at_some : {A : Type 0} (o : Option A) (x : A) (P : A → Type 0) → o ≡ Some x → IfSome o P → P x
+at_some o x P here told = subst (λ r. IfSome r P) here told
+
+pub at_none : {A : Type 0} (o : Option A) (P : Type 0) → o ≡ None → IfNone o P → P
+at_none o P here told = subst (λ r. IfNone r P) here told
+
+-- what follows from two things that are stated of the value, if it is there
+pub if_both : {A : Type 0} (o : Option A) {P Q R : A → Type 0} → IfSome o P → IfSome o Q → ((x : A) → P x → Q x → R x) → IfSome o R
+if_both None p q f = tt
+if_both (Some x) p q f = f x p q
+
 pub if_none : {A : Type 0} (o : Option A) (P : Type 0) → P → IfNone o P
 if_none None P given = given
 if_none (Some x) P given = tt

@@ -251,3 +251,13 @@ module _ {E : Type 0} where
   pub some_left : (m : FinMap {K = Key} key_cmp E) (k : Key) (e : E) (count : ℕ) → get m k ≡ Some e → count ≡ len m → 0 < count
   some_left m k e zero here counted = absurd (not_in_empty m k (empty_of_len m (sym counted)) (ap is_some here))
   some_left m k e (suc count) here counted = omega arith
+
+  -- the same of what a pop gave, if it gave an event
+  pub one_less_popped : (key : E → Key) (m n : FinMap {K = Key} key_cmp E) (popped : Option E) (count : ℕ) → true ≡ is_some popped → IfSome popped (λ e. IsFirst m (key e) e) → IfSome popped (λ e. n ≡ remove m (key e)) → count ≡ len m
+      → count - 1 ≡ len n
+  one_less_popped key m n None count some first taken counted = absurd (false≢true (sym some))
+  one_less_popped key m n (Some e) count some first taken counted = one_less m n (key e) e count taken first.here counted
+
+  pub left_of_popped : (key : E → Key) (m : FinMap {K = Key} key_cmp E) (popped : Option E) (count : ℕ) → true ≡ is_some popped → IfSome popped (λ e. IsFirst m (key e) e) → count ≡ len m → 0 < count
+  left_of_popped key m None count some first counted = absurd (false≢true (sym some))
+  left_of_popped key m (Some e) count some first counted = some_left m (key e) e count first.here counted

@@ -79,10 +79,11 @@ impl<E: Keyed + Drop> Stores<E> {
         ensures unchanged { IfNone result (all_in E.key self.new ≡ all_in E.key self.old) }
     {
         let limit = self.limit(bound);
-        match self.wheel.pop_before(&limit) {
-            Some(event) => Some(event),
-            None => self.pop_late(bound, &limit),
+        let popped = self.wheel.pop_before(&limit);
+        if popped.is_some() {
+            return popped;
         }
+        self.pop_late(bound, &limit)
     }
 
     /// Takes out the first of the late events, if its moment is below the bound. No event in a slot comes

@@ -112,11 +112,13 @@ impl<E: Keyed + Drop> Wheel<E> {
         ensures none { IfNone result (NoneIsBefore (events_in E.key self.old.slots.items) limit.now) }
         ensures unchanged { IfNone result (events_in E.key self.new.slots.items ≡ events_in E.key self.old.slots.items) }
     {
-        let event = self.slots[place].pop_before(limit)?;
-        let is_empty = self.slots[place].is_empty();
-        self.marks.clear_if(place, is_empty);
-        self.base = event.key().at.ticks();
-        Some(event)
+        let popped = self.slots[place].pop_before(limit);
+        if let Some(event) = &popped {
+            let is_empty = self.slots[place].is_empty();
+            self.marks.clear_if(place, is_empty);
+            self.base = event.key().at.ticks();
+        }
+        popped
     }
 
     /// Spans the moments from this one on, unless it does so from a later one on. It has no earlier event.

@@ -48,9 +48,11 @@ impl<E: Keyed + Drop> EventQueue<E> for WheelQueue<E> {
     }
 
     fn pop_below(&mut self, bound: Moment) -> Option<E> {
-        let event = self.stores.pop_below(bound)?;
-        self.count -= 1;
-        Some(event)
+        let popped = self.stores.pop_below(bound);
+        if popped.is_some() {
+            self.count -= 1;
+        }
+        popped
     }
 
     fn len(&self) -> usize {
