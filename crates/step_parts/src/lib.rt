@@ -3,6 +3,8 @@
 #![tactic(auto)]
 
 #[cfg(test)]
+mod draws;
+#[cfg(test)]
 mod lifeguard_tests;
 #[cfg(test)]
 mod membership_tests;

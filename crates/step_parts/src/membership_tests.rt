@@ -1,3 +1,4 @@
+use crate::draws::Draws;
 use base::{MemberId, Memory};
 use incarnation::{Claim, Update};
 use membership::{Table, does_override, is_confirm, is_suspect};
@@ -65,4 +66,62 @@ fn claims_are_told_apart(rt: HostRuntime) {
     );
     assert!(rt; does_override((Claim::Suspect, 3), (Claim::Alive, 3)));
     assert!(rt; !does_override((Claim::Alive, 3), (Claim::Suspect, 3)));
+}
+
+// Changes what is held of one member in both forms.
+fn change_both(
+    table: &mut Table,
+    plain: &mut [Option<(Claim, u64)>],
+    draws: &mut Draws,
+) -> Result<(), Memory> {
+    let member = MemberId(draws.below(40) as u16);
+    let held = match draws.below(5) {
+        0 => None,
+        1 => Some((Claim::Confirm, draws.below(4))),
+        2 => Some((Claim::Suspect, draws.below(4))),
+        _ => Some((Claim::Alive, draws.below(4))),
+    };
+    if let Some(place) = plain.get_mut(member.index()) {
+        *place = held;
+    }
+    match held {
+        Some(held) => table.set(member, held),
+        None => {
+            table.remove(member);
+            Ok(())
+        }
+    }
+}
+
+// Whether the same is held of each member, and as many are counted.
+fn are_same(table: &Table, plain: &[Option<(Claim, u64)>]) -> bool {
+    let mut live: usize = 1;
+    for number in 0..40u16 {
+        let member = MemberId(number);
+        let held = match plain.get(member.index()) {
+            Some(held) => *held,
+            None => None,
+        };
+        if table.get(member) != held {
+            return false;
+        }
+        if let Some(held) = held
+            && held.0 != Claim::Confirm
+        {
+            live = live.saturating_add(1);
+        }
+    }
+    table.live_count() == live
+}
+
+#[test]
+fn both_forms_hold_the_same(rt: HostRuntime) -> Result<(), Fail> {
+    let mut table = Table::new(rt.alloc());
+    let mut plain = [None; 40];
+    let mut draws = Draws::new(11);
+    for call in 0..2000u64 {
+        change_both(&mut table, &mut plain, &mut draws)?;
+        assert!(rt; are_same(&table, &plain), "call {call}");
+    }
+    Ok(())
 }

@@ -1,5 +1,4 @@
-ghost use Rattle.std.specs.Prelude.{◌<◌};
-
+use crate::draws::Draws;
 use crate::plain::Plain;
 use base::{MemberId, Memory};
 use incarnation::{Claim, Update};
@@ -152,25 +151,6 @@ fn a_refusal_changes_nothing(rt: HostRuntime) -> Result<(), Fail> {
     Ok(())
 }
 
-// What a call of the two forms is drawn from.
-#[derive(Drop)]
-struct Draws {
-    word: u64,
-}
-
-impl Draws {
-    fn below(&mut self, bound: u64) -> u64
-        requires { 0 < bound }
-        ensures { result < bound }
-    {
-        self.word = self
-            .word
-            .wrapping_mul(6_364_136_223_846_793_005)
-            .wrapping_add(1_442_695_040_888_963_407);
-        (self.word >> 33) % bound
-    }
-}
-
 // Puts one update into both forms.
 fn put_both(buffer: &mut Buffer, plain: &mut Plain, draws: &mut Draws) -> Result<(), Memory> {
     let update = Update {
@@ -203,7 +183,7 @@ fn pick_both(
 fn both_forms_carry_the_same(rt: HostRuntime) -> Result<(), Fail> {
     let mut buffer = Buffer::new(rt.alloc())?;
     let mut plain = Plain::new(rt.alloc());
-    let mut draws = Draws { word: 7 };
+    let mut draws = Draws::new(7);
     for call in 0..4000u64 {
         if draws.below(5) < 2 {
             put_both(&mut buffer, &mut plain, &mut draws)?;
