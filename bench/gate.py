@@ -1,14 +1,15 @@
 #!/usr/bin/env python3
-"""Runs the gate, `.ci/run`, and tells what each crate cost of it.
+"""Runs `rt ci`, which is nearly all of what `./test` takes, and tells what each crate cost of it.
 
-    bench/gate.py [NAME..]
+    bench/gate.py [--keep] [NAME..]
 
-With names it runs `rt ci` over these crates and those below them, which isn't the gate. The gate's output is passed on as
-it comes, and its status is this command's. At the end stand the processor minutes of
-each crate: its proof; its tests, with the second proof of the crate that they take; and its must-fail edits, how many
-there are and what one cost on average, the first check of the crate over nothing included. After it come the edits
-that took longest, in seconds of a processor; a crate's first edit by name has the check of the crate over nothing in
-its figure. Linux only.
+With names it runs `rt ci` over these crates and those below them. Its output is passed on as it comes, and its status is
+this command's. At the end stand the processor minutes of each crate: its proof; its tests, with the second proof of the
+crate that they take; and its must-fail edits, how many there are and what one cost on average, the first check of the
+crate over nothing included. Then come the edits that took longest, in seconds of a processor (a crate's first edit by
+name has the check of the crate over nothing in its figure), and the longest chain of crates up to the program, by the
+minutes of their proofs. With --keep the proofs that were made in this run go into tools/minutes.txt, by which a build
+knows that chain. Linux only.
 
 Each command that the gate starts is looked at several times a second. What it used since the last look is known once it
 has ended, by what the gate's own process then has of ended children, so nothing is lost: of commands that end between
@@ -25,10 +26,18 @@ from collections import Counter
 from pathlib import Path
 
 TOP = Path(__file__).resolve().parent.parent
+sys.path.append(str(TOP / 'tools'))
+
+from schedule import crates_in, longest_chain, minutes_in  # noqa: E402
+
+MINUTES = TOP / 'tools' / 'minutes.txt'
+PROGRAM = 'swimsim'
 SECONDS_BETWEEN_LOOKS = 0.2
 TICKS_A_MINUTE = 60 * os.sysconf('SC_CLK_TCK')
 SLOWEST_EDITS = 20
 OTHER = ('other', 'proof')
+# What takes less was not proved anew, in minutes.
+LEAST_PROOF = 0.05
 
 
 def times_of(process):
@@ -124,9 +133,8 @@ class Account:
 
 
 def run_gate(names):
-    """Runs the gate to its end, or `rt ci` over some crates, and returns its status and its account."""
-    command = ['rt', 'ci', *names] if names else ['bash', '.ci/run']
-    gate = subprocess.Popen(command, cwd=TOP)
+    """Runs `rt ci` to its end, over some crates or all, and returns its status and its account."""
+    gate = subprocess.Popen(['rt', 'ci', *names], cwd=TOP, env={'RT_JOBS': str(min(4, os.cpu_count())), **os.environ})
     account = Account(gate.pid)
     while True:
         process, status, usage = os.wait4(gate.pid, os.WNOHANG)
@@ -165,11 +173,36 @@ def print_slowest(edits):
         print(f'{60 * ticks / TICKS_A_MINUTE:>8.0f}  {name}')
 
 
+def proof_minutes(used):
+    """The minutes of each proof, those that were made in this run as they took, the others as they were kept."""
+    minutes = minutes_in(MINUTES.read_text()) if MINUTES.exists() else {}
+    for (crate, kind), ticks in used.items():
+        if kind == 'proof' and crate != OTHER[0] and ticks / TICKS_A_MINUTE >= LEAST_PROOF:
+            minutes[crate] = round(ticks / TICKS_A_MINUTE, 1)
+    return minutes
+
+
+def print_chain(crates, minutes):
+    """Prints the longest chain up to the program."""
+    chain = longest_chain(crates, minutes, PROGRAM)
+    print(f'\nthe longest chain, {sum(minutes.get(it, 0.0) for it in chain):.1f} minutes: ', end='')
+    print(', '.join(f'{it} {minutes.get(it, 0.0)}' for it in chain))
+
+
+def keep(crates, minutes):
+    lines = [f'{crate} {minutes[crate]}\n' for crate in sorted(crates) if crate in minutes]
+    MINUTES.write_text('# The processor minutes of each proof, by `bench/gate.py --keep`.\n' + ''.join(lines))
+
+
 def main():
-    begin = time.monotonic()
-    status, account = run_gate(sys.argv[1:])
+    begin, words = time.monotonic(), sys.argv[1:]
+    status, account = run_gate([it for it in words if it != '--keep'])
     print_table(account.used, time.monotonic() - begin)
     print_slowest(account.edits)
+    crates, minutes = crates_in((TOP / 'crates.txt').read_text()), proof_minutes(account.used)
+    print_chain(crates, minutes)
+    if '--keep' in words:
+        keep(crates, minutes)
     sys.exit(status)
 
 

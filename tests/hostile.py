@@ -1,11 +1,11 @@
 #!/usr/bin/env python3
 """Uses the program as nobody should, and sees that no use loses data or answers a wrong status.
 
-    bench/hostile.py [--program FILE]
+    tests/hostile.py [--program FILE]
 
 The program is the one that ./swimsim has built, or FILE; nothing of it is built here. Each use has a folder of its
 own, with a scenario that takes, prints what it tried, and is wrong where it ends by a signal, answers another status than
-is wanted, or leaves other bytes. The command's status is then 1. Linux only; it takes seconds.
+is wanted, or leaves other bytes. Its last line is `N passed, M failed`. Linux only; it takes seconds.
 """
 
 import argparse
@@ -36,10 +36,10 @@ OLD = b'an older result\n'
 
 
 class Uses:
-    """Runs the uses, and counts those that went wrong."""
+    """Runs the uses, and counts them."""
 
     def __init__(self, program):
-        self.program, self.wrong = program, 0
+        self.program, self.well, self.wrong = program, 0, 0
 
     def call(self, folder, words, **how):
         """Status, standard output and error of the program; None where it didn't end within 20 seconds."""
@@ -52,6 +52,7 @@ class Uses:
     def judge(self, what, is_well, seen=''):
         """Prints what was tried, and whether it went well."""
         print(f'{"well " if is_well else "WRONG"} {what}{"" if is_well else f": {seen}"}')
+        self.well += is_well
         self.wrong += not is_well
 
 
@@ -215,7 +216,7 @@ def main():
         whole = (folder / 't').read_bytes()
         for group in (names, texts, outputs, pipes, ends, words, sizes):
             group(uses, room, whole)
-    print(f'{uses.wrong} went wrong')
+    print(f'{uses.well} passed, {uses.wrong} failed')
     sys.exit(1 if uses.wrong else 0)
 
 

@@ -1,7 +1,7 @@
 #!/usr/bin/env python3
 """Refuses each allocation of the program in turn, and sees what is left.
 
-    bench/refusals.py [--program FILE] [--scenario FILE]
+    tests/refusals.py [--program FILE] [--scenario FILE]
 
 The program is the one that ./swimsim has built, or FILE; nothing of it is built here. The scenario is one in which a
 join, a crash, losses, relays, suspicions and refutations meet, or FILE. `check`, and `run` by one worker and by three,
@@ -9,10 +9,12 @@ are called with the first allocation refused, then with the second, and so on un
 well, with all that it writes without a refusal, or with status 5: nothing on standard output, `swimsim: memory` or
 `swimsim: run F1` on standard error, a beginning of the trace, and nothing of the report unless the whole trace is
 there; or, where it was a thread that couldn't be started for it, `swimsim: run F4`, and nothing written.
-Needs gcc, for the `malloc` that refuses.
+Its last line is `N passed, M failed`, an allocation being one. It needs a C compiler, for the `malloc` that refuses;
+where there is none it is skipped.
 """
 
 import argparse
+import itertools
 import os
 import shutil
 import subprocess
@@ -107,23 +109,35 @@ def is_refusal(left, whole):
 
 
 def refuse_each(words, folder):
-    """Calls the program until no allocation is left to refuse; tells how many there are, and what was wrong."""
+    """Calls the program until no allocation is left to refuse; answers how many went well and how many wrong."""
     whole = call(words, folder)
     if whole[0] != 0:
         sys.exit(f'refusals: status {whole[0]} from {" ".join(map(str, words))}')
-    said, number, spared = folder / 'said', 0, 0
-    while True:
-        number += 1
+    said, spared, well, wrong = folder / 'said', 0, 0, 0
+    for number in itertools.count(1):
         said.unlink(missing_ok=True)
         environment = {**os.environ, 'LD_PRELOAD': str(folder / 'malloc.so'), 'REFUSED': str(number), 'SAID': str(said)}
         left = call(words, folder, environment)
         if not said.exists():
             break
-        if left == whole:
-            spared += 1
-        elif not is_refusal(left, whole):
-            sys.exit(f'refusals: {words[1]}, allocation {number}: status {left[0]}, {left[2]!r}')
-    print(f'{words[1]}: each of {number - 1} allocations refused in turn; {spared} could be done without')
+        spared += left == whole
+        if left == whole or is_refusal(left, whole):
+            well += 1
+        else:
+            wrong += 1
+            print(f'{words[1]}, allocation {number}: status {left[0]}, {left[2]!r}')
+    print(f'{words[1]}: each of {well + wrong} allocations refused in turn; {spared} could be done without')
+    return well, wrong
+
+
+def compiled_malloc(folder):
+    """Makes the library with the `malloc` that refuses, by a compiler that is there; None where there is none."""
+    compiler = next(filter(None, map(shutil.which, ('gcc', 'cc', 'clang'))), None)
+    if compiler is None:
+        return None
+    (folder / 'malloc.c').write_text(MALLOC)
+    subprocess.run([compiler, '-shared', '-fPIC', '-o', folder / 'malloc.so', folder / 'malloc.c'], check=True)
+    return folder / 'malloc.so'
 
 
 def main():
@@ -136,15 +150,17 @@ def main():
         sys.exit(f'refusals: {options.program} is not there; ./swimsim --help builds it')
     with tempfile.TemporaryDirectory() as name:
         folder = Path(name)
-        (folder / 'malloc.c').write_text(MALLOC)
-        subprocess.run(['gcc', '-shared', '-fPIC', '-o', folder / 'malloc.so', folder / 'malloc.c'], check=True)
+        if compiled_malloc(folder) is None:
+            print('no C compiler is there\n0 passed, 0 failed, 1 skipped')
+            return
         scenario = options.scenario or folder / 'scenario.toml'
         if options.scenario is None:
             scenario.write_text(SCENARIO)
-        refuse_each([program, 'check', scenario], folder)
-        for workers in '1', '3':
-            words = [program, 'run', scenario, '--trace', folder / 't.csv', '--report', folder / 'r.txt', '--workers', workers]
-            refuse_each(words, folder)
+        run = [program, 'run', scenario, '--trace', folder / 't.csv', '--report', folder / 'r.txt', '--workers']
+        counts = [refuse_each(words, folder) for words in ([program, 'check', scenario], [*run, '1'], [*run, '3'])]
+    well, wrong = map(sum, zip(*counts))
+    print(f'{well} passed, {wrong} failed')
+    sys.exit(1 if wrong else 0)
 
 
 if __name__ == '__main__':

@@ -1,0 +1,133 @@
+#!/usr/bin/env python3
+"""Sees that the program in dist/ is the one that these sources give, and that it runs on a bare machine.
+
+    tests/shipped.py
+
+The program that the proofs' run has just built, crates/swimsim/out/swimsim, is compared with the shipped one byte for
+byte. Its last line is `N passed, M failed`; `tools/dist` mends what fails here after a change of the program.
+"""
+
+import hashlib
+import os
+import re
+import shutil
+import subprocess
+import sys
+import tempfile
+import traceback
+from pathlib import Path
+
+TOP = Path(__file__).resolve().parent.parent
+BUILT = TOP / 'crates' / 'swimsim' / 'out' / 'swimsim'
+SHIPPED = TOP / 'dist' / 'swimsim-x86_64-linux-gnu'
+PLAIN_TOOLS = ('awk', 'bash', 'cut', 'dirname', 'find', 'grep', 'readlink', 'sed', 'sha256sum', 'sort', 'tr', 'xargs')
+CRASH = ('run', 'examples/crash.toml', '--trace', 't.csv', '--report', 'r.txt')
+
+
+def bash(line):
+    """What a line prints that knows the functions of tools/sources.sh."""
+    line = f'top={TOP}; source {TOP}/tools/sources.sh; {line}'
+    return subprocess.run(['bash', '-c', line], check=True, capture_output=True, text=True).stdout.strip()
+
+
+def provenance():
+    lines = (TOP / 'dist' / 'PROVENANCE').read_text().splitlines()
+    return dict(line.split(' ', 1) for line in lines)
+
+
+def clone(room):
+    """A copy of what the repository holds, and the few plain commands that a machine without a kit has."""
+    for name in bash(f'cd {TOP} && git ls-files').splitlines():
+        (room / 'clone' / name).parent.mkdir(parents=True, exist_ok=True)
+        shutil.copy(TOP / name, room / 'clone' / name)
+    (room / 'plain').mkdir()
+    for name in PLAIN_TOOLS:
+        (room / 'plain' / name).symlink_to(shutil.which(name))
+    return room / 'clone'
+
+
+def run_bare(copy, *words):
+    """The launcher of a copy, called where there is neither a kit nor Python."""
+    environment = {'PATH': str(copy.parent / 'plain')}
+    return subprocess.run([copy / 'swimsim', *words], cwd=copy, env=environment, capture_output=True, text=True)
+
+
+def the_record_is_that_of_these_sources(_):
+    sum_of = hashlib.sha256(SHIPPED.read_bytes()).hexdigest()
+    assert provenance() == {'kit': bash('rt version'), 'sources': bash('sources_digest'), 'program': sum_of}
+
+
+def the_program_tells_its_digest_and_kit(_):
+    assert bash('release_value SOURCES') == bash('sources_digest'), 'tools/ready writes it'
+    assert bash('release_value KIT') == bash('rt version'), 'tools/ready writes it'
+    told = subprocess.run([SHIPPED, '--version'], capture_output=True, text=True).stdout
+    record = provenance()
+    assert told == f'swimsim {bash("release_value VERSION")} (sources {record["sources"]}, {record["kit"]})\n', told
+
+
+def what_was_built_is_what_is_shipped(room):
+    bash(f'strip_program {BUILT} {room / "stripped"}')
+    assert (room / 'stripped').read_bytes() == SHIPPED.read_bytes()
+
+
+def a_bare_machine_has_its_first_report(room):
+    copy = clone(room)
+    ran = run_bare(copy, *CRASH)
+    assert (ran.returncode, ran.stdout, ran.stderr) == (0, 'rows 9679\n', ''), ran
+    told = re.findall(r'^```\n(members 100\n.*?)^```$', (TOP / 'README.md').read_text(), re.M | re.S)
+    assert (copy / 'r.txt').read_text() in told, 'README shows this report'
+
+
+def a_changed_byte_is_not_run(room):
+    copy = clone(room)
+    program = copy / 'dist' / SHIPPED.name
+    changed = bytearray(program.read_bytes())
+    changed[-1] ^= 1
+    program.write_bytes(changed)
+    assert run_bare(copy, *CRASH).returncode != 0 and not (copy / 't.csv').exists()
+
+
+def changed_sources_are_not_run(room):
+    copy = clone(room)
+    with open(copy / 'crates' / 'base' / 'src' / 'lib.rt', 'a') as source:
+        source.write('// a change\n')
+    assert run_bare(copy, *CRASH).returncode != 0 and not (copy / 't.csv').exists()
+
+
+def the_manual_page_is_that_of_the_program(_):
+    page = subprocess.run([TOP / 'tools' / 'man', SHIPPED], check=True, capture_output=True, text=True).stdout
+    assert page == (TOP / 'man' / 'swimsim.1').read_text(), 'tools/dist writes it'
+
+
+def it_is_installed_where_people_look(room):
+    copy, prefix = clone(room), room / 'prefix'
+    subprocess.run([copy / 'tools' / 'install', prefix], check=True)
+    installed = prefix / 'bin' / 'swimsim'
+    assert installed.read_bytes() == SHIPPED.read_bytes() and os.access(installed, os.X_OK)
+    assert (prefix / 'share/man/man1/swimsim.1').is_file()
+    examples = sorted(it.name for it in (prefix / 'share/doc/swimsim/examples').iterdir())
+    assert examples == sorted(it.name for it in (TOP / 'examples').glob('*.toml'))
+
+
+CASES = (
+    the_record_is_that_of_these_sources, the_program_tells_its_digest_and_kit, what_was_built_is_what_is_shipped,
+    a_bare_machine_has_its_first_report, a_changed_byte_is_not_run, changed_sources_are_not_run,
+    the_manual_page_is_that_of_the_program, it_is_installed_where_people_look,
+)
+
+
+def main():
+    failed = 0
+    for case in CASES:
+        with tempfile.TemporaryDirectory() as room:
+            try:
+                case(Path(room))
+            except (AssertionError, OSError, subprocess.CalledProcessError):
+                failed += 1
+                print(f'FAILED {case.__name__}\n{traceback.format_exc()}')
+    print(f'{len(CASES) - failed} passed, {failed} failed')
+    sys.exit(1 if failed else 0)
+
+
+if __name__ == '__main__':
+    main()
