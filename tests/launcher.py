@@ -13,6 +13,7 @@ import shutil
 import subprocess
 import sys
 import tempfile
+import time
 import traceback
 from pathlib import Path
 
@@ -32,6 +33,7 @@ case $1 in
         name=$(basename "$PWD")
         echo "$name" >>"$ASKED"
         [[ $name != "${REFUSES-}" ]] || { echo "$name is refused"; exit 1; }
+        [[ $name != "${HANGS-}" ]] || { mkdir -p out/incremental; exec sleep 60; }
         mkdir -p out/rlib && echo made >out/rlib/made ;;
     run)
         echo swimsim >>"$ASKED"
@@ -142,6 +144,19 @@ def without_a_kit_a_build_fails(house):
     assert out == '' and status != 0
 
 
+def a_build_that_is_ended_stops_what_it_began(house):
+    path = f'{house.kit}:{os.environ["PATH"]}'
+    build = subprocess.Popen([house.top / 'tools' / 'build'], stderr=subprocess.DEVNULL,
+                             env={'PATH': path, 'ASKED': str(house.asked), 'HANGS': 'low'})
+    while not list(house.top.glob('crates/swimsim/out/trees/low/crates/low/out/incremental')):
+        time.sleep(0.01)
+    build.terminate()
+    assert build.wait() == 1
+    assert (house.top / 'crates' / 'low' / 'out' / 'incremental').is_dir(), 'what was done of it is kept'
+    assert not list((house.top / 'crates' / 'swimsim' / 'out' / 'trees').iterdir())
+    assert house.run('a') == ('built a\n', 0, ['low', 'high', 'swimsim'])
+
+
 def what_a_killed_build_left_is_put_back(house):
     tree = house.top / 'crates' / 'swimsim' / 'out' / 'trees' / 'low'
     (tree / 'crates' / 'low' / 'out' / 'incremental').mkdir(parents=True)
@@ -169,7 +184,8 @@ def idle_processors_are_shared_out(_):
 CASES = (
     the_shipped_program_runs_without_a_kit, a_changed_byte_of_it_is_not_run, changed_sources_are_built,
     a_changed_test_is_no_reason, from_source_takes_its_own, a_new_kit_builds_anew, a_build_tells_its_digest_and_kit,
-    a_refused_crate_is_told, without_a_kit_a_build_fails, what_a_killed_build_left_is_put_back,
+    a_refused_crate_is_told, without_a_kit_a_build_fails, a_build_that_is_ended_stops_what_it_began,
+    what_a_killed_build_left_is_put_back,
     the_longest_chain_goes_first, idle_processors_are_shared_out,
 )
 
