@@ -14,22 +14,18 @@
 //! Neither that a thread gets on, nor which of them gets a piece, is said by any clause.
 #![tactic(auto)]
 
-mod place;
 mod post;
 mod posts;
 #[cfg(test)]
 mod posts_tests;
-mod returning;
 mod rule;
 mod seats;
 mod site;
 #[cfg(test)]
 mod tests;
 
-pub use place::Place;
 pub use post::Post;
 pub use posts::{posts_at, seats_of};
-pub use returning::SameSeat;
 pub use rule::{Hand, Setting};
 pub use seats::{Board, Seat, settle};
 pub use site::Site;
