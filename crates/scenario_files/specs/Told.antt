@@ -1,0 +1,14 @@
+-- How what ended a command is told.
+use Rattle.std.specs.Prelude.{ℕ, ◌==◌, Result, Ok, Err, if◌then◌else◌}
+use Rattle.base.specs.declared.fault.Fault.{Fault}
+use Rattle.command_line.specs.declared.failure.Failure.{Failure}
+use Rattle.command_line.specs.declared.failure.Failure.TheVariants.{Rule, Run, Memory}
+
+-- a text that is refused is told by its rule, but by want of memory where that is the cause, which is rule 11
+abbrev pub text_failure : ℕ → Failure
+text_failure rule = if rule == 11 then Memory else Rule rule
+
+-- a run is told by its own fault
+abbrev pub run_told : {T : Type 0} → Result T Fault → Result T Failure
+run_told (Ok summary) = Ok summary
+run_told (Err cause) = Err (Run cause)
