@@ -1,2 +1,2 @@
 mod Divided
-mod Held
+pub mod Held

@@ -1,5 +1,5 @@
 -- The checks of a run, before its files are made.
-use Rattle.std.specs.Prelude.{◌≡◌, ◌⊎◌, ℕ, Ok}
+use Rattle.std.specs.Prelude.{◌⊎◌, ℕ, Ok}
 use Rattle.scenario.specs.Setup.{Setup, member_count}
 use Rattle.scenario.specs.Division.{Deal}
 use Rattle.command_line.specs.Division.{AsksForWorkers, Divides}
