@@ -18,6 +18,7 @@ pub fn run<'a, M: Simulator, F: Files>(
     words: RunWords<'a>,
     files: &mut F,
 ) -> Result<Summary, Failure<'a>>
+    requires { M.ready }
     ensures done { IfOk result
         (λ summary. RunsAll (F.known files.old) (F.known files.new) (F.making files.old) words.entry summary.rows) }
     ensures failed { IfErr result

@@ -14,6 +14,9 @@ use trace::Put;
 
 /// What simulates a scenario.
 pub trait Simulator {
+    /// What must be known before it simulates anything, as that other threads may use what it goes by.
+    ghost ready: { Type 0 };
+
     /// Runs a scenario by the parts of a division of its members and so many workers, writes its trace to one
     /// writer and then its report to the other, and gives both back. After a fault they have got a beginning of
     /// that.
@@ -26,6 +29,7 @@ pub trait Simulator {
         trace: T,
         report: R,
     ) -> (Put<T>, Put<R>, Result<Summary, Fault>)
+        requires ready { ready }
         requires divided { length division.now.part_of ≡ member_count scenario.now }
         ensures written { IfOk result.2 (λ summary. WritesRun scenario.now (T.contents trace) (T.contents (writer_under result.0))
             (R.contents report) (R.contents (writer_under result.1)) summary.rows) }

@@ -19,6 +19,7 @@ pub(crate) fn store_trace<'a, M: Simulator, F: Files>(
     words: RunWords<'a>,
     files: &mut F,
 ) -> Result<Summary, Failure<'a>>
+    requires ready { M.ready }
     requires divided { length prepared.now.division.part_of ≡ member_count prepared.now.scenario }
     ensures done { IfOk result (λ summary. StoresRun prepared.now.scenario (F.known files.old) (F.known files.new)
         words.entry.trace.now None summary.rows) }
@@ -52,6 +53,7 @@ pub(crate) fn store_both<'a, M: Simulator, F: Files>(
     report: &'a str,
     files: &mut F,
 ) -> Result<Summary, Failure<'a>>
+    requires ready { M.ready }
     requires divided { length prepared.now.division.part_of ≡ member_count prepared.now.scenario }
     ensures done { IfOk result (λ summary. StoresRun prepared.now.scenario (F.known files.old) (F.known files.new)
         words.entry.trace.now (Some report.entry.now) summary.rows) }
