@@ -5,12 +5,16 @@ use Rattle.std.specs.Result.{OnOk, IfErr}
 use Rattle.std.specs.Prelude.{IsErrAnd}
 use Rattle.std.specs.Io.KnownBytes.{Appends}
 use Rattle.clap.specs.Words.{Text}
-use Rattle.cli.specs.Shelves.{Shelf}
-use Rattle.cli.specs.Outcomes.{FailsCheck, RunFails, CheckFails, RunsAll, HasDone, Fails}
-use Rattle.cli.specs.SweepOutcomes.{AsksForProgress, FailsSweepCheck, SweepFails}
+use Rattle.scenario_files.specs.Shelves.{Shelf}
+use Rattle.run_command.specs.Outcomes.{RunFails, RunsAll}
+use Rattle.run_command.proofs.Causes.{run_memory, run_output, run_usage}
+use Rattle.sweep_command.specs.Outcomes.{AsksForProgress, SweepFails}
+use Rattle.sweep_command.proofs.Causes.{sweep_memory, sweep_output, sweep_usage}
+use Rattle.cli.specs.Outcomes.{CheckFails, HasDone, Fails}
 use Rattle.files.specs.Files.{Making}
 use Rattle.command_line.specs.Printed.{rows_line}
 use Rattle.command_line.specs.Words.{Answers, AsksForRun, AsksForCheck, AsksForSweep, IsCommand}
+use Rattle.command_line.specs.declared.release.Release.{Release}
 use Rattle.command_line.specs.declared.words.Asked.{Asked}
 use Rattle.command_line.specs.declared.words.Asked.TheVariants as asked
 use Rattle.command_line.specs.declared.words.RunWords.{RunWords}
@@ -23,31 +27,8 @@ pub is_command : (words : List Text) (answer : Asked) → Answers words answer �
 is_command words (asked.Run run) h = inl (run, h)
 is_command words (asked.Check file) h = inr (inl (file.now, h))
 is_command words (asked.Sweep sweep) h = inr (inr (inl (sweep, h)))
-is_command words (asked.Help help) h = inr (inr (inr h.1))
-
--- no check of a run fails by the words or by standard output, and so no run does
-check_usage : (before : Shelf) (run : RunWords) → FailsCheck before run Usage → ⊥
-check_usage before run (inl count) = count
-check_usage before run (inr (inl file)) = file.2
-check_usage before run (inr (inr split)) = split.4
-
-run_usage : (before after : Shelf) (making : Making) (run : RunWords) → RunFails before after making run Usage → ⊥
-run_usage before after making run (inl refused) = check_usage before run refused.cause
-run_usage before after making run (inr store) = store.cause
-
-check_output : (before : Shelf) (run : RunWords) → FailsCheck before run Output → ⊥
-check_output before run (inl count) = count
-check_output before run (inr (inl file)) = file.2
-check_output before run (inr (inr split)) = split.4
-
-run_output : (before after : Shelf) (making : Making) (run : RunWords) → RunFails before after making run Output → ⊥
-run_output before after making run (inl refused) = check_output before run refused.cause
-run_output before after making run (inr store) = store.cause
-
--- where memory was refused, no file has changed
-run_memory : (before after : Shelf) (making : Making) (run : RunWords) → RunFails before after making run Memory → after ≡ before
-run_memory before after making run (inl refused) = refused.same
-run_memory before after making run (inr store) = store.cause
+is_command words (asked.Help help) h = inr (inr (inr (inl h.1)))
+is_command words asked.Version h = inr (inr (inr (inr h)))
 
 -- why a run that the words ask for was not done
 pub run_fails : (words : List Text) (before after : Shelf) (making : Making) (run : RunWords) (failure : Failure)
@@ -75,30 +56,6 @@ check_fails words before after making file (Division cause) asks fails = absurd 
 check_fails words before after making file (Run cause) asks fails = absurd fails.cause
 check_fails words before after making file Output asks fails = absurd fails.cause
 
--- no check of a sweep fails by the words or by standard output, and so no sweep does
-sweep_check_usage : (before : Shelf) (sweep : SweepWords) → FailsSweepCheck before sweep Usage → ⊥
-sweep_check_usage before sweep (inl count) = count
-sweep_check_usage before sweep (inr (inl file)) = file.2
-sweep_check_usage before sweep (inr (inr case)) = case.4
-
-sweep_usage : (before after : Shelf) (making : Making) (sweep : SweepWords) → SweepFails before after making sweep Usage → ⊥
-sweep_usage before after making sweep (inl refused) = sweep_check_usage before sweep refused.cause
-sweep_usage before after making sweep (inr table) = table.cause
-
-sweep_check_output : (before : Shelf) (sweep : SweepWords) → FailsSweepCheck before sweep Output → ⊥
-sweep_check_output before sweep (inl count) = count
-sweep_check_output before sweep (inr (inl file)) = file.2
-sweep_check_output before sweep (inr (inr case)) = case.4
-
-sweep_output : (before after : Shelf) (making : Making) (sweep : SweepWords) → SweepFails before after making sweep Output → ⊥
-sweep_output before after making sweep (inl refused) = sweep_check_output before sweep refused.cause
-sweep_output before after making sweep (inr table) = table.cause
-
--- where memory was refused, no file has changed
-sweep_memory : (before after : Shelf) (making : Making) (sweep : SweepWords) → SweepFails before after making sweep Memory → after ≡ before
-sweep_memory before after making sweep (inl refused) = refused.same
-sweep_memory before after making sweep (inr table) = table.cause
-
 -- why a sweep that the words ask for was not done
 pub sweep_fails : (words : List Text) (before after : Shelf) (making : Making) (sweep : SweepWords) (failure : Failure)
     → AsksForSweep words sweep → SweepFails before after making sweep failure → Fails words before after making failure
@@ -120,10 +77,10 @@ asked_run_fails words before after making answer run failure is h fails =
     run_fails words before after making run failure asks fails
 
 -- a run that the words ask for was done, and the number of its rows printed
-pub asked_run_done : {E : Type 0} (words : List Text) (before after : Shelf) (making : Making) (old new : Option (List ℕ)) (answer : Asked) (run : RunWords) (count : ℕ)
+pub asked_run_done : {E : Type 0} (release : Release) (words : List Text) (before after : Shelf) (making : Making) (old new : Option (List ℕ)) (answer : Asked) (run : RunWords) (count : ℕ)
     (printed : Result (Unit {0}) E) → answer ≡ asked.Run run → Answers words answer → RunsAll before after making run count
-    → OnOk printed (Appends old new (rows_line count)) → OnOk printed (HasDone words before after making old new)
-asked_run_done words before after making old new answer run count printed is h ran told =
+    → OnOk printed (Appends old new (rows_line count)) → OnOk printed (HasDone release words before after making old new)
+asked_run_done release words before after making old new answer run count printed is h ran told =
     let asks : Answers words (asked.Run run) = subst (Answers words) is h in
     on_ok_weaker printed (λ appended. inl (count, (run, asks, ran), appended)) told
 

@@ -1,4 +1,1 @@
 mod Commands
-mod Divided
-mod Stored
-mod Tables

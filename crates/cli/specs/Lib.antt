@@ -1,4 +1,1 @@
-pub mod Shelves
-pub mod SweepOutcomes
 pub mod Outcomes
-pub mod Told

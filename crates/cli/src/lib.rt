@@ -2,15 +2,15 @@
 //! handed in, and answers the exit status.
 #![tactic(auto)]
 
-mod loading;
 mod program;
 mod simulation;
-mod sweeping;
 pub mod system;
 
 pub use command_line::{
-    Asked, Failure, RunWords, Split, SweepWords, division_asked, parse, refuse, workers_asked,
+    Asked, Failure, Release, RunWords, Split, SweepWords, division_asked, parse, refuse,
+    workers_asked,
 };
 pub use files::{FileFault, Files, PairFault, testing};
 pub use program::command;
-pub use simulation::{check, simulate};
+pub use scenario_files::check;
+pub use simulation::simulate;

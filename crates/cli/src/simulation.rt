@@ -1,16 +1,14 @@
-//! From a scenario's bytes to its trace and its report.
-ghost use Rattle.std.specs.Prelude.{◌≡◌, ◌≢◌, ◌<◌, ◌⊎◌, Ok, IfOk, IfErr, OnOk, OnErr, IsErrOf, length};
+//! The simulation of a scenario by threads.
+ghost use Rattle.std.specs.Prelude.{◌≡◌, ◌≢◌, ◌<◌, ◌⊎◌, IfOk, IfErr, OnOk, OnErr, IsErrOf, length};
+ghost use Rattle.std.specs.Thread.{IsSync};
 ghost use Rattle.scenario.specs.Setup.{member_count};
-ghost use Rattle.scenario_reader.specs.Rules.{verdict};
-ghost use Rattle.exchange.specs.Runs.{WearsOut};
-ghost use Rattle.command_line.specs.Failures.{RefusesText};
-ghost use Rattle.cli.specs.Told.{run_told, text_failure};
+ghost use Rattle.member_laws.specs.Runs.{WearsOut};
 ghost use Rattle.trace.specs.Writers.{writer_under, put_failures};
 ghost use Rattle.outputs.specs.Promise.{WritesRun, WritesBeginning, WearsOutReport};
 
 use base::Fault;
-use command_line::Failure;
 use exchange::{OpenGate, Summary};
+use run_command::Simulator;
 use scenario::{Division, Scenario, Workers};
 use std::alloc::Global;
 use std::io::Write;
@@ -18,39 +16,26 @@ use std::sync::Wait;
 use std::thread::Threads;
 use trace::Put;
 
-/// The number of the rule that stands for want of memory.
-const MEMORY_RULE: u8 = 11;
-
-/// The scenario of a text.
-///
-/// Failures: `Rule`, the least rule that the text breaks; `Memory`.
-pub fn check(alloc: Global, bytes: &[u8]) -> Result<Scenario, Failure<'static>>
-    ensures accepted { IfOk result (λ scenario. verdict bytes.now ≡ Ok scenario) }
-    ensures refused { IfErr result (RefusesText bytes.now) }
-{
-    match scenario_reader::read(alloc, bytes) {
-        Ok(scenario) => Ok(scenario),
-        Err(refusal) => Err(text_failure(refusal.rule)),
-    }
+/// What simulates a scenario by threads of the runtime.
+#[derive(Drop)]
+pub(crate) struct ByThreads<'r, R> {
+    /// What starts the threads and lets them wait.
+    pub(crate) rt: &'r R,
 }
 
-/// The failure that a text is told by which is refused by this rule.
-pub(crate) fn text_failure(rule: u8) -> Failure<'static>
-    ensures { result ≡ text_failure rule }
-{
-    if rule == MEMORY_RULE {
-        return Failure::Memory;
-    }
-    Failure::Rule(rule)
-}
+impl<H: Threads + Wait + Sync> Simulator for ByThreads<'_, H> {
+    ghost ready = { IsSync H.row };
 
-/// What came of runs, their fault as a failure.
-pub(crate) fn run_told<T>(outcome: Result<T, Fault>) -> Result<T, Failure<'static>>
-    ensures { result ≡ run_told outcome }
-{
-    match outcome {
-        Ok(told) => Ok(told),
-        Err(cause) => Err(Failure::Run(cause)),
+    fn simulate<T: Write, R: Write>(
+        &self,
+        alloc: Global,
+        scenario: &Scenario,
+        division: &Division,
+        workers: Workers,
+        trace: T,
+        report: R,
+    ) -> (Put<T>, Put<R>, Result<Summary, Fault>) {
+        simulate(self.rt, alloc, scenario, division, workers, trace, report)
     }
 }
 

@@ -3,8 +3,8 @@ ghost use Rattle.std.specs.Prelude.{◌≡◌, ◌≤◌};
 ghost use Rattle.std.specs.Process.{exit_status};
 
 use crate::program::command;
-use command_line::refuse;
 pub use command_line::system::words;
+use command_line::{Release, refuse};
 pub use files::system::SystemFiles;
 use std::io::Write;
 use std::process::ExitCode;
@@ -13,13 +13,14 @@ use std::sync::Wait;
 use std::thread::Threads;
 
 /// Does what the words of the program's command line ask for, and answers the status that the program ends with.
-/// `out` and `err` are its streams; how far a sweep has come goes to `progress`, where that is asked for.
+/// `release` is what it tells of itself; `out` and `err` are its streams; how far a sweep has come goes to
+/// `progress`, where that is asked for.
 pub fn run_program<
     R: Threads + Wait + Sync + Env + Files + AllocGlobal,
     O: Write,
     E: Write,
     P: Write,
->(rt: &R, out: &mut O, err: &mut E, progress: &mut P) -> ExitCode
+>(rt: &R, release: &Release<'_>, out: &mut O, err: &mut E, progress: &mut P) -> ExitCode
     ensures range { exit_status result ≤ 5 }
     ensures silent { 2 ≤ exit_status result → out.new ≡ out.old }
     ensures quiet { exit_status result ≡ 0 → err.new ≡ err.old }
@@ -30,6 +31,7 @@ pub fn run_program<
             command(
                 rt,
                 rt.alloc(),
+                release,
                 words.as_slice(),
                 &mut files,
                 out,

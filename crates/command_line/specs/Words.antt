@@ -7,11 +7,11 @@ use Rattle.clap.specs.declared.builder.command.Command.{Command}
 use Rattle.clap.specs.declared.builder.command.Command.TheViews.{out-Command}
 use Rattle.clap.specs.declared.builder.action.ArgAction.TheVariants.{Append, SetTrue}
 use Rattle.clap.specs.declared.error.kind.ErrorKind.{ErrorKind}
-use Rattle.clap.specs.declared.error.kind.ErrorKind.TheVariants.{DisplayHelp}
+use Rattle.clap.specs.declared.error.kind.ErrorKind.TheVariants.{DisplayHelp, DisplayVersion}
 use Rattle.cases.specs.Sweep.{Sweep as Planned}
 use Rattle.cases.specs.Asked.{IsSweepOf}
 use Rattle.command_line.specs.declared.words.Asked.{Asked}
-use Rattle.command_line.specs.declared.words.Asked.TheVariants.{Run, Check, Sweep, Help}
+use Rattle.command_line.specs.declared.words.Asked.TheVariants.{Run, Check, Sweep, Help, Version}
 use Rattle.command_line.specs.declared.words.RunWords.{RunWords}
 use Rattle.command_line.specs.declared.words.SweepWords.{SweepWords}
 use Rattle.command_line.specs.declared.words.Split.{Split}
@@ -58,10 +58,10 @@ sweep_app =
     let set = with_rule seeded (repeated_rule (codes "set")) in
     with_rule (with_rule set (option_rule (codes "workers"))) (flag_rule (codes "progress"))
 
--- the program, whose words come without its name
+-- the program, whose words come without its name, and which has a version to tell
 abbrev pub bare_app : App
 bare_app = let app = new_app (codes "swimsim") in
-    record app { top = record app.top { no_binary_name = true; subcommand_required = true } }
+    record app { top = record app.top { has_version = true; no_binary_name = true; subcommand_required = true } }
 
 abbrev pub swimsim_app : App
 swimsim_app = with_subcommand (with_subcommand (with_subcommand bare_app run_app.top) check_app.top) sweep_app.top
@@ -128,23 +128,28 @@ AsksForSweep words sweep = (fault_of swimsim_app words ≡ []) × IsSweepIn (sub
 abbrev pub AsksForHelp : List Text → Type 0
 AsksForHelp words = IsAmong DisplayHelp (fault_of swimsim_app words)
 
+-- the words ask which release of the program this is
+abbrev pub AsksForVersion : List Text → Type 0
+AsksForVersion words = IsAmong DisplayVersion (fault_of swimsim_app words)
+
 -- what the words ask for
 abbrev pub Answers : List Text → Asked → Type 0
 Answers words (Run run) = AsksForRun words run
 Answers words (Check file) = AsksForCheck words file.now
 Answers words (Sweep sweep) = AsksForSweep words sweep
 Answers words (Help help) = (kind_of help ≡ DisplayHelp) × AsksForHelp words
+Answers words Version = AsksForVersion words
 
 -- the words have no fault, but ask for no run, no check and no sweep
 abbrev pub AsksForNone : List Text → Type 0
 AsksForNone words = (fault_of swimsim_app words ≡ []) × ((run : RunWords) → ¬ (AsksForRun words run))
     × ((file : Text) → ¬ (AsksForCheck words file)) × ((sweep : SweepWords) → ¬ (AsksForSweep words sweep))
 
--- the words have a fault that is no wish for help, or none but ask for neither a run nor a check nor a sweep
+-- the words have a fault that is no wish for help or for the version, or none but ask for neither a run nor a check nor a sweep
 abbrev pub IsNoCommand : List Text → Type 0
-IsNoCommand words = ((kind : ErrorKind) × (kind ≢ DisplayHelp) × IsAmong kind (fault_of swimsim_app words)) ⊎ AsksForNone words
+IsNoCommand words = ((kind : ErrorKind) × (kind ≢ DisplayHelp) × (kind ≢ DisplayVersion) × IsAmong kind (fault_of swimsim_app words)) ⊎ AsksForNone words
 
--- the words ask for a run, a check, a sweep or help
+-- the words ask for a run, a check, a sweep, help or the version
 abbrev pub IsCommand : List Text → Type 0
 IsCommand words = ((run : RunWords) × AsksForRun words run) ⊎ (((file : Text) × AsksForCheck words file)
-    ⊎ (((sweep : SweepWords) × AsksForSweep words sweep) ⊎ AsksForHelp words))
+    ⊎ (((sweep : SweepWords) × AsksForSweep words sweep) ⊎ (AsksForHelp words ⊎ AsksForVersion words)))

@@ -13,6 +13,8 @@ pub(crate) fn program_command<'a>(alloc: Global) -> Result<Command<'a>, AllocErr
     Command::new(alloc, "swimsim")
         .bin_name("swimsim")?
         .about("Simulates clusters of the SWIM membership protocol")
+        // with a version there is the flag --version; what it tells, `print_release` prints
+        .version("")
         .no_binary_name(true)
         .subcommand_required(true)
         .subcommand(run_command(alloc)?)?

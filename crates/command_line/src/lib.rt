@@ -5,11 +5,13 @@ mod commands;
 mod division;
 mod failure;
 mod printing;
+mod release;
 mod shown;
 pub mod system;
 mod words;
 
 pub use division::{division_asked, workers_asked};
 pub use failure::{Failure, refuse};
-pub use printing::{print_cases, print_help, print_members, print_rows};
+pub use printing::{print_cases, print_help, print_members, print_release, print_rows};
+pub use release::Release;
 pub use words::{Asked, RunWords, Split, SweepWords, parse};

@@ -1,9 +1,10 @@
 //! What a command prints on standard output.
 ghost use Rattle.std.specs.Prelude.{◌≡◌, OnOk, IfErr};
 ghost use Rattle.std.specs.Io.KnownBytes.{Appends};
-ghost use Rattle.command_line.specs.Printed.{members_line, rows_line};
+ghost use Rattle.command_line.specs.Printed.{members_line, release_line, rows_line};
 
 use crate::failure::Failure;
+use crate::release::Release;
 use clap::Error;
 use std::io::Write;
 
@@ -53,6 +54,24 @@ pub fn print_help<'a, O: Write>(help: &Error, out: &mut O) -> Result<(), Failure
     ensures { IfErr result (λ failure. failure ≡ Failure.Output) }
 {
     if write!(out, "{help}").is_err() || out.flush().is_err() {
+        return Err(Failure::Output);
+    }
+    Ok(())
+}
+
+/// Prints which release of the program this is.
+///
+/// Failure: `Output` where `out` takes less, or its flush fails.
+pub fn print_release<'a, O: Write>(release: &Release<'_>, out: &mut O) -> Result<(), Failure<'a>>
+    ensures printed { OnOk result (Appends (O.contents out.old) (O.contents out.new) (release_line release.now)) }
+    ensures failure { IfErr result (λ failure. failure ≡ Failure.Output) }
+{
+    let version = release.version;
+    let sources = release.sources;
+    let kit = release.kit;
+    if writeln!(out, "swimsim {version} (sources {sources}, {kit})").is_err()
+        || out.flush().is_err()
+    {
         return Err(Failure::Output);
     }
     Ok(())

@@ -67,6 +67,8 @@ pub enum Asked<'a> {
     Sweep(SweepWords<'a>),
     /// To be shown the help that is this answer's text.
     Help(Error),
+    /// To be told which release of the program this is.
+    Version,
 }
 
 /// What the words, without the program's name, ask for.
@@ -88,6 +90,7 @@ pub fn parse<'a, S: AsStr>(alloc: Global, words: &'a [S]) -> Result<Asked<'a>, F
         Err(error) => match error.kind() {
             ErrorKind::OutOfMemory => Err(Failure::Memory),
             ErrorKind::DisplayHelp => Ok(Asked::Help(error)),
+            ErrorKind::DisplayVersion => Ok(Asked::Version),
             _ => Err(Failure::Usage),
         },
     }

@@ -1,4 +1,4 @@
-//! What no clause says of a command line: words that ask for a sweep, and what a failure tells.
+//! What no clause says of a command line: words that ask for a sweep or for the version, and what a failure tells.
 #![tactic(auto)]
 
 #[cfg(test)]
@@ -7,3 +7,5 @@ mod failure_tests;
 mod sweep_words_tests;
 #[cfg(test)]
 mod system_tests;
+#[cfg(test)]
+mod version_tests;

@@ -4,7 +4,7 @@ use Rattle.cli.proofs.program.perform.Goals as goal
 
 pub returns-in_ok-summary-in-Run-clause-done : goal.returns-in_ok-summary-in-Run-clause-done
 returns-in_ok-summary-in-Run-clause-done g c =
-    asked_run_done _ _ _ _ _ _ _ _ _ c.print_rows.result c.in-Run.is c.in_ok-help.ensures.answer c.in_ok-summary-in-Run.ensures.done c.print_rows.ensures.printed
+    asked_run_done c.args.release.now _ _ _ _ _ _ _ _ _ c.print_rows.result c.in-Run.is c.in_ok-help.ensures.answer c.in_ok-summary-in-Run.ensures.done c.print_rows.ensures.printed
 
 pub returns-in_err-summary-in-Run-clause-failed : goal.returns-in_err-summary-in-Run-clause-failed
 returns-in_err-summary-in-Run-clause-failed g c =

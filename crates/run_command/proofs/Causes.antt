@@ -1,0 +1,32 @@
+-- By what no run fails, and what holds where memory was refused.
+use Rattle.std.proofs.Common.{◌≡◌, inl, inr}
+use Rattle.scenario_files.specs.Shelves.{Shelf}
+use Rattle.scenario_files.specs.Checks.{FailsCheck}
+use Rattle.run_command.specs.Outcomes.{RunFails}
+use Rattle.files.specs.Files.{Making}
+use Rattle.command_line.specs.declared.words.RunWords.{RunWords}
+use Rattle.command_line.specs.declared.failure.Failure.TheVariants.{Usage, Memory, Output}
+
+-- no check of a run fails by the words or by standard output, and so no run does
+check_usage : (before : Shelf) (run : RunWords) → FailsCheck before run Usage → ⊥
+check_usage before run (inl count) = count
+check_usage before run (inr (inl file)) = file.2
+check_usage before run (inr (inr split)) = split.4
+
+pub run_usage : (before after : Shelf) (making : Making) (run : RunWords) → RunFails before after making run Usage → ⊥
+run_usage before after making run (inl refused) = check_usage before run refused.cause
+run_usage before after making run (inr store) = store.cause
+
+check_output : (before : Shelf) (run : RunWords) → FailsCheck before run Output → ⊥
+check_output before run (inl count) = count
+check_output before run (inr (inl file)) = file.2
+check_output before run (inr (inr split)) = split.4
+
+pub run_output : (before after : Shelf) (making : Making) (run : RunWords) → RunFails before after making run Output → ⊥
+run_output before after making run (inl refused) = check_output before run refused.cause
+run_output before after making run (inr store) = store.cause
+
+-- where memory was refused, no file has changed
+pub run_memory : (before after : Shelf) (making : Making) (run : RunWords) → RunFails before after making run Memory → after ≡ before
+run_memory before after making run (inl refused) = refused.same
+run_memory before after making run (inr store) = store.cause

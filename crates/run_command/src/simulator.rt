@@ -1,0 +1,39 @@
+//! What simulates a scenario.
+ghost use Rattle.std.specs.Prelude.{◌≡◌, ◌⊎◌, IfOk, OnErr, IsErrOf, length};
+ghost use Rattle.scenario.specs.Setup.{member_count};
+ghost use Rattle.member_laws.specs.Runs.{WearsOut};
+ghost use Rattle.trace.specs.Writers.{writer_under};
+ghost use Rattle.outputs.specs.Promise.{WritesRun, WritesBeginning, WearsOutReport};
+
+use base::Fault;
+use outputs::Summary;
+use scenario::{Division, Scenario, Workers};
+use std::alloc::Global;
+use std::io::Write;
+use trace::Put;
+
+/// What simulates a scenario.
+pub trait Simulator {
+    /// What must be known before it simulates anything, as that other threads may use what it goes by.
+    ghost ready: { Type 0 };
+
+    /// Runs a scenario by the parts of a division of its members and so many workers, writes its trace to one
+    /// writer and then its report to the other, and gives both back. After a fault they have got a beginning of
+    /// that.
+    fn simulate<T: Write, R: Write>(
+        &self,
+        alloc: Global,
+        scenario: &Scenario,
+        division: &Division,
+        workers: Workers,
+        trace: T,
+        report: R,
+    ) -> (Put<T>, Put<R>, Result<Summary, Fault>)
+        requires ready { ready }
+        requires divided { length division.now.part_of ≡ member_count scenario.now }
+        ensures written { IfOk result.2 (λ summary. WritesRun scenario.now (T.contents trace) (T.contents (writer_under result.0))
+            (R.contents report) (R.contents (writer_under result.1)) summary.rows) }
+        ensures beginning { OnErr result.2 (WritesBeginning scenario.now (T.contents trace) (T.contents (writer_under result.0))
+            (R.contents report) (R.contents (writer_under result.1))) }
+        ensures worn { IsErrOf result.2 Fault.Worn → WearsOut scenario.now ⊎ WearsOutReport scenario.now };
+}

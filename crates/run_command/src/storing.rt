@@ -1,0 +1,82 @@
+//! A run, and the files that take its trace and its report.
+ghost use Rattle.std.specs.Prelude.{◌≡◌, Some, None, IfOk, IfErr, OnOk, length};
+ghost use Rattle.scenario.specs.Setup.{member_count};
+ghost use Rattle.run_command.specs.Outcomes.{StoresRun, StoreFails, DifferentFiles};
+
+use crate::simulator::Simulator;
+use command_line::{Failure, RunWords};
+use files::{Files, PairFault};
+use outputs::Summary;
+use scenario_files::{PreparedRun, file_failure, run_told};
+use std::alloc::Global;
+use std::io;
+
+/// Runs a scenario, and writes its trace to the file that the words name. Its report goes nowhere.
+pub(crate) fn store_trace<'a, M: Simulator, F: Files>(
+    simulator: &M,
+    alloc: Global,
+    prepared: &PreparedRun,
+    words: RunWords<'a>,
+    files: &mut F,
+) -> Result<Summary, Failure<'a>>
+    requires ready { M.ready }
+    requires divided { length prepared.now.division.part_of ≡ member_count prepared.now.scenario }
+    ensures done { IfOk result (λ summary. StoresRun prepared.now.scenario (F.known files.old) (F.known files.new)
+        words.entry.trace.now None summary.rows) }
+    ensures apart { OnOk result (DifferentFiles (F.making files.old) words.entry.file.now words.entry.trace.now None) }
+    ensures failed { IfErr result (StoreFails prepared.now.scenario (F.known files.old) (F.known files.new)
+        (F.making files.old) words.entry.file.now words.entry.trace.now None) }
+{
+    let made = match files.make(words.file, words.trace) {
+        Ok(made) => made,
+        Err(fault) => return Err(file_failure(fault, words.trace)),
+    };
+    let (made, _nowhere, outcome) = simulator.simulate(
+        alloc,
+        &prepared.scenario,
+        &prepared.division,
+        prepared.workers,
+        made,
+        io::sink(),
+    );
+    files.close(words.trace, made.into_inner());
+    run_told(outcome)
+}
+
+/// Runs a scenario, and writes its trace to the file that the words name and its report to another. Either both
+/// are made or neither is.
+pub(crate) fn store_both<'a, M: Simulator, F: Files>(
+    simulator: &M,
+    alloc: Global,
+    prepared: &PreparedRun,
+    words: RunWords<'a>,
+    report: &'a str,
+    files: &mut F,
+) -> Result<Summary, Failure<'a>>
+    requires ready { M.ready }
+    requires divided { length prepared.now.division.part_of ≡ member_count prepared.now.scenario }
+    ensures done { IfOk result (λ summary. StoresRun prepared.now.scenario (F.known files.old) (F.known files.new)
+        words.entry.trace.now (Some report.entry.now) summary.rows) }
+    ensures apart { OnOk result (DifferentFiles (F.making files.old) words.entry.file.now words.entry.trace.now
+        (Some report.entry.now)) }
+    ensures failed { IfErr result (StoreFails prepared.now.scenario (F.known files.old) (F.known files.new)
+        (F.making files.old) words.entry.file.now words.entry.trace.now (Some report.entry.now)) }
+{
+    let (made_trace, made_report) = match files.make_both(words.file, words.trace, report) {
+        Ok(made) => made,
+        Err(PairFault::First) => return Err(Failure::File(words.trace)),
+        Err(PairFault::Second) => return Err(Failure::File(report)),
+        Err(PairFault::Memory) => return Err(Failure::Memory),
+    };
+    let (made_trace, made_report, outcome) = simulator.simulate(
+        alloc,
+        &prepared.scenario,
+        &prepared.division,
+        prepared.workers,
+        made_trace,
+        made_report,
+    );
+    files.close(words.trace, made_trace.into_inner());
+    files.close(report, made_report.into_inner());
+    run_told(outcome)
+}

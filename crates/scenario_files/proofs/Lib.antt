@@ -1,0 +1,2 @@
+mod Divided
+pub mod Held

@@ -1,0 +1,4 @@
+pub mod Shelves
+pub mod Loading
+pub mod Checks
+pub mod Told

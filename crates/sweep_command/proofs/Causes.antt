@@ -1,0 +1,31 @@
+-- By what no sweep fails, and what holds where memory was refused.
+use Rattle.std.proofs.Common.{◌≡◌, inl, inr}
+use Rattle.scenario_files.specs.Shelves.{Shelf}
+use Rattle.sweep_command.specs.Outcomes.{FailsSweepCheck, SweepFails}
+use Rattle.files.specs.Files.{Making}
+use Rattle.command_line.specs.declared.words.SweepWords.{SweepWords}
+use Rattle.command_line.specs.declared.failure.Failure.TheVariants.{Usage, Memory, Output}
+
+-- no check of a sweep fails by the words or by standard output, and so no sweep does
+sweep_check_usage : (before : Shelf) (sweep : SweepWords) → FailsSweepCheck before sweep Usage → ⊥
+sweep_check_usage before sweep (inl count) = count
+sweep_check_usage before sweep (inr (inl file)) = file.2
+sweep_check_usage before sweep (inr (inr case)) = case.4
+
+pub sweep_usage : (before after : Shelf) (making : Making) (sweep : SweepWords) → SweepFails before after making sweep Usage → ⊥
+sweep_usage before after making sweep (inl refused) = sweep_check_usage before sweep refused.cause
+sweep_usage before after making sweep (inr table) = table.cause
+
+sweep_check_output : (before : Shelf) (sweep : SweepWords) → FailsSweepCheck before sweep Output → ⊥
+sweep_check_output before sweep (inl count) = count
+sweep_check_output before sweep (inr (inl file)) = file.2
+sweep_check_output before sweep (inr (inr case)) = case.4
+
+pub sweep_output : (before after : Shelf) (making : Making) (sweep : SweepWords) → SweepFails before after making sweep Output → ⊥
+sweep_output before after making sweep (inl refused) = sweep_check_output before sweep refused.cause
+sweep_output before after making sweep (inr table) = table.cause
+
+-- where memory was refused, no file has changed
+pub sweep_memory : (before after : Shelf) (making : Making) (sweep : SweepWords) → SweepFails before after making sweep Memory → after ≡ before
+sweep_memory before after making sweep (inl refused) = refused.same
+sweep_memory before after making sweep (inr table) = table.cause

@@ -1,0 +1,27 @@
+-- what the file holds of a sweep that was done, and of one that broke off
+use Rattle.std.proofs.Common.{ap}
+use Rattle.scenario_files.proofs.Held.{each_ok, told_done, told_failed}
+use Rattle.sweep_command.proofs.Tables.{each_err_with, table_begun, table_stored}
+use Rattle.sweep_command.proofs.sweeping.store_table.Goals as goal
+
+pub returns-clause-done : goal.returns-clause-done
+returns-clause-done g c =
+    let known = g.F.Files.known in
+    let filled = c.fill_table-made in
+    let holds = g.F.Made.Write.contents in
+    told_done _ filled.result.1 c.run_told.result c.run_told.ensures (each_ok filled.result.1 filled.ensures.whole (λ lines tells.
+    table_stored _ _ (known c.args.files.now) (known c.make.new.self) (known c.close.new.self) c.args.words.now.table.now _ _ _
+    c.in-Ok.ensures.others c.close.ensures.others c.in-Ok.ensures.empty c.in-Ok.ensures.made c.close.ensures.closed (ap holds c.into_inner.ensures) _ tells))
+
+pub returns-clause-failed : goal.returns-clause-failed
+returns-clause-failed g c =
+    let known = g.F.Files.known in
+    let filled = c.fill_table-made in
+    let holds = g.F.Made.Write.contents in
+    told_failed _ filled.result.1 c.run_told.result c.run_told.ensures
+    (each_err_with filled.result.1 filled.ensures.part filled.ensures.causes (λ cause begins caused. (
+      c.in-Ok.ensures.apart,
+      table_begun _ _ (known c.args.files.now) (known c.make.new.self) (known c.close.new.self) c.args.words.now.table.now _ _ _
+          c.in-Ok.ensures.others c.close.ensures.others c.in-Ok.ensures.empty c.in-Ok.ensures.made c.close.ensures.closed (ap holds c.into_inner.ensures)
+          cause begins caused,
+    )))

@@ -1,0 +1,6 @@
+//! The command `sweep`: many runs of the scenario of a file, and the file that takes their table.
+#![tactic(auto)]
+
+mod sweeping;
+
+pub use sweeping::sweep_file;
