@@ -3,13 +3,14 @@
 
     tests/generate.py SEED KIND NUMBER
 
-prints the text of a case again: KIND is run, text or sweep. A run's scenario is accepted, and small enough that its
-trace has some thousands of rows; a text may break any rule, and most break one at its border.
+prints the text of a case again: KIND is run, text or sweep. A run's scenario is accepted, and small enough
+that its trace has some thousands of rows; a text may break any rule, and most break one at its border.
 """
 
 import copy
 import datetime
 import random
+import re
 import sys
 
 from scenarios import MOST_MEMBERS, keys_of, tables_there
@@ -23,15 +24,16 @@ def chance(rng, percent):
 
 # ---- Scenarios that are accepted ----
 
-def scenario(rng):
-    """The document of a scenario with some of the mechanisms."""
+def scenario(rng, messages=3000):
+    """The document of a scenario with some of the mechanisms, and with about so many messages at most."""
     version = rng.randint(1, 2)
     period = rng.choice([rng.randint(2, 6), rng.randint(20, 200), rng.randint(20, 200), 1000, 2**24])
     groups = groups_of(rng)
     members = sum(group['count'] for group in groups)
     helpers = rng.choice([0, 1, 2, 3, 3, 16])
-    periods = max(2, min(60, 3000 // (members * (2 + helpers))))
-    end = rng.choice([0, 1, period]) if chance(rng, 3) else rng.randint(1, periods) * period + rng.randrange(period)
+    periods = max(2, min(60, messages // (members * (2 + helpers))))
+    end = rng.choice([0, 1, period, rng.randint(1, periods) * period + rng.randrange(period)])
+    end = end if chance(rng, 5) else rng.randint(periods // 2, periods) * period + rng.randrange(period)
     document = {'version': version, 'seed': rng.choice([0, 1, 2**63 - 1, rng.getrandbits(62)]), 'end': end}
     document['swim'] = swim_of(rng, period, helpers)
     if chance(rng, 80):
@@ -51,15 +53,15 @@ def some(rng, keys):
 
 
 def swim_of(rng, period, helpers):
-    optional = {
-        'carry': rng.choice([1, 2, 3, 6, 64]), 'lambda': rng.choice([1, 1, 2, 3, 4, 100]),
-        'spread': rng.choice([1, 2, min(2**24, period), min(2**24, 2 * period)]),
-    }
-    # without helpers the text's default is used, for which the run is small enough too
+    timeout = rng.choice([1, (period + 2) // 3, period - 1, rng.randint(1, period - 1)])
+    keys = {'period': period, 'timeout': timeout}
+    # 3 is the default
     if helpers != 3 or chance(rng, 50):
-        optional['helpers'] = helpers
-    required = {'period': period, 'timeout': rng.choice([1, max(1, period // 3), period - 1, rng.randint(1, period - 1)])}
-    return {**required, **{name: optional[name] for name in optional if name == 'helpers' or chance(rng, 75)}}
+        keys['helpers'] = helpers
+    keys.update(some(rng, {
+        'carry': rng.choice([1, 2, 3, 6, 64]), 'lambda': rng.choice([1, 1, 2, 3, 4, 100]),
+        'spread': rng.choice([1, 2, period, min(2**24, 2 * period)])}))
+    return keys
 
 
 def lifeguard_of(rng):
@@ -197,8 +199,9 @@ def border(rng, document):
     if numbers:
         name = rng.choice(numbers)
         least, greatest = keys[name].span
-        held[name] = rng.choice([least, greatest, least - 1, greatest + 1, least, greatest, least + 1, greatest - 1,
-                                 0, -1, 2**62, 2**63 - 1, -2**63, Raw('-0'), Raw('0x10'), Raw('+7'), Raw('1_0')])
+        near = [least, greatest, least - 1, greatest + 1, least, greatest, least + 1, greatest - 1]
+        far = [0, -1, 2**62, 2**63 - 1, -2**63, Raw('-0'), Raw('0x10'), Raw('+7'), Raw('1_0')]
+        held[name] = rng.choice(near + far)
 
 
 def switch(rng, document):
@@ -261,7 +264,8 @@ def add_slow(rng, document):
         member = old['member']
         begin = rng.choice([old['from'], old['until'], old['until'] - 1, 0, old['from'] - 1])
         stop = rng.choice([old['from'], old['from'] + 1, old['until'], old['until'] + 1, begin, begin + 1])
-    insert(rng, document, 'slow', {'member': member, 'from': max(0, begin), 'until': max(0, stop), 'extra': 1})
+    entry = {'member': member, 'from': max(0, begin), 'until': max(0, stop), 'extra': 1}
+    insert(rng, document, 'slow', entry)
 
 
 def change_time(rng, document):
@@ -294,9 +298,9 @@ def append_copy(rng, document):
 
 
 CHANGES = [
-    drop_key, drop_key, add_key, change_kind, change_kind, change_item, border, border, border, border, switch,
-    change_version, change_group_name, change_reference, change_reference, change_contact, add_down, add_down,
-    add_slow, add_slow, add_slow, change_time, change_time, fill_cluster, fill_cluster, append_copy,
+    drop_key, drop_key, add_key, change_kind, change_kind, change_item, border, border, border, border,
+    switch, change_version, change_group_name, change_reference, change_reference, change_contact, add_down,
+    add_down, add_slow, add_slow, add_slow, change_time, change_time, fill_cluster, fill_cluster, append_copy,
 ]
 
 
@@ -311,7 +315,7 @@ def change(rng, document):
 # ---- The text of a document ----
 
 def plain_key(name):
-    return name if name and all(byte.isascii() and (byte.isalnum() or byte in '-_') for byte in name) else f'"{name}"'
+    return name if re.fullmatch('[A-Za-z0-9_-]+', name) else f'"{name}"'
 
 
 def value_text(rng, value):
@@ -398,21 +402,29 @@ def drop_line(rng, text):
 
 
 def add_line(rng, text):
-    """A line of its own at the front, most of them such as break rule 1 or 3."""
-    deep, far = rng.choice([20, 40, 120, 2000]), rng.choice([2**63 - 1, 2**63, -2**63, -2**63 - 1, 2**64, 10**5000])
-    number = str(far) if abs(far) < 2**70 else '9' * 5000
+    """A beginning, which with most lines breaks rule 1, or else rule 3."""
+    deep = rng.choice([20, 40, 120, 2000])
+    nested = [f'x = {"[" * deep}{"]" * deep}', f'x = {"{a = " * deep}1{"}" * deep}',
+              f'{".".join("a" * deep)} = 1']
     return rng.choice([
-        b'\xef\xbb\xbf', b'\xff\n', b'\x00\n', b'\r\n', b'\r', b'# \xc3\xa9\n', b'# \xc3\n', b'\xed\xa0\x80\n',
-        f'x = {"[" * deep}{"]" * deep}\n'.encode(), f'x = {"{a = " * deep}1{"}" * deep}\n'.encode(),
-        f'{".".join("a" * deep)} = 1\n'.encode(), f'x = {number}\n'.encode(), b'x = 1e400\n', b'x = -1.5e999\n',
-        b'x = 1e300\n', b'x = 01\n', b'x = 1__0\n', b'x = 0x8000000000000000\n', b'x = 0x7fffffffffffffff\n',
-        b'x = 2026-02-30\n', b'x = 2026-02-28\n', b'x = """a\nb"""\n', b"x = '''a'''\n", b'x =\n', b'x\n', b'= 1\n',
-        b'[x]\n[x]\n', b'x.y = 1\nx.y = 2\n', b'x = {}\nx.y = 1\n', b'[[x]]\n[x]\n', b'x = [1,]\n', b'x = [,]\n',
-        b'"\\u0078" = 1\n', b'"\\q" = 1\n', b'x = tru\n', b'x = .5\n', b'x = 5.\n', b'x = +inf\n',
-    ]) + text
+        rng.choice(BEGINNINGS), rng.choice(LINES) + b'\n', rng.choice(nested).encode() + b'\n']) + text
 
 
-BYTES = [cut_off, cut_off, replace_byte, replace_byte, replace_byte, replace_byte, repeat_line, drop_line, add_line]
+BEGINNINGS = [b'\xef\xbb\xbf', b'\xff\n', b'\x00\n', b'\r\n', b'\r', b'\xed\xa0\x80\n', b'\x0c\n', b' \t\n']
+LINES = [
+    b'# \xc3\xa9', b'# \xc3', b'# \x07', b'x', b'x =', b'= 1', b'x = 1 y = 2', b'x = tru', b'x = a',
+    b'"x = 1', b'x = 9223372036854775807', b'x = 9223372036854775808', b'x = -9223372036854775808',
+    b'x = -9223372036854775809', b'x = 0x7fffffffffffffff', b'x = 0x8000000000000000',
+    b'x = ' + b'9' * 5000, b'x = 01', b'x = 1__0', b'x = -0x1', b'x = 1e300', b'x = 1e400', b'x = -1.5e999',
+    b'x = .5', b'x = 5.', b'x = +inf', b'x = 1e-400', b'x = 1_0.0_1', b'x = 2026-02-28', b'x = 2026-02-30',
+    b'x = 2026-11-26 07:00:11', b'x = 07:00:61', b'x = 24:00:00', b'x = """a\nb"""', b"x = '''a'''",
+    b"x = 'a\nb'", b'"\\u0078" = 1', b'"\\q" = 1', b'x = "\\ud800"', b'[x]\n[x]', b'x.y = 1\nx.y = 2',
+    b'x = {}\nx.y = 1', b'[[x]]\n[x]', b'[x]\n[[x]]', b'[x.y]\n[x]', b'x = 1\nx.y = 2',
+    b'[x]\ny.z = 1\n[x.y]', b'x = []\n[[x]]', b'x = [1,]', b'x = [,]', b'x = [1 2]', b'x = {a = 1 b = 2}',
+    b'[]', b'[x',
+]
+BYTES = [cut_off, cut_off, replace_byte, replace_byte, replace_byte, replace_byte, repeat_line, drop_line,
+         add_line]
 
 
 # ---- Cases ----
@@ -436,12 +448,38 @@ def text_case(seed, number):
     return text
 
 
+SETTINGS = {
+    'version': [1, 2], 'end': [0, 1, 100, 500], 'swim.helpers': [0, 1, 2, 3], 'swim.carry': [1, 2, 6],
+    'swim.lambda': [1, 2, 3], 'swim.spread': [1, 10], 'swim.timeout': [1, 2, 10],
+    'suspicion.alpha': [1, 2, 5], 'suspicion.beta': [1, 2, 6], 'lifeguard.probe': [True, False],
+    'lifeguard.suspicion': [True, False], 'lifeguard.buddy': [True, False], 'lifeguard.ceiling': [0, 1, 8], 'lifeguard.confirmations': [0, 1, 3],
+    'lifeguard.nack_percent': [1, 80, 100], 'link.delay': [1, 5, 0], 'link.jitter': [0, 10],
+    'link.loss': [0, 100000, 1000000],
+}
+
+
+def sweep_case(seed, number):
+    """A text, its document, keys with their values, and the seeds, of which there may be none."""
+    rng = random.Random(f'{seed} sweep {number}')
+    document = scenario(rng, 800)
+    settings = []
+    for key in rng.sample(list(SETTINGS), rng.choice([0, 1, 1, 2, 3])):
+        settings.append((key, rng.sample(SETTINGS[key], rng.randint(1, 2))))
+    first = rng.choice([0, 1, 99, 2**63 - 4])
+    return text_of(rng, document), document, settings, list(range(first, first + rng.choice([0, 1, 2, 4])))
+
+
+# a run's and a sweep's text come with what else they are made of
+TEXTS = {
+    'run': lambda *case: run_case(*case)[0], 'text': text_case, 'sweep': lambda *case: sweep_case(*case)[0],
+}
+
+
 def main():
-    if len(sys.argv) != 4 or sys.argv[2] not in ('run', 'text'):
+    if len(sys.argv) != 4 or sys.argv[2] not in TEXTS:
         sys.exit(__doc__)
     seed, kind, number = sys.argv[1:]
-    text = run_case(seed, int(number))[0] if kind == 'run' else text_case(seed, int(number))
-    sys.stdout.buffer.write(text)
+    sys.stdout.buffer.write(TEXTS[kind](seed, int(number)))
 
 
 if __name__ == '__main__':

@@ -4,8 +4,8 @@
     tests/model.py FILE [--trace T] [--report R]
 
 It is written from docs/FORMAT.md and docs/PROTOCOL.md alone, in their order and in their words; nothing in it
-comes from the program's sources. It judges the scenario text FILE as `swimsim check` does (tests/scenarios.py),
-and writes the trace and the report of its run.
+comes from the program's sources. It judges the scenario text FILE as `swimsim check` does
+(tests/scenarios.py), and writes the trace and the report of its run.
 """
 
 import argparse
@@ -517,13 +517,15 @@ def ends_of(rows, what):
             later = [other for other in rows[place + 1:] if other.about == row.member]
             suspects = [other.moment for other in later if other.what == SUSPECT]
             confirms = [other.moment for other in later if other.what == CONFIRM]
+            suspect = suspects[0] if suspects else None
             first, last = (confirms[0], confirms[-1]) if confirms else (None, None)
-            found.append((row.member, row.moment, suspects[0] if suspects else None, first, last, len(confirms)))
+            found.append((row.member, row.moment, suspect, first, last, len(confirms)))
     return found
 
 
 def false_rows(scenario, rows, what):
-    """The rows of this kind about a member without a crash or leave earlier; those by members that aren't slow."""
+    """The rows of this kind about a member that has no crash or leave earlier; those of them by members that
+    aren't slow."""
     down, found = set(), []
     for row in rows:
         if row.what in ('crash', 'leave'):

@@ -88,10 +88,10 @@ def is_within(value, depth):
 def document_of(text):
     """The document that the bytes are, or None (rule 1).
 
-    tomllib reads TOML 1.0, the program 1.1. A byte order mark is handled here. What else 1.1 has more, tomllib
-    refuses: in inline tables line feeds, comments and a comma at the end; the escapes \\e and \\x; times without
-    seconds. It also refuses second 60 and year 0. Texts that are compared keep clear of these, and of nesting
-    between 40 and 120 deep.
+    tomllib reads TOML 1.0, the program 1.1. A byte order mark is handled here. What else 1.1 has more,
+    tomllib refuses: in inline tables line feeds, comments and a comma at the end; the escapes \\e and \\x;
+    times without seconds. It also refuses second 60 and year 0. Texts that are compared keep clear of these,
+    and of nesting between 40 and 120 deep.
     """
     try:
         document = tomllib.loads(text.decode().removeprefix('\ufeff'), parse_float=floating)
@@ -158,7 +158,8 @@ def is_past_range(document, keys):
 
 def has_bad_name(scenario):
     names = [group['name'] for group in scenario['group']]
-    return len(set(names)) < len(names) or any(not re.fullmatch('[a-z][a-z0-9]{0,15}', name) for name in names)
+    return (len(set(names)) < len(names)
+            or any(not re.fullmatch('[a-z][a-z0-9]{0,15}', name) for name in names))
 
 
 def downs(scenario):

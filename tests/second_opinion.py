@@ -1,12 +1,13 @@
 #!/usr/bin/env python3
 """Compares the program with tests/model.py on random cases.
 
-    tests/second_opinion.py [--program FILE] [--seed N] [--runs 300] [--texts 2000]
+    tests/second_opinion.py [--program FILE] [--seed N] [--runs 300] [--texts 2000] [--sweeps 20]
 
-The program is the one that ./swimsim has built, or FILE. Of each run the trace and the report are compared byte for
-byte, by 1 to 3 workers and some division; of each text what `check` says of it. The seed is made of the sources'
-SHA-256 unless one is given, so that other cases are tried with each change. A comparison that fails is told with its
-text and its first differing line. The last line is `N passed, M failed`, and the status is 1 where M is over 0.
+The program is the one that ./swimsim has built, or FILE. Of each run the trace and the report are compared
+byte for byte, by 1 to 3 workers and some division; of each text what `check` says of it; of each sweep its
+table and its lines. The seed is made of the sources' SHA-256 unless one is given, so that other cases are
+tried with each change. A comparison that fails is told with its text and its first differing line. The last
+line is `N passed, M failed`, and the status is 1 where M is over 0.
 """
 
 import argparse
@@ -19,6 +20,7 @@ from pathlib import Path
 
 import generate
 import model
+import sweeps
 from scenarios import document_of, judge
 
 TOP = Path(__file__).resolve().parent.parent
@@ -29,9 +31,9 @@ SECONDS = 60
 
 def seed_of_sources():
     """A number made of the names and bytes of all sources."""
-    files = [path for folder in ('src', 'specs') for path in TOP.glob(f'crates/*/{folder}/**/*') if path.is_file()]
+    paths = [path for folder in ('src', 'specs') for path in TOP.glob(f'crates/*/{folder}/**/*')]
     digest = hashlib.sha256()
-    for path in sorted([*files, TOP / 'crates.txt']):
+    for path in sorted(path for path in [*paths, TOP / 'crates.txt'] if path.is_file()):
         digest.update(f'{path.relative_to(TOP)}\n'.encode() + path.read_bytes())
     return int.from_bytes(digest.digest()[:6], 'big')
 
@@ -91,7 +93,8 @@ def try_run(program, folder, seed, number):
     options = division_of(rng, len(scenario['members']))
     done = ran([program, 'run', file, '--trace', trace, '--report', report, *options])
     expected = {**outcome(0, f'rows {len(rows)}\n'.encode(), b''),
-                'trace': model.trace_of(scenario, rows).encode(), 'report': model.report_of(scenario, rows).encode()}
+                'trace': model.trace_of(scenario, rows).encode(),
+                'report': model.report_of(scenario, rows).encode()}
     found = {**outcome(*done), 'trace': trace.read_bytes(), 'report': report.read_bytes()}
     return ['run', 'FILE', '--trace', 'T', '--report', 'R', *options], text, compared(expected, found)
 
@@ -108,7 +111,29 @@ def try_text(program, folder, seed, number):
     return ['check', 'FILE'], text, compared(expected, outcome(*ran([program, 'check', file])))
 
 
-TRIALS = {'run': try_run, 'text': try_text}
+def try_sweep(program, folder, seed, number):
+    """The same of a sweep's table and lines, or of the rule that a run of it breaks."""
+    text, document, settings, seeds = generate.sweep_case(seed, number)
+    file, table = folder / 'scenario.toml', folder / 'table.csv'
+    file.write_bytes(text)
+    table.write_bytes(b'')
+    options = ['--workers', str(number % 3 + 1)]
+    options += ['--seeds', f'{seeds[0]}..{seeds[-1]}'] if seeds else []
+    for key, values in settings:
+        options += ['--set', f'{key}={",".join(map(sweeps.word, values))}']
+    rule, cases = sweeps.swept(document, settings, seeds)
+    status, out, errors = ran([program, 'sweep', file, '--table', table, *options])
+    expected = {**outcome(0, sweeps.cases_text(settings, cases).encode(), b''),
+                'table': sweeps.table_of(settings, cases).encode()}
+    if rule:
+        # the format doesn't say how what is set is told after the rule
+        expected = {**outcome(3, b'', f'swimsim: scenario rule {rule}'.encode()), 'table': b''}
+        errors = errors.rstrip(b'\n').partition(b' with ')[0]
+    found = {**outcome(status, out, errors), 'table': table.read_bytes()}
+    return ['sweep', 'FILE', '--table', 'T', *options], text, compared(expected, found)
+
+
+TRIALS = {'run': try_run, 'text': try_text, 'sweep': try_sweep}
 
 
 def fault_of(case):
@@ -120,7 +145,8 @@ def fault_of(case):
         return None
     again = f'tests/generate.py {seed} {kind} {number}'
     shown = text.decode(errors='backslashreplace')
-    return f'FAILED {kind} {number}: {difference}\nby: swimsim {" ".join(words)}\nthe text, by {again}:\n{shown}\n'
+    return (f'FAILED {kind} {number}: {difference}\nby: swimsim {" ".join(words)}\n'
+            f'the text, by {again}:\n{shown}\n')
 
 
 def main():
@@ -129,13 +155,15 @@ def main():
     arguments.add_argument('--seed', type=int)
     arguments.add_argument('--runs', type=int, default=300)
     arguments.add_argument('--texts', type=int, default=2000)
+    arguments.add_argument('--sweeps', type=int, default=20)
     options = arguments.parse_args()
     if not options.program.is_file():
         sys.exit(f'{options.program} is not there; ./swimsim builds it')
     seed = seed_of_sources() if options.seed is None else options.seed
     print(f'seed {seed}')
-    counts = {'run': options.runs, 'text': options.texts}
-    cases = [(options.program.resolve(), seed, kind, number) for kind in counts for number in range(counts[kind])]
+    counts = {'run': options.runs, 'text': options.texts, 'sweep': options.sweeps}
+    program = options.program.resolve()
+    cases = [(program, seed, kind, number) for kind in counts for number in range(counts[kind])]
     with multiprocessing.Pool() as pool:
         faults = [fault for fault in pool.imap(fault_of, cases, chunksize=4) if fault]
     print(''.join(faults), end='')
