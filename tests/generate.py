@@ -112,10 +112,10 @@ def members_of(document):
 def add_troubles(rng, document, period):
     """Adds crashes, leaves, slow members, paths and cuts, some of each."""
     end, members = document['end'], members_of(document)
-    going = rng.sample(members, rng.choice([0, 0, 1, 1, 2, len(members)]) % (len(members) + 1))
+    going = rng.sample(members, rng.choice([0, 1, 1, 2, 3, len(members)]) % (len(members) + 1))
     for name, start in going:
-        what = 'leave' if document['version'] == 2 and chance(rng, 50) else 'crash'
-        at = rng.randint(start + 1, max(start + 1, end + rng.choice([0, 0, 1, 5])))
+        what = 'leave' if document['version'] == 2 and chance(rng, 60) else 'crash'
+        at = rng.randint(start + 1, max(start + 1, rng.choice([end, end // 2, end + 5, start + period])))
         document.setdefault(what, []).append({'member': name, 'at': at})
     for name, _ in rng.sample(members, rng.choice([0, 0, 1, 2]) % (len(members) + 1)):
         document.setdefault('slow', []).extend(slow_entries(rng, name, end, period))
@@ -452,9 +452,9 @@ SETTINGS = {
     'version': [1, 2], 'end': [0, 1, 100, 500], 'swim.helpers': [0, 1, 2, 3], 'swim.carry': [1, 2, 6],
     'swim.lambda': [1, 2, 3], 'swim.spread': [1, 10], 'swim.timeout': [1, 2, 10],
     'suspicion.alpha': [1, 2, 5], 'suspicion.beta': [1, 2, 6], 'lifeguard.probe': [True, False],
-    'lifeguard.suspicion': [True, False], 'lifeguard.buddy': [True, False], 'lifeguard.ceiling': [0, 1, 8], 'lifeguard.confirmations': [0, 1, 3],
-    'lifeguard.nack_percent': [1, 80, 100], 'link.delay': [1, 5, 0], 'link.jitter': [0, 10],
-    'link.loss': [0, 100000, 1000000],
+    'lifeguard.suspicion': [True, False], 'lifeguard.buddy': [True, False], 'lifeguard.ceiling': [0, 1, 8],
+    'lifeguard.confirmations': [0, 1, 3], 'lifeguard.nack_percent': [1, 80, 100], 'link.delay': [1, 5, 0],
+    'link.jitter': [0, 10], 'link.loss': [0, 100000, 1000000],
 }
 
 

@@ -7,7 +7,7 @@ The program is the one that ./swimsim has built, or FILE. Of each run the trace 
 byte for byte, by 1 to 3 workers and some division; of each text what `check` says of it; of each sweep its
 table and its lines. The seed is made of the sources' SHA-256 unless one is given, so that other cases are
 tried with each change. A comparison that fails is told with its text and its first differing line. The last
-line is `N passed, M failed`, and the status is 1 where M is over 0.
+line is `N passed, M failed`, and the status is 1 where M is over 0. It needs Python 3.11.
 """
 
 import argparse

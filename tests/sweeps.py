@@ -114,17 +114,11 @@ def nearest_thousandth(value):
 
 
 def shares(found, runs):
-    """The ends of Wilson's 95 % interval, in thousandths.
-
-    They are (found + z * z / 2 -+ z * root) / (runs + z * z), where root is that of found * (runs - found) /
-    runs + z * z / 4. It has more digits here than the format asks for, which changes nothing for few runs.
-    """
+    """The ends of Wilson's 95 % interval, in thousandths."""
     z = Fraction(196, 100)
     square = Fraction(found * (runs - found), runs) + z * z / 4
-    digits = 10**30
-    root = Fraction(isqrt(int(square * digits * digits)), digits)
-    middle, width = found + z * z / 2, z * root
-    return [nearest_thousandth((middle + way * width) / (runs + z * z)) for way in (-1, 1)]
+    root = Fraction(isqrt(int(square * 8000**2)), 8000)
+    return [nearest_thousandth((found + z * z / 2 + sign * z * root) / (runs + z * z)) for sign in (-1, 1)]
 
 
 def decimal(number, digits):
