@@ -42,7 +42,10 @@ def scenario(rng, messages=3000):
         document['lifeguard'] = lifeguard_of(rng)
     document['link'] = link_of(rng, period)
     document['group'] = groups
-    add_starts(rng, groups, end)
+    if period == 2**24 and chance(rng, 10):
+        document['end'] = go_far(rng, groups, end)
+    else:
+        add_starts(rng, groups, end)
     add_troubles(rng, document, period)
     return document
 
@@ -103,10 +106,19 @@ def add_starts(rng, groups, end):
             group['start'] = 0
 
 
+def go_far(rng, groups, end):
+    """Lets all but one member start shortly before the greatest moment; that one probes nobody until then."""
+    groups[0]['count'] = 1
+    for group in groups[1:]:
+        group.update({'start': 2**40 - rng.randint(1, end + 1), 'contact': f'{groups[0]["name"]}-0'})
+    return 2**40
+
+
 def members_of(document):
-    """Each member's name and start."""
+    """Each member's name and start; of a group whose count is past its range, no more than a cluster may have."""
+    most = MOST_MEMBERS[2]
     return [(f'{group["name"]}-{index}', group.get('start', 0))
-            for group in document['group'] for index in range(group['count'])]
+            for group in document['group'] for index in range(min(group['count'], most))]
 
 
 def add_troubles(rng, document, period):
@@ -116,7 +128,7 @@ def add_troubles(rng, document, period):
     for name, start in going:
         what = 'leave' if document['version'] == 2 and chance(rng, 60) else 'crash'
         at = rng.randint(start + 1, max(start + 1, rng.choice([end, end // 2, end + 5, start + period])))
-        document.setdefault(what, []).append({'member': name, 'at': at})
+        document.setdefault(what, []).append({'member': name, 'at': min(at, 2**40)})
     for name, _ in rng.sample(members, rng.choice([0, 0, 1, 2]) % (len(members) + 1)):
         document.setdefault('slow', []).extend(slow_entries(rng, name, end, period))
     ends = [group['name'] for group in document['group']]
@@ -124,15 +136,15 @@ def add_troubles(rng, document, period):
         path = {'from': rng.choice(ends), 'to': rng.choice(ends), **some(rng, link_of(rng, period))}
         document.setdefault('path', []).append(path)
     for _ in range(rng.choice([0, 0, 1, 2]) if document['version'] == 2 else 0):
-        at = rng.randint(0, end)
-        until = rng.randint(at + 1, at + 1 + max(1, end // 2))
+        at = min(rng.randint(0, end), 2**40 - 1)
+        until = min(rng.randint(at + 1, at + 1 + max(1, end // 2)), 2**40)
         document.setdefault('cut', []).append(
             {'from': rng.choice(ends), 'to': rng.choice(ends), 'at': at, 'until': until})
 
 
 def slow_entries(rng, name, end, period):
     """One to three entries of one member, of which none overlap, but some touch."""
-    marks = sorted(rng.sample(range(end + 8), 2 * rng.randint(1, 3)))
+    marks = sorted(rng.sample(range(min(end + 8, 2**40 + 1)), 2 * rng.randint(1, 3)))
     entries = []
     for begin, stop in zip(marks[::2], marks[1::2]):
         begin = entries[-1]['until'] if entries and chance(rng, 30) else begin

@@ -12,10 +12,10 @@ line is `N passed, M failed`, and the status is 1 where M is over 0. It needs Py
 
 import argparse
 import hashlib
-import multiprocessing
 import subprocess
 import sys
 import tempfile
+from concurrent.futures import ProcessPoolExecutor
 from pathlib import Path
 
 import generate
@@ -112,7 +112,7 @@ def try_text(program, folder, seed, number):
 
 
 def try_sweep(program, folder, seed, number):
-    """The same of a sweep's table and lines, or of the rule that a run of it breaks."""
+    """The same of a sweep's table and lines, or of how it is refused."""
     text, document, settings, seeds = generate.sweep_case(seed, number)
     file, table = folder / 'scenario.toml', folder / 'table.csv'
     file.write_bytes(text)
@@ -121,15 +121,13 @@ def try_sweep(program, folder, seed, number):
     options += ['--seeds', f'{seeds[0]}..{seeds[-1]}'] if seeds else []
     for key, values in settings:
         options += ['--set', f'{key}={",".join(map(sweeps.word, values))}']
-    rule, cases = sweeps.swept(document, settings, seeds)
-    status, out, errors = ran([program, 'sweep', file, '--table', table, *options])
+    refusal, cases = sweeps.swept(document, settings, seeds)
+    done = ran([program, 'sweep', file, '--table', table, *options])
     expected = {**outcome(0, sweeps.cases_text(settings, cases).encode(), b''),
                 'table': sweeps.table_of(settings, cases).encode()}
-    if rule:
-        # the format doesn't say how what is set is told after the rule
-        expected = {**outcome(3, b'', f'swimsim: scenario rule {rule}'.encode()), 'table': b''}
-        errors = errors.rstrip(b'\n').partition(b' with ')[0]
-    found = {**outcome(status, out, errors), 'table': table.read_bytes()}
+    if refusal:
+        expected = {**outcome(3, b'', f'swimsim: {refusal}\n'.encode()), 'table': b''}
+    found = {**outcome(*done), 'table': table.read_bytes()}
     return ['sweep', 'FILE', '--table', 'T', *options], text, compared(expected, found)
 
 
@@ -164,8 +162,8 @@ def main():
     counts = {'run': options.runs, 'text': options.texts, 'sweep': options.sweeps}
     program = options.program.resolve()
     cases = [(program, seed, kind, number) for kind in counts for number in range(counts[kind])]
-    with multiprocessing.Pool() as pool:
-        faults = [fault for fault in pool.imap(fault_of, cases, chunksize=4) if fault]
+    with ProcessPoolExecutor() as pool:
+        faults = [fault for fault in pool.map(fault_of, cases, chunksize=4) if fault]
     print(''.join(faults), end='')
     print(f'{len(cases) - len(faults)} passed, {len(faults)} failed')
     sys.exit(bool(faults))

@@ -48,18 +48,24 @@ def document_of_run(document, settings, case, seed):
 
 
 def swept(document, settings, seeds):
-    """0 and, for each case, its values and each run's seed and figures; or the rule that the first run breaks
-    which breaks one. Without seeds each case has one run, with the text's own."""
+    """An empty text and, for each case, its values and each run's seed and figures. Or what is told of the first
+    run that is refused, and no cases. Without seeds each case has one run, with the text's own."""
     cases = []
     for case in cases_of(settings):
         runs = []
         for seed in seeds or [document['seed']]:
             rule, scenario = judge(document_of_run(document, settings, case, seed))
             if rule:
-                return rule, []
+                return refusal_of(rule, settings, case), []
             runs.append((seed, figures_of(scenario, model.rows_of(scenario))))
         cases.append((case, runs))
-    return 0, cases
+    return '', cases
+
+
+def refusal_of(rule, settings, case):
+    """The rule, with what is set in the run that breaks it."""
+    told = ''.join(f' {key}={word(value)}' for (key, _), value in zip(settings, case))
+    return f'scenario rule {rule}' + (f' with{told}' if told else '')
 
 
 def figures_of(scenario, rows):
