@@ -1,0 +1,173 @@
+#!/usr/bin/env python3
+"""Compares the program with tests/model.py on random cases.
+
+    tests/second_opinion.py [--program FILE] [--seed N] [--runs 300] [--texts 2000] [--sweeps 20]
+
+The program is the one that ./swimsim has built, or FILE. Of each run the trace and the report are compared
+byte for byte, by 1 to 3 workers and some division; of each text what `check` says of it; of each sweep its
+table and its lines. The seed is made of the sources' SHA-256 unless one is given, so that other cases are
+tried with each change. A comparison that fails is told with its text and its first differing line. The last
+line is `N passed, M failed`, and the status is 1 where M is over 0. It needs Python 3.11.
+"""
+
+import argparse
+import hashlib
+import subprocess
+import sys
+import tempfile
+from concurrent.futures import ProcessPoolExecutor
+from pathlib import Path
+
+import generate
+import model
+import sweeps
+from scenarios import document_of, judge
+
+TOP = Path(__file__).resolve().parent.parent
+BUILT = TOP / 'crates' / 'swimsim' / 'out' / 'swimsim'
+# a run takes the program some milliseconds
+SECONDS = 60
+
+
+def seed_of_sources():
+    """A number made of the names and bytes of all sources."""
+    paths = [path for folder in ('src', 'specs') for path in TOP.glob(f'crates/*/{folder}/**/*')]
+    digest = hashlib.sha256()
+    for path in sorted(path for path in [*paths, TOP / 'crates.txt'] if path.is_file()):
+        digest.update(f'{path.relative_to(TOP)}\n'.encode() + path.read_bytes())
+    return int.from_bytes(digest.digest()[:6], 'big')
+
+
+def ran(words):
+    """The program's status, standard output and standard error."""
+    try:
+        done = subprocess.run(words, capture_output=True, timeout=SECONDS)
+    except subprocess.TimeoutExpired:
+        return f'no end in {SECONDS} s', b'', b''
+    return done.returncode, done.stdout, done.stderr
+
+
+def first_difference(name, expected, found):
+    """Where two texts differ first, by lines, or None."""
+    if expected == found:
+        return None
+    ours, theirs = expected.split(b'\n'), found.split(b'\n')
+    place = 0
+    while ours[place:place + 1] == theirs[place:place + 1]:
+        place += 1
+    said = [b''.join(lines[place:place + 1]) or b'(its end)' for lines in (ours, theirs)]
+    return f'{name}, line {place + 1}:\n  model   {said[0]!r}\n  program {said[1]!r}'
+
+
+def compared(expected, found):
+    """The first difference of outcomes: names with the bytes that the model gives and the program's."""
+    differences = [first_difference(name, expected[name], found[name]) for name in expected]
+    return next((difference for difference in differences if difference), None)
+
+
+def outcome(status, out, errors):
+    return {'status': str(status).encode(), 'standard output': out, 'standard error': errors}
+
+
+def division_of(rng, members):
+    """Words for some workers and some division of the members."""
+    words = ['--workers', str(rng.randint(1, 3))]
+    which = rng.randrange(3)
+    if which == 1:
+        words += ['--parts', str(rng.choice([1, 2, 3, 5, 64]))]
+    if which == 2:
+        parts = rng.choice([1, 2, 4, 64])
+        words += ['--division', ','.join(str(rng.randrange(parts)) for _ in range(members))]
+    return words
+
+
+def try_run(program, folder, seed, number):
+    """The words of a run, its text, and the first difference or None."""
+    text, _, rng = generate.run_case(seed, number)
+    file, trace, report = folder / 'scenario.toml', folder / 'trace.csv', folder / 'report.txt'
+    file.write_bytes(text)
+    for output in (trace, report):
+        output.write_bytes(b'')
+    _, scenario = judge(document_of(text))
+    rows = model.rows_of(scenario)
+    options = division_of(rng, len(scenario['members']))
+    done = ran([program, 'run', file, '--trace', trace, '--report', report, *options])
+    expected = {**outcome(0, f'rows {len(rows)}\n'.encode(), b''),
+                'trace': model.trace_of(scenario, rows).encode(),
+                'report': model.report_of(scenario, rows).encode()}
+    found = {**outcome(*done), 'trace': trace.read_bytes(), 'report': report.read_bytes()}
+    return ['run', 'FILE', '--trace', 'T', '--report', 'R', *options], text, compared(expected, found)
+
+
+def try_text(program, folder, seed, number):
+    """The same of `check` of a text."""
+    text = generate.text_case(seed, number)
+    file = folder / 'scenario.toml'
+    file.write_bytes(text)
+    rule, scenario = judge(document_of(text))
+    expected = outcome(3, b'', f'swimsim: scenario rule {rule}\n'.encode())
+    if rule == 0:
+        expected = outcome(0, f'members {len(scenario["members"])}\n'.encode(), b'')
+    return ['check', 'FILE'], text, compared(expected, outcome(*ran([program, 'check', file])))
+
+
+def try_sweep(program, folder, seed, number):
+    """The same of a sweep's table and lines, or of how it is refused."""
+    text, document, settings, seeds = generate.sweep_case(seed, number)
+    file, table = folder / 'scenario.toml', folder / 'table.csv'
+    file.write_bytes(text)
+    table.write_bytes(b'')
+    options = ['--workers', str(number % 3 + 1)]
+    options += ['--seeds', f'{seeds[0]}..{seeds[-1]}'] if seeds else []
+    for key, values in settings:
+        options += ['--set', f'{key}={",".join(map(sweeps.word, values))}']
+    refusal, cases = sweeps.swept(document, settings, seeds)
+    done = ran([program, 'sweep', file, '--table', table, *options])
+    expected = {**outcome(0, sweeps.cases_text(settings, cases).encode(), b''),
+                'table': sweeps.table_of(settings, cases).encode()}
+    if refusal:
+        expected = {**outcome(3, b'', f'swimsim: {refusal}\n'.encode()), 'table': b''}
+    found = {**outcome(*done), 'table': table.read_bytes()}
+    return ['sweep', 'FILE', '--table', 'T', *options], text, compared(expected, found)
+
+
+TRIALS = {'run': try_run, 'text': try_text, 'sweep': try_sweep}
+
+
+def fault_of(case):
+    """What is to be told of a case, or None where the program and the model agree."""
+    program, seed, kind, number = case
+    with tempfile.TemporaryDirectory() as folder:
+        words, text, difference = TRIALS[kind](program, Path(folder), seed, number)
+    if difference is None:
+        return None
+    again = f'tests/generate.py {seed} {kind} {number}'
+    shown = text.decode(errors='backslashreplace')
+    return (f'FAILED {kind} {number}: {difference}\nby: swimsim {" ".join(words)}\n'
+            f'the text, by {again}:\n{shown}\n')
+
+
+def main():
+    arguments = argparse.ArgumentParser()
+    arguments.add_argument('--program', type=Path, default=BUILT)
+    arguments.add_argument('--seed', type=int)
+    arguments.add_argument('--runs', type=int, default=300)
+    arguments.add_argument('--texts', type=int, default=2000)
+    arguments.add_argument('--sweeps', type=int, default=20)
+    options = arguments.parse_args()
+    if not options.program.is_file():
+        sys.exit(f'{options.program} is not there; ./swimsim builds it')
+    seed = seed_of_sources() if options.seed is None else options.seed
+    print(f'seed {seed}')
+    counts = {'run': options.runs, 'text': options.texts, 'sweep': options.sweeps}
+    program = options.program.resolve()
+    cases = [(program, seed, kind, number) for kind in counts for number in range(counts[kind])]
+    with ProcessPoolExecutor() as pool:
+        faults = [fault for fault in pool.map(fault_of, cases, chunksize=4) if fault]
+    print(''.join(faults), end='')
+    print(f'{len(cases) - len(faults)} passed, {len(faults)} failed')
+    sys.exit(bool(faults))
+
+
+if __name__ == '__main__':
+    main()
