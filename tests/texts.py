@@ -1,4 +1,5 @@
-"""Texts of tests/texts that are accepted, with how many members they have, or refused, with their rule."""
+"""Texts of tests/texts that are accepted, with how many members they have, or refused, with their rule; and texts that
+say what another one does, or something else."""
 
 import json
 
@@ -21,6 +22,20 @@ def check(program, text, answer):
     """Checks a text, and compares the answer."""
     program.keep('s.toml', text)
     expect_ran(program.call(['check', 's.toml']), *ended(answer))
+
+
+def run_of(program, text):
+    """The trace and the report of a text."""
+    program.keep('s.toml', text)
+    ran = program.call(['run', 's.toml', '--trace', 't.csv', '--report', 'r.txt'])
+    expect('status', (ran.status, ran.err), (0, b''))
+    return program.held('t.csv'), program.held('r.txt')
+
+
+def check_run(program, base, text, answer):
+    """Runs a text and the one that it is made of: `same run` or `another run`."""
+    is_same = run_of(program, text) == run_of(program, (FOLDER / base).read_text())
+    expect('run', 'same run' if is_same else 'another run', answer)
 
 
 def check_255(program, base):
@@ -61,7 +76,11 @@ def cases():
         for group in json.loads(path.read_text()):
             for old, new, answer in group['cases']:
                 name = f'text {path.stem}, {group["base"]}, {new!r} for {old!r}'
-                yield Case(name, check, (made(group, old, new), answer))
+                text = made(group, old, new)
+                if answer.endswith(' run'):
+                    yield Case(name, check_run, (group['base'], text, answer))
+                else:
+                    yield Case(name, check, (text, answer))
     for base in WHOLE:
         yield Case(f'text {base} with each byte 255', check_255, (base,))
     for base in ('plain.toml', 'version-2.toml'):

@@ -1,9 +1,0 @@
-//! What no clause says of a command line: words that ask for a sweep, and what a failure tells.
-#![tactic(auto)]
-
-#[cfg(test)]
-mod failure_tests;
-#[cfg(test)]
-mod sweep_words_tests;
-#[cfg(test)]
-mod system_tests;
