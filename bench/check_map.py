@@ -4,8 +4,8 @@
     bench/check_map.py
 
 Each row of a table has four cells: the rule, and where its definition, its code and its tests stand. A
-place is `crate/File: names` for definitions, `crate/file.names` for code and tests; several are parted by
-semicolons. Where there is none the cell is `-` with the reason in parentheses. A definition has to be
+place is `crate/File: names` for definitions, `crate/file.names` for code and tests, and for tests also a file
+below tests/; several are parted by semicolons. Where there is none the cell is `-` with the reason in parentheses. A definition has to be
 declared in crates/crate/specs/File.antt, code has to be a function of crates/crate/src/file.rt that is no
 test, and a test one with #[test]. No rule stands twice.
 """
@@ -23,6 +23,7 @@ PLACES = {
     'code': re.compile(rf'(\w+)/(\w+)\.({NAMES})'),
     'test': re.compile(rf'(\w+)/(\w+)\.({NAMES})'),
 }
+DATA = re.compile(r'tests/[\w./-]+')
 NONE = re.compile(r'- \([^()]+\)')
 DECLARED = re.compile(r'^(?: *(?:(?:abbrev|unfoldable) pub|pub (?:record|data))|pub(?= \S+ :)) (\S+)', re.M)
 FUNCTION = re.compile(r'((?:^[ \t]*#\[[^\n]*\]\n)*)^[ \t]*(?:pub(?:\([a-z]+\))? )?fn (\w+)', re.M)
@@ -47,6 +48,10 @@ def names_there(column, path):
 
 def faults_of_place(column, place):
     """What is wrong with one place."""
+    if column == 'test' and DATA.fullmatch(place):
+        if not (TOP / place).is_file():
+            yield f'no file {place}'
+        return
     match = PLACES[column].fullmatch(place)
     if not match:
         yield f'no place of a {column}: {place!r}'

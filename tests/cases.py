@@ -3,8 +3,8 @@
 
     tests/cases.py [--program FILE] [--only WORD]
 
-Each case that fails is told with the first line that differs. The last line is `N passed, M failed`, and the status
-is 1 where M is over 0. tests/README.md tells what the data is.
+Each case that fails is told with the first line that differs. The last line is `N passed, M failed`, and the
+status is 1 where M is over 0. tests/README.md tells what the data is.
 """
 
 import argparse
@@ -49,8 +49,9 @@ def failures_of(path, room, cases):
 
 
 def main():
-    parser = argparse.ArgumentParser(description=__doc__, formatter_class=argparse.RawDescriptionHelpFormatter)
-    parser.add_argument('--program', default=str(BUILT), help='the program (default: the one that ./swimsim builds)')
+    parser = argparse.ArgumentParser(description=__doc__,
+                                     formatter_class=argparse.RawDescriptionHelpFormatter)
+    parser.add_argument('--program', default=str(BUILT), help='default: the one that ./swimsim builds')
     parser.add_argument('--only', default='', help='run only the cases whose name has this word')
     options = parser.parse_args()
     path = shutil.which(options.program)

@@ -2,17 +2,16 @@
 
 import json
 import os
-import subprocess
 
-from program import Case, DATA, Wrong, expect, expect_ran
+from program import Case, DATA, expect, expect_ran
 from worked import FOLDER as WORKED, text_of
 
 FOLDER = DATA / 'commands'
 
 
 def bytes_of(content):
-    """The bytes of a file by its content: a text; `@NAME`, a worked run's file; [that, old, new], in which the new
-    text stands for the old; or an object with a text that is there so many times, between others."""
+    """The bytes of a file by its content: a text; `@NAME`, a worked run's file; [that, old, new], in which
+    the new text stands for the old; or an object with a text that is there so many times, between others."""
     if isinstance(content, list):
         whole, old, new = bytes_of(content[0]).decode(), *content[1:]
         if old not in whole:
@@ -20,7 +19,8 @@ def bytes_of(content):
         return whole.replace(old, new, 1).encode()
     if isinstance(content, dict):
         line, times = content['times']
-        return bytes_of(content.get('before', '')) + line.encode() * times + bytes_of(content.get('after', ''))
+        before, after = (bytes_of(content.get(key, '')) for key in ('before', 'after'))
+        return before + line.encode() * times + after
     if content.startswith('@'):
         path = WORKED / content[1:]
         return text_of(path).encode() if path.suffix == '.toml' else path.read_bytes()
@@ -49,7 +49,8 @@ def seen_in(folder):
 
 
 def left_of(before, changes, folder):
-    """What a folder is to hold: what it held before but for the changes, in each of the names that a file has."""
+    """What a folder is to hold: what it held before but for the changes, in each of the names that a file
+    has."""
     wanted = dict(before)
     for name, content in changes.items():
         told = bytes_of(content)

@@ -62,8 +62,8 @@ def first(rows, what, member):
 
 
 def expect_ping(rows, sent, spread, loss, jitter, seed, number):
-    """Compares a member's first ping from this moment on, and the ack that the other one makes of it, with what its
-    words say."""
+    """Compares a member's first ping from this moment on, and the ack that the other one makes of it, with
+    what its words say."""
     name, other = f'n-{number}', f'n-{1 - number}'
     drawn = Draws(seed, number)
     at = sent + drawn.below(spread)
@@ -77,10 +77,12 @@ def expect_ping(rows, sent, spread, loss, jitter, seed, number):
 
 
 def check(program, sent, spread, loss, jitter, more):
-    """Runs two members under each seed, and compares what they draw for their first pings from that moment on."""
+    """Runs two members under each seed, and compares what they draw for their first pings from that moment
+    on."""
     for seed in SEEDS:
         version = 2 if 'cut' in more else 1
-        program.keep('s.toml', TEXT.format(version=version, seed=seed, spread=spread, loss=loss, jitter=jitter, more=more))
+        text = TEXT.format(version=version, seed=seed, spread=spread, loss=loss, jitter=jitter, more=more)
+        program.keep('s.toml', text)
         ran = program.call(['run', 's.toml', '--trace', 't.csv'])
         rows = rows_of(program.held('t.csv') or b'')
         expect_ran(ran, 0, f'rows {len(rows)}\n'.encode(), b'')
@@ -102,6 +104,6 @@ def cases():
     yield Case('draws: first pings are spread', check, (1, 50, 0, 0, ''))
     yield Case('draws: messages come after delay and jitter', check, (1, 1, 0, 5, ''))
     yield Case('draws: lost pings are told and have no ack', check, (1, 1, 500_000, 0, ''))
-    yield Case('draws: what is lost draws no jitter, and what is not lost draws it after', check, (1, 1, 500_000, 5, ''))
+    yield Case('draws: the jitter comes after the loss, for what is not lost', check, (1, 1, 500_000, 5, ''))
     yield Case('draws: spread, loss and jitter', check, (1, 7, 300_000, 900, ''))
     yield Case('draws: a message over a cut link draws nothing', check, (1001, 1, 0, 5, cut))

@@ -1,4 +1,5 @@
-"""The report on a trace, and the table and the lines of a sweep, as docs/FORMAT.md defines them over the rows."""
+"""The report on a trace, and the table and the lines of a sweep, as docs/FORMAT.md defines them over the
+rows."""
 
 import re
 from collections import namedtuple
@@ -6,7 +7,8 @@ from math import isqrt
 
 Row = namedtuple('Row', 'at member from_ number what about value lost')
 
-# what a report needs to know of a scenario; a slow time is its member, its first moment and the first one past it
+# what a report needs to know of a scenario; a slow time is its member, its first moment and the first one
+# past it
 Facts = namedtuple('Facts', 'version end members slows')
 
 # somebody who went: the name, the moment, and the moments of the later rows about it
@@ -15,10 +17,11 @@ Departure = namedtuple('Departure', 'member at suspects confirms')
 MESSAGES = ('join', 'welcome', 'ping', 'ping-req', 'ack', 'nack')
 
 COLUMNS = ('rows,crashes,detected,suspect_least,confirm_least,confirm_greatest,last_greatest,false_suspect,'
-           'false_suspect_healthy,false_confirm,false_confirm_healthy,thrown_out,accuse,refute,fail,health,sent,lost')
+           'false_suspect_healthy,false_confirm,false_confirm_healthy,thrown_out,accuse,refute,fail,health,'
+           'sent,lost')
 
-WORDS = ('runs suspect_p50 confirm_p50 confirm_p99 confirm_greatest last_p50 last_greatest false_suspect thrown_out '
-         'runs_with share_low share_high messages').split()
+WORDS = ('runs suspect_p50 confirm_p50 confirm_p99 confirm_greatest last_p50 last_greatest false_suspect '
+         'thrown_out runs_with share_low share_high messages').split()
 
 
 def facts_of(text):
@@ -32,8 +35,8 @@ def facts_of(text):
 
 def rows_of(trace):
     """The rows of a trace's bytes."""
-    lines = trace.decode().splitlines()[1:]
-    return [Row(int(line[0]), *line[1:6], int(line[6]), line[7] == '1') for line in (it.split(',') for it in lines)]
+    fields = [line.split(',') for line in trace.decode().splitlines()[1:]]
+    return [Row(int(it[0]), *it[1:6], int(it[6]), it[7] == '1') for it in fields]
 
 
 def departures(rows, what):
@@ -99,7 +102,8 @@ def departure_lines(rows, facts):
 def report_of(trace, facts):
     """The report on a trace, as bytes."""
     rows = rows_of(trace)
-    lines = [f'members {facts.members}', f'end {facts.end}', f'rows {len(rows)}', *departure_lines(rows, facts)]
+    lines = [f'members {facts.members}', f'end {facts.end}', f'rows {len(rows)}']
+    lines += departure_lines(rows, facts)
     times = sorted(latencies(departures(rows, 'crash')))
     least, greatest = first_and_last(times)
     lines.append(f'latency least {least} greatest {greatest}')
@@ -126,7 +130,8 @@ class RunFigures:
         self.sent, self.lost = len(sent), sum(row.lost for row in sent)
 
     def times(self, which):
-        """The times of its crashes to the first suspect, the first confirm or the last one; None where there is none."""
+        """The times of its crashes to the first suspect, the first confirm or the last one; None where there
+        is none."""
         moments = {'suspect': lambda it: it.suspects[:1], 'confirm': lambda it: it.confirms[:1],
                    'last': lambda it: it.confirms[-1:]}[which]
         return [moments(it)[0] - it.at if moments(it) else None for it in self.crashes]
@@ -137,10 +142,10 @@ class RunFigures:
                                   for which in ('suspect', 'confirm', 'last'))
         claims = [figure for what in ('suspect', 'confirm')
                   for figure in (len(self.claims[what]), healthy(self.claims[what], self.facts))]
-        return [len(self.rows), len(self.crashes), len(confirm), min(suspect, default=''), min(confirm, default=''),
-                max(confirm, default=''), max(last, default=''), *claims, self.thrown_out,
-                *(count(self.rows, what) for what in ('accuse', 'refute', 'fail')), worst_health(self.rows),
-                self.sent, self.lost]
+        counts = [count(self.rows, what) for what in ('accuse', 'refute', 'fail')]
+        return [len(self.rows), len(self.crashes), len(confirm), min(suspect, default=''),
+                min(confirm, default=''), max(confirm, default=''), max(last, default=''), *claims,
+                self.thrown_out, *counts, worst_health(self.rows), self.sent, self.lost]
 
 
 def percentile(times, percent):
@@ -162,8 +167,9 @@ def hundredths(numerator, denominator):
 
 def share(some, runs):
     """The ends of Wilson's interval at z = 1.96 for so many of the runs, in a hundred with a digit."""
-    # (k + z^2 / 2 -+ z root) / (n + z^2) with the root of k (n - k) / n + z^2 / 4, which is taken 8,000 times;
-    # numerators and denominators are taken 200,000 times, so z^2 is 768,320 and z times the root 49 such roots
+    # (k + z^2 / 2 -+ z root) / (n + z^2) with the root of k (n - k) / n + z^2 / 4, which is taken 8,000
+    # times; numerators and denominators are taken 200,000 times, so z^2 is 768,320 and z times the root 49
+    # such roots
     root = isqrt(64_000_000 * (some * (runs - some)) // runs + 61_465_600)
     below = 200_000 * runs + 768_320
     numerators = (max(0, 200_000 * some + 384_160 + sign * 49 * root) for sign in (-1, 1))
@@ -173,11 +179,12 @@ def share(some, runs):
 
 def case_fields(runs):
     """The fields of a case's line, behind the settings."""
-    times = {which: [it for run in runs for it in run.times(which)] for which in ('suspect', 'confirm', 'last')}
+    suspect, confirm, last = ([it for run in runs for it in run.times(which)]
+                              for which in ('suspect', 'confirm', 'last'))
     some = sum(run.thrown_out > 0 for run in runs)
     lasting = sum(run.facts.members * run.facts.end for run in runs)
-    return [len(runs), percentile(times['suspect'], 50), *(percentile(times['confirm'], it) for it in (50, 99, 100)),
-            percentile(times['last'], 50), percentile(times['last'], 100),
+    return [len(runs), percentile(suspect, 50), *(percentile(confirm, it) for it in (50, 99, 100)),
+            percentile(last, 50), percentile(last, 100),
             hundredths(sum(len(run.claims['suspect']) for run in runs), len(runs)),
             sum(run.thrown_out for run in runs), some, *share(some, len(runs)),
             hundredths(sum(run.sent for run in runs) * 1000, lasting)]
@@ -188,4 +195,5 @@ def aligned(keys, cases):
     widths = [max(len(key), *(len(values[place]) for values, _ in cases)) for place, key in enumerate(keys)]
     widths += [max(8, len(word)) for word in WORDS]
     lines = [[*keys, *WORDS]] + [[*values, *map(str, fields)] for values, fields in cases]
-    return ''.join('  '.join(word.rjust(width) for word, width in zip(line, widths)) + '\n' for line in lines).encode()
+    told = ('  '.join(word.rjust(width) for word, width in zip(line, widths)) for line in lines)
+    return ''.join(f'{line}\n' for line in told).encode()

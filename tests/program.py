@@ -29,14 +29,15 @@ class Program:
         self.path, self.folder = path, Path(folder)
 
     def call(self, words, out=subprocess.PIPE, room=None):
-        """Calls the program with these words, and gives its `Ran`. `out` is where its standard output goes; with
-        `room` no file that it writes grows past so many bytes, and such a write is an error."""
+        """Calls the program with these words, and gives its `Ran`. `out` is where its standard output goes;
+        with `room` no file that it writes grows past so many bytes, and such a write is an error."""
         if room is not None:
             resource.setrlimit(resource.RLIMIT_FSIZE, (room, resource.RLIM_INFINITY))
         try:
             # Python ignores the signal of a file that grew too large, and so then does the program
-            ran = subprocess.run([self.path, *map(os.fsencode, words)], cwd=self.folder, stdin=subprocess.DEVNULL,
-                                 stdout=out, stderr=subprocess.PIPE, timeout=SECONDS, restore_signals=room is None)
+            ran = subprocess.run([self.path, *map(os.fsencode, words)], cwd=self.folder,
+                                 stdin=subprocess.DEVNULL, stdout=out, stderr=subprocess.PIPE,
+                                 timeout=SECONDS, restore_signals=room is None)
         finally:
             if room is not None:
                 resource.setrlimit(resource.RLIMIT_FSIZE, (resource.RLIM_INFINITY, resource.RLIM_INFINITY))
@@ -60,7 +61,8 @@ def expect(what, seen, wanted):
         raise Wrong(f'{what}: {seen!r} in the place of {wanted!r}')
     lines, wanted_lines = seen.split(b'\n'), wanted.split(b'\n')
     number = next(n for n in range(len(lines) + 1) if lines[n:n + 1] != wanted_lines[n:n + 1])
-    raise Wrong(f'{what}, line {number + 1}: {line_at(lines, number)} in the place of {line_at(wanted_lines, number)}')
+    raise Wrong(f'{what}, line {number + 1}: {line_at(lines, number)} '
+                f'in the place of {line_at(wanted_lines, number)}')
 
 
 def line_at(lines, number):
@@ -69,7 +71,8 @@ def line_at(lines, number):
 
 
 def expect_ran(ran, status, out, err, what=''):
-    """Raises `Wrong` where a call didn't end with this status, this on standard output, and this on standard error."""
+    """Raises `Wrong` where a call didn't end with this status, this on standard output, and this on standard
+    error."""
     expect(f'{what}standard error', ran.err, err)
     expect(f'{what}standard output', ran.out, out)
     expect(f'{what}status', ran.status, status)

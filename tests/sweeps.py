@@ -13,7 +13,8 @@ WORKERS = ([], ['--workers', '1'], ['--workers', '2'], ['--workers', '3'], ['--w
 
 
 def with_value(text, key, value):
-    """A text that has a line for each key, with another value of a dotted key, which is added where it isn't there."""
+    """A text that has a line for each key, with another value of a dotted key, which is added where it isn't
+    there."""
     table, _, name = key.rpartition('.')
     head = f'[{table}]\n' if table else ''
     if head not in text:
@@ -21,7 +22,7 @@ def with_value(text, key, value):
     before, rest = text[:text.index(head) + len(head)], text[text.index(head) + len(head):]
     lines, _, others = rest.partition('[')
     line = re.compile(rf'^{name} = .*\n', re.M)
-    lines = line.sub('', lines) + f'{name} = {value}\n' if line.search(lines) else f'{lines}{name} = {value}\n'
+    lines = f'{line.sub("", lines)}{name} = {value}\n'
     return before + lines + ('[' + others if others else '')
 
 
@@ -74,7 +75,9 @@ def expect_progress(lines, runs, wanted):
 def check(program, sweep):
     """Makes a sweep by each number of workers, and compares its table and its lines."""
     text = text_of(DATA / sweep['base'])
-    words = ['sweep', 's.toml', '--table', 't.csv', *(['--seeds', sweep['seeds']] if sweep.get('seeds') else [])]
+    words = ['sweep', 's.toml', '--table', 't.csv']
+    if 'seeds' in sweep:
+        words += ['--seeds', sweep['seeds']]
     for setting in sweep['set']:
         words += ['--set', setting]
     by_runs = expected_of(program, text, sweep['set'], sweep.get('seeds'))

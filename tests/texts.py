@@ -1,5 +1,5 @@
-"""Texts of tests/texts that are accepted, with how many members they have, or refused, with their rule; and texts that
-say what another one does, or something else."""
+"""Texts of tests/texts that are accepted, with how many members they have, or refused, with their rule; and
+texts that say what another one does, or something else."""
 
 import json
 
@@ -7,8 +7,8 @@ from program import Case, DATA, Wrong, expect, expect_ran
 
 FOLDER = DATA / 'texts'
 
-# texts of which each byte in turn is replaced by 255, and of which each beginning is judged
-WHOLE = ('plain.toml', 'every-key.toml', 'every-table.toml', 'version-2.toml')
+# texts of which each byte in turn is replaced by 255
+WHOLE = ('plain.toml', 'every-key.toml', 'version-2.toml')
 
 
 def ended(answer):
@@ -59,8 +59,8 @@ def check_beginnings(program, base):
 
 
 def made(group, old, new):
-    """The text of a case: the group's base and what is appended to it, with new for old, or behind it where old is
-    empty, between what goes around it."""
+    """The text of a case: the group's base and what is appended to it, with new for old, or behind it where
+    old is empty, between what goes around it."""
     text = (FOLDER / group['base']).read_text() + group.get('append', '')
     if not old:
         before, after = group.get('around', ('', ''))

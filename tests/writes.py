@@ -11,7 +11,8 @@ from worked import text_of
 WORKED = DATA / 'worked'
 SWEEP = ['sweep', 's.toml', '--table', 't.csv', '--seeds', '1..2', '--set', 'swim.period=1000,1200']
 REFUSED = (5, b'', b'swimsim: run F3\n')
-WAYS = ([], ['--workers', '1', '--parts', '2'], ['--workers', '2', '--parts', '2'], ['--workers', '3', '--parts', '64'])
+WAYS = ([], ['--workers', '1', '--parts', '2'], ['--workers', '2', '--parts', '2'],
+        ['--workers', '3', '--parts', '64'])
 
 # so many sizes of a file are one case
 STEP = 32
@@ -45,8 +46,8 @@ def begin(program, name):
 
 
 def check_room(program, name, way, sizes):
-    """Runs with room for so many bytes in each file: where the trace has too little, it is a beginning and the report
-    is empty; where the report has, the trace is whole and the report is a beginning."""
+    """Runs with room for so many bytes in each file: where the trace has too little, it is a beginning and
+    the report is empty; where the report has, the trace is whole and the report is a beginning."""
     trace, report = of(name, 'trace'), of(name, 'report')
     for room in sizes:
         begin(program, name)
@@ -150,9 +151,9 @@ def rooms(length):
 
 def room_cases():
     """Each size of a file that is too short for its text."""
-    for name in ('two-members', 'crash-detected'):
+    for name, ways in (('two-members', WAYS), ('crash-detected', WAYS[::2])):
         longest = max(len(of(name, 'trace')), len(of(name, 'report')))
-        for way in WAYS:
+        for way in ways:
             for sizes in rooms(longest):
                 yield Case(f'writes: {name} {way}, {sizes} bytes', check_room, (name, way, sizes))
     for workers in ('1', '3'):
@@ -164,8 +165,9 @@ def full_cases():
     """Devices and pipes that take nothing for the files of runs and sweeps."""
     trace, run = of('two-members', 'trace'), ['run', 's.toml', '--trace']
     for way in WAYS:
-        yield Case(f'writes: full trace {way}', check_full, ([*run, '/dev/full', '--report', 'r.txt', *way], {'r.txt': b''}))
-        yield Case(f'writes: full report {way}', check_full, ([*run, 't.csv', '--report', '/dev/full', *way], {'t.csv': trace}))
+        full_trace, full_report = ['/dev/full', '--report', 'r.txt'], ['t.csv', '--report', '/dev/full']
+        yield Case(f'writes: full trace {way}', check_full, ([*run, *full_trace, *way], {'r.txt': b''}))
+        yield Case(f'writes: full report {way}', check_full, ([*run, *full_report, *way], {'t.csv': trace}))
         yield Case(f'writes: closed pipe {way}', check_pipe, (way,))
     yield Case('writes: full table', check_full, (['sweep', 's.toml', '--table', '/dev/full'], {}))
 
@@ -174,13 +176,14 @@ def output_cases():
     """Standard output and standard error that take nothing."""
     trace, report = of('two-members', 'trace'), of('two-members', 'report')
     table = (DATA / 'sweeps' / 'two-members.table').read_bytes()
-    printing = [(['run', 's.toml', '--trace', 't.csv', '--report', 'r.txt'], {'t.csv': trace, 'r.txt': report}),
+    run = ['run', 's.toml', '--trace', 't.csv', '--report', 'r.txt']
+    printing = [(run, {'t.csv': trace, 'r.txt': report}),
                 (['check', 's.toml'], {}), (['--help'], {}), (SWEEP, {'t.csv': table})]
     for words, left in printing:
         for how in (full, closed_pipe, None):
             told = how.__name__ if how else 'closed'
             yield Case(f'writes: output {told} of {words[0]}', check_output, (words, how, left))
-    for words, status in ((['check', 'absent'], 1), (['check'], 2), (['run', 's.toml', '--trace', 't', '--workers', '0'], 4),
+    for words, status in ((['check', 'absent'], 1), (['check'], 2), ([*run, '--workers', '0'], 4),
                           (['run', 's.toml', '--trace', '/dev/full'], 5), (['check', 's.toml'], 0)):
         yield Case(f'writes: error output of {words}', check_error, (words, status))
 
