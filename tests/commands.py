@@ -2,8 +2,9 @@
 
 import json
 import os
+import subprocess
 
-from program import Case, DATA, expect, expect_ran
+from program import Case, DATA, Ran, expect, expect_ran
 from worked import FOLDER as WORKED, text_of
 
 FOLDER = DATA / 'commands'
@@ -87,8 +88,17 @@ def check(program, files, words, case):
         expect(f'what {name} holds', seen[name], content)
 
 
+def check_own_name(program):
+    """Calls the program under a name that is no text, which is none of its words."""
+    make(program.folder, 'two.toml', '@two-members.toml')
+    ran = subprocess.run([b'\xff', b'check', b'two.toml'], executable=program.path, cwd=program.folder,
+                         stdin=subprocess.DEVNULL, capture_output=True, check=False)
+    expect_ran(Ran(ran.returncode, ran.stdout, ran.stderr), 0, b'members 2\n', b'')
+
+
 def cases():
-    """Each line of words of each group."""
+    """Each line of words of each group, and the program under another name."""
+    yield Case('command: a name of the program that is no text', check_own_name, ())
     for path in sorted(FOLDER.glob('*.json')):
         for group in json.loads(path.read_text()):
             for case in group['cases']:

@@ -8,7 +8,7 @@ from program import Case, DATA, Wrong, expect, expect_ran
 FOLDER = DATA / 'texts'
 
 # texts of which each byte in turn is replaced by 255
-WHOLE = ('plain.toml', 'every-key.toml', 'version-2.toml')
+WHOLE = ('plain.toml', 'every-key.toml', 'every-table.toml', 'version-2.toml')
 
 
 def ended(answer):
