@@ -47,30 +47,45 @@ fn each_failure_has_its_line_and_status(rt: HostRuntime) {
     }
 }
 
-/// Whether what was printed failed, since standard output did.
-fn has_failed(printed: Result<(), Failure<'_>>) -> bool {
-    printed == Err(Failure::Output)
+/// A writer that takes all, and whose flush fails.
+fn unflushed(rt: &impl AllocGlobal) -> MemoryWriter {
+    MemoryWriter::new(rt.alloc(), Failing::AtFlush)
+}
+
+/// Asserts that printing failed after this text.
+fn assert_failed(rt: &impl Abort, printed: Result<(), Failure>, out: &MemoryWriter, text: &str) {
+    assert!(rt; printed == Err(Failure::Output), "{text}");
+    assert!(rt; out.bytes() == text.as_bytes(), "{text}");
 }
 
 #[test]
-fn a_flush_that_fails_is_a_failure(rt: HostRuntime) {
-    let mut out = MemoryWriter::new(rt.alloc(), Failing::AtFlush);
-    assert!(rt; has_failed(print_rows(6, &mut out)));
-    assert!(rt; out.bytes() == b"rows 6\n".as_slice());
-    let mut out = MemoryWriter::new(rt.alloc(), Failing::AtFlush);
-    assert!(rt; has_failed(print_members(2, &mut out)));
-    assert!(rt; out.bytes() == b"members 2\n".as_slice());
-    let mut out = MemoryWriter::new(rt.alloc(), Failing::AtFlush);
-    assert!(rt; has_failed(print_cases("runs\n", &mut out)));
-    assert!(rt; out.bytes() == b"runs\n".as_slice());
+fn rows_whose_flush_fails_are_a_failure(rt: HostRuntime) {
+    let mut out = unflushed(&rt);
+    let printed = print_rows(6, &mut out);
+    assert_failed(&rt, printed, &out, "rows 6\n");
+}
+
+#[test]
+fn members_whose_flush_fails_are_a_failure(rt: HostRuntime) {
+    let mut out = unflushed(&rt);
+    let printed = print_members(2, &mut out);
+    assert_failed(&rt, printed, &out, "members 2\n");
+}
+
+#[test]
+fn cases_whose_flush_fails_are_a_failure(rt: HostRuntime) {
+    let mut out = unflushed(&rt);
+    let printed = print_cases("runs\n", &mut out);
+    assert_failed(&rt, printed, &out, "runs\n");
 }
 
 #[test]
 fn a_help_whose_flush_fails_is_a_failure(rt: HostRuntime) -> Result<(), Fail> {
-    let Ok(Asked::Help(help)) = parse(rt.alloc(), ["--help"].as_slice()) else {
+    let words = ["--help"];
+    let Ok(Asked::Help(help)) = parse(rt.alloc(), words.as_slice()) else {
         return Err(Fail::from("no help"));
     };
-    let mut out = MemoryWriter::new(rt.alloc(), Failing::AtFlush);
-    assert!(rt; has_failed(print_help(&help, &mut out)));
+    let mut out = unflushed(&rt);
+    assert!(rt; print_help(&help, &mut out).is_err());
     Ok(())
 }
