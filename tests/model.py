@@ -503,6 +503,14 @@ def trace_of(scenario, rows):
     return ''.join(line + '\n' for line in lines)
 
 
+def rows_in(scenario, trace):
+    """The rows that a trace's text has."""
+    numbers = {member['name']: number for number, member in enumerate(scenario['members'])}
+    fields = [line.split(',') for line in trace.splitlines()[1:]]
+    return [Row(int(moment), numbers[member], numbers[maker], int(number), what, numbers.get(about), int(value),
+                int(lost)) for moment, member, maker, number, what, about, value, lost in fields]
+
+
 # ---- The report (docs/FORMAT.md, "The report") ----
 
 def told(number):

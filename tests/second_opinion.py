@@ -20,7 +20,7 @@ from pathlib import Path
 
 import generate
 import model
-import sweeps
+import model_sweeps
 from scenarios import document_of, judge
 
 TOP = Path(__file__).resolve().parent.parent
@@ -120,11 +120,11 @@ def try_sweep(program, folder, seed, number):
     options = ['--workers', str(number % 3 + 1)]
     options += ['--seeds', f'{seeds[0]}..{seeds[-1]}'] if seeds else []
     for key, values in settings:
-        options += ['--set', f'{key}={",".join(map(sweeps.word, values))}']
-    refusal, cases = sweeps.swept(document, settings, seeds)
+        options += ['--set', f'{key}={",".join(map(model_sweeps.word, values))}']
+    refusal, cases = model_sweeps.swept(document, settings, seeds)
     done = ran([program, 'sweep', file, '--table', table, *options])
-    expected = {**outcome(0, sweeps.cases_text(settings, cases).encode(), b''),
-                'table': sweeps.table_of(settings, cases).encode()}
+    expected = {**outcome(0, model_sweeps.cases_text(settings, cases).encode(), b''),
+                'table': model_sweeps.table_of(settings, cases).encode()}
     if refusal:
         expected = {**outcome(3, b'', f'swimsim: {refusal}\n'.encode()), 'table': b''}
     found = {**outcome(*done), 'table': table.read_bytes()}

@@ -1,162 +1,78 @@
-"""Sweeps, for tests/model.py: the table of the runs and the lines of the cases.
+"""Sweeps of tests/sweeps: their tables and lines, as they were worked out by hand and as the model gives them."""
 
-Written from docs/FORMAT.md ("A sweep") alone.
-"""
-
-import copy
 import itertools
-from fractions import Fraction
-from math import isqrt
+import json
 
-import model
-from scenarios import judge
+from model_sweeps import cases_text, swept, table_of
+from program import Case, DATA, Wrong, expect, expect_ran
+from scenarios import document_of
+from worked import text_of
 
-RUN_FIGURES = [
-    'rows', 'crashes', 'detected', 'suspect_least', 'confirm_least', 'confirm_greatest', 'last_greatest',
-    'false_suspect', 'false_suspect_healthy', 'false_confirm', 'false_confirm_healthy', 'thrown_out',
-    'accuse', 'refute', 'fail', 'health', 'sent', 'lost',
-]
-PERCENTILES = {
-    'suspect_p50': ('suspect', 50), 'confirm_p50': ('confirm', 50), 'confirm_p99': ('confirm', 99),
-    'confirm_greatest': ('confirm', 100), 'last_p50': ('last', 50), 'last_greatest': ('last', 100),
-}
-CASE_FIGURES = ['runs', *PERCENTILES, 'false_suspect', 'thrown_out', 'runs_with', 'share_low', 'share_high',
-                'messages']
-MESSAGES = ['join', 'welcome', 'ping', 'ping-req', 'ack', 'nack', 'bye']
+FOLDER = DATA / 'sweeps'
+WORKERS = ([], ['--workers', '1'], ['--workers', '2'], ['--workers', '3'], ['--workers', '64'])
 
 
-# ---- Runs ----
-
-def with_value(document, key, value):
-    """The document with this value in the place of the key's, or added; a table that isn't there is made."""
-    document = copy.deepcopy(document)
-    table, _, name = key.rpartition('.')
-    (document.setdefault(table, {}) if table else document)[name] = value
-    return document
+def value_of(word):
+    """The value that a word of `--set` says."""
+    return {'true': True, 'false': False}[word] if word in ('true', 'false') else int(word)
 
 
-def cases_of(settings):
-    """Each choice of one value for each key, the last one's values changing fastest."""
-    return list(itertools.product(*(values for _, values in settings)))
+def settings_of(words):
+    """The keys that are set, each with its values."""
+    halves = [setting.split('=') for setting in words]
+    return [(key, [value_of(word) for word in values.split(',')]) for key, values in halves]
 
 
-def document_of_run(document, settings, case, seed):
-    document = with_value(document, 'seed', seed)
-    for (key, _), value in zip(settings, case):
-        document = with_value(document, key, value)
-    return document
+def seeds_of(words):
+    """The seeds of a range's words; None, for that of the text, where there is no range."""
+    if words is None:
+        return None
+    first, last = map(int, words.split('..'))
+    return range(first, last + 1)
 
 
-def swept(document, settings, seeds):
-    """An empty text and, for each case, its values and each run's seed and figures. Or what is told of the first
-    run that is refused, and no cases. Without seeds each case has one run, with the text's own."""
-    cases = []
-    for case in cases_of(settings):
-        runs = []
-        for seed in seeds or [document['seed']]:
-            rule, scenario = judge(document_of_run(document, settings, case, seed))
-            if rule:
-                return refusal_of(rule, settings, case), []
-            runs.append((seed, figures_of(scenario, model.rows_of(scenario))))
-        cases.append((case, runs))
-    return '', cases
+def expected_of(text, sweep):
+    """The table and the lines of a sweep, as the model gives them."""
+    settings = settings_of(sweep['set'])
+    _, cases = swept(document_of(text.encode()), settings, seeds_of(sweep.get('seeds')))
+    return table_of(settings, cases).encode(), cases_text(settings, cases).encode()
 
 
-def refusal_of(rule, settings, case):
-    """The rule, with what is set in the run that breaks it."""
-    told = ''.join(f' {key}={word(value)}' for (key, _), value in zip(settings, case))
-    return f'scenario rule {rule}' + (f' with{told}' if told else '')
+def expect_progress(lines, runs, wanted):
+    """Compares what is told on the way: each line more runs, the last one all; or just these lines."""
+    if wanted is not None:
+        expect('progress', lines, wanted.encode())
+    made = [int(line.split(b'/')[0]) for line in lines.splitlines()]
+    whole = ''.join(f'{it}/{runs} runs\n' for it in made).encode()
+    if lines != whole or made != sorted(set(made)) or made[-1:] != [runs]:
+        raise Wrong(f'progress: {lines}')
 
 
-def figures_of(scenario, rows):
-    """What is told of a run, and `times`, `members` and `end`, which its case needs."""
-    crashes = model.ends_of(rows, 'crash')
-    times = {name: [None if crash[place] is None else max(0, crash[place] - crash[1]) for crash in crashes]
-             for place, name in enumerate(['suspect', 'confirm', 'last'], 2)}
-    suspect, confirm, last = ([time for time in times[name] if time is not None] for name in times)
-    suspects, healthy_suspects = model.false_rows(scenario, rows, 'suspect')
-    confirms, healthy_confirms = model.false_rows(scenario, rows, 'confirm')
-    sent = [row.lost for row in rows if row.what in MESSAGES]
-    return {
-        'times': times, 'members': len(scenario['members']), 'end': scenario['end'],
-        'rows': len(rows), 'crashes': len(crashes), 'detected': len(confirm),
-        'suspect_least': min(suspect, default=''), 'confirm_least': min(confirm, default=''),
-        'confirm_greatest': max(confirm, default=''), 'last_greatest': max(last, default=''),
-        'false_suspect': len(suspects), 'false_suspect_healthy': len(healthy_suspects),
-        'false_confirm': len(confirms), 'false_confirm_healthy': len(healthy_confirms),
-        'thrown_out': len({row.about for row in confirms}),
-        **{what: sum(row.what == what for row in rows) for what in ('accuse', 'refute', 'fail')},
-        'health': max((row.value for row in rows if row.what == 'health'), default=0),
-        'sent': len(sent), 'lost': sum(sent),
-    }
+def check(program, sweep):
+    """Makes a sweep by each number of workers, and compares its table and its lines."""
+    text = text_of(DATA / sweep['base'])
+    words = ['sweep', 's.toml', '--table', 't.csv']
+    if 'seeds' in sweep:
+        words += ['--seeds', sweep['seeds']]
+    for setting in sweep['set']:
+        words += ['--set', setting]
+    by_model = expected_of(text, sweep)
+    table, lines = ((FOLDER / sweep[key]).read_bytes() if key in sweep else modelled
+                    for key, modelled in zip(('table', 'lines'), by_model))
+    expect('table by the model', by_model[0], table)
+    expect('lines by the model', by_model[1], lines)
+    program.keep('s.toml', text)
+    for workers, progress in itertools.product(WORKERS, ([], ['--progress'])):
+        program.keep('t.csv', 'an older table\n' * 1000)
+        ran = program.call([*words, *workers, *progress])
+        if progress:
+            expect_progress(ran.err, table.count(b'\n') - 1, sweep.get('progress'))
+            ran = ran._replace(err=b'')
+        expect_ran(ran, 0, lines, b'', ' '.join([*workers, *progress, '']))
+        expect(f'{workers} table', program.held('t.csv'), table)
 
 
-# ---- The table ----
-
-def word(value):
-    """A value of a key as it is told."""
-    return str(value).lower()
-
-
-def table_of(settings, cases):
-    """The table's text."""
-    lines = [[*(key for key, _ in settings), 'seed', *RUN_FIGURES]]
-    lines += [[*map(word, case), seed, *(figures[name] for name in RUN_FIGURES)]
-              for case, runs in cases for seed, figures in runs]
-    return ''.join(','.join(map(str, line)) + '\n' for line in lines)
-
-
-# ---- Standard output ----
-
-def percentile(times, percent):
-    """The time at the percentile's place, None being later than any."""
-    rising = sorted(times, key=lambda time: (time is None, time or 0))
-    place = max(1, (percent * len(times) + 99) // 100)
-    return rising[place - 1] if rising else None
-
-
-def nearest_thousandth(value):
-    return int(value * 1000 + Fraction(1, 2))
-
-
-def shares(found, runs):
-    """The ends of Wilson's 95 % interval, in thousandths."""
-    z = Fraction(196, 100)
-    square = Fraction(found * (runs - found), runs) + z * z / 4
-    root = Fraction(isqrt(int(square * 8000**2)), 8000)
-    return [nearest_thousandth((found + z * z / 2 + sign * z * root) / (runs + z * z)) for sign in (-1, 1)]
-
-
-def decimal(number, digits):
-    """A whole number of hundredths, or of tenths, as a decimal."""
-    return f'{number // 10**digits}.{number % 10**digits:0{digits}}'
-
-
-def case_figures(figures):
-    """What is told of a case, of the figures of its runs."""
-    runs = len(figures)
-    told = {'runs': runs}
-    for name, (which, percent) in PERCENTILES.items():
-        times = [time for run in figures for time in run['times'][which]]
-        told[name] = model.told(percentile(times, percent))
-    told['false_suspect'] = decimal(sum(run['false_suspect'] for run in figures) * 100 // runs, 2)
-    told['thrown_out'] = sum(run['thrown_out'] for run in figures)
-    told['runs_with'] = sum(run['thrown_out'] > 0 for run in figures)
-    low, high = shares(told['runs_with'], runs)
-    told['share_low'], told['share_high'] = decimal(low, 1), decimal(high, 1)
-    length = sum(run['members'] * run['end'] for run in figures)
-    sent = sum(run['sent'] for run in figures)
-    told['messages'] = decimal(sent * 1000 * 100 // length, 2) if length else '-'
-    return told
-
-
-def cases_text(settings, cases):
-    """The lines of standard output."""
-    widths = [max(map(len, [key, *map(word, values)])) for key, values in settings]
-    widths += [max(8, len(name)) for name in CASE_FIGURES]
-    lines = [[*(key for key, _ in settings), *CASE_FIGURES]]
-    for case, runs in cases:
-        told = case_figures([figures for _, figures in runs])
-        lines.append([*map(word, case), *(told[name] for name in CASE_FIGURES)])
-    return ''.join('  '.join(str(item).rjust(width) for item, width in zip(line, widths)) + '\n'
-                   for line in lines)
+def cases():
+    """Each sweep of the list."""
+    for sweep in json.loads((FOLDER / 'sweeps.json').read_text()):
+        yield Case(f'sweep: {sweep["about"]}', check, (sweep,))

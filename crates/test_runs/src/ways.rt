@@ -1,0 +1,149 @@
+//! The ways in which tests run a scenario: as one, by parts in turn, and by workers.
+
+use base::{Fault, Memory};
+use exchange::{Summary, run, run_in_turn, run_one};
+use scenario::{Division, Scenario, Workers};
+use std::marker::Sync;
+use std::process::Abort;
+use std::sync::Wait;
+use std::thread::Threads;
+use trace::Sink;
+use trace::testing::MemorySink;
+use workers::OpenGate;
+
+/// The division into so many parts with these members in each. `Memory` where it is refused.
+pub(crate) fn divided(
+    rt: &impl Abort,
+    scenario: &Scenario,
+    parts: u8,
+    part_of: Vec<u8>,
+) -> Result<Division, Memory> {
+    match Division::new(scenario, usize::from(parts), part_of) {
+        Ok(division) => Ok(division),
+        Err(_) => panic!(rt; "there is no such division"),
+    }
+}
+
+/// The division that puts the members into so many parts by turns: member m into part m mod parts.
+/// `Memory` where it is refused.
+pub(crate) fn dealt(
+    rt: &(impl Abort + AllocGlobal),
+    scenario: &Scenario,
+    parts: u8,
+) -> Result<Division, Memory> {
+    let last = parts.saturating_sub(1);
+    let mut part_of = Vec::new(rt.alloc());
+    let mut part = 0;
+    for _ in 0..scenario.members() {
+        match part_of.push(part) {
+            Ok(()) => {}
+            Err(_) => return Err(Memory),
+        }
+        part = if part < last { part + 1 } else { 0 };
+    }
+    divided(rt, scenario, parts, part_of)
+}
+
+/// The division of sites of two members each into four parts, where digit s of `deal` to base 4 says which part
+/// has site s. `Memory` where it is refused.
+fn dealt_by_site(
+    rt: &(impl Abort + AllocGlobal),
+    scenario: &Scenario,
+    deal: u8,
+) -> Result<Division, Memory> {
+    let mut part_of = Vec::new(rt.alloc());
+    let mut deals = deal;
+    for _ in 0..scenario.members() / 2 {
+        let part = deals % 4;
+        match part_of.extend_from_slice(&[part, part]) {
+            Ok(()) => {}
+            Err(_) => return Err(Memory),
+        }
+        deals /= 4;
+    }
+    divided(rt, scenario, 4, part_of)
+}
+
+/// How a test runs a scenario.
+#[derive(Clone, Copy)]
+pub(crate) enum Way {
+    /// By `run_one`.
+    AsOne,
+    /// By so many parts, one after another.
+    InTurn(u8),
+    /// By so many parts, and so many workers.
+    ByWorkers(u8, u8),
+    /// By four parts of whole sites of two members each, dealt by the digits of this number, and so many workers.
+    BySite(u8, u8),
+}
+
+const WAYS: [Way; 6] = [
+    Way::AsOne,
+    Way::InTurn(1),
+    Way::InTurn(2),
+    Way::InTurn(64),
+    Way::ByWorkers(2, 1),
+    Way::ByWorkers(2, 2),
+];
+
+/// The ways in which tests of whole runs and of failing sinks run their scenarios; one worker alone writes as it goes.
+pub(crate) fn ways<'a>() -> &'a [Way] {
+    &WAYS
+}
+
+/// How that way divides the scenario.
+fn division_of(
+    rt: &(impl Abort + AllocGlobal),
+    way: Way,
+    scenario: &Scenario,
+) -> Result<Division, Memory> {
+    match way {
+        Way::AsOne => dealt(rt, scenario, 1),
+        Way::InTurn(parts) | Way::ByWorkers(parts, _) => dealt(rt, scenario, parts),
+        Way::BySite(deal, _) => dealt_by_site(rt, scenario, deal),
+    }
+}
+
+/// Runs the scenario that way into these sinks.
+pub(crate) fn run_by(
+    rt: &(impl Abort + AllocGlobal + Threads + Wait + Sync),
+    way: Way,
+    scenario: &Scenario,
+    trace: &mut MemorySink,
+    report: &mut MemorySink,
+) -> Result<Summary, Fault> {
+    let Ok(division) = division_of(rt, way, scenario) else {
+        return Err(Fault::Memory);
+    };
+    assert_eq!(rt; division.members(), scenario.members());
+    assert!(rt; trace.failures() < 1 << 62);
+    assert!(rt; report.failures() < 1 << 62);
+    let alloc = rt.alloc();
+    match way {
+        Way::AsOne => run_one(alloc, scenario, trace, report),
+        Way::InTurn(_) => run_in_turn(rt, alloc, scenario, &division, trace, report),
+        Way::ByWorkers(_, workers) | Way::BySite(_, workers) => {
+            let workers = Workers::new(usize::from(workers)).expect(rt, "workers");
+            run(
+                rt, alloc, scenario, &division, workers, &OpenGate, trace, report,
+            )
+        }
+    }
+}
+
+/// Asserts that the scenario's run that way has this outcome, and writes what these sinks hold.
+pub(crate) fn assert_writes(
+    rt: &(impl Abort + AllocGlobal + Threads + Wait + Sync),
+    way: Way,
+    scenario: &Scenario,
+    outcome: Result<Summary, Fault>,
+    trace: &MemorySink,
+    report: &MemorySink,
+) {
+    let mut trace_of_way = MemorySink::new(rt.alloc());
+    let mut report_of_way = MemorySink::new(rt.alloc());
+    let same = run_by(rt, way, scenario, &mut trace_of_way, &mut report_of_way);
+    assert_eq!(rt; same, outcome);
+    assert!(rt; trace_of_way.bytes() == trace.bytes());
+    assert_eq!(rt; report_of_way.bytes(), report.bytes());
+}

@@ -1,0 +1,72 @@
+#!/usr/bin/env python3
+"""Runs the built program over the data of tests/, and compares what it prints and leaves, byte for byte.
+
+    tests/cases.py [--program FILE] [--only WORD]
+
+Each case that fails is told with the first line that differs. The last line is `N passed, M failed`, and the
+status is 1 where M is over 0. tests/README.md tells what the data is.
+"""
+
+import argparse
+import os
+import shutil
+import sys
+import tempfile
+from concurrent.futures import ProcessPoolExecutor
+from pathlib import Path
+
+import commands
+import draws
+import sweeps
+import texts
+import worked
+import writes
+from program import Program, Wrong
+
+BUILT = Path(__file__).resolve().parent.parent / 'crates' / 'swimsim' / 'out' / 'swimsim'
+KINDS = (worked, draws, texts, commands, sweeps, writes)
+
+
+def failure_of(path, room, case):
+    """Runs a case in a new folder of the room; gives what is wrong, or None."""
+    folder = tempfile.mkdtemp(dir=room)
+    try:
+        case.check(Program(path, folder), *case.arguments)
+    except Wrong as wrong:
+        return f'{case.name}: {wrong}'
+    except Exception as error:  # a case that can't be run has failed, and the others go on
+        return f'{case.name}: {type(error).__name__}: {error}'
+    finally:
+        shutil.rmtree(folder)
+    return None
+
+
+def failures_of(path, room, cases):
+    """Runs the cases side by side; gives what is wrong with each, None where nothing is."""
+    count = len(cases)
+    with ProcessPoolExecutor(os.cpu_count()) as pool:
+        yield from pool.map(failure_of, [path] * count, [room] * count, cases, chunksize=4)
+
+
+def main():
+    parser = argparse.ArgumentParser(description=__doc__,
+                                     formatter_class=argparse.RawDescriptionHelpFormatter)
+    parser.add_argument('--program', default=str(BUILT), help='default: the one that ./swimsim builds')
+    parser.add_argument('--only', default='', help='run only the cases whose name has this word')
+    options = parser.parse_args()
+    path = shutil.which(options.program)
+    if path is None:
+        sys.exit(f'cases: no program {options.program}')
+    cases = [case for kind in KINDS for case in kind.cases() if options.only in case.name]
+    with tempfile.TemporaryDirectory() as room:
+        failed = 0
+        for failure in failures_of(os.path.abspath(path), room, cases):
+            if failure:
+                failed += 1
+                print(failure, flush=True)
+    print(f'{len(cases) - failed} passed, {failed} failed')
+    return 1 if failed else 0
+
+
+if __name__ == '__main__':
+    sys.exit(main())

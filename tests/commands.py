@@ -1,0 +1,107 @@
+"""Commands of tests/commands: words over some files, and what they answer and leave."""
+
+import json
+import os
+import subprocess
+
+from program import Case, DATA, Ran, expect, expect_ran
+from worked import FOLDER as WORKED, text_of
+
+FOLDER = DATA / 'commands'
+
+
+def bytes_of(content):
+    """The bytes of a file by its content: a text; `@NAME`, a worked run's file; [that, old, new], in which
+    the new text stands for the old; or an object with a text that is there so many times, between others."""
+    if isinstance(content, list):
+        whole, old, new = bytes_of(content[0]).decode(), *content[1:]
+        if old not in whole:
+            raise ValueError(f'no {old!r} in {content[0]}')
+        return whole.replace(old, new, 1).encode()
+    if isinstance(content, dict):
+        line, times = content['times']
+        before, after = (bytes_of(content.get(key, '')) for key in ('before', 'after'))
+        return before + line.encode() * times + after
+    if content.startswith('@'):
+        path = WORKED / content[1:]
+        return text_of(path).encode() if path.suffix == '.toml' else path.read_bytes()
+    return content.encode()
+
+
+def make(folder, name, content):
+    """Makes a file, or what else stands under the name: a folder, a link, a second name of a file."""
+    if isinstance(content, dict) and 'folder' in content:
+        (folder / name).mkdir()
+    elif isinstance(content, dict) and 'link' in content:
+        os.symlink(content['link'], folder / name)
+    elif isinstance(content, dict) and 'hard' in content:
+        os.link(folder / content['hard'], folder / name)
+    else:
+        (folder / name).write_bytes(bytes_of(content))
+
+
+def seen_in(folder):
+    """What a folder holds, by its names: the bytes of each file, the way of each link, True for a folder."""
+    found = {}
+    for path in sorted(folder.rglob('*')):
+        name = str(path.relative_to(folder))
+        found[name] = os.readlink(path) if path.is_symlink() else True if path.is_dir() else path.read_bytes()
+    return found
+
+
+def left_of(before, changes, folder):
+    """What a folder is to hold: what it held before but for the changes, in each of the names that a file
+    has."""
+    wanted = dict(before)
+    for name, content in changes.items():
+        told = bytes_of(content)
+        same = [other for other in before if (folder / other).is_file() and not (folder / other).is_symlink()
+                and (folder / name).exists() and os.path.samefile(folder / other, folder / name)]
+        wanted.update({other: told for other in same or [name]})
+    return wanted
+
+
+def called(program, words, output):
+    """Calls the program, with its standard output where that is said."""
+    if output is None:
+        return program.call(words)
+    with open(program.folder / output, 'wb') as out:
+        return program.call(words, out=out)
+
+
+def check(program, files, words, case):
+    """Calls the program with these words over these files, and compares what it answers and leaves."""
+    for name, content in files.items():
+        make(program.folder, name, content)
+    before = seen_in(program.folder)
+    ran = called(program, words, case.get('output'))
+    if 'out_has' in case:
+        expect('whether standard output has it', case['out_has'].encode() in ran.out, True)
+        ran = ran._replace(out=b'')
+    expect_ran(ran, case['status'], case.get('out', '').encode(), case.get('err', '').encode())
+    seen = seen_in(program.folder)
+    if 'made' in case:
+        expect('whether the file is made', isinstance(seen.pop(case['made'], None), bytes), True)
+    wanted = left_of(before, case.get('after', {}), program.folder)
+    expect('names that are left', sorted(seen), sorted(wanted))
+    for name, content in wanted.items():
+        expect(f'what {name} holds', seen[name], content)
+
+
+def check_own_name(program):
+    """Calls the program under a name that is no text, which is none of its words."""
+    make(program.folder, 'two.toml', '@two-members.toml')
+    ran = subprocess.run([b'\xff', b'check', b'two.toml'], executable=program.path, cwd=program.folder,
+                         stdin=subprocess.DEVNULL, capture_output=True, check=False)
+    expect_ran(Ran(ran.returncode, ran.stdout, ran.stderr), 0, b'members 2\n', b'')
+
+
+def cases():
+    """Each line of words of each group, and the program under another name."""
+    yield Case('command: a name of the program that is no text', check_own_name, ())
+    for path in sorted(FOLDER.glob('*.json')):
+        for group in json.loads(path.read_text()):
+            for case in group['cases']:
+                for line in case['lines']:
+                    words = line.split() if isinstance(line, str) else line
+                    yield Case(f'command {path.stem}: {words!r}', check, (group['files'], words, case))

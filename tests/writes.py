@@ -1,0 +1,195 @@
+"""Files and outputs that take less than they are given: what the program answers, and what is left."""
+
+import os
+import subprocess
+import threading
+from contextlib import contextmanager
+
+from program import Case, DATA, Ran, expect, expect_ran
+from worked import text_of
+
+WORKED = DATA / 'worked'
+SWEEP = ['sweep', 's.toml', '--table', 't.csv', '--seeds', '1..2', '--set', 'swim.period=1000,1200']
+REFUSED = (5, b'', b'swimsim: run F3\n')
+WAYS = ([], ['--workers', '1', '--parts', '2'], ['--workers', '2', '--parts', '2'],
+        ['--workers', '3', '--parts', '64'])
+
+# so many sizes of a file are one case
+STEP = 32
+
+# a trace that is longer than what a pipe holds
+LONG = '''version = 1
+seed = 3
+end = 12000
+[swim]
+period = 100
+timeout = 30
+[link]
+delay = 2
+[[group]]
+name = "n"
+count = 64
+'''
+
+
+def of(name, ending):
+    """The bytes of a file of a worked run."""
+    path = WORKED / f'{name}.{ending}'
+    return text_of(path).encode() if ending == 'toml' else path.read_bytes()
+
+
+def begin(program, name):
+    """Puts the scenario of a worked run into the folder, and older files."""
+    program.keep('s.toml', of(name, 'toml'))
+    program.keep('t.csv', 'an older trace, which is replaced\n')
+    program.keep('r.txt', 'an older report\n')
+
+
+def check_room(program, name, way, sizes):
+    """Runs with room for so many bytes in each file: where the trace has too little, it is a beginning and
+    the report is empty; where the report has, the trace is whole and the report is a beginning."""
+    trace, report = of(name, 'trace'), of(name, 'report')
+    for room in sizes:
+        begin(program, name)
+        ran = program.call(['run', 's.toml', '--trace', 't.csv', '--report', 'r.txt', *way], room=room)
+        is_done = room >= max(len(trace), len(report))
+        rows = f'rows {trace.count(10) - 1}\n'.encode()
+        expect_ran(ran, *((0, rows, b'') if is_done else REFUSED), what=f'{room} bytes, ')
+        expect(f'{room} bytes, trace', program.held('t.csv'), trace[:room])
+        expect(f'{room} bytes, report', program.held('r.txt'), report[:room] if room >= len(trace) else b'')
+
+
+def check_table_room(program, workers, sizes):
+    """Sweeps with room for so many bytes in the table, which is then a beginning."""
+    table = (DATA / 'sweeps' / 'two-members.table').read_bytes()
+    for room in sizes:
+        begin(program, 'two-members')
+        ran = program.call([*SWEEP, '--workers', workers], room=room)
+        if room < len(table):
+            expect_ran(ran, *REFUSED, what=f'{room} bytes, ')
+        expect(f'{room} bytes, table', program.held('t.csv'), table[:room])
+
+
+def check_full(program, words, left):
+    """Calls with a device that takes nothing for a file: fault 3, and these files are left."""
+    begin(program, 'two-members')
+    expect_ran(program.call(words), *REFUSED)
+    for name, held in left.items():
+        expect(f'what {name} holds', program.held(name), held)
+
+
+def check_pipe(program, way):
+    """Runs into a pipe that is closed after its first bytes: fault 3, and nothing of a report."""
+    program.keep('s.toml', LONG)
+    program.keep('r.txt', 'an older report\n')
+    os.mkfifo(program.folder / 't.csv')
+    taken = []
+
+    def read_and_close():
+        with open(program.folder / 't.csv', 'rb', buffering=0) as pipe:
+            taken.append(pipe.read(16))
+
+    reader = threading.Thread(target=read_and_close, daemon=True)
+    reader.start()
+    ran = program.call(['run', 's.toml', '--trace', 't.csv', '--report', 'r.txt', *way])
+    reader.join(10)
+    expect_ran(ran, *REFUSED)
+    expect('what was read', taken, [b'moment,member,fr'])
+    expect('what r.txt holds', program.held('r.txt'), b'')
+
+
+@contextmanager
+def full():
+    """A file that takes nothing."""
+    with open('/dev/full', 'wb') as out:
+        yield out
+
+
+@contextmanager
+def closed_pipe():
+    """A pipe that nobody reads."""
+    reading, writing = os.pipe()
+    os.close(reading)
+    try:
+        yield writing
+    finally:
+        os.close(writing)
+
+
+def without(program, words, closed):
+    """Calls the program by a shell with a stream closed, as by `>&-`."""
+    ran = subprocess.run(['sh', '-c', f'exec "$0" "$@" {closed}', program.path, *words], cwd=program.folder,
+                         stdin=subprocess.DEVNULL, capture_output=True, check=False)
+    return Ran(ran.returncode, ran.stdout, ran.stderr)
+
+
+def check_output(program, words, how, left):
+    """Calls with a standard output that takes nothing: status 1, no line, and the files are whole."""
+    begin(program, 'two-members')
+    if how is None:
+        ran = without(program, words, '>&-')
+    else:
+        with how() as out:
+            ran = program.call(words, out=out)
+    expect_ran(ran, 1, b'', b'')
+    for name, held in left.items():
+        expect(f'what {name} holds', program.held(name), held)
+
+
+def check_error(program, words, status):
+    """Calls with a standard error that takes nothing: the status is that of the failure."""
+    begin(program, 'two-members')
+    expect('status', without(program, words, '2>/dev/full').status, status)
+    expect('status without standard error', without(program, words, '2>&-').status, status)
+
+
+def rooms(length):
+    """The sizes from 0 to past the length, some at a time."""
+    for start in range(0, length + 2, STEP):
+        yield range(start, min(start + STEP, length + 2))
+
+
+def room_cases():
+    """Each size of a file that is too short for its text."""
+    for name in ('two-members', 'crash-detected'):
+        longest = max(len(of(name, 'trace')), len(of(name, 'report')))
+        for way in WAYS:
+            for sizes in rooms(longest):
+                yield Case(f'writes: {name} {way}, {sizes} bytes', check_room, (name, way, sizes))
+    for workers in ('1', '3'):
+        for sizes in rooms(len((DATA / 'sweeps' / 'two-members.table').read_bytes())):
+            yield Case(f'writes: table by {workers}, {sizes} bytes', check_table_room, (workers, sizes))
+
+
+def full_cases():
+    """Devices and pipes that take nothing for the files of runs and sweeps."""
+    trace, run = of('two-members', 'trace'), ['run', 's.toml', '--trace']
+    for way in WAYS:
+        full_trace, full_report = ['/dev/full', '--report', 'r.txt'], ['t.csv', '--report', '/dev/full']
+        yield Case(f'writes: full trace {way}', check_full, ([*run, *full_trace, *way], {'r.txt': b''}))
+        yield Case(f'writes: full report {way}', check_full, ([*run, *full_report, *way], {'t.csv': trace}))
+        yield Case(f'writes: closed pipe {way}', check_pipe, (way,))
+    yield Case('writes: full table', check_full, (['sweep', 's.toml', '--table', '/dev/full'], {}))
+
+
+def output_cases():
+    """Standard output and standard error that take nothing."""
+    trace, report = of('two-members', 'trace'), of('two-members', 'report')
+    table = (DATA / 'sweeps' / 'two-members.table').read_bytes()
+    run = ['run', 's.toml', '--trace', 't.csv', '--report', 'r.txt']
+    printing = [(run, {'t.csv': trace, 'r.txt': report}),
+                (['check', 's.toml'], {}), (['--help'], {}), (SWEEP, {'t.csv': table})]
+    for words, left in printing:
+        for how in (full, closed_pipe, None):
+            told = how.__name__ if how else 'closed'
+            yield Case(f'writes: output {told} of {words[0]}', check_output, (words, how, left))
+    for words, status in ((['check', 'absent'], 1), (['check'], 2), ([*run, '--workers', '0'], 4),
+                          (['run', 's.toml', '--trace', '/dev/full'], 5), (['check', 's.toml'], 0)):
+        yield Case(f'writes: error output of {words}', check_error, (words, status))
+
+
+def cases():
+    """All of them."""
+    yield from room_cases()
+    yield from full_cases()
+    yield from output_cases()
