@@ -115,7 +115,7 @@ def go_far(rng, groups, end):
 
 
 def members_of(document):
-    """Each member's name and start; of a group whose count is past its range, no more than a cluster may have."""
+    """Each member's name and start; of a count past its range as many members as a cluster may have."""
     most = MOST_MEMBERS[2]
     return [(f'{group["name"]}-{index}', group.get('start', 0))
             for group in document['group'] for index in range(min(group['count'], most))]
