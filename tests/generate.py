@@ -184,8 +184,9 @@ class Raw(str):
     """A value that is written as it stands."""
 
 
+# no time is among them: cut short, it may be one of TOML 1.1 alone (scenarios.document_of)
 OTHERS = [0, 1, -1, 2.5, 1.0, True, False, '', 'a', '1', datetime.date(2026, 11, 26), [], [1], [[]], [{}], {},
-          {'a': 1}, Raw('inf'), Raw('-nan'), Raw('1e3'), Raw('2026-11-26T07:00:11Z')]
+          {'a': 1}, Raw('inf'), Raw('-nan'), Raw('1e3')]
 
 
 def change_kind(rng, document):
