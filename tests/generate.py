@@ -115,7 +115,7 @@ def go_far(rng, groups, end):
 
 
 def members_of(document):
-    """Each member's name and start; of a group whose count is past its range, no more than a cluster may have."""
+    """Each member's name and start; of a count past its range as many members as a cluster may have."""
     most = MOST_MEMBERS[2]
     return [(f'{group["name"]}-{index}', group.get('start', 0))
             for group in document['group'] for index in range(min(group['count'], most))]
@@ -184,8 +184,9 @@ class Raw(str):
     """A value that is written as it stands."""
 
 
+# no time is among them: cut short, it may be one of TOML 1.1 alone (scenarios.document_of)
 OTHERS = [0, 1, -1, 2.5, 1.0, True, False, '', 'a', '1', datetime.date(2026, 11, 26), [], [1], [[]], [{}], {},
-          {'a': 1}, Raw('inf'), Raw('-nan'), Raw('1e3'), Raw('2026-11-26T07:00:11Z')]
+          {'a': 1}, Raw('inf'), Raw('-nan'), Raw('1e3')]
 
 
 def change_kind(rng, document):

@@ -48,8 +48,8 @@ def document_of_run(document, settings, case, seed):
 
 
 def swept(document, settings, seeds):
-    """An empty text and, for each case, its values and each run's seed and figures. Or what is told of the first
-    run that is refused, and no cases. Without seeds each case has one run, with the text's own."""
+    """An empty text and, for each case, its values and each run's seed and figures; or what is told of the
+    first run that is refused, and no cases. Without seeds each case has one run, with the text's own."""
     cases = []
     for case in cases_of(settings):
         runs = []

@@ -78,7 +78,7 @@ def floating(text):
 
 
 def is_within(value, depth):
-    """Whether the value's whole numbers have 64 bits, and it is nested no deeper than that."""
+    """Whether the value's whole numbers have 64 bits, and tables and lists are nested no deeper than that."""
     if isinstance(value, (dict, list)):
         items = value.values() if isinstance(value, dict) else value
         return depth >= 0 and all(is_within(item, depth - 1) for item in items)
@@ -88,10 +88,11 @@ def is_within(value, depth):
 def document_of(text):
     """The document that the bytes are, or None (rule 1).
 
-    tomllib reads TOML 1.0, the program 1.1. A byte order mark is handled here. What else 1.1 has more,
+    tomllib reads TOML 1.0, the format is 1.1. A byte order mark is handled here. What else 1.1 has more,
     tomllib refuses: in inline tables line feeds, comments and a comma at the end; the escapes \\e and \\x;
-    times without seconds. It also refuses second 60 and year 0. Texts that are compared keep clear of these,
-    and of nesting between 40 and 120 deep.
+    times without seconds. It also refuses second 60 and year 0. A document doesn't tell how its tables were
+    written, so depth is counted here over all of them. Texts that are compared keep clear of these, and of a
+    depth between 40 and 120.
     """
     try:
         document = tomllib.loads(text.decode().removeprefix('\ufeff'), parse_float=floating)
