@@ -11,7 +11,7 @@ FOLDER = DATA / 'worked'
 NUMBERS = (1, 2, 3, 64)
 
 # so many seeds are run in every way, and the others in the first two ways
-SEEDS_BY_ALL_WAYS = 8
+SEEDS_BY_ALL_WAYS = 3
 
 
 def ways_of(members):
