@@ -191,12 +191,23 @@ fn at_board<
         relay: writer.relay,
         seat: sender,
     };
-    let (ended, posts) = within(
+    let (ended, own, others) = within(
         rt, alloc, workers, posts, &signals, gate, task, writer, trace,
     )?;
-    let seats = match posts {
-        Ok(posts) => seats_of(alloc, board, posts),
-        Err(Memory) => Err(Memory),
-    };
-    Ok((ended, seats))
+    Ok((ended, seats_back(alloc, board, own, others)))
+}
+
+/// The seats of these posts and of one more.
+fn seats_back<'b, 'a, Q: EventQueue<Event> + Drop, J: Site>(
+    alloc: Global,
+    board: &ErrandBoard<'a, Q>,
+    one: ErrandPost<'b, 'a, Q, J>,
+    others: Result<Vec<ErrandPost<'b, 'a, Q, J>>, Memory>,
+) -> Result<Vec<ErrandSeat<'a, Q>>, Memory>
+    requires { table_of board.now ≡ J.table }
+    ensures { IfOk result (λ seats. AreSingleSeats board.now seats.items) }
+{
+    let mut posts = others?;
+    posts.push(one)?;
+    seats_of(alloc, board, posts)
 }

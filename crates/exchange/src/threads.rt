@@ -26,8 +26,8 @@ pub(crate) struct Ended {
 }
 
 /// Starts a worker at each of so many posts and the driver, who has the crew, writes on the calling thread what
-/// the driver sends, and returns once all threads have ended: what they leave, and all posts, or `Memory` where
-/// there was none for these. One worker alone is the driver itself.
+/// the driver sends, and returns once all threads have ended: what they leave, the crew's post, and the others, or
+/// `Memory` where there was none for these. One worker alone is the driver itself.
 ///
 /// Faults: `Relay` where a thread could not be started, `Memory` where its handle could not be kept. Then nothing
 /// was written.
@@ -50,7 +50,14 @@ pub(crate) fn within<
     task: Task<'r, 'b, 'a, Q, G, J>,
     writer: Writer<'r>,
     trace: &mut A,
-) -> Result<(Ended, Result<Vec<ErrandPost<'b, 'a, Q, J>>, Memory>), Fault>
+) -> Result<
+    (
+        Ended,
+        ErrandPost<'b, 'a, Q, J>,
+        Result<Vec<ErrandPost<'b, 'a, Q, J>>, Memory>,
+    ),
+    Fault,
+>
     requires ready { CanBegin Q.set task.basis task.parts.items }
     requires sends { MaySend task.basis.scenario.now task.relay.now task.seat }
     requires writes { MayWrite writer (A.failed trace.old) }
@@ -110,10 +117,7 @@ pub(crate) fn within<
             (Ok((Ended { driven, written }, own, posts)), trace)
         },
     );
-    match ended {
-        Ok((ended, own, others)) => Ok((ended, joined(others, own))),
-        Err(fault) => Err(fault),
-    }
+    ended
 }
 
 /// Starts so many workers, each at one of the posts.
@@ -158,21 +162,11 @@ fn start_workers<
 /// These posts, and those of the threads once they have ended.
 fn gather<'b, 'a, Q: EventQueue<Event> + Drop, J: Site>(
     rt: &impl Threads,
-    threads: Vec<JoinHandle<ErrandPost<'b, 'a, Q, J>>>,
+    mut threads: Vec<JoinHandle<ErrandPost<'b, 'a, Q, J>>>,
     mut posts: Vec<ErrandPost<'b, 'a, Q, J>>,
 ) -> Result<Vec<ErrandPost<'b, 'a, Q, J>>, Memory> {
-    for thread in threads {
+    while let Some(thread) = threads.pop() {
         posts.push(thread.join(rt))?;
     }
-    Ok(posts)
-}
-
-/// These posts and one more.
-fn joined<'b, 'a, Q: EventQueue<Event> + Drop, J: Site>(
-    posts: Result<Vec<ErrandPost<'b, 'a, Q, J>>, Memory>,
-    one: ErrandPost<'b, 'a, Q, J>,
-) -> Result<Vec<ErrandPost<'b, 'a, Q, J>>, Memory> {
-    let mut posts = posts?;
-    posts.push(one)?;
     Ok(posts)
 }
