@@ -1,7 +1,7 @@
 use Rattle.std.proofs.Common.{subst}
 use Rattle.outputs.specs.Written.{HasWritten}
 use Rattle.outputs.proofs.Streaming.{written_on}
-use Rattle.outputs.proofs.stream_writer.go_on.Goals as goal
+use Rattle.trace_writer.proofs.stream_writer.go_on.Goals as goal
 
 pub returns-in-Ok-clause-written : goal.returns-in-Ok-clause-written
 returns-in-Ok-clause-written g c = λ before held wrote.

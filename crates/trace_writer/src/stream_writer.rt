@@ -1,19 +1,17 @@
-ghost use Rattle.std.specs.Prelude.{◌≡◌, ◌≢◌, ◌+◌, ◌++◌, ◌<◌, ◌^◌, [], true, List, Option, OnOk, OnErr, IfErr, IsErr, IsErrOf, All, ℕ};
+ghost use Rattle.std.specs.Prelude.{◌≡◌, ◌+◌, ◌++◌, ◌<◌, ◌^◌, [], true, List, Option, OnOk, OnErr, IsErr, IsErrOf, All, ℕ};
 ghost use Rattle.trace.specs.Text.{NamesMembers};
 ghost use Rattle.trace.specs.declared.row.Row.{Row as ARow};
 ghost use Rattle.relay.specs.Lots.{rows_in, has_last};
 ghost use Rattle.relay.specs.Seats.{scenario_of, taken_by, IsTaker};
 ghost use Rattle.outputs.specs.Written.{sink_failures, HasWritten};
 
-use crate::taking::{TakeRows, Written};
-use crate::tallied::Tallied;
-use crate::writing::fault_of;
 use base::Fault;
+use outputs::{TakeRows, Tallied, Written, begin_trace};
 use relay::{Relay, TakeSeat};
 use scenario::Scenario;
 use std::alloc::Global;
 use std::sync::Wait;
-use trace::{Row, Sink, write_head};
+use trace::{Row, Sink};
 
 /// Writes the trace as its rows come over the relay, up to the last batch, and tallies them. After a fault it
 /// goes on receiving, so that whoever sends can come to an end, but puts nothing more.
@@ -52,19 +50,6 @@ pub fn write_stream<A: Sink>(
     unreachable!()
 }
 
-/// Writes the header of the trace. Faults: `Memory`; `Write` where the sink failed.
-pub fn begin_trace<A: Sink>(trace: &mut A) -> Result<(), Fault>
-    requires countable { A.failed trace.old < 2 ^ 63 }
-    ensures written { (s : _) → HasWritten s [] (A.held trace.old) (A.held trace.new) [] result }
-    ensures failures { A.failed trace.new ≡ A.failed trace.old + sink_failures result }
-    ensures relay { IfErr result (λ fault. fault ≢ Fault.Relay) }
-{
-    match write_head(trace) {
-        Ok(()) => Ok(()),
-        Err(error) => Err(fault_of(error)),
-    }
-}
-
 /// Writes the rows of a batch, unless a fault came before.
 fn go_on<A: Sink>(
     so_far: Result<(), Fault>,
@@ -87,7 +72,7 @@ fn go_on<A: Sink>(
 }
 
 /// What is answered where the last batch came back, or never came.
-pub fn lost(outcome: Result<(), Fault>) -> Result<(), Fault>
+fn lost(outcome: Result<(), Fault>) -> Result<(), Fault>
     ensures none { IsErr result }
     ensures relay { OnOk outcome (IsErrOf result Fault.Relay) }
     ensures first { OnErr outcome (result ≡ outcome) }
