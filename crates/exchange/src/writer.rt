@@ -2,12 +2,13 @@
 ghost use Rattle.exchange.specs.Streams.{MayWrite, IsWritten};
 
 use base::Fault;
-use outputs::{Tallied, write_stream};
+use outputs::Tallied;
 use relay::{Relay, TakeSeat};
 use scenario::Scenario;
 use std::alloc::Global;
 use std::sync::Wait;
 use trace::Sink;
+use trace_writer::write_stream;
 
 /// What the writer takes with it.
 #[derive(Drop)]
