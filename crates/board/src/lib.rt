@@ -2,13 +2,13 @@
 //!
 //! A board is made together with all its seats ([`Board::new`]). Each thread has a seat of its own, from which it
 //! deals pieces and takes them, the first one dealt first. A seat keeps account, in proofs alone, of what was
-//! dealt from it and of what it has taken: two bags of what the pieces stand for ([`Setting`]). When all seats are
+//! dealt from it and of what it has taken: two bags of what the pieces stand for ([`PieceRule`]). When all seats are
 //! together again, [`settle`] says how many pieces still lie on the board, and that each piece was dealt as often
 //! as it was taken or lies there (`DealBalance`). So where none lies there, every piece that was dealt was taken,
 //! as often, and no other.
 //!
 //! A piece that is dealt must belong to the board, and whoever takes one knows that it does. Which pieces belong is
-//! what a type says that stands for `Setting`: where that depends on a value of the program, as a scenario, the
+//! what a type says that stands for `PieceRule`: where that depends on a value of the program, as a scenario, the
 //! type has a parameter whose ghost member is the value, and a call picks it (`std::marker::Brand`).
 //!
 //! Neither that a thread gets on, nor which of them gets a piece, is said by any clause.
@@ -26,6 +26,6 @@ mod tests;
 
 pub use post::Post;
 pub use posts::{posts_at, seats_of};
-pub use rule::{Hand, Setting};
+pub use rule::{Hand, PieceRule};
 pub use seats::{Board, Seat, settle};
 pub use site::Site;

@@ -7,7 +7,7 @@ ghost use Rattle.board.specs.Sites.{table_of, AreSingleSeats};
 
 use crate::post::Post;
 use crate::posts::{posts_at, seats_of};
-use crate::rule::Setting;
+use crate::rule::PieceRule;
 use crate::seats::{Board, Seat, settle};
 use crate::site::Site;
 use std::alloc::Global;
@@ -22,7 +22,7 @@ use std::thread::Threads;
 // Numbers below 64, each of which stands for itself.
 struct Bits;
 
-impl Setting<u64, u64> for Bits {
+impl PieceRule<u64, u64> for Bits {
     ghost use Rattle.std.specs.Prelude.{◌<◌};
 
     ghost stands_for = { λ x. x };

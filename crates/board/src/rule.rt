@@ -6,7 +6,7 @@ use std::marker::PhantomData;
 
 /// What the pieces `T` of a board are: what each stands for, and which belong to the board. A type stands for it
 /// of which no value is made.
-pub trait Setting<T, V> {
+pub trait PieceRule<T, V> {
     /// What a piece stands for in the accounts of the seats.
     ghost stands_for: { T → V };
 
@@ -27,7 +27,7 @@ pub(crate) struct Balanced<S> {
     setting: PhantomData<S>,
 }
 
-impl<T, V, S: Setting<T, V>> Protocol<T, Hand<V>> for Balanced<S> {
+impl<T, V, S: PieceRule<T, V>> Protocol<T, Hand<V>> for Balanced<S> {
     ghost use Rattle.std.specs.Prelude.{[]};
     ghost use Rattle.board.specs.Deal.{whole, hand, IsBalanced};
 
@@ -65,7 +65,7 @@ pub(crate) struct Deals<S> {
     setting: PhantomData<S>,
 }
 
-impl<T, V, S: Setting<T, V>> Outcome<T, Hand<V>> for Deals<S> {
+impl<T, V, S: PieceRule<T, V>> Outcome<T, Hand<V>> for Deals<S> {
     ghost use Rattle.std.specs.Prelude.{◌≡◌, ◌∷◌, [], ◌++◌};
     ghost use Rattle.board.specs.Deal.{hand};
 
@@ -77,20 +77,20 @@ pub(crate) struct Takes<S> {
     setting: PhantomData<S>,
 }
 
-impl<T, V, S: Setting<T, V>> Outcome<T, Hand<V>> for Takes<S> {
+impl<T, V, S: PieceRule<T, V>> Outcome<T, Hand<V>> for Takes<S> {
     ghost use Rattle.std.specs.Prelude.{◌≡◌, ◌∷◌, [], ◌++◌};
     ghost use Rattle.board.specs.Deal.{hand};
 
     ghost then = { λ v x w. (w ≡ hand v.share v.dealt (v.taken ++ S.stands_for x ∷ [])) × S.belongs x };
 }
 
-impl<T, V, S: Setting<T, V>> Lesson<T, Hand<V>> for Deals<S> {
+impl<T, V, S: PieceRule<T, V>> Lesson<T, Hand<V>> for Deals<S> {
     ghost use Rattle.board.specs.Deal.{Sees};
 
     ghost fact = { Sees S.stands_for S.belongs };
 }
 
-impl<T, V, S: Setting<T, V>> Lesson<T, Hand<V>> for Takes<S> {
+impl<T, V, S: PieceRule<T, V>> Lesson<T, Hand<V>> for Takes<S> {
     ghost use Rattle.board.specs.Deal.{Sees};
 
     ghost fact = { Sees S.stands_for S.belongs };

@@ -4,7 +4,7 @@ ghost use Rattle.std.specs.List.{All, flat_map};
 ghost use Rattle.board.specs.Deal.{DealBalance, SameBag, hand, whole};
 ghost use Rattle.board.specs.Seats.{IsSeatOf, IsSameSeat, AreAllSeats, HasEmptyBags, record_of, room, dealt, taken, share};
 
-use crate::rule::{Balanced, Cut, Deals, Hand, Setting, Takes, Together};
+use crate::rule::{Balanced, Cut, Deals, Hand, PieceRule, Takes, Together};
 use base::Memory;
 use crossbeam_queue::{Pass, RuledArrayQueue};
 use std::alloc::Global;
@@ -12,7 +12,7 @@ use std::sync::Wait;
 
 /// A shared object on which pieces `T` lie until somebody takes them. Threads share it by reference.
 #[derive(Drop)]
-pub struct Board<T, V, S: Setting<T, V>> {
+pub struct Board<T, V, S: PieceRule<T, V>> {
     queue: RuledArrayQueue<T, Hand<V>, Balanced<S>>,
 }
 
@@ -23,7 +23,7 @@ pub struct Seat<T, V> {
     pass: Pass<T, Hand<V>>,
 }
 
-impl<T: Drop, V, S: Setting<T, V>> Board<T, V, S> {
+impl<T: Drop, V, S: PieceRule<T, V>> Board<T, V, S> {
     /// A board on which nothing lies, with room for so many pieces (1 to 64), and all its seats, as many as are
     /// asked for (1 to 65), with empty bags. `Err` where memory is refused.
     pub fn new(
@@ -100,7 +100,7 @@ impl<T: Drop, V, S: Setting<T, V>> Board<T, V, S> {
 /// Settles a board, given all its seats: how many pieces still lie there, which go with the board. Over all seats
 /// each piece was dealt as often as it was taken or lies there (`DealBalance`): with 0, every piece that was dealt
 /// was taken, as often, and no other.
-pub fn settle<T: Drop, V, S: Setting<T, V>, R: Wait>(
+pub fn settle<T: Drop, V, S: PieceRule<T, V>, R: Wait>(
     rt: &R,
     board: Board<T, V, S>,
     seats: Vec<Seat<T, V>>,
@@ -114,7 +114,7 @@ pub fn settle<T: Drop, V, S: Setting<T, V>, R: Wait>(
 }
 
 // The seat that knows what all seats did.
-fn gather<T: Drop, V, S: Setting<T, V>>(
+fn gather<T: Drop, V, S: PieceRule<T, V>>(
     board: &Board<T, V, S>,
     mut seats: Vec<Seat<T, V>>,
 ) -> Seat<T, V>

@@ -2,7 +2,7 @@
 ghost use Rattle.std.specs.Prelude.{◌<◌};
 ghost use Rattle.board.specs.Seats.{IsSeatOf, IsSameSeat};
 
-use crate::rule::Setting;
+use crate::rule::PieceRule;
 use crate::seats::{Board, Seat, settle};
 use std::process::Abort;
 use std::sync::Wait;
@@ -11,7 +11,7 @@ use std::test::Fail;
 // Numbers below 100, each of which stands for itself.
 struct Small;
 
-impl Setting<u64, u64> for Small {
+impl PieceRule<u64, u64> for Small {
     ghost use Rattle.std.specs.Prelude.{◌<◌};
 
     ghost stands_for = { λ x. x };

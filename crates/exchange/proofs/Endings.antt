@@ -25,7 +25,7 @@ use Rattle.whole_runs.proofs.Reported.{wears_report}
 use Rattle.whole_runs.proofs.Streamed.{begins_trace as begins_with_these}
 use Rattle.exchange.specs.declared.driver.Driven.{Driven}
 use Rattle.exchange.specs.declared.threads.Ended.{Ended}
-use Rattle.exchange.specs.Streams.{IsEarly, ComeTo, IsDriven, HasEnded}
+use Rattle.exchange.specs.Sending.{IsEarly, ComeTo, IsDriven, HasEnded}
 use Rattle.exchange.specs.Traced.{both_of, KeepsTrace}
 use Rattle.exchange.proofs.Faults.{memory≢worn, memory≢write, worn≢relay, write≢relay, memory_early, both_ok, one_of, no_write}
 

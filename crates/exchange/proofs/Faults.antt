@@ -6,7 +6,7 @@ use Rattle.base.specs.declared.fault.Fault.{Fault}
 use Rattle.base.specs.declared.fault.Fault.TheVariants.{Memory, Worn, Write, Relay}
 use Rattle.workers.specs.Faults.{rank_of, first_of}
 use Rattle.outputs.specs.Written.{sink_failures}
-use Rattle.exchange.specs.Streams.{IsEarly}
+use Rattle.exchange.specs.Sending.{IsEarly}
 use Rattle.exchange.specs.Traced.{both_of}
 
 either_way : {A : Type 0} (test : Bool) (one other : A) → ((if test then other else one) ≡ one) ⊎ ((if test then other else one) ≡ other)

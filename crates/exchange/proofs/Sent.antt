@@ -11,20 +11,20 @@ use Rattle.atomic_table.proofs.badge.Badge.TheSendSync as badge
 use Rattle.atomic_table.proofs.shared.Seat.TheSendSync as shared_seat
 use Rattle.base.specs.declared.keyed.Keyed as keyed
 use Rattle.board.specs.contracts.post.Post as post
-use Rattle.board.specs.declared.rule.Setting as setting
+use Rattle.board.specs.declared.rule.PieceRule as piece_rule
 use Rattle.board.specs.declared.site.Site as site
 use Rattle.scenario.specs.contracts.division.Division as division
 use Rattle.member.specs.declared.event.Event.{Event}
 use Rattle.worker_queue.specs.declared.queue.EventQueue.{Ghosts}
 use Rattle.worker_queue.specs.contracts.wheel_queue.WheelQueue as wheel
 use Rattle.windows.specs.contracts.part.Part as part
-use Rattle.workers.specs.contracts.crew.Crew as crew
-use Rattle.workers.proofs.Sent.{scenario_sync, links_sync, member_send, errand_send, board_sync, seat_send, signals_sync}
+use Rattle.workers.specs.contracts.pool.WorkerPool as pool
+use Rattle.workers.proofs.Sent.{scenario_sync, links_sync, member_send, task_send, board_sync, seat_send, signals_sync}
 use Rattle.relay.specs.contracts.relay.SendSeat as send_seat
 use Rattle.relay.proofs.Sent.{relay_sync}
 use Rattle.exchange.specs.contracts.basis.Basis as basis
 use Rattle.exchange.specs.contracts.driver.Driven as driven
-use Rattle.exchange.specs.contracts.driver.Task as task
+use Rattle.exchange.specs.contracts.driver.DriverTask as task
 
 pub division_sync : IsSync division.the_row
 division_sync = search (crosses, sendable) depth 60 fits 20000
@@ -38,11 +38,11 @@ wheel_send E g s = search (maps.crosses, crosses, sendable) depth 60 fits 20000
 declared_send : (T : Declared) → AllSend (shape T).fields → IsSend (declared.row T)
 declared_send T all = recorded_send (Struct (shape T)) T.D T.to T.to_one (struct_send (shape T) all)
 
-post_field_send : (β : NamedLft) (T V S P : RattleType) (p : site.Ghosts P.Denot) (g : setting.Ghosts S.Denot T.Denot V.Denot) → IsSend T → IsSend (post.the_field β T V S P p g).row
+post_field_send : (β : NamedLft) (T V S P : RattleType) (p : site.Ghosts P.Denot) (g : piece_rule.Ghosts S.Denot T.Denot V.Denot) → IsSend T → IsSend (post.the_field β T V S P p g).row
 post_field_send β T V S P p g s = search (board_sync, seat_send, crosses, sendable) depth 60 fits 20000
 
-crew_field_send : (β α : NamedLft) (Q G P : RattleType) (g : Ghosts Q.Denot Event) (p : site.Ghosts P.Denot) → IsSend Q → IsSync G → IsSend (crew.the_field β α Q G P g p).row
-crew_field_send β α Q G P g p s t = search (post_field_send, errand_send, signals_sync, crosses, sendable) depth 60 fits 20000
+pool_field_send : (β α : NamedLft) (Q G P : RattleType) (g : Ghosts Q.Denot Event) (p : site.Ghosts P.Denot) → IsSend Q → IsSync G → IsSend (pool.the_field β α Q G P g p).row
+pool_field_send β α Q G P g p s t = search (post_field_send, task_send, signals_sync, crosses, sendable) depth 60 fits 20000
 
 seat_field_send : IsSend (send_seat.the_field).row
 seat_field_send = search (shared_seat.the_send, badge.the_send, crosses, sendable) depth 60
@@ -56,5 +56,5 @@ basis_field_send α = search (scenario_sync, links_sync, division_sync, crosses,
 pub task_send : (ρ β α : NamedLft) (Q G P : RattleType) (g : Ghosts Q.Denot Event) (p : site.Ghosts P.Denot) → IsSend Q → IsSync G → IsSend (task.the_row ρ β α Q G P g p)
 task_send ρ β α Q G P g p s t =
     let all : AllSend (shape (task.the_type ρ β α Q G P g p)).fields =
-    (Vec-send (part.the_row Q) (part_row_send Q s), (crew_field_send β α Q G P g p s t, (basis_field_send α, (search (relay_sync, sendable), (seat_field_send, tt))))) in
+    (Vec-send (part.the_row Q) (part_row_send Q s), (pool_field_send β α Q G P g p s t, (basis_field_send α, (search (relay_sync, sendable), (seat_field_send, tt))))) in
     declared_send (task.the_type ρ β α Q G P g p) all

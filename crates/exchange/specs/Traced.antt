@@ -11,7 +11,7 @@ use Rattle.workers.specs.Faults.{first_of}
 use Rattle.outputs.specs.Promise.{BeginsTrace, WearsOutReport}
 use Rattle.outputs.specs.declared.tallied.Tallied.{Tallied}
 use Rattle.exchange.specs.declared.threads.Ended.{Ended}
-use Rattle.exchange.specs.Streams.{HasEnded}
+use Rattle.exchange.specs.Sending.{HasEnded}
 
 -- What every way to run the scenario keeps of the trace's sink, which isn't flushed yet: what it holds, and how many of its failures
 -- were counted.

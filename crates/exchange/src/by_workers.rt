@@ -6,12 +6,12 @@ ghost use Rattle.board.specs.Seats.{AreAllSeats};
 ghost use Rattle.board.specs.Sites.{table_of, AreSingleSeats};
 ghost use Rattle.scenario.specs.Setup.{IsSound, member_count};
 ghost use Rattle.member_laws.specs.Runs.{WearsOut};
-ghost use Rattle.exchange.specs.Streams.{CanBegin, MaySend, MayWrite, IsEarly, HasEnded};
+ghost use Rattle.exchange.specs.Sending.{CanBegin, MaySend, MayWrite, IsEarly, HasEnded};
 ghost use Rattle.exchange.specs.Traced.{KeepsTrace};
 ghost use Rattle.outputs.specs.Promise.{KeepsPromise, WearsOutReport};
 
 use crate::basis::Basis;
-use crate::driver::Task;
+use crate::driver::DriverTask;
 use crate::settling::{closed, settled};
 use crate::threads::{Ended, within};
 use crate::writer::Writer;
@@ -31,7 +31,7 @@ use turns::open_wheels;
 use whole_runs::stream_run;
 use windows::Part;
 use worker_queue::EventQueue;
-use workers::{Crew, ErrandBoard, ErrandPost, ErrandSeat, Gate, SEATS, Signals};
+use workers::{Gate, SEATS, Signals, TaskBoard, TaskPost, TaskSeat, WorkerPool};
 
 /// Runs the scenario by the parts of a division of its members: window after window, in each the parts by as
 /// many workers as are asked for, but no more than there are parts. It writes what `run_one` writes, whatever
@@ -107,11 +107,11 @@ fn run_into<A: Sink, G: Gate, R: Threads + Wait + Sync>(
         links: &links,
         division,
     };
-    by_crew(rt, alloc, parts, hands, gate, basis, trace)
+    by_pool(rt, alloc, parts, hands, gate, basis, trace)
 }
 
-/// Runs these parts by a crew of so many workers, over a board that is closed at the end, and writes the trace.
-fn by_crew<'a, A: Sink, Q: EventQueue<Event> + Drop + Send, G: Gate, R: Threads + Wait + Sync>(
+/// Runs these parts by a pool of so many workers, over a board that is closed at the end, and writes the trace.
+fn by_pool<'a, A: Sink, Q: EventQueue<Event> + Drop + Send, G: Gate, R: Threads + Wait + Sync>(
     rt: &R,
     alloc: Global,
     parts: Vec<Part<Q>>,
@@ -126,7 +126,7 @@ fn by_crew<'a, A: Sink, Q: EventQueue<Event> + Drop + Send, G: Gate, R: Threads 
 {
     let tallied = Tallied::new(alloc)?;
     let (relay, sender, taker) = Relay::new(alloc, basis.scenario)?;
-    let (board, seats): (ErrandBoard<'a, Q>, Vec<ErrandSeat<'a, Q>>) = Board::new(
+    let (board, seats): (TaskBoard<'a, Q>, Vec<TaskSeat<'a, Q>>) = Board::new(
         alloc,
         basis.division.parts(),
         SEATS,
@@ -157,8 +157,8 @@ fn at_board<
 >(
     rt: &R,
     alloc: Global,
-    board: &ErrandBoard<'a, Q>,
-    seats: Vec<ErrandSeat<'a, Q>>,
+    board: &TaskBoard<'a, Q>,
+    seats: Vec<TaskSeat<'a, Q>>,
     parts: Vec<Part<Q>>,
     workers: usize,
     gate: &G,
@@ -166,7 +166,7 @@ fn at_board<
     sender: SendSeat,
     writer: Writer<'r>,
     trace: &mut A,
-) -> Result<(Ended, Result<Vec<ErrandSeat<'a, Q>>, Memory>), Fault>
+) -> Result<(Ended, Result<Vec<TaskSeat<'a, Q>>, Memory>), Fault>
     requires here { table_of board.now ≡ J.table }
     requires all { AreAllSeats board.now seats.items }
     requires count { length seats.items ≡ whole }
@@ -180,13 +180,13 @@ fn at_board<
     ensures fault { IfErr result IsEarly }
 {
     let signals = Signals::new();
-    let mut posts: Vec<ErrandPost<Q, J>> = posts_at(alloc, board, seats)?;
+    let mut posts: Vec<TaskPost<Q, J>> = posts_at(alloc, board, seats)?;
     let Some(own) = posts.pop() else {
         return Err(Fault::Relay);
     };
-    let task = Task {
+    let task = DriverTask {
         parts,
-        crew: Crew::new(workers, own, &signals, gate),
+        pool: WorkerPool::new(workers, own, &signals, gate),
         basis,
         relay: writer.relay,
         seat: sender,
@@ -200,10 +200,10 @@ fn at_board<
 /// The seats of these posts and of one more.
 fn seats_back<'b, 'a, Q: EventQueue<Event> + Drop, J: Site>(
     alloc: Global,
-    board: &ErrandBoard<'a, Q>,
-    one: ErrandPost<'b, 'a, Q, J>,
-    others: Result<Vec<ErrandPost<'b, 'a, Q, J>>, Memory>,
-) -> Result<Vec<ErrandSeat<'a, Q>>, Memory>
+    board: &TaskBoard<'a, Q>,
+    one: TaskPost<'b, 'a, Q, J>,
+    others: Result<Vec<TaskPost<'b, 'a, Q, J>>, Memory>,
+) -> Result<Vec<TaskSeat<'a, Q>>, Memory>
     requires { table_of board.now ≡ J.table }
     ensures { IfOk result (λ seats. AreSingleSeats board.now seats.items) }
 {

@@ -3,10 +3,10 @@ ghost use Rattle.member.specs.Opening.{opening};
 ghost use Rattle.turns.specs.Bounds.{AreHorizonsOf};
 ghost use Rattle.turns.specs.Course.{IsCourse};
 ghost use Rattle.turns.specs.Parts.{StandFor};
-ghost use Rattle.exchange.specs.Streams.{rows_so_far, CanBegin, IsOpen, MaySend, ComeTo, IsDriven};
+ghost use Rattle.exchange.specs.Sending.{rows_so_far, CanBegin, IsOpen, MaySend, ComeTo, IsDriven};
 
 use crate::basis::Basis;
-use crate::stream::Stream;
+use crate::row_sender::RowSender;
 use base::Fault;
 use board::Site;
 use horizons::{Horizons, horizons};
@@ -21,7 +21,7 @@ use std::thread::{Promise, Threads};
 use turns::{Course, Slice, Turned, bounded_by_horizons, course_of, exchanged, first_moment};
 use windows::Part;
 use worker_queue::EventQueue;
-use workers::{Crew, ErrandPost, Gate};
+use workers::{Gate, TaskPost, WorkerPool};
 
 /// What the driver of a run gives back.
 #[derive(Drop)]
@@ -36,25 +36,25 @@ pub(crate) struct Driven {
 #[derive(Drop)]
 pub(crate) struct Drives(pub(crate) Snapshot<Scenario>, pub(crate) Snapshot<Relay>);
 
-impl<'b, 'a, Q: EventQueue<Event>, J: Site> Promise<(Driven, ErrandPost<'b, 'a, Q, J>)> for Drives {
-    ghost use Rattle.exchange.specs.Streams.{IsDriven};
+impl<'b, 'a, Q: EventQueue<Event>, J: Site> Promise<(Driven, TaskPost<'b, 'a, Q, J>)> for Drives {
+    ghost use Rattle.exchange.specs.Sending.{IsDriven};
 
     ghost kept_by = { λ promise given. IsDriven promise.0.value promise.1.value given.0 };
 }
 
 /// What the driver of a run takes with it.
 #[derive(Drop)]
-pub(crate) struct Task<'r, 'b, 'a, Q: EventQueue<Event>, G, J: Site> {
+pub(crate) struct DriverTask<'r, 'b, 'a, Q: EventQueue<Event>, G, J: Site> {
     /// The parts in which the run begins.
     pub(crate) parts: Vec<Part<Q>>,
-    pub(crate) crew: Crew<'b, 'a, Q, G, J>,
+    pub(crate) pool: WorkerPool<'b, 'a, Q, G, J>,
     pub(crate) basis: Basis<'a>,
     pub(crate) relay: &'r Relay,
     pub(crate) seat: SendSeat,
 }
 
-/// Runs the parts of the task, turn after turn, by its crew, and sends the rows over its relay. After a fault
-/// too the last batch is sent. Then the workers end, and the crew's post comes back.
+/// Runs the parts of the task, turn after turn, by its pool, and sends the rows over its relay. After a fault
+/// too the last batch is sent. Then the workers end, and the pool's post comes back.
 pub(crate) fn drive<
     'r,
     'b,
@@ -63,46 +63,46 @@ pub(crate) fn drive<
     G: Gate,
     J: Site,
     R: Threads + Wait + Sync,
->(rt: &R, alloc: Global, task: Task<'r, 'b, 'a, Q, G, J>) -> (Driven, ErrandPost<'b, 'a, Q, J>)
+>(rt: &R, alloc: Global, task: DriverTask<'r, 'b, 'a, Q, G, J>) -> (Driven, TaskPost<'b, 'a, Q, J>)
     requires ready { CanBegin Q.set task.basis task.parts.items }
     requires seat { MaySend task.basis.scenario.now task.relay.now task.seat }
     ensures { IsDriven task.entry.basis.scenario.now task.entry.relay.now result.0 }
 {
-    let Task {
+    let DriverTask {
         parts,
-        mut crew,
+        mut pool,
         basis,
         relay,
         seat,
     } = task;
     let course = course_of(basis.scenario, basis.links, basis.division);
-    let mut stream = Stream::new(rt, alloc, basis.scenario, relay, seat);
-    let outcome = turns_by_crew(rt, alloc, parts, &mut crew, &mut stream, &course);
-    let driven = stream.close(outcome);
-    (driven, crew.leave())
+    let mut row_sender = RowSender::new(rt, alloc, basis.scenario, relay, seat);
+    let outcome = turns_by_pool(rt, alloc, parts, &mut pool, &mut row_sender, &course);
+    let driven = row_sender.close(outcome);
+    (driven, pool.leave())
 }
 
-/// Runs the parts in which a run begins, turn after turn, by the crew, and hands the rows of each turn to
-/// the stream.
-fn turns_by_crew<'b, 'a, Q: EventQueue<Event> + Drop, G: Gate, J: Site, R: Threads + Wait + Sync>(
+/// Runs the parts in which a run begins, turn after turn, by the pool, and hands the rows of each turn to
+/// the sender of rows.
+fn turns_by_pool<'b, 'a, Q: EventQueue<Event> + Drop, G: Gate, J: Site, R: Threads + Wait + Sync>(
     rt: &R,
     alloc: Global,
     parts: Vec<Part<Q>>,
-    crew: &mut Crew<'b, 'a, Q, G, J>,
-    stream: &mut Stream<R>,
+    pool: &mut WorkerPool<'b, 'a, Q, G, J>,
+    row_sender: &mut RowSender<R>,
     course: &Course<'a>,
 ) -> Result<(), Fault>
     requires course { IsCourse course.now }
     requires opened { StandFor Q.set course.now.division.now parts.items (opening course.now.scenario.now) }
-    requires open { IsOpen stream.old }
-    requires one { stream.old.scenario.now ≡ course.now.scenario.now }
-    requires none_yet { rows_so_far stream.old ≡ [] }
-    ensures open { IsOpen stream.new }
-    ensures relay { stream.new.relay ≡ stream.old.relay }
-    ensures come { ComeTo course.now.scenario.now (rows_so_far stream.new) result }
+    requires open { IsOpen row_sender.old }
+    requires one { row_sender.old.scenario.now ≡ course.now.scenario.now }
+    requires none_yet { rows_so_far row_sender.old ≡ [] }
+    ensures open { IsOpen row_sender.new }
+    ensures relay { row_sender.new.relay ≡ row_sender.old.relay }
+    ensures come { ComeTo course.now.scenario.now (rows_so_far row_sender.new) result }
 {
     let horizons = horizons(alloc, course.scenario, course.division, course.links)?;
-    turns_to_horizons(rt, alloc, parts, crew, stream, &horizons, course)
+    turns_to_horizons(rt, alloc, parts, pool, row_sender, &horizons, course)
 }
 
 /// Runs them so, each part up to its own horizon, or as far as the slice of the turn goes.
@@ -117,20 +117,20 @@ fn turns_to_horizons<
     rt: &R,
     alloc: Global,
     mut parts: Vec<Part<Q>>,
-    crew: &mut Crew<'b, 'a, Q, G, J>,
-    stream: &mut Stream<R>,
+    pool: &mut WorkerPool<'b, 'a, Q, G, J>,
+    row_sender: &mut RowSender<R>,
     horizons: &Horizons,
     course: &Course<'a>,
 ) -> Result<(), Fault>
     requires course { IsCourse course.now }
     requires opened { StandFor Q.set course.now.division.now parts.items (opening course.now.scenario.now) }
     requires horizons { AreHorizonsOf horizons.now course.now.scenario.now course.now.division.now }
-    requires open { IsOpen stream.old }
-    requires one { stream.old.scenario.now ≡ course.now.scenario.now }
-    requires none_yet { rows_so_far stream.old ≡ [] }
-    ensures open { IsOpen stream.new }
-    ensures relay { stream.new.relay ≡ stream.old.relay }
-    ensures come { ComeTo course.now.scenario.now (rows_so_far stream.new) result }
+    requires open { IsOpen row_sender.old }
+    requires one { row_sender.old.scenario.now ≡ course.now.scenario.now }
+    requires none_yet { rows_so_far row_sender.old ≡ [] }
+    ensures open { IsOpen row_sender.new }
+    ensures relay { row_sender.new.relay ≡ row_sender.old.relay }
+    ensures come { ComeTo course.now.scenario.now (rows_so_far row_sender.new) result }
 {
     let mut kept = Vec::new(alloc);
     let mut slice = Slice::new();
@@ -144,7 +144,7 @@ fn turns_to_horizons<
         let limit = slice.end(first);
         let bounded = bounded_by_horizons(alloc, parts, first, limit, horizons, course)?;
         window = window.saturating_add(1);
-        let done = crew.run_windows(rt, alloc, bounded, window, course.scenario, course.links)?;
+        let done = pool.run_windows(rt, alloc, bounded, window, course.scenario, course.links)?;
         let turned = exchanged(rt, alloc, done, kept, course.division)?;
         let Turned {
             parts: after,
@@ -152,7 +152,7 @@ fn turns_to_horizons<
             kept: still_kept,
         } = turned;
         slice.adapt(rows.len());
-        stream.take(rows)?;
+        row_sender.take(rows)?;
         parts = after;
         kept = still_kept;
         from = first.ticks() + 1;

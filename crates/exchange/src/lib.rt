@@ -4,8 +4,8 @@
 mod basis;
 mod by_workers;
 mod driver;
+mod row_sender;
 mod settling;
-mod stream;
 mod threads;
 mod writer;
 

@@ -11,7 +11,7 @@ use outputs::Tallied;
 use relay::{Relay, close};
 use std::sync::Wait;
 use worker_queue::EventQueue;
-use workers::{ErrandBoard, ErrandSeat, close_board, first_of};
+use workers::{TaskBoard, TaskSeat, close_board, first_of};
 
 /// Closes the relay, over which the rows came that were written: what came of both sides of the run.
 pub(crate) fn settled(relay: Relay, ended: Ended) -> Result<Tallied, Fault>
@@ -43,8 +43,8 @@ fn both_of(driven: Result<(), Fault>, written: Result<(), Fault>) -> Result<(), 
 /// Closes the board, where all came to its end and the seats are back.
 pub(crate) fn closed<'a, Q: EventQueue<Event> + Drop>(
     rt: &impl Wait,
-    board: ErrandBoard<'a, Q>,
-    seats: Result<Vec<ErrandSeat<'a, Q>>, Memory>,
+    board: TaskBoard<'a, Q>,
+    seats: Result<Vec<TaskSeat<'a, Q>>, Memory>,
     so_far: Result<Tallied, Fault>,
 ) -> Result<Tallied, Fault>
     requires { IfOk seats (λ seats. AreSingleSeats board seats.items) }

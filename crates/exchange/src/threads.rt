@@ -1,9 +1,9 @@
 //! The threads of a run, from their start to their end.
 ghost use Rattle.std.specs.Prelude.{◌≡◌, IfOk, OnErr, IfErr};
 ghost use Rattle.std.specs.Thread.{IsSync, IsSend};
-ghost use Rattle.exchange.specs.Streams.{CanBegin, MaySend, MayWrite, IsEarly, IsDriven, HasEnded};
+ghost use Rattle.exchange.specs.Sending.{CanBegin, MaySend, MayWrite, IsEarly, IsDriven, HasEnded};
 
-use crate::driver::{Driven, Drives, Task, drive};
+use crate::driver::{Driven, DriverTask, Drives, drive};
 use crate::writer::{Writer, Written, write_all};
 use base::{Fault, Memory};
 use board::Site;
@@ -16,7 +16,7 @@ use std::thread;
 use std::thread::{JoinHandle, Scope, Threads};
 use trace::Sink;
 use worker_queue::EventQueue;
-use workers::{ErrandPost, Gate, Signals, work};
+use workers::{Gate, Signals, TaskPost, work};
 
 /// What the threads of a run leave once they have ended.
 #[derive(Drop)]
@@ -25,8 +25,8 @@ pub(crate) struct Ended {
     pub(crate) written: Written,
 }
 
-/// Starts a worker at each of so many posts and the driver, who has the crew, writes on the calling thread what
-/// the driver sends, and returns once all threads have ended: what they leave, the crew's post, and the others, or
+/// Starts a worker at each of so many posts and the driver, who has the pool, writes on the calling thread what
+/// the driver sends, and returns once all threads have ended: what they leave, the pool's post, and the others, or
 /// `Memory` where there was none for these. One worker alone is the driver itself.
 ///
 /// Faults: `Relay` where a thread could not be started, `Memory` where its handle could not be kept. Then nothing
@@ -44,17 +44,17 @@ pub(crate) fn within<
     rt: &R,
     alloc: Global,
     workers: usize,
-    mut posts: Vec<ErrandPost<'b, 'a, Q, J>>,
+    mut posts: Vec<TaskPost<'b, 'a, Q, J>>,
     signals: &Signals,
     gate: &G,
-    task: Task<'r, 'b, 'a, Q, G, J>,
+    task: DriverTask<'r, 'b, 'a, Q, G, J>,
     writer: Writer<'r>,
     trace: &mut A,
 ) -> Result<
     (
         Ended,
-        ErrandPost<'b, 'a, Q, J>,
-        Result<Vec<ErrandPost<'b, 'a, Q, J>>, Memory>,
+        TaskPost<'b, 'a, Q, J>,
+        Result<Vec<TaskPost<'b, 'a, Q, J>>, Memory>,
     ),
     Fault,
 >
@@ -71,14 +71,7 @@ pub(crate) fn within<
         thread::scope_env(),
         rt,
         move |scope| -> (
-            Result<
-                (
-                    Ended,
-                    ErrandPost<Q, J>,
-                    Result<Vec<ErrandPost<Q, J>>, Memory>,
-                ),
-                Fault,
-            >,
+            Result<(Ended, TaskPost<Q, J>, Result<Vec<TaskPost<Q, J>>, Memory>), Fault>,
             &mut A,
         )
             requires { IsSync R.row × IsSync G.row × IsSend Q.row
@@ -101,7 +94,7 @@ pub(crate) fn within<
             };
             let driver = scope.spawn_with(
                 Drives(Snapshot::of(task.basis.scenario), Snapshot::of(task.relay)),
-                move || -> (Driven, ErrandPost<Q, J>)
+                move || -> (Driven, TaskPost<Q, J>)
                     requires { IsSync R.row
                         × CanBegin Q.set task.basis task.parts.items
                         × MaySend task.basis.scenario.now task.relay.now task.seat }
@@ -134,11 +127,11 @@ fn start_workers<
     scope: &Scope<'s, E>,
     rt: &'s R,
     alloc: Global,
-    posts: &mut Vec<ErrandPost<'b, 'a, Q, J>>,
+    posts: &mut Vec<TaskPost<'b, 'a, Q, J>>,
     signals: &'s Signals,
     gate: &'s G,
     count: usize,
-) -> Result<Vec<JoinHandle<ErrandPost<'b, 'a, Q, J>>>, Fault>
+) -> Result<Vec<JoinHandle<TaskPost<'b, 'a, Q, J>>>, Fault>
     ensures { IfErr result IsEarly }
 {
     let Ok(mut threads) = Vec::with_capacity(alloc, count) else {
@@ -162,9 +155,9 @@ fn start_workers<
 /// These posts, and those of the threads once they have ended.
 fn gather<'b, 'a, Q: EventQueue<Event> + Drop, J: Site>(
     rt: &impl Threads,
-    mut threads: Vec<JoinHandle<ErrandPost<'b, 'a, Q, J>>>,
-    mut posts: Vec<ErrandPost<'b, 'a, Q, J>>,
-) -> Result<Vec<ErrandPost<'b, 'a, Q, J>>, Memory> {
+    mut threads: Vec<JoinHandle<TaskPost<'b, 'a, Q, J>>>,
+    mut posts: Vec<TaskPost<'b, 'a, Q, J>>,
+) -> Result<Vec<TaskPost<'b, 'a, Q, J>>, Memory> {
     while let Some(thread) = threads.pop() {
         posts.push(thread.join(rt))?;
     }

@@ -1,5 +1,5 @@
 //! Who writes the trace of a run by threads, as its rows come over the relay.
-ghost use Rattle.exchange.specs.Streams.{MayWrite, IsWritten};
+ghost use Rattle.exchange.specs.Sending.{MayWrite, IsWritten};
 
 use base::Fault;
 use outputs::Tallied;

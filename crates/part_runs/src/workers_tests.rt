@@ -28,7 +28,7 @@ use trace::Row;
 use windows::{Bounded, Done, Part};
 use worker_queue::TreeQueue;
 use workers::{
-    Crew, ErrandBoard, ErrandPost, ErrandSeat, Gate, OpenGate, SEATS, Signals, close_board, work,
+    Gate, OpenGate, SEATS, Signals, TaskBoard, TaskPost, TaskSeat, WorkerPool, close_board, work,
 };
 
 const TWO_MEMBERS: &str = "version = 1
@@ -130,7 +130,7 @@ fn add_rows(all: Vec<Done<TreeQueue<Event>>>, rows: &mut Vec<Row>) -> Result<(),
 fn drive<'b, 'a, G: Gate, J: Site>(
     rt: &impl Wait,
     alloc: Global,
-    crew: &mut Crew<'b, 'a, TreeQueue<Event>, G, J>,
+    pool: &mut WorkerPool<'b, 'a, TreeQueue<Event>, G, J>,
     scenario: &'a Scenario,
     links: &'a Links,
 ) -> Result<Vec<Row>, Fault>
@@ -143,7 +143,7 @@ fn drive<'b, 'a, G: Gate, J: Site>(
             Ok(parts) => parts,
             Err(Memory) => return Err(Fault::Memory),
         };
-        let done = match crew.run_windows(rt, alloc, parts, window + 1, scenario, links) {
+        let done = match pool.run_windows(rt, alloc, parts, window + 1, scenario, links) {
             Ok(done) => done,
             Err(fault) => return Err(fault),
         };
@@ -160,19 +160,19 @@ fn within<'b, 'a, G: Gate, J: Site + Send, R: Threads + Wait + Sync>(
     rt: &R,
     alloc: Global,
     workers: usize,
-    mut posts: Vec<ErrandPost<'b, 'a, TreeQueue<Event>, J>>,
-    mut crew: Crew<'b, 'a, TreeQueue<Event>, G, J>,
+    mut posts: Vec<TaskPost<'b, 'a, TreeQueue<Event>, J>>,
+    mut pool: WorkerPool<'b, 'a, TreeQueue<Event>, G, J>,
     signals: &Signals,
     gate: &G,
     scenario: &'a Scenario,
     links: &'a Links,
-) -> Result<(Vec<Row>, Vec<ErrandPost<'b, 'a, TreeQueue<Event>, J>>), Fault>
+) -> Result<(Vec<Row>, Vec<TaskPost<'b, 'a, TreeQueue<Event>, J>>), Fault>
     requires { AreLinksOf links.now scenario.now }
 {
     thread::scope(
         thread::scope_env(),
         rt,
-        move |scope| -> Result<(Vec<Row>, Vec<ErrandPost<TreeQueue<Event>, J>>), Fault>
+        move |scope| -> Result<(Vec<Row>, Vec<TaskPost<TreeQueue<Event>, J>>), Fault>
             requires { IsSync R.row × IsSync G.row × AreLinksOf links.now scenario.now }
         {
             let mut threads = Vec::new(alloc);
@@ -189,8 +189,8 @@ fn within<'b, 'a, G: Gate, J: Site + Send, R: Threads + Wait + Sync>(
                     Err(_) => return Err(Fault::Memory),
                 }
             }
-            let rows = drive(rt, alloc, &mut crew, scenario, links);
-            match posts.push(crew.leave()) {
+            let rows = drive(rt, alloc, &mut pool, scenario, links);
+            match posts.push(pool.leave()) {
                 Ok(()) => {}
                 Err(_) => return Err(Fault::Memory),
             }
@@ -213,12 +213,12 @@ fn at_board<'a, G: Gate, J: Site + Send, R: Threads + Wait + Sync>(
     rt: &R,
     alloc: Global,
     workers: usize,
-    board: &ErrandBoard<'a, TreeQueue<Event>>,
-    seats: Vec<ErrandSeat<'a, TreeQueue<Event>>>,
+    board: &TaskBoard<'a, TreeQueue<Event>>,
+    seats: Vec<TaskSeat<'a, TreeQueue<Event>>>,
     gate: &G,
     scenario: &'a Scenario,
     links: &'a Links,
-) -> Result<(Vec<Row>, Vec<ErrandSeat<'a, TreeQueue<Event>>>), Fault>
+) -> Result<(Vec<Row>, Vec<TaskSeat<'a, TreeQueue<Event>>>), Fault>
     requires fits { AreLinksOf links.now scenario.now }
     requires here { table_of board.now ≡ J.table }
     requires all { AreAllSeats board.now seats.items }
@@ -226,16 +226,16 @@ fn at_board<'a, G: Gate, J: Site + Send, R: Threads + Wait + Sync>(
     ensures { IfOk result (λ r. AreSingleSeats board.now r.1.items) }
 {
     let signals = Signals::new();
-    let mut posts: Vec<ErrandPost<TreeQueue<Event>, J>> = match posts_at(alloc, board, seats) {
+    let mut posts: Vec<TaskPost<TreeQueue<Event>, J>> = match posts_at(alloc, board, seats) {
         Ok(posts) => posts,
         Err(Memory) => return Err(Fault::Memory),
     };
     let Some(own) = posts.pop() else {
         return Err(Fault::Relay);
     };
-    let crew = Crew::new(workers, own, &signals, gate);
+    let pool = WorkerPool::new(workers, own, &signals, gate);
     let (rows, posts) = match within(
-        rt, alloc, workers, posts, crew, &signals, gate, scenario, links,
+        rt, alloc, workers, posts, pool, &signals, gate, scenario, links,
     ) {
         Ok(pair) => pair,
         Err(fault) => return Err(fault),
@@ -258,8 +258,8 @@ fn by_workers<'a, G: Gate, R: Threads + Wait + Sync>(
     requires { AreLinksOf links.now scenario.now }
 {
     let (board, seats): (
-        ErrandBoard<'a, TreeQueue<Event>>,
-        Vec<ErrandSeat<'a, TreeQueue<Event>>>,
+        TaskBoard<'a, TreeQueue<Event>>,
+        Vec<TaskSeat<'a, TreeQueue<Event>>>,
     ) = match Board::new(alloc, 2, SEATS) {
         Ok(pair) => pair,
         Err(Memory) => return Err(Fault::Memory),

@@ -19,7 +19,7 @@ use Rattle.windows.specs.Window.{RunsWindow}
 use Rattle.windows.specs.Wears.{WearsInWindow}
 use Rattle.windows.specs.Several.{RanWindows, OneWears}
 use Rattle.workers.specs.declared.ring.Ticket.{Ticket}
-use Rattle.workers.specs.Crews.{bounded_of, all_bounded, IsOfScenario}
+use Rattle.workers.specs.Pools.{bounded_of, all_bounded, IsOfScenario}
 use Rattle.workers.specs.Faults.{Joins}
 
 module _ {Q : Type 0} (set : Q → FinMap key_cmp Event) (s : Setup) where

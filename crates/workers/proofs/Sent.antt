@@ -1,4 +1,4 @@
--- An errand may go to another thread, where its queue may.
+-- A task may go to another thread, where its queue may.
 use denote.Param.Send.{IsSend, IsSync, AllSend, recorded_send, struct_send, sendable}
 use denote.Struct.Struct.{Struct}
 use denote.Struct.Declared as declared
@@ -16,7 +16,7 @@ use Rattle.std.proofs.alloc.Global.TheSendSync as heap
 use Rattle.board.specs.contracts.seats.Board as board
 use Rattle.board.specs.contracts.seats.Seat as seat
 use Rattle.board.specs.contracts.post.Post as post
-use Rattle.board.specs.declared.rule.Setting as setting
+use Rattle.board.specs.declared.rule.PieceRule as piece_rule
 use Rattle.board.specs.declared.site.Site as site
 use Rattle.scenario.specs.contracts.settings.Group as group
 use Rattle.scenario.specs.contracts.settings.Path as path
@@ -47,7 +47,7 @@ use Rattle.workers.specs.contracts.ring.Asked as asked
 use Rattle.workers.specs.contracts.ring.Word as word
 use Rattle.workers.specs.contracts.ring.Reply as reply
 use Rattle.workers.specs.contracts.terms.Terms as terms
-use Rattle.workers.specs.contracts.errand.Errand as errand
+use Rattle.workers.specs.contracts.window_task.WindowTask as task
 
 -- a struct may go where its fields may: for those that `search` can't take apart
 declared_send : (T : Declared) → AllSend (shape T).fields → IsSend (declared.row T)
@@ -133,22 +133,22 @@ reply_send Q g s = reply_of_word Q g (word_send Q s)
 terms_send : (α : NamedLft) (Q : RattleType) (g : Ghosts Q.Denot Event) → IsSend Q → IsSend (terms.the_field α Q g).row
 terms_send α Q g s = search (scenario_sync, links_sync, crosses, sendable) depth 60 fits 20000
 
-errand_of_parts : (α : NamedLft) (Q : RattleType) (g : Ghosts Q.Denot Event) → IsSend (part.the_field Q).row → IsSend (terms.the_field α Q g).row → IsSend (reply.the_field Q g).row → IsSend (errand.the_row α Q g)
-errand_of_parts α Q g p t r =
-    let all : AllSend (shape (errand.the_type α Q g)).fields = (p, (search sendable, (search (scenario_sync, sendable), (t, (r, tt))))) in
-    declared_send (errand.the_type α Q g) all
+task_of_parts : (α : NamedLft) (Q : RattleType) (g : Ghosts Q.Denot Event) → IsSend (part.the_field Q).row → IsSend (terms.the_field α Q g).row → IsSend (reply.the_field Q g).row → IsSend (task.the_row α Q g)
+task_of_parts α Q g p t r =
+    let all : AllSend (shape (task.the_type α Q g)).fields = (p, (search sendable, (search (scenario_sync, sendable), (t, (r, tt))))) in
+    declared_send (task.the_type α Q g) all
 
-pub errand_send : (α : NamedLft) (Q : RattleType) (g : Ghosts Q.Denot Event) → IsSend Q → IsSend (errand.the_row α Q g)
-errand_send α Q g s = errand_of_parts α Q g (part_send Q s) (terms_send α Q g s) (reply_send Q g s)
+pub task_send : (α : NamedLft) (Q : RattleType) (g : Ghosts Q.Denot Event) → IsSend Q → IsSend (task.the_row α Q g)
+task_send α Q g s = task_of_parts α Q g (part_send Q s) (terms_send α Q g s) (reply_send Q g s)
 
-pub board_sync : (T V S : RattleType) (g : setting.Ghosts S.Denot T.Denot V.Denot) → IsSend T → IsSync (board.the_row T V S g)
+pub board_sync : (T V S : RattleType) (g : piece_rule.Ghosts S.Denot T.Denot V.Denot) → IsSend T → IsSync (board.the_row T V S g)
 board_sync T V S g s = search (lease.the_sync, shared.the_sync, heap.the_sync, crosses, sendable) depth 60 fits 20000
 
 pub seat_send : (T V : RattleType) → IsSend T → IsSend (seat.the_field T V).row
 seat_send T V s = search (pass.the_send, crosses, sendable) depth 60 fits 20000
 
 -- a post may go where its pieces may
-pub post_send : (β : NamedLft) (T V S P : RattleType) (p : site.Ghosts P.Denot) (g : setting.Ghosts S.Denot T.Denot V.Denot) → IsSend T → IsSend (post.the_row β T V S P p g)
+pub post_send : (β : NamedLft) (T V S P : RattleType) (p : site.Ghosts P.Denot) (g : piece_rule.Ghosts S.Denot T.Denot V.Denot) → IsSend T → IsSend (post.the_row β T V S P p g)
 post_send β T V S P p g s =
     let all : AllSend (shape (post.the_type β T V S P p g)).fields = (search (board_sync, sendable), (seat_send T V s, (search sendable, tt))) in
     declared_send (post.the_type β T V S P p g) all

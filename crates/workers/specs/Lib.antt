@@ -1,5 +1,5 @@
 pub mod Answers
-pub mod Crews
+pub mod Pools
 pub mod Faults
 pub mod Pieces
 pub mod Props

@@ -4,7 +4,7 @@ ghost use Rattle.board.specs.Deal.{SameBag};
 ghost use Rattle.board.specs.Seats.{dealt, taken};
 ghost use Rattle.board.specs.Sites.{AreSingleSeats};
 
-use crate::pieces::{ErrandBoard, ErrandSeat};
+use crate::pieces::{TaskBoard, TaskSeat};
 use base::Fault;
 use board::settle;
 use member::Event;
@@ -18,8 +18,8 @@ pub const SEATS: usize = 65;
 /// on the board: else every part that was dealt was taken, as often, and no other.
 pub fn close_board<'a, Q: EventQueue<Event> + Drop>(
     rt: &impl Wait,
-    board: ErrandBoard<'a, Q>,
-    seats: Vec<ErrandSeat<'a, Q>>,
+    board: TaskBoard<'a, Q>,
+    seats: Vec<TaskSeat<'a, Q>>,
 ) -> Result<(), Fault>
     requires { AreSingleSeats board seats.items }
     ensures taken { OnOk result (SameBag (flat_map dealt seats.entry.items) (flat_map taken seats.entry.items)) }

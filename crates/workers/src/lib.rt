@@ -1,26 +1,26 @@
 //! Workers that run the windows of parts, for as long as a run lasts: the driver deals the parts over a board,
-//! each with the errand of its window, and gets what came of them in the order in which they were dealt.
+//! each with the task of its window, and gets what came of them in the order in which they were dealt.
 #![tactic(auto)]
 
-mod awaited;
-mod bell;
 mod close;
-mod crew;
-mod errand;
 mod faults;
 mod gate;
 mod pause;
 mod pieces;
+mod pool;
 mod ring;
 mod signals;
 mod terms;
+mod wait_group;
+mod wake_signal;
+mod window_task;
 mod worker;
 
 pub use close::{SEATS, close_board};
-pub use crew::Crew;
-pub use errand::Errand;
 pub use faults::first_of;
 pub use gate::{Gate, OpenGate};
-pub use pieces::{ErrandBoard, ErrandPost, ErrandSeat, Errands};
+pub use pieces::{TaskBoard, TaskPost, TaskSeat, WindowTasks};
+pub use pool::WorkerPool;
 pub use signals::Signals;
+pub use window_task::WindowTask;
 pub use worker::work;

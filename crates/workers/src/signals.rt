@@ -1,29 +1,29 @@
-use crate::awaited::Awaited;
-use crate::bell::Bell;
+use crate::wait_group::WaitGroup;
+use crate::wake_signal::WakeSignal;
 
 /// How a run's driver and its workers wake each other.
 #[derive(Drop)]
 pub struct Signals {
-    pub(crate) bell: Bell,
-    pub(crate) awaited: Awaited,
+    pub(crate) wake_signal: WakeSignal,
+    pub(crate) wait_group: WaitGroup,
 }
 
 impl Signals {
-    /// No errand is out.
+    /// No task is out.
     pub const fn new() -> Self {
         Signals {
-            bell: Bell::new(),
-            awaited: Awaited::new(),
+            wake_signal: WakeSignal::new(),
+            wait_group: WaitGroup::new(),
         }
     }
 }
 
-/// The driver's hold on its workers: where it is let go, no errand comes any more.
-pub(crate) struct Hold<'b>(pub(crate) &'b Signals);
+/// The driver's guard of its workers: where it is let go, no task comes any more.
+pub(crate) struct StopGuard<'b>(pub(crate) &'b Signals);
 
-impl Drop for Hold<'_> {
+impl Drop for StopGuard<'_> {
     fn drop(self) {
-        let Hold(signals) = self;
-        signals.bell.end();
+        let StopGuard(signals) = self;
+        signals.wake_signal.end();
     }
 }

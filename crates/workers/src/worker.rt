@@ -1,5 +1,5 @@
 use crate::gate::Gate;
-use crate::pieces::ErrandPost;
+use crate::pieces::TaskPost;
 use crate::signals::Signals;
 use board::Site;
 use member::Event;
@@ -7,28 +7,28 @@ use std::alloc::Global;
 use std::sync::Wait;
 use worker_queue::EventQueue;
 
-/// What a worker does until the crew has gone: it takes an errand from the board, enters the gate, runs the
+/// What a worker does until the pool has gone: it takes a task from the board, enters the gate, runs the
 /// part, and answers. Where nothing lies on the board it waits. It gives its post back.
 pub fn work<'b, 'a, Q: EventQueue<Event> + Drop, G: Gate, J: Site>(
     rt: &impl Wait,
     alloc: Global,
-    mut post: ErrandPost<'b, 'a, Q, J>,
+    mut post: TaskPost<'b, 'a, Q, J>,
     signals: &Signals,
     gate: &G,
     worker: usize,
-) -> ErrandPost<'b, 'a, Q, J> {
+) -> TaskPost<'b, 'a, Q, J> {
     for _ in rt.forever() {
-        let heard = signals.bell.rings();
+        let heard = signals.wake_signal.rings();
         match post.take(rt) {
-            Some(errand) => {
-                errand.run(alloc, gate, worker);
-                signals.awaited.remove();
+            Some(task) => {
+                task.run(alloc, gate, worker);
+                signals.wait_group.remove();
             }
             None => {
-                if signals.bell.is_over() {
+                if signals.wake_signal.is_over() {
                     return post;
                 }
-                signals.bell.wait(rt, heard);
+                signals.wake_signal.wait(rt, heard);
             }
         }
     }

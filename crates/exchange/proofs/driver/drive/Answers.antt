@@ -2,12 +2,12 @@ use Rattle.std.proofs.Common.{ap, ◌∙◌, sym, subst}
 use Rattle.member.specs.Opening.{opening}
 use Rattle.relay.specs.Seats.{IsSender}
 use Rattle.turns.specs.Parts.{StandFor}
-use Rattle.exchange.specs.Streams.{rows_so_far, IsDriven}
+use Rattle.exchange.specs.Sending.{rows_so_far, IsDriven}
 use Rattle.exchange.proofs.Endings.{is_driven}
 use Rattle.exchange.proofs.driver.drive.Goals as goal
 
-pub turns_by_crew-outcome-requires-clause-opened : goal.turns_by_crew-outcome-requires-clause-opened
-turns_by_crew-outcome-requires-clause-opened g c = λ loans lives.
+pub turns_by_pool-outcome-requires-clause-opened : goal.turns_by_pool-outcome-requires-clause-opened
+turns_by_pool-outcome-requires-clause-opened g c = λ loans lives.
     let of_course = c.course_of-course.ensures in
     let basis = c.args.task.basis in
     subst (λ s. StandFor g.Q.EventQueue.set c.course_of-course.result.division.now c.args.task.parts.items (opening s)) (sym of_course.scenario)
@@ -17,8 +17,8 @@ pub returns : goal.returns
 returns g c =
     let s = c.course_of-course.result.scenario.now in
     let relay = c.args.task.relay.now in
-    let after = c.turns_by_crew-outcome.new.stream in
-    let same = ap (λ r. r.now) c.turns_by_crew-outcome.ensures.relay ∙ c.new-stream.ensures.relay in
+    let after = c.turns_by_pool-outcome.new.row_sender in
+    let same = ap (λ r. r.now) c.turns_by_pool-outcome.ensures.relay ∙ c.new-row_sender.ensures.relay in
     subst (λ t. IsDriven t relay c.close-driven.result) c.course_of-course.ensures.scenario
-    (is_driven s c.course_of-course.ensures.course.sound relay c.close-driven.result (rows_so_far after) c.turns_by_crew-outcome.result (subst (λ r. IsSender r c.close-driven.result.seat) same c.close-driven.ensures.seat)
-    c.close-driven.ensures.whole c.close-driven.ensures.part c.close-driven.ensures.came c.close-driven.ensures.causes c.turns_by_crew-outcome.ensures.come)
+    (is_driven s c.course_of-course.ensures.course.sound relay c.close-driven.result (rows_so_far after) c.turns_by_pool-outcome.result (subst (λ r. IsSender r c.close-driven.result.seat) same c.close-driven.ensures.seat)
+    c.close-driven.ensures.whole c.close-driven.ensures.part c.close-driven.ensures.came c.close-driven.ensures.causes c.turns_by_pool-outcome.ensures.come)

@@ -1,6 +1,6 @@
 use Rattle.std.proofs.Common.{All, Err, ◌+◌, [], ap, ◌∙◌, sym, subst, refl, arith}
 use Rattle.trace.specs.Text.{NamesMembers}
-use Rattle.exchange.specs.Streams.{rows_so_far}
+use Rattle.exchange.specs.Sending.{rows_so_far}
 use Rattle.turns.specs.Bounds.{IsFirstMoment}
 use Rattle.turns.proofs.Goes.{IsUnderWay, not_yet, consistent, came, further, goes_on, one_wears, begins, ends_here, ends_past, names_on, begins_on}
 use Rattle.exchange.proofs.Endings.{comes_whole, comes_by, comes_by_memory}
@@ -11,7 +11,7 @@ loop-from-init g c =
     let course = c.args.course.now in
     record {
       run =
-          subst (λ l. IsUnderWay g.Q.EventQueue.set course.scenario.now course.division.now 0 c.args.parts.items (rows_so_far c.args.stream.now) l) (sym c.new-kept.ensures.items)
+          subst (λ l. IsUnderWay g.Q.EventQueue.set course.scenario.now course.division.now 0 c.args.parts.items (rows_so_far c.args.row_sender.now) l) (sym c.new-kept.ensures.items)
           (subst (λ l. IsUnderWay g.Q.EventQueue.set course.scenario.now course.division.now 0 c.args.parts.items l []) (sym c.requires.none_yet)
           (not_yet g.Q.EventQueue.set course c.requires.course c.args.parts.items c.requires.opened));
       open_still = c.requires.open;
@@ -35,10 +35,10 @@ pub run_windows-requires-clause-in_time : goal.run_windows-requires-clause-in_ti
 run_windows-requires-clause-in_time g c = λ loans lives. c.in_ok-bounded.ensures.in_time
 
 pub run_windows-requires-clause-consistent : goal.run_windows-requires-clause-consistent
-run_windows-requires-clause-consistent g c = λ loans lives. consistent g.Q.EventQueue.set c.args.course.now c.requires.course c.loop-from.parts.items (rows_so_far c.loop-from.stream) c.loop-from.kept.items c.loop-from.from c.loop-from.invariant.run c.in-Some.first c.in_ok-bounded.bounded.items c.in_ok-bounded.ensures
+run_windows-requires-clause-consistent g c = λ loans lives. consistent g.Q.EventQueue.set c.args.course.now c.requires.course c.loop-from.parts.items (rows_so_far c.loop-from.row_sender) c.loop-from.kept.items c.loop-from.from c.loop-from.invariant.run c.in-Some.first c.in_ok-bounded.bounded.items c.in_ok-bounded.ensures
 
 pub exchanged-requires-clause-came : goal.exchanged-requires-clause-came
-exchanged-requires-clause-came g c = λ loans lives. came g.Q.EventQueue.set c.args.course.now c.requires.course c.loop-from.parts.items (rows_so_far c.loop-from.stream) c.loop-from.kept.items c.loop-from.from c.loop-from.invariant.run c.in-Some.first c.in_ok-bounded.bounded.items c.in_ok-bounded.ensures c.in_ok-done.done.items c.in_ok-done.ensures.ok
+exchanged-requires-clause-came g c = λ loans lives. came g.Q.EventQueue.set c.args.course.now c.requires.course c.loop-from.parts.items (rows_so_far c.loop-from.row_sender) c.loop-from.kept.items c.loop-from.from c.loop-from.invariant.run c.in-Some.first c.in_ok-bounded.bounded.items c.in_ok-bounded.ensures c.in_ok-done.done.items c.in_ok-done.ensures.ok
 
 pub take-requires-clause-open : goal.take-requires-clause-open
 take-requires-clause-open g c = c.loop-from.invariant.open_still
@@ -48,15 +48,15 @@ take-requires-clause-named g c =
     let course = c.args.course.now in
     let set = g.Q.EventQueue.set in
     let turned = c.in_ok-turned.turned in
-    let rows = rows_so_far c.loop-from.stream in
+    let rows = rows_so_far c.loop-from.row_sender in
     let on =
-    goes_on g.Q.EventQueue.set c.args.course.now c.requires.course c.loop-from.parts.items (rows_so_far c.loop-from.stream) c.loop-from.kept.items c.loop-from.from c.loop-from.invariant.run c.in-Some.first c.in_ok-bounded.bounded.items c.in_ok-bounded.ensures c.in_ok-done.done.items c.in_ok-done.ensures.ok
+    goes_on g.Q.EventQueue.set c.args.course.now c.requires.course c.loop-from.parts.items (rows_so_far c.loop-from.row_sender) c.loop-from.kept.items c.loop-from.from c.loop-from.invariant.run c.in-Some.first c.in_ok-bounded.bounded.items c.in_ok-bounded.ensures c.in_ok-done.done.items c.in_ok-done.ensures.ok
     turned.parts.items turned.rows.items turned.kept.items c.in_ok-turned.ensures in
     subst (λ s. All (NamesMembers s) turned.rows.items) (sym c.loop-from.invariant.one) (names_on set course c.requires.course rows turned.rows.items turned.kept.items (c.in-Some.first + 1) turned.parts.items on)
 
 pub loop-from-smaller : goal.loop-from-smaller
 loop-from-smaller g c =
-    let on = further g.Q.EventQueue.set c.args.course.now c.requires.course c.loop-from.parts.items (rows_so_far c.loop-from.stream) c.loop-from.kept.items c.loop-from.from c.loop-from.invariant.run c.in-Some.first c.deref.result.now c.deref.ensures.value c.in-Some.ensures.first in
+    let on = further g.Q.EventQueue.set c.args.course.now c.requires.course c.loop-from.parts.items (rows_so_far c.loop-from.row_sender) c.loop-from.kept.items c.loop-from.from c.loop-from.invariant.run c.in-Some.first c.deref.result.now c.deref.ensures.value c.in-Some.ensures.first in
     let up = on.0 in
     let low = on.1 in
     omega (arith, up, low, c.ticks-last.ensures, c.ticks-from.ensures)
@@ -66,9 +66,9 @@ loop-from-preserved g c =
     let course = c.args.course.now in
     let set = g.Q.EventQueue.set in
     let turned = c.in_ok-turned.turned in
-    let rows = rows_so_far c.loop-from.stream in
+    let rows = rows_so_far c.loop-from.row_sender in
     let on =
-    goes_on g.Q.EventQueue.set c.args.course.now c.requires.course c.loop-from.parts.items (rows_so_far c.loop-from.stream) c.loop-from.kept.items c.loop-from.from c.loop-from.invariant.run c.in-Some.first c.in_ok-bounded.bounded.items c.in_ok-bounded.ensures c.in_ok-done.done.items c.in_ok-done.ensures.ok
+    goes_on g.Q.EventQueue.set c.args.course.now c.requires.course c.loop-from.parts.items (rows_so_far c.loop-from.row_sender) c.loop-from.kept.items c.loop-from.from c.loop-from.invariant.run c.in-Some.first c.in_ok-bounded.bounded.items c.in_ok-bounded.ensures c.in_ok-done.done.items c.in_ok-done.ensures.ok
     turned.parts.items turned.rows.items turned.kept.items c.in_ok-turned.ensures in
     record {
       run =
@@ -81,29 +81,29 @@ loop-from-preserved g c =
 
 pub returns-in_default-clause-come : goal.returns-in_default-clause-come
 returns-in_default-clause-come g c =
-    let over = ends_here g.Q.EventQueue.set c.args.course.now c.requires.course c.loop-from.parts.items (rows_so_far c.loop-from.stream) c.loop-from.kept.items c.loop-from.from c.loop-from.invariant.run c.deref.result.now c.deref.ensures.value c.in_default.ensures.over in
-    comes_whole c.args.course.now.scenario.now (rows_so_far c.loop-from.stream) over.0 over.1
+    let over = ends_here g.Q.EventQueue.set c.args.course.now c.requires.course c.loop-from.parts.items (rows_so_far c.loop-from.row_sender) c.loop-from.kept.items c.loop-from.from c.loop-from.invariant.run c.deref.result.now c.deref.ensures.value c.in_default.ensures.over in
+    comes_whole c.args.course.now.scenario.now (rows_so_far c.loop-from.row_sender) over.0 over.1
 
 pub returns-in_err-bounded-clause-come : goal.returns-in_err-bounded-clause-come
-returns-in_err-bounded-clause-come g c = comes_by_memory c.args.course.now.scenario.now _ c.from_residual.result c.from_residual.ensures.1 (begins g.Q.EventQueue.set c.args.course.now c.requires.course c.loop-from.parts.items (rows_so_far c.loop-from.stream) c.loop-from.kept.items c.loop-from.from c.loop-from.invariant.run)
+returns-in_err-bounded-clause-come g c = comes_by_memory c.args.course.now.scenario.now _ c.from_residual.result c.from_residual.ensures.1 (begins g.Q.EventQueue.set c.args.course.now c.requires.course c.loop-from.parts.items (rows_so_far c.loop-from.row_sender) c.loop-from.kept.items c.loop-from.from c.loop-from.invariant.run)
 
 pub returns-in_err-done-clause-come : goal.returns-in_err-done-clause-come
 returns-in_err-done-clause-come g c =
-    comes_by c.args.course.now.scenario.now _ c.from_residual-in_err-done.result _ c.from_residual-in_err-done.ensures.1 (begins g.Q.EventQueue.set c.args.course.now c.requires.course c.loop-from.parts.items (rows_so_far c.loop-from.stream) c.loop-from.kept.items c.loop-from.from c.loop-from.invariant.run)
-    (λ is. one_wears g.Q.EventQueue.set c.args.course.now c.requires.course c.loop-from.parts.items (rows_so_far c.loop-from.stream) c.loop-from.kept.items c.loop-from.from c.loop-from.invariant.run c.in-Some.first c.in_ok-bounded.bounded.items c.in_ok-bounded.ensures (c.in_err-done.ensures.worn (ap Err is)))
+    comes_by c.args.course.now.scenario.now _ c.from_residual-in_err-done.result _ c.from_residual-in_err-done.ensures.1 (begins g.Q.EventQueue.set c.args.course.now c.requires.course c.loop-from.parts.items (rows_so_far c.loop-from.row_sender) c.loop-from.kept.items c.loop-from.from c.loop-from.invariant.run)
+    (λ is. one_wears g.Q.EventQueue.set c.args.course.now c.requires.course c.loop-from.parts.items (rows_so_far c.loop-from.row_sender) c.loop-from.kept.items c.loop-from.from c.loop-from.invariant.run c.in-Some.first c.in_ok-bounded.bounded.items c.in_ok-bounded.ensures (c.in_err-done.ensures.worn (ap Err is)))
     c.in_err-done.ensures.write
 
 pub returns-in_err-turned-clause-come : goal.returns-in_err-turned-clause-come
-returns-in_err-turned-clause-come g c = comes_by_memory c.args.course.now.scenario.now _ c.from_residual-in_err-turned.result c.from_residual-in_err-turned.ensures.1 (begins g.Q.EventQueue.set c.args.course.now c.requires.course c.loop-from.parts.items (rows_so_far c.loop-from.stream) c.loop-from.kept.items c.loop-from.from c.loop-from.invariant.run)
+returns-in_err-turned-clause-come g c = comes_by_memory c.args.course.now.scenario.now _ c.from_residual-in_err-turned.result c.from_residual-in_err-turned.ensures.1 (begins g.Q.EventQueue.set c.args.course.now c.requires.course c.loop-from.parts.items (rows_so_far c.loop-from.row_sender) c.loop-from.kept.items c.loop-from.from c.loop-from.invariant.run)
 
 pub returns-in_err-take-clause-come : goal.returns-in_err-take-clause-come
 returns-in_err-take-clause-come g c =
     let course = c.args.course.now in
     let set = g.Q.EventQueue.set in
     let turned = c.in_ok-turned.turned in
-    let rows = rows_so_far c.loop-from.stream in
+    let rows = rows_so_far c.loop-from.row_sender in
     let on =
-    goes_on g.Q.EventQueue.set c.args.course.now c.requires.course c.loop-from.parts.items (rows_so_far c.loop-from.stream) c.loop-from.kept.items c.loop-from.from c.loop-from.invariant.run c.in-Some.first c.in_ok-bounded.bounded.items c.in_ok-bounded.ensures c.in_ok-done.done.items c.in_ok-done.ensures.ok
+    goes_on g.Q.EventQueue.set c.args.course.now c.requires.course c.loop-from.parts.items (rows_so_far c.loop-from.row_sender) c.loop-from.kept.items c.loop-from.from c.loop-from.invariant.run c.in-Some.first c.in_ok-bounded.bounded.items c.in_ok-bounded.ensures c.in_ok-done.done.items c.in_ok-done.ensures.ok
     turned.parts.items turned.rows.items turned.kept.items c.in_ok-turned.ensures in
     let few = c.in_err-take.ensures.causes in
     comes_by course.scenario.now _ c.from_residual-in_err-take.result _ c.from_residual-in_err-take.ensures.1
@@ -112,5 +112,5 @@ returns-in_err-take-clause-come g c =
 
 pub returns-clause-come : goal.returns-clause-come
 returns-clause-come g c =
-    let over = ends_past g.Q.EventQueue.set c.args.course.now c.requires.course c.loop-from.parts.items (rows_so_far c.loop-from.stream) c.loop-from.kept.items c.loop-from.from c.loop-from.invariant.run (omega arith) in
-    comes_whole c.args.course.now.scenario.now (rows_so_far c.loop-from.stream) over.0 over.1
+    let over = ends_past g.Q.EventQueue.set c.args.course.now c.requires.course c.loop-from.parts.items (rows_so_far c.loop-from.row_sender) c.loop-from.kept.items c.loop-from.from c.loop-from.invariant.run (omega arith) in
+    comes_whole c.args.course.now.scenario.now (rows_so_far c.loop-from.row_sender) over.0 over.1

@@ -1,14 +1,14 @@
 use Rattle.std.proofs.Common.{◌≡◌, ◌+◌, ◌-◌}
-use Rattle.exchange.specs.Streams.{rows_so_far, IsOpen}
+use Rattle.exchange.specs.Sending.{rows_so_far, IsOpen}
 use Rattle.turns.proofs.Goes.{IsUnderWay}
 use Rattle.exchange.proofs.driver.turns_to_horizons.Given as goal
 
 abbrev pub invariant-loop-from : goal.invariant-loop-from
 invariant-loop-from g l = record {
-  run : IsUnderWay g.Q.EventQueue.set l.course.scenario.now l.course.division.now l.from l.parts.items (rows_so_far l.stream) l.kept.items;
-  open_still : IsOpen l.stream;
-  one : l.stream.scenario.now ≡ l.course.scenario.now;
-  relay : l.stream.relay ≡ l.fn.stream.relay;
+  run : IsUnderWay g.Q.EventQueue.set l.course.scenario.now l.course.division.now l.from l.parts.items (rows_so_far l.row_sender) l.kept.items;
+  open_still : IsOpen l.row_sender;
+  one : l.row_sender.scenario.now ≡ l.course.scenario.now;
+  relay : l.row_sender.relay ≡ l.fn.row_sender.relay;
 }
 
 abbrev pub decreases-loop-from : goal.decreases-loop-from

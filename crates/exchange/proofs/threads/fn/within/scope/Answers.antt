@@ -4,10 +4,10 @@ use Rattle.std.proofs.Crossing.{crosses}
 use Rattle.std.proofs.alloc.Global.TheSendSync as heap
 use Rattle.scenario.specs.Setup.{Setup}
 use Rattle.relay.specs.declared.relay.Relay.{Relay as ARelay}
-use Rattle.workers.proofs.Sent.{post_send, errand_send}
+use Rattle.workers.proofs.Sent.{post_send, task_send}
 use Rattle.exchange.specs.declared.driver.Driven.{Driven}
 use Rattle.exchange.specs.declared.driver.Drives.{Drives}
-use Rattle.exchange.specs.Streams.{IsDriven}
+use Rattle.exchange.specs.Sending.{IsDriven}
 use Rattle.exchange.proofs.Faults.{relay_early}
 use Rattle.exchange.proofs.Sent.{driven_send, task_send}
 use Rattle.exchange.proofs.threads.fn.within.scope.Goals as goal
@@ -25,7 +25,7 @@ spawn_with-driver-requires-send-F g c κs within =
     search (task_send, heap.the_send, crosses, sendable) depth 60 fits 20000
 
 pub spawn_with-driver-requires-send-T : goal.spawn_with-driver-requires-send-T
-spawn_with-driver-requires-send-T g c κs within = let of_queue = c.requires.2 in search (driven_send, post_send, errand_send, crosses, sendable) depth 40 fits 20000
+spawn_with-driver-requires-send-T g c κs within = let of_queue = c.requires.2 in search (driven_send, post_send, task_send, crosses, sendable) depth 40 fits 20000
 
 pub returns-in-Err : goal.returns-in-Err
 returns-in-Err g c = record { same = refl; ended = tt; unwritten = refl; fault = c.in-Err.ensures }

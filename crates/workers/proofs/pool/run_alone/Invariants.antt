@@ -1,0 +1,14 @@
+use Rattle.std.proofs.Common.{◌≡◌, ◌++◌, ◌+◌, ◌≤◌}
+use Rattle.std.specs.List.{AllByRecursion}
+use Rattle.windows.specs.WorldOf.{world_of}
+use Rattle.windows.specs.Window.{IsConsistentPart}
+use Rattle.workers.proofs.Gathered.{SoFar}
+use Rattle.workers.proofs.pool.run_alone.Given as goal
+
+abbrev pub invariant-loop-bounded : goal.invariant-loop-bounded
+invariant-loop-bounded g l = record {
+  left : l.yielded ++ l.bounded-iterator.rest.items ≡ l.fn.parts.items;
+  so_far : SoFar g.Q.EventQueue.set l.fn.scenario l.yielded l.so_far;
+  in_time : AllByRecursion (λ b. b.bound ≤ l.fn.scenario.end + 1) l.bounded-iterator.rest.items;
+  consistent : AllByRecursion (λ b. IsConsistentPart l.fn.scenario (world_of g.Q.EventQueue.set b.part)) l.bounded-iterator.rest.items;
+}

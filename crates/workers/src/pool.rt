@@ -1,0 +1,239 @@
+ghost use Rattle.std.specs.Prelude.{◌≡◌, ◌≢◌, ◌+◌, ◌≤◌, ◌++◌, ◌⊎◌, [], List, Some, None, IsOk, IfOk, OnOk, IfErr, IfSome, IfNone, IsErrOf};
+ghost use Rattle.std.specs.List.{AllByRecursion};
+ghost use Rattle.scenario.specs.Setup.{IsSound};
+ghost use Rattle.links.specs.Arrival.{AreLinksOf};
+ghost use Rattle.windows.specs.declared.bounded.Bounded.{Bounded as ABounded};
+ghost use Rattle.windows.specs.WorldOf.{world_of};
+ghost use Rattle.windows.specs.Window.{IsConsistentPart};
+ghost use Rattle.windows.specs.Several.{RanWindows, OneWears};
+ghost use Rattle.workers.specs.Pools.{all_bounded, IsOfScenario};
+
+use crate::faults::{joined, told};
+use crate::gate::Gate;
+use crate::pieces::TaskPost;
+use crate::ring::Ticket;
+use crate::signals::{Signals, StopGuard};
+use crate::window_task::{WindowTask, ask};
+use base::{Fault, Memory};
+use board::Site;
+use links::Links;
+use member::Event;
+use scenario::Scenario;
+use std::alloc::Global;
+use std::sync::Wait;
+use windows::{Bounded, Done};
+use worker_queue::EventQueue;
+
+/// The driver's hold on its workers. Once it is dropped or has left they end.
+#[derive(Drop)]
+pub struct WorkerPool<'b, 'a, Q: EventQueue<Event>, G, J: Site> {
+    workers: usize,
+    post: TaskPost<'b, 'a, Q, J>,
+    hold: StopGuard<'b>,
+    gate: &'b G,
+}
+
+/// A task was handed back.
+#[derive(Drop)]
+struct Relay;
+
+/// The tickets of the parts that were dealt, and why no more were.
+struct Dealt<Q: EventQueue<Event>> {
+    tickets: Vec<Ticket<Q>>,
+    fault: Option<Fault>,
+}
+
+impl<'b, 'a, Q: EventQueue<Event> + Drop, G: Gate, J: Site> WorkerPool<'b, 'a, Q, G, J> {
+    /// A pool of so many workers, which take what is dealt from the post. With one worker the driver does its
+    /// work, and nothing is dealt.
+    pub fn new(
+        workers: usize,
+        post: TaskPost<'b, 'a, Q, J>,
+        signals: &'b Signals,
+        gate: &'b G,
+    ) -> Self {
+        WorkerPool {
+            workers,
+            post,
+            hold: StopGuard(signals),
+            gate,
+        }
+    }
+
+    /// Lets the workers end, and gives the post back.
+    pub fn leave(self) -> TaskPost<'b, 'a, Q, J> {
+        let WorkerPool { post, .. } = self;
+        post
+    }
+
+    /// The windows of these parts, each below its bound, by the workers, in the order of the parts. The
+    /// window's number is what the gate is told.
+    ///
+    /// Faults: `Memory` and `Worn` of a part's window, `Relay` where a task was handed back or lost. Of
+    /// several the first in that order is answered. All tasks that went out have come to an end.
+    pub fn run_windows(
+        &mut self,
+        rt: &impl Wait,
+        alloc: Global,
+        parts: Vec<Bounded<Q>>,
+        window: u64,
+        scenario: &'a Scenario,
+        links: &'a Links,
+    ) -> Result<Vec<Done<Q>>, Fault>
+        requires sound { IsSound scenario.now }
+        requires fits { AreLinksOf links.now scenario.now }
+        requires in_time { AllByRecursion (λ (b : ABounded Q). b.bound ≤ scenario.now.end + 1) parts.items }
+        requires consistent { AllByRecursion (λ (b : ABounded Q). IsConsistentPart scenario.now (world_of Q.set b.part)) parts.items }
+        ensures ok { IfOk result (λ done. RanWindows Q.set scenario.now parts.items done.items) }
+        ensures worn { IsErrOf result Fault.Worn → OneWears Q.set scenario.now parts.items }
+        ensures write { IfErr result (λ fault. fault ≢ Fault.Write) }
+    {
+        if self.workers == 1 {
+            return run_alone(alloc, self.gate, parts, window, scenario, links);
+        }
+        let dealt = self.deal(rt, alloc, parts, window, scenario, links);
+        self.hold.0.wait_group.wait(rt);
+        let Dealt { tickets, fault } = dealt;
+        let so_far = begun(alloc, fault, tickets.len());
+        gather(so_far, tickets, scenario)
+    }
+
+    /// Deals the parts, until one can't be dealt.
+    fn deal(
+        &mut self,
+        rt: &impl Wait,
+        alloc: Global,
+        parts: Vec<Bounded<Q>>,
+        window: u64,
+        scenario: &'a Scenario,
+        links: &'a Links,
+    ) -> Dealt<Q>
+        requires fits { AreLinksOf links.now scenario.now }
+        requires in_time { AllByRecursion (λ (b : ABounded Q). b.bound ≤ scenario.now.end + 1) parts.items }
+        requires consistent { AllByRecursion (λ (b : ABounded Q). IsConsistentPart scenario.now (world_of Q.set b.part)) parts.items }
+        ensures windows { AllByRecursion (IsOfScenario scenario.now) result.tickets.items }
+        ensures whole { IfNone result.fault (all_bounded result.tickets.items ≡ parts.items) }
+        ensures beginning { (rest : List (ABounded Q)) × (parts.items ≡ all_bounded result.tickets.items ++ rest) }
+        ensures causes { IfSome result.fault (λ fault. (fault ≢ Fault.Worn) × (fault ≢ Fault.Write)) }
+    {
+        let mut tickets = match room_for(alloc, parts.len()) {
+            Ok(tickets) => tickets,
+            Err(fault) => return stopped(Vec::new(alloc), fault),
+        };
+        for bounded in parts {
+            let (ticket, task) = match ask(alloc, bounded, window, scenario, links) {
+                Ok(pair) => pair,
+                Err(Memory) => return stopped(tickets, Fault::Memory),
+            };
+            match tickets.push(ticket) {
+                Ok(()) => {}
+                Err(_) => return stopped(tickets, Fault::Memory),
+            }
+            match self.hand(rt, task) {
+                Ok(()) => {}
+                Err(_) => return stopped(tickets, Fault::Relay),
+            }
+        }
+        Dealt {
+            tickets,
+            fault: None,
+        }
+    }
+
+    /// Deals a task, unless it comes back.
+    fn hand(&mut self, rt: &impl Wait, task: WindowTask<'a, Q>) -> Result<(), Relay> {
+        let signals = self.hold.0;
+        signals.wait_group.add();
+        match self.post.deal(rt, task) {
+            Ok(()) => {
+                signals.wake_signal.ring();
+                Ok(())
+            }
+            Err(_) => {
+                signals.wait_group.remove();
+                Err(Relay)
+            }
+        }
+    }
+}
+
+/// The tickets up to a part that could not be dealt.
+fn stopped<Q: EventQueue<Event>>(tickets: Vec<Ticket<Q>>, fault: Fault) -> Dealt<Q>
+    ensures tickets { result.tickets ≡ tickets }
+    ensures fault { result.fault ≡ Some fault }
+{
+    Dealt {
+        tickets,
+        fault: Some(fault),
+    }
+}
+
+/// What came of the parts of these tickets, in their order, or the first of the faults.
+fn gather<Q: EventQueue<Event> + Drop>(
+    begun: Result<Vec<Done<Q>>, Fault>,
+    tickets: Vec<Ticket<Q>>,
+    scenario: &Scenario,
+) -> Result<Vec<Done<Q>>, Fault>
+    requires none { IfOk begun (λ all. all.items ≡ []) }
+    requires causes { IfErr begun (λ fault. (fault ≢ Fault.Worn) × (fault ≢ Fault.Write)) }
+    requires windows { AllByRecursion (IsOfScenario scenario.now) tickets.items }
+    ensures ok { IfOk result (λ done. RanWindows Q.set scenario.now (all_bounded tickets.items) done.items) }
+    ensures whole { OnOk result (IsOk begun) }
+    ensures worn { IsErrOf result Fault.Worn → OneWears Q.set scenario.now (all_bounded tickets.items) }
+    ensures write { IfErr result (λ fault. fault ≢ Fault.Write) }
+{
+    let _scenario = scenario;
+    let mut so_far = begun;
+    for ticket in tickets {
+        so_far = joined(so_far, ticket.answer());
+    }
+    so_far
+}
+
+/// No window came yet, with room for so many: the fault, where there is one already.
+fn begun<T: Drop>(alloc: Global, fault: Option<Fault>, count: usize) -> Result<Vec<T>, Fault>
+    ensures ok { IfOk result (λ none. (none.items ≡ []) × (fault ≡ None)) }
+    ensures err { IfErr result (λ error. (fault ≡ Some error) ⊎ (error ≡ Fault.Memory)) }
+{
+    match fault {
+        None => room_for(alloc, count),
+        Some(fault) => Err(fault),
+    }
+}
+
+/// An empty list with room for so many.
+fn room_for<T: Drop>(alloc: Global, count: usize) -> Result<Vec<T>, Fault>
+    ensures ok { IfOk result (λ none. none.items ≡ []) }
+    ensures err { IfErr result (λ fault. fault ≡ Fault.Memory) }
+{
+    match Vec::with_capacity(alloc, count) {
+        Ok(none) => Ok(none),
+        Err(_) => Err(Fault::Memory),
+    }
+}
+
+/// Runs the window of each part below its bound, one after another, as worker 0.
+fn run_alone<Q: EventQueue<Event> + Drop, G: Gate>(
+    alloc: Global,
+    gate: &G,
+    parts: Vec<Bounded<Q>>,
+    window: u64,
+    scenario: &Scenario,
+    links: &Links,
+) -> Result<Vec<Done<Q>>, Fault>
+    requires sound { IsSound scenario.now }
+    requires fits { AreLinksOf links.now scenario.now }
+    requires in_time { AllByRecursion (λ (b : ABounded Q). b.bound ≤ scenario.now.end + 1) parts.items }
+    requires consistent { AllByRecursion (λ (b : ABounded Q). IsConsistentPart scenario.now (world_of Q.set b.part)) parts.items }
+    ensures ok { IfOk result (λ done. RanWindows Q.set scenario.now parts.items done.items) }
+    ensures worn { IsErrOf result Fault.Worn → OneWears Q.set scenario.now parts.items }
+    ensures write { IfErr result (λ fault. fault ≢ Fault.Write) }
+{
+    let mut so_far = room_for(alloc, parts.len());
+    for bounded in parts {
+        let Bounded { part, bound } = bounded;
+        gate.enter(0, window, part.number);
+        so_far = joined(so_far, told(part.run(alloc, bound, scenario, links)));
+    }
+    so_far
+}

@@ -1,0 +1,82 @@
+ghost use Rattle.std.specs.Prelude.{◌≡◌, ◌+◌, ◌≤◌, IfOk};
+ghost use Rattle.links.specs.Arrival.{AreLinksOf};
+ghost use Rattle.windows.specs.WorldOf.{world_of};
+ghost use Rattle.windows.specs.Window.{IsConsistentPart};
+ghost use Rattle.workers.specs.Pools.{bounded_of, IsOfScenario};
+
+use crate::gate::Gate;
+use crate::ring::{Reply, Ticket, ring_for};
+use crate::terms::Terms;
+use base::Memory;
+use links::Links;
+use member::Event;
+use scenario::Scenario;
+use std::alloc::Global;
+use std::snapshot::Snapshot;
+use windows::{Bounded, Part};
+use worker_queue::EventQueue;
+
+/// What a worker takes: a part, and all that its window needs.
+#[derive(Drop)]
+pub struct WindowTask<'a, Q: EventQueue<Event>> {
+    part: Part<Q>,
+    window: u64,
+    scenario: &'a Scenario,
+    terms: Terms<'a, Q>,
+    reply: Reply<Q>,
+    ghost scenario_of_terms: { terms.scenario.now ≡ scenario.now },
+    ghost scenario_of_reply: { reply.scenario.value ≡ scenario.now },
+    ghost bound_of_reply: { reply.bound ≡ terms.bound },
+    ghost part_of_terms: { terms.part.value ≡ part },
+    ghost part_of_reply: { reply.before.value ≡ part },
+}
+
+/// The task of a part below its bound, and the ticket for what comes of it.
+pub(crate) fn ask<'a, Q: EventQueue<Event> + Drop>(
+    alloc: Global,
+    bounded: Bounded<Q>,
+    window: u64,
+    scenario: &'a Scenario,
+    links: &'a Links,
+) -> Result<(Ticket<Q>, WindowTask<'a, Q>), Memory>
+    requires fits { AreLinksOf links.now scenario.now }
+    requires in_time { bounded.bound ≤ scenario.now.end + 1 }
+    requires consistent { IsConsistentPart scenario.now (world_of Q.set bounded.part) }
+    ensures { IfOk result (λ r. IsOfScenario scenario.now r.0 × (bounded_of r.0 ≡ bounded)) }
+{
+    let Bounded { part, bound } = bounded;
+    let (ticket, reply) = match ring_for(alloc, scenario, bound, &part) {
+        Ok(ends) => ends,
+        Err(Memory) => return Err(Memory),
+    };
+    let terms = Terms {
+        scenario,
+        links,
+        bound,
+        part: Snapshot::of(&part),
+    };
+    let task = WindowTask {
+        part,
+        window,
+        scenario,
+        terms,
+        reply,
+    };
+    Ok((ticket, task))
+}
+
+impl<'a, Q: EventQueue<Event> + Drop> WindowTask<'a, Q> {
+    /// Enters the gate, runs the window of the part, and answers.
+    pub(crate) fn run<G: Gate>(self, alloc: Global, gate: &G, worker: usize) {
+        let WindowTask {
+            part,
+            window,
+            scenario: _,
+            terms,
+            reply,
+        } = self;
+        gate.enter(worker, window, part.number);
+        let came = terms.run(alloc, part);
+        reply.send(came);
+    }
+}
