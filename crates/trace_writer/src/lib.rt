@@ -3,4 +3,4 @@
 
 mod stream_writer;
 
-pub use stream_writer::write_stream;
+pub use stream_writer::{lost, write_stream};

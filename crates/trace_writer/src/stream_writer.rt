@@ -72,7 +72,7 @@ fn go_on<A: Sink>(
 }
 
 /// What is answered where the last batch came back, or never came.
-fn lost(outcome: Result<(), Fault>) -> Result<(), Fault>
+pub fn lost(outcome: Result<(), Fault>) -> Result<(), Fault>
     ensures none { IsErr result }
     ensures relay { OnOk outcome (IsErrOf result Fault.Relay) }
     ensures first { OnErr outcome (result ≡ outcome) }
