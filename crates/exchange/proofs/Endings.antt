@@ -1,29 +1,33 @@
 -- What is left of a run by threads once they have ended.
-use Rattle.std.proofs.Common.{◌≡◌, ◌≢◌, ℕ, ◌<◌, ◌⊎◌, inl, inr, true, List, [], ◌++◌, Option, Result, Ok, Err, IsOk, append-nil, ap, ◌∙◌, sym, subst, refl, arith}
-use Rattle.std.specs.Result.{OnOk, OnErr, IfErr, IsErrOf}
+use Rattle.std.proofs.Common.{◌≡◌, ◌≢◌, ℕ, ◌<◌, ◌⊎◌, inl, inr, true, List, [], Option, Result, Ok, Err, IsOk, IsErrAnd, append-nil, ap, ◌∙◌, sym, subst, refl, arith}
+use Rattle.std.specs.Result.{OnOk, IfErr, IsErrOf}
 use Rattle.std.specs.Io.KnownBytes.{Appends}
 use Rattle.std.proofs.lemmas.Result.{IfErr-at_err, IfErr-weaker}
 use Rattle.std.proofs.lemmas.Bool.{false≢true}
 use Rattle.base.specs.declared.fault.Fault.{Fault}
-use Rattle.base.specs.declared.fault.Fault.TheVariants.{Worn, Write, Relay}
+use Rattle.base.specs.declared.fault.Fault.TheVariants.{Memory, Worn, Write, Relay}
 use Rattle.scenario.specs.Setup.{Setup, IsSound}
 use Rattle.trace.specs.declared.row.Row.{Row}
 use Rattle.trace.specs.Text.{trace_text}
+use Rattle.trace.proofs.Beginnings.{beginning-whole}
 use Rattle.member_laws.specs.Runs.{IsRunOf, WearsOut}
 use Rattle.relay.specs.declared.relay.Relay.{Relay as ARelay}
 use Rattle.relay.specs.Lots.{rows_in, has_last}
 use Rattle.relay.specs.Seats.{sent_by, taken_by, IsSender}
-use Rattle.exchange.specs.declared.driver.Driven.{Driven}
-use Rattle.exchange.specs.declared.driver.Ended.{Ended}
 use Rattle.windows.specs.Play.{IsBeginning}
 use Rattle.turns.specs.Beginning.{BeginsRun}
+use Rattle.turns.proofs.Goes.{begins_with}
 use Rattle.outputs.specs.Promise.{BeginsTrace, WearsOutReport}
 use Rattle.outputs.specs.Written.{sink_failures}
-use Rattle.exchange.specs.Streams.{IsDriven, HasEnded}
-use Rattle.exchange.proofs.Faults.{worn≢relay}
-use Rattle.turns.proofs.Goes.{begins_with}
+use Rattle.outputs.specs.declared.tallied.Tallied.{Tallied}
+use Rattle.outputs.proofs.Runs.{begins_nothing}
 use Rattle.whole_runs.proofs.Reported.{wears_report}
 use Rattle.whole_runs.proofs.Streamed.{begins_trace as begins_with_these}
+use Rattle.exchange.specs.declared.driver.Driven.{Driven}
+use Rattle.exchange.specs.declared.threads.Ended.{Ended}
+use Rattle.exchange.specs.Streams.{IsEarly, ComeTo, IsDriven, HasEnded}
+use Rattle.exchange.specs.Traced.{both_of, KeepsTrace}
+use Rattle.exchange.proofs.Faults.{memory≢worn, memory≢write, worn≢relay, write≢relay, memory_early, both_ok, one_of, no_write}
 
 at_ok : {T E : Type 0} (P : Type 0) (o : Result T E) → IsOk o → OnOk o P → P
 at_ok P (Ok x) is p = p
@@ -38,75 +42,128 @@ on_both : {T E P Q R : Type 0} (o : Result T E) → (P → Q → R) → OnOk o P
 on_both (Ok x) f p q = f p q
 on_both (Err e) f p q = tt
 
-relay≢write : Relay ≢ Write
-relay≢write is = cc
-
 -- ---- the driver
 
-module _ (s : Setup) (sound : IsSound s) (relay : ARelay) (driven : Driven) (all : List Row) (came : Result (Unit {0}) Fault) where
-  begun_all : (o : Result (Unit {0}) Fault) → OnOk o (IsRunOf s all) → OnErr o (BeginsRun s all) → BeginsRun s all
-  begun_all (Ok x) run begun = (all, run, ([], sym (append-nil all)))
-  begun_all (Err e) run begun = begun
+pub comes_whole : (s : Setup) (rows : List Row) → IsRunOf s rows → ¬ (WearsOut s) → ComeTo s rows (Ok (tt {0}))
+comes_whole s rows run lasts = record { whole = run; begins = (rows, run, ([], sym (append-nil rows))); lasts = lasts; worn = λ is. cc; few = tt }
 
+-- after a fault that is handed on
+pub comes_by : (s : Setup) (rows : List Row) (came : Result (Unit {0}) Fault) (fault : Fault) → IsErrAnd came (λ f. f ≡ fault) → BeginsRun s rows → (fault ≡ Worn → WearsOut s) → fault ≢ Write → ComeTo s rows came
+comes_by s rows (Ok x) fault gives begun worn few = absurd gives
+comes_by s rows (Err f) fault gives begun worn few = record {
+  whole = tt;
+  begins = begun;
+  lasts = tt;
+  worn = λ is. let same : f ≡ Worn = cc in worn (sym gives ∙ same);
+  few = λ is. few (sym gives ∙ is);
+}
+
+pub comes_by_memory : (s : Setup) (rows : List Row) (came : Result (Unit {0}) Fault) → IsErrAnd came (λ f. f ≡ Memory) → BeginsRun s rows → ComeTo s rows came
+comes_by_memory s rows came gives begun = comes_by s rows came Memory gives begun (λ is. absurd (memory≢worn is)) memory≢write
+
+module _ (s : Setup) (sound : IsSound s) (relay : ARelay) (driven : Driven) (all : List Row) (came : Result (Unit {0}) Fault) where
   caused : (fault : Fault) → IfErr driven.outcome (λ f. IsErrOf came f ⊎ (f ≡ Relay)) → IsErrOf driven.outcome fault → IsErrOf came fault ⊎ (fault ≡ Relay)
   caused fault causes is = IfErr-at_err (λ f. IsErrOf came f ⊎ (f ≡ Relay)) is causes
 
   -- the turns gave these rows, and came to this; of the rows the driver has sent what it could
   pub is_driven : IsSender relay driven.seat → OnOk driven.outcome (rows_in (sent_by driven.seat) ≡ all) → IsBeginning (rows_in (sent_by driven.seat)) all → OnOk driven.outcome (IsOk came)
-      → IfErr driven.outcome (λ f. IsErrOf came f ⊎ (f ≡ Relay)) → OnOk came (IsRunOf s all) → OnErr came (BeginsRun s all) → OnOk came (¬ (WearsOut s)) → (IsErrOf came Worn → WearsOut s)
-      → IfErr came (λ f. f ≢ Write) → IsDriven s relay driven
-  is_driven sender whole part ended causes run begun lasts worn few = record {
+      → IfErr driven.outcome (λ f. IsErrOf came f ⊎ (f ≡ Relay)) → ComeTo s all came → IsDriven s relay driven
+  is_driven sender whole part ended causes come = record {
     sender = sender;
-    whole = on_both driven.outcome (λ same is. subst (IsRunOf s) (sym same) is) whole (on_came (IsRunOf s all) driven.outcome came ended run);
-    begins = begins_with s sound (rows_in (sent_by driven.seat)) all part (begun_all came run begun);
-    lasts = on_came (¬ (WearsOut s)) driven.outcome came ended lasts;
-    worn = λ is. elim (caused Worn causes is) [ inl e ↦ worn e | inr e ↦ absurd (worn≢relay e) ];
-    few = IfErr-weaker driven.outcome _ _ (λ fault is write. elim is [ inl e ↦ IfErr-at_err (λ f. f ≢ Write) e few write | inr e ↦ relay≢write (sym e ∙ write) ]) causes;
+    come = record {
+      whole = on_both driven.outcome (λ same is. subst (IsRunOf s) (sym same) is) whole (on_came (IsRunOf s all) driven.outcome came ended come.whole);
+      begins = begins_with s sound (rows_in (sent_by driven.seat)) all part come.begins;
+      lasts = on_came (¬ (WearsOut s)) driven.outcome came ended come.lasts;
+      worn = λ is. elim (caused Worn causes is) [ inl e ↦ come.worn e | inr e ↦ absurd (worn≢relay e) ];
+      few = IfErr-weaker driven.outcome _ _ (λ fault is write. elim is [ inl e ↦ IfErr-at_err (λ f. f ≢ Write) e come.few write | inr e ↦ write≢relay (sym write ∙ e) ]) causes;
+    };
+  }
+
+-- ---- the trace's sink
+
+-- after a fault before anything was written
+pub unwritten : (s : Setup) (held : Option (List ℕ)) (failed : ℕ) (result : Result Tallied Fault) (fault : Fault) → IsSound s → IsErrAnd result (λ f. f ≡ fault) → IsEarly fault → KeepsTrace s held held failed failed result
+unwritten s held failed (Ok x) fault sound gives few = absurd gives
+unwritten s held failed (Err f) fault sound gives few = record {
+  run = tt;
+  whole = tt;
+  part = begins_nothing s held sound;
+  lasts = tt;
+  worn = λ is. let same : f ≡ Worn = cc in absurd (few.0 (sym gives ∙ same));
+  write = λ is. let same : f ≡ Write = cc in absurd (few.1 (sym gives ∙ same));
+  unfailed = tt;
+  relay = λ is. refl;
+}
+
+pub no_memory : (s : Setup) (held : Option (List ℕ)) (failed : ℕ) (result : Result Tallied Fault) → IsSound s → IsErrAnd result (λ f. f ≡ Memory) → KeepsTrace s held held failed failed result
+no_memory s held failed result sound gives = unwritten s held failed result Memory sound gives memory_early
+
+module _ (s : Setup) (held_old held_new : Option (List ℕ)) (failed_old failed_new : ℕ) where
+  some_trace : (result : Result Tallied Fault) → KeepsTrace s held_old held_new failed_old failed_new result → BeginsTrace s held_old held_new
+  some_trace (Ok tallied) kept = record { rows = tallied.tallies; run = kept.run; written = beginning-whole held_old held_new (trace_text s tallied.tallies) kept.whole }
+  some_trace (Err fault) kept = kept.part
+
+  -- after all that was kept so far, a fault of another cause
+  pub breaks_off : (result : Result Tallied Fault) (fault : Fault) → KeepsTrace s held_old held_new failed_old failed_new result → IsEarly fault → (fault ≡ Relay → IsOk result)
+      → KeepsTrace s held_old held_new failed_old failed_new (Err fault)
+  breaks_off result fault kept few done = record {
+    run = tt;
+    whole = tt;
+    part = some_trace result kept;
+    lasts = tt;
+    worn = λ is. let same : fault ≡ Worn = cc in absurd (few.0 same);
+    write = λ is. let same : fault ≡ Write = cc in absurd (few.1 same);
+    unfailed = tt;
+    relay = λ is. let same : fault ≡ Relay = cc in at_ok (failed_new ≡ failed_old) result (done same) kept.unfailed;
   }
 
 -- ---- all threads
 
 module _ (s : Setup) (sound : IsSound s) (relay : ARelay) (held_old held_new : Option (List ℕ)) (failed_old failed_new : ℕ) (ended : Ended) (is : HasEnded s relay held_old held_new failed_old failed_new ended)
-    (whole : has_last (taken_by ended.taker) ≡ true → taken_by ended.taker ≡ sent_by ended.driven.seat) (part : IsBeginning (rows_in (taken_by ended.taker)) (rows_in (sent_by ended.driven.seat))) where
+    (whole : has_last (taken_by ended.written.seat) ≡ true → taken_by ended.written.seat ≡ sent_by ended.driven.seat) (part : IsBeginning (rows_in (taken_by ended.written.seat)) (rows_in (sent_by ended.driven.seat))) where
   -- the rows that were written are the first of the run
-  begun : BeginsRun s (rows_in (taken_by ended.taker))
-  begun = begins_with s sound (rows_in (taken_by ended.taker)) (rows_in (sent_by ended.driven.seat)) part is.driven.begins
+  begun : BeginsRun s (rows_in (taken_by ended.written.seat))
+  begun = begins_with s sound (rows_in (taken_by ended.written.seat)) (rows_in (sent_by ended.driven.seat)) part is.driven.come.begins
 
-  pub begins_trace : BeginsTrace s held_old held_new
-  begins_trace = begins_with_these s (rows_in (taken_by ended.taker)) ended.tallied.tallies held_old held_new ended.written begun is.written
+  -- both sides came to their end
+  pub ends_whole : IsOk (both_of ended.driven.outcome ended.written.outcome) → KeepsTrace s held_old held_new failed_old failed_new (Ok ended.written.tallied)
+  ends_whole done =
+      let drove = (both_ok ended.driven.outcome ended.written.outcome done).0 in
+      let wrote = (both_ok ended.driven.outcome ended.written.outcome done).1 in
+      let taken : rows_in (taken_by ended.written.seat) ≡ rows_in (sent_by ended.driven.seat) = ap rows_in (whole (at_ok (has_last (taken_by ended.written.seat) ≡ true) ended.written.outcome wrote is.written.last)) in
+      let text = at_ok (Appends held_old held_new (trace_text s (rows_in (taken_by ended.written.seat))) × (ended.written.tallied.tallies ≡ rows_in (taken_by ended.written.seat))) ended.written.outcome wrote is.written.text.whole in
+      record {
+        run = subst (IsRunOf s) (sym (text.1 ∙ taken)) (at_ok (IsRunOf s (rows_in (sent_by ended.driven.seat))) ended.driven.outcome drove is.driven.come.whole);
+        whole = subst (λ rows. Appends held_old held_new (trace_text s rows)) (sym text.1) text.0;
+        part = tt;
+        lasts = at_ok (¬ (WearsOut s)) ended.driven.outcome drove is.driven.come.lasts;
+        worn = λ is. cc;
+        write = λ is. cc;
+        unfailed = let none = no_failure ended.written.outcome wrote in let all = is.written.failures in omega (arith, none, all);
+        relay = λ is. cc;
+      }
+    where
+      no_failure : (o : Result (Unit {0}) Fault) → IsOk o → sink_failures o ≡ 0
+      no_failure (Ok x) h = refl
+      no_failure (Err e) h = absurd (false≢true h)
 
-  -- where both sides came to their end
-  module _ (drove : IsOk ended.driven.outcome) (wrote : IsOk ended.written) where
-    all_taken : rows_in (taken_by ended.taker) ≡ rows_in (sent_by ended.driven.seat)
-    all_taken = ap rows_in (whole (at_ok (has_last (taken_by ended.taker) ≡ true) ended.written wrote is.last))
+  worn_ended : IsErrOf ended.driven.outcome Worn ⊎ IsErrOf ended.written.outcome Worn → WearsOut s ⊎ WearsOutReport s
+  worn_ended (inl e) = inl (is.driven.come.worn e)
+  worn_ended (inr e) = inr (wears_report s (rows_in (taken_by ended.written.seat)) begun (is.written.text.worn e))
 
-    text_written : Appends held_old held_new (trace_text s (rows_in (taken_by ended.taker))) × (ended.tallied.tallies ≡ rows_in (taken_by ended.taker))
-    text_written = at_ok (Appends held_old held_new (trace_text s (rows_in (taken_by ended.taker))) × (ended.tallied.tallies ≡ rows_in (taken_by ended.taker))) ended.written wrote is.written.whole
+  write_ended : IsErrOf ended.driven.outcome Write ⊎ IsErrOf ended.written.outcome Write → failed_old < failed_new
+  write_ended (inl e) = absurd (IfErr-at_err (λ f. f ≢ Write) e is.driven.come.few refl)
+  write_ended (inr e) = let one : sink_failures ended.written.outcome ≡ 1 = ap sink_failures e in let all = is.written.failures in omega (arith, one, all)
 
-    pub run_ended : IsRunOf s ended.tallied.tallies
-    run_ended = subst (IsRunOf s) (sym (text_written.1 ∙ all_taken)) (at_ok (IsRunOf s (rows_in (sent_by ended.driven.seat))) ended.driven.outcome drove is.driven.whole)
-
-    pub trace_ended : Appends held_old held_new (trace_text s ended.tallied.tallies)
-    trace_ended = subst (λ rows. Appends held_old held_new (trace_text s rows)) (sym text_written.1) text_written.0
-
-    pub lasts_ended : ¬ (WearsOut s)
-    lasts_ended = at_ok (¬ (WearsOut s)) ended.driven.outcome drove is.driven.lasts
-
-    pub unfailed : failed_new ≡ failed_old
-    unfailed = let none = no_failure ended.written wrote in let all = is.failures in omega (arith, none, all)
-      where
-        no_failure : (o : Result (Unit {0}) Fault) → IsOk o → sink_failures o ≡ 0
-        no_failure (Ok x) h = refl
-        no_failure (Err e) h = absurd (false≢true h)
-
-  -- where one of them, or both, met a fault
-  pub worn_ended : IsErrOf ended.driven.outcome Worn ⊎ IsErrOf ended.written Worn → WearsOut s ⊎ WearsOutReport s
-  worn_ended (inl e) = inl (is.driven.worn e)
-  worn_ended (inr e) = inr (wears_report s (rows_in (taken_by ended.taker)) begun (is.written.worn e))
-
-  pub write_ended : IsErrOf ended.driven.outcome Write ⊎ IsErrOf ended.written Write → failed_old < failed_new
-  write_ended (inl e) = absurd (IfErr-at_err (λ f. f ≢ Write) e is.driven.few refl)
-  write_ended (inr e) = let one : sink_failures ended.written ≡ 1 = ap sink_failures e in let all = is.failures in omega (arith, one, all)
-
-  pub relay_ended : sink_failures ended.written ≡ 0 → failed_new ≡ failed_old
-  relay_ended none = let all = is.failures in omega (arith, none, all)
+  -- one of them, or both, met a fault
+  pub ends_broken : (fault : Fault) → IsErrOf (both_of ended.driven.outcome ended.written.outcome) fault → KeepsTrace s held_old held_new failed_old failed_new (Err fault)
+  ends_broken fault met = record {
+    run = tt;
+    whole = tt;
+    part = begins_with_these s (rows_in (taken_by ended.written.seat)) ended.written.tallied.tallies held_old held_new ended.written.outcome begun is.written.text;
+    lasts = tt;
+    worn = λ h. let same : fault ≡ Worn = cc in worn_ended (one_of ended.driven.outcome ended.written.outcome Worn (subst (IsErrOf (both_of ended.driven.outcome ended.written.outcome)) same met));
+    write = λ h. let same : fault ≡ Write = cc in write_ended (one_of ended.driven.outcome ended.written.outcome Write (subst (IsErrOf (both_of ended.driven.outcome ended.written.outcome)) same met));
+    unfailed = tt;
+    relay = λ h. let same : fault ≡ Relay = cc in let none = no_write ended.driven.outcome ended.written.outcome (subst (IsErrOf (both_of ended.driven.outcome ended.written.outcome)) same met) in let all = is.written.failures in omega (arith, none, all);
+  }

@@ -22,6 +22,7 @@ use Rattle.workers.specs.contracts.crew.Crew as crew
 use Rattle.workers.proofs.Sent.{scenario_sync, links_sync, member_send, errand_send, board_sync, seat_send, signals_sync}
 use Rattle.relay.specs.contracts.relay.SendSeat as send_seat
 use Rattle.relay.proofs.Sent.{relay_sync}
+use Rattle.exchange.specs.contracts.basis.Basis as basis
 use Rattle.exchange.specs.contracts.driver.Driven as driven
 use Rattle.exchange.specs.contracts.driver.Task as task
 
@@ -49,8 +50,11 @@ seat_field_send = search (shared_seat.the_send, badge.the_send, crosses, sendabl
 pub driven_send : IsSend driven.the_row
 driven_send = search (seat_field_send, crosses, sendable) depth 60
 
+basis_field_send : (α : NamedLft) → IsSend (basis.the_field α).row
+basis_field_send α = search (scenario_sync, links_sync, division_sync, crosses, sendable) depth 60 fits 20000
+
 pub task_send : (ρ β α : NamedLft) (Q G P : RattleType) (g : Ghosts Q.Denot Event) (p : site.Ghosts P.Denot) → IsSend Q → IsSync G → IsSend (task.the_row ρ β α Q G P g p)
 task_send ρ β α Q G P g p s t =
     let all : AllSend (shape (task.the_type ρ β α Q G P g p)).fields =
-    (Vec-send (part.the_row Q) (part_row_send Q s), (crew_field_send β α Q G P g p s t, (search (scenario_sync, sendable), (search (links_sync, sendable), (search (division_sync, sendable), (search (relay_sync, sendable), (seat_field_send, tt))))))) in
+    (Vec-send (part.the_row Q) (part_row_send Q s), (crew_field_send β α Q G P g p s t, (basis_field_send α, (search (relay_sync, sendable), (seat_field_send, tt))))) in
     declared_send (task.the_type ρ β α Q G P g p) all

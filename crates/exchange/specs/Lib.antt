@@ -1,2 +1,3 @@
 pub use Rattle.member_laws.specs.Runs
 pub mod Streams
+pub mod Traced

@@ -1,24 +1,39 @@
 -- The rows of a run on their way to whoever writes them.
-use Rattle.std.specs.Prelude.{◌≡◌, ◌≢◌, ℕ, ◌+◌, ◌++◌, true, false, List, [], Option, OnOk, IfErr, IsErrOf, All}
+use Rattle.std.specs.Prelude.{◌≡◌, ◌≢◌, ℕ, ◌+◌, ◌<◌, ◌^◌, ◌++◌, true, false, List, [], Option, Result, OnOk, IfErr, IsErrOf, All}
+use Rattle.std.specs.FinMap.{FinMap}
+use Rattle.base.specs.Order.{key_cmp}
+use Rattle.base.specs.declared.fault.Fault.{Fault}
 use Rattle.base.specs.declared.fault.Fault.TheVariants as fault
 use Rattle.scenario.specs.Setup.{Setup}
 use Rattle.trace.specs.declared.row.Row.{Row}
 use Rattle.trace.specs.Text.{NamesMembers}
+use Rattle.member.specs.declared.event.Event.{Event}
+use Rattle.member.specs.Opening.{opening}
 use Rattle.member_laws.specs.Runs.{IsRunOf, WearsOut}
 use Rattle.relay.specs.declared.relay.Relay.{Relay}
 use Rattle.relay.specs.declared.relay.SendSeat.{SendSeat}
-use Rattle.relay.specs.declared.relay.TakeSeat.{TakeSeat}
 use Rattle.relay.specs.Lots.{rows_in, has_last}
-use Rattle.exchange.specs.declared.driver.Driven.{Driven}
-use Rattle.turns.specs.Beginning.{BeginsRun}
-use Rattle.outputs.specs.Written.{sink_failures, HasWritten}
 use Rattle.relay.specs.Seats.{scenario_of, sent_by, taken_by, IsSender, IsTaker}
+use Rattle.windows.specs.declared.part.Part.{Part}
+use Rattle.turns.specs.Beginning.{BeginsRun}
+use Rattle.turns.specs.Course.{GoTogether}
+use Rattle.turns.specs.Parts.{StandFor}
+use Rattle.outputs.specs.Written.{sink_failures, HasWritten}
+use Rattle.exchange.specs.declared.basis.Basis.{Basis}
+use Rattle.exchange.specs.declared.driver.Driven.{Driven}
+use Rattle.exchange.specs.declared.threads.Ended.{Ended}
 use Rattle.exchange.specs.declared.stream.Stream.{Stream}
-use Rattle.exchange.specs.declared.driver.Ended.{Ended}
+use Rattle.exchange.specs.declared.writer.Writer.{Writer}
+use Rattle.exchange.specs.declared.writer.Written.{Written}
 
 -- the rows that the stream has taken: those that it sent, and those that wait for the next batch
 abbrev pub rows_so_far : {R : Type 0} → Stream R → List Row
 rows_so_far stream = rows_in (sent_by stream.seat) ++ stream.rows.items
+
+-- a run that rests on this can begin in these parts
+pub record CanBegin {Q : Type 0} (set : Q → FinMap key_cmp Event) (basis : Basis) (parts : List (Part Q)) : Type 0 where
+  pub together : GoTogether basis.scenario.now basis.links.now basis.division.now
+  pub opened : StandFor set basis.division.now parts (opening basis.scenario.now)
 
 -- the seat is the relay's, which is for this scenario, and nothing was sent from it yet
 pub record MaySend (s : Setup) (relay : Relay) (seat : SendSeat) : Type 0 where
@@ -26,11 +41,13 @@ pub record MaySend (s : Setup) (relay : Relay) (seat : SendSeat) : Type 0 where
   pub one : scenario_of relay ≡ s
   pub none : sent_by seat ≡ []
 
--- the seat is the relay's, which is for this scenario, and nothing was received from it yet
-pub record MayTake (s : Setup) (relay : Relay) (seat : TakeSeat) : Type 0 where
-  pub taker : IsTaker relay seat
-  pub one : scenario_of relay ≡ s
-  pub none : taken_by seat ≡ []
+-- the writer takes from the relay, which is for its scenario; nothing was received or tallied yet, and one failure more can be counted
+pub record MayWrite (writer : Writer) (failed : ℕ) : Type 0 where
+  pub taker : IsTaker writer.relay.now writer.seat
+  pub one : scenario_of writer.relay.now ≡ writer.scenario.now
+  pub none : taken_by writer.seat ≡ []
+  pub none_tallied : writer.tallied.tallies ≡ []
+  pub countable : failed < 2 ^ 63
 
 -- the stream sends over its relay, which is for its scenario; the last batch was not sent yet, and what waits for the next
 -- one names members of the scenario
@@ -40,20 +57,32 @@ pub record IsOpen {R : Type 0} (stream : Stream R) : Type 0 where
   pub more : has_last (sent_by stream.seat) ≡ false
   pub named : All (NamesMembers stream.scenario.now) stream.rows.items
 
--- The driver of the scenario's run has sent all its rows over the relay; or after a fault the first of them.
+-- a fault that comes before anything is written
+abbrev pub IsEarly : Fault → Type 0
+IsEarly f = (f ≢ fault.Worn) × (f ≢ fault.Write)
+
+-- The turns of the scenario's run gave these rows, and came to this: all rows of the run, or after a fault the first of them.
+pub record ComeTo (s : Setup) (rows : List Row) (outcome : Result (Unit {0}) Fault) : Type 0 where
+  pub whole : OnOk outcome (IsRunOf s rows)
+  pub begins : BeginsRun s rows
+  pub lasts : OnOk outcome (¬ (WearsOut s))
+  pub worn : IsErrOf outcome fault.Worn → WearsOut s
+  pub few : IfErr outcome (λ f. f ≢ fault.Write)
+
+-- The driver of the scenario's run has sent its rows over the relay.
 pub record IsDriven (s : Setup) (relay : Relay) (driven : Driven) : Type 0 where
   pub sender : IsSender relay driven.seat
-  pub whole : OnOk driven.outcome (IsRunOf s (rows_in (sent_by driven.seat)))
-  pub begins : BeginsRun s (rows_in (sent_by driven.seat))
-  pub lasts : OnOk driven.outcome (¬ (WearsOut s))
-  pub worn : IsErrOf driven.outcome fault.Worn → WearsOut s
-  pub few : IfErr driven.outcome (λ f. f ≢ fault.Write)
+  pub come : ComeTo s (rows_in (sent_by driven.seat)) driven.outcome
 
--- The threads of the scenario's run have ended: the driver has driven it, and of what came over the relay the trace was
--- written and tallied, up to the last batch; a failure of the sink was counted where that is the fault.
+-- Of what came over the relay the trace was written and tallied, up to the last batch; a failure of the sink was counted where
+-- that is the fault.
+pub record IsWritten (s : Setup) (relay : Relay) (held_old held_new : Option (List ℕ)) (failed_old failed_new : ℕ) (written : Written) : Type 0 where
+  pub taker : IsTaker relay written.seat
+  pub last : OnOk written.outcome (has_last (taken_by written.seat) ≡ true)
+  pub text : HasWritten s (rows_in (taken_by written.seat)) held_old held_new written.tallied.tallies written.outcome
+  pub failures : failed_new ≡ failed_old + sink_failures written.outcome
+
+-- The threads of the scenario's run have ended, and so has the writer.
 pub record HasEnded (s : Setup) (relay : Relay) (held_old held_new : Option (List ℕ)) (failed_old failed_new : ℕ) (ended : Ended) : Type 0 where
   pub driven : IsDriven s relay ended.driven
-  pub taker : IsTaker relay ended.taker
-  pub last : OnOk ended.written (has_last (taken_by ended.taker) ≡ true)
-  pub written : HasWritten s (rows_in (taken_by ended.taker)) held_old held_new ended.tallied.tallies ended.written
-  pub failures : failed_new ≡ failed_old + sink_failures ended.written
+  pub written : IsWritten s relay held_old held_new failed_old failed_new ended.written

@@ -1,28 +1,26 @@
 //! A run by threads that live as long as it does: workers run the windows of the parts, a driver deals and
 //! exchanges, and the calling thread writes. One worker alone takes no other thread.
-ghost use Rattle.std.specs.Prelude.{◌≡◌, ◌<◌, ◌^◌, ◌⊎◌, [], length, IfOk, OnOk, OnErr, IsErrOf};
-ghost use Rattle.std.specs.Io.KnownBytes.{Appends};
+ghost use Rattle.std.specs.Prelude.{◌≡◌, ◌<◌, ◌^◌, ◌⊎◌, length, IfOk, IfErr, OnErr, IsErrOf};
 ghost use Rattle.board.specs.Deal.{whole};
 ghost use Rattle.board.specs.Seats.{AreAllSeats};
 ghost use Rattle.board.specs.Sites.{table_of, AreSingleSeats};
 ghost use Rattle.scenario.specs.Setup.{IsSound, member_count};
-ghost use Rattle.trace.specs.Text.{trace_text};
-ghost use Rattle.member.specs.Opening.{opening};
-ghost use Rattle.member_laws.specs.Runs.{IsRunOf, WearsOut};
-ghost use Rattle.turns.specs.Course.{GoTogether};
-ghost use Rattle.turns.specs.Parts.{StandFor};
-ghost use Rattle.exchange.specs.Streams.{MaySend, MayTake};
-ghost use Rattle.outputs.specs.Promise.{KeepsPromise, BeginsTrace, WearsOutReport};
+ghost use Rattle.member_laws.specs.Runs.{WearsOut};
+ghost use Rattle.exchange.specs.Streams.{CanBegin, MaySend, MayWrite, IsEarly, HasEnded};
+ghost use Rattle.exchange.specs.Traced.{KeepsTrace};
+ghost use Rattle.outputs.specs.Promise.{KeepsPromise, WearsOutReport};
 
-use crate::driver::Ended;
-use crate::fault_order::first_fault;
-use crate::threads::within;
+use crate::basis::Basis;
+use crate::driver::Task;
+use crate::settling::{closed, settled};
+use crate::threads::{Ended, within};
+use crate::writer::Writer;
 use base::{Fault, Memory};
 use board::{Board, Site, posts_at, seats_of};
 use links::Links;
 use member::Event;
 use outputs::{Summary, Tallied, fault_of, flush, write_tallied};
-use relay::{Relay, SendSeat, TakeSeat, close};
+use relay::{Relay, SendSeat};
 use scenario::{Division, Scenario, Workers};
 use std::alloc::Global;
 use std::marker::{Brand, Sync};
@@ -33,7 +31,7 @@ use turns::open_wheels;
 use whole_runs::stream_run;
 use windows::Part;
 use worker_queue::EventQueue;
-use workers::{Crew, ErrandBoard, ErrandPost, ErrandSeat, Gate, SEATS, Signals, close_board};
+use workers::{Crew, ErrandBoard, ErrandPost, ErrandSeat, Gate, SEATS, Signals};
 
 /// Runs the scenario by the parts of a division of its members: window after window, in each the parts by as
 /// many workers as are asked for, but no more than there are parts. It writes what `run_one` writes, whatever
@@ -83,7 +81,6 @@ pub fn run<A: Sink, B: Sink, G: Gate, R: Threads + Wait + Sync>(
 }
 
 /// Runs the scenario, by threads where there are several workers, and writes its trace; nothing is flushed yet.
-#[tactic(auto, using(outputs::proofs::Runs::begins_nothing))]
 fn run_into<A: Sink, G: Gate, R: Threads + Wait + Sync>(
     rt: &R,
     alloc: Global,
@@ -95,14 +92,7 @@ fn run_into<A: Sink, G: Gate, R: Threads + Wait + Sync>(
 ) -> Result<Tallied, Fault>
     requires divides { length division.now.part_of ≡ member_count scenario.now }
     requires countable { A.failed trace.old < 2 ^ 63 }
-    ensures run { IfOk result (λ tallied. IsRunOf scenario.now tallied.tallies) }
-    ensures whole { IfOk result (λ tallied. Appends (A.held trace.old) (A.held trace.new) (trace_text scenario.now tallied.tallies)) }
-    ensures part { OnErr result (BeginsTrace scenario.now (A.held trace.old) (A.held trace.new)) }
-    ensures lasts { OnOk result (¬ (WearsOut scenario.now)) }
-    ensures worn { IsErrOf result Fault.Worn → WearsOut scenario.now ⊎ WearsOutReport scenario.now }
-    ensures write { IsErrOf result Fault.Write → A.failed trace.old < A.failed trace.new }
-    ensures unfailed { OnOk result (A.failed trace.new ≡ A.failed trace.old) }
-    ensures relay { IsErrOf result Fault.Relay → A.failed trace.new ≡ A.failed trace.old }
+    ensures trace { KeepsTrace scenario.now (A.held trace.old) (A.held trace.new) (A.failed trace.old) (A.failed trace.new) result }
     ensures sound { IsSound scenario.now }
 {
     let _end = scenario.end();
@@ -112,54 +102,52 @@ fn run_into<A: Sink, G: Gate, R: Threads + Wait + Sync>(
     let links = Links::of(alloc, scenario)?;
     let parts = open_wheels(alloc, scenario, division)?;
     let hands = workers.count().min(division.parts());
-    by_crew(
-        rt, alloc, parts, hands, gate, scenario, &links, division, trace,
-    )
+    let basis = Basis {
+        scenario,
+        links: &links,
+        division,
+    };
+    by_crew(rt, alloc, parts, hands, gate, basis, trace)
 }
 
 /// Runs these parts by a crew of so many workers, over a board that is closed at the end, and writes the trace.
-#[tactic(auto, using(outputs::proofs::Runs::begins_nothing))]
 fn by_crew<'a, A: Sink, Q: EventQueue<Event> + Drop + Send, G: Gate, R: Threads + Wait + Sync>(
     rt: &R,
     alloc: Global,
     parts: Vec<Part<Q>>,
     workers: usize,
     gate: &G,
-    scenario: &'a Scenario,
-    links: &'a Links,
-    division: &'a Division,
+    basis: Basis<'a>,
     trace: &mut A,
 ) -> Result<Tallied, Fault>
-    requires together { GoTogether scenario.now links.now division.now }
-    requires opened { StandFor Q.set division.now parts.items (opening scenario.now) }
+    requires ready { CanBegin Q.set basis parts.items }
     requires countable { A.failed trace.old < 2 ^ 63 }
-    ensures run { IfOk result (λ tallied. IsRunOf scenario.now tallied.tallies) }
-    ensures whole { IfOk result (λ tallied. Appends (A.held trace.old) (A.held trace.new) (trace_text scenario.now tallied.tallies)) }
-    ensures part { OnErr result (BeginsTrace scenario.now (A.held trace.old) (A.held trace.new)) }
-    ensures lasts { OnOk result (¬ (WearsOut scenario.now)) }
-    ensures worn { IsErrOf result Fault.Worn → WearsOut scenario.now ⊎ WearsOutReport scenario.now }
-    ensures write { IsErrOf result Fault.Write → A.failed trace.old < A.failed trace.new }
-    ensures unfailed { OnOk result (A.failed trace.new ≡ A.failed trace.old) }
-    ensures relay { IsErrOf result Fault.Relay → A.failed trace.new ≡ A.failed trace.old }
+    ensures { KeepsTrace basis.entry.scenario.now (A.held trace.old) (A.held trace.new) (A.failed trace.old) (A.failed trace.new) result }
 {
     let tallied = Tallied::new(alloc)?;
-    let (relay, sender, taker) = Relay::new(alloc, scenario)?;
+    let (relay, sender, taker) = Relay::new(alloc, basis.scenario)?;
     let (board, seats): (ErrandBoard<'a, Q>, Vec<ErrandSeat<'a, Q>>) = Board::new(
         alloc,
-        division.parts(),
+        basis.division.parts(),
         SEATS,
     )?;
-    let (tallied, seats) = at_board::<A, Q, G, Brand, R>(
-        rt, alloc, &board, seats, parts, workers, gate, scenario, links, division, relay, sender,
-        taker, tallied, trace,
+    let writer = Writer {
+        relay: &relay,
+        scenario: basis.scenario,
+        seat: taker,
+        tallied,
+    };
+    let (ended, seats) = at_board::<A, Q, G, Brand, R>(
+        rt, alloc, &board, seats, parts, workers, gate, basis, sender, writer, trace,
     )?;
-    close_board(rt, board, seats)?;
-    Ok(tallied)
+    let so_far = settled(relay, ended);
+    closed(rt, board, seats, so_far)
 }
 
-/// The same over this board, with a post at each of its seats: the rows' tallies, and the seats.
-#[tactic(auto, using(outputs::proofs::Runs::begins_nothing, crate::proofs::Endings::begins_trace, crate::proofs::Endings::run_ended, crate::proofs::Endings::trace_ended, crate::proofs::Endings::lasts_ended, crate::proofs::Endings::unfailed, crate::proofs::Endings::worn_ended, crate::proofs::Endings::write_ended, crate::proofs::Endings::relay_ended))]
+/// The same over this board, with a post at each of its seats: what the threads leave once they have ended, and the
+/// seats, or `Memory` where there was none for these.
 fn at_board<
+    'r,
     'a,
     A: Sink,
     Q: EventQueue<Event> + Drop + Send,
@@ -174,56 +162,52 @@ fn at_board<
     parts: Vec<Part<Q>>,
     workers: usize,
     gate: &G,
-    scenario: &'a Scenario,
-    links: &'a Links,
-    division: &'a Division,
-    relay: Relay,
+    basis: Basis<'a>,
     sender: SendSeat,
-    taker: TakeSeat,
-    tallied: Tallied,
+    writer: Writer<'r>,
     trace: &mut A,
-) -> Result<(Tallied, Vec<ErrandSeat<'a, Q>>), Fault>
+) -> Result<(Ended, Result<Vec<ErrandSeat<'a, Q>>, Memory>), Fault>
     requires here { table_of board.now ≡ J.table }
     requires all { AreAllSeats board.now seats.items }
     requires count { length seats.items ≡ whole }
-    requires together { GoTogether scenario.now links.now division.now }
-    requires opened { StandFor Q.set division.now parts.items (opening scenario.now) }
-    requires sends { MaySend scenario.now relay sender }
-    requires takes { MayTake scenario.now relay taker }
-    requires none { tallied.tallies ≡ [] }
-    requires countable { A.failed trace.old < 2 ^ 63 }
-    ensures seats { IfOk result (λ r. AreSingleSeats board.now r.1.items) }
-    ensures run { IfOk result (λ r. IsRunOf scenario.now r.0.tallies) }
-    ensures whole { IfOk result (λ r. Appends (A.held trace.old) (A.held trace.new) (trace_text scenario.now r.0.tallies)) }
-    ensures part { OnErr result (BeginsTrace scenario.now (A.held trace.old) (A.held trace.new)) }
-    ensures lasts { OnOk result (¬ (WearsOut scenario.now)) }
-    ensures worn { IsErrOf result Fault.Worn → WearsOut scenario.now ⊎ WearsOutReport scenario.now }
-    ensures write { IsErrOf result Fault.Write → A.failed trace.old < A.failed trace.new }
-    ensures unfailed { OnOk result (A.failed trace.new ≡ A.failed trace.old) }
-    ensures relay { IsErrOf result Fault.Relay → A.failed trace.new ≡ A.failed trace.old }
+    requires ready { CanBegin Q.set basis parts.items }
+    requires sends { MaySend basis.scenario.now writer.relay.now sender }
+    requires writes { MayWrite writer (A.failed trace.old) }
+    requires one { writer.scenario.now ≡ basis.scenario.now }
+    ensures seats { IfOk result (λ r. IfOk r.1 (λ seats. AreSingleSeats board.now seats.items)) }
+    ensures ended { IfOk result (λ r. HasEnded writer.entry.scenario.now writer.entry.relay.now (A.held trace.old) (A.held trace.new) (A.failed trace.old) (A.failed trace.new) r.0) }
+    ensures unwritten { OnErr result (trace.new ≡ trace.old) }
+    ensures fault { IfErr result IsEarly }
 {
     let signals = Signals::new();
     let mut posts: Vec<ErrandPost<Q, J>> = posts_at(alloc, board, seats)?;
     let Some(own) = posts.pop() else {
         return Err(Fault::Relay);
     };
-    let crew = Crew::new(workers, own, &signals, gate);
-    let (ended, posts) = within(
-        rt, alloc, workers, posts, crew, &signals, gate, parts, scenario, links, division, &relay,
-        sender, taker, tallied, trace,
-    )?;
-    let seats = match posts {
-        Ok(posts) => seats_of(alloc, board, posts),
-        Err(Memory) => Err(Memory),
+    let task = Task {
+        parts,
+        crew: Crew::new(workers, own, &signals, gate),
+        basis,
+        relay: writer.relay,
+        seat: sender,
     };
-    let Ended {
-        driven,
-        taker,
-        tallied,
-        written,
-    } = ended;
-    close(relay, driven.seat, taker);
-    let seats = seats?;
-    first_fault(driven.outcome, written)?;
-    Ok((tallied, seats))
+    let (ended, own, others) = within(
+        rt, alloc, workers, posts, &signals, gate, task, writer, trace,
+    )?;
+    Ok((ended, seats_back(alloc, board, own, others)))
+}
+
+/// The seats of these posts and of one more.
+fn seats_back<'b, 'a, Q: EventQueue<Event> + Drop, J: Site>(
+    alloc: Global,
+    board: &ErrandBoard<'a, Q>,
+    one: ErrandPost<'b, 'a, Q, J>,
+    others: Result<Vec<ErrandPost<'b, 'a, Q, J>>, Memory>,
+) -> Result<Vec<ErrandSeat<'a, Q>>, Memory>
+    requires { table_of board.now ≡ J.table }
+    ensures { IfOk result (λ seats. AreSingleSeats board.now seats.items) }
+{
+    let mut posts = others?;
+    posts.push(one)?;
+    seats_of(alloc, board, posts)
 }

@@ -1,21 +1,18 @@
-ghost use Rattle.std.specs.Prelude.{◌≡◌, ◌≢◌, [], OnOk, OnErr, IfErr, IsErrOf};
+ghost use Rattle.std.specs.Prelude.{◌≡◌, []};
 ghost use Rattle.member.specs.Opening.{opening};
-ghost use Rattle.member_laws.specs.Runs.{IsRunOf, WearsOut};
 ghost use Rattle.turns.specs.Bounds.{AreHorizonsOf};
-ghost use Rattle.turns.specs.Course.{IsCourse, GoTogether};
+ghost use Rattle.turns.specs.Course.{IsCourse};
 ghost use Rattle.turns.specs.Parts.{StandFor};
-ghost use Rattle.turns.specs.Beginning.{BeginsRun};
-ghost use Rattle.exchange.specs.Streams.{rows_so_far, IsOpen, MaySend, IsDriven};
+ghost use Rattle.exchange.specs.Streams.{rows_so_far, CanBegin, IsOpen, MaySend, ComeTo, IsDriven};
 
+use crate::basis::Basis;
 use crate::stream::Stream;
 use base::Fault;
 use board::Site;
 use horizons::{Horizons, horizons};
-use links::Links;
 use member::Event;
-use outputs::Tallied;
-use relay::{Relay, SendSeat, TakeSeat};
-use scenario::{Division, Scenario};
+use relay::{Relay, SendSeat};
+use scenario::Scenario;
 use std::alloc::Global;
 use std::marker::Sync;
 use std::snapshot::Snapshot;
@@ -35,16 +32,6 @@ pub(crate) struct Driven {
     pub(crate) outcome: Result<(), Fault>,
 }
 
-/// What the threads of a run leave once they have ended.
-#[derive(Drop)]
-pub(crate) struct Ended {
-    pub(crate) driven: Driven,
-    pub(crate) taker: TakeSeat,
-    pub(crate) tallied: Tallied,
-    /// Whether all that came was written.
-    pub(crate) written: Result<(), Fault>,
-}
-
 /// The promise of the driver of this scenario's run, who sends over this relay.
 #[derive(Drop)]
 pub(crate) struct Drives(pub(crate) Snapshot<Scenario>, pub(crate) Snapshot<Relay>);
@@ -61,9 +48,7 @@ pub(crate) struct Task<'r, 'b, 'a, Q: EventQueue<Event>, G, J: Site> {
     /// The parts in which the run begins.
     pub(crate) parts: Vec<Part<Q>>,
     pub(crate) crew: Crew<'b, 'a, Q, G, J>,
-    pub(crate) scenario: &'a Scenario,
-    pub(crate) links: &'a Links,
-    pub(crate) division: &'a Division,
+    pub(crate) basis: Basis<'a>,
     pub(crate) relay: &'r Relay,
     pub(crate) seat: SendSeat,
 }
@@ -79,22 +64,19 @@ pub(crate) fn drive<
     J: Site,
     R: Threads + Wait + Sync,
 >(rt: &R, alloc: Global, task: Task<'r, 'b, 'a, Q, G, J>) -> (Driven, ErrandPost<'b, 'a, Q, J>)
-    requires together { GoTogether task.scenario.now task.links.now task.division.now }
-    requires opened { StandFor Q.set task.division.now task.parts.items (opening task.scenario.now) }
-    requires seat { MaySend task.scenario.now task.relay.now task.seat }
-    ensures { IsDriven task.entry.scenario.now task.entry.relay.now result.0 }
+    requires ready { CanBegin Q.set task.basis task.parts.items }
+    requires seat { MaySend task.basis.scenario.now task.relay.now task.seat }
+    ensures { IsDriven task.entry.basis.scenario.now task.entry.relay.now result.0 }
 {
     let Task {
         parts,
         mut crew,
-        scenario,
-        links,
-        division,
+        basis,
         relay,
         seat,
     } = task;
-    let course = course_of(scenario, links, division);
-    let mut stream = Stream::new(rt, alloc, scenario, relay, seat);
+    let course = course_of(basis.scenario, basis.links, basis.division);
+    let mut stream = Stream::new(rt, alloc, basis.scenario, relay, seat);
     let outcome = turns_by_crew(rt, alloc, parts, &mut crew, &mut stream, &course);
     let driven = stream.close(outcome);
     (driven, crew.leave())
@@ -117,11 +99,7 @@ fn turns_by_crew<'b, 'a, Q: EventQueue<Event> + Drop, G: Gate, J: Site, R: Threa
     requires none_yet { rows_so_far stream.old ≡ [] }
     ensures open { IsOpen stream.new }
     ensures relay { stream.new.relay ≡ stream.old.relay }
-    ensures run { OnOk result (IsRunOf course.now.scenario.now (rows_so_far stream.new)) }
-    ensures beginning { OnErr result (BeginsRun course.now.scenario.now (rows_so_far stream.new)) }
-    ensures lasts { OnOk result (¬ (WearsOut course.now.scenario.now)) }
-    ensures worn { IsErrOf result Fault.Worn → WearsOut course.now.scenario.now }
-    ensures write { IfErr result (λ fault. fault ≢ Fault.Write) }
+    ensures come { ComeTo course.now.scenario.now (rows_so_far stream.new) result }
 {
     let horizons = horizons(alloc, course.scenario, course.division, course.links)?;
     turns_to_horizons(rt, alloc, parts, crew, stream, &horizons, course)
@@ -152,11 +130,7 @@ fn turns_to_horizons<
     requires none_yet { rows_so_far stream.old ≡ [] }
     ensures open { IsOpen stream.new }
     ensures relay { stream.new.relay ≡ stream.old.relay }
-    ensures run { OnOk result (IsRunOf course.now.scenario.now (rows_so_far stream.new)) }
-    ensures beginning { OnErr result (BeginsRun course.now.scenario.now (rows_so_far stream.new)) }
-    ensures lasts { OnOk result (¬ (WearsOut course.now.scenario.now)) }
-    ensures worn { IsErrOf result Fault.Worn → WearsOut course.now.scenario.now }
-    ensures write { IfErr result (λ fault. fault ≢ Fault.Write) }
+    ensures come { ComeTo course.now.scenario.now (rows_so_far stream.new) result }
 {
     let mut kept = Vec::new(alloc);
     let mut slice = Slice::new();

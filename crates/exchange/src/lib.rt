@@ -1,11 +1,13 @@
 //! Runs of a scenario: by threads, which this crate has, and on the calling thread alone, by `whole_runs`.
 #![tactic(auto)]
 
+mod basis;
 mod by_workers;
 mod driver;
-mod fault_order;
+mod settling;
 mod stream;
 mod threads;
+mod writer;
 
 pub use by_workers::run;
 pub use outputs::Summary;

@@ -1,33 +1,33 @@
 //! The threads of a run, from their start to their end.
-ghost use Rattle.std.specs.Prelude.{◌≡◌, ◌≢◌, ◌<◌, ◌^◌, [], IfOk, OnErr, IfErr};
+ghost use Rattle.std.specs.Prelude.{◌≡◌, IfOk, OnErr, IfErr};
 ghost use Rattle.std.specs.Thread.{IsSync, IsSend};
-ghost use Rattle.member.specs.Opening.{opening};
-ghost use Rattle.turns.specs.Course.{GoTogether};
-ghost use Rattle.turns.specs.Parts.{StandFor};
-ghost use Rattle.exchange.specs.Streams.{MaySend, MayTake, IsDriven, HasEnded};
+ghost use Rattle.exchange.specs.Streams.{CanBegin, MaySend, MayWrite, IsEarly, IsDriven, HasEnded};
 
-use crate::driver::{Driven, Drives, Ended, Task, drive};
+use crate::driver::{Driven, Drives, Task, drive};
+use crate::writer::{Writer, Written, write_all};
 use base::{Fault, Memory};
 use board::Site;
-use links::Links;
 use member::Event;
-use outputs::{Tallied, write_stream};
-use relay::{Relay, SendSeat, TakeSeat};
-use scenario::{Division, Scenario};
 use std::alloc::Global;
 use std::marker::Sync;
 use std::snapshot::Snapshot;
 use std::sync::Wait;
 use std::thread;
-use std::thread::{JoinHandle, Threads};
+use std::thread::{JoinHandle, Scope, Threads};
 use trace::Sink;
-use windows::Part;
 use worker_queue::EventQueue;
-use workers::{Crew, ErrandPost, Gate, Signals, work};
+use workers::{ErrandPost, Gate, Signals, work};
+
+/// What the threads of a run leave once they have ended.
+#[derive(Drop)]
+pub(crate) struct Ended {
+    pub(crate) driven: Driven,
+    pub(crate) written: Written,
+}
 
 /// Starts a worker at each of so many posts and the driver, who has the crew, writes on the calling thread what
-/// the driver sends, and returns once all threads have ended: what they leave, and all posts, or `Memory` where
-/// there was none for these. One worker alone is the driver itself.
+/// the driver sends, and returns once all threads have ended: what they leave, the crew's post, and the others, or
+/// `Memory` where there was none for these. One worker alone is the driver itself.
 ///
 /// Faults: `Relay` where a thread could not be started, `Memory` where its handle could not be kept. Then nothing
 /// was written.
@@ -45,38 +45,28 @@ pub(crate) fn within<
     alloc: Global,
     workers: usize,
     mut posts: Vec<ErrandPost<'b, 'a, Q, J>>,
-    crew: Crew<'b, 'a, Q, G, J>,
     signals: &Signals,
     gate: &G,
-    parts: Vec<Part<Q>>,
-    scenario: &'a Scenario,
-    links: &'a Links,
-    division: &'a Division,
-    relay: &'r Relay,
-    sender: SendSeat,
-    taker: TakeSeat,
-    tallied: Tallied,
+    task: Task<'r, 'b, 'a, Q, G, J>,
+    writer: Writer<'r>,
     trace: &mut A,
-) -> Result<(Ended, Result<Vec<ErrandPost<'b, 'a, Q, J>>, Memory>), Fault>
-    requires together { GoTogether scenario.now links.now division.now }
-    requires opened { StandFor Q.set division.now parts.items (opening scenario.now) }
-    requires sends { MaySend scenario.now relay.now sender }
-    requires takes { MayTake scenario.now relay.now taker }
-    requires none { tallied.tallies ≡ [] }
-    requires countable { A.failed trace.old < 2 ^ 63 }
-    ensures ended { IfOk result (λ r. HasEnded scenario.now relay.now (A.held trace.old) (A.held trace.new) (A.failed trace.old) (A.failed trace.new) r.0) }
+) -> Result<
+    (
+        Ended,
+        ErrandPost<'b, 'a, Q, J>,
+        Result<Vec<ErrandPost<'b, 'a, Q, J>>, Memory>,
+    ),
+    Fault,
+>
+    requires ready { CanBegin Q.set task.basis task.parts.items }
+    requires sends { MaySend task.basis.scenario.now task.relay.now task.seat }
+    requires writes { MayWrite writer (A.failed trace.old) }
+    requires one { writer.scenario.now ≡ task.basis.scenario.now }
+    requires relay { writer.relay.now ≡ task.relay.now }
+    ensures ended { IfOk result (λ r. HasEnded writer.entry.scenario.now writer.entry.relay.now (A.held trace.old) (A.held trace.new) (A.failed trace.old) (A.failed trace.new) r.0) }
     ensures unwritten { OnErr result (trace.new ≡ trace.old) }
-    ensures fault { IfErr result (λ fault. (fault ≢ Fault.Worn) × (fault ≢ Fault.Write)) }
+    ensures fault { IfErr result IsEarly }
 {
-    let task = Task {
-        parts,
-        crew,
-        scenario,
-        links,
-        division,
-        relay,
-        seat: sender,
-    };
     let (ended, _trace) = thread::scope(
         thread::scope_env(),
         rt,
@@ -92,89 +82,91 @@ pub(crate) fn within<
             &mut A,
         )
             requires { IsSync R.row × IsSync G.row × IsSend Q.row
-                × GoTogether task.scenario.now task.links.now task.division.now
-                × StandFor Q.set task.division.now task.parts.items (opening task.scenario.now)
-                × MaySend task.scenario.now task.relay.now task.seat
-                × MayTake scenario.now relay.now taker
-                × (task.scenario.now ≡ scenario.now) × (task.relay.now ≡ relay.now)
-                × (tallied.tallies ≡ []) × (A.failed trace.now < 2 ^ 63) }
+                × CanBegin Q.set task.basis task.parts.items
+                × MaySend task.basis.scenario.now task.relay.now task.seat
+                × MayWrite writer (A.failed trace.now)
+                × (task.basis.scenario.now ≡ writer.scenario.now) × (task.relay.now ≡ writer.relay.now) }
             ensures same { result.1.ghost_name ≡ trace.entry.ghost_name }
-            ensures ended { IfOk result.0 (λ r. HasEnded scenario.entry.now relay.entry.now
+            ensures ended { IfOk result.0 (λ r. HasEnded writer.entry.scenario.now writer.entry.relay.now
                 (A.held trace.entry.now) (A.held result.1.now) (A.failed trace.entry.now) (A.failed result.1.now) r.0) }
             ensures unwritten { OnErr result.0 (result.1.now ≡ trace.entry.now) }
-            ensures fault { IfErr result.0 (λ fault. (fault ≢ Fault.Worn) × (fault ≢ Fault.Write)) }
+            ensures fault { IfErr result.0 IsEarly }
         {
             let started = if workers == 1 { 0 } else { workers };
-            let Ok(mut threads) = Vec::with_capacity(alloc, started) else {
-                return (Err(Fault::Memory), trace);
+            let threads = match start_workers(
+                scope, rt, alloc, &mut posts, signals, gate, started,
+            ) {
+                Ok(threads) => threads,
+                Err(fault) => return (Err(fault), trace),
             };
-            for worker in 0..started {
-                let Some(post) = posts.pop() else {
-                    break;
-                };
-                let Ok(thread) = scope.spawn(move || work(rt, alloc, post, signals, gate, worker))
-                else {
-                    break;
-                };
-                match threads.push(thread) {
-                    Ok(()) => {}
-                    Err(_) => break,
-                }
-            }
-            if threads.len() < started {
-                return (Err(Fault::Relay), trace);
-            }
             let driver = scope.spawn_with(
-                Drives(Snapshot::of(task.scenario), Snapshot::of(task.relay)),
+                Drives(Snapshot::of(task.basis.scenario), Snapshot::of(task.relay)),
                 move || -> (Driven, ErrandPost<Q, J>)
                     requires { IsSync R.row
-                        × GoTogether task.scenario.now task.links.now task.division.now
-                        × StandFor Q.set task.division.now task.parts.items (opening task.scenario.now)
-                        × MaySend task.scenario.now task.relay.now task.seat }
-                    ensures { IsDriven task.entry.scenario.now task.entry.relay.now result.0 }
+                        × CanBegin Q.set task.basis task.parts.items
+                        × MaySend task.basis.scenario.now task.relay.now task.seat }
+                    ensures { IsDriven task.entry.basis.scenario.now task.entry.relay.now result.0 }
                 { drive(rt, alloc, task) },
             );
             let Ok(driver) = driver else {
                 return (Err(Fault::Relay), trace);
             };
-            let mut seat = taker;
-            let mut tallied = tallied;
-            let written = write_stream(rt, alloc, relay, &mut seat, scenario, &mut tallied, trace);
+            let written = write_all(rt, alloc, writer, trace);
             let (driven, own) = driver.join(rt);
             let posts = gather(rt, threads, posts);
-            let ended = Ended {
-                driven,
-                taker: seat,
-                tallied,
-                written,
-            };
-            (Ok((ended, own, posts)), trace)
+            (Ok((Ended { driven, written }, own, posts)), trace)
         },
     );
-    match ended {
-        Ok((ended, own, others)) => Ok((ended, joined(others, own))),
-        Err(fault) => Err(fault),
+    ended
+}
+
+/// Starts so many workers, each at one of the posts.
+fn start_workers<
+    's,
+    'b: 's,
+    'a: 's,
+    E,
+    Q: EventQueue<Event> + Drop + Send + 's,
+    G: Gate + 's,
+    J: Site + Send + 's,
+    R: Wait + Sync + 's,
+>(
+    scope: &Scope<'s, E>,
+    rt: &'s R,
+    alloc: Global,
+    posts: &mut Vec<ErrandPost<'b, 'a, Q, J>>,
+    signals: &'s Signals,
+    gate: &'s G,
+    count: usize,
+) -> Result<Vec<JoinHandle<ErrandPost<'b, 'a, Q, J>>>, Fault>
+    ensures { IfErr result IsEarly }
+{
+    let Ok(mut threads) = Vec::with_capacity(alloc, count) else {
+        return Err(Fault::Memory);
+    };
+    for worker in 0..count {
+        let Some(post) = posts.pop() else {
+            return Err(Fault::Relay);
+        };
+        let Ok(thread) = scope.spawn(move || work(rt, alloc, post, signals, gate, worker)) else {
+            return Err(Fault::Relay);
+        };
+        match threads.push(thread) {
+            Ok(()) => {}
+            Err(_) => return Err(Fault::Relay),
+        }
     }
+    Ok(threads)
 }
 
 /// These posts, and those of the threads once they have ended.
 fn gather<'b, 'a, Q: EventQueue<Event> + Drop, J: Site>(
     rt: &impl Threads,
-    threads: Vec<JoinHandle<ErrandPost<'b, 'a, Q, J>>>,
+    mut threads: Vec<JoinHandle<ErrandPost<'b, 'a, Q, J>>>,
     mut posts: Vec<ErrandPost<'b, 'a, Q, J>>,
 ) -> Result<Vec<ErrandPost<'b, 'a, Q, J>>, Memory> {
-    for thread in threads {
+    while let Some(thread) = threads.pop() {
         posts.push(thread.join(rt))?;
     }
-    Ok(posts)
-}
-
-/// These posts and one more.
-fn joined<'b, 'a, Q: EventQueue<Event> + Drop, J: Site>(
-    posts: Result<Vec<ErrandPost<'b, 'a, Q, J>>, Memory>,
-    one: ErrandPost<'b, 'a, Q, J>,
-) -> Result<Vec<ErrandPost<'b, 'a, Q, J>>, Memory> {
-    let mut posts = posts?;
-    posts.push(one)?;
     Ok(posts)
 }

@@ -1,5 +1,5 @@
 //! The trace and the report of a run, on their way into the sinks.
-ghost use Rattle.std.specs.Prelude.{◌≡◌, ◌≢◌, ◌+◌, ◌<◌, ◌^◌, IfOk, OnOk, IfErr, OnErr, IsErrOf, All};
+ghost use Rattle.std.specs.Prelude.{◌≡◌, ◌≢◌, ◌+◌, ◌<◌, ◌^◌, [], IfOk, OnOk, IfErr, OnErr, IsErrOf, All};
 ghost use Rattle.std.specs.Io.KnownBytes.{Appends, Keeps};
 ghost use Rattle.scenario.specs.Setup.{IsSound};
 ghost use Rattle.trace.specs.Sinks.{AppendsBeginning, failures_of_write};
@@ -7,6 +7,7 @@ ghost use Rattle.trace.specs.Text.{NamesMembers, trace_text};
 ghost use Rattle.reports.specs.Text.{report_text};
 ghost use Rattle.member_laws.specs.Runs.{IsRunOf, WearsOut};
 ghost use Rattle.outputs.specs.Promise.{KeepsPromise};
+ghost use Rattle.outputs.specs.Written.{sink_failures, HasWritten};
 
 use crate::summary::Summary;
 use crate::tallied::Tallied;
@@ -53,6 +54,19 @@ pub fn write_run<A: Sink, B: Sink>(
         Ok(()) => Ok(Summary {
             rows: rows.len() as u64,
         }),
+        Err(error) => Err(fault_of(error)),
+    }
+}
+
+/// Writes the header of the trace. Faults: `Memory`; `Write` where the sink failed.
+pub fn begin_trace<A: Sink>(trace: &mut A) -> Result<(), Fault>
+    requires countable { A.failed trace.old < 2 ^ 63 }
+    ensures written { (s : _) → HasWritten s [] (A.held trace.old) (A.held trace.new) [] result }
+    ensures failures { A.failed trace.new ≡ A.failed trace.old + sink_failures result }
+    ensures relay { IfErr result (λ fault. fault ≢ Fault.Relay) }
+{
+    match write_head(trace) {
+        Ok(()) => Ok(()),
         Err(error) => Err(fault_of(error)),
     }
 }

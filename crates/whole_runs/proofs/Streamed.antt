@@ -1,8 +1,6 @@
 -- The trace of a run that is written as its rows come.
-use Rattle.std.proofs.Common.{◌≡◌, ℕ, ◌+◌, ◌<◌, List, ◌++◌, Option, Result, Ok, Err, ap, ◌∙◌, sym, arith}
-use Rattle.std.specs.Result.{IsErrOf}
+use Rattle.std.proofs.Common.{ℕ, List, ◌++◌, Option, Result, Ok, Err, ap, ◌∙◌, sym}
 use Rattle.base.specs.declared.fault.Fault.{Fault}
-use Rattle.base.specs.declared.fault.Fault.TheVariants.{Write, Relay}
 use Rattle.scenario.specs.Setup.{Setup}
 use Rattle.trace.specs.declared.row.Row.{Row}
 use Rattle.trace.specs.Text.{rows_text, trace_text}
@@ -10,7 +8,7 @@ use Rattle.trace.specs.Sinks.{AppendsBeginning}
 use Rattle.trace.proofs.Beginnings.{beginning-first, beginning-whole, beginning-of}
 use Rattle.turns.specs.Beginning.{BeginsRun}
 use Rattle.outputs.specs.Promise.{BeginsTrace}
-use Rattle.outputs.specs.Written.{sink_failures, HasWritten}
+use Rattle.outputs.specs.Written.{HasWritten}
 use Rattle.outputs.proofs.Streaming.{text_on}
 
 some_written : {T : Type 0} (s : Setup) (rows tallied : List Row) (old new : Option (List ℕ)) (o : Result T Fault) → HasWritten s rows old new tallied o → AppendsBeginning old new (trace_text s rows)

@@ -4,6 +4,7 @@
 mod in_turn;
 mod laws;
 mod sequential;
+mod slices;
 mod streaming;
 mod tallying;
 

@@ -7,7 +7,7 @@ use Rattle.exchange.proofs.by_workers.run.Goals as goal
 
 pub returns-in-Err-clause-promise : goal.returns-in-Err-clause-promise
 returns-in-Err-clause-promise g c =
-    let begun = c.in-Err.ensures.part in
+    let begun = c.in-Err.ensures.trace.part in
     record {
       written = tt;
       beginning = record { rows = begun.rows; run = begun.run; written = inl (begun.written, Keeps-same _) };
@@ -26,8 +26,8 @@ returns-in-Err-flush-clause-promise g c =
       written = tt;
       beginning = record {
         rows = rows;
-        run = c.in-Ok.ensures.run;
-        written = inl (beginning-whole _ _ (trace_text c.args.scenario.now rows) (Appends-kept _ _ _ (trace_text c.args.scenario.now rows) c.in-Ok.ensures.whole c.flush.ensures.same), Keeps-same _);
+        run = c.in-Ok.ensures.trace.run;
+        written = inl (beginning-whole _ _ (trace_text c.args.scenario.now rows) (Appends-kept _ _ _ (trace_text c.args.scenario.now rows) c.in-Ok.ensures.trace.whole c.flush.ensures.same), Keeps-same _);
       };
       first = λ h. refl;
       lasts = tt;
@@ -38,7 +38,7 @@ returns-in-Err-flush-clause-promise g c =
     }
 
 pub write_tallied-requires-clause-named : goal.write_tallied-requires-clause-named
-write_tallied-requires-clause-named g c = names_run c.args.scenario.now c.run_into.ensures.sound c.in-Ok.tallied.tallies c.in-Ok.ensures.run
+write_tallied-requires-clause-named g c = names_run c.args.scenario.now c.run_into.ensures.sound c.in-Ok.tallied.tallies c.in-Ok.ensures.trace.run
 
 pub returns-in-Ok-write_tallied-clause-promise : goal.returns-in-Ok-write_tallied-clause-promise
 returns-in-Ok-write_tallied-clause-promise g c =
@@ -46,16 +46,16 @@ returns-in-Ok-write_tallied-clause-promise g c =
     record {
       written = record {
         rows = rows;
-        run = c.in-Ok.ensures.run;
+        run = c.in-Ok.ensures.trace.run;
         counted = c.in-Ok.tallied.counted;
-        trace = Appends-kept _ _ _ (trace_text c.args.scenario.now rows) c.in-Ok.ensures.whole c.flush.ensures.same;
+        trace = Appends-kept _ _ _ (trace_text c.args.scenario.now rows) c.in-Ok.ensures.trace.whole c.flush.ensures.same;
         report = c.in-Ok-write_tallied.ensures.whole;
       };
       beginning = tt;
-      first = λ h. absurd (omega (arith, h, c.in-Ok.ensures.unfailed, c.in-Ok-flush.ensures.failures));
-      lasts = c.in-Ok.ensures.lasts;
+      first = λ h. absurd (omega (arith, h, c.in-Ok.ensures.trace.unfailed, c.in-Ok-flush.ensures.failures));
+      lasts = c.in-Ok.ensures.trace.lasts;
       write = search rules;
-      whole = omega (arith, c.in-Ok.ensures.unfailed, c.in-Ok-flush.ensures.failures);
+      whole = omega (arith, c.in-Ok.ensures.trace.unfailed, c.in-Ok-flush.ensures.failures);
       whole_report = omega (arith, c.in-Ok-write_tallied.ensures.failures);
       others_report = tt;
     }
@@ -67,10 +67,10 @@ returns-clause-promise g c =
       written = tt;
       beginning = record {
         rows = rows;
-        run = c.in-Ok.ensures.run;
-        written = inr (Appends-kept _ _ _ (trace_text c.args.scenario.now rows) c.in-Ok.ensures.whole c.flush.ensures.same, c.in-Err-write_tallied.ensures.part);
+        run = c.in-Ok.ensures.trace.run;
+        written = inr (Appends-kept _ _ _ (trace_text c.args.scenario.now rows) c.in-Ok.ensures.trace.whole c.flush.ensures.same, c.in-Err-write_tallied.ensures.part);
       };
-      first = λ h. absurd (omega (arith, h, c.in-Ok.ensures.unfailed, c.in-Ok-flush.ensures.failures));
+      first = λ h. absurd (omega (arith, h, c.in-Ok.ensures.trace.unfailed, c.in-Ok-flush.ensures.failures));
       lasts = tt;
       write = search rules;
       whole = tt;

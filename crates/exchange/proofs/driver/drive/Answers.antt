@@ -9,8 +9,9 @@ use Rattle.exchange.proofs.driver.drive.Goals as goal
 pub turns_by_crew-outcome-requires-clause-opened : goal.turns_by_crew-outcome-requires-clause-opened
 turns_by_crew-outcome-requires-clause-opened g c = λ loans lives.
     let of_course = c.course_of-course.ensures in
+    let basis = c.args.task.basis in
     subst (λ s. StandFor g.Q.EventQueue.set c.course_of-course.result.division.now c.args.task.parts.items (opening s)) (sym of_course.scenario)
-    (subst (λ d. StandFor g.Q.EventQueue.set d c.args.task.parts.items (opening c.args.task.scenario.now)) (sym of_course.division) c.requires.opened)
+    (subst (λ d. StandFor g.Q.EventQueue.set d c.args.task.parts.items (opening basis.scenario.now)) (sym of_course.division) c.requires.ready.opened)
 
 pub returns : goal.returns
 returns g c =
@@ -20,5 +21,4 @@ returns g c =
     let same = ap (λ r. r.now) c.turns_by_crew-outcome.ensures.relay ∙ c.new-stream.ensures.relay in
     subst (λ t. IsDriven t relay c.close-driven.result) c.course_of-course.ensures.scenario
     (is_driven s c.course_of-course.ensures.course.sound relay c.close-driven.result (rows_so_far after) c.turns_by_crew-outcome.result (subst (λ r. IsSender r c.close-driven.result.seat) same c.close-driven.ensures.seat)
-    c.close-driven.ensures.whole c.close-driven.ensures.part c.close-driven.ensures.came c.close-driven.ensures.causes
-    c.turns_by_crew-outcome.ensures.run c.turns_by_crew-outcome.ensures.beginning c.turns_by_crew-outcome.ensures.lasts c.turns_by_crew-outcome.ensures.worn c.turns_by_crew-outcome.ensures.write)
+    c.close-driven.ensures.whole c.close-driven.ensures.part c.close-driven.ensures.came c.close-driven.ensures.causes c.turns_by_crew-outcome.ensures.come)

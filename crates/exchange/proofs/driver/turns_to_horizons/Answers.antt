@@ -1,9 +1,9 @@
-use Rattle.std.proofs.Common.{All, ◌+◌, [], ap, ◌∙◌, sym, subst, refl, arith}
+use Rattle.std.proofs.Common.{All, Err, ◌+◌, [], ap, ◌∙◌, sym, subst, refl, arith}
 use Rattle.trace.specs.Text.{NamesMembers}
 use Rattle.exchange.specs.Streams.{rows_so_far}
 use Rattle.turns.specs.Bounds.{IsFirstMoment}
 use Rattle.turns.proofs.Goes.{IsUnderWay, not_yet, consistent, came, further, goes_on, one_wears, begins, ends_here, ends_past, names_on, begins_on}
-use Rattle.outputs.proofs.Faults.{on_err, handed_on}
+use Rattle.exchange.proofs.Endings.{comes_whole, comes_by, comes_by_memory}
 use Rattle.exchange.proofs.driver.turns_to_horizons.Goals as goal
 
 pub loop-from-init : goal.loop-from-init
@@ -18,12 +18,6 @@ loop-from-init g c =
       one = c.requires.one;
       relay = refl;
     }
-
-pub returns-in_default-clause-run : goal.returns-in_default-clause-run
-returns-in_default-clause-run g c = (ends_here g.Q.EventQueue.set c.args.course.now c.requires.course c.loop-from.parts.items (rows_so_far c.loop-from.stream) c.loop-from.kept.items c.loop-from.from c.loop-from.invariant.run c.deref.result.now c.deref.ensures.value c.in_default.ensures.over).0
-
-pub returns-in_default-clause-lasts : goal.returns-in_default-clause-lasts
-returns-in_default-clause-lasts g c = (ends_here g.Q.EventQueue.set c.args.course.now c.requires.course c.loop-from.parts.items (rows_so_far c.loop-from.stream) c.loop-from.kept.items c.loop-from.from c.loop-from.invariant.run c.deref.result.now c.deref.ensures.value c.in_default.ensures.over).1
 
 pub bounded_by_horizons-requires-clause-count : goal.bounded_by_horizons-requires-clause-count
 bounded_by_horizons-requires-clause-count g c = c.loop-from.invariant.run.stand.count
@@ -43,20 +37,8 @@ run_windows-requires-clause-in_time g c = λ loans lives. c.in_ok-bounded.ensure
 pub run_windows-requires-clause-consistent : goal.run_windows-requires-clause-consistent
 run_windows-requires-clause-consistent g c = λ loans lives. consistent g.Q.EventQueue.set c.args.course.now c.requires.course c.loop-from.parts.items (rows_so_far c.loop-from.stream) c.loop-from.kept.items c.loop-from.from c.loop-from.invariant.run c.in-Some.first c.in_ok-bounded.bounded.items c.in_ok-bounded.ensures
 
-pub returns-in_err-bounded-clause-beginning : goal.returns-in_err-bounded-clause-beginning
-returns-in_err-bounded-clause-beginning g c = on_err c.from_residual.result (begins g.Q.EventQueue.set c.args.course.now c.requires.course c.loop-from.parts.items (rows_so_far c.loop-from.stream) c.loop-from.kept.items c.loop-from.from c.loop-from.invariant.run)
-
-pub returns-in_err-done-clause-beginning : goal.returns-in_err-done-clause-beginning
-returns-in_err-done-clause-beginning g c = on_err c.from_residual-in_err-done.result (begins g.Q.EventQueue.set c.args.course.now c.requires.course c.loop-from.parts.items (rows_so_far c.loop-from.stream) c.loop-from.kept.items c.loop-from.from c.loop-from.invariant.run)
-
-pub returns-in_err-done-clause-worn : goal.returns-in_err-done-clause-worn
-returns-in_err-done-clause-worn g c = λ h. one_wears g.Q.EventQueue.set c.args.course.now c.requires.course c.loop-from.parts.items (rows_so_far c.loop-from.stream) c.loop-from.kept.items c.loop-from.from c.loop-from.invariant.run c.in-Some.first c.in_ok-bounded.bounded.items c.in_ok-bounded.ensures (c.in_err-done.ensures.worn (handed_on c.from_residual-in_err-done.result _ _ c.from_residual-in_err-done.ensures.1 h))
-
 pub exchanged-requires-clause-came : goal.exchanged-requires-clause-came
 exchanged-requires-clause-came g c = λ loans lives. came g.Q.EventQueue.set c.args.course.now c.requires.course c.loop-from.parts.items (rows_so_far c.loop-from.stream) c.loop-from.kept.items c.loop-from.from c.loop-from.invariant.run c.in-Some.first c.in_ok-bounded.bounded.items c.in_ok-bounded.ensures c.in_ok-done.done.items c.in_ok-done.ensures.ok
-
-pub returns-in_err-turned-clause-beginning : goal.returns-in_err-turned-clause-beginning
-returns-in_err-turned-clause-beginning g c = on_err c.from_residual-in_err-turned.result (begins g.Q.EventQueue.set c.args.course.now c.requires.course c.loop-from.parts.items (rows_so_far c.loop-from.stream) c.loop-from.kept.items c.loop-from.from c.loop-from.invariant.run)
 
 pub take-requires-clause-open : goal.take-requires-clause-open
 take-requires-clause-open g c = c.loop-from.invariant.open_still
@@ -71,17 +53,6 @@ take-requires-clause-named g c =
     goes_on g.Q.EventQueue.set c.args.course.now c.requires.course c.loop-from.parts.items (rows_so_far c.loop-from.stream) c.loop-from.kept.items c.loop-from.from c.loop-from.invariant.run c.in-Some.first c.in_ok-bounded.bounded.items c.in_ok-bounded.ensures c.in_ok-done.done.items c.in_ok-done.ensures.ok
     turned.parts.items turned.rows.items turned.kept.items c.in_ok-turned.ensures in
     subst (λ s. All (NamesMembers s) turned.rows.items) (sym c.loop-from.invariant.one) (names_on set course c.requires.course rows turned.rows.items turned.kept.items (c.in-Some.first + 1) turned.parts.items on)
-
-pub returns-in_err-take-clause-beginning : goal.returns-in_err-take-clause-beginning
-returns-in_err-take-clause-beginning g c =
-    let course = c.args.course.now in
-    let set = g.Q.EventQueue.set in
-    let turned = c.in_ok-turned.turned in
-    let rows = rows_so_far c.loop-from.stream in
-    let on =
-    goes_on g.Q.EventQueue.set c.args.course.now c.requires.course c.loop-from.parts.items (rows_so_far c.loop-from.stream) c.loop-from.kept.items c.loop-from.from c.loop-from.invariant.run c.in-Some.first c.in_ok-bounded.bounded.items c.in_ok-bounded.ensures c.in_ok-done.done.items c.in_ok-done.ensures.ok
-    turned.parts.items turned.rows.items turned.kept.items c.in_ok-turned.ensures in
-    on_err c.from_residual-in_err-take.result (begins_on set course c.requires.course rows turned.rows.items turned.kept.items (c.in-Some.first + 1) turned.parts.items on (rows_so_far c.take.new.self) c.in_err-take.ensures.beginning)
 
 pub loop-from-smaller : goal.loop-from-smaller
 loop-from-smaller g c =
@@ -108,8 +79,38 @@ loop-from-preserved g c =
       relay = c.take.ensures.same.1 ∙ c.loop-from.invariant.relay;
     }
 
-pub returns-clause-run : goal.returns-clause-run
-returns-clause-run g c = (ends_past g.Q.EventQueue.set c.args.course.now c.requires.course c.loop-from.parts.items (rows_so_far c.loop-from.stream) c.loop-from.kept.items c.loop-from.from c.loop-from.invariant.run (omega arith)).0
+pub returns-in_default-clause-come : goal.returns-in_default-clause-come
+returns-in_default-clause-come g c =
+    let over = ends_here g.Q.EventQueue.set c.args.course.now c.requires.course c.loop-from.parts.items (rows_so_far c.loop-from.stream) c.loop-from.kept.items c.loop-from.from c.loop-from.invariant.run c.deref.result.now c.deref.ensures.value c.in_default.ensures.over in
+    comes_whole c.args.course.now.scenario.now (rows_so_far c.loop-from.stream) over.0 over.1
 
-pub returns-clause-lasts : goal.returns-clause-lasts
-returns-clause-lasts g c = (ends_past g.Q.EventQueue.set c.args.course.now c.requires.course c.loop-from.parts.items (rows_so_far c.loop-from.stream) c.loop-from.kept.items c.loop-from.from c.loop-from.invariant.run (omega arith)).1
+pub returns-in_err-bounded-clause-come : goal.returns-in_err-bounded-clause-come
+returns-in_err-bounded-clause-come g c = comes_by_memory c.args.course.now.scenario.now _ c.from_residual.result c.from_residual.ensures.1 (begins g.Q.EventQueue.set c.args.course.now c.requires.course c.loop-from.parts.items (rows_so_far c.loop-from.stream) c.loop-from.kept.items c.loop-from.from c.loop-from.invariant.run)
+
+pub returns-in_err-done-clause-come : goal.returns-in_err-done-clause-come
+returns-in_err-done-clause-come g c =
+    comes_by c.args.course.now.scenario.now _ c.from_residual-in_err-done.result _ c.from_residual-in_err-done.ensures.1 (begins g.Q.EventQueue.set c.args.course.now c.requires.course c.loop-from.parts.items (rows_so_far c.loop-from.stream) c.loop-from.kept.items c.loop-from.from c.loop-from.invariant.run)
+    (λ is. one_wears g.Q.EventQueue.set c.args.course.now c.requires.course c.loop-from.parts.items (rows_so_far c.loop-from.stream) c.loop-from.kept.items c.loop-from.from c.loop-from.invariant.run c.in-Some.first c.in_ok-bounded.bounded.items c.in_ok-bounded.ensures (c.in_err-done.ensures.worn (ap Err is)))
+    c.in_err-done.ensures.write
+
+pub returns-in_err-turned-clause-come : goal.returns-in_err-turned-clause-come
+returns-in_err-turned-clause-come g c = comes_by_memory c.args.course.now.scenario.now _ c.from_residual-in_err-turned.result c.from_residual-in_err-turned.ensures.1 (begins g.Q.EventQueue.set c.args.course.now c.requires.course c.loop-from.parts.items (rows_so_far c.loop-from.stream) c.loop-from.kept.items c.loop-from.from c.loop-from.invariant.run)
+
+pub returns-in_err-take-clause-come : goal.returns-in_err-take-clause-come
+returns-in_err-take-clause-come g c =
+    let course = c.args.course.now in
+    let set = g.Q.EventQueue.set in
+    let turned = c.in_ok-turned.turned in
+    let rows = rows_so_far c.loop-from.stream in
+    let on =
+    goes_on g.Q.EventQueue.set c.args.course.now c.requires.course c.loop-from.parts.items (rows_so_far c.loop-from.stream) c.loop-from.kept.items c.loop-from.from c.loop-from.invariant.run c.in-Some.first c.in_ok-bounded.bounded.items c.in_ok-bounded.ensures c.in_ok-done.done.items c.in_ok-done.ensures.ok
+    turned.parts.items turned.rows.items turned.kept.items c.in_ok-turned.ensures in
+    let few = c.in_err-take.ensures.causes in
+    comes_by course.scenario.now _ c.from_residual-in_err-take.result _ c.from_residual-in_err-take.ensures.1
+    (begins_on set course c.requires.course rows turned.rows.items turned.kept.items (c.in-Some.first + 1) turned.parts.items on (rows_so_far c.take.new.self) c.in_err-take.ensures.beginning)
+    (λ is. absurd (few.0 is)) few.1
+
+pub returns-clause-come : goal.returns-clause-come
+returns-clause-come g c =
+    let over = ends_past g.Q.EventQueue.set c.args.course.now c.requires.course c.loop-from.parts.items (rows_so_far c.loop-from.stream) c.loop-from.kept.items c.loop-from.from c.loop-from.invariant.run (omega arith) in
+    comes_whole c.args.course.now.scenario.now (rows_so_far c.loop-from.stream) over.0 over.1

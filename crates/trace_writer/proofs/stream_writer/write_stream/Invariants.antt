@@ -2,7 +2,7 @@ use Rattle.std.proofs.Common.{◌≡◌, ◌+◌}
 use Rattle.relay.specs.Lots.{rows_in}
 use Rattle.relay.specs.Seats.{taken_by, IsTaker}
 use Rattle.outputs.specs.Written.{sink_failures, HasWritten}
-use Rattle.outputs.proofs.stream_writer.write_stream.Given as goal
+use Rattle.trace_writer.proofs.stream_writer.write_stream.Given as goal
 
 abbrev pub invariant-loop : goal.invariant-loop
 invariant-loop g l = record {

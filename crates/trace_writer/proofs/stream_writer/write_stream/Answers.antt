@@ -1,7 +1,7 @@
 use Rattle.std.proofs.Common.{[], sym, subst}
 use Rattle.relay.specs.Lots.{rows_in}
 use Rattle.outputs.specs.Written.{HasWritten}
-use Rattle.outputs.proofs.stream_writer.write_stream.Goals as goal
+use Rattle.trace_writer.proofs.stream_writer.write_stream.Goals as goal
 
 pub loop-init : goal.loop-init
 loop-init g c = record {

@@ -1,20 +1,17 @@
-ghost use Rattle.std.specs.Prelude.{◌≡◌, ◌≢◌, ◌+◌, ◌++◌, ◌<◌, ◌≤◌, ◌^◌, [], true, length, List, Option, OnOk, OnErr, IfErr, IsErr, IsErrOf, All, ℕ};
-ghost use Rattle.std.specs.Io.KnownBytes.{Appends};
-ghost use Rattle.trace.specs.Text.{NamesMembers, rows_text};
-ghost use Rattle.trace.specs.Sinks.{AppendsBeginning};
+ghost use Rattle.std.specs.Prelude.{◌≡◌, ◌+◌, ◌++◌, ◌<◌, ◌^◌, [], true, List, Option, OnOk, OnErr, IsErr, IsErrOf, All, ℕ};
+ghost use Rattle.trace.specs.Text.{NamesMembers};
 ghost use Rattle.trace.specs.declared.row.Row.{Row as ARow};
 ghost use Rattle.relay.specs.Lots.{rows_in, has_last};
 ghost use Rattle.relay.specs.Seats.{scenario_of, taken_by, IsTaker};
 ghost use Rattle.outputs.specs.Written.{sink_failures, HasWritten};
 
-use crate::tallied::Tallied;
-use crate::writing::fault_of;
 use base::Fault;
+use outputs::{TakeRows, Tallied, Written, begin_trace};
 use relay::{Relay, TakeSeat};
 use scenario::Scenario;
 use std::alloc::Global;
 use std::sync::Wait;
-use trace::{Row, Sink, write_head, write_rows};
+use trace::{Row, Sink};
 
 /// Writes the trace as its rows come over the relay, up to the last batch, and tallies them. After a fault it
 /// goes on receiving, so that whoever sends can come to an end, but puts nothing more.
@@ -53,19 +50,6 @@ pub fn write_stream<A: Sink>(
     unreachable!()
 }
 
-/// Writes the header of the trace. Faults: `Memory`; `Write` where the sink failed.
-pub fn begin_trace<A: Sink>(trace: &mut A) -> Result<(), Fault>
-    requires countable { A.failed trace.old < 2 ^ 63 }
-    ensures written { (s : _) → HasWritten s [] (A.held trace.old) (A.held trace.new) [] result }
-    ensures failures { A.failed trace.new ≡ A.failed trace.old + sink_failures result }
-    ensures relay { IfErr result (λ fault. fault ≢ Fault.Relay) }
-{
-    match write_head(trace) {
-        Ok(()) => Ok(()),
-        Err(error) => Err(fault_of(error)),
-    }
-}
-
 /// Writes the rows of a batch, unless a fault came before.
 fn go_on<A: Sink>(
     so_far: Result<(), Fault>,
@@ -82,39 +66,13 @@ fn go_on<A: Sink>(
     ensures failures { A.failed trace.new + sink_failures so_far ≡ A.failed trace.old + sink_failures result }
 {
     match so_far {
-        Ok(()) => write_batch(alloc, rows, scenario, tallied, trace),
+        Ok(()) => Written::take(alloc, rows, scenario, tallied, trace),
         Err(fault) => Err(fault),
     }
 }
 
-/// Tallies the next rows of a run, and writes them.
-///
-/// Faults: `Memory`; `Worn` where a count of the report would pass 2^63; `Write` where the sink failed.
-pub fn write_batch<A: Sink>(
-    alloc: Global,
-    rows: &[Row],
-    scenario: &Scenario,
-    tallied: &mut Tallied,
-    trace: &mut A,
-) -> Result<(), Fault>
-    requires named { All (NamesMembers scenario.now) rows.now }
-    requires countable { A.failed trace.old < 2 ^ 63 }
-    ensures whole { OnOk result (Appends (A.held trace.old) (A.held trace.new) (rows_text scenario.now rows.now)) }
-    ensures tallied { OnOk result (tallied.new.tallies ≡ tallied.old.tallies ++ rows.now) }
-    ensures part { OnErr result (AppendsBeginning (A.held trace.old) (A.held trace.new) (rows_text scenario.now rows.now)) }
-    ensures worn { IsErrOf result Fault.Worn → 2 ^ 63 ≤ length (tallied.old.tallies ++ rows.now) }
-    ensures failures { A.failed trace.new ≡ A.failed trace.old + sink_failures result }
-    ensures relay { IfErr result (λ fault. fault ≢ Fault.Relay) }
-{
-    tallied.add_all(rows, scenario)?;
-    match write_rows(alloc, rows, scenario, trace) {
-        Ok(()) => Ok(()),
-        Err(error) => Err(fault_of(error)),
-    }
-}
-
 /// What is answered where the last batch came back, or never came.
-pub fn lost(outcome: Result<(), Fault>) -> Result<(), Fault>
+fn lost(outcome: Result<(), Fault>) -> Result<(), Fault>
     ensures none { IsErr result }
     ensures relay { OnOk outcome (IsErrOf result Fault.Relay) }
     ensures first { OnErr outcome (result ≡ outcome) }

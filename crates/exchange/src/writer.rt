@@ -1,0 +1,54 @@
+//! Who writes the trace of a run by threads, as its rows come over the relay.
+ghost use Rattle.exchange.specs.Streams.{MayWrite, IsWritten};
+
+use base::Fault;
+use outputs::Tallied;
+use relay::{Relay, TakeSeat};
+use scenario::Scenario;
+use std::alloc::Global;
+use std::sync::Wait;
+use trace::Sink;
+use trace_writer::write_stream;
+
+/// What the writer takes with it.
+#[derive(Drop)]
+pub(crate) struct Writer<'r> {
+    pub(crate) relay: &'r Relay,
+    pub(crate) scenario: &'r Scenario,
+    /// From which the rows come.
+    pub(crate) seat: TakeSeat,
+    pub(crate) tallied: Tallied,
+}
+
+/// What the writer leaves.
+#[derive(Drop)]
+pub(crate) struct Written {
+    pub(crate) seat: TakeSeat,
+    pub(crate) tallied: Tallied,
+    /// Whether all that came was written.
+    pub(crate) outcome: Result<(), Fault>,
+}
+
+/// Writes and tallies what comes over the writer's relay, up to the last batch.
+pub(crate) fn write_all<A: Sink>(
+    rt: &impl Wait,
+    alloc: Global,
+    writer: Writer,
+    trace: &mut A,
+) -> Written
+    requires { MayWrite writer (A.failed trace.old) }
+    ensures { IsWritten writer.entry.scenario.now writer.entry.relay.now (A.held trace.old) (A.held trace.new) (A.failed trace.old) (A.failed trace.new) result }
+{
+    let Writer {
+        relay,
+        scenario,
+        mut seat,
+        mut tallied,
+    } = writer;
+    let outcome = write_stream(rt, alloc, relay, &mut seat, scenario, &mut tallied, trace);
+    Written {
+        seat,
+        tallied,
+        outcome,
+    }
+}
