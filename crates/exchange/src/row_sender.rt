@@ -7,13 +7,13 @@ ghost use Rattle.exchange.specs.Sending.{rows_so_far, IsOpen, MaySend};
 
 use crate::driver::Driven;
 use base::Fault;
-use outputs::lost;
 use relay::{Batch, Relay, SendSeat};
 use scenario::Scenario;
 use std::alloc::Global;
 use std::mem;
 use std::sync::Wait;
 use trace::Row;
+use trace_writer::lost;
 use turns::join;
 
 /// How many rows are gathered before a batch goes out, so that a small window costs no message.
