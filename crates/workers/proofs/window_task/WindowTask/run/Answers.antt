@@ -1,6 +1,6 @@
 use Rattle.std.proofs.Common.{◌∙◌, sym}
 use Rattle.workers.proofs.Answering.{comes_along}
-use Rattle.workers.proofs.task.WindowTask.run.Goals as goal
+use Rattle.workers.proofs.window_task.WindowTask.run.Goals as goal
 
 pub send-requires : goal.send-requires
 send-requires g c =
