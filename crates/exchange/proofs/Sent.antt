@@ -53,8 +53,8 @@ driven_send = search (seat_field_send, crosses, sendable) depth 60
 basis_field_send : (α : NamedLft) → IsSend (basis.the_field α).row
 basis_field_send α = search (scenario_sync, links_sync, division_sync, crosses, sendable) depth 60 fits 20000
 
-pub task_send : (ρ β α : NamedLft) (Q G P : RattleType) (g : Ghosts Q.Denot Event) (p : site.Ghosts P.Denot) → IsSend Q → IsSync G → IsSend (task.the_row ρ β α Q G P g p)
-task_send ρ β α Q G P g p s t =
+pub driver_task_send : (ρ β α : NamedLft) (Q G P : RattleType) (g : Ghosts Q.Denot Event) (p : site.Ghosts P.Denot) → IsSend Q → IsSync G → IsSend (task.the_row ρ β α Q G P g p)
+driver_task_send ρ β α Q G P g p s t =
     let all : AllSend (shape (task.the_type ρ β α Q G P g p)).fields =
     (Vec-send (part.the_row Q) (part_row_send Q s), (pool_field_send β α Q G P g p s t, (basis_field_send α, (search (relay_sync, sendable), (seat_field_send, tt))))) in
     declared_send (task.the_type ρ β α Q G P g p) all

@@ -9,7 +9,7 @@ use Rattle.exchange.specs.declared.driver.Driven.{Driven}
 use Rattle.exchange.specs.declared.driver.Drives.{Drives}
 use Rattle.exchange.specs.Sending.{IsDriven}
 use Rattle.exchange.proofs.Faults.{relay_early}
-use Rattle.exchange.proofs.Sent.{driven_send, task_send}
+use Rattle.exchange.proofs.Sent.{driven_send, driver_task_send}
 use Rattle.exchange.proofs.threads.fn.within.scope.Goals as goal
 
 -- what was promised of this scenario and this relay
@@ -22,7 +22,7 @@ spawn_with-driver-requires-send-F g c κs within =
     let of_rt = c.requires.0 in
     let of_gate = c.requires.1 in
     let of_queue = c.requires.2 in
-    search (task_send, heap.the_send, crosses, sendable) depth 60 fits 20000
+    search (driver_task_send, heap.the_send, crosses, sendable) depth 60 fits 20000
 
 pub spawn_with-driver-requires-send-T : goal.spawn_with-driver-requires-send-T
 spawn_with-driver-requires-send-T g c κs within = let of_queue = c.requires.2 in search (driven_send, post_send, task_send, crosses, sendable) depth 40 fits 20000
