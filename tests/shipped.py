@@ -20,7 +20,8 @@ from pathlib import Path
 TOP = Path(__file__).resolve().parent.parent
 BUILT = TOP / 'crates' / 'swimsim' / 'out' / 'swimsim'
 SHIPPED = TOP / 'dist' / 'swimsim-x86_64-linux-gnu'
-PLAIN_TOOLS = ('awk', 'bash', 'cut', 'dirname', 'find', 'grep', 'readlink', 'sed', 'sha256sum', 'sort', 'tr', 'xargs')
+PLAIN_TOOLS = ('awk', 'bash', 'cut', 'dirname', 'find', 'grep', 'install', 'readlink', 'sed', 'sha256sum', 'sort', 'tr',
+               'xargs')
 CRASH = ('run', 'examples/crash.toml', '--trace', 't.csv', '--report', 'r.txt')
 
 
@@ -47,9 +48,9 @@ def clone(room):
 
 
 def run_bare(copy, *words):
-    """The launcher of a copy, called where there is neither a kit nor Python."""
+    """A command of a copy, called where there is neither a kit nor Python."""
     environment = {'PATH': str(copy.parent / 'plain')}
-    return subprocess.run([copy / 'swimsim', *words], cwd=copy, env=environment, capture_output=True, text=True)
+    return subprocess.run([copy / words[0], *words[1:]], cwd=copy, env=environment, capture_output=True, text=True)
 
 
 def the_record_is_that_of_these_sources(_):
@@ -72,7 +73,7 @@ def what_was_built_is_what_is_shipped(room):
 
 def a_bare_machine_has_its_first_report(room):
     copy = clone(room)
-    ran = run_bare(copy, *CRASH)
+    ran = run_bare(copy, 'swimsim', *CRASH)
     assert (ran.returncode, ran.stdout, ran.stderr) == (0, 'rows 9679\n', ''), ran
     told = re.findall(r'^```\n(members 100\n.*?)^```$', (TOP / 'README.md').read_text(), re.M | re.S)
     assert (copy / 'r.txt').read_text() in told, 'README shows this report'
@@ -84,14 +85,14 @@ def a_changed_byte_is_not_run(room):
     changed = bytearray(program.read_bytes())
     changed[-1] ^= 1
     program.write_bytes(changed)
-    assert run_bare(copy, *CRASH).returncode != 0 and not (copy / 't.csv').exists()
+    assert run_bare(copy, 'swimsim', *CRASH).returncode != 0 and not (copy / 't.csv').exists()
 
 
 def changed_sources_are_not_run(room):
     copy = clone(room)
     with open(copy / 'crates' / 'base' / 'src' / 'lib.rt', 'a') as source:
         source.write('// a change\n')
-    assert run_bare(copy, *CRASH).returncode != 0 and not (copy / 't.csv').exists()
+    assert run_bare(copy, 'swimsim', *CRASH).returncode != 0 and not (copy / 't.csv').exists()
 
 
 def the_manual_page_is_that_of_the_program(_):
@@ -101,7 +102,8 @@ def the_manual_page_is_that_of_the_program(_):
 
 def it_is_installed_where_people_look(room):
     copy, prefix = clone(room), room / 'prefix'
-    subprocess.run([copy / 'tools' / 'install', prefix], check=True)
+    ran = run_bare(copy, 'tools/install', prefix)
+    assert ran.returncode == 0, ran
     installed = prefix / 'bin' / 'swimsim'
     assert installed.read_bytes() == SHIPPED.read_bytes() and os.access(installed, os.X_OK)
     assert (prefix / 'share/man/man1/swimsim.1').is_file()
