@@ -12,10 +12,10 @@ import os
 import shutil
 import subprocess
 import sys
-import tempfile
 import time
-import traceback
 from pathlib import Path
+
+from rooms import run_cases
 
 TOP = Path(__file__).resolve().parent.parent
 sys.path.append(str(TOP / 'tools'))
@@ -190,18 +190,5 @@ CASES = (
 )
 
 
-def main():
-    failed = 0
-    for case in CASES:
-        with tempfile.TemporaryDirectory() as room:
-            try:
-                case(House(Path(room)))
-            except (AssertionError, OSError):
-                failed += 1
-                print(f'FAILED {case.__name__}\n{traceback.format_exc()}')
-    print(f'{len(CASES) - failed} passed, {failed} failed')
-    sys.exit(1 if failed else 0)
-
-
 if __name__ == '__main__':
-    main()
+    run_cases(CASES, House)
