@@ -20,7 +20,7 @@ from rooms import run_cases
 TOP = Path(__file__).resolve().parent.parent
 sys.path.append(str(TOP / 'tools'))
 
-from schedule import Schedule, chains, crates_in, jobs_for, longest_chain, minutes_in  # noqa: E402
+from schedule import Schedule, chains, crates_in, longest_chain, minutes_in  # noqa: E402
 
 PLAIN_TOOLS = ('awk', 'bash', 'cat', 'cut', 'dirname', 'find', 'grep', 'readlink', 'sed', 'sha256sum', 'sort', 'tr', 'xargs')
 CRATES = '# the program stands on two crates, beside one of tests\nlow:\nhigh: low toml\nswimsim: high\ntests: high\n'
@@ -177,16 +177,12 @@ def the_longest_chain_goes_first(_):
     assert schedule.ready() == ['c', 'b']
 
 
-def idle_processors_are_shared_out(_):
-    assert [jobs_for(at_once, 4) for at_once in (0, 1, 2, 3, 4, 9)] == [1, 4, 2, 2, 1, 1]
-
-
 CASES = (
     the_shipped_program_runs_without_a_kit, a_changed_byte_of_it_is_not_run, changed_sources_are_built,
     a_changed_test_is_no_reason, from_source_takes_its_own, a_new_kit_builds_anew, a_build_tells_its_digest_and_kit,
     a_refused_crate_is_told, without_a_kit_a_build_fails, a_build_that_is_ended_stops_what_it_began,
     what_a_killed_build_left_is_put_back,
-    the_longest_chain_goes_first, idle_processors_are_shared_out,
+    the_longest_chain_goes_first,
 )
 
 

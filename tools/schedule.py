@@ -50,11 +50,6 @@ def longest_chain(crates, minutes, top):
     return chain
 
 
-def jobs_for(at_once, processors):
-    """The processes for one of so many crates: each reads all below it anew, so more than one only if some are idle."""
-    return -(-processors // at_once) if 0 < at_once < processors else 1
-
-
 class Schedule:
     """Which crates can be begun: those whose libraries are built, the longest chain first."""
 
