@@ -3,7 +3,7 @@ way."""
 
 import re
 
-from model import report_of, rows_in
+from model_text import report_of, rows_in
 from program import Case, DATA, Wrong, expect, expect_ran
 from scenarios import document_of, judge
 
