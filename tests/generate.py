@@ -208,8 +208,8 @@ def drop_key(rng, document):
 def add_key(rng, document):
     held, _ = rng.choice(places(document))
     known = [name for _, keys in places(document) for name in keys]
-    name = rng.choice(['x', 'Seed', 'a-b', 'é', '', 'cut', 'leave', 'pause', 'gossip', 'stream', 'fallback', 'push',
-                       'contact', rng.choice(known)])
+    name = rng.choice(['x', 'Seed', 'a-b', 'é', '', 'cut', 'leave', 'pause', 'gossip', 'stream', 'fallback',
+                       'push', 'contact', rng.choice(known)])
     held.setdefault(name, rng.choice([0, 1, 'a', [], {}]))
 
 

@@ -54,7 +54,8 @@ PAUSE = {'member': NAME, 'from': MOMENT, 'until': MOMENT}
 DOWN = {'member': NAME, 'at': MOMENT}
 CUT = {'from': NAME, 'to': NAME, 'at': MOMENT, 'until': MOMENT}
 GOSSIP = {
-    'interval': number(1, 2**24), 'nodes': number(1, 16, 3), 'dead': number(0, 2**40, 0), 'push': number(0, 2**24, 0),
+    'interval': number(1, 2**24), 'nodes': number(1, 16, 3), 'dead': number(0, 2**40, 0),
+    'push': number(0, 2**24, 0),
 }
 STREAM = {'connect': number(1, 2**24, 1000), 'again': number(1, 2**24, 200)}
 MOST_MEMBERS = {1: 1024, 2: 4096, 3: 4096}
