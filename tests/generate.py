@@ -42,13 +42,13 @@ def scenario(rng, newest, messages=3000):
     if chance(rng, 80):
         document['lifeguard'] = lifeguard_of(rng)
     document['link'] = link_of(rng, period)
-    if version >= 3:
-        add_streams(rng, document, period, max(1, members * end // messages))
     document['group'] = groups
     if period == 2**24 and chance(rng, 10):
         document['end'] = go_far(rng, groups, end)
     else:
         add_starts(rng, groups, end)
+    if version >= 3:
+        add_streams(rng, document, period, max(1, members * document['end'] // messages))
     add_troubles(rng, document, period)
     return document
 
@@ -507,7 +507,7 @@ SETTINGS = {
 # no interval is so short that gossip for ever makes a run long
 SETTINGS_OF_3 = {
     'swim.fallback': [True, False], 'gossip.interval': [2**20, 2**24, 0], 'gossip.nodes': [1, 2, 3],
-    'gossip.dead': [0, 10, 1000], 'gossip.push': [0, 2**16, 2**24], 'stream.connect': [1, 1000],
+    'gossip.dead': [0, 10, 1000], 'gossip.push': [0, 2**23, 2**24], 'stream.connect': [1, 1000],
     'stream.again': [1, 200],
 }
 
