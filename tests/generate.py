@@ -84,16 +84,17 @@ def link_of(rng, period):
     return {'delay': min(delay, 2**20), **some(rng, {'jitter': min(jitter, 2**20), 'loss': loss})}
 
 
-def add_streams(rng, document, period, push):
-    """Adds gossip, whole tables no oftener than that, calls, and how streams send again, some of each."""
+def add_streams(rng, document, period, least):
+    """Adds gossip, whole tables, calls, and how streams send again, some of each. What all members do after each
+    so many ticks at least makes a run no longer than it may be."""
     end = document['end']
     if chance(rng, 60):
         document['swim']['fallback'] = chance(rng, 90)
     if chance(rng, 70):
         interval = rng.choice([1, period, 2 * period, rng.randint(1, period), max(1, period // 5)])
-        # one whom nobody can hear gossips to the end, so gossip isn't too often
-        interval = max(end // 1000, interval)
-        push = rng.choice([0, push, rng.randint(push, 5 * max(push, period))])
+        # news that is told a hundred times has no end, nor has that of one whom nobody can hear
+        interval = max(interval, end // 1000 if document['swim'].get('lambda', 3) <= 4 else least)
+        push = rng.choice([0, least, rng.randint(least, 5 * max(least, period))])
         document['gossip'] = {'interval': min(interval, 2**24), **some(rng, {
             'nodes': rng.choice([1, 1, 2, 3, 4, 16]), 'dead': rng.choice([0, 1, period, 5 * period, end]),
             'push': min(push, 2**24)})}
