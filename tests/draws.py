@@ -1,6 +1,7 @@
 """What members draw, by docs/FORMAT.md ("Draws"), seen in the rows of small runs under many seeds."""
 
-from model import Draws, rows_in
+from model_links import Draws
+from model_text import rows_in
 from program import Case, Wrong, expect_ran
 from worked import scenario_of
 

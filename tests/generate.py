@@ -1,10 +1,11 @@
 #!/usr/bin/env python3
 """Random cases for tests/second_opinion.py.
 
-    tests/generate.py SEED KIND NUMBER
+    tests/generate.py SEED KIND NUMBER [NEWEST]
 
-prints the text of a case again: KIND is run, text or sweep. A run's scenario is accepted, and small enough
-that its trace has some thousands of rows; a text may break any rule, and most break one at its border.
+prints the text of a case again: KIND is run, text or sweep, and NEWEST the newest version of the format that
+its texts have (the newest that the program takes). A run's scenario is accepted, and small enough that its
+trace has some thousands of rows; a text may break any rule, and most break one at its border.
 """
 
 import copy
@@ -13,7 +14,7 @@ import random
 import re
 import sys
 
-from scenarios import MOST_MEMBERS, keys_of, tables_there
+from scenarios import MOST_MEMBERS, NEWEST, NEWEST_TAKEN, keys_of, tables_there, version_of
 
 LETTERS = 'abcdfghiklm'
 
@@ -24,9 +25,9 @@ def chance(rng, percent):
 
 # ---- Scenarios that are accepted ----
 
-def scenario(rng, messages=3000):
+def scenario(rng, newest, messages=3000):
     """The document of a scenario with some of the mechanisms, and with about so many messages at most."""
-    version = rng.randint(1, 2)
+    version = rng.randint(1, newest)
     period = rng.choice([rng.randint(2, 6), rng.randint(20, 200), rng.randint(20, 200), 1000, 2**24])
     groups = groups_of(rng)
     members = sum(group['count'] for group in groups)
@@ -46,6 +47,8 @@ def scenario(rng, messages=3000):
         document['end'] = go_far(rng, groups, end)
     else:
         add_starts(rng, groups, end)
+    if version >= 3:
+        add_streams(rng, document, period, max(1, members * document['end'] // messages))
     add_troubles(rng, document, period)
     return document
 
@@ -79,6 +82,25 @@ def link_of(rng, period):
     jitter = rng.choice([0, 0, 1, rng.randint(0, max(1, period // 4)), rng.randint(0, 2 * period)])
     loss = rng.choice([0, 0, 0, 1, 1000, 50000, 200000, 500000, 999999, 1000000])
     return {'delay': min(delay, 2**20), **some(rng, {'jitter': min(jitter, 2**20), 'loss': loss})}
+
+
+def add_streams(rng, document, period, least):
+    """Adds gossip, whole tables, calls, and how streams send again, some of each. What all members do after each
+    so many ticks at least makes a run no longer than it may be."""
+    end = document['end']
+    if chance(rng, 60):
+        document['swim']['fallback'] = chance(rng, 90)
+    if chance(rng, 70):
+        interval = rng.choice([1, period, 2 * period, rng.randint(1, period), max(1, period // 5)])
+        # news that is told a hundred times has no end, nor has that of one whom nobody can hear
+        interval = max(interval, end // 1000 if document['swim'].get('lambda', 3) <= 4 else least)
+        push = rng.choice([0, least, rng.randint(least, 5 * max(least, period))])
+        document['gossip'] = {'interval': min(interval, 2**24), **some(rng, {
+            'nodes': rng.choice([1, 1, 2, 3, 4, 16]), 'dead': rng.choice([0, 1, period, 5 * period, end]),
+            'push': min(push, 2**24)})}
+    if chance(rng, 30):
+        document['stream'] = some(rng, {
+            'connect': rng.choice([1, 1000, rng.randint(1, period)]), 'again': rng.choice([1, 200, period])})
 
 
 def groups_of(rng):
@@ -126,40 +148,51 @@ def add_troubles(rng, document, period):
     end, members = document['end'], members_of(document)
     going = rng.sample(members, rng.choice([0, 1, 1, 2, 3, len(members)]) % (len(members) + 1))
     for name, start in going:
-        what = 'leave' if document['version'] == 2 and chance(rng, 60) else 'crash'
+        what = 'leave' if document['version'] >= 2 and chance(rng, 60) else 'crash'
         at = rng.randint(start + 1, max(start + 1, rng.choice([end, end // 2, end + 5, start + period])))
         document.setdefault(what, []).append({'member': name, 'at': min(at, 2**40)})
     for name, _ in rng.sample(members, rng.choice([0, 0, 1, 2]) % (len(members) + 1)):
         document.setdefault('slow', []).extend(slow_entries(rng, name, end, period))
+    if document['version'] >= 3:
+        for name, _ in rng.sample(members, rng.choice([0, 1, 1, 2, 3]) % (len(members) + 1)):
+            document.setdefault('pause', []).extend(pauses(rng, name, end, period))
     ends = [group['name'] for group in document['group']]
     for _ in range(rng.choice([0, 0, 0, 1, 2, 4])):
         path = {'from': rng.choice(ends), 'to': rng.choice(ends), **some(rng, link_of(rng, period))}
         document.setdefault('path', []).append(path)
-    for _ in range(rng.choice([0, 0, 1, 2]) if document['version'] == 2 else 0):
+    for _ in range(rng.choice([0, 0, 1, 2]) if document['version'] >= 2 else 0):
         at = min(rng.randint(0, end), 2**40 - 1)
         until = min(rng.randint(at + 1, at + 1 + max(1, end // 2)), 2**40)
         document.setdefault('cut', []).append(
             {'from': rng.choice(ends), 'to': rng.choice(ends), 'at': at, 'until': until})
 
 
-def slow_entries(rng, name, end, period):
-    """One to three entries of one member, of which none overlap, but some touch."""
+def spans(rng, name, end, longest):
+    """One to three spans of time of one member, of which none overlap, but some touch."""
     marks = sorted(rng.sample(range(min(end + 8, 2**40 + 1)), 2 * rng.randint(1, 3)))
     entries = []
     for begin, stop in zip(marks[::2], marks[1::2]):
         begin = entries[-1]['until'] if entries and chance(rng, 30) else begin
-        extra = rng.choice([1, rng.randint(1, period), min(2**24, rng.randint(1, 4 * period))])
-        entries.append({'member': name, 'from': begin, 'until': stop, 'extra': extra})
+        entries.append({'member': name, 'from': begin, 'until': max(begin + 1, min(stop, begin + longest))})
     rng.shuffle(entries)
     return entries
+
+
+def slow_entries(rng, name, end, period):
+    extras = [1, rng.randint(1, period), min(2**24, rng.randint(1, 4 * period))]
+    return [{**entry, 'extra': rng.choice(extras)} for entry in spans(rng, name, end, 2**40)]
+
+
+def pauses(rng, name, end, period):
+    """Pauses of parts of a period, of some periods, and of any length."""
+    return spans(rng, name, end, rng.choice([period, 5 * period, 15 * period, 2**40]))
 
 
 # ---- Changes of a document, each of which may break a rule ----
 
 def places(document):
     """Each table and item that the format names, with its keys."""
-    version = document.get('version')
-    return tables_there(document, keys_of(2 if type(version) is int and version == 2 else 1))
+    return tables_there(document, keys_of(version_of(document, NEWEST)))
 
 
 def some_key(rng, document):
@@ -176,7 +209,8 @@ def drop_key(rng, document):
 def add_key(rng, document):
     held, _ = rng.choice(places(document))
     known = [name for _, keys in places(document) for name in keys]
-    name = rng.choice(['x', 'Seed', 'a-b', 'é', '', 'cut', 'leave', 'contact', rng.choice(known)])
+    name = rng.choice(['x', 'Seed', 'a-b', 'é', '', 'cut', 'leave', 'pause', 'gossip', 'stream', 'fallback',
+                       'push', 'contact', rng.choice(known)])
     held.setdefault(name, rng.choice([0, 1, 'a', [], {}]))
 
 
@@ -218,12 +252,13 @@ def border(rng, document):
 
 
 def switch(rng, document):
-    held = document.setdefault('lifeguard', {})
-    held[rng.choice(['probe', 'suspicion', 'buddy'])] = rng.choice([True, False, 0, 1, 'true'])
+    name = rng.choice(['probe', 'suspicion', 'buddy', 'fallback'])
+    held = document.setdefault('swim' if name == 'fallback' else 'lifeguard', {})
+    held[name] = rng.choice([True, False, 0, 1, 'true'])
 
 
 def change_version(rng, document):
-    document['version'] = rng.choice([0, 1, 2, 3, -1, 2, 1, 2.0, '2', True, [2]])
+    document['version'] = rng.choice([0, 1, 2, 3, 3, 4, -1, 2, 1, 2.0, 3.0, '2', True, [2]])
 
 
 def change_group_name(rng, document):
@@ -254,7 +289,7 @@ def change_contact(rng, document):
 
 def add_down(rng, document):
     """One more crash or leave, often of a member that has one."""
-    whats = ['crash', 'leave'] if document.get('version') == 2 or chance(rng, 10) else ['crash']
+    whats = ['crash', 'leave'] if document.get('version') != 1 or chance(rng, 10) else ['crash']
     named = [entry['member'] for what in whats for entry in document.get(what, [])]
     member, start = rng.choice(members_of(document))
     member = rng.choice(named) if named and chance(rng, 60) else member
@@ -267,9 +302,10 @@ def insert(rng, document, name, entry):
     items.insert(rng.randint(0, len(items)), entry)
 
 
-def add_slow(rng, document):
-    """One more slow entry, which often touches or overlaps one that is there."""
-    there = document.get('slow', [])
+def add_span(rng, document):
+    """One more slow entry or pause, which often touches or overlaps one that is there."""
+    name = 'pause' if document.get('version') == 3 and chance(rng, 60) else 'slow'
+    there = document.get(name, [])
     member, _ = rng.choice(members_of(document))
     begin, stop = sorted([rng.randint(0, 50), rng.randint(0, 50)])
     if there and chance(rng, 80):
@@ -277,8 +313,8 @@ def add_slow(rng, document):
         member = old['member']
         begin = rng.choice([old['from'], old['until'], old['until'] - 1, 0, old['from'] - 1])
         stop = rng.choice([old['from'], old['from'] + 1, old['until'], old['until'] + 1, begin, begin + 1])
-    entry = {'member': member, 'from': max(0, begin), 'until': max(0, stop), 'extra': 1}
-    insert(rng, document, 'slow', entry)
+    entry = {'member': member, 'from': max(0, begin), 'until': max(0, stop)}
+    insert(rng, document, name, {**entry, 'extra': 1} if name == 'slow' else entry)
 
 
 def change_time(rng, document):
@@ -313,7 +349,7 @@ def append_copy(rng, document):
 CHANGES = [
     drop_key, drop_key, add_key, change_kind, change_kind, change_item, border, border, border, border,
     switch, change_version, change_group_name, change_reference, change_reference, change_contact, add_down,
-    add_down, add_slow, add_slow, add_slow, change_time, change_time, fill_cluster, fill_cluster, append_copy,
+    add_down, add_span, add_span, add_span, change_time, change_time, fill_cluster, fill_cluster, append_copy,
 ]
 
 
@@ -442,17 +478,17 @@ BYTES = [cut_off, cut_off, replace_byte, replace_byte, replace_byte, replace_byt
 
 # ---- Cases ----
 
-def run_case(seed, number):
+def run_case(seed, number, newest):
     """The text of an accepted scenario, and its document."""
     rng = random.Random(f'{seed} run {number}')
-    document = scenario(rng)
+    document = scenario(rng, newest)
     return text_of(rng, document), document, rng
 
 
-def text_case(seed, number):
+def text_case(seed, number, newest):
     """A text that may break any rule."""
     rng = random.Random(f'{seed} text {number}')
-    document = scenario(rng)
+    document = scenario(rng, newest)
     for _ in range(rng.choice([0, 1, 1, 1, 1, 1, 2, 2, 3])):
         change(rng, document)
     text = text_of(rng, document)
@@ -462,22 +498,29 @@ def text_case(seed, number):
 
 
 SETTINGS = {
-    'version': [1, 2], 'end': [0, 1, 100, 500], 'swim.helpers': [0, 1, 2, 3], 'swim.carry': [1, 2, 6],
+    'end': [0, 1, 100, 500], 'swim.helpers': [0, 1, 2, 3], 'swim.carry': [1, 2, 6],
     'swim.lambda': [1, 2, 3], 'swim.spread': [1, 10], 'swim.timeout': [1, 2, 10],
     'suspicion.alpha': [1, 2, 5], 'suspicion.beta': [1, 2, 6], 'lifeguard.probe': [True, False],
     'lifeguard.suspicion': [True, False], 'lifeguard.buddy': [True, False], 'lifeguard.ceiling': [0, 1, 8],
     'lifeguard.confirmations': [0, 1, 3], 'lifeguard.nack_percent': [1, 80, 100], 'link.delay': [1, 5, 0],
     'link.jitter': [0, 10], 'link.loss': [0, 100000, 1000000],
 }
+# no interval is so short that gossip for ever makes a run long
+SETTINGS_OF_3 = {
+    'swim.fallback': [True, False], 'gossip.interval': [2**20, 2**24, 0], 'gossip.nodes': [1, 2, 3],
+    'gossip.dead': [0, 10, 1000], 'gossip.push': [0, 2**23, 2**24], 'stream.connect': [1, 1000],
+    'stream.again': [1, 200],
+}
 
 
-def sweep_case(seed, number):
+def sweep_case(seed, number, newest):
     """A text, its document, keys with their values, and the seeds, of which there may be none."""
     rng = random.Random(f'{seed} sweep {number}')
-    document = scenario(rng, 800)
+    document = scenario(rng, newest, 800)
     settings = []
-    for key in rng.sample(list(SETTINGS), rng.choice([0, 1, 1, 2, 3])):
-        settings.append((key, rng.sample(SETTINGS[key], rng.randint(1, 2))))
+    choices = {'version': list(range(1, newest + 1)), **SETTINGS, **(SETTINGS_OF_3 if newest >= 3 else {})}
+    for key in rng.sample(list(choices), rng.choice([0, 1, 1, 2, 3])):
+        settings.append((key, rng.sample(choices[key], rng.randint(1, 2))))
     first = rng.choice([0, 1, 99, 2**63 - 4])
     return text_of(rng, document), document, settings, list(range(first, first + rng.choice([0, 1, 2, 4])))
 
@@ -489,10 +532,10 @@ TEXTS = {
 
 
 def main():
-    if len(sys.argv) != 4 or sys.argv[2] not in TEXTS:
+    if len(sys.argv) not in (4, 5) or sys.argv[2] not in TEXTS:
         sys.exit(__doc__)
-    seed, kind, number = sys.argv[1:]
-    sys.stdout.buffer.write(TEXTS[kind](seed, int(number)))
+    seed, kind, number, *newest = sys.argv[1:]
+    sys.stdout.buffer.write(TEXTS[kind](seed, int(number), *map(int, newest or [NEWEST_TAKEN])))
 
 
 if __name__ == '__main__':

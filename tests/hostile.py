@@ -187,7 +187,7 @@ def sizes(uses, room, whole):
                                      ('twice 2,049', second.replace('count = 2', 'count = 2049').replace('[[group]]', '[[group]]\nname = "m"\ncount = 2049\n[[group]]'),
                                       3, b'swimsim: scenario rule 10\n'),
                                      ('a cut in version 1', SCENARIO + cut, 3, b'swimsim: scenario rule 3\n'),
-                                     ('version 3', SCENARIO.replace('version = 1', 'version = 3'), 3, b'swimsim: scenario rule 5\n'),
+                                     ('version 4', SCENARIO.replace('version = 1', 'version = 4'), 3, b'swimsim: scenario rule 5\n'),
                                      ('50,000 cuts', second + cut * 50_000, 0, b'')):
         (folder / 'f').write_text(text)
         left = uses.call(folder, ['check', 'f'])

@@ -9,20 +9,21 @@ from fractions import Fraction
 from math import isqrt
 
 import model
-from scenarios import judge
+import model_text
+from scenarios import NEWEST, NEWEST_TAKEN, judge
 
 RUN_FIGURES = [
     'rows', 'crashes', 'detected', 'suspect_least', 'confirm_least', 'confirm_greatest', 'last_greatest',
-    'false_suspect', 'false_suspect_healthy', 'false_confirm', 'false_confirm_healthy', 'thrown_out',
+    'false_suspect', 'false_suspect_healthy', 'false_confirm', 'false_confirm_healthy', 'thrown_out', 'revived',
     'accuse', 'refute', 'fail', 'health', 'sent', 'lost',
 ]
 PERCENTILES = {
     'suspect_p50': ('suspect', 50), 'confirm_p50': ('confirm', 50), 'confirm_p99': ('confirm', 99),
     'confirm_greatest': ('confirm', 100), 'last_p50': ('last', 50), 'last_greatest': ('last', 100),
 }
-CASE_FIGURES = ['runs', *PERCENTILES, 'false_suspect', 'thrown_out', 'runs_with', 'share_low', 'share_high',
-                'messages']
-MESSAGES = ['join', 'welcome', 'ping', 'ping-req', 'ack', 'nack', 'bye']
+CASE_FIGURES = ['runs', *PERCENTILES, 'false_suspect', 'thrown_out', 'revived', 'runs_with', 'share_low',
+                'share_high', 'messages']
+MESSAGES = model_text.messages_of(NEWEST)
 
 
 # ---- Runs ----
@@ -47,14 +48,14 @@ def document_of_run(document, settings, case, seed):
     return document
 
 
-def swept(document, settings, seeds):
+def swept(document, settings, seeds, newest=NEWEST_TAKEN):
     """An empty text and, for each case, its values and each run's seed and figures; or what is told of the
     first run that is refused, and no cases. Without seeds each case has one run, with the text's own."""
     cases = []
     for case in cases_of(settings):
         runs = []
         for seed in seeds or [document['seed']]:
-            rule, scenario = judge(document_of_run(document, settings, case, seed))
+            rule, scenario = judge(document_of_run(document, settings, case, seed), newest)
             if rule:
                 return refusal_of(rule, settings, case), []
             runs.append((seed, figures_of(scenario, model.rows_of(scenario))))
@@ -69,16 +70,17 @@ def refusal_of(rule, settings, case):
 
 
 def figures_of(scenario, rows):
-    """What is told of a run, and `times`, `members` and `end`, which its case needs."""
-    crashes = model.ends_of(rows, 'crash')
+    """What is told of a run, and `times`, `members`, `end` and `version`, which its case needs."""
+    crashes = model_text.ends_of(rows, 'crash')
     times = {name: [None if crash[place] is None else max(0, crash[place] - crash[1]) for crash in crashes]
              for place, name in enumerate(['suspect', 'confirm', 'last'], 2)}
     suspect, confirm, last = ([time for time in times[name] if time is not None] for name in times)
-    suspects, healthy_suspects = model.false_rows(scenario, rows, 'suspect')
-    confirms, healthy_confirms = model.false_rows(scenario, rows, 'confirm')
+    suspects, healthy_suspects = model_text.false_rows(scenario, rows, 'suspect')
+    confirms, healthy_confirms = model_text.false_rows(scenario, rows, 'confirm')
     sent = [row.lost for row in rows if row.what in MESSAGES]
     return {
         'times': times, 'members': len(scenario['members']), 'end': scenario['end'],
+        'version': scenario['version'], 'revived': model_text.revived(rows),
         'rows': len(rows), 'crashes': len(crashes), 'detected': len(confirm),
         'suspect_least': min(suspect, default=''), 'confirm_least': min(confirm, default=''),
         'confirm_greatest': max(confirm, default=''), 'last_greatest': max(last, default=''),
@@ -91,6 +93,12 @@ def figures_of(scenario, rows):
     }
 
 
+def without_revived(names, cases):
+    """The names of figures, without `revived` where no run is of version 3."""
+    is_told = any(figures['version'] >= 3 for _, runs in cases for _, figures in runs)
+    return [name for name in names if is_told or name != 'revived']
+
+
 # ---- The table ----
 
 def word(value):
@@ -100,8 +108,9 @@ def word(value):
 
 def table_of(settings, cases):
     """The table's text."""
-    lines = [[*(key for key, _ in settings), 'seed', *RUN_FIGURES]]
-    lines += [[*map(word, case), seed, *(figures[name] for name in RUN_FIGURES)]
+    names = without_revived(RUN_FIGURES, cases)
+    lines = [[*(key for key, _ in settings), 'seed', *names]]
+    lines += [[*map(word, case), seed, *(figures[name] for name in names)]
               for case, runs in cases for seed, figures in runs]
     return ''.join(','.join(map(str, line)) + '\n' for line in lines)
 
@@ -138,9 +147,10 @@ def case_figures(figures):
     told = {'runs': runs}
     for name, (which, percent) in PERCENTILES.items():
         times = [time for run in figures for time in run['times'][which]]
-        told[name] = model.told(percentile(times, percent))
+        told[name] = model_text.told(percentile(times, percent))
     told['false_suspect'] = decimal(sum(run['false_suspect'] for run in figures) * 100 // runs, 2)
     told['thrown_out'] = sum(run['thrown_out'] for run in figures)
+    told['revived'] = sum(run['revived'] for run in figures)
     told['runs_with'] = sum(run['thrown_out'] > 0 for run in figures)
     low, high = shares(told['runs_with'], runs)
     told['share_low'], told['share_high'] = decimal(low, 1), decimal(high, 1)
@@ -152,11 +162,12 @@ def case_figures(figures):
 
 def cases_text(settings, cases):
     """The lines of standard output."""
+    names = without_revived(CASE_FIGURES, cases)
     widths = [max(map(len, [key, *map(word, values)])) for key, values in settings]
-    widths += [max(8, len(name)) for name in CASE_FIGURES]
-    lines = [[*(key for key, _ in settings), *CASE_FIGURES]]
+    widths += [max(8, len(name)) for name in names]
+    lines = [[*(key for key, _ in settings), *names]]
     for case, runs in cases:
         told = case_figures([figures for _, figures in runs])
-        lines.append([*map(word, case), *(told[name] for name in CASE_FIGURES)])
+        lines.append([*map(word, case), *(told[name] for name in names)])
     return ''.join('  '.join(str(item).rjust(width) for item, width in zip(line, widths)) + '\n'
                    for line in lines)

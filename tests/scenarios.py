@@ -9,6 +9,11 @@ import math
 import re
 import tomllib
 
+# the newest version of the format, and the newest that the program takes. Whatever compares the program with
+# these models goes by the second: runs, texts and sweeps of later versions are held against no program.
+NEWEST = 3
+NEWEST_TAKEN = 2
+
 REQUIRED = object()
 
 # kind: number, switch, name, table or list; span: the ends of a number's range; keys: those of a table, or of
@@ -45,25 +50,41 @@ LINK = {'delay': number(1, 2**20), 'jitter': number(0, 2**20, 0), 'loss': number
 # what a path doesn't say is [link]'s, here None
 PATH = {'from': NAME, 'to': NAME, **{name: key._replace(default=None) for name, key in LINK.items()}}
 SLOW = {'member': NAME, 'from': MOMENT, 'until': MOMENT, 'extra': number(1, 2**24)}
+PAUSE = {'member': NAME, 'from': MOMENT, 'until': MOMENT}
 DOWN = {'member': NAME, 'at': MOMENT}
 CUT = {'from': NAME, 'to': NAME, 'at': MOMENT, 'until': MOMENT}
-MOST_MEMBERS = {1: 1024, 2: 4096}
+GOSSIP = {
+    'interval': number(1, 2**24), 'nodes': number(1, 16, 3), 'dead': number(0, 2**40, 0),
+    'push': number(0, 2**24, 0),
+}
+STREAM = {'connect': number(1, 2**24, 1000), 'again': number(1, 2**24, 200)}
+MOST_MEMBERS = {1: 1024, 2: 4096, 3: 4096}
 
 
-def keys_of(version):
+def version_of(document, newest=NEWEST_TAKEN):
+    """The version by which a document is judged where this one is the newest."""
+    version = document.get('version')
+    return version if type(version) is int and 1 <= version <= newest else 1
+
+
+def keys_of(version, newest=NEWEST_TAKEN):
     """The keys that the format names at the top of a text that is judged by this version."""
     group = {
         'name': NAME, 'count': number(1, MOST_MEMBERS[version]), 'start': number(0, 2**40, 0),
         'contact': NAME._replace(default=None),
     }
     keys = {
-        'version': number(1, 2), 'seed': number(0, 2**63 - 1), 'end': MOMENT,
+        'version': number(1, newest), 'seed': number(0, 2**63 - 1), 'end': MOMENT,
         'swim': table(REQUIRED, SWIM), 'suspicion': table({}, SUSPICION), 'lifeguard': table({}, LIFEGUARD),
         'link': table(REQUIRED, LINK), 'group': tables(REQUIRED, group), 'path': tables([], PATH),
         'slow': tables([], SLOW), 'crash': tables([], DOWN),
     }
-    if version == 2:
+    if version >= 2:
         keys.update({'cut': tables([], CUT), 'leave': tables([], DOWN)})
+    if version >= 3:
+        swim = {**SWIM, 'fallback': SWITCH._replace(default=False)}
+        keys.update({'swim': table(REQUIRED, swim), 'gossip': table(None, GOSSIP), 'stream': table({}, STREAM),
+                     'pause': tables([], PAUSE)})
     return keys
 
 
@@ -170,18 +191,21 @@ def downs(scenario):
 def names_nobody(scenario):
     groups = {group['name'] for group in scenario['group']}
     members = {member['name'] for member in scenario['members']} | {None}
-    named = [entry['member'] for entry in downs(scenario) + scenario['slow']]
+    named = [entry['member'] for entry in downs(scenario) + scenario['slow'] + scenario['pause']]
     named += [group['contact'] for group in scenario['group']]
     ends = [entry[end] for entry in scenario['path'] + scenario['cut'] for end in ('from', 'to')]
     return not members.issuperset(named) or not groups.issuperset(ends)
 
 
+def overlaps(entries):
+    return any(
+        one['member'] == other['member'] and one['from'] < other['until'] and other['from'] < one['until']
+        for place, one in enumerate(entries) for other in entries[:place])
+
+
 def collides(scenario):
     down = [entry['member'] for entry in downs(scenario)]
-    slow = scenario['slow']
-    return len(set(down)) < len(down) or any(
-        one['member'] == other['member'] and one['from'] < other['until'] and other['from'] < one['until']
-        for place, one in enumerate(slow) for other in slow[:place])
+    return len(set(down)) < len(down) or overlaps(scenario['slow']) or overlaps(scenario['pause'])
 
 
 def is_out_of_order(scenario):
@@ -191,7 +215,7 @@ def is_out_of_order(scenario):
             or any(group['contact'] is not None and group['start'] == 0 for group in scenario['group'])
             or any(start[contact] > 0 for contact in contacts)
             or any(entry['at'] <= start[entry['member']] for entry in downs(scenario))
-            or any(entry['until'] <= entry['from'] for entry in scenario['slow'])
+            or any(entry['until'] <= entry['from'] for entry in scenario['slow'] + scenario['pause'])
             or any(entry['until'] <= entry['at'] for entry in scenario['cut']))
 
 
@@ -216,7 +240,9 @@ RULES_OF_THE_SCENARIO = [
 
 
 def filled(value, key):
-    """The value with each default in its place."""
+    """The value with each default in its place; None stands where there is neither."""
+    if value is None:
+        return None
     if key.kind == 'list':
         return [filled(item, key._replace(kind='table')) for item in value]
     if key.kind == 'table':
@@ -226,7 +252,7 @@ def filled(value, key):
 
 def scenario_of(document, keys):
     """The scenario: the document with its defaults, and its members in order."""
-    scenario = {'cut': [], 'leave': [], **filled(document, table(REQUIRED, keys))}
+    scenario = {'cut': [], 'leave': [], 'pause': [], 'gossip': None, **filled(document, table(REQUIRED, keys))}
     for path in scenario['path']:
         path.update({name: scenario['link'][name] for name in LINK if path[name] is None})
     scenario['members'] = [
@@ -236,12 +262,12 @@ def scenario_of(document, keys):
     return scenario
 
 
-def judge(document):
-    """The least rule that a document, or None for no document, breaks, and None; or 0 and its scenario."""
+def judge(document, newest=NEWEST_TAKEN):
+    """The least rule that a document, or None for no document, breaks where this version is the newest, and
+    None; or 0 and its scenario."""
     if document is None:
         return 1, None
-    version = document.get('version')
-    keys = keys_of(2 if type(version) is int and version == 2 else 1)
+    keys = keys_of(version_of(document, newest), newest)
     for rule, is_broken in RULES_OF_THE_DOCUMENT:
         if is_broken(document, keys):
             return rule, None

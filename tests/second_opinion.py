@@ -1,13 +1,15 @@
 #!/usr/bin/env python3
 """Compares the program with tests/model.py on random cases.
 
-    tests/second_opinion.py [--program FILE] [--seed N] [--runs 300] [--texts 2000] [--sweeps 20]
+    tests/second_opinion.py [--program FILE] [--seed N] [--runs 300] [--texts 2000] [--sweeps 20] [--newest V]
 
 The program is the one that ./swimsim has built, or FILE. Of each run the trace and the report are compared
 byte for byte, by 1 to 3 workers and some division; of each text what `check` says of it; of each sweep its
 table and its lines. The seed is made of the sources' SHA-256 unless one is given, so that other cases are
-tried with each change. A comparison that fails is told with its text and its first differing line. The last
-line is `N passed, M failed`, and the status is 1 where M is over 0. It needs Python 3.11.
+tried with each change. Texts are of versions 1 to V of the format; without V to the newest that the program
+takes (NEWEST_TAKEN in tests/scenarios.py). A comparison that fails is told with its text and its first
+differing line. The last line is `N passed, M failed`, and the status is 1 where M is over 0. It needs
+Python 3.11.
 """
 
 import argparse
@@ -21,7 +23,8 @@ from pathlib import Path
 import generate
 import model
 import model_sweeps
-from scenarios import document_of, judge
+import model_text
+from scenarios import NEWEST_TAKEN, document_of, judge
 
 TOP = Path(__file__).resolve().parent.parent
 BUILT = TOP / 'crates' / 'swimsim' / 'out' / 'swimsim'
@@ -81,39 +84,39 @@ def division_of(rng, members):
     return words
 
 
-def try_run(program, folder, seed, number):
+def try_run(program, folder, seed, number, newest):
     """The words of a run, its text, and the first difference or None."""
-    text, _, rng = generate.run_case(seed, number)
+    text, _, rng = generate.run_case(seed, number, newest)
     file, trace, report = folder / 'scenario.toml', folder / 'trace.csv', folder / 'report.txt'
     file.write_bytes(text)
     for output in (trace, report):
         output.write_bytes(b'')
-    _, scenario = judge(document_of(text))
+    _, scenario = judge(document_of(text), newest)
     rows = model.rows_of(scenario)
     options = division_of(rng, len(scenario['members']))
     done = ran([program, 'run', file, '--trace', trace, '--report', report, *options])
     expected = {**outcome(0, f'rows {len(rows)}\n'.encode(), b''),
-                'trace': model.trace_of(scenario, rows).encode(),
-                'report': model.report_of(scenario, rows).encode()}
+                'trace': model_text.trace_of(scenario, rows).encode(),
+                'report': model_text.report_of(scenario, rows).encode()}
     found = {**outcome(*done), 'trace': trace.read_bytes(), 'report': report.read_bytes()}
     return ['run', 'FILE', '--trace', 'T', '--report', 'R', *options], text, compared(expected, found)
 
 
-def try_text(program, folder, seed, number):
+def try_text(program, folder, seed, number, newest):
     """The same of `check` of a text."""
-    text = generate.text_case(seed, number)
+    text = generate.text_case(seed, number, newest)
     file = folder / 'scenario.toml'
     file.write_bytes(text)
-    rule, scenario = judge(document_of(text))
+    rule, scenario = judge(document_of(text), newest)
     expected = outcome(3, b'', f'swimsim: scenario rule {rule}\n'.encode())
     if rule == 0:
         expected = outcome(0, f'members {len(scenario["members"])}\n'.encode(), b'')
     return ['check', 'FILE'], text, compared(expected, outcome(*ran([program, 'check', file])))
 
 
-def try_sweep(program, folder, seed, number):
+def try_sweep(program, folder, seed, number, newest):
     """The same of a sweep's table and lines, or of how it is refused."""
-    text, document, settings, seeds = generate.sweep_case(seed, number)
+    text, document, settings, seeds = generate.sweep_case(seed, number, newest)
     file, table = folder / 'scenario.toml', folder / 'table.csv'
     file.write_bytes(text)
     table.write_bytes(b'')
@@ -121,7 +124,7 @@ def try_sweep(program, folder, seed, number):
     options += ['--seeds', f'{seeds[0]}..{seeds[-1]}'] if seeds else []
     for key, values in settings:
         options += ['--set', f'{key}={",".join(map(model_sweeps.word, values))}']
-    refusal, cases = model_sweeps.swept(document, settings, seeds)
+    refusal, cases = model_sweeps.swept(document, settings, seeds, newest)
     done = ran([program, 'sweep', file, '--table', table, *options])
     expected = {**outcome(0, model_sweeps.cases_text(settings, cases).encode(), b''),
                 'table': model_sweeps.table_of(settings, cases).encode()}
@@ -136,12 +139,12 @@ TRIALS = {'run': try_run, 'text': try_text, 'sweep': try_sweep}
 
 def fault_of(case):
     """What is to be told of a case, or None where the program and the model agree."""
-    program, seed, kind, number = case
+    program, seed, kind, number, newest = case
     with tempfile.TemporaryDirectory() as folder:
-        words, text, difference = TRIALS[kind](program, Path(folder), seed, number)
+        words, text, difference = TRIALS[kind](program, Path(folder), seed, number, newest)
     if difference is None:
         return None
-    again = f'tests/generate.py {seed} {kind} {number}'
+    again = f'tests/generate.py {seed} {kind} {number} {newest}'
     shown = text.decode(errors='backslashreplace')
     return (f'FAILED {kind} {number}: {difference}\nby: swimsim {" ".join(words)}\n'
             f'the text, by {again}:\n{shown}\n')
@@ -154,14 +157,15 @@ def main():
     arguments.add_argument('--runs', type=int, default=300)
     arguments.add_argument('--texts', type=int, default=2000)
     arguments.add_argument('--sweeps', type=int, default=20)
+    arguments.add_argument('--newest', type=int, default=NEWEST_TAKEN)
     options = arguments.parse_args()
     if not options.program.is_file():
         sys.exit(f'{options.program} is not there; ./swimsim builds it')
     seed = seed_of_sources() if options.seed is None else options.seed
-    print(f'seed {seed}')
+    print(f'seed {seed}, versions 1 to {options.newest}')
     counts = {'run': options.runs, 'text': options.texts, 'sweep': options.sweeps}
     program = options.program.resolve()
-    cases = [(program, seed, kind, number) for kind in counts for number in range(counts[kind])]
+    cases = [(program, seed, kind, number, options.newest) for kind in counts for number in range(counts[kind])]
     with ProcessPoolExecutor() as pool:
         faults = [fault for fault in pool.map(fault_of, cases, chunksize=4) if fault]
     print(''.join(faults), end='')

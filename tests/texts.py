@@ -1,14 +1,18 @@
 """Texts of tests/texts that are accepted, with how many members they have, or refused, with their rule; and
-texts that say what another one does, or something else."""
+texts that say what another one does, or something else.
+
+Of a text of a version that the program doesn't take yet (tests/scenarios.py) it is seen how it is refused.
+"""
 
 import json
 
 from program import Case, DATA, Wrong, expect, expect_ran
+from scenarios import NEWEST, NEWEST_TAKEN, document_of, judge, version_of
 
 FOLDER = DATA / 'texts'
 
 # texts of which each byte in turn is replaced by 255
-WHOLE = ('plain.toml', 'every-key.toml', 'every-table.toml', 'version-2.toml')
+WHOLE = ('plain.toml', 'every-key.toml', 'every-table.toml', 'version-2.toml', 'version-3.toml')
 
 
 def ended(answer):
@@ -16,6 +20,14 @@ def ended(answer):
     if answer.startswith('members '):
         return 0, f'{answer}\n'.encode(), b''
     return 3, b'', f'swimsim: scenario {answer}\n'.encode()
+
+
+def rule_until_taken(text):
+    """The rule by which a text of a version that the program doesn't take yet is refused; else None."""
+    document = document_of(text.encode())
+    if document is None or version_of(document, NEWEST) <= NEWEST_TAKEN:
+        return None
+    return judge(document)[0]
 
 
 def check(program, text, answer):
@@ -77,7 +89,10 @@ def cases():
             for old, new, answer in group['cases']:
                 name = f'text {path.stem}, {group["base"]}, {new!r} for {old!r}'
                 text = made(group, old, new)
-                if answer.endswith(' run'):
+                rule = rule_until_taken(text)
+                if rule:
+                    yield Case(f'{name}, not taken yet', check, (text, f'rule {rule}'))
+                elif answer.endswith(' run'):
                     yield Case(name, check_run, (group['base'], text, answer))
                 else:
                     yield Case(name, check, (text, answer))

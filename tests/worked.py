@@ -3,9 +3,11 @@ way."""
 
 import re
 
-from model import report_of, rows_in
+import texts
+from model import rows_of
+from model_text import report_of, rows_in, trace_of
 from program import Case, DATA, Wrong, expect, expect_ran
-from scenarios import document_of, judge
+from scenarios import NEWEST, document_of, judge
 
 FOLDER = DATA / 'worked'
 NUMBERS = (1, 2, 3, 64)
@@ -84,6 +86,16 @@ def check(program, name, text, is_by_all_ways):
     expect_left(name, text, run_in(program, text, ways if is_by_all_ways else ways[:2]))
 
 
+def check_until_taken(program, name, text, rule):
+    """What can be seen of a worked run of a version that the program doesn't take yet: it is refused by this
+    rule, and the model has the run."""
+    texts.check(program, text, f'rule {rule}')
+    _, scenario = judge(document_of(text.encode()), NEWEST)
+    rows = rows_of(scenario)
+    expect('the model, trace', trace_of(scenario, rows).encode(), worked_file(name, 'trace'))
+    expect('the model, report', report_of(scenario, rows).encode(), worked_file(name, 'report'))
+
+
 def text_of(path):
     """The text of a scenario, without the comments before it."""
     return re.sub(r'\A(#.*\n)*', '', path.read_text())
@@ -99,6 +111,10 @@ def cases():
     """Each worked run with each of its seeds, and as a text of version 2."""
     for path in sorted(FOLDER.glob('*.toml')):
         name, text = path.stem, text_of(path)
+        rule = texts.rule_until_taken(text)
+        if rule:
+            yield Case(f'worked run {name}, not taken yet', check_until_taken, (name, text, rule))
+            continue
         for place, seed in enumerate(seeds_of(name) or [7]):
             seeded = text.replace('seed = 7\n', f'seed = {seed}\n')
             yield Case(f'worked run {name}, seed {seed}', check, (name, seeded, place < SEEDS_BY_ALL_WAYS))
