@@ -33,6 +33,7 @@ impl Tallied {
         requires named { NamesMembers scenario.now row.now }
         ensures ok { OnOk result (self.new.tallies ≡ self.old.tallies ++ row.now ∷ []) }
         ensures worn { IsErrOf result Fault.Worn → 2 ^ 63 ≤ length self.old.tallies }
+        ensures full { 2 ^ 63 ≤ length self.old.tallies → IsErrOf result Fault.Worn }
         ensures causes { IfErr result (λ fault. (fault ≢ Fault.Write) × (fault ≢ Fault.Relay)) }
     {
         if self.count >= COUNTER_LIMIT {

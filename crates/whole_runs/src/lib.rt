@@ -5,6 +5,7 @@ mod in_turn;
 mod laws;
 mod sequential;
 mod slices;
+mod streamed;
 mod streaming;
 mod tallying;
 
@@ -14,5 +15,6 @@ pub use laws::{
     the_window_of_all_is_the_run,
 };
 pub use sequential::run_one;
+pub use streamed::run_streamed;
 pub use streaming::stream_run;
 pub use tallying::tally_run;
