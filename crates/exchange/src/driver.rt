@@ -122,10 +122,10 @@ fn turns_by_pool<
     requires worker { G.knows 0 }
     requires windows { AwaitsAll G.awaits }
     requires fresh { pool.old.windows ≡ 0 }
-    requires counts { CountsBatches row_sender.old }
+    requires counts { CountsBatches row_sender.old.batches row_sender.old.seat }
     requires unsent { row_sender.old.batches ≡ 0 }
     ensures open { IsOpen row_sender.new }
-    ensures counts { CountsBatches row_sender.new }
+    ensures counts { CountsBatches row_sender.new.batches row_sender.new.seat }
     ensures few { row_sender.new.batches ≤ 2 ^ 41 }
     ensures relay { row_sender.new.relay ≡ row_sender.old.relay }
     ensures come { ComeTo course.now.scenario.now (rows_so_far row_sender.new) result }
@@ -162,10 +162,10 @@ fn turns_to_horizons<
     requires worker { G.knows 0 }
     requires windows { AwaitsAll G.awaits }
     requires fresh { pool.old.windows ≡ 0 }
-    requires counts { CountsBatches row_sender.old }
+    requires counts { CountsBatches row_sender.old.batches row_sender.old.seat }
     requires unsent { row_sender.old.batches ≡ 0 }
     ensures open { IsOpen row_sender.new }
-    ensures counts { CountsBatches row_sender.new }
+    ensures counts { CountsBatches row_sender.new.batches row_sender.new.seat }
     ensures few { row_sender.new.batches ≤ 2 ^ 41 }
     ensures relay { row_sender.new.relay ≡ row_sender.old.relay }
     ensures come { ComeTo course.now.scenario.now (rows_so_far row_sender.new) result }

@@ -45,7 +45,7 @@ impl<'a, R: Wait> RowSender<'a, R> {
     ) -> Self
         requires seat { MaySend scenario.now relay.now seat }
         ensures open { IsOpen result }
-        ensures counts { CountsBatches result }
+        ensures counts { CountsBatches result.batches result.seat }
         ensures unsent { result.batches ≡ 0 }
         ensures one { result.scenario.now ≡ scenario.now }
         ensures relay { result.relay.now ≡ relay.now }
@@ -65,11 +65,11 @@ impl<'a, R: Wait> RowSender<'a, R> {
     /// Takes the rows of the next turn, and sends what was gathered once that is enough for a batch.
     pub(crate) fn take(&mut self, rows: Vec<Row>) -> Result<(), Fault>
         requires open { IsOpen self.old }
-        requires counts { CountsBatches self.old }
+        requires counts { CountsBatches self.old.batches self.old.seat }
         requires countable { self.old.batches < 2 ^ 63 }
         requires named { All (NamesMembers self.old.scenario.now) rows.items }
         ensures open { IsOpen self.new }
-        ensures counts { CountsBatches self.new }
+        ensures counts { CountsBatches self.new.batches self.new.seat }
         ensures once { self.new.batches ≤ self.old.batches + 1 }
         ensures short { OnOk result (length self.new.rows.items < 4096) }
         ensures ok { OnOk result (rows_so_far self.new ≡ rows_so_far self.old ++ rows.items) }
@@ -87,11 +87,11 @@ impl<'a, R: Wait> RowSender<'a, R> {
     /// Sends the rows that were gathered, of which there are some, as one batch.
     fn send(&mut self) -> Result<(), Fault>
         requires open { IsOpen self.old }
-        requires counts { CountsBatches self.old }
+        requires counts { CountsBatches self.old.batches self.old.seat }
         requires countable { self.old.batches < 2 ^ 63 }
         requires some { self.old.rows.items ≢ [] }
         ensures open { IsOpen self.new }
-        ensures counts { CountsBatches self.new }
+        ensures counts { CountsBatches self.new.batches self.new.seat }
         ensures once { self.new.batches ≤ self.old.batches + 1 }
         ensures sent { OnOk result (rows_in (sent_by self.new.seat) ≡ rows_in (sent_by self.old.seat) ++ self.old.rows.items) }
         ensures none { self.new.rows.items ≡ [] }
@@ -118,7 +118,7 @@ impl<'a, R: Wait> RowSender<'a, R> {
     /// Sends what is left, if the run came to its end, and then the last batch.
     pub(crate) fn close(mut self, outcome: Result<(), Fault>) -> Driven
         requires open { IsOpen self }
-        requires counts { CountsBatches self }
+        requires counts { CountsBatches self.batches self.seat }
         requires countable { self.batches < 2 ^ 62 }
         ensures batches { AreBatches (sent_by result.seat) }
         ensures seat { IsSender self.entry.relay.now result.seat }
@@ -134,10 +134,10 @@ impl<'a, R: Wait> RowSender<'a, R> {
     /// Sends what is left, if the run came to its end and something is.
     fn send_rest(&mut self, outcome: Result<(), Fault>) -> Result<(), Fault>
         requires open { IsOpen self.old }
-        requires counts { CountsBatches self.old }
+        requires counts { CountsBatches self.old.batches self.old.seat }
         requires countable { self.old.batches < 2 ^ 63 }
         ensures open { IsOpen self.new }
-        ensures counts { CountsBatches self.new }
+        ensures counts { CountsBatches self.new.batches self.new.seat }
         ensures once { self.new.batches ≤ self.old.batches + 1 }
         ensures whole { OnOk result (rows_in (sent_by self.new.seat) ≡ rows_in (sent_by self.old.seat) ++ self.old.rows.items) }
         ensures part { OnErr result (sent_by self.new.seat ≡ sent_by self.old.seat) }
@@ -155,7 +155,7 @@ impl<'a, R: Wait> RowSender<'a, R> {
     /// Sends the last batch.
     fn end(mut self, outcome: Result<(), Fault>) -> Driven
         requires open { IsOpen self }
-        requires counts { CountsBatches self }
+        requires counts { CountsBatches self.batches self.seat }
         requires countable { self.batches < 2 ^ 63 }
         ensures batches { AreBatches (sent_by result.seat) }
         ensures seat { IsSender self.entry.relay.now result.seat }

@@ -10,7 +10,7 @@ invariant-loop-from g l = record {
   open_still : IsOpen l.row_sender;
   one : l.row_sender.scenario.now ≡ l.course.scenario.now;
   relay : l.row_sender.relay ≡ l.fn.row_sender.relay;
-  counts : CountsBatches l.row_sender;
+  counts : CountsBatches l.row_sender.batches l.row_sender.seat;
   few : l.row_sender.batches ≤ l.from;
   windows : l.pool.windows ≤ l.from;
   up : l.from ≤ l.last + 1;

@@ -14,8 +14,8 @@ returns-in-Err-hand-clause-beginning g c = (
       (ap (λ v. v.items) c.stopped-in-Err-hand.ensures.tickets ∙ c.in-Ok-push.ensures.items) c.in-Ok-ask.ensures.ticket.1,
 )
 
-pub hand-requires : goal.hand-requires
-hand-requires g c =
+pub hand-requires-clause-belongs : goal.hand-requires-clause-belongs
+hand-requires-clause-belongs g c = λ loans lives.
     let s = c.args.scenario.now in
     let set = g.Q.EventQueue.set in
     let awaits = g.G.Gate.awaits in

@@ -8,15 +8,15 @@ use Rattle.outputs.specs.declared.summary.Summary.{Summary}
 use Rattle.outputs.specs.declared.tallied.Tallied.{Tallied}
 use Rattle.outputs.proofs.Faults.{on_came}
 use Rattle.outputs.specs.Promise.{WearsOutReport}
-use Rattle.whole_runs.proofs.streamed.run_streamed.Goals as goal
+use Rattle.whole_runs.proofs.one_queue.run_streamed.Goals as goal
 
 still_countable : (o : Result Tallied Fault) (old new n : ℕ) → OnOk o (new ≡ old) → old < n → OnOk o (new < n)
 still_countable (Ok x) old new n same few = omega (arith, same, few)
 still_countable (Err e) old new n same few = tt
 
 never : (r : Result Summary Fault) (fault : Fault) → ¬ (IsErrOf r fault) → IfErr r (λ e. e ≢ fault)
-never (Ok x) fault no = tt
-never (Err e) fault no = λ is. no (ap Err is)
+never (Ok x) fault differs = tt
+never (Err e) fault differs = λ is. differs (ap Err is)
 
 pub end_run-requires-clause-named : goal.end_run-requires-clause-named
 end_run-requires-clause-named g c = IfOk-weaker c.stream_run-outcome.result _ _ (λ tallied run. names_run c.args.scenario.now c.end-end.ensures.sound tallied.tallies run) c.stream_run-outcome.ensures.run
