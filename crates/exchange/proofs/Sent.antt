@@ -44,7 +44,7 @@ post_field_send : (β : NamedLft) (T V S P : RattleType) (p : site.Ghosts P.Deno
 post_field_send β T V S P p g s = search (board_sync, seat_send, crosses, sendable) depth 60 fits 20000
 
 pool_field_send : (β α : NamedLft) (Q G P K : RattleType) (g : Ghosts Q.Denot Event) (e : gate.Ghosts G.Denot) (p : site.Ghosts P.Denot) (k : of_scenario.Ghosts K.Denot) → IsSend Q → IsSync G
-    → IsSend (pool.the_field β α Q G P K g e p k).row
+    → IsSend (pool.the_field β α Q G P K g p e k).row
 pool_field_send β α Q G P K g e p k s t = search (post_field_send, task_send, signals_sync, crosses, sendable) depth 60 fits 20000
 
 seat_field_send : IsSend (send_seat.the_field).row
@@ -57,8 +57,8 @@ basis_field_send : (α : NamedLft) → IsSend (basis.the_field α).row
 basis_field_send α = search (scenario_sync, links_sync, division_sync, crosses, sendable) depth 60 fits 20000
 
 pub driver_task_send : (ρ β α : NamedLft) (Q G P K : RattleType) (g : Ghosts Q.Denot Event) (e : gate.Ghosts G.Denot) (p : site.Ghosts P.Denot) (k : of_scenario.Ghosts K.Denot) → IsSend Q → IsSync G
-    → IsSend (task.the_row ρ β α Q G P K g e p k)
+    → IsSend (task.the_row ρ β α Q G P K g p e k)
 driver_task_send ρ β α Q G P K g e p k s t =
-    let all : AllSend (shape (task.the_type ρ β α Q G P K g e p k)).fields =
+    let all : AllSend (shape (task.the_type ρ β α Q G P K g p e k)).fields =
     (Vec-send (part.the_row Q) (part_row_send Q s), (pool_field_send β α Q G P K g e p k s t, (basis_field_send α, (search (relay_sync, sendable), (seat_field_send, tt))))) in
-    declared_send (task.the_type ρ β α Q G P K g e p k) all
+    declared_send (task.the_type ρ β α Q G P K g p e k) all

@@ -109,7 +109,7 @@ fn by_pool<
     A: Sink,
     Q: EventQueue<Event> + Drop + Send,
     G: Gate,
-    K: OfScenario,
+    K: OfScenario + Send + Sync,
     R: Threads + Wait + Sync,
 >(
     rt: &R,
@@ -123,7 +123,7 @@ fn by_pool<
     requires ready { CanBegin Q.set basis parts.items }
     requires countable { A.failed trace.old < 2 ^ 63 }
     requires one { K.scenario ≡ Some basis.scenario.now }
-    requires some { 0 < workers }
+    requires first { G.knows 0 }
     requires known { KnowsAll G.knows workers }
     requires windows { AwaitsAll G.awaits }
     ensures { KeepsTrace basis.entry.scenario.now (A.held trace.old) (A.held trace.new) (A.failed trace.old) (A.failed trace.new) result }
@@ -148,7 +148,7 @@ fn over_board<
     A: Sink,
     Q: EventQueue<Event> + Drop + Send,
     G: Gate,
-    K: OfScenario,
+    K: OfScenario + Send + Sync,
     R: Threads + Wait + Sync,
 >(
     rt: &R,
@@ -169,7 +169,7 @@ fn over_board<
     requires count { length seats.items ≡ whole }
     requires ready { CanBegin Q.set basis parts.items }
     requires board { K.scenario ≡ Some basis.scenario.now }
-    requires some { 0 < workers }
+    requires first { G.knows 0 }
     requires known { KnowsAll G.knows workers }
     requires windows { AwaitsAll G.awaits }
     requires sends { MaySend basis.scenario.now relay sender }
@@ -204,7 +204,7 @@ fn at_board<
     Q: EventQueue<Event> + Drop + Send,
     G: Gate,
     J: Site + Send,
-    K: OfScenario,
+    K: OfScenario + Send + Sync,
     R: Threads + Wait + Sync,
 >(
     rt: &R,
@@ -221,7 +221,7 @@ fn at_board<
 ) -> Result<(Ended, Result<Vec<TaskSeat<'a, Q>>, Memory>), Fault>
     requires here { table_of board.now ≡ J.table }
     requires board { K.scenario ≡ Some basis.scenario.now }
-    requires some { 0 < workers }
+    requires first { G.knows 0 }
     requires known { KnowsAll G.knows workers }
     requires windows { AwaitsAll G.awaits }
     requires all { AreAllSeats board.now seats.items }

@@ -1,7 +1,7 @@
-ghost use Rattle.std.specs.Prelude.{◌≡◌, ◌≢◌, ◌⊎◌, ◌+◌, ◌<◌, ◌≤◌, ◌^◌, ◌++◌, [], length, All, OnOk, OnErr, IfErr, IsOk, IsErrOf};
+ghost use Rattle.std.specs.Prelude.{◌≡◌, ◌≢◌, ◌⊎◌, ◌+◌, ◌<◌, ◌≤◌, ◌^◌, ◌++◌, [], ◌∷◌, false, length, All, OnOk, OnErr, IfErr, IsOk, IsErrOf};
 ghost use Rattle.trace.specs.Text.{NamesMembers};
-ghost use Rattle.relay.specs.Lots.{rows_in, has_last};
-ghost use Rattle.relay.specs.Seats.{sent_by, IsSender};
+ghost use Rattle.relay.specs.Lots.{lot_of, rows_in, has_last};
+ghost use Rattle.relay.specs.Seats.{scenario_of, sent_by, IsSender};
 ghost use Rattle.windows.specs.Play.{IsBeginning};
 ghost use Rattle.exchange.specs.Batches.{AreBatches, CountsBatches};
 ghost use Rattle.exchange.specs.Sending.{rows_so_far, IsOpen, MaySend};
@@ -106,13 +106,9 @@ impl<'a, R: Wait> RowSender<'a, R> {
             rows,
             last: false,
         };
-        match self.relay.send(self.rt, &mut self.seat, batch) {
-            Ok(()) => {
-                self.batches += 1;
-                Ok(())
-            }
-            Err(_) => Err(Fault::Relay),
-        }
+        hand(self.rt, self.relay, &mut self.seat, batch)?;
+        self.batches = number;
+        Ok(())
     }
 
     /// Sends what is left, if the run came to its end, and then the last batch.
@@ -168,7 +164,7 @@ impl<'a, R: Wait> RowSender<'a, R> {
             rows: Vec::new(self.alloc),
             last: true,
         };
-        match self.relay.send(self.rt, &mut self.seat, end) {
+        match hand(self.rt, self.relay, &mut self.seat, end) {
             Ok(()) => Driven {
                 seat: self.seat,
                 outcome,
@@ -178,5 +174,26 @@ impl<'a, R: Wait> RowSender<'a, R> {
                 outcome: lost(outcome),
             },
         }
+    }
+}
+
+/// Sends a batch over the relay from its seat.
+fn hand<R: Wait>(
+    rt: &R,
+    relay: &Relay,
+    seat: &mut SendSeat,
+    batch: Batch,
+) -> Result<(), Fault>
+    requires seat { IsSender relay.now seat.old }
+    requires not_over { has_last (sent_by seat.old) ≡ false }
+    requires named { All (NamesMembers (scenario_of relay.now)) batch.rows.items }
+    ensures seat { IsSender relay.now seat.new }
+    ensures sent { OnOk result (sent_by seat.new ≡ sent_by seat.old ++ lot_of batch ∷ []) }
+    ensures unchanged { OnErr result (sent_by seat.new ≡ sent_by seat.old) }
+    ensures fault { IfErr result (λ fault. fault ≡ Fault.Relay) }
+{
+    match relay.send(rt, seat, batch) {
+        Ok(()) => Ok(()),
+        Err(_) => Err(Fault::Relay),
     }
 }

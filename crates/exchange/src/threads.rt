@@ -40,7 +40,7 @@ pub(crate) fn within<
     Q: EventQueue<Event> + Drop + Send,
     G: Gate,
     J: Site + Send,
-    K: OfScenario,
+    K: OfScenario + Send + Sync,
     R: Threads + Wait + Sync,
 >(
     rt: &R,
@@ -60,7 +60,7 @@ pub(crate) fn within<
     ),
     Fault,
 >
-    requires some { 0 < workers }
+    requires first { G.knows 0 }
     requires known { KnowsAll G.knows workers }
     requires windows { AwaitsAll G.awaits }
     requires board { K.scenario ≡ Some task.basis.scenario.now }
@@ -93,7 +93,7 @@ pub(crate) fn within<
                 × MaySend task.basis.scenario.now task.relay.now task.seat
                 × MayWrite writer (A.failed trace.now)
                 × (task.basis.scenario.now ≡ writer.scenario.now) × (task.relay.now ≡ writer.relay.now)
-                × (0 < workers) × KnowsAll G.knows workers × AwaitsAll G.awaits
+                × G.knows 0 × KnowsAll G.knows workers × AwaitsAll G.awaits
                 × (K.scenario ≡ Some task.basis.scenario.now) × (task.pool.windows ≡ 0) }
             ensures same { result.1.ghost_name ≡ trace.entry.ghost_name }
             ensures ended { IfOk result.0 (λ r. HasEnded writer.entry.scenario.now writer.entry.relay.now
@@ -146,7 +146,7 @@ fn start_workers<
     Q: EventQueue<Event> + Drop + Send + 's,
     G: Gate + 's,
     J: Site + Send + 's,
-    K: OfScenario + 's,
+    K: OfScenario + Send + Sync + 's,
     R: Wait + Sync + 's,
 >(
     scope: &Scope<'s, E>,

@@ -161,7 +161,7 @@ fn drive<'b, 'a, G: Gate, J: Site, K: OfScenario>(
 }
 
 /// The same, with a thread for each worker: the rows, and all posts.
-fn within<'b, 'a, G: Gate, J: Site + Send, K: OfScenario, R: Threads + Wait + Sync>(
+fn within<'b, 'a, G: Gate, J: Site + Send, K: OfScenario + Send + Sync, R: Threads + Wait + Sync>(
     rt: &R,
     alloc: Global,
     workers: usize,
@@ -224,7 +224,7 @@ fn within<'b, 'a, G: Gate, J: Site + Send, K: OfScenario, R: Threads + Wait + Sy
 }
 
 /// The same from the seats: the rows, and all seats.
-fn at_board<'a, G: Gate, J: Site + Send, K: OfScenario, R: Threads + Wait + Sync>(
+fn at_board<'a, G: Gate, J: Site + Send, K: OfScenario + Send + Sync, R: Threads + Wait + Sync>(
     rt: &R,
     alloc: Global,
     workers: usize,
@@ -265,7 +265,7 @@ fn at_board<'a, G: Gate, J: Site + Send, K: OfScenario, R: Threads + Wait + Sync
 }
 
 /// The rows of all windows, by so many workers.
-fn by_workers<'a, G: Gate, K: OfScenario, R: Threads + Wait + Sync>(
+fn by_workers<'a, G: Gate, K: OfScenario + Send + Sync, R: Threads + Wait + Sync>(
     rt: &R,
     alloc: Global,
     workers: usize,

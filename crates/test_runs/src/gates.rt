@@ -82,8 +82,8 @@ impl Book {
 
     /// What went wrong, once the run has ended: 0 where each part was entered once in each window.
     pub(crate) fn wrong(&self) -> u64 {
-        for window in 1..=self.windows() {
-            if !self.is_full(window) {
+        for before in 0..self.windows() {
+            if !self.is_full(before + 1) {
                 self.note(SKIPPED);
             }
         }
@@ -133,8 +133,8 @@ impl Book {
 
     /// Whether each worker has entered the window.
     fn is_met(&self, window: u64) -> bool {
-        for worker in 1..=u64::from(self.workers) {
-            if !self.has(window, worker) {
+        for worker in 0..u64::from(self.workers) {
+            if !self.has(window, worker + 1) {
                 return false;
             }
         }

@@ -8,8 +8,8 @@ returns-in_err-links-clause-trace g c = no_memory c.args.scenario.now (g.A.Sink.
 pub returns-in_err-parts-clause-trace : goal.returns-in_err-parts-clause-trace
 returns-in_err-parts-clause-trace g c = no_memory c.args.scenario.now (g.A.Sink.held c.args.trace.now) (g.A.Sink.failed c.args.trace.now) c.from_residual-in_err-parts.result c.end-end.ensures.sound c.from_residual-in_err-parts.ensures.1
 
-pub by_pool-requires-clause-some : goal.by_pool-requires-clause-some
-by_pool-requires-clause-some g c = λ loans lives. omega (arith, c.count.ensures.at_most_64.0, c.parts.ensures.at_most_64.0)
+pub by_pool-requires-clause-first : goal.by_pool-requires-clause-first
+by_pool-requires-clause-first g c = λ loans lives. c.requires.known 0 (omega (arith, c.count.ensures.value, c.count.ensures.at_most_64.0))
 
 pub by_pool-requires-clause-known : goal.by_pool-requires-clause-known
 by_pool-requires-clause-known g c = λ loans lives. λ worker below. c.requires.known worker (omega (arith, below, c.count.ensures.value))

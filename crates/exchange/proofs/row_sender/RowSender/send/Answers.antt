@@ -3,18 +3,18 @@ use Rattle.exchange.specs.Batches.{AreBatches}
 use Rattle.exchange.proofs.Batching.{count_on, batches_on}
 use Rattle.exchange.proofs.row_sender.RowSender.send.Goals as goal
 
-pub returns-in-Ok-clause-counts : goal.returns-in-Ok-clause-counts
-returns-in-Ok-clause-counts g c =
+pub returns-clause-counts : goal.returns-clause-counts
+returns-clause-counts g c =
     let before = c.requires.counts in
     record {
-      counted = count_on _ _ _ _ before.counted c.in-Ok.ensures.sent;
-      batches = batches_on _ _ _ _ before.counted before.batches c.in-Ok.ensures.sent refl (λ none. absurd (c.requires.some (sym (ap (λ v. v.items) c.replace-rows.ensures.value) ∙ none)));
+      counted = count_on _ _ _ _ before.counted c.in_ok-hand.ensures.sent;
+      batches = batches_on _ _ _ _ before.counted before.batches c.in_ok-hand.ensures.sent refl (λ none. absurd (c.requires.some (sym (ap (λ v. v.items) c.replace-rows.ensures.value) ∙ none)));
     }
 
-pub returns-in-Err-clause-counts : goal.returns-in-Err-clause-counts
-returns-in-Err-clause-counts g c =
+pub returns-in_err-hand-clause-counts : goal.returns-in_err-hand-clause-counts
+returns-in_err-hand-clause-counts g c =
     let before = c.requires.counts in
     record {
-      counted = before.counted ∙ ap length (sym c.in-Err.ensures.unchanged);
-      batches = subst AreBatches (sym c.in-Err.ensures.unchanged) before.batches;
+      counted = before.counted ∙ ap length (sym c.in_err-hand.ensures.unchanged);
+      batches = subst AreBatches (sym c.in_err-hand.ensures.unchanged) before.batches;
     }
