@@ -69,6 +69,11 @@ pub fn simulate<T: Write, R: Write>(
 {
     let mut trace = Put::new(trace);
     let mut report = Put::new(report);
+    // one worker has nobody to share with: windows of parts would only cost time
+    if workers.count() == 1 {
+        let outcome = exchange::run_streamed(alloc, scenario, &mut trace, &mut report);
+        return (trace, report, outcome);
+    }
     let outcome = exchange::run(
         rt,
         alloc,

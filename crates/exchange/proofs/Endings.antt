@@ -21,22 +21,16 @@ use Rattle.outputs.specs.Promise.{BeginsTrace, WearsOutReport}
 use Rattle.outputs.specs.Written.{sink_failures}
 use Rattle.outputs.specs.declared.tallied.Tallied.{Tallied}
 use Rattle.outputs.proofs.Runs.{begins_nothing}
-use Rattle.whole_runs.proofs.Reported.{wears_report}
+use Rattle.outputs.specs.Traced.{KeepsTrace}
+use Rattle.outputs.proofs.Faults.{at_ok, on_came}
+use Rattle.whole_runs.proofs.Reported.{wears_report, lasts_in_report}
 use Rattle.whole_runs.proofs.Streamed.{begins_trace as begins_with_these}
 use Rattle.exchange.specs.declared.driver.Driven.{Driven}
 use Rattle.exchange.specs.declared.threads.Ended.{Ended}
 use Rattle.exchange.specs.Sending.{IsEarly, ComeTo, IsDriven, HasEnded}
-use Rattle.exchange.specs.Traced.{both_of, KeepsTrace}
+use Rattle.exchange.specs.Batches.{AreBatches}
+use Rattle.exchange.specs.Traced.{both_of}
 use Rattle.exchange.proofs.Faults.{memory≢worn, memory≢write, worn≢relay, write≢relay, memory_early, both_ok, one_of, no_write}
-
-at_ok : {T E : Type 0} (P : Type 0) (o : Result T E) → IsOk o → OnOk o P → P
-at_ok P (Ok x) is p = p
-at_ok P (Err e) is p = absurd (false≢true is)
-
--- where only what succeeded so far succeeds, what success gave stays
-on_came : {T E : Type 0} (P : Type 0) (o came : Result T E) → OnOk o (IsOk came) → OnOk came P → OnOk o P
-on_came P (Ok x) came is p = at_ok P came is p
-on_came P (Err e) came is p = tt
 
 on_both : {T E P Q R : Type 0} (o : Result T E) → (P → Q → R) → OnOk o P → OnOk o Q → OnOk o R
 on_both (Ok x) f p q = f p q
@@ -66,10 +60,11 @@ module _ (s : Setup) (sound : IsSound s) (relay : ARelay) (driven : Driven) (all
   caused fault causes is = IfErr-at_err (λ f. IsErrOf came f ⊎ (f ≡ Relay)) is causes
 
   -- the turns gave these rows, and came to this; of the rows the driver has sent what it could
-  pub is_driven : IsSender relay driven.seat → OnOk driven.outcome (rows_in (sent_by driven.seat) ≡ all) → IsBeginning (rows_in (sent_by driven.seat)) all → OnOk driven.outcome (IsOk came)
+  pub is_driven : IsSender relay driven.seat → AreBatches (sent_by driven.seat) → OnOk driven.outcome (rows_in (sent_by driven.seat) ≡ all) → IsBeginning (rows_in (sent_by driven.seat)) all → OnOk driven.outcome (IsOk came)
       → IfErr driven.outcome (λ f. IsErrOf came f ⊎ (f ≡ Relay)) → ComeTo s all came → IsDriven s relay driven
-  is_driven sender whole part ended causes come = record {
+  is_driven sender batches whole part ended causes come = record {
     sender = sender;
+    batches = batches;
     come = record {
       whole = on_both driven.outcome (λ same is. subst (IsRunOf s) (sym same) is) whole (on_came (IsRunOf s all) driven.outcome came ended come.whole);
       begins = begins_with s sound (rows_in (sent_by driven.seat)) all part come.begins;
@@ -89,6 +84,7 @@ unwritten s held failed (Err f) fault sound gives few = record {
   whole = tt;
   part = begins_nothing s held sound;
   lasts = tt;
+  lasts_report = tt;
   worn = λ is. let same : f ≡ Worn = cc in absurd (few.0 (sym gives ∙ same));
   write = λ is. let same : f ≡ Write = cc in absurd (few.1 (sym gives ∙ same));
   unfailed = tt;
@@ -111,6 +107,7 @@ module _ (s : Setup) (held_old held_new : Option (List ℕ)) (failed_old failed_
     whole = tt;
     part = some_trace result kept;
     lasts = tt;
+    lasts_report = tt;
     worn = λ is. let same : fault ≡ Worn = cc in absurd (few.0 same);
     write = λ is. let same : fault ≡ Write = cc in absurd (few.1 same);
     unfailed = tt;
@@ -132,11 +129,14 @@ module _ (s : Setup) (sound : IsSound s) (relay : ARelay) (held_old held_new : O
       let wrote = (both_ok ended.driven.outcome ended.written.outcome done).1 in
       let taken : rows_in (taken_by ended.written.seat) ≡ rows_in (sent_by ended.driven.seat) = ap rows_in (whole (at_ok (has_last (taken_by ended.written.seat) ≡ true) ended.written.outcome wrote is.written.last)) in
       let text = at_ok (Appends held_old held_new (trace_text s (rows_in (taken_by ended.written.seat))) × (ended.written.tallied.tallies ≡ rows_in (taken_by ended.written.seat))) ended.written.outcome wrote is.written.text.whole in
+      let run = subst (IsRunOf s) (sym (text.1 ∙ taken)) (at_ok (IsRunOf s (rows_in (sent_by ended.driven.seat))) ended.driven.outcome drove is.driven.come.whole) in
+      let tallied = ended.written.tallied in
       record {
-        run = subst (IsRunOf s) (sym (text.1 ∙ taken)) (at_ok (IsRunOf s (rows_in (sent_by ended.driven.seat))) ended.driven.outcome drove is.driven.come.whole);
+        run = run;
         whole = subst (λ rows. Appends held_old held_new (trace_text s rows)) (sym text.1) text.0;
         part = tt;
         lasts = at_ok (¬ (WearsOut s)) ended.driven.outcome drove is.driven.come.lasts;
+        lasts_report = lasts_in_report s tallied.tallies sound run (omega (arith, tallied.counted, tallied.within));
         worn = λ is. cc;
         write = λ is. cc;
         unfailed = let none = no_failure ended.written.outcome wrote in let all = is.written.failures in omega (arith, none, all);
@@ -162,6 +162,7 @@ module _ (s : Setup) (sound : IsSound s) (relay : ARelay) (held_old held_new : O
     whole = tt;
     part = begins_with_these s (rows_in (taken_by ended.written.seat)) ended.written.tallied.tallies held_old held_new ended.written.outcome begun is.written.text;
     lasts = tt;
+    lasts_report = tt;
     worn = λ h. let same : fault ≡ Worn = cc in worn_ended (one_of ended.driven.outcome ended.written.outcome Worn (subst (IsErrOf (both_of ended.driven.outcome ended.written.outcome)) same met));
     write = λ h. let same : fault ≡ Write = cc in write_ended (one_of ended.driven.outcome ended.written.outcome Write (subst (IsErrOf (both_of ended.driven.outcome ended.written.outcome)) same met));
     unfailed = tt;

@@ -1,3 +1,4 @@
 mod Faults
 mod Endings
 mod Sent
+mod Batching

@@ -19,6 +19,8 @@ use Rattle.worker_queue.specs.declared.queue.EventQueue.{Ghosts}
 use Rattle.worker_queue.specs.contracts.wheel_queue.WheelQueue as wheel
 use Rattle.windows.specs.contracts.part.Part as part
 use Rattle.workers.specs.contracts.pool.WorkerPool as pool
+use Rattle.workers.specs.declared.gate.Gate as gate
+use Rattle.workers.specs.declared.pieces.OfScenario as of_scenario
 use Rattle.workers.proofs.Sent.{scenario_sync, links_sync, member_send, task_send, board_sync, seat_send, signals_sync}
 use Rattle.relay.specs.contracts.relay.SendSeat as send_seat
 use Rattle.relay.proofs.Sent.{relay_sync}
@@ -41,8 +43,9 @@ declared_send T all = recorded_send (Struct (shape T)) T.D T.to T.to_one (struct
 post_field_send : (β : NamedLft) (T V S P : RattleType) (p : site.Ghosts P.Denot) (g : piece_rule.Ghosts S.Denot T.Denot V.Denot) → IsSend T → IsSend (post.the_field β T V S P p g).row
 post_field_send β T V S P p g s = search (board_sync, seat_send, crosses, sendable) depth 60 fits 20000
 
-pool_field_send : (β α : NamedLft) (Q G P : RattleType) (g : Ghosts Q.Denot Event) (p : site.Ghosts P.Denot) → IsSend Q → IsSync G → IsSend (pool.the_field β α Q G P g p).row
-pool_field_send β α Q G P g p s t = search (post_field_send, task_send, signals_sync, crosses, sendable) depth 60 fits 20000
+pool_field_send : (β α : NamedLft) (Q G P K : RattleType) (g : Ghosts Q.Denot Event) (e : gate.Ghosts G.Denot) (p : site.Ghosts P.Denot) (k : of_scenario.Ghosts K.Denot) → IsSend Q → IsSync G
+    → IsSend (pool.the_field β α Q G P K g p e k).row
+pool_field_send β α Q G P K g e p k s t = search (post_field_send, task_send, signals_sync, crosses, sendable) depth 60 fits 20000
 
 seat_field_send : IsSend (send_seat.the_field).row
 seat_field_send = search (shared_seat.the_send, badge.the_send, crosses, sendable) depth 60
@@ -53,8 +56,9 @@ driven_send = search (seat_field_send, crosses, sendable) depth 60
 basis_field_send : (α : NamedLft) → IsSend (basis.the_field α).row
 basis_field_send α = search (scenario_sync, links_sync, division_sync, crosses, sendable) depth 60 fits 20000
 
-pub driver_task_send : (ρ β α : NamedLft) (Q G P : RattleType) (g : Ghosts Q.Denot Event) (p : site.Ghosts P.Denot) → IsSend Q → IsSync G → IsSend (task.the_row ρ β α Q G P g p)
-driver_task_send ρ β α Q G P g p s t =
-    let all : AllSend (shape (task.the_type ρ β α Q G P g p)).fields =
-    (Vec-send (part.the_row Q) (part_row_send Q s), (pool_field_send β α Q G P g p s t, (basis_field_send α, (search (relay_sync, sendable), (seat_field_send, tt))))) in
-    declared_send (task.the_type ρ β α Q G P g p) all
+pub driver_task_send : (ρ β α : NamedLft) (Q G P K : RattleType) (g : Ghosts Q.Denot Event) (e : gate.Ghosts G.Denot) (p : site.Ghosts P.Denot) (k : of_scenario.Ghosts K.Denot) → IsSend Q → IsSync G
+    → IsSend (task.the_row ρ β α Q G P K g p e k)
+driver_task_send ρ β α Q G P K g e p k s t =
+    let all : AllSend (shape (task.the_type ρ β α Q G P K g p e k)).fields =
+    (Vec-send (part.the_row Q) (part_row_send Q s), (pool_field_send β α Q G P K g e p k s t, (basis_field_send α, (search (relay_sync, sendable), (seat_field_send, tt))))) in
+    declared_send (task.the_type ρ β α Q G P K g p e k) all

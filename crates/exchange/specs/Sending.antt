@@ -12,6 +12,7 @@ use Rattle.member.specs.Opening.{opening}
 use Rattle.member_laws.specs.Runs.{IsRunOf, WearsOut}
 use Rattle.relay.specs.declared.relay.Relay.{Relay}
 use Rattle.relay.specs.declared.relay.SendSeat.{SendSeat}
+use Rattle.relay.specs.declared.relay.TakeSeat.{TakeSeat}
 use Rattle.relay.specs.Lots.{rows_in, has_last}
 use Rattle.relay.specs.Seats.{scenario_of, sent_by, taken_by, IsSender, IsTaker}
 use Rattle.windows.specs.declared.part.Part.{Part}
@@ -25,6 +26,7 @@ use Rattle.exchange.specs.declared.threads.Ended.{Ended}
 use Rattle.exchange.specs.declared.row_sender.RowSender.{RowSender}
 use Rattle.exchange.specs.declared.writer.Writer.{Writer}
 use Rattle.exchange.specs.declared.writer.Written.{Written}
+use Rattle.exchange.specs.Batches.{AreBatches}
 
 -- the rows that the sender of rows has taken: those that it sent, and those that wait for the next batch
 abbrev pub rows_so_far : {R : Type 0} → RowSender R → List Row
@@ -40,6 +42,12 @@ pub record MaySend (s : Setup) (relay : Relay) (seat : SendSeat) : Type 0 where
   pub sender : IsSender relay seat
   pub one : scenario_of relay ≡ s
   pub none : sent_by seat ≡ []
+
+-- the seat is the relay's, which is for this scenario, and nothing was received at it yet
+pub record MayTake (s : Setup) (relay : Relay) (seat : TakeSeat) : Type 0 where
+  pub taker : IsTaker relay seat
+  pub one : scenario_of relay ≡ s
+  pub none : taken_by seat ≡ []
 
 -- the writer takes from the relay, which is for its scenario; nothing was received or tallied yet, and one failure more can be counted
 pub record MayWrite (writer : Writer) (failed : ℕ) : Type 0 where
@@ -69,9 +77,10 @@ pub record ComeTo (s : Setup) (rows : List Row) (outcome : Result (Unit {0}) Fau
   pub worn : IsErrOf outcome fault.Worn → WearsOut s
   pub few : IfErr outcome (λ f. f ≢ fault.Write)
 
--- The driver of the scenario's run has sent its rows over the relay.
+-- The driver of the scenario's run has sent its rows over the relay, in batches.
 pub record IsDriven (s : Setup) (relay : Relay) (driven : Driven) : Type 0 where
   pub sender : IsSender relay driven.seat
+  pub batches : AreBatches (sent_by driven.seat)
   pub come : ComeTo s (rows_in (sent_by driven.seat)) driven.outcome
 
 -- Of what came over the relay the trace was written and tallied, up to the last batch; a failure of the sink was counted where

@@ -1,44 +1,45 @@
 //! A run by threads that live as long as it does: workers run the windows of the parts, a driver deals and
-//! exchanges, and the calling thread writes. One worker alone takes no other thread.
-ghost use Rattle.std.specs.Prelude.{◌≡◌, ◌<◌, ◌^◌, ◌⊎◌, length, IfOk, IfErr, OnErr, IsErrOf};
+//! exchanges, and the calling thread writes. One worker alone is the driver itself.
+ghost use Rattle.std.specs.Prelude.{◌≡◌, ◌<◌, ◌≤◌, ◌^◌, ◌⊎◌, [], length, Some, IfOk, IfErr, OnOk, OnErr, IsErrOf};
 ghost use Rattle.board.specs.Deal.{whole};
 ghost use Rattle.board.specs.Seats.{AreAllSeats};
 ghost use Rattle.board.specs.Sites.{table_of, AreSingleSeats};
 ghost use Rattle.scenario.specs.Setup.{IsSound, member_count};
 ghost use Rattle.member_laws.specs.Runs.{WearsOut};
-ghost use Rattle.exchange.specs.Sending.{CanBegin, MaySend, MayWrite, IsEarly, HasEnded};
-ghost use Rattle.exchange.specs.Traced.{KeepsTrace};
+ghost use Rattle.exchange.specs.Sending.{CanBegin, MaySend, MayTake, MayWrite, IsEarly, HasEnded};
+ghost use Rattle.workers.specs.Gates.{KnowsAll, AwaitsAll};
+ghost use Rattle.exchange.specs.Settled.{TakesAll};
 ghost use Rattle.outputs.specs.Promise.{KeepsPromise, WearsOutReport};
+ghost use Rattle.outputs.specs.Traced.{KeepsTrace};
 
 use crate::basis::Basis;
 use crate::driver::DriverTask;
-use crate::settling::{closed, settled};
+use crate::settling::{closed, no_seats, settled};
 use crate::threads::{Ended, within};
 use crate::writer::Writer;
 use base::{Fault, Memory};
-use board::{Board, Site, posts_at, seats_of};
+use board::{Site, posts_at, seats_of};
 use links::Links;
 use member::Event;
-use outputs::{Summary, Tallied, fault_of, flush, write_tallied};
-use relay::{Relay, SendSeat};
+use outputs::{Summary, Tallied, end_run};
+use relay::{Relay, SendSeat, TakeSeat};
 use scenario::{Division, Scenario, Workers};
 use std::alloc::Global;
 use std::marker::{Brand, Sync};
+use std::snapshot::Snapshot;
 use std::sync::Wait;
 use std::thread::Threads;
 use trace::Sink;
 use turns::open_wheels;
-use whole_runs::stream_run;
 use windows::Part;
-use worker_queue::EventQueue;
-use workers::{Gate, SEATS, Signals, TaskBoard, TaskPost, TaskSeat, WorkerPool};
+use worker_queue::{EventQueue, WheelQueue};
+use workers::{Gate, OfScenario, Signals, TaskBoard, TaskPost, TaskSeat, WorkerPool, open_board};
 
 /// Runs the scenario by the parts of a division of its members: window after window, in each the parts by as
 /// many workers as are asked for, but no more than there are parts. It writes what `run_one` writes, whatever
 /// the division and the number of workers are: the trace, and once that is whole and its sink flushed the
-/// report, whose sink is flushed too. After a fault the sinks have got a beginning of that. Each of several workers
-/// tells the gate of a part before it runs it; one alone is the calling thread, runs the scenario as one part and
-/// tells nobody. The sinks stay on the calling thread. It waits for its threads.
+/// report, whose sink is flushed too. After a fault the sinks have got a beginning of that. Each worker tells the
+/// gate of a part before it runs it. The sinks stay on the calling thread. It waits for its threads.
 ///
 /// Faults: `Memory`; `Worn` where a counter of the run or of the report would pass 2^63; `Write` where a sink
 /// failed; `Relay` where a thread could not be started, or did not hand on what it was given. Of several the
@@ -57,30 +58,23 @@ pub fn run<A: Sink, B: Sink, G: Gate, R: Threads + Wait + Sync>(
     requires countable { A.failed trace.old < 2 ^ 63 }
     requires countable_report { B.failed report.old < 2 ^ 63 }
 
+    // The gate allows for each worker, and for each part in each window.
+    requires known { KnowsAll G.knows workers }
+    requires windows { AwaitsAll G.awaits }
+
     // The sinks get exactly the trace of the scenario's run, and the report on it; after a fault a beginning of that.
     ensures promise { KeepsPromise A.held A.failed B.held B.failed scenario.now trace.old trace.new report.old report.new result }
 
-    // No fault comes without its cause.
+    // No count of its report passes 2^63, and no fault comes without its cause.
+    ensures lasts_report { OnOk result (¬ (WearsOutReport scenario.now)) }
     ensures worn { IsErrOf result Fault.Worn → WearsOut scenario.now ⊎ WearsOutReport scenario.now }
     ensures others { IsErrOf result Fault.Relay → A.failed trace.new ≡ A.failed trace.old }
 {
-    let tallied = match run_into(rt, alloc, scenario, division, workers, gate, trace) {
-        Ok(tallied) => tallied,
-        Err(fault) => return Err(fault),
-    };
-    match flush(trace) {
-        Ok(()) => {}
-        Err(error) => return Err(fault_of(error)),
-    }
-    match write_tallied(alloc, &tallied, scenario, report) {
-        Ok(()) => Ok(Summary {
-            rows: tallied.count,
-        }),
-        Err(error) => Err(fault_of(error)),
-    }
+    let outcome = run_into(rt, alloc, scenario, division, workers, gate, trace);
+    end_run(alloc, outcome, scenario, trace, report)
 }
 
-/// Runs the scenario, by threads where there are several workers, and writes its trace; nothing is flushed yet.
+/// Runs the scenario by threads and writes its trace; nothing is flushed yet.
 fn run_into<A: Sink, G: Gate, R: Threads + Wait + Sync>(
     rt: &R,
     alloc: Global,
@@ -92,13 +86,12 @@ fn run_into<A: Sink, G: Gate, R: Threads + Wait + Sync>(
 ) -> Result<Tallied, Fault>
     requires divides { length division.now.part_of ≡ member_count scenario.now }
     requires countable { A.failed trace.old < 2 ^ 63 }
+    requires known { KnowsAll G.knows workers }
+    requires windows { AwaitsAll G.awaits }
     ensures trace { KeepsTrace scenario.now (A.held trace.old) (A.held trace.new) (A.failed trace.old) (A.failed trace.new) result }
     ensures sound { IsSound scenario.now }
 {
     let _end = scenario.end();
-    if workers.count() == 1 {
-        return stream_run(alloc, scenario, trace);
-    }
     let links = Links::of(alloc, scenario)?;
     let parts = open_wheels(alloc, scenario, division)?;
     let hands = workers.count().min(division.parts());
@@ -107,11 +100,18 @@ fn run_into<A: Sink, G: Gate, R: Threads + Wait + Sync>(
         links: &links,
         division,
     };
-    by_pool(rt, alloc, parts, hands, gate, basis, trace)
+    by_pool::<A, WheelQueue<Event>, G, Brand, R>(rt, alloc, parts, hands, gate, basis, trace)
 }
 
 /// Runs these parts by a pool of so many workers, over a board that is closed at the end, and writes the trace.
-fn by_pool<'a, A: Sink, Q: EventQueue<Event> + Drop + Send, G: Gate, R: Threads + Wait + Sync>(
+fn by_pool<
+    'a,
+    A: Sink,
+    Q: EventQueue<Event> + Drop + Send,
+    G: Gate,
+    K: OfScenario + Send + Sync,
+    R: Threads + Wait + Sync,
+>(
     rt: &R,
     alloc: Global,
     parts: Vec<Part<Q>>,
@@ -122,26 +122,77 @@ fn by_pool<'a, A: Sink, Q: EventQueue<Event> + Drop + Send, G: Gate, R: Threads 
 ) -> Result<Tallied, Fault>
     requires ready { CanBegin Q.set basis parts.items }
     requires countable { A.failed trace.old < 2 ^ 63 }
+    requires one { K.scenario ≡ Some basis.scenario.now }
+    requires first { G.knows 0 }
+    requires known { KnowsAll G.knows workers }
+    requires windows { AwaitsAll G.awaits }
     ensures { KeepsTrace basis.entry.scenario.now (A.held trace.old) (A.held trace.new) (A.failed trace.old) (A.failed trace.new) result }
 {
     let tallied = Tallied::new(alloc)?;
     let (relay, sender, taker) = Relay::new(alloc, basis.scenario)?;
-    let (board, seats): (TaskBoard<'a, Q>, Vec<TaskSeat<'a, Q>>) = Board::new(
+    let (board, seats): (TaskBoard<'a, Q, G, K>, Vec<TaskSeat<'a, Q>>) = open_board(
         alloc,
+        basis.scenario,
         basis.division.parts(),
-        SEATS,
     )?;
+    let (outcome, _settled) = over_board(
+        rt, alloc, board, seats, parts, workers, gate, basis, relay, sender, taker, tallied, trace,
+    );
+    outcome
+}
+
+/// Runs them so over this board, and closes it and the relay: what came, and the board's seats as they were at the end.
+/// Where all went well every part that was dealt was taken, as often, and no other.
+fn over_board<
+    'a,
+    A: Sink,
+    Q: EventQueue<Event> + Drop + Send,
+    G: Gate,
+    K: OfScenario + Send + Sync,
+    R: Threads + Wait + Sync,
+>(
+    rt: &R,
+    alloc: Global,
+    board: TaskBoard<'a, Q, G, K>,
+    seats: Vec<TaskSeat<'a, Q>>,
+    parts: Vec<Part<Q>>,
+    workers: usize,
+    gate: &G,
+    basis: Basis<'a>,
+    relay: Relay,
+    sender: SendSeat,
+    taker: TakeSeat,
+    tallied: Tallied,
+    trace: &mut A,
+) -> (Result<Tallied, Fault>, Snapshot<Vec<TaskSeat<'a, Q>>>)
+    requires all { AreAllSeats board seats.items }
+    requires count { length seats.items ≡ whole }
+    requires ready { CanBegin Q.set basis parts.items }
+    requires board { K.scenario ≡ Some basis.scenario.now }
+    requires first { G.knows 0 }
+    requires known { KnowsAll G.knows workers }
+    requires windows { AwaitsAll G.awaits }
+    requires sends { MaySend basis.scenario.now relay sender }
+    requires takes { MayTake basis.scenario.now relay taker }
+    requires none_tallied { tallied.tallies ≡ [] }
+    requires countable { A.failed trace.old < 2 ^ 63 }
+    ensures trace { KeepsTrace basis.entry.scenario.now (A.held trace.old) (A.held trace.new) (A.failed trace.old) (A.failed trace.new) result.0 }
+    ensures settled { OnOk result.0 (TakesAll board.entry result.1.value.items) }
+{
     let writer = Writer {
         relay: &relay,
         scenario: basis.scenario,
         seat: taker,
         tallied,
     };
-    let (ended, seats) = at_board::<A, Q, G, Brand, R>(
+    let (ended, seats) = match at_board::<A, Q, G, Brand, K, R>(
         rt, alloc, &board, seats, parts, workers, gate, basis, sender, writer, trace,
-    )?;
+    ) {
+        Ok(pair) => pair,
+        Err(fault) => return (Err(fault), no_seats(alloc)),
+    };
     let so_far = settled(relay, ended);
-    closed(rt, board, seats, so_far)
+    closed(rt, alloc, board, seats, so_far)
 }
 
 /// The same over this board, with a post at each of its seats: what the threads leave once they have ended, and the
@@ -153,11 +204,12 @@ fn at_board<
     Q: EventQueue<Event> + Drop + Send,
     G: Gate,
     J: Site + Send,
+    K: OfScenario + Send + Sync,
     R: Threads + Wait + Sync,
 >(
     rt: &R,
     alloc: Global,
-    board: &TaskBoard<'a, Q>,
+    board: &TaskBoard<'a, Q, G, K>,
     seats: Vec<TaskSeat<'a, Q>>,
     parts: Vec<Part<Q>>,
     workers: usize,
@@ -168,6 +220,10 @@ fn at_board<
     trace: &mut A,
 ) -> Result<(Ended, Result<Vec<TaskSeat<'a, Q>>, Memory>), Fault>
     requires here { table_of board.now ≡ J.table }
+    requires board { K.scenario ≡ Some basis.scenario.now }
+    requires first { G.knows 0 }
+    requires known { KnowsAll G.knows workers }
+    requires windows { AwaitsAll G.awaits }
     requires all { AreAllSeats board.now seats.items }
     requires count { length seats.items ≡ whole }
     requires ready { CanBegin Q.set basis parts.items }
@@ -180,7 +236,7 @@ fn at_board<
     ensures fault { IfErr result IsEarly }
 {
     let signals = Signals::new();
-    let mut posts: Vec<TaskPost<Q, J>> = posts_at(alloc, board, seats)?;
+    let mut posts: Vec<TaskPost<Q, G, J, K>> = posts_at(alloc, board, seats)?;
     let Some(own) = posts.pop() else {
         return Err(Fault::Relay);
     };
@@ -198,11 +254,11 @@ fn at_board<
 }
 
 /// The seats of these posts and of one more.
-fn seats_back<'b, 'a, Q: EventQueue<Event> + Drop, J: Site>(
+fn seats_back<'b, 'a, Q: EventQueue<Event> + Drop, G: Gate, J: Site, K: OfScenario>(
     alloc: Global,
-    board: &TaskBoard<'a, Q>,
-    one: TaskPost<'b, 'a, Q, J>,
-    others: Result<Vec<TaskPost<'b, 'a, Q, J>>, Memory>,
+    board: &TaskBoard<'a, Q, G, K>,
+    one: TaskPost<'b, 'a, Q, G, J, K>,
+    others: Result<Vec<TaskPost<'b, 'a, Q, G, J, K>>, Memory>,
 ) -> Result<Vec<TaskSeat<'a, Q>>, Memory>
     requires { table_of board.now ≡ J.table }
     ensures { IfOk result (λ seats. AreSingleSeats board.now seats.items) }

@@ -1,8 +1,10 @@
-ghost use Rattle.std.specs.Prelude.{◌≡◌, []};
+ghost use Rattle.std.specs.Prelude.{◌≡◌, ◌≤◌, ◌^◌, [], Some};
 ghost use Rattle.member.specs.Opening.{opening};
 ghost use Rattle.turns.specs.Bounds.{AreHorizonsOf};
 ghost use Rattle.turns.specs.Course.{IsCourse};
 ghost use Rattle.turns.specs.Parts.{StandFor};
+ghost use Rattle.exchange.specs.Batches.{CountsBatches};
+ghost use Rattle.workers.specs.Gates.{AwaitsAll};
 ghost use Rattle.exchange.specs.Sending.{rows_so_far, CanBegin, IsOpen, MaySend, ComeTo, IsDriven};
 
 use crate::basis::Basis;
@@ -21,7 +23,7 @@ use std::thread::{Promise, Threads};
 use turns::{Course, Slice, Turned, bounded_by_horizons, course_of, exchanged, first_moment};
 use windows::Part;
 use worker_queue::EventQueue;
-use workers::{Gate, TaskPost, WorkerPool};
+use workers::{Gate, OfScenario, TaskPost, WorkerPool};
 
 /// What the driver of a run gives back.
 #[derive(Drop)]
@@ -36,7 +38,9 @@ pub(crate) struct Driven {
 #[derive(Drop)]
 pub(crate) struct Drives(pub(crate) Snapshot<Scenario>, pub(crate) Snapshot<Relay>);
 
-impl<'b, 'a, Q: EventQueue<Event>, J: Site> Promise<(Driven, TaskPost<'b, 'a, Q, J>)> for Drives {
+impl<'b, 'a, Q: EventQueue<Event>, G: Gate, J: Site, K: OfScenario> Promise<
+    (Driven, TaskPost<'b, 'a, Q, G, J, K>),
+> for Drives {
     ghost use Rattle.exchange.specs.Sending.{IsDriven};
 
     ghost kept_by = { λ promise given. IsDriven promise.0.value promise.1.value given.0 };
@@ -44,10 +48,10 @@ impl<'b, 'a, Q: EventQueue<Event>, J: Site> Promise<(Driven, TaskPost<'b, 'a, Q,
 
 /// What the driver of a run takes with it.
 #[derive(Drop)]
-pub(crate) struct DriverTask<'r, 'b, 'a, Q: EventQueue<Event>, G, J: Site> {
+pub(crate) struct DriverTask<'r, 'b, 'a, Q: EventQueue<Event>, G: Gate, J: Site, K: OfScenario> {
     /// The parts in which the run begins.
     pub(crate) parts: Vec<Part<Q>>,
-    pub(crate) pool: WorkerPool<'b, 'a, Q, G, J>,
+    pub(crate) pool: WorkerPool<'b, 'a, Q, G, J, K>,
     pub(crate) basis: Basis<'a>,
     pub(crate) relay: &'r Relay,
     pub(crate) seat: SendSeat,
@@ -62,9 +66,18 @@ pub(crate) fn drive<
     Q: EventQueue<Event> + Drop,
     G: Gate,
     J: Site,
+    K: OfScenario,
     R: Threads + Wait + Sync,
->(rt: &R, alloc: Global, task: DriverTask<'r, 'b, 'a, Q, G, J>) -> (Driven, TaskPost<'b, 'a, Q, J>)
+>(
+    rt: &R,
+    alloc: Global,
+    task: DriverTask<'r, 'b, 'a, Q, G, J, K>,
+) -> (Driven, TaskPost<'b, 'a, Q, G, J, K>)
     requires ready { CanBegin Q.set task.basis task.parts.items }
+    requires board { K.scenario ≡ Some task.basis.scenario.now }
+    requires worker { G.knows 0 }
+    requires windows { AwaitsAll G.awaits }
+    requires fresh { task.pool.windows ≡ 0 }
     requires seat { MaySend task.basis.scenario.now task.relay.now task.seat }
     ensures { IsDriven task.entry.basis.scenario.now task.entry.relay.now result.0 }
 {
@@ -84,11 +97,19 @@ pub(crate) fn drive<
 
 /// Runs the parts in which a run begins, turn after turn, by the pool, and hands the rows of each turn to
 /// the sender of rows.
-fn turns_by_pool<'b, 'a, Q: EventQueue<Event> + Drop, G: Gate, J: Site, R: Threads + Wait + Sync>(
+fn turns_by_pool<
+    'b,
+    'a,
+    Q: EventQueue<Event> + Drop,
+    G: Gate,
+    J: Site,
+    K: OfScenario,
+    R: Threads + Wait + Sync,
+>(
     rt: &R,
     alloc: Global,
     parts: Vec<Part<Q>>,
-    pool: &mut WorkerPool<'b, 'a, Q, G, J>,
+    pool: &mut WorkerPool<'b, 'a, Q, G, J, K>,
     row_sender: &mut RowSender<R>,
     course: &Course<'a>,
 ) -> Result<(), Fault>
@@ -97,7 +118,15 @@ fn turns_by_pool<'b, 'a, Q: EventQueue<Event> + Drop, G: Gate, J: Site, R: Threa
     requires open { IsOpen row_sender.old }
     requires one { row_sender.old.scenario.now ≡ course.now.scenario.now }
     requires none_yet { rows_so_far row_sender.old ≡ [] }
+    requires board { K.scenario ≡ Some course.now.scenario.now }
+    requires worker { G.knows 0 }
+    requires windows { AwaitsAll G.awaits }
+    requires fresh { pool.old.windows ≡ 0 }
+    requires counts { CountsBatches row_sender.old.batches row_sender.old.seat }
+    requires unsent { row_sender.old.batches ≡ 0 }
     ensures open { IsOpen row_sender.new }
+    ensures counts { CountsBatches row_sender.new.batches row_sender.new.seat }
+    ensures few { row_sender.new.batches ≤ 2 ^ 41 }
     ensures relay { row_sender.new.relay ≡ row_sender.old.relay }
     ensures come { ComeTo course.now.scenario.now (rows_so_far row_sender.new) result }
 {
@@ -112,12 +141,13 @@ fn turns_to_horizons<
     Q: EventQueue<Event> + Drop,
     G: Gate,
     J: Site,
+    K: OfScenario,
     R: Threads + Wait + Sync,
 >(
     rt: &R,
     alloc: Global,
     mut parts: Vec<Part<Q>>,
-    pool: &mut WorkerPool<'b, 'a, Q, G, J>,
+    pool: &mut WorkerPool<'b, 'a, Q, G, J, K>,
     row_sender: &mut RowSender<R>,
     horizons: &Horizons,
     course: &Course<'a>,
@@ -128,7 +158,15 @@ fn turns_to_horizons<
     requires open { IsOpen row_sender.old }
     requires one { row_sender.old.scenario.now ≡ course.now.scenario.now }
     requires none_yet { rows_so_far row_sender.old ≡ [] }
+    requires board { K.scenario ≡ Some course.now.scenario.now }
+    requires worker { G.knows 0 }
+    requires windows { AwaitsAll G.awaits }
+    requires fresh { pool.old.windows ≡ 0 }
+    requires counts { CountsBatches row_sender.old.batches row_sender.old.seat }
+    requires unsent { row_sender.old.batches ≡ 0 }
     ensures open { IsOpen row_sender.new }
+    ensures counts { CountsBatches row_sender.new.batches row_sender.new.seat }
+    ensures few { row_sender.new.batches ≤ 2 ^ 41 }
     ensures relay { row_sender.new.relay ≡ row_sender.old.relay }
     ensures come { ComeTo course.now.scenario.now (rows_so_far row_sender.new) result }
 {
@@ -136,15 +174,13 @@ fn turns_to_horizons<
     let mut slice = Slice::new();
     let last = course.end.ticks();
     let mut from = 0;
-    let mut window = 0u64;
     while from <= last {
         let Some(first) = first_moment(&parts, course.end) else {
             return Ok(());
         };
         let limit = slice.end(first);
         let bounded = bounded_by_horizons(alloc, parts, first, limit, horizons, course)?;
-        window = window.saturating_add(1);
-        let done = pool.run_windows(rt, alloc, bounded, window, course.scenario, course.links)?;
+        let done = pool.run_windows(rt, alloc, bounded, course.scenario, course.links)?;
         let turned = exchanged(rt, alloc, done, kept, course.division)?;
         let Turned {
             parts: after,

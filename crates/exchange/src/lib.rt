@@ -12,7 +12,7 @@ mod writer;
 pub use by_workers::run;
 pub use outputs::Summary;
 pub use whole_runs::{
-    a_run_exists, events_are_new, keys_rise, rows_rise, run_in_turn, run_one, tally_run,
-    the_first_version_is_kept, the_run_is_one, the_window_of_all_is_the_run,
+    a_run_exists, events_are_new, keys_rise, rows_rise, run_in_turn, run_one, run_streamed,
+    tally_run, the_first_version_is_kept, the_run_is_one, the_window_of_all_is_the_run,
 };
 pub use workers::{Gate, OpenGate};

@@ -1,7 +1,8 @@
 //! What a run by threads comes to once they have ended.
-ghost use Rattle.std.specs.Prelude.{◌≡◌, IfOk};
+ghost use Rattle.std.specs.Prelude.{◌≡◌, IfOk, OnOk};
 ghost use Rattle.board.specs.Sites.{AreSingleSeats};
 ghost use Rattle.relay.specs.Seats.{IsSender, IsTaker};
+ghost use Rattle.exchange.specs.Settled.{TakesAll};
 ghost use Rattle.exchange.specs.Traced.{both_of, Settles, StillKeeps};
 
 use crate::threads::Ended;
@@ -9,9 +10,11 @@ use base::{Fault, Memory};
 use member::Event;
 use outputs::Tallied;
 use relay::{Relay, close};
+use std::alloc::Global;
+use std::snapshot::Snapshot;
 use std::sync::Wait;
 use worker_queue::EventQueue;
-use workers::{TaskBoard, TaskSeat, close_board, first_of};
+use workers::{Gate, OfScenario, TaskBoard, TaskSeat, close_board, first_of};
 
 /// Closes the relay, over which the rows came that were written: what came of both sides of the run.
 pub(crate) fn settled(relay: Relay, ended: Ended) -> Result<Tallied, Fault>
@@ -40,25 +43,34 @@ fn both_of(driven: Result<(), Fault>, written: Result<(), Fault>) -> Result<(), 
     }
 }
 
-/// Closes the board, where all came to its end and the seats are back.
-pub(crate) fn closed<'a, Q: EventQueue<Event> + Drop>(
+/// What is known of the seats where they did not come back.
+pub(crate) fn no_seats<T: Drop>(alloc: Global) -> Snapshot<Vec<T>> {
+    let none = Vec::new(alloc);
+    Snapshot::of(&none)
+}
+
+/// Closes the board, where all came to its end and the seats are back: what came, and the seats as they were then.
+pub(crate) fn closed<'a, Q: EventQueue<Event> + Drop, G: Gate, K: OfScenario>(
     rt: &impl Wait,
-    board: TaskBoard<'a, Q>,
+    alloc: Global,
+    board: TaskBoard<'a, Q, G, K>,
     seats: Result<Vec<TaskSeat<'a, Q>>, Memory>,
     so_far: Result<Tallied, Fault>,
-) -> Result<Tallied, Fault>
+) -> (Result<Tallied, Fault>, Snapshot<Vec<TaskSeat<'a, Q>>>)
     requires { IfOk seats (λ seats. AreSingleSeats board seats.items) }
-    ensures { StillKeeps so_far result }
+    ensures keeps { StillKeeps so_far result.0 }
+    ensures settled { OnOk result.0 (TakesAll board.entry result.1.value.items) }
 {
     let Ok(seats) = seats else {
-        return Err(Fault::Memory);
+        return (Err(Fault::Memory), no_seats(alloc));
     };
+    let ended = Snapshot::of(&seats);
     let tallied = match so_far {
         Ok(tallied) => tallied,
-        Err(fault) => return Err(fault),
+        Err(fault) => return (Err(fault), ended),
     };
     match close_board(rt, board, seats) {
-        Ok(()) => Ok(tallied),
-        Err(_) => Err(Fault::Relay),
+        Ok(()) => (Ok(tallied), ended),
+        Err(_) => (Err(Fault::Relay), ended),
     }
 }

@@ -1,6 +1,7 @@
 //! The threads of a run, from their start to their end.
-ghost use Rattle.std.specs.Prelude.{◌≡◌, IfOk, OnErr, IfErr};
+ghost use Rattle.std.specs.Prelude.{◌≡◌, ◌<◌, ◌≤◌, Some, IfOk, OnErr, IfErr};
 ghost use Rattle.std.specs.Thread.{IsSync, IsSend};
+ghost use Rattle.workers.specs.Gates.{KnowsAll, AwaitsAll};
 ghost use Rattle.exchange.specs.Sending.{CanBegin, MaySend, MayWrite, IsEarly, IsDriven, HasEnded};
 
 use crate::driver::{Driven, DriverTask, Drives, drive};
@@ -16,7 +17,7 @@ use std::thread;
 use std::thread::{JoinHandle, Scope, Threads};
 use trace::Sink;
 use worker_queue::EventQueue;
-use workers::{Gate, Signals, TaskPost, work};
+use workers::{Gate, OfScenario, Signals, TaskPost, work};
 
 /// What the threads of a run leave once they have ended.
 #[derive(Drop)]
@@ -39,25 +40,31 @@ pub(crate) fn within<
     Q: EventQueue<Event> + Drop + Send,
     G: Gate,
     J: Site + Send,
+    K: OfScenario + Send + Sync,
     R: Threads + Wait + Sync,
 >(
     rt: &R,
     alloc: Global,
     workers: usize,
-    mut posts: Vec<TaskPost<'b, 'a, Q, J>>,
+    mut posts: Vec<TaskPost<'b, 'a, Q, G, J, K>>,
     signals: &Signals,
     gate: &G,
-    task: DriverTask<'r, 'b, 'a, Q, G, J>,
+    task: DriverTask<'r, 'b, 'a, Q, G, J, K>,
     writer: Writer<'r>,
     trace: &mut A,
 ) -> Result<
     (
         Ended,
-        TaskPost<'b, 'a, Q, J>,
-        Result<Vec<TaskPost<'b, 'a, Q, J>>, Memory>,
+        TaskPost<'b, 'a, Q, G, J, K>,
+        Result<Vec<TaskPost<'b, 'a, Q, G, J, K>>, Memory>,
     ),
     Fault,
 >
+    requires first { G.knows 0 }
+    requires known { KnowsAll G.knows workers }
+    requires windows { AwaitsAll G.awaits }
+    requires board { K.scenario ≡ Some task.basis.scenario.now }
+    requires fresh { task.pool.windows ≡ 0 }
     requires ready { CanBegin Q.set task.basis task.parts.items }
     requires sends { MaySend task.basis.scenario.now task.relay.now task.seat }
     requires writes { MayWrite writer (A.failed trace.old) }
@@ -71,33 +78,43 @@ pub(crate) fn within<
         thread::scope_env(),
         rt,
         move |scope| -> (
-            Result<(Ended, TaskPost<Q, J>, Result<Vec<TaskPost<Q, J>>, Memory>), Fault>,
+            Result<
+                (
+                    Ended,
+                    TaskPost<Q, G, J, K>,
+                    Result<Vec<TaskPost<Q, G, J, K>>, Memory>,
+                ),
+                Fault,
+            >,
             &mut A,
         )
             requires { IsSync R.row × IsSync G.row × IsSend Q.row
                 × CanBegin Q.set task.basis task.parts.items
                 × MaySend task.basis.scenario.now task.relay.now task.seat
                 × MayWrite writer (A.failed trace.now)
-                × (task.basis.scenario.now ≡ writer.scenario.now) × (task.relay.now ≡ writer.relay.now) }
+                × (task.basis.scenario.now ≡ writer.scenario.now) × (task.relay.now ≡ writer.relay.now)
+                × G.knows 0 × KnowsAll G.knows workers × AwaitsAll G.awaits
+                × (K.scenario ≡ Some task.basis.scenario.now) × (task.pool.windows ≡ 0) }
             ensures same { result.1.ghost_name ≡ trace.entry.ghost_name }
             ensures ended { IfOk result.0 (λ r. HasEnded writer.entry.scenario.now writer.entry.relay.now
                 (A.held trace.entry.now) (A.held result.1.now) (A.failed trace.entry.now) (A.failed result.1.now) r.0) }
             ensures unwritten { OnErr result.0 (result.1.now ≡ trace.entry.now) }
             ensures fault { IfErr result.0 IsEarly }
         {
-            let started = if workers == 1 { 0 } else { workers };
             let threads = match start_workers(
-                scope, rt, alloc, &mut posts, signals, gate, started,
+                scope, rt, alloc, &mut posts, signals, gate, workers,
             ) {
                 Ok(threads) => threads,
                 Err(fault) => return (Err(fault), trace),
             };
             let driver = scope.spawn_with(
                 Drives(Snapshot::of(task.basis.scenario), Snapshot::of(task.relay)),
-                move || -> (Driven, TaskPost<Q, J>)
+                move || -> (Driven, TaskPost<Q, G, J, K>)
                     requires { IsSync R.row
                         × CanBegin Q.set task.basis task.parts.items
-                        × MaySend task.basis.scenario.now task.relay.now task.seat }
+                        × MaySend task.basis.scenario.now task.relay.now task.seat
+                        × (K.scenario ≡ Some task.basis.scenario.now) × G.knows 0 × AwaitsAll G.awaits
+                        × (task.pool.windows ≡ 0) }
                     ensures { IsDriven task.entry.basis.scenario.now task.entry.relay.now result.0 }
                 { drive(rt, alloc, task) },
             );
@@ -113,7 +130,14 @@ pub(crate) fn within<
     ended
 }
 
-/// Starts so many workers, each at one of the posts.
+/// How many threads so many workers are: one alone is the driver.
+fn thread_count(workers: usize) -> usize
+    ensures { result ≤ workers }
+{
+    if workers == 1 { 0 } else { workers }
+}
+
+/// Starts the threads of so many workers, each at one of the posts, and by numbers from 0.
 fn start_workers<
     's,
     'b: 's,
@@ -122,18 +146,21 @@ fn start_workers<
     Q: EventQueue<Event> + Drop + Send + 's,
     G: Gate + 's,
     J: Site + Send + 's,
+    K: OfScenario + Send + Sync + 's,
     R: Wait + Sync + 's,
 >(
     scope: &Scope<'s, E>,
     rt: &'s R,
     alloc: Global,
-    posts: &mut Vec<TaskPost<'b, 'a, Q, J>>,
+    posts: &mut Vec<TaskPost<'b, 'a, Q, G, J, K>>,
     signals: &'s Signals,
     gate: &'s G,
-    count: usize,
-) -> Result<Vec<JoinHandle<TaskPost<'b, 'a, Q, J>>>, Fault>
+    workers: usize,
+) -> Result<Vec<JoinHandle<TaskPost<'b, 'a, Q, G, J, K>>>, Fault>
+    requires known { KnowsAll G.knows workers }
     ensures { IfErr result IsEarly }
 {
+    let count = thread_count(workers);
     let Ok(mut threads) = Vec::with_capacity(alloc, count) else {
         return Err(Fault::Memory);
     };
@@ -141,7 +168,12 @@ fn start_workers<
         let Some(post) = posts.pop() else {
             return Err(Fault::Relay);
         };
-        let Ok(thread) = scope.spawn(move || work(rt, alloc, post, signals, gate, worker)) else {
+        let thread = scope.spawn(
+            move || -> TaskPost<Q, G, J, K>
+                requires { G.knows worker }
+            { work(rt, alloc, post, signals, gate, worker) },
+        );
+        let Ok(thread) = thread else {
             return Err(Fault::Relay);
         };
         match threads.push(thread) {
@@ -153,11 +185,11 @@ fn start_workers<
 }
 
 /// These posts, and those of the threads once they have ended.
-fn gather<'b, 'a, Q: EventQueue<Event> + Drop, J: Site>(
+fn gather<'b, 'a, Q: EventQueue<Event> + Drop, G: Gate, J: Site, K: OfScenario>(
     rt: &impl Threads,
-    mut threads: Vec<JoinHandle<TaskPost<'b, 'a, Q, J>>>,
-    mut posts: Vec<TaskPost<'b, 'a, Q, J>>,
-) -> Result<Vec<TaskPost<'b, 'a, Q, J>>, Memory> {
+    mut threads: Vec<JoinHandle<TaskPost<'b, 'a, Q, G, J, K>>>,
+    mut posts: Vec<TaskPost<'b, 'a, Q, G, J, K>>,
+) -> Result<Vec<TaskPost<'b, 'a, Q, G, J, K>>, Memory> {
     while let Some(thread) = threads.pop() {
         posts.push(thread.join(rt))?;
     }

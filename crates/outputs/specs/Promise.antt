@@ -1,5 +1,5 @@
 -- What a run writes, and how far it has come.
-use Rattle.std.specs.Prelude.{◌≡◌, ◌≢◌, ℕ, ◌⊎◌, List, ◌^◌, ◌<◌, ◌≤◌, Option, Result, length, IfOk, IfErr, OnOk, OnErr, IsErrOf}
+use Rattle.std.specs.Prelude.{◌≡◌, ◌≢◌, ℕ, ◌⊎◌, List, ◌^◌, ◌<◌, Option, Result, length, IfOk, IfErr, OnOk, OnErr, IsErrOf}
 use Rattle.std.specs.Io.KnownBytes.{Appends, Keeps}
 use Rattle.base.specs.declared.fault.Fault.{Fault}
 use Rattle.base.specs.declared.fault.Fault.TheVariants as fault
@@ -52,4 +52,4 @@ pub record BeginsTrace (s : Setup) (trace_old trace_new : Option (List ℕ)) : T
 pub record WearsOutReport (s : Setup) : Type 0 where
   pub rows : List Row
   pub run : IsRunOf s rows
-  pub many : 2 ^ 63 ≤ length rows
+  pub many : 2 ^ 63 < length rows

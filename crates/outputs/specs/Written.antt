@@ -1,5 +1,5 @@
 -- What was written of a trace as its rows came.
-use Rattle.std.specs.Prelude.{◌≡◌, ℕ, ◌≤◌, ◌^◌, List, length, Option, Result, Ok, Err, OnOk, OnErr, IsErrOf}
+use Rattle.std.specs.Prelude.{◌≡◌, ℕ, ◌<◌, ◌^◌, List, length, Option, Result, Ok, Err, OnOk, OnErr, IsErrOf}
 use Rattle.std.specs.Io.KnownBytes.{Appends}
 use Rattle.base.specs.declared.fault.Fault.{Fault}
 use Rattle.base.specs.declared.fault.Fault.TheVariants as fault
@@ -17,8 +17,8 @@ sink_failures (Err fault.Write) = 1
 sink_failures (Err fault.Relay) = 0
 
 -- The trace of these rows was written, and they were tallied; or after a fault a beginning of it was. The report's counts
--- are full only where there are so many rows.
+-- would pass their limit only where there are so many rows.
 pub record HasWritten {T : Type 0} (s : Setup) (rows : List Row) (held_old held_new : Option (List ℕ)) (tallied : List Row) (outcome : Result T Fault) : Type 0 where
   pub whole : OnOk outcome (Appends held_old held_new (trace_text s rows) × (tallied ≡ rows))
   pub part : OnErr outcome (AppendsBeginning held_old held_new (trace_text s rows))
-  pub worn : IsErrOf outcome fault.Worn → 2 ^ 63 ≤ length rows
+  pub worn : IsErrOf outcome fault.Worn → 2 ^ 63 < length rows

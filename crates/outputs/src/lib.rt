@@ -1,11 +1,13 @@
 //! What a run writes, on its way into the sinks: its trace, and the report on that.
 #![tactic(auto)]
 
+mod ending;
 mod summary;
 mod taking;
 mod tallied;
 mod writing;
 
+pub use ending::end_run;
 pub use summary::Summary;
 pub use taking::{TakeRows, TalliedAlone, Written};
 pub use tallied::Tallied;

@@ -35,7 +35,8 @@ pub trait TakeRows<P> {
         ensures whole { OnOk result (Appends (held place.old) (held place.new) (rows_text scenario.now rows.now)) }
         ensures tallied { OnOk result (tallied.new.tallies ≡ tallied.old.tallies ++ rows.now) }
         ensures part { OnErr result (AppendsBeginning (held place.old) (held place.new) (rows_text scenario.now rows.now)) }
-        ensures worn { IsErrOf result Fault.Worn → 2 ^ 63 ≤ length (tallied.old.tallies ++ rows.now) }
+        ensures lasts { OnOk result (length tallied.new.tallies ≤ 2 ^ 63) }
+        ensures worn { IsErrOf result Fault.Worn → 2 ^ 63 < length (tallied.old.tallies ++ rows.now) }
         ensures failures { failed place.new ≡ failed place.old + sink_failures result }
         ensures relay { IfErr result (λ fault. fault ≢ Fault.Relay) };
 }

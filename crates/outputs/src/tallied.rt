@@ -1,4 +1,4 @@
-ghost use Rattle.std.specs.Prelude.{◌≡◌, ◌≢◌, ◌≤◌, ◌++◌, ◌∷◌, [], ◌^◌, length, IfOk, OnOk, IfErr, IsErrOf, All};
+ghost use Rattle.std.specs.Prelude.{◌≡◌, ◌≢◌, ◌≤◌, ◌<◌, ◌++◌, ◌∷◌, [], ◌^◌, length, IfOk, OnOk, IfErr, IsErrOf, All};
 ghost use Rattle.trace.specs.Text.{NamesMembers};
 
 use base::limits::COUNTER_LIMIT;
@@ -16,6 +16,7 @@ pub struct Tallied {
     /// How many rows these are.
     pub count: u64,
     ghost counted: { count ≡ length tallies },
+    ghost within: { count ≤ 2 ^ 63 },
 }
 
 impl Tallied {
@@ -32,6 +33,7 @@ impl Tallied {
         requires named { NamesMembers scenario.now row.now }
         ensures ok { OnOk result (self.new.tallies ≡ self.old.tallies ++ row.now ∷ []) }
         ensures worn { IsErrOf result Fault.Worn → 2 ^ 63 ≤ length self.old.tallies }
+        ensures full { 2 ^ 63 ≤ length self.old.tallies → IsErrOf result Fault.Worn }
         ensures causes { IfErr result (λ fault. (fault ≢ Fault.Write) × (fault ≢ Fault.Relay)) }
     {
         if self.count >= COUNTER_LIMIT {
@@ -50,7 +52,8 @@ impl Tallied {
     pub fn add_all(&mut self, rows: &[Row], scenario: &Scenario) -> Result<(), Fault>
         requires named { All (NamesMembers scenario.now) rows.now }
         ensures ok { OnOk result (self.new.tallies ≡ self.old.tallies ++ rows.now) }
-        ensures worn { IsErrOf result Fault.Worn → 2 ^ 63 ≤ length (self.old.tallies ++ rows.now) }
+        ensures lasts { OnOk result (length self.new.tallies ≤ 2 ^ 63) }
+        ensures worn { IsErrOf result Fault.Worn → 2 ^ 63 < length (self.old.tallies ++ rows.now) }
         ensures causes { IfErr result (λ fault. (fault ≢ Fault.Write) × (fault ≢ Fault.Relay)) }
     {
         for row in rows {

@@ -13,12 +13,12 @@ const HEAD: &str = "version = 1
 seed = 7
 end = 0
 swim = { period = 1000, timeout = 300 }
-link = { delay = 50 }
 ";
 
 /// Three sites of one member each: from the first to the third it is farther straight than by the
 /// second.
-const SITES: &str = "[[group]]
+const SITES: &str = "link = { delay = 50 }
+[[group]]
 name = \"a\"
 count = 1
 [[group]]
@@ -43,7 +43,8 @@ delay = 20
 
 /// Two sites of two members each, with one way faster than the other, and the fastest within a
 /// site.
-const PAIRS: &str = "[[group]]
+const PAIRS: &str = "link = { delay = 50 }
+[[group]]
 name = \"a\"
 count = 2
 [[group]]
@@ -63,8 +64,30 @@ to = \"a\"
 delay = 1
 ";
 
+/// Three sites of one member each, of which the first reaches the second fast, and the second the third.
+const CHAIN: &str = "link = { delay = 100 }
+[[group]]
+name = \"a\"
+count = 1
+[[group]]
+name = \"b\"
+count = 1
+[[group]]
+name = \"c\"
+count = 1
+[[path]]
+from = \"a\"
+to = \"b\"
+delay = 10
+[[path]]
+from = \"b\"
+to = \"c\"
+delay = 10
+";
+
 /// A site of 64 members.
-const MANY: &str = "[[group]]
+const MANY: &str = "link = { delay = 50 }
+[[group]]
 name = \"n\"
 count = 64
 ";
@@ -79,6 +102,12 @@ struct Divided {
 
 const BY_SITES: Divided = Divided {
     text: SITES,
+    parts: 3,
+    part_of: &[0, 1, 2],
+};
+
+const IN_CHAIN: Divided = Divided {
+    text: CHAIN,
     parts: 3,
     part_of: &[0, 1, 2],
 };
@@ -117,7 +146,21 @@ const ALONE: Divided = Divided {
 };
 
 /// A division, and of two of its parts the length of the least walk from the one to the other.
-const WALKS: [(Divided, &[(usize, usize, Option<u64>)]); 6] = [
+const WALKS: [(Divided, &[(usize, usize, Option<u64>)]); 7] = [
+    (
+        IN_CHAIN,
+        &[
+            (0, 0, Some(110)),
+            (0, 1, Some(10)),
+            (0, 2, Some(20)),
+            (1, 0, Some(100)),
+            (1, 1, Some(110)),
+            (1, 2, Some(10)),
+            (2, 0, Some(100)),
+            (2, 1, Some(100)),
+            (2, 2, Some(110)),
+        ],
+    ),
     (
         BY_SITES,
         &[
@@ -167,6 +210,14 @@ const BOUNDS: [(usize, [Option<u64>; 3], u64, u64); 10] = [
     (0, [Some(5), None, None], 64, 65),
     (0, [Some(5), None, None], 63, 64),
     (1, [Some(u64::MAX), None, None], 1 << 40, (1 << 40) + 1),
+];
+
+/// The same of the chain: nothing pends in the second part, which all the same lies on the way from the first to the
+/// third.
+const BOUNDS_OF_CHAIN: [(usize, [Option<u64>; 3], u64, u64); 3] = [
+    (0, [Some(50), None, Some(500)], 1000, 160),
+    (1, [Some(50), None, Some(500)], 1000, 60),
+    (2, [Some(50), None, Some(500)], 1000, 70),
 ];
 
 /// The moment after so many ticks, where there is one.
@@ -221,16 +272,26 @@ fn walks_are_least(rt: HostRuntime) {
     }
 }
 
+/// Asserts the bound of a part of three, given the least pending moment of each and the end.
+fn assert_bound(rt: &impl Abort, made: &Horizons, case: &(usize, [Option<u64>; 3], u64, u64)) {
+    let (part, leasts, end, wanted) = case;
+    let leasts = [moment(leasts[0]), moment(leasts[1]), moment(leasts[2])];
+    assert!(rt; made.parts() == 3);
+    assert!(rt; *part < 3);
+    assert!(rt; *end <= 1 << 40);
+    let bound = made.bound(*part, &leasts, Moment(*end));
+    assert_eq!(rt; bound.ticks(), *wanted, "of {part}");
+}
+
 #[test]
 fn bounds_are_least_arrivals(rt: HostRuntime) {
     let made = horizons_of(rt.alloc(), &rt, SITES, 3, &[0, 1, 2]);
-    for (part, leasts, end, wanted) in &BOUNDS {
-        let leasts = [moment(leasts[0]), moment(leasts[1]), moment(leasts[2])];
-        assert!(rt; made.parts() == 3);
-        assert!(rt; *part < 3);
-        assert!(rt; *end <= 1 << 40);
-        let bound = made.bound(*part, &leasts, Moment(*end));
-        assert_eq!(rt; bound.ticks(), *wanted, "of {part}");
+    for case in &BOUNDS {
+        assert_bound(&rt, &made, case);
+    }
+    let made = horizons_of(rt.alloc(), &rt, CHAIN, 3, &[0, 1, 2]);
+    for case in &BOUNDS_OF_CHAIN {
+        assert_bound(&rt, &made, case);
     }
 }
 

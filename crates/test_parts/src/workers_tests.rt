@@ -1,5 +1,5 @@
 //! Two parts, of which one has all members and the other nobody, by one worker and by several.
-ghost use Rattle.std.specs.Prelude.{◌≡◌, ◌+◌, ◌≤◌, length, IfOk};
+ghost use Rattle.std.specs.Prelude.{◌≡◌, ◌+◌, ◌<◌, ◌≤◌, ℕ, ⊤, Some, length, IfOk};
 ghost use Rattle.std.specs.List.{AllByRecursion};
 ghost use Rattle.std.specs.Thread.{IsSync};
 ghost use Rattle.board.specs.Deal.{whole};
@@ -11,7 +11,7 @@ ghost use Rattle.windows.specs.WorldOf.{world_of};
 ghost use Rattle.windows.specs.Window.{IsConsistentPart};
 
 use base::{Fault, Memory, Moment};
-use board::{Board, Site, posts_at, seats_of};
+use board::{Site, posts_at, seats_of};
 use links::Links;
 use member::Event;
 use scenario::Scenario;
@@ -28,7 +28,8 @@ use trace::Row;
 use windows::{Bounded, Done, Part};
 use worker_queue::TreeQueue;
 use workers::{
-    Gate, OpenGate, SEATS, Signals, TaskBoard, TaskPost, TaskSeat, WorkerPool, close_board, work,
+    Gate, OfScenario, OpenGate, Signals, TaskBoard, TaskPost, TaskSeat, WorkerPool, close_board,
+    first_of, open_board, work,
 };
 
 const TWO_MEMBERS: &str = "version = 1
@@ -127,14 +128,18 @@ fn add_rows(all: Vec<Done<TreeQueue<Event>>>, rows: &mut Vec<Row>) -> Result<(),
 }
 
 /// The rows of each window, in the order of the parts.
-fn drive<'b, 'a, G: Gate, J: Site>(
+fn drive<'b, 'a, G: Gate, J: Site, K: OfScenario>(
     rt: &impl Wait,
     alloc: Global,
-    pool: &mut WorkerPool<'b, 'a, TreeQueue<Event>, G, J>,
+    pool: &mut WorkerPool<'b, 'a, TreeQueue<Event>, G, J, K>,
     scenario: &'a Scenario,
     links: &'a Links,
 ) -> Result<Vec<Row>, Fault>
-    requires { AreLinksOf links.now scenario.now }
+    requires fits { AreLinksOf links.now scenario.now }
+    requires one { K.scenario ≡ Some scenario.now }
+    requires first { G.knows 0 }
+    requires told { (window part : ℕ) → 1 ≤ window → G.awaits window part }
+    requires fresh { pool.old.windows ≡ 0 }
 {
     let mut rows = Vec::new(alloc);
     for window in 0..WINDOWS {
@@ -143,7 +148,7 @@ fn drive<'b, 'a, G: Gate, J: Site>(
             Ok(parts) => parts,
             Err(Memory) => return Err(Fault::Memory),
         };
-        let done = match pool.run_windows(rt, alloc, parts, window + 1, scenario, links) {
+        let done = match pool.run_windows(rt, alloc, parts, scenario, links) {
             Ok(done) => done,
             Err(fault) => return Err(fault),
         };
@@ -156,32 +161,42 @@ fn drive<'b, 'a, G: Gate, J: Site>(
 }
 
 /// The same, with a thread for each worker: the rows, and all posts.
-fn within<'b, 'a, G: Gate, J: Site + Send, R: Threads + Wait + Sync>(
+fn within<'b, 'a, G: Gate, J: Site + Send, K: OfScenario + Send + Sync, R: Threads + Wait + Sync>(
     rt: &R,
     alloc: Global,
     workers: usize,
-    mut posts: Vec<TaskPost<'b, 'a, TreeQueue<Event>, J>>,
-    mut pool: WorkerPool<'b, 'a, TreeQueue<Event>, G, J>,
+    mut posts: Vec<TaskPost<'b, 'a, TreeQueue<Event>, G, J, K>>,
+    mut pool: WorkerPool<'b, 'a, TreeQueue<Event>, G, J, K>,
     signals: &Signals,
     gate: &G,
     scenario: &'a Scenario,
     links: &'a Links,
-) -> Result<(Vec<Row>, Vec<TaskPost<'b, 'a, TreeQueue<Event>, J>>), Fault>
-    requires { AreLinksOf links.now scenario.now }
+) -> Result<(Vec<Row>, Vec<TaskPost<'b, 'a, TreeQueue<Event>, G, J, K>>), Fault>
+    requires fits { AreLinksOf links.now scenario.now }
+    requires one { K.scenario ≡ Some scenario.now }
+    requires known { (worker : ℕ) → G.knows worker }
+    requires told { (window part : ℕ) → 1 ≤ window → G.awaits window part }
+    requires fresh { pool.windows ≡ 0 }
 {
     thread::scope(
         thread::scope_env(),
         rt,
-        move |scope| -> Result<(Vec<Row>, Vec<TaskPost<TreeQueue<Event>, J>>), Fault>
-            requires { IsSync R.row × IsSync G.row × AreLinksOf links.now scenario.now }
+        move |scope| -> Result<(Vec<Row>, Vec<TaskPost<TreeQueue<Event>, G, J, K>>), Fault>
+            requires { IsSync R.row × IsSync G.row × AreLinksOf links.now scenario.now
+                × (K.scenario ≡ Some scenario.now) × ((worker : ℕ) → G.knows worker)
+                × ((window part : ℕ) → 1 ≤ window → G.awaits window part) × (pool.windows ≡ 0) }
         {
             let mut threads = Vec::new(alloc);
             for worker in 0..workers {
                 let Some(post) = posts.pop() else {
                     return Err(Fault::Relay);
                 };
-                let Ok(thread) = scope.spawn(move || work(rt, alloc, post, signals, gate, worker))
-                else {
+                let thread = scope.spawn(
+                    move || -> TaskPost<TreeQueue<Event>, G, J, K>
+                        requires { G.knows worker }
+                    { work(rt, alloc, post, signals, gate, worker) },
+                );
+                let Ok(thread) = thread else {
                     return Err(Fault::Relay);
                 };
                 match threads.push(thread) {
@@ -209,24 +224,27 @@ fn within<'b, 'a, G: Gate, J: Site + Send, R: Threads + Wait + Sync>(
 }
 
 /// The same from the seats: the rows, and all seats.
-fn at_board<'a, G: Gate, J: Site + Send, R: Threads + Wait + Sync>(
+fn at_board<'a, G: Gate, J: Site + Send, K: OfScenario + Send + Sync, R: Threads + Wait + Sync>(
     rt: &R,
     alloc: Global,
     workers: usize,
-    board: &TaskBoard<'a, TreeQueue<Event>>,
+    board: &TaskBoard<'a, TreeQueue<Event>, G, K>,
     seats: Vec<TaskSeat<'a, TreeQueue<Event>>>,
     gate: &G,
     scenario: &'a Scenario,
     links: &'a Links,
 ) -> Result<(Vec<Row>, Vec<TaskSeat<'a, TreeQueue<Event>>>), Fault>
     requires fits { AreLinksOf links.now scenario.now }
+    requires one { K.scenario ≡ Some scenario.now }
+    requires known { (worker : ℕ) → G.knows worker }
+    requires told { (window part : ℕ) → 1 ≤ window → G.awaits window part }
     requires here { table_of board.now ≡ J.table }
     requires all { AreAllSeats board.now seats.items }
     requires count { length seats.items ≡ whole }
     ensures { IfOk result (λ r. AreSingleSeats board.now r.1.items) }
 {
     let signals = Signals::new();
-    let mut posts: Vec<TaskPost<TreeQueue<Event>, J>> = match posts_at(alloc, board, seats) {
+    let mut posts: Vec<TaskPost<TreeQueue<Event>, G, J, K>> = match posts_at(alloc, board, seats) {
         Ok(posts) => posts,
         Err(Memory) => return Err(Fault::Memory),
     };
@@ -247,7 +265,7 @@ fn at_board<'a, G: Gate, J: Site + Send, R: Threads + Wait + Sync>(
 }
 
 /// The rows of all windows, by so many workers.
-fn by_workers<'a, G: Gate, R: Threads + Wait + Sync>(
+fn by_workers<'a, G: Gate, K: OfScenario + Send + Sync, R: Threads + Wait + Sync>(
     rt: &R,
     alloc: Global,
     workers: usize,
@@ -255,16 +273,19 @@ fn by_workers<'a, G: Gate, R: Threads + Wait + Sync>(
     scenario: &'a Scenario,
     links: &'a Links,
 ) -> Result<Vec<Row>, Fault>
-    requires { AreLinksOf links.now scenario.now }
+    requires fits { AreLinksOf links.now scenario.now }
+    requires one { K.scenario ≡ Some scenario.now }
+    requires known { (worker : ℕ) → G.knows worker }
+    requires told { (window part : ℕ) → 1 ≤ window → G.awaits window part }
 {
     let (board, seats): (
-        TaskBoard<'a, TreeQueue<Event>>,
+        TaskBoard<'a, TreeQueue<Event>, G, K>,
         Vec<TaskSeat<'a, TreeQueue<Event>>>,
-    ) = match Board::new(alloc, 2, SEATS) {
+    ) = match open_board(alloc, scenario, 2) {
         Ok(pair) => pair,
         Err(Memory) => return Err(Fault::Memory),
     };
-    let (rows, seats) = match at_board::<G, Brand, R>(
+    let (rows, seats) = match at_board::<G, Brand, K, R>(
         rt, alloc, workers, &board, seats, gate, scenario, links,
     ) {
         Ok(pair) => pair,
@@ -314,6 +335,10 @@ struct Counter {
 }
 
 impl Gate for Counter {
+    ghost knows = { λ _. ⊤ };
+
+    ghost awaits = { λ _ _. ⊤ };
+
     fn enter(&self, worker: usize, window: u64, part: usize) {
         if worker >= self.workers {
             self.strangers.fetch_add(1, Ordering::SeqCst);
@@ -355,7 +380,7 @@ fn counted<R: Abort + Threads + Wait + Sync>(
         strangers: AtomicU64::new(0),
         workers,
     };
-    let rows = by_workers(rt, alloc, workers, &gate, scenario, links);
+    let rows = by_workers::<Counter, Brand, R>(rt, alloc, workers, &gate, scenario, links);
     for cell in &gate.entered[2..] {
         assert_eq!(rt; cell.load(Ordering::SeqCst), 1);
     }
@@ -384,7 +409,9 @@ fn an_open_gate_lets_all_pass(rt: HostRuntime) -> Result<(), Fail> {
     let alloc = rt.alloc();
     let scenario = scenario_of(&rt, alloc);
     let links = links_of(&rt, alloc, &scenario);
-    let rows = by_workers(&rt, alloc, 2, &OpenGate, &scenario, &links)?;
+    let rows = by_workers::<OpenGate, Brand, HostRuntime>(
+        &rt, alloc, 2, &OpenGate, &scenario, &links,
+    )?;
     assert_eq!(rt; rows.len(), 12);
     Ok(())
 }
@@ -402,6 +429,10 @@ struct Meeting {
 }
 
 impl Gate for Meeting {
+    ghost knows = { λ _. ⊤ };
+
+    ghost awaits = { λ _ _. ⊤ };
+
     fn enter(&self, _worker: usize, window: u64, _part: usize) {
         if window > WINDOWS {
             return;
@@ -427,8 +458,21 @@ fn two_workers_meet_in_every_window(rt: HostRuntime) -> Result<(), Fail> {
         entered: eight(),
         alone: AtomicU64::new(0),
     };
-    let rows = by_workers(&rt, alloc, 2, &gate, &scenario, &links)?;
+    let rows = by_workers::<Meeting, Brand, HostRuntime>(&rt, alloc, 2, &gate, &scenario, &links)?;
     assert_eq!(rt; rows.len(), 12);
     assert_eq!(rt; gate.alone.load(Ordering::SeqCst), 0);
     Ok(())
+}
+
+/// The faults, from the one that is answered first.
+const IN_ORDER: [Fault; 4] = [Fault::Memory, Fault::Worn, Fault::Write, Fault::Relay];
+
+#[test]
+fn of_two_faults_the_first_in_order_is_answered(rt: HostRuntime) {
+    for (place, one) in IN_ORDER.iter().enumerate() {
+        for (other_place, other) in IN_ORDER.iter().enumerate() {
+            let least = if other_place < place { *other } else { *one };
+            assert!(rt; first_of(*one, *other) == least);
+        }
+    }
 }

@@ -8,6 +8,8 @@ mod case_figures_tests;
 #[cfg(test)]
 mod figures_tests;
 #[cfg(test)]
+mod gates;
+#[cfg(test)]
 mod horizons_tests;
 #[cfg(test)]
 mod links_tests;

@@ -1,4 +1,4 @@
-//! Every way in which a trace's sink fails, and in which a run is refused.
+//! Every way in which a sink of a run fails, by each way to run, and in which a run is refused.
 
 use crate::texts::{CRASH_DETECTED, JOIN, LARGEST_MOMENTS};
 use crate::ways::{Way, run_by, ways};
@@ -88,6 +88,65 @@ fn the_trace_is_flushed(rt: HostRuntime) {
         let (outcome, sink) = run_into(&rt, *way, CRASH_DETECTED.scenario, sink);
         assert_eq!(rt; outcome, Err(Fault::Write));
         assert_eq!(rt; sink.bytes(), CRASH_DETECTED.trace.as_bytes());
+    }
+}
+
+/// Runs the crash with this sink of the report, asserts that the trace is whole and that the report's sink got a beginning
+/// of the report, and gives it.
+fn assert_report_begins(
+    rt: &(impl Abort + AllocGlobal + Threads + Wait + Sync),
+    way: Way,
+    sink: MemorySink,
+) -> MemorySink {
+    let scenario = match read(rt.alloc(), CRASH_DETECTED.scenario.as_bytes()) {
+        Ok(scenario) => scenario,
+        Err(_) => panic!(rt; "the text is no scenario"),
+    };
+    let mut trace = MemorySink::new(rt.alloc());
+    let mut report = sink;
+    let outcome = run_by(rt, way, &scenario, &mut trace, &mut report);
+    assert_eq!(rt; outcome, Err(Fault::Write));
+    assert_eq!(rt; trace.bytes(), CRASH_DETECTED.trace.as_bytes());
+    assert!(rt; CRASH_DETECTED.report.as_bytes().starts_with(report.bytes()));
+    report
+}
+
+#[test]
+fn each_put_of_the_report_that_fails_leaves_a_beginning(rt: HostRuntime) {
+    for place in 0..CRASH_DETECTED.report.len() {
+        for way in ways() {
+            let failing = MemorySink::new(rt.alloc())
+                .with_short_puts()
+                .failing_at_put(place as u64 + 1);
+            let sink = assert_report_begins(&rt, *way, failing);
+            assert_eq!(rt; sink.puts(), place as u64 + 1);
+        }
+    }
+}
+
+/// Where a byte of the report has no room the put fails, or answers that it took none.
+#[test]
+fn each_byte_of_the_report_that_has_no_room_leaves_the_bytes_before_it(rt: HostRuntime) {
+    for bytes in 0..CRASH_DETECTED.report.len() {
+        for way in ways() {
+            let failing = MemorySink::new(rt.alloc()).failing_after(bytes);
+            let sink = assert_report_begins(&rt, *way, failing);
+            assert_eq!(rt; sink.bytes().len(), bytes);
+            let full = MemorySink::new(rt.alloc())
+                .failing_after(bytes)
+                .answering_zero();
+            let sink = assert_report_begins(&rt, *way, full);
+            assert_eq!(rt; sink.bytes().len(), bytes);
+        }
+    }
+}
+
+#[test]
+fn the_report_is_flushed(rt: HostRuntime) {
+    for way in ways() {
+        let failing = MemorySink::new(rt.alloc()).failing_at_flush();
+        let sink = assert_report_begins(&rt, *way, failing);
+        assert_eq!(rt; sink.bytes(), CRASH_DETECTED.report.as_bytes());
     }
 }
 

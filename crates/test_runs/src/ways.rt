@@ -1,7 +1,7 @@
 //! The ways in which tests run a scenario: as one, by parts in turn, and by workers.
 
 use base::{Fault, Memory};
-use exchange::{Summary, run, run_in_turn, run_one};
+use exchange::{Summary, run, run_in_turn, run_one, run_streamed};
 use scenario::{Division, Scenario, Workers};
 use std::marker::Sync;
 use std::process::Abort;
@@ -69,6 +69,8 @@ fn dealt_by_site(
 pub(crate) enum Way {
     /// By `run_one`.
     AsOne,
+    /// By `run_streamed`.
+    Streamed,
     /// By so many parts, one after another.
     InTurn(u8),
     /// By so many parts, and so many workers.
@@ -77,16 +79,17 @@ pub(crate) enum Way {
     BySite(u8, u8),
 }
 
-const WAYS: [Way; 6] = [
+const WAYS: [Way; 7] = [
     Way::AsOne,
+    Way::Streamed,
     Way::InTurn(1),
     Way::InTurn(2),
     Way::InTurn(64),
     Way::ByWorkers(2, 1),
-    Way::ByWorkers(2, 2),
+    Way::ByWorkers(3, 2),
 ];
 
-/// The ways in which tests of whole runs and of failing sinks run their scenarios; one worker alone writes as it goes.
+/// The ways in which tests of whole runs and of failing sinks run their scenarios.
 pub(crate) fn ways<'a>() -> &'a [Way] {
     &WAYS
 }
@@ -98,7 +101,7 @@ fn division_of(
     scenario: &Scenario,
 ) -> Result<Division, Memory> {
     match way {
-        Way::AsOne => dealt(rt, scenario, 1),
+        Way::AsOne | Way::Streamed => dealt(rt, scenario, 1),
         Way::InTurn(parts) | Way::ByWorkers(parts, _) => dealt(rt, scenario, parts),
         Way::BySite(deal, _) => dealt_by_site(rt, scenario, deal),
     }
@@ -121,6 +124,7 @@ pub(crate) fn run_by(
     let alloc = rt.alloc();
     match way {
         Way::AsOne => run_one(alloc, scenario, trace, report),
+        Way::Streamed => run_streamed(alloc, scenario, trace, report),
         Way::InTurn(_) => run_in_turn(rt, alloc, scenario, &division, trace, report),
         Way::ByWorkers(_, workers) | Way::BySite(_, workers) => {
             let workers = Workers::new(usize::from(workers)).expect(rt, "workers");

@@ -1,99 +1,93 @@
-//! Runs by threads: two workers meet at a gate in each window, so they run at once; and a trace of many batches.
+//! Runs by threads: the workers meet at a gate in each window, so they run at once, and each part is entered once in
+//! each window; and a trace of many batches.
 
-use crate::texts::CRASH_DETECTED;
-use crate::ways::{Way, assert_writes, dealt, run_by};
+use crate::gates::{Book, run_told};
+use crate::texts::{CRASH_DETECTED, JOIN, Worked};
+use crate::ways::{Way, assert_writes, run_by};
 use base::Fault;
-use exchange::{Summary, run};
-use scenario::Workers;
 use scenario_reader::read;
 use std::marker::Sync;
 use std::process::Abort;
 use std::sync::Wait;
-use std::sync::atomic::{AtomicU64, Ordering};
 use std::test::Fail;
-use std::thread;
 use std::thread::Threads;
 use trace::Sink;
 use trace::testing::MemorySink;
-use workers::Gate;
 
-/// How often who waits at the gate looks whether the others are there.
-const LOOKS: u64 = 10_000_000;
-
-/// A gate that holds each worker until both parts have entered it in the window, so that one thread alone
-/// waits in vain.
-#[derive(Drop)]
-struct Meeting {
-    /// How often a part has entered, in all windows.
-    entered: AtomicU64,
-    /// How often one waited in vain.
-    alone: AtomicU64,
-}
-
-impl Gate for Meeting {
-    fn enter(&self, _worker: usize, window: u64, _part: usize) {
-        self.entered.fetch_add(1, Ordering::SeqCst);
-        let awaited = window.saturating_mul(2);
-        for _ in 0..LOOKS {
-            let entered = self.entered.load(Ordering::SeqCst);
-            if entered >= awaited || self.alone.load(Ordering::SeqCst) > 0 {
-                return;
-            }
-            thread::yield_now();
-        }
-        self.alone.fetch_add(1, Ordering::SeqCst);
-    }
-}
-
-/// Runs the scenario by two parts and two workers, who meet at this gate.
-fn run_meeting(
+/// Runs the worked run by as many parts and workers as the gate is for, asserts that it writes the trace, and that each
+/// part was entered once in each window, and gives the number of windows.
+fn assert_entered(
     rt: &(impl Abort + AllocGlobal + Threads + Wait + Sync),
-    gate: &Meeting,
-    text: &str,
-    trace: &mut MemorySink,
-    report: &mut MemorySink,
-) -> Result<Summary, Fault> {
-    let Ok(scenario) = read(rt.alloc(), text.as_bytes()) else {
-        return Err(Fault::Memory);
-    };
-    let Ok(division) = dealt(rt, &scenario, 2) else {
-        return Err(Fault::Memory);
-    };
-    assert_eq!(rt; division.members(), scenario.members());
-    assert!(rt; trace.failures() < 1 << 62);
-    assert!(rt; report.failures() < 1 << 62);
-    let workers = Workers::new(2).expect(rt, "workers");
-    run(
-        rt,
-        rt.alloc(),
-        &scenario,
-        &division,
-        workers,
-        gate,
-        trace,
-        report,
-    )
-}
-
-#[test]
-fn gate_two_parts(rt: HostRuntime) {
-    let gate = Meeting {
-        entered: AtomicU64::new(0),
-        alone: AtomicU64::new(0),
-    };
+    gate: &Book,
+    worked: &Worked,
+    part_of: &[u8],
+) -> u64 {
     let mut trace = MemorySink::new(rt.alloc());
-    let mut report = MemorySink::new(rt.alloc());
-    let outcome = run_meeting(&rt, &gate, CRASH_DETECTED.scenario, &mut trace, &mut report);
+    let outcome = run_told(rt, gate, worked.scenario, part_of, &mut trace);
     assert!(rt; outcome.is_ok());
-    assert_eq!(rt; trace.bytes(), CRASH_DETECTED.trace.as_bytes());
-    assert_eq!(rt; gate.alone.load(Ordering::SeqCst), 0);
-    assert!(rt; gate.entered.load(Ordering::SeqCst) > 2);
+    assert_eq!(rt; trace.bytes(), worked.trace.as_bytes());
+    assert_eq!(rt; gate.wrong(), 0);
+    let windows = gate.windows();
+    assert_eq!(rt;
+        gate.entries(),
+        windows.saturating_mul(u64::from(gate.parts))
+    );
+    windows
 }
 
-/// A quiet cluster whose trace is several batches long.
+/// Each of two workers waits in each window until the other one has a part.
+#[test]
+fn gate_two_parts(rt: HostRuntime) -> Result<(), Fail> {
+    let gate = Book::new(rt.alloc(), 2, 2, true)?;
+    let windows = assert_entered(&rt, &gate, &CRASH_DETECTED, &[0, 1]);
+    assert!(rt; windows > 2);
+    Ok(())
+}
+
+/// The same where one of the two has two parts in each window.
+#[test]
+fn gate_three_parts_by_two_workers(rt: HostRuntime) -> Result<(), Fail> {
+    let gate = Book::new(rt.alloc(), 3, 2, true)?;
+    let windows = assert_entered(&rt, &gate, &JOIN, &[0, 1, 2]);
+    assert!(rt; windows > 2);
+    Ok(())
+}
+
+/// The same where each of three has one.
+#[test]
+fn gate_three_parts_by_three_workers(rt: HostRuntime) -> Result<(), Fail> {
+    let gate = Book::new(rt.alloc(), 3, 3, true)?;
+    let windows = assert_entered(&rt, &gate, &JOIN, &[0, 1, 2]);
+    assert!(rt; windows > 2);
+    Ok(())
+}
+
+/// One worker alone goes by windows of parts too, and tells of each.
+#[test]
+fn one_worker_tells_of_each_part(rt: HostRuntime) -> Result<(), Fail> {
+    for parts in 2..=3 {
+        let gate = Book::new(rt.alloc(), parts, 1, false)?;
+        let windows = assert_entered(&rt, &gate, &CRASH_DETECTED, &[0, 1]);
+        assert!(rt; windows > 2);
+    }
+    Ok(())
+}
+
+/// Nothing bounds the windows of one part alone but the end, so it has one, which is the first.
+#[test]
+fn one_part_has_one_window(rt: HostRuntime) -> Result<(), Fail> {
+    for workers in [1, 2, 64] {
+        let gate = Book::new(rt.alloc(), 1, workers, false)?;
+        assert_eq!(rt; assert_entered(&rt, &gate, &CRASH_DETECTED, &[0, 0]), 1);
+        assert_eq!(rt; gate.entries(), 1);
+    }
+    Ok(())
+}
+
+/// A quiet cluster whose trace is more batches long than the relay between the threads has room for.
 pub(crate) const MANY_ROWS: &str = "version = 1
 seed = 3
-end = 12000
+end = 36000
 [swim]
 period = 100
 timeout = 30
@@ -111,14 +105,14 @@ fn a_trace_of_many_batches_is_the_same(rt: HostRuntime) -> Result<(), Fail> {
     let mut trace = MemorySink::new(rt.alloc());
     let mut report = MemorySink::new(rt.alloc());
     let summary = run_by(&rt, Way::AsOne, &scenario, &mut trace, &mut report)?;
-    assert!(rt; summary.rows > 15_000);
+    assert!(rt; summary.rows > 45_000);
     let way = Way::ByWorkers(3, 2);
     assert_writes(&rt, way, &scenario, Ok(summary), &trace, &report);
     Ok(())
 }
 
-/// The sink takes so many bytes and then fails, in the first batch or in a later one. Whoever sends comes to
-/// its end all the same.
+/// The sink takes so many bytes and then fails, in the first batch or in a later one. The batches after it are more than
+/// the relay has room for: whoever sends comes to its end all the same, since they are received.
 #[test]
 fn a_sink_may_fail_in_any_batch(rt: HostRuntime) -> Result<(), Fail> {
     let scenario = read(rt.alloc(), MANY_ROWS.as_bytes())?;

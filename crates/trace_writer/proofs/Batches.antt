@@ -1,5 +1,5 @@
 -- The trace of a run that is written batch after batch.
-use Rattle.std.proofs.Common.{◌≡◌, ℕ, ◌≤◌, ◌^◌, Bool, true, false, ◌||◌, List, [], ◌∷◌, ◌++◌, length, Option, Result, Ok, Err, append-nil, ap, ◌∙◌, sym, subst, refl, arith}
+use Rattle.std.proofs.Common.{◌≡◌, ℕ, ◌<◌, ◌^◌, Bool, true, false, ◌||◌, List, [], ◌∷◌, ◌++◌, length, Option, Result, Ok, Err, append-nil, ap, ◌∙◌, sym, subst, refl, arith}
 use Rattle.std.specs.Result.{OnOk, OnErr, IsErrOf}
 use Rattle.std.proofs.lemmas.List.{length-append}
 use Rattle.std.proofs.lemmas.List.Folds.{list_any-append}
@@ -29,7 +29,7 @@ last_on lots lot is = list_any-append (λ (l : Lot). l.last) lots (lot ∷ []) �
     either true = refl
     either false = refl
 
-longer : {A : Type 0} (xs ys : List A) (n : ℕ) → n ≤ length xs → n ≤ length (xs ++ ys)
+longer : {A : Type 0} (xs ys : List A) (n : ℕ) → n < length xs → n < length (xs ++ ys)
 longer xs ys n many = let all = length-append xs ys in omega (arith, all, many)
 
 -- after a fault nothing more is written

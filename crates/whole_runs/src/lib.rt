@@ -3,6 +3,7 @@
 
 mod in_turn;
 mod laws;
+mod one_queue;
 mod sequential;
 mod slices;
 mod streaming;
@@ -13,6 +14,7 @@ pub use laws::{
     a_run_exists, events_are_new, keys_rise, rows_rise, the_first_version_is_kept, the_run_is_one,
     the_window_of_all_is_the_run,
 };
+pub use one_queue::run_streamed;
 pub use sequential::run_one;
 pub use streaming::stream_run;
 pub use tallying::tally_run;

@@ -39,6 +39,7 @@ pub(crate) fn run_slices<T: TakeRows<P>, P, Q: EventQueue<Event> + Drop>(
     ensures part { (first : Option (List ℕ)) → HasWritten {T = Unit {0}} scenario.now [] first (T.held place.old) [] (Ok (tt {0}))
         → OnErr result (BeginsTrace scenario.now first (T.held place.new)) }
     ensures lasts { OnOk result (¬ (WearsOut scenario.now)) }
+    ensures lasts_report { OnOk result (¬ (WearsOutReport scenario.now)) }
     ensures worn { IsErrOf result Fault.Worn → WearsOut scenario.now ⊎ WearsOutReport scenario.now }
     ensures write { IsErrOf result Fault.Write → T.failed place.old < T.failed place.new }
     ensures unfailed { OnOk result (T.failed place.new ≡ T.failed place.old) }

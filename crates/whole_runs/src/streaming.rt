@@ -31,6 +31,7 @@ pub fn stream_run<A: Sink>(
     ensures whole { IfOk result (λ tallied. Appends (A.held trace.old) (A.held trace.new) (trace_text scenario.now tallied.tallies)) }
     ensures part { OnErr result (BeginsTrace scenario.now (A.held trace.old) (A.held trace.new)) }
     ensures lasts { OnOk result (¬ (WearsOut scenario.now)) }
+    ensures lasts_report { OnOk result (¬ (WearsOutReport scenario.now)) }
 
     // No fault comes without its cause.
     ensures worn { IsErrOf result Fault.Worn → WearsOut scenario.now ⊎ WearsOutReport scenario.now }

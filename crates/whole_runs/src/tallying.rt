@@ -23,6 +23,7 @@ pub fn tally_run(alloc: Global, scenario: &Scenario) -> Result<Tallies, Fault>
     ensures run { IfOk result (λ tallies. IsRunOf scenario.now tallies) }
     ensures named { IfOk result (λ tallies. All (NamesMembers scenario.now) tallies) }
     ensures lasts { OnOk result (¬ (WearsOut scenario.now)) }
+    ensures lasts_report { OnOk result (¬ (WearsOutReport scenario.now)) }
 
     // No fault comes without its cause.
     ensures worn { IsErrOf result Fault.Worn → WearsOut scenario.now ⊎ WearsOutReport scenario.now }

@@ -1,3 +1,4 @@
 pub mod Answering
+mod Dealing
 pub mod Gathered
 pub mod Sent

@@ -3,3 +3,4 @@ pub mod Pools
 pub mod Faults
 pub mod Pieces
 pub mod Props
+pub mod Gates

@@ -1,10 +1,11 @@
 ghost use Rattle.std.specs.Prelude.{◌≡◌, OnOk, IfErr};
 ghost use Rattle.std.specs.List.{flat_map};
 ghost use Rattle.board.specs.Deal.{SameBag};
-ghost use Rattle.board.specs.Seats.{dealt, taken};
+ghost use Rattle.board.specs.Seats.{AreAllSeats, dealt, taken};
 ghost use Rattle.board.specs.Sites.{AreSingleSeats};
 
-use crate::pieces::{TaskBoard, TaskSeat};
+use crate::gate::Gate;
+use crate::pieces::{OfScenario, TaskBoard, TaskSeat};
 use base::Fault;
 use board::settle;
 use member::Event;
@@ -16,12 +17,13 @@ pub const SEATS: usize = 65;
 
 /// Closes the board of a run, given the seats that came back. `Relay` where one is missing or a part still lies
 /// on the board: else every part that was dealt was taken, as often, and no other.
-pub fn close_board<'a, Q: EventQueue<Event> + Drop>(
+pub fn close_board<'a, Q: EventQueue<Event> + Drop, G: Gate, K: OfScenario>(
     rt: &impl Wait,
-    board: TaskBoard<'a, Q>,
+    board: TaskBoard<'a, Q, G, K>,
     seats: Vec<TaskSeat<'a, Q>>,
 ) -> Result<(), Fault>
     requires { AreSingleSeats board seats.items }
+    ensures all { OnOk result (AreAllSeats board.entry seats.entry.items) }
     ensures taken { OnOk result (SameBag (flat_map dealt seats.entry.items) (flat_map taken seats.entry.items)) }
     ensures relay { IfErr result (λ fault. fault ≡ Fault.Relay) }
 {

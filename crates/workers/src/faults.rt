@@ -10,6 +10,7 @@ use worker_queue::EventQueue;
 pub(crate) fn told<T: Drop>(came: Result<T, StepError>) -> Result<T, Fault>
     ensures ok { IfOk result (λ value. came ≡ Ok value) }
     ensures worn { IsErrOf result Fault.Worn → IsErrOf came StepError.Worn }
+    ensures memory { IsErrOf result Fault.Memory → IsErrOf came StepError.Memory }
     ensures write { IfErr result (λ fault. fault ≢ Fault.Write) }
 {
     match came {

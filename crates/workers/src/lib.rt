@@ -5,6 +5,7 @@
 mod close;
 mod faults;
 mod gate;
+mod open;
 mod pause;
 mod pieces;
 mod pool;
@@ -19,7 +20,8 @@ mod worker;
 pub use close::{SEATS, close_board};
 pub use faults::first_of;
 pub use gate::{Gate, OpenGate};
-pub use pieces::{TaskBoard, TaskPost, TaskSeat, WindowTasks};
+pub use open::open_board;
+pub use pieces::{OfScenario, TaskBoard, TaskPost, TaskSeat, WindowTasks};
 pub use pool::WorkerPool;
 pub use signals::Signals;
 pub use window_task::WindowTask;

@@ -1,4 +1,4 @@
-ghost use Rattle.std.specs.Prelude.{◌≡◌, ◌≢◌, ◌+◌, ◌≤◌, ◌++◌, ◌⊎◌, [], List, Some, None, IsOk, IfOk, OnOk, IfErr, IfSome, IfNone, IsErrOf};
+ghost use Rattle.std.specs.Prelude.{◌≡◌, ◌≢◌, ◌+◌, ◌≤◌, ◌++◌, ◌⊎◌, [], ◌<◌, ◌^◌, List, Some, None, IsOk, IfOk, OnOk, IfErr, IfSome, IfNone, IsErrOf};
 ghost use Rattle.std.specs.List.{AllByRecursion};
 ghost use Rattle.scenario.specs.Setup.{IsSound};
 ghost use Rattle.links.specs.Arrival.{AreLinksOf};
@@ -7,10 +7,11 @@ ghost use Rattle.windows.specs.WorldOf.{world_of};
 ghost use Rattle.windows.specs.Window.{IsConsistentPart};
 ghost use Rattle.windows.specs.Several.{RanWindows, OneWears};
 ghost use Rattle.workers.specs.Pools.{all_bounded, IsOfScenario};
+ghost use Rattle.workers.specs.Pieces.{Belongs};
 
 use crate::faults::{joined, told};
 use crate::gate::Gate;
-use crate::pieces::TaskPost;
+use crate::pieces::{OfScenario, TaskPost};
 use crate::ring::Ticket;
 use crate::signals::{Signals, StopGuard};
 use crate::window_task::{WindowTask, ask};
@@ -26,9 +27,11 @@ use worker_queue::EventQueue;
 
 /// The driver's hold on its workers. Once it is dropped or has left they end.
 #[derive(Drop)]
-pub struct WorkerPool<'b, 'a, Q: EventQueue<Event>, G, J: Site> {
+pub struct WorkerPool<'b, 'a, Q: EventQueue<Event>, G: Gate, J: Site, K: OfScenario> {
+    /// How many windows were begun.
+    pub windows: u64,
     workers: usize,
-    post: TaskPost<'b, 'a, Q, J>,
+    post: TaskPost<'b, 'a, Q, G, J, K>,
     hold: StopGuard<'b>,
     gate: &'b G,
 }
@@ -43,16 +46,26 @@ struct Dealt<Q: EventQueue<Event>> {
     fault: Option<Fault>,
 }
 
-impl<'b, 'a, Q: EventQueue<Event> + Drop, G: Gate, J: Site> WorkerPool<'b, 'a, Q, G, J> {
+impl<'b, 'a, Q: EventQueue<Event> + Drop, G: Gate, J: Site, K: OfScenario> WorkerPool<
+    'b,
+    'a,
+    Q,
+    G,
+    J,
+    K,
+> {
     /// A pool of so many workers, which take what is dealt from the post. With one worker the driver does its
     /// work, and nothing is dealt.
     pub fn new(
         workers: usize,
-        post: TaskPost<'b, 'a, Q, J>,
+        post: TaskPost<'b, 'a, Q, G, J, K>,
         signals: &'b Signals,
         gate: &'b G,
-    ) -> Self {
+    ) -> Self
+        ensures windows { result.windows ≡ 0 }
+    {
         WorkerPool {
+            windows: 0,
             workers,
             post,
             hold: StopGuard(signals),
@@ -61,13 +74,13 @@ impl<'b, 'a, Q: EventQueue<Event> + Drop, G: Gate, J: Site> WorkerPool<'b, 'a, Q
     }
 
     /// Lets the workers end, and gives the post back.
-    pub fn leave(self) -> TaskPost<'b, 'a, Q, J> {
+    pub fn leave(self) -> TaskPost<'b, 'a, Q, G, J, K> {
         let WorkerPool { post, .. } = self;
         post
     }
 
-    /// The windows of these parts, each below its bound, by the workers, in the order of the parts. The
-    /// window's number is what the gate is told.
+    /// The windows of these parts, each below its bound, by the workers, in the order of the parts. The gate is
+    /// told of each part, in the next window after those that were begun before: they count from 1.
     ///
     /// Faults: `Memory` and `Worn` of a part's window, `Relay` where a task was handed back or lost. Of
     /// several the first in that order is answered. All tasks that went out have come to an end.
@@ -76,7 +89,6 @@ impl<'b, 'a, Q: EventQueue<Event> + Drop, G: Gate, J: Site> WorkerPool<'b, 'a, Q
         rt: &impl Wait,
         alloc: Global,
         parts: Vec<Bounded<Q>>,
-        window: u64,
         scenario: &'a Scenario,
         links: &'a Links,
     ) -> Result<Vec<Done<Q>>, Fault>
@@ -84,10 +96,17 @@ impl<'b, 'a, Q: EventQueue<Event> + Drop, G: Gate, J: Site> WorkerPool<'b, 'a, Q
         requires fits { AreLinksOf links.now scenario.now }
         requires in_time { AllByRecursion (λ (b : ABounded Q). b.bound ≤ scenario.now.end + 1) parts.items }
         requires consistent { AllByRecursion (λ (b : ABounded Q). IsConsistentPart scenario.now (world_of Q.set b.part)) parts.items }
+        requires one { K.scenario ≡ Some scenario.now }
+        requires worker { G.knows 0 }
+        requires awaited { AllByRecursion (λ (b : ABounded Q). G.awaits (self.old.windows + 1) b.part.number) parts.items }
+        requires countable { self.old.windows < 2 ^ 63 }
+        ensures next { self.new.windows ≡ self.old.windows + 1 }
         ensures ok { IfOk result (λ done. RanWindows Q.set scenario.now parts.items done.items) }
         ensures worn { IsErrOf result Fault.Worn → OneWears Q.set scenario.now parts.items }
         ensures write { IfErr result (λ fault. fault ≢ Fault.Write) }
     {
+        self.windows += 1;
+        let window = self.windows;
         if self.workers == 1 {
             return run_alone(alloc, self.gate, parts, window, scenario, links);
         }
@@ -111,6 +130,9 @@ impl<'b, 'a, Q: EventQueue<Event> + Drop, G: Gate, J: Site> WorkerPool<'b, 'a, Q
         requires fits { AreLinksOf links.now scenario.now }
         requires in_time { AllByRecursion (λ (b : ABounded Q). b.bound ≤ scenario.now.end + 1) parts.items }
         requires consistent { AllByRecursion (λ (b : ABounded Q). IsConsistentPart scenario.now (world_of Q.set b.part)) parts.items }
+        requires one { K.scenario ≡ Some scenario.now }
+        requires awaited { AllByRecursion (λ (b : ABounded Q). G.awaits window b.part.number) parts.items }
+        ensures same { self.new.windows ≡ self.old.windows }
         ensures windows { AllByRecursion (IsOfScenario scenario.now) result.tickets.items }
         ensures whole { IfNone result.fault (all_bounded result.tickets.items ≡ parts.items) }
         ensures beginning { (rest : List (ABounded Q)) × (parts.items ≡ all_bounded result.tickets.items ++ rest) }
@@ -141,7 +163,10 @@ impl<'b, 'a, Q: EventQueue<Event> + Drop, G: Gate, J: Site> WorkerPool<'b, 'a, Q
     }
 
     /// Deals a task, unless it comes back.
-    fn hand(&mut self, rt: &impl Wait, task: WindowTask<'a, Q>) -> Result<(), Relay> {
+    fn hand(&mut self, rt: &impl Wait, task: WindowTask<'a, Q>) -> Result<(), Relay>
+        requires belongs { Belongs Q.set K.scenario G.awaits task }
+        ensures same { self.new.windows ≡ self.old.windows }
+    {
         let signals = self.hold.0;
         signals.wait_group.add();
         match self.post.deal(rt, task) {
@@ -225,6 +250,8 @@ fn run_alone<Q: EventQueue<Event> + Drop, G: Gate>(
     requires fits { AreLinksOf links.now scenario.now }
     requires in_time { AllByRecursion (λ (b : ABounded Q). b.bound ≤ scenario.now.end + 1) parts.items }
     requires consistent { AllByRecursion (λ (b : ABounded Q). IsConsistentPart scenario.now (world_of Q.set b.part)) parts.items }
+    requires worker { G.knows 0 }
+    requires awaited { AllByRecursion (λ (b : ABounded Q). G.awaits window b.part.number) parts.items }
     ensures ok { IfOk result (λ done. RanWindows Q.set scenario.now parts.items done.items) }
     ensures worn { IsErrOf result Fault.Worn → OneWears Q.set scenario.now parts.items }
     ensures write { IfErr result (λ fault. fault ≢ Fault.Write) }

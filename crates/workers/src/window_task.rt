@@ -42,7 +42,8 @@ pub(crate) fn ask<'a, Q: EventQueue<Event> + Drop>(
     requires fits { AreLinksOf links.now scenario.now }
     requires in_time { bounded.bound ≤ scenario.now.end + 1 }
     requires consistent { IsConsistentPart scenario.now (world_of Q.set bounded.part) }
-    ensures { IfOk result (λ r. IsOfScenario scenario.now r.0 × (bounded_of r.0 ≡ bounded)) }
+    ensures ticket { IfOk result (λ r. IsOfScenario scenario.now r.0 × (bounded_of r.0 ≡ bounded)) }
+    ensures task { IfOk result (λ r. (r.1.scenario.now ≡ scenario.now) × (r.1.part ≡ bounded.part) × (r.1.window ≡ window)) }
 {
     let Bounded { part, bound } = bounded;
     let (ticket, reply) = match ring_for(alloc, scenario, bound, &part) {
@@ -67,7 +68,10 @@ pub(crate) fn ask<'a, Q: EventQueue<Event> + Drop>(
 
 impl<'a, Q: EventQueue<Event> + Drop> WindowTask<'a, Q> {
     /// Enters the gate, runs the window of the part, and answers.
-    pub(crate) fn run<G: Gate>(self, alloc: Global, gate: &G, worker: usize) {
+    pub(crate) fn run<G: Gate>(self, alloc: Global, gate: &G, worker: usize)
+        requires worker { G.knows worker }
+        requires awaited { G.awaits self.window self.part.number }
+    {
         let WindowTask {
             part,
             window,

@@ -1,5 +1,5 @@
 use crate::gate::Gate;
-use crate::pieces::TaskPost;
+use crate::pieces::{OfScenario, TaskPost};
 use crate::signals::Signals;
 use board::Site;
 use member::Event;
@@ -9,14 +9,16 @@ use worker_queue::EventQueue;
 
 /// What a worker does until the pool has gone: it takes a task from the board, enters the gate, runs the
 /// part, and answers. Where nothing lies on the board it waits. It gives its post back.
-pub fn work<'b, 'a, Q: EventQueue<Event> + Drop, G: Gate, J: Site>(
+pub fn work<'b, 'a, Q: EventQueue<Event> + Drop, G: Gate, J: Site, K: OfScenario>(
     rt: &impl Wait,
     alloc: Global,
-    mut post: TaskPost<'b, 'a, Q, J>,
+    mut post: TaskPost<'b, 'a, Q, G, J, K>,
     signals: &Signals,
     gate: &G,
     worker: usize,
-) -> TaskPost<'b, 'a, Q, J> {
+) -> TaskPost<'b, 'a, Q, G, J, K>
+    requires worker { G.knows worker }
+{
     for _ in rt.forever() {
         let heard = signals.wake_signal.rings();
         match post.take(rt) {

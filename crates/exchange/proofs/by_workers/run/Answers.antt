@@ -1,79 +1,37 @@
--- the sinks get the trace and the report of one list of rows
-use Rattle.std.proofs.Common.{inl, inr, refl, rules, arith}
-use Rattle.trace.specs.Text.{trace_text}
-use Rattle.trace.proofs.Beginnings.{beginning-whole, Appends-kept, Keeps-same}
+-- what the run owes the trace's sink is kept, and then all of the promise
+use Rattle.std.proofs.Common.{◌≡◌, ◌≢◌, ℕ, ◌<◌, ◌^◌, Result, Ok, Err, sym, arith}
+use Rattle.std.specs.Result.{OnOk}
+use Rattle.std.proofs.lemmas.Result.{IfOk-weaker, IfErr-at_err}
+use Rattle.base.specs.declared.fault.Fault.{Fault}
+use Rattle.base.specs.declared.fault.Fault.TheVariants.{Write}
 use Rattle.turns.proofs.Goes.{names_run}
+use Rattle.outputs.specs.declared.tallied.Tallied.{Tallied}
+use Rattle.outputs.specs.Promise.{WearsOutReport}
+use Rattle.outputs.proofs.Faults.{on_came}
+use Rattle.exchange.proofs.Faults.{write≢relay}
 use Rattle.exchange.proofs.by_workers.run.Goals as goal
 
-pub returns-in-Err-clause-promise : goal.returns-in-Err-clause-promise
-returns-in-Err-clause-promise g c =
-    let begun = c.in-Err.ensures.trace.part in
-    record {
-      written = tt;
-      beginning = record { rows = begun.rows; run = begun.run; written = inl (begun.written, Keeps-same _) };
-      first = λ h. refl;
-      lasts = tt;
-      write = search rules;
-      whole = tt;
-      whole_report = tt;
-      others_report = λ h. refl;
-    }
+still_countable : (o : Result Tallied Fault) (old new n : ℕ) → OnOk o (new ≡ old) → old < n → OnOk o (new < n)
+still_countable (Ok x) old new n same few = omega (arith, same, few)
+still_countable (Err e) old new n same few = tt
 
-pub returns-in-Err-flush-clause-promise : goal.returns-in-Err-flush-clause-promise
-returns-in-Err-flush-clause-promise g c =
-    let rows = c.in-Ok.tallied.tallies in
-    record {
-      written = tt;
-      beginning = record {
-        rows = rows;
-        run = c.in-Ok.ensures.trace.run;
-        written = inl (beginning-whole _ _ (trace_text c.args.scenario.now rows) (Appends-kept _ _ _ (trace_text c.args.scenario.now rows) c.in-Ok.ensures.trace.whole c.flush.ensures.same), Keeps-same _);
-      };
-      first = λ h. refl;
-      lasts = tt;
-      write = search rules;
-      whole = tt;
-      whole_report = tt;
-      others_report = λ h. refl;
-    }
+pub end_run-requires-clause-named : goal.end_run-requires-clause-named
+end_run-requires-clause-named g c = IfOk-weaker c.run_into-outcome.result _ _ (λ tallied run. names_run c.args.scenario.now c.run_into-outcome.ensures.sound tallied.tallies run) c.run_into-outcome.ensures.trace.run
 
-pub write_tallied-requires-clause-named : goal.write_tallied-requires-clause-named
-write_tallied-requires-clause-named g c = names_run c.args.scenario.now c.run_into.ensures.sound c.in-Ok.tallied.tallies c.in-Ok.ensures.trace.run
-
-pub returns-in-Ok-write_tallied-clause-promise : goal.returns-in-Ok-write_tallied-clause-promise
-returns-in-Ok-write_tallied-clause-promise g c =
-    let rows = c.in-Ok.tallied.tallies in
-    record {
-      written = record {
-        rows = rows;
-        run = c.in-Ok.ensures.trace.run;
-        counted = c.in-Ok.tallied.counted;
-        trace = Appends-kept _ _ _ (trace_text c.args.scenario.now rows) c.in-Ok.ensures.trace.whole c.flush.ensures.same;
-        report = c.in-Ok-write_tallied.ensures.whole;
-      };
-      beginning = tt;
-      first = λ h. absurd (omega (arith, h, c.in-Ok.ensures.trace.unfailed, c.in-Ok-flush.ensures.failures));
-      lasts = c.in-Ok.ensures.trace.lasts;
-      write = search rules;
-      whole = omega (arith, c.in-Ok.ensures.trace.unfailed, c.in-Ok-flush.ensures.failures);
-      whole_report = omega (arith, c.in-Ok-write_tallied.ensures.failures);
-      others_report = tt;
-    }
+pub end_run-requires-clause-countable : goal.end_run-requires-clause-countable
+end_run-requires-clause-countable g c = still_countable c.run_into-outcome.result _ _ (2 ^ 63) c.run_into-outcome.ensures.trace.unfailed c.requires.countable
 
 pub returns-clause-promise : goal.returns-clause-promise
-returns-clause-promise g c =
-    let rows = c.in-Ok.tallied.tallies in
-    record {
-      written = tt;
-      beginning = record {
-        rows = rows;
-        run = c.in-Ok.ensures.trace.run;
-        written = inr (Appends-kept _ _ _ (trace_text c.args.scenario.now rows) c.in-Ok.ensures.trace.whole c.flush.ensures.same, c.in-Err-write_tallied.ensures.part);
-      };
-      first = λ h. absurd (omega (arith, h, c.in-Ok.ensures.trace.unfailed, c.in-Ok-flush.ensures.failures));
-      lasts = tt;
-      write = search rules;
-      whole = tt;
-      whole_report = tt;
-      others_report = search rules;
-    }
+returns-clause-promise g c = c.end_run.ensures.promise c.args.trace.now c.run_into-outcome.ensures.trace
+
+pub returns-clause-lasts_report : goal.returns-clause-lasts_report
+returns-clause-lasts_report g c = on_came (¬ (WearsOutReport c.args.scenario.now)) c.end_run.result c.run_into-outcome.result c.end_run.ensures.came c.run_into-outcome.ensures.trace.lasts_report
+
+pub returns-clause-worn : goal.returns-clause-worn
+returns-clause-worn g c = λ is. c.run_into-outcome.ensures.trace.worn (c.end_run.ensures.worn is)
+
+pub returns-clause-others : goal.returns-clause-others
+returns-clause-others g c = λ is.
+    let before = c.run_into-outcome.ensures.trace.relay (c.end_run.ensures.relay is) in
+    let since = IfErr-at_err (λ fault. fault ≢ Write → _) is c.end_run.ensures.others (λ same. write≢relay (sym same)) in
+    omega (arith, before, since)

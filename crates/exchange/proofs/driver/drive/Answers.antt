@@ -1,4 +1,4 @@
-use Rattle.std.proofs.Common.{ap, ◌∙◌, sym, subst}
+use Rattle.std.proofs.Common.{Some, ap, ◌∙◌, sym, subst, arith}
 use Rattle.member.specs.Opening.{opening}
 use Rattle.relay.specs.Seats.{IsSender}
 use Rattle.turns.specs.Parts.{StandFor}
@@ -21,4 +21,11 @@ returns g c =
     let same = ap (λ r. r.now) c.turns_by_pool-outcome.ensures.relay ∙ c.new-row_sender.ensures.relay in
     subst (λ t. IsDriven t relay c.close-driven.result) c.course_of-course.ensures.scenario
     (is_driven s c.course_of-course.ensures.course.sound relay c.close-driven.result (rows_so_far after) c.turns_by_pool-outcome.result (subst (λ r. IsSender r c.close-driven.result.seat) same c.close-driven.ensures.seat)
+    c.close-driven.ensures.batches
     c.close-driven.ensures.whole c.close-driven.ensures.part c.close-driven.ensures.came c.close-driven.ensures.causes c.turns_by_pool-outcome.ensures.come)
+
+pub turns_by_pool-outcome-requires-clause-board : goal.turns_by_pool-outcome-requires-clause-board
+turns_by_pool-outcome-requires-clause-board g c = λ loans lives. c.requires.board ∙ ap Some (sym c.course_of-course.ensures.scenario)
+
+pub close-driven-requires-clause-countable : goal.close-driven-requires-clause-countable
+close-driven-requires-clause-countable g c = omega (arith, c.turns_by_pool-outcome.ensures.few)

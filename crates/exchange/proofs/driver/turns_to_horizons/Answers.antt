@@ -3,6 +3,7 @@ use Rattle.trace.specs.Text.{NamesMembers}
 use Rattle.exchange.specs.Sending.{rows_so_far}
 use Rattle.turns.specs.Bounds.{IsFirstMoment}
 use Rattle.turns.proofs.Goes.{IsUnderWay, not_yet, consistent, came, further, goes_on, one_wears, begins, ends_here, ends_past, names_on, begins_on}
+use Rattle.exchange.proofs.Batching.{all_awaited}
 use Rattle.exchange.proofs.Endings.{comes_whole, comes_by, comes_by_memory}
 use Rattle.exchange.proofs.driver.turns_to_horizons.Goals as goal
 
@@ -17,6 +18,10 @@ loop-from-init g c =
       open_still = c.requires.open;
       one = c.requires.one;
       relay = refl;
+      counts = c.requires.counts;
+      few = omega (arith, c.requires.unsent);
+      windows = omega (arith, c.requires.fresh);
+      up = omega arith;
     }
 
 pub bounded_by_horizons-requires-clause-count : goal.bounded_by_horizons-requires-clause-count
@@ -70,6 +75,7 @@ loop-from-preserved g c =
     let on =
     goes_on g.Q.EventQueue.set c.args.course.now c.requires.course c.loop-from.parts.items (rows_so_far c.loop-from.row_sender) c.loop-from.kept.items c.loop-from.from c.loop-from.invariant.run c.in-Some.first c.in_ok-bounded.bounded.items c.in_ok-bounded.ensures c.in_ok-done.done.items c.in_ok-done.ensures.ok
     turned.parts.items turned.rows.items turned.kept.items c.in_ok-turned.ensures in
+    let way = further g.Q.EventQueue.set c.args.course.now c.requires.course c.loop-from.parts.items (rows_so_far c.loop-from.row_sender) c.loop-from.kept.items c.loop-from.from c.loop-from.invariant.run c.in-Some.first c.deref.result.now c.deref.ensures.value c.in-Some.ensures.first in
     record {
       run =
           subst (λ t. IsUnderWay set course.scenario.now course.division.now t turned.parts.items (rows_so_far c.take.new.self) turned.kept.items) (omega (arith, c.ticks-from.ensures))
@@ -77,6 +83,10 @@ loop-from-preserved g c =
       open_still = c.take.ensures.open;
       one = ap (λ s. s.now) c.take.ensures.same.0 ∙ c.loop-from.invariant.one;
       relay = c.take.ensures.same.1 ∙ c.loop-from.invariant.relay;
+      counts = c.take.ensures.counts;
+      few = omega (arith, c.take.ensures.once, c.loop-from.invariant.few, c.ticks-from.ensures, way.1);
+      windows = omega (arith, c.run_windows.ensures.next, c.loop-from.invariant.windows, c.ticks-from.ensures, way.1);
+      up = omega (arith, c.ticks-last.ensures, c.ticks-from.ensures, way.0);
     }
 
 pub returns-in_default-clause-come : goal.returns-in_default-clause-come
@@ -114,3 +124,40 @@ pub returns-clause-come : goal.returns-clause-come
 returns-clause-come g c =
     let over = ends_past g.Q.EventQueue.set c.args.course.now c.requires.course c.loop-from.parts.items (rows_so_far c.loop-from.row_sender) c.loop-from.kept.items c.loop-from.from c.loop-from.invariant.run (omega arith) in
     comes_whole c.args.course.now.scenario.now (rows_so_far c.loop-from.row_sender) over.0 over.1
+
+pub run_windows-requires-clause-one : goal.run_windows-requires-clause-one
+run_windows-requires-clause-one g c = λ loans lives. c.requires.board
+
+pub run_windows-requires-clause-worker : goal.run_windows-requires-clause-worker
+run_windows-requires-clause-worker g c = λ loans lives. c.requires.worker
+
+pub run_windows-requires-clause-awaited : goal.run_windows-requires-clause-awaited
+run_windows-requires-clause-awaited g c = λ loans lives. all_awaited g.G.Gate.awaits c.requires.windows (c.loop-from.pool.windows + 1) (omega arith) c.in_ok-bounded.bounded.items
+
+pub run_windows-requires-clause-countable : goal.run_windows-requires-clause-countable
+run_windows-requires-clause-countable g c = λ loans lives.
+    omega (arith, c.loop-from.invariant.windows, c.loop-from-test.true, c.ticks-last.ensures, c.requires.course.end, c.requires.course.sound.end)
+
+pub take-requires-clause-counts : goal.take-requires-clause-counts
+take-requires-clause-counts g c = c.loop-from.invariant.counts
+
+pub take-requires-clause-countable : goal.take-requires-clause-countable
+take-requires-clause-countable g c = omega (arith, c.loop-from.invariant.few, c.loop-from-test.true, c.ticks-last.ensures, c.requires.course.end, c.requires.course.sound.end)
+
+pub returns-in_default-clause-few : goal.returns-in_default-clause-few
+returns-in_default-clause-few g c = omega (arith, c.loop-from.invariant.few, c.loop-from.invariant.up, c.ticks-last.ensures, c.requires.course.end, c.requires.course.sound.end)
+
+pub returns-in_err-bounded-clause-few : goal.returns-in_err-bounded-clause-few
+returns-in_err-bounded-clause-few g c = omega (arith, c.loop-from.invariant.few, c.loop-from.invariant.up, c.ticks-last.ensures, c.requires.course.end, c.requires.course.sound.end)
+
+pub returns-in_err-done-clause-few : goal.returns-in_err-done-clause-few
+returns-in_err-done-clause-few g c = omega (arith, c.loop-from.invariant.few, c.loop-from.invariant.up, c.ticks-last.ensures, c.requires.course.end, c.requires.course.sound.end)
+
+pub returns-in_err-turned-clause-few : goal.returns-in_err-turned-clause-few
+returns-in_err-turned-clause-few g c = omega (arith, c.loop-from.invariant.few, c.loop-from.invariant.up, c.ticks-last.ensures, c.requires.course.end, c.requires.course.sound.end)
+
+pub returns-in_err-take-clause-few : goal.returns-in_err-take-clause-few
+returns-in_err-take-clause-few g c = omega (arith, c.take.ensures.once, c.loop-from.invariant.few, c.loop-from.invariant.up, c.ticks-last.ensures, c.requires.course.end, c.requires.course.sound.end)
+
+pub returns-clause-few : goal.returns-clause-few
+returns-clause-few g c = omega (arith, c.loop-from.invariant.few, c.loop-from.invariant.up, c.ticks-last.ensures, c.requires.course.end, c.requires.course.sound.end)

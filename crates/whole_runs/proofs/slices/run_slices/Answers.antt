@@ -11,7 +11,7 @@ use Rattle.outputs.proofs.Faults.{handed_on, on_err}
 use Rattle.outputs.proofs.Runs.{some_run}
 use Rattle.outputs.proofs.Streaming.{written_on}
 use Rattle.whole_runs.proofs.Whole.{HasComeTo, at_opening, comes_on, comes_worn, comes_first, comes_to_end, comes_unworn}
-use Rattle.whole_runs.proofs.Reported.{wears_report}
+use Rattle.whole_runs.proofs.Reported.{wears_report, lasts_in_report}
 use Rattle.whole_runs.proofs.Faults.{worn_step}
 use Rattle.whole_runs.proofs.Streamed.{begins_trace}
 use Rattle.whole_runs.proofs.slices.run_slices.Goals as goal
@@ -117,3 +117,9 @@ returns-clause-lasts g c =
 
 pub returns-clause-whole : goal.returns-clause-whole
 returns-clause-whole g c = λ first wrote. (c.loop-from.invariant.written first wrote).whole.0
+
+pub returns-clause-lasts_report : goal.returns-clause-lasts_report
+returns-clause-lasts_report g c =
+    let tallied = c.loop-from.tallied in
+    let run = comes_to_end c.args.scenario.now c.requires.sound c.loop-from.from (world_of g.Q.EventQueue.set c.loop-from.part) tallied.tallies c.loop-from.invariant.come (omega arith) in
+    lasts_in_report c.args.scenario.now tallied.tallies c.requires.sound run (omega (arith, tallied.counted, tallied.within))

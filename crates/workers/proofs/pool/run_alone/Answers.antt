@@ -21,5 +21,9 @@ loop-bounded-preserved g c =
           so_far_run g.Q.EventQueue.set s _ c.loop-bounded.yielded b c.loop-bounded.so_far c.joined-so_far.result c.run.result c.told.result clipped c.loop-bounded.invariant.so_far
           c.run.ensures.ok c.run.ensures.worn c.told.ensures.ok c.told.ensures.worn c.told.ensures.write c.joined-so_far.ensures.ok c.joined-so_far.ensures.worn c.joined-so_far.ensures.write;
       in_time = in_time.1;
+      awaited = (subst (AllByRecursion (λ b. g.G.Gate.awaits c.args.window b.part.number)) c.in-Some.ensures.steps.0 c.loop-bounded.invariant.awaited).1;
       consistent = (subst (AllByRecursion (λ b. IsConsistentPart s (world_of g.Q.EventQueue.set b.part))) c.in-Some.ensures.steps.0 c.loop-bounded.invariant.consistent).1;
     }
+
+pub enter-requires-clause-window : goal.enter-requires-clause-window
+enter-requires-clause-window g c = (subst (AllByRecursion (λ b. g.G.Gate.awaits c.args.window b.part.number)) c.in-Some.ensures.steps.0 c.loop-bounded.invariant.awaited).0

@@ -11,5 +11,7 @@ invariant-loop-bounded g l = record {
   dealt : all_bounded l.tickets.items ≡ l.yielded;
   windows : AllByRecursion (IsOfScenario l.fn.scenario) l.tickets.items;
   in_time : AllByRecursion (λ b. b.bound ≤ l.fn.scenario.end + 1) l.bounded-iterator.rest.items;
+  awaited : AllByRecursion (λ b. g.G.Gate.awaits l.fn.window b.part.number) l.bounded-iterator.rest.items;
+  same : l.self.windows ≡ l.fn.self.windows;
   consistent : AllByRecursion (λ b. IsConsistentPart l.fn.scenario (world_of g.Q.EventQueue.set b.part)) l.bounded-iterator.rest.items;
 }

@@ -1,0 +1,52 @@
+//! The end of a run whose trace was written as its rows came.
+ghost use Rattle.std.specs.Prelude.{◌≡◌, ◌≢◌, ◌<◌, ◌^◌, IsOk, IfOk, OnOk, IfErr, IsErrOf, All};
+ghost use Rattle.trace.specs.Text.{NamesMembers};
+ghost use Rattle.outputs.specs.Promise.{KeepsPromise};
+ghost use Rattle.outputs.specs.Traced.{KeepsTrace};
+
+use crate::summary::Summary;
+use crate::tallied::Tallied;
+use crate::writing::{fault_of, flush, write_tallied};
+use base::Fault;
+use scenario::Scenario;
+use std::alloc::Global;
+use trace::Sink;
+
+/// Ends a run whose rows were written and tallied as they came: flushes the trace's sink, writes the report on the
+/// tallied rows, and flushes its sink. After a fault of the run nothing more is written.
+pub fn end_run<A: Sink, B: Sink>(
+    alloc: Global,
+    outcome: Result<Tallied, Fault>,
+    scenario: &Scenario,
+    trace: &mut A,
+    report: &mut B,
+) -> Result<Summary, Fault>
+    requires named { IfOk outcome (λ tallied. All (NamesMembers scenario.now) tallied.tallies) }
+    requires countable { OnOk outcome (A.failed trace.old < 2 ^ 63) }
+    requires countable_report { B.failed report.old < 2 ^ 63 }
+
+    // Whatever the trace's sink held first: where the run kept what it owes that sink, the whole promise is kept.
+    ensures promise { (first : A) → KeepsTrace scenario.now (A.held first) (A.held trace.old) (A.failed first) (A.failed trace.old) outcome
+        → KeepsPromise A.held A.failed B.held B.failed scenario.now first trace.new report.old report.new result }
+
+    // Only the sinks' failures and want of memory are added to the run's own faults.
+    ensures came { OnOk result (IsOk outcome) }
+    ensures worn { IsErrOf result Fault.Worn → IsErrOf outcome Fault.Worn }
+    ensures relay { IsErrOf result Fault.Relay → IsErrOf outcome Fault.Relay }
+    ensures others { IfErr result (λ fault. fault ≢ Fault.Write → A.failed trace.new ≡ A.failed trace.old) }
+{
+    let tallied = match outcome {
+        Ok(tallied) => tallied,
+        Err(fault) => return Err(fault),
+    };
+    match flush(trace) {
+        Ok(()) => {}
+        Err(error) => return Err(fault_of(error)),
+    }
+    match write_tallied(alloc, &tallied, scenario, report) {
+        Ok(()) => Ok(Summary {
+            rows: tallied.count,
+        }),
+        Err(error) => Err(fault_of(error)),
+    }
+}

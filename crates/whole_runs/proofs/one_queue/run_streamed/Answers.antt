@@ -1,0 +1,49 @@
+use Rattle.std.proofs.Common.{◌≡◌, ◌≢◌, ℕ, ◌<◌, ◌^◌, Result, Ok, Err, ap, refl, arith}
+use Rattle.std.specs.Result.{OnOk, IfErr, IsErrOf}
+use Rattle.std.proofs.lemmas.Result.{IfOk-weaker, IfErr-at_err}
+use Rattle.base.specs.declared.fault.Fault.{Fault}
+use Rattle.base.specs.declared.fault.Fault.TheVariants.{Relay}
+use Rattle.turns.proofs.Goes.{names_run}
+use Rattle.outputs.specs.declared.summary.Summary.{Summary}
+use Rattle.outputs.specs.declared.tallied.Tallied.{Tallied}
+use Rattle.outputs.proofs.Faults.{on_came}
+use Rattle.outputs.specs.Promise.{WearsOutReport}
+use Rattle.whole_runs.proofs.one_queue.run_streamed.Goals as goal
+
+still_countable : (o : Result Tallied Fault) (old new n : ℕ) → OnOk o (new ≡ old) → old < n → OnOk o (new < n)
+still_countable (Ok x) old new n same few = omega (arith, same, few)
+still_countable (Err e) old new n same few = tt
+
+never : (r : Result Summary Fault) (fault : Fault) → ¬ (IsErrOf r fault) → IfErr r (λ e. e ≢ fault)
+never (Ok x) fault differs = tt
+never (Err e) fault differs = λ is. differs (ap Err is)
+
+pub end_run-requires-clause-named : goal.end_run-requires-clause-named
+end_run-requires-clause-named g c = IfOk-weaker c.stream_run-outcome.result _ _ (λ tallied run. names_run c.args.scenario.now c.end-end.ensures.sound tallied.tallies run) c.stream_run-outcome.ensures.run
+
+pub end_run-requires-clause-countable : goal.end_run-requires-clause-countable
+end_run-requires-clause-countable g c = still_countable c.stream_run-outcome.result _ _ (2 ^ 63) c.stream_run-outcome.ensures.unfailed c.requires.countable
+
+pub returns-clause-promise : goal.returns-clause-promise
+returns-clause-promise g c =
+    let kept = c.stream_run-outcome.ensures in
+    c.end_run.ensures.promise c.args.trace.now (record {
+      run = kept.run;
+      whole = kept.whole;
+      part = kept.part;
+      lasts = kept.lasts;
+      lasts_report = kept.lasts_report;
+      worn = kept.worn;
+      write = kept.write;
+      unfailed = kept.unfailed;
+      relay = λ is. absurd (IfErr-at_err (λ fault. fault ≢ Relay) is kept.relay refl);
+    })
+
+pub returns-clause-lasts_report : goal.returns-clause-lasts_report
+returns-clause-lasts_report g c = on_came (¬ (WearsOutReport c.args.scenario.now)) c.end_run.result c.stream_run-outcome.result c.end_run.ensures.came c.stream_run-outcome.ensures.lasts_report
+
+pub returns-clause-worn : goal.returns-clause-worn
+returns-clause-worn g c = λ is. c.stream_run-outcome.ensures.worn (c.end_run.ensures.worn is)
+
+pub returns-clause-relay : goal.returns-clause-relay
+returns-clause-relay g c = never c.end_run.result Relay (λ is. IfErr-at_err (λ fault. fault ≢ Relay) (c.end_run.ensures.relay is) c.stream_run-outcome.ensures.relay refl)
