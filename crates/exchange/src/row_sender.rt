@@ -178,12 +178,7 @@ impl<'a, R: Wait> RowSender<'a, R> {
 }
 
 /// Sends a batch over the relay from its seat.
-fn hand<R: Wait>(
-    rt: &R,
-    relay: &Relay,
-    seat: &mut SendSeat,
-    batch: Batch,
-) -> Result<(), Fault>
+fn hand<R: Wait>(rt: &R, relay: &Relay, seat: &mut SendSeat, batch: Batch) -> Result<(), Fault>
     requires seat { IsSender relay.now seat.old }
     requires not_over { has_last (sent_by seat.old) ≡ false }
     requires named { All (NamesMembers (scenario_of relay.now)) batch.rows.items }
