@@ -1,0 +1,102 @@
+//! From a text to its mistakes.
+ghost use Rattle.std.specs.Prelude.{◌≡◌, true, IfOk};
+ghost use Rattle.scenario_reader.specs.Rules.{verdict};
+ghost use Rattle.mistakes.specs.Told.{AreTold, IsLeastRule, are_from, has_rule};
+
+use crate::cause::Cause;
+use crate::list::{Mistake, Mistakes};
+use crate::walk::find_mistakes;
+use base::Memory;
+use indexmap::IndexMap;
+use scenario_reader::read;
+use schema::Version;
+use std::alloc::Global;
+use toml_places::Span;
+
+/// All mistakes of the text that these bytes are, by their places. An accepted text has none; else the
+/// least rule among them is the one by which the text is refused.
+pub fn all(alloc: Global, bytes: &[u8]) -> Result<Mistakes, Memory>
+    ensures { IfOk result (λ found. AreTold (verdict bytes.now) found.list.items) }
+{
+    match read(alloc, bytes) {
+        Ok(_) => Ok(Mistakes {
+            list: Vec::new(alloc),
+            version: Version::One,
+            groups: IndexMap::new(alloc),
+            fault: String::new(alloc),
+        }),
+        Err(refusal) => {
+            if refusal.rule == 11 {
+                return Err(Memory);
+            }
+            refused(alloc, bytes, refusal.rule)
+        }
+    }
+}
+
+/// The mistakes of a text that is refused by a rule.
+fn refused(alloc: Global, bytes: &[u8], rule: u8) -> Result<Mistakes, Memory>
+    ensures { IfOk result (λ found. IsLeastRule rule found.list.items) }
+{
+    let Ok(found) = find_mistakes(alloc, bytes, rule) else {
+        return Err(Memory);
+    };
+    let Mistakes {
+        list,
+        version,
+        groups,
+        fault,
+    } = found;
+    let Ok(list) = told(alloc, list.as_slice(), rule) else {
+        return Err(Memory);
+    };
+    Ok(Mistakes {
+        list,
+        version,
+        groups,
+        fault,
+    })
+}
+
+/// The mistakes that were found, but for those of rules below this one, by which the text is refused; one
+/// in general words in front, where none of this rule was found.
+fn told(alloc: Global, found: &[Mistake], rule: u8) -> Result<Vec<Mistake>, Memory>
+    ensures { IfOk result (λ list. IsLeastRule rule list.items) }
+{
+    let mut list = from_rule(alloc, found, rule)?;
+    if !has_rule(list.as_slice(), rule) {
+        list.insert(0, general(rule))?;
+    }
+    Ok(list)
+}
+
+/// The mistakes but for those of rules below this one.
+fn from_rule(alloc: Global, found: &[Mistake], rule: u8) -> Result<Vec<Mistake>, Memory>
+    ensures { IfOk result (λ list. are_from rule list.items ≡ true) }
+{
+    let mut list = Vec::new(alloc);
+    for mistake in found {
+        if rule <= mistake.rule {
+            list.push(*mistake)?;
+        }
+    }
+    Ok(list)
+}
+
+/// Whether a mistake is of this rule.
+fn has_rule(list: &[Mistake], rule: u8) -> bool
+    ensures { result ≡ has_rule rule list.now }
+{
+    list.iter().any(|mistake| mistake.rule == rule)
+}
+
+/// A mistake of which the rule alone is known, at the start of the text.
+fn general(rule: u8) -> Mistake
+    ensures { result.rule ≡ rule }
+{
+    Mistake {
+        rule,
+        cause: Cause::General,
+        span: Span { start: 0, end: 0 },
+    }
+}
