@@ -7,7 +7,7 @@ mod simulation;
 pub mod system;
 
 pub use command_line::{
-    Asked, Failure, Release, RunWords, Split, SweepWords, division_asked, parse, refuse,
+    Asked, ExplainWords, Failure, Release, RunWords, Split, SweepWords, division_asked, parse, refuse,
     workers_asked,
 };
 pub use files::{FileFault, Files, PairFault, testing};

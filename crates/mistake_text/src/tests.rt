@@ -1,6 +1,6 @@
 //! The words of a text's mistakes.
 use crate::{json, lines};
-use mistakes::all;
+use mistakes::of_refused;
 use std::alloc::Global;
 use std::process::Abort;
 
@@ -76,8 +76,15 @@ const BROKEN_JSON: &str =
     "{\"accepted\":false,\"file\":\"a\\tb.toml\",\"mistakes\":[{\"column\":10,\"length\":0,\"line\":1,\"message\":\"the text is no TOML document\",\"remedy\":\"unexpected key or value, expected newline, `#`\",\"rule\":1}],\"more\":0}";
 
 /// Asserts what is told of a text.
-fn assert_lines(alloc: Global, rt: &impl Abort, file: &str, bytes: &[u8], wanted: &str) {
-    let mistakes = all(alloc, bytes).expect(rt, "memory");
+fn assert_lines(
+    alloc: Global,
+    rt: &impl Abort,
+    file: &str,
+    bytes: &[u8],
+    rule: u8,
+    wanted: &str,
+) {
+    let mistakes = of_refused(alloc, bytes, rule).expect(rt, "memory");
     let told = lines(alloc, file, bytes, &mistakes).expect(rt, "memory");
     assert!(rt; told.as_str() == wanted, "{told}");
 }
@@ -89,6 +96,7 @@ fn mistakes_are_told_in_lines(rt: HostRuntime) {
         &rt,
         "demo.toml",
         UNKNOWN.as_bytes(),
+        2,
         UNKNOWN_LINES,
     );
     assert_lines(
@@ -96,13 +104,14 @@ fn mistakes_are_told_in_lines(rt: HostRuntime) {
         &rt,
         "a\tb.toml",
         BROKEN.as_bytes(),
+        1,
         BROKEN_LINES,
     );
 }
 
 #[test]
 fn mistakes_are_told_as_json(rt: HostRuntime) {
-    let mistakes = all(rt.alloc(), BROKEN.as_bytes()).expect(&rt, "memory");
+    let mistakes = of_refused(rt.alloc(), BROKEN.as_bytes(), 1).expect(&rt, "memory");
     let told = json(rt.alloc(), "a\tb.toml", BROKEN.as_bytes(), &mistakes).expect(&rt, "memory");
     assert!(rt; told.as_str() == BROKEN_JSON, "{told}");
 }

@@ -1,7 +1,6 @@
--- Which mistakes may be told of a text, by what `read` answers to it.
-use Rattle.std.specs.Prelude.{◌≡◌, ℕ, List, [], Bool, true, nat_le, nat_eq, Result, Ok, Err}
+-- Which mistakes may be told of a text that is refused.
+use Rattle.std.specs.Prelude.{◌≡◌, ℕ, List, Bool, true, nat_le, nat_eq}
 use Rattle.std.specs.List.{list_any, list_all}
-use Rattle.scenario.specs.Setup.{Setup}
 use Rattle.mistakes.specs.declared.list.Mistake.{Mistake}
 
 -- no mistake is of a rule below this one
@@ -16,8 +15,3 @@ has_rule rule found = list_any (λ m. nat_eq m.rule rule) found
 pub record IsLeastRule (rule : ℕ) (found : List Mistake) : Type 0 where
   pub from : are_from rule found ≡ true
   pub there : has_rule rule found ≡ true
-
--- of an accepted text no mistake is told; of a refused one some are, the least rule among which is that of the answer
-abbrev pub AreTold : Result Setup ℕ → List Mistake → Type 0
-AreTold (Ok s) found = found ≡ []
-AreTold (Err rule) found = IsLeastRule rule found

@@ -19,6 +19,8 @@ pub struct Mistake {
 pub struct Mistakes {
     /// The mistakes by their places in the text.
     pub list: Vec<Mistake>,
+    /// The rule by which the text is refused, the least of these.
+    pub rule: u8,
     /// The version by which the text is judged.
     pub version: Version,
     /// The groups that the text names.

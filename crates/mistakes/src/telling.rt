@@ -1,48 +1,24 @@
 //! From a text to its mistakes.
 ghost use Rattle.std.specs.Prelude.{◌≡◌, true, IfOk};
-ghost use Rattle.scenario_reader.specs.Rules.{verdict};
-ghost use Rattle.mistakes.specs.Told.{AreTold, IsLeastRule, are_from, has_rule};
+ghost use Rattle.mistakes.specs.Told.{IsLeastRule, are_from, has_rule};
 
 use crate::cause::Cause;
 use crate::list::{Mistake, Mistakes};
 use crate::walk::find_mistakes;
 use base::Memory;
-use indexmap::IndexMap;
-use scenario_reader::read;
-use schema::Version;
 use std::alloc::Global;
 use toml_places::Span;
 
-/// All mistakes of the text that these bytes are, by their places. An accepted text has none; else the
-/// least rule among them is the one by which the text is refused.
-pub fn all(alloc: Global, bytes: &[u8]) -> Result<Mistakes, Memory>
-    ensures { IfOk result (λ found. AreTold (verdict bytes.now) found.list.items) }
-{
-    match read(alloc, bytes) {
-        Ok(_) => Ok(Mistakes {
-            list: Vec::new(alloc),
-            version: Version::One,
-            groups: IndexMap::new(alloc),
-            fault: String::new(alloc),
-        }),
-        Err(refusal) => {
-            if refusal.rule == 11 {
-                return Err(Memory);
-            }
-            refused(alloc, bytes, refusal.rule)
-        }
-    }
-}
-
-/// The mistakes of a text that is refused by a rule.
-fn refused(alloc: Global, bytes: &[u8], rule: u8) -> Result<Mistakes, Memory>
-    ensures { IfOk result (λ found. IsLeastRule rule found.list.items) }
+/// The mistakes of a text that is refused by this rule, by their places. The least rule among them is this one.
+pub fn of_refused(alloc: Global, bytes: &[u8], rule: u8) -> Result<Mistakes, Memory>
+    ensures { IfOk result (λ found. (found.rule ≡ rule) × IsLeastRule rule found.list.items) }
 {
     let Ok(found) = find_mistakes(alloc, bytes, rule) else {
         return Err(Memory);
     };
     let Mistakes {
         list,
+        rule: _,
         version,
         groups,
         fault,
@@ -52,6 +28,7 @@ fn refused(alloc: Global, bytes: &[u8], rule: u8) -> Result<Mistakes, Memory>
     };
     Ok(Mistakes {
         list,
+        rule,
         version,
         groups,
         fault,

@@ -1,5 +1,6 @@
 //! Which mistakes a text has, and where.
-use crate::{Cause, all};
+use crate::{Cause, Mistakes, of_refused};
+use scenario_reader::read;
 use std::alloc::Global;
 use std::process::Abort;
 
@@ -136,9 +137,17 @@ fn edited(alloc: Global, rt: &impl Abort, old: &str, new: &str) -> String {
     TEXT.replacen(alloc, old, new, 1).expect(rt, "memory")
 }
 
+/// The mistakes of a text.
+fn found_in(alloc: Global, rt: &impl Abort, text: &[u8]) -> Mistakes {
+    match read(alloc, text) {
+        Ok(_) => panic!(rt; "accepted"),
+        Err(refusal) => of_refused(alloc, text, refusal.rule).expect(rt, "memory"),
+    }
+}
+
 /// Asserts the mistakes of a text.
 fn assert_mistakes(alloc: Global, rt: &impl Abort, text: &str, wanted: &[(u8, &str)]) {
-    let found = all(alloc, text.as_bytes()).expect(rt, "memory");
+    let found = found_in(alloc, rt, text.as_bytes());
     assert!(rt;
         found.list.len() == wanted.len(),
         "{} mistakes in {text}",
@@ -166,7 +175,7 @@ fn each_mistake_is_told_at_its_place(rt: HostRuntime) {
 
 #[test]
 fn bytes_that_are_no_text_are_told(rt: HostRuntime) {
-    let found = all(rt.alloc(), b"a = 1\nb = \"\xff\"").expect(&rt, "memory");
+    let found = found_in(rt.alloc(), &rt, b"a = 1\nb = \"\xff\"");
     assert!(rt; found.list.len() == 1);
     for mistake in &found.list {
         assert!(rt;

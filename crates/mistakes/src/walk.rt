@@ -127,7 +127,7 @@ pub(crate) fn found_at(places: &Places, place: usize) -> Found {
 pub(crate) fn find_mistakes(alloc: Global, bytes: &[u8], rule: u8) -> Result<Mistakes, Memory> {
     match std::str::from_utf8(bytes) {
         Ok(text) if rule == 1 => document_fault(alloc, text),
-        Ok(text) => walk_over(alloc, text),
+        Ok(text) => walk_over(alloc, text, rule),
         Err(error) => {
             let start = error.valid_up_to();
             let span = Span {
@@ -166,14 +166,15 @@ fn one_mistake(alloc: Global, cause: Cause, span: Span, fault: &str) -> Result<M
     })?;
     Ok(Mistakes {
         list,
+        rule: 1,
         version: Version::One,
         groups: IndexMap::new(alloc),
         fault: String::from_str(alloc, fault)?,
     })
 }
 
-/// The mistakes of a document.
-fn walk_over(alloc: Global, text: &str) -> Result<Mistakes, Memory> {
+/// The mistakes of a document that is refused by a rule.
+fn walk_over(alloc: Global, text: &str, rule: u8) -> Result<Mistakes, Memory> {
     let places = toml_places::read(alloc, text)?;
     let mut walk = Walk {
         alloc,
@@ -188,6 +189,7 @@ fn walk_over(alloc: Global, text: &str) -> Result<Mistakes, Memory> {
     list.sort_by_key(|mistake| mistake.span.start)?;
     Ok(Mistakes {
         list,
+        rule,
         version,
         groups,
         fault: String::new(alloc),

@@ -1,0 +1,8 @@
+//! The command `explain`: all mistakes of the scenario of a file that is refused, or what one that is accepted
+//! means.
+#![tactic(auto)]
+
+mod answer;
+mod explaining;
+
+pub use explaining::explain_file;
