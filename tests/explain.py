@@ -5,8 +5,10 @@
 
 The program is the one that ./swimsim has built, or FILE; nothing of it is built here. Each NAME.toml in
 tests/explain/refused has one text, and NAME.txt what `explain NAME.toml` prints of it, word for word. Then
-come texts that nobody should write: each has to be answered in words, in time and without a crash. With
---large they are 100 MB. The last line is `N passed, M failed`.
+come 2,000 texts that are broken at random (explain_places.py): what is told of each has its place in the text,
+on what the message names, and its least rule is that of `check`. Then come texts that nobody should write: each
+has to be answered in words, in time and without a crash. With --large they are 100 MB. The last line is
+`N passed, M failed`.
 """
 
 import argparse
@@ -15,8 +17,12 @@ import json
 import subprocess
 import sys
 import tempfile
+import threading
 import time
+import zlib
 from pathlib import Path
+
+import explain_places
 
 TESTS = Path(__file__).resolve().parent
 BUILT = TESTS.parent / 'crates' / 'swimsim' / 'out' / 'swimsim'
@@ -28,31 +34,44 @@ GROUP = b'[[group]]\nname = "n"\ncount = 2\n'
 class Explained:
     """What the program printed of a text."""
 
-    def __init__(self, program, folder, name, *options):
+    def __init__(self, program, folder, *words):
         began = time.monotonic()
-        words = [program, 'explain', name, *options]
+        words = [program, *words]
         ran = subprocess.run(words, cwd=folder, capture_output=True, timeout=300)
         self.seconds = time.monotonic() - began
         self.status, self.output, self.error = ran.returncode, ran.stdout, ran.stderr
+
+    def document(self):
+        """What was printed, as JSON."""
+        return json.loads(self.output)
+
+
+def ended_wrong(told):
+    """What is wrong with how the explanation of a refused text ended; empty where nothing is."""
+    rules = [int(line[11:line.index(b']')]) for line in told.output.splitlines() if line.startswith(b'error[rule ')]
+    if told.status == 3 and rules and told.error == b'swimsim: scenario rule %d\n' % min(rules):
+        return ''
+    return f'status {told.status} with {told.error!r}'
 
 
 def golden(program):
     """For each text with a file of what is wanted: its name, and how what is printed differs from that."""
     for wanted in sorted(REFUSED.glob('*.txt')):
-        told = Explained(program, REFUSED, wanted.with_suffix('.toml').name)
+        told = Explained(program, REFUSED, 'explain', wanted.with_suffix('.toml').name)
         lines = wanted.read_bytes().decode().splitlines()
         seen = told.output.decode(errors='replace').splitlines()
-        yield wanted.stem, '\n'.join(difflib.unified_diff(lines, seen, 'wanted', 'printed', lineterm=''))
+        differs = '\n'.join(difflib.unified_diff(lines, seen, 'wanted', 'printed', lineterm=''))
+        yield wanted.stem, differs or ended_wrong(told)
 
 
 def documents(program):
     """For each text: its name, and what is wrong with its explanation as JSON."""
     for text in sorted(REFUSED.glob('*.toml')):
-        told = Explained(program, REFUSED, text.name, '--json')
+        told = Explained(program, REFUSED, 'explain', text.name, '--json')
         wanted = text.with_suffix('.txt').read_bytes().decode()
         heads = [line for line in wanted.splitlines() if line.startswith('error[rule ')]
         try:
-            document = json.loads(told.output)
+            document = told.document()
             seen = [f'error[rule {it["rule"]}]: {it["message"]}' for it in document['mistakes']]
             is_well = seen == heads and document['accepted'] is False and document['file'] == text.name
             yield f'{text.stem} as JSON', '' if is_well else f'{seen} in place of {heads}'
@@ -87,9 +106,9 @@ def hostile(size):
 def fault_of(program, folder, text, piece, most):
     """What is wrong with the explanation of a text; empty where nothing is."""
     (folder / 't.toml').write_bytes(text)
-    told = Explained(program, folder, 't.toml')
-    if told.status < 0 or told.status > 2:
-        return f'status {told.status}'
+    told = Explained(program, folder, 'explain', 't.toml')
+    if ended_wrong(told):
+        return ended_wrong(told)
     if piece not in told.output:
         return f'no {piece!r} in {told.output[-300:]!r}'
     if max(map(len, told.output.splitlines())) > 2000:
@@ -99,10 +118,20 @@ def fault_of(program, folder, text, piece, most):
     return f'{told.seconds:.1f} seconds' if told.seconds > most else ''
 
 
+def caller(program, folder):
+    """What runs the program with words on a text, which stands in a file of its own."""
+    def call(content, *words):
+        name = f'{zlib.crc32(content)}-{threading.get_ident()}.toml'
+        (folder / name).write_bytes(content)
+        return Explained(program, folder, *words, name)
+    return call
+
+
 def cases(program, folder, size):
     """All cases: their names, and what is wrong."""
     yield from golden(program)
     yield from documents(program)
+    yield from explain_places.cases(caller(program, folder), 2000)
     for name, text, piece, most in hostile(size):
         yield name, fault_of(program, folder, text, piece, most)
 

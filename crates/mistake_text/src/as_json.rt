@@ -1,5 +1,13 @@
 //! The mistakes of a text as JSON.
-use crate::as_lines::MOST;
+ghost use Rattle.std.specs.Prelude.{◌≡◌, ◌++◌, ◌∷◌, [], IfOk, OnOk, Some, codes, map, string_bytes, true};
+ghost use Rattle.serde_json.specs.Data.{depth, number, unsigned};
+ghost use Rattle.serde_json.specs.Find.{get};
+ghost use Rattle.serde_json.specs.Read.{read};
+ghost use Rattle.serde_json.specs.View.{view};
+ghost use Rattle.mistakes.specs.Told.{IsLeastRule};
+ghost use Rattle.mistake_text.specs.Told.{AreRulesOf, TellsDocument, are_shallow, document_of};
+
+use crate::choice::{MOST, shown};
 use crate::context::Context;
 use crate::words::{Words, words_of};
 use base::Memory;
@@ -8,28 +16,59 @@ use serde_json::{Value, json};
 use std::alloc::Global;
 use toml_places::position_of;
 
-/// The mistakes of the text of a file as a JSON document, at most 50 of them by their places; `more` says
-/// how many others there are.
+/// The mistakes of the text of a file as a JSON document, at most 50 of them by their places, on a line of its
+/// own; `more` says how many others there are.
 pub fn json(
     alloc: Global,
     file: &str,
     bytes: &[u8],
     mistakes: &Mistakes,
-) -> Result<String, Memory> {
+) -> Result<String, Memory>
+    requires least { IsLeastRule mistakes.now.rule mistakes.now.list.items }
+    ensures { IfOk result (λ text. TellsDocument mistakes.now.rule (string_bytes text)) }
+{
     let context = Context::new(alloc, bytes, mistakes);
-    let mut list = Vec::new(alloc);
-    for mistake in mistakes.list.iter().take(MOST) {
-        list.push(mistake_value(&context, mistake)?)?;
-    }
+    let shown = shown(alloc, mistakes)?;
+    let values = values(&context, shown.as_slice())?;
     let more = mistakes.list.len().saturating_sub(MOST);
-    let list = Value::Array(list);
+    let mut text = document_text(alloc, file, values, more)?;
+    text.push_str("\n")?;
+    Ok(text)
+}
+
+/// The text of the document that has these values of mistakes.
+fn document_text(
+    alloc: Global,
+    file: &str,
+    values: Vec<Value>,
+    more: usize,
+) -> Result<String, Memory>
+    ensures { are_shallow (map view values.entry.items) ≡ true → IfOk result
+        (λ text. read (string_bytes text) ≡ Some (document_of file.now (map view values.entry.items) more)) }
+{
+    let values = Value::Array(values);
     let document =
-        json!(in alloc; {"file": file, "accepted": false, "mistakes": list, "more": more})?;
+        json!(in alloc; {"file": file, "accepted": false, "mistakes": values, "more": more})?;
     Ok(document.to_string(alloc)?)
 }
 
+/// The values of these mistakes.
+fn values(context: &Context<'_>, shown: &[Mistake]) -> Result<Vec<Value>, Memory>
+    ensures rules { IfOk result (λ values. AreRulesOf shown.now (map view values.items)) }
+    ensures shallow { IfOk result (λ values. are_shallow (map view values.items) ≡ true) }
+{
+    let mut values = Vec::new(context.alloc);
+    for mistake in shown {
+        values.push(mistake_value(context, mistake)?)?;
+    }
+    Ok(values)
+}
+
 /// A mistake as a JSON object.
-fn mistake_value(context: &Context<'_>, mistake: &Mistake) -> Result<Value, Memory> {
+fn mistake_value(context: &Context<'_>, mistake: &Mistake) -> Result<Value, Memory>
+    ensures rule { IfOk result (λ value. get (codes "rule") (view value) ≡ Some (number (unsigned mistake.now.rule))) }
+    ensures shallow { IfOk result (λ value. depth (view value) ≡ 1) }
+{
     let alloc = context.alloc;
     let words = words_of(context, mistake)?;
     let remedy = remedy_of(alloc, &words)?;

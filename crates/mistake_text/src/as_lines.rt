@@ -1,15 +1,17 @@
 //! The mistakes of a text as lines for people.
+ghost use Rattle.std.specs.Prelude.{◌≡◌, ◌++◌, IfOk, OnOk, string_bytes};
+ghost use Rattle.mistakes.specs.Told.{IsLeastRule};
+ghost use Rattle.mistake_text.specs.Told.{AreBlocks, TellsLines, block_of, count_line};
+
+use crate::choice::{MOST, shown};
 use crate::context::Context;
 use crate::excerpt::excerpt_of;
 use crate::shown::shown_whole;
 use crate::words::words_of;
 use base::Memory;
 use mistakes::{Mistake, Mistakes};
-use std::alloc::Global;
+use std::alloc::{AllocError, Global};
 use toml_places::{Position, position_of};
-
-/// At most so many mistakes are shown.
-pub(crate) const MOST: usize = 50;
 
 /// The mistakes of the text of a file, at most 50 of them by their places, and how many there are.
 pub fn lines(
@@ -17,57 +19,70 @@ pub fn lines(
     file: &str,
     bytes: &[u8],
     mistakes: &Mistakes,
-) -> Result<String, Memory> {
+) -> Result<String, Memory>
+    requires least { IsLeastRule mistakes.now.rule mistakes.now.list.items }
+    ensures { IfOk result (λ text. TellsLines mistakes.now.rule (string_bytes text)) }
+{
     let context = Context::new(alloc, bytes, mistakes);
     let file = shown_whole(alloc, file)?;
-    let mut lines = String::new(alloc);
-    for mistake in mistakes.list.iter().take(MOST) {
-        push_mistake(&context, &mut lines, file.as_str(), mistake)?;
-    }
-    lines.push_str(count_line(alloc, mistakes.list.len())?.as_str())?;
+    let shown = shown(alloc, mistakes)?;
+    let mut lines = blocks(&context, file.as_str(), shown.as_slice())?;
+    push_count(&mut lines, mistakes.list.len())?;
     Ok(lines)
 }
 
-/// How many mistakes there are.
-fn count_line(alloc: Global, count: usize) -> Result<String, Memory> {
-    if count == 1 {
-        return Ok(String::from_str(alloc, "1 mistake\n")?);
+/// The lines of these mistakes.
+fn blocks(context: &Context<'_>, file: &str, shown: &[Mistake]) -> Result<String, Memory>
+    ensures { IfOk result (λ text. AreBlocks shown.now (string_bytes text)) }
+{
+    let mut lines = String::new(context.alloc);
+    for mistake in shown {
+        let words = told(context, file, mistake)?;
+        push_block(&mut lines, mistake.rule, words.as_str())?;
     }
-    if count <= MOST {
-        return Ok(format!(in alloc; "{count} mistakes\n")?);
-    }
-    let more = count.saturating_sub(MOST);
-    Ok(format!(in alloc; "{count} mistakes, {more} of them not shown\n")?)
+    Ok(lines)
 }
 
-/// Adds the lines of a mistake.
-fn push_mistake(
-    context: &Context<'_>,
-    lines: &mut String,
-    file: &str,
-    mistake: &Mistake,
-) -> Result<(), Memory> {
+/// Adds the words on a mistake of a rule.
+fn push_block(lines: &mut String, rule: u8, words: &str) -> Result<(), AllocError>
+    ensures { OnOk result (string_bytes lines.new ≡ string_bytes lines.old ++ block_of rule words.now) }
+{
+    write!(lines, "error[rule {rule}]: {words}")
+}
+
+/// Adds how many mistakes there are.
+fn push_count(lines: &mut String, count: usize) -> Result<(), AllocError>
+    ensures { OnOk result (string_bytes lines.new ≡ string_bytes lines.old ++ count_line count) }
+{
+    if count == 1 {
+        return lines.push_str("1 mistake\n");
+    }
+    if count <= MOST {
+        return write!(lines, "{count} mistakes\n");
+    }
+    let more = count - MOST;
+    write!(lines, "{count} mistakes, {more} of them not shown\n")
+}
+
+/// The words on a mistake: what is wrong, where, the line, and what helps.
+fn told(context: &Context<'_>, file: &str, mistake: &Mistake) -> Result<String, Memory> {
     let alloc = context.alloc;
     let words = words_of(context, mistake)?;
-    let rule = mistake.rule;
     let message = words.message.as_str();
     let at = position_of(context.bytes, mistake.span.start);
     let line = at.line;
     let column = at.column;
     let gutter = spaces(alloc, digits(line))?;
     let gutter = gutter.as_str();
-    let head = format!(in alloc;
-        "error[rule {rule}]: {message}\n{gutter} --> {file}:{line}:{column}\n"
-    )?;
-    lines.push_str(head.as_str())?;
-    push_excerpt(context, lines, mistake, at, words.label.as_str())?;
+    let mut lines = format!(in alloc; "{message}\n{gutter} --> {file}:{line}:{column}\n")?;
+    push_excerpt(context, &mut lines, mistake, at, words.label.as_str())?;
     if !words.note.is_empty() {
         let note = words.note.as_str();
         let block = format!(in alloc; "{gutter}  |\n{gutter}  = {note}\n")?;
         lines.push_str(block.as_str())?;
     }
     lines.push_str("\n")?;
-    Ok(())
+    Ok(lines)
 }
 
 /// Adds the line of the text, and the mark below it with what to do.

@@ -3,6 +3,7 @@
 
 mod as_json;
 mod as_lines;
+mod choice;
 mod context;
 mod excerpt;
 mod names;

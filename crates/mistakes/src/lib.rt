@@ -17,4 +17,4 @@ mod walk;
 pub use cause::{Cause, Departure, Found, Home};
 pub use list::{Mistake, Mistakes};
 pub use members::Known;
-pub use telling::of_refused;
+pub use telling::{has_rule, of_refused};

@@ -60,8 +60,8 @@ fn from_rule(alloc: Global, found: &[Mistake], rule: u8) -> Result<Vec<Mistake>,
     Ok(list)
 }
 
-/// Whether a mistake is of this rule.
-fn has_rule(list: &[Mistake], rule: u8) -> bool
+/// Whether one of the mistakes is of this rule.
+pub fn has_rule(list: &[Mistake], rule: u8) -> bool
     ensures { result ≡ has_rule rule list.now }
 {
     list.iter().any(|mistake| mistake.rule == rule)
