@@ -7,8 +7,8 @@ ghost use Rattle.cli.specs.Outcomes.{HasDone, Fails, Ends};
 
 use crate::simulation::ByThreads;
 use command_line::{
-    Asked, Failure, Release, parse, print_text, print_help, print_members, print_release,
-    print_rows, refuse,
+    Asked, Failure, Release, parse, print_help, print_members, print_release, print_rows,
+    print_text, refuse,
 };
 use explain_command::explain_file;
 use files::Files;

@@ -34,7 +34,7 @@ pub(crate) fn explain_command<'a>(alloc: Global) -> Result<Command<'a>, AllocErr
 /// The explanation that is asked for by words that `clap` took.
 pub(crate) fn explain_asked<'a>(matches: &ArgMatches<'a>) -> Option<ExplainWords<'a>>
     ensures some { IfSome result (IsExplainIn (subcommand_rows_of matches.now)) }
-    ensures none { IsNone result → (explain : Wondered) → ¬ (IsExplainIn (subcommand_rows_of matches.now) explain) }
+    ensures none { IsNone result → (wish : Wondered) → ¬ (IsExplainIn (subcommand_rows_of matches.now) wish) }
 {
     let explain = matches.subcommand_matches("explain")?;
     let file = value_of(explain, "FILE")?;

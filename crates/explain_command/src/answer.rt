@@ -3,9 +3,9 @@ ghost use Rattle.std.specs.Prelude.{◌≡◌, IfOk, None, Ok, Some, string_byte
 ghost use Rattle.scenario_reader.specs.Rules.{verdict};
 ghost use Rattle.explain_command.specs.Outcomes.{TellsMistakes, TellsText};
 
+use crate::meaning::meaning;
 use base::Memory;
 use command_line::ExplainWords;
-use links::Links;
 use mistakes::of_refused;
 use scenario::Scenario;
 use scenario_reader::read;
@@ -46,15 +46,7 @@ fn accepted(
 ) -> Result<Explained, Memory>
     ensures { IfOk result (λ told. told.broken ≡ None) }
 {
-    let links = Links::of(alloc, scenario)?;
-    let text = if words.json {
-        let meaning = meaning_json::json_of(alloc, words.file, scenario, &links)?;
-        let mut text = meaning.to_string(alloc)?;
-        text.push_str("\n")?;
-        text
-    } else {
-        meaning_text::text_of(alloc, scenario, &links)?
-    };
+    let text = meaning(alloc, words, scenario)?;
     Ok(Explained { text, broken: None })
 }
 

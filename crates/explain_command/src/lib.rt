@@ -4,5 +4,6 @@
 
 mod answer;
 mod explaining;
+mod meaning;
 
 pub use explaining::explain_file;

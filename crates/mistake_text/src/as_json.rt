@@ -18,12 +18,7 @@ use toml_places::position_of;
 
 /// The mistakes of the text of a file as a JSON document, at most 50 of them by their places, on a line of its
 /// own; `more` says how many others there are.
-pub fn json(
-    alloc: Global,
-    file: &str,
-    bytes: &[u8],
-    mistakes: &Mistakes,
-) -> Result<String, Memory>
+pub fn json(alloc: Global, file: &str, bytes: &[u8], mistakes: &Mistakes) -> Result<String, Memory>
     requires least { IsLeastRule mistakes.now.rule mistakes.now.list.items }
     ensures { IfOk result (λ text. TellsDocument mistakes.now.rule (string_bytes text)) }
 {

@@ -14,12 +14,7 @@ use std::alloc::{AllocError, Global};
 use toml_places::{Position, position_of};
 
 /// The mistakes of the text of a file, at most 50 of them by their places, and how many there are.
-pub fn lines(
-    alloc: Global,
-    file: &str,
-    bytes: &[u8],
-    mistakes: &Mistakes,
-) -> Result<String, Memory>
+pub fn lines(alloc: Global, file: &str, bytes: &[u8], mistakes: &Mistakes) -> Result<String, Memory>
     requires least { IsLeastRule mistakes.now.rule mistakes.now.list.items }
     ensures { IfOk result (λ text. TellsLines mistakes.now.rule (string_bytes text)) }
 {

@@ -1,5 +1,5 @@
 //! Which mistakes are shown.
-ghost use Rattle.std.specs.Prelude.{◌≡◌, IfOk, find, nat_eq, take};
+ghost use Rattle.std.specs.Prelude.{◌≡◌, ◌++◌, ◌∷◌, [], IfOk, find, nat_eq, take};
 ghost use Rattle.mistakes.specs.Told.{IsLeastRule};
 ghost use Rattle.mistake_text.specs.Told.{AreShown};
 
@@ -21,18 +21,21 @@ pub(crate) fn shown(alloc: Global, mistakes: &Mistakes) -> Result<Vec<Mistake>, 
     if has_rule(first, mistakes.rule) {
         return copied(alloc, first);
     }
-    let mut shown = copied(alloc, beginning(found, MOST - 1))?;
-    if let Some(mistake) = first_of(found, mistakes.rule) {
-        shown.push(mistake)?;
+    let front = beginning(found, MOST - 1);
+    match first_of(found, mistakes.rule) {
+        Some(last) => with_last(alloc, front, last),
+        None => copied(alloc, front),
     }
-    Ok(shown)
 }
 
 /// The first mistakes, at most so many.
 fn beginning(found: &[Mistake], most: usize) -> &[Mistake]
     ensures { result.now ≡ take most found.now }
 {
-    &found[..found.len().min(most)]
+    if found.len() <= most {
+        return found;
+    }
+    &found[..most]
 }
 
 /// The same mistakes in a list of their own.
@@ -44,9 +47,23 @@ fn copied(alloc: Global, found: &[Mistake]) -> Result<Vec<Mistake>, Memory>
     Ok(list)
 }
 
+/// The same mistakes and one more.
+fn with_last(alloc: Global, front: &[Mistake], last: Mistake) -> Result<Vec<Mistake>, Memory>
+    ensures { IfOk result (λ list. list.items ≡ front.now ++ last ∷ []) }
+{
+    let mut list = copied(alloc, front)?;
+    list.push(last)?;
+    Ok(list)
+}
+
 /// The first mistake of a rule, if there is one.
 fn first_of(found: &[Mistake], rule: u8) -> Option<Mistake>
     ensures { result ≡ find (λ m. nat_eq m.rule rule) found.now }
 {
-    found.iter().copied().find(|mistake| mistake.rule == rule)
+    for mistake in found {
+        if mistake.rule == rule {
+            return Some(*mistake);
+        }
+    }
+    None
 }

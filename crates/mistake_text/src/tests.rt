@@ -76,14 +76,7 @@ const BROKEN_JSON: &str =
     "{\"accepted\":false,\"file\":\"a\\tb.toml\",\"mistakes\":[{\"column\":10,\"length\":0,\"line\":1,\"message\":\"the text is no TOML document\",\"remedy\":\"unexpected key or value, expected newline, `#`\",\"rule\":1}],\"more\":0}";
 
 /// Asserts what is told of a text.
-fn assert_lines(
-    alloc: Global,
-    rt: &impl Abort,
-    file: &str,
-    bytes: &[u8],
-    rule: u8,
-    wanted: &str,
-) {
+fn assert_lines(alloc: Global, rt: &impl Abort, file: &str, bytes: &[u8], rule: u8, wanted: &str) {
     let mistakes = of_refused(alloc, bytes, rule).expect(rt, "memory");
     let told = lines(alloc, file, bytes, &mistakes).expect(rt, "memory");
     assert!(rt; told.as_str() == wanted, "{told}");
