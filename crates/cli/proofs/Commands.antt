@@ -2,7 +2,6 @@
 use Rattle.std.proofs.Common.{◌≡◌, List, ℕ, Bool, true, false, Option, Result, Ok, Err, sym, subst, refl, inl, inr}
 use Rattle.std.proofs.lemmas.Result.{on_ok_weaker}
 use Rattle.std.specs.Result.{OnOk, IfErr}
-use Rattle.std.specs.Prelude.{IsErrAnd}
 use Rattle.std.specs.Io.KnownBytes.{Appends}
 use Rattle.clap.specs.Words.{Text}
 use Rattle.scenario_files.specs.Shelves.{Shelf}
@@ -137,8 +136,3 @@ asked_untold words answer sweep is h none = go sweep.progress refl
     go true e =
         let asks : Answers words (asked.Sweep sweep) = subst (Answers words) is h in
         absurd (none (sweep, asks, e))
-
--- what a `?` hands on is the error that it was given
-pub handed_on : {T E : Type 0} (Q : E → Type 0) (r : Result T E) (e : E) → IsErrAnd r (λ y. y ≡ e) → Q e → IfErr r Q
-handed_on Q (Ok x) e gives h = absurd gives
-handed_on Q (Err y) e gives h = subst Q (sym gives) h

@@ -1,6 +1,7 @@
 -- a run or a sweep that the words ask for, done and told or not done
 use Rattle.std.proofs.lemmas.Result.{IfErr-weaker}
-use Rattle.cli.proofs.Commands.{asked_explain_done, asked_explain_fails, asked_run_done, asked_run_fails, asked_sweep_fails, asked_untold, handed_on, is_command}
+use Rattle.cli.proofs.Commands.{asked_explain_done, asked_explain_fails, asked_run_done, asked_run_fails, asked_sweep_fails, asked_untold, is_command}
+use Rattle.scenario_files.proofs.Held.{handed_on}
 use Rattle.cli.proofs.program.perform.Goals as goal
 
 pub returns-in_ok-summary-in-Run-clause-done : goal.returns-in_ok-summary-in-Run-clause-done
