@@ -1,3 +1,3 @@
 mod Blocks
-mod Shown
+mod Chosen
 mod Values

@@ -1,4 +1,4 @@
-use Rattle.mistake_text.proofs.Shown.{first_here, first_later}
+use Rattle.mistake_text.proofs.Chosen.{first_here, first_later}
 use Rattle.mistake_text.proofs.choice.first_of.Goals as goal
 
 pub returns-then-rule-eq : goal.returns-then-rule-eq

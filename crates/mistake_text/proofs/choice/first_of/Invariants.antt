@@ -1,5 +1,5 @@
 use Rattle.std.proofs.Common.{◌≡◌, drop, find}
-use Rattle.mistake_text.proofs.Shown.{is_of}
+use Rattle.mistake_text.proofs.Chosen.{is_of}
 use Rattle.mistake_text.proofs.choice.first_of.Given as goal
 
 abbrev pub invariant-loop-mistake : goal.invariant-loop-mistake

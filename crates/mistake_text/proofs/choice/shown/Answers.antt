@@ -1,6 +1,6 @@
 use Rattle.std.proofs.Common.{◌∙◌, sym}
 use Rattle.std.proofs.lemmas.Result.{IfOk-weaker}
-use Rattle.mistake_text.proofs.Shown.{begun, led_by, led_by_none}
+use Rattle.mistake_text.proofs.Chosen.{begun, led_by, led_by_none}
 use Rattle.mistake_text.proofs.choice.shown.Goals as goal
 
 pub returns-then-has_rule : goal.returns-then-has_rule
