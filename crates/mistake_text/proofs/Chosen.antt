@@ -1,8 +1,9 @@
 -- The mistakes that are shown have the least rule of all.
-use Rattle.std.proofs.Common.{◌≡◌, ◌∙◌, ◌&&◌, ◌||◌, ◌++◌, ◌∷◌, ℕ, zero, suc, Bool, true, false, List, [], ◌+◌, ◌<◌, None, Some, cond, option_map_or, drop, find, get_or, length, nat_eq, nat_le, ap, sym, subst, refl, take, arith}
+use Rattle.std.proofs.Common.{◌≡◌, ◌∙◌, ◌&&◌, ◌||◌, ◌++◌, ◌∷◌, ℕ, zero, suc, Bool, true, false, List, [], ◌+◌, ◌<◌, None, Some, cond, drop, find, get_or, length, nat_eq, nat_le, ap, sym, subst, refl, take, arith}
 use Rattle.std.proofs.lemmas.Bool.{false≢true}
 use Rattle.std.proofs.lemmas.Bool.Decides.{nat_tests}
-use Rattle.std.proofs.lemmas.List.{append_nil, drop_more}
+use Rattle.std.specs.Option.{option_map_or}
+use Rattle.std.proofs.lemmas.List.{append-nil, drop_more}
 use Rattle.std.proofs.lemmas.List.Folds.{list_all-append, list_any-append}
 use Rattle.mistakes.specs.Told.{IsLeastRule, are_from, has_rule}
 use Rattle.mistakes.specs.declared.list.Mistake.{Mistake}
@@ -12,16 +13,18 @@ abbrev pub is_of : ℕ → Mistake → Bool
 is_of rule m = nat_eq m.rule rule
 
 -- the first of a rule, in a loop
-pub first_here : (rule : ℕ) (ms : List Mistake) (i : ℕ) (d : Mistake) → i < length ms → is_of rule (get_or ms i d) ≡ true
+pub first_here : (rule : ℕ) (ms : List Mistake) (i : ℕ) (d : Mistake) → i < length ms → (get_or ms i d).rule ≡ rule
     → find (is_of rule) ms ≡ find (is_of rule) (drop i ms) → Some (get_or ms i d) ≡ find (is_of rule) ms
-first_here rule ms i d inside is so_far =
+first_here rule ms i d inside same so_far =
     let m = get_or ms i d in
+    let is : nat_eq m.rule rule ≡ true = grind (arith, nat_tests) in
     sym (so_far ∙ ap (find (is_of rule)) (drop_more ms i d inside) ∙ ap (λ b. cond b (Some m) (find (is_of rule) (drop (i + 1) ms))) is)
 
-pub first_later : (rule : ℕ) (ms : List Mistake) (i : ℕ) (d : Mistake) → i < length ms → is_of rule (get_or ms i d) ≡ false
+pub first_later : (rule : ℕ) (ms : List Mistake) (i : ℕ) (d : Mistake) → i < length ms → ¬ ((get_or ms i d).rule ≡ rule)
     → find (is_of rule) ms ≡ find (is_of rule) (drop i ms) → find (is_of rule) ms ≡ find (is_of rule) (drop (i + 1) ms)
-first_later rule ms i d inside other so_far =
+first_later rule ms i d inside unlike so_far =
     let m = get_or ms i d in
+    let other : nat_eq m.rule rule ≡ false = grind (arith, nat_tests) in
     so_far ∙ ap (find (is_of rule)) (drop_more ms i d inside) ∙ ap (λ b. cond b (Some m) (find (is_of rule) (drop (i + 1) ms))) other
 
 -- a part of mistakes that are from a rule on
@@ -100,4 +103,4 @@ pub led_by_none : (rule : ℕ) (found first front shown : List Mistake) → IsLe
     → front ≡ take 49 found → find (is_of rule) found ≡ None → shown ≡ front → AreShown rule found shown
 led_by_none rule found first front shown least is none begins finds same =
     let no_one : first_of rule found ≡ [] = ap (option_map_or (λ m. m ∷ []) []) finds in
-    led rule found first front shown least is none begins (same ∙ sym (append_nil front) ∙ ap (λ ms. front ++ ms) (sym no_one))
+    led rule found first front shown least is none begins (same ∙ sym (append-nil front) ∙ ap (λ ms. front ++ ms) (sym no_one))

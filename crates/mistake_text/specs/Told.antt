@@ -1,7 +1,8 @@
 -- What is told of the mistakes of a text that is refused.
-use Rattle.std.specs.Prelude.{◌≡◌, ℕ, ◌-◌, ◌==◌, nat_le, nat_eq, if◌then◌else◌, List, [], ◌∷◌, ◌++◌, Option, Some, option_map_or, Bool, false, codes, find, length, map, take}
+use Rattle.std.specs.Prelude.{◌≡◌, ℕ, ◌-◌, ◌==◌, nat_le, nat_eq, if◌then◌else◌, List, [], ◌∷◌, ◌++◌, Option, Some, Bool, false, codes, find, length, map, take}
 use Rattle.std.specs.Fmt.{decimal}
 use Rattle.std.specs.List.{list_all}
+use Rattle.std.specs.Option.{option_map_or}
 use Rattle.serde_json.specs.Data.{Data, boolean, number, unsigned, string, array, object, member, no_members, depth}
 use Rattle.serde_json.specs.Find.{get}
 use Rattle.serde_json.specs.Read.{read}
@@ -23,9 +24,13 @@ pub record AreShown (rule : ℕ) (found shown : List Mistake) : Type 0 where
   pub chosen : shown ≡ shown_of rule found
   pub least : IsLeastRule rule shown
 
--- what the words on a mistake begin with
+-- what the words on a mistake of a rule begin with
+abbrev pub head_of : ℕ → List ℕ
+head_of rule = codes "error[rule " ++ decimal rule ++ codes "]: "
+
+-- the words on one
 abbrev pub block_of : ℕ → List ℕ → List ℕ
-block_of rule words = codes "error[rule " ++ decimal rule ++ codes "]: " ++ words
+block_of rule words = head_of rule ++ words
 
 -- words on each of the mistakes, in their order
 abbrev pub AreBlocks : List Mistake → List ℕ → Type 0

@@ -13,8 +13,8 @@ use crate::words::{Words, words_of};
 use base::Memory;
 use mistakes::{Mistake, Mistakes};
 use serde_json::{Value, json};
-use std::alloc::Global;
-use toml_places::position_of;
+use std::alloc::{AllocError, Global};
+use toml_places::{Position, position_of};
 
 /// The mistakes of the text of a file as a JSON document, at most 50 of them by their places, on a line of its
 /// own; `more` says how many others there are.
@@ -38,8 +38,8 @@ fn document_text(
     values: Vec<Value>,
     more: usize,
 ) -> Result<String, Memory>
-    ensures { are_shallow (map view values.entry.items) ≡ true → IfOk result
-        (λ text. read (string_bytes text) ≡ Some (document_of file.now (map view values.entry.items) more)) }
+    ensures { are_shallow (map view values.items) ≡ true → IfOk result
+        (λ text. read (string_bytes text) ≡ Some (document_of file.now (map view values.items) more)) }
 {
     let values = Value::Array(values);
     let document =
@@ -67,22 +67,37 @@ fn mistake_value(context: &Context<'_>, mistake: &Mistake) -> Result<Value, Memo
     let alloc = context.alloc;
     let words = words_of(context, mistake)?;
     let remedy = remedy_of(alloc, &words)?;
-    let remedy = remedy.as_str();
-    let message = words.message.as_str();
     let at = position_of(context.bytes, mistake.span.start);
+    let length = context.at(mistake.span).chars().count();
+    let message = words.message.as_str();
+    match object(alloc, mistake.rule, message, remedy.as_str(), at, length) {
+        Ok(value) => Ok(value),
+        Err(_) => Err(Memory),
+    }
+}
+
+/// The JSON object that tells this of a mistake.
+fn object(
+    alloc: Global,
+    rule: u8,
+    message: &str,
+    remedy: &str,
+    at: Position,
+    length: usize,
+) -> Result<Value, AllocError>
+    ensures rule { IfOk result (λ value. get (codes "rule") (view value) ≡ Some (number (unsigned rule))) }
+    ensures shallow { IfOk result (λ value. depth (view value) ≡ 1) }
+{
     let line = at.line;
     let column = at.column;
-    let rule = mistake.rule;
-    let length = context.at(mistake.span).chars().count();
-    let value = json!(in alloc; {
+    json!(in alloc; {
         "rule": rule,
         "message": message,
         "remedy": remedy,
         "line": line,
         "column": column,
         "length": length
-    })?;
-    Ok(value)
+    })
 }
 
 /// What to do, and what else helps.

@@ -1,7 +1,7 @@
 //! The mistakes of a text as lines for people.
 ghost use Rattle.std.specs.Prelude.{◌≡◌, ◌++◌, IfOk, OnOk, string_bytes};
 ghost use Rattle.mistakes.specs.Told.{IsLeastRule};
-ghost use Rattle.mistake_text.specs.Told.{AreBlocks, TellsLines, block_of, count_line};
+ghost use Rattle.mistake_text.specs.Told.{AreBlocks, TellsLines, block_of, count_line, head_of};
 
 use crate::choice::{MOST, shown};
 use crate::context::Context;
@@ -42,7 +42,15 @@ fn blocks(context: &Context<'_>, file: &str, shown: &[Mistake]) -> Result<String
 fn push_block(lines: &mut String, rule: u8, words: &str) -> Result<(), AllocError>
     ensures { OnOk result (string_bytes lines.new ≡ string_bytes lines.old ++ block_of rule words.now) }
 {
-    write!(lines, "error[rule {rule}]: {words}")
+    push_head(lines, rule)?;
+    lines.push_str(words)
+}
+
+/// Adds what the words on a mistake of a rule begin with.
+fn push_head(lines: &mut String, rule: u8) -> Result<(), AllocError>
+    ensures { OnOk result (string_bytes lines.new ≡ string_bytes lines.old ++ head_of rule) }
+{
+    write!(lines, "error[rule {rule}]: ")
 }
 
 /// Adds how many mistakes there are.
