@@ -12,7 +12,7 @@ use Rattle.mistakes.specs.declared.list.Mistake.{Mistake}
 
 -- the first mistake of this rule, if there is one
 abbrev pub first_of : ℕ → List Mistake → List Mistake
-first_of rule found = option_map_or (λ m. m ∷ []) [] (find (λ m. nat_eq m.rule rule) found)
+first_of rule found = option_map_or (λ m. m ∷ []) (find (λ m. nat_eq m.rule rule) found) []
 
 -- The mistakes that are shown, at most 50: the first by their places; where none of these is of the least rule, the last of
 -- them gives way to the first that is.
@@ -61,12 +61,16 @@ AreRulesOf shown values = map (λ d. get (codes "rule") d) values ≡ map (λ m.
 abbrev pub are_shallow : List Data → Bool
 are_shallow values = list_all (λ d. nat_le (depth d) 1) values
 
--- the document of a file's mistakes, with these values, and how many more there are
-abbrev pub document_of : List ℕ → List Data → ℕ → Data
-document_of file values more =
+-- the document of a file's mistakes, and how many more there are
+abbrev pub document_with : List ℕ → Data → ℕ → Data
+document_with file mistakes more =
     let counted = member (codes "more") (number (unsigned more)) no_members in
-    let listed = member (codes "mistakes") (array (items_of values)) counted in
+    let listed = member (codes "mistakes") mistakes counted in
     object (member (codes "accepted") (boolean false) (member (codes "file") (string file) listed))
+
+-- the same with these values of them
+abbrev pub document_of : List ℕ → List Data → ℕ → Data
+document_of file values more = document_with file (array (items_of values)) more
 
 -- the text is a line that reads as a document, whose values tell the rules of the mistakes that are shown
 pub record TellsDocument (rule : ℕ) (text : List ℕ) : Type 0 where
