@@ -12,8 +12,8 @@ blocks_push (first ∷ ms) m text words (old, rest, is, more) =
     (old, rest ++ block_of m.rule words, ap (λ t. t ++ block_of m.rule words) is ∙ append_assoc (block_of first.rule old) rest (block_of m.rule words), blocks_push ms m rest words more)
 
 -- the same in a loop
-pub blocks_more : (ms : List Mistake) (i : ℕ) (m d : Mistake) (text after words : List ℕ) → i < length ms → m ≡ get_or ms i d
-    → AreBlocks (take i ms) text → after ≡ text ++ block_of m.rule words → AreBlocks (take (i + 1) ms) after
-blocks_more ms i m d text after words lt at so_far is =
-    let read : take (i + 1) ms ≡ take i ms ++ m ∷ [] = take_more ms i d lt ∙ ap (λ n. take i ms ++ n ∷ []) (sym at) in
-    subst (λ ns. AreBlocks ns after) (sym read) (subst (AreBlocks (take i ms ++ m ∷ [])) (sym is) (blocks_push (take i ms) m text words so_far))
+pub blocks_more : (ms : List Mistake) (i : ℕ) (d : Mistake) (text after words : List ℕ) → i < length ms
+    → AreBlocks (take i ms) text → after ≡ text ++ block_of (get_or ms i d).rule words → AreBlocks (take (i + 1) ms) after
+blocks_more ms i d text after words inside so_far is =
+    subst (λ ns. AreBlocks ns after) (sym (take_more ms i d inside))
+    (subst (AreBlocks (take i ms ++ get_or ms i d ∷ [])) (sym is) (blocks_push (take i ms) (get_or ms i d) text words so_far))

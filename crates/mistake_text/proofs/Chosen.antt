@@ -1,5 +1,5 @@
 -- The mistakes that are shown have the least rule of all.
-use Rattle.std.proofs.Common.{◌≡◌, ◌∙◌, ◌&&◌, ◌||◌, ◌++◌, ◌∷◌, ℕ, zero, suc, Bool, true, false, List, [], ◌+◌, ◌<◌, None, Some, cond, drop, find, get_or, length, nat_eq, nat_le, ap, sym, subst, refl, take, arith}
+use Rattle.std.proofs.Common.{◌≡◌, ◌∙◌, ◌&&◌, ◌||◌, ◌++◌, ◌∷◌, ℕ, zero, suc, Bool, true, false, List, [], ◌+◌, ◌<◌, Option, None, Some, cond, drop, find, get_or, length, nat_eq, nat_le, ap, sym, subst, refl, take, arith}
 use Rattle.std.proofs.lemmas.Bool.{false≢true}
 use Rattle.std.proofs.lemmas.Bool.Decides.{nat_tests}
 use Rattle.std.specs.Option.{option_map_or}
@@ -96,11 +96,11 @@ led rule found first front shown least is none begins same =
 pub led_by : (rule : ℕ) (found first front shown : List Mistake) (last : Mistake) → IsLeastRule rule found → first ≡ take 50 found → has_rule rule first ≡ false
     → front ≡ take 49 found → find (is_of rule) found ≡ Some last → shown ≡ front ++ last ∷ [] → AreShown rule found shown
 led_by rule found first front shown last least is none begins finds same =
-    let one : first_of rule found ≡ last ∷ [] = ap (option_map_or (λ m. m ∷ []) []) finds in
+    let one : first_of rule found ≡ last ∷ [] = ap (λ (o : Option Mistake). option_map_or (λ m. m ∷ []) o []) finds in
     led rule found first front shown least is none begins (same ∙ ap (λ ms. front ++ ms) (sym one))
 
 pub led_by_none : (rule : ℕ) (found first front shown : List Mistake) → IsLeastRule rule found → first ≡ take 50 found → has_rule rule first ≡ false
     → front ≡ take 49 found → find (is_of rule) found ≡ None → shown ≡ front → AreShown rule found shown
 led_by_none rule found first front shown least is none begins finds same =
-    let no_one : first_of rule found ≡ [] = ap (option_map_or (λ m. m ∷ []) []) finds in
+    let no_one : first_of rule found ≡ [] = ap (λ (o : Option Mistake). option_map_or (λ m. m ∷ []) o []) finds in
     led rule found first front shown least is none begins (same ∙ sym (append-nil front) ∙ ap (λ ms. front ++ ms) (sym no_one))

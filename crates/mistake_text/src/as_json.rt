@@ -5,7 +5,7 @@ ghost use Rattle.serde_json.specs.Find.{get};
 ghost use Rattle.serde_json.specs.Read.{read};
 ghost use Rattle.serde_json.specs.View.{view};
 ghost use Rattle.mistakes.specs.Told.{IsLeastRule};
-ghost use Rattle.mistake_text.specs.Told.{AreRulesOf, TellsDocument, are_shallow, document_of};
+ghost use Rattle.mistake_text.specs.Told.{AreRulesOf, TellsDocument, are_shallow, document_of, document_with};
 
 use crate::choice::{MOST, shown};
 use crate::context::Context;
@@ -41,10 +41,15 @@ fn document_text(
     ensures { are_shallow (map view values.items) ≡ true → IfOk result
         (λ text. read (string_bytes text) ≡ Some (document_of file.now (map view values.items) more)) }
 {
-    let values = Value::Array(values);
-    let document =
-        json!(in alloc; {"file": file, "accepted": false, "mistakes": values, "more": more})?;
+    let document = document(alloc, file, Value::Array(values), more)?;
     Ok(document.to_string(alloc)?)
+}
+
+/// The document that has this list of mistakes.
+fn document(alloc: Global, file: &str, mistakes: Value, more: usize) -> Result<Value, AllocError>
+    ensures { IfOk result (λ value. view value ≡ document_with file.now (view mistakes) more) }
+{
+    json!(in alloc; {"file": file, "accepted": false, "mistakes": mistakes, "more": more})
 }
 
 /// The values of these mistakes.
