@@ -1,11 +1,12 @@
 -- What was told of a file, or why nothing was.
-use Rattle.std.proofs.Common.{◌≡◌, ℕ, List, Option, sym, subst}
+use Rattle.std.proofs.Common.{◌≡◌, ℕ, List, Option, None, Some, sym, subst}
+use Rattle.std.specs.Io.KnownBytes.{Appends}
 use Rattle.files.specs.Files.{KnownFile}
 use Rattle.command_line.specs.declared.explaining.ExplainWords.{ExplainWords}
 use Rattle.command_line.specs.declared.failure.Failure.{Failure}
 use Rattle.command_line.specs.declared.failure.Failure.TheVariants.{File, Usage, Rule, Mistaken, Case, Workers, Division, Run, Memory, Output}
 use Rattle.scenario_files.specs.Shelves.{IsUnread}
-use Rattle.explain_command.specs.Outcomes.{ExplainFails, IsExplained}
+use Rattle.explain_command.specs.Outcomes.{ExplainFails, IsExplained, PrintsMeaning, TellsOf}
 
 -- a file that was not read isn't explained
 pub unread : (known : KnownFile) (explain : ExplainWords) (old new : Option (List ℕ)) (failure : Failure)
@@ -25,3 +26,12 @@ unread known explain old new Output h = absurd h
 pub unprinted : (known : KnownFile) (explain : ExplainWords) (old new : Option (List ℕ)) (failure : Failure)
     → failure ≡ Output → IsExplained known explain → ExplainFails known explain old new failure
 unprinted known explain old new failure is h = subst (ExplainFails known explain old new) (sym is) h
+
+-- what a scenario means was printed, or the mistakes of one that is refused
+pub meant : (known : KnownFile) (explain : ExplainWords) (old new : Option (List ℕ)) (broken : Option ℕ) (text : List ℕ)
+    → broken ≡ None → TellsOf known explain broken text → Appends old new text → PrintsMeaning known explain old new
+meant known explain old new broken text is told printed = (text, subst (λ (b : Option ℕ). TellsOf known explain b text) is told, printed)
+
+pub mistaken : (known : KnownFile) (explain : ExplainWords) (old new : Option (List ℕ)) (broken : Option ℕ) (text : List ℕ) (rule : ℕ)
+    → broken ≡ Some rule → TellsOf known explain broken text → Appends old new text → ExplainFails known explain old new (Mistaken rule)
+mistaken known explain old new broken text rule is told printed = (text, subst (λ (b : Option ℕ). TellsOf known explain b text) is told, printed)
