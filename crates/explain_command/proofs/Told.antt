@@ -28,10 +28,12 @@ pub unprinted : (known : KnownFile) (explain : ExplainWords) (old new : Option (
 unprinted known explain old new failure is h = subst (ExplainFails known explain old new) (sym is) h
 
 -- what a scenario means was printed, or the mistakes of one that is refused
-pub meant : (known : KnownFile) (explain : ExplainWords) (old new : Option (List ℕ)) (broken : Option ℕ) (text : List ℕ)
-    → broken ≡ None → TellsOf known explain broken text → Appends old new text → PrintsMeaning known explain old new
-meant known explain old new broken text is told printed = (text, subst (λ (b : Option ℕ). TellsOf known explain b text) is told, printed)
+pub meant : (known : KnownFile) (explain : ExplainWords) (old new : Option (List ℕ)) (broken : Option ℕ) (text shown : List ℕ)
+    → broken ≡ None → TellsOf known explain broken text → shown ≡ text → Appends old new shown → PrintsMeaning known explain old new
+meant known explain old new broken text shown is told whole printed =
+    (text, subst (λ (b : Option ℕ). TellsOf known explain b text) is told, subst (Appends old new) whole printed)
 
-pub mistaken : (known : KnownFile) (explain : ExplainWords) (old new : Option (List ℕ)) (broken : Option ℕ) (text : List ℕ) (rule : ℕ)
-    → broken ≡ Some rule → TellsOf known explain broken text → Appends old new text → ExplainFails known explain old new (Mistaken rule)
-mistaken known explain old new broken text rule is told printed = (text, subst (λ (b : Option ℕ). TellsOf known explain b text) is told, printed)
+pub mistaken : (known : KnownFile) (explain : ExplainWords) (old new : Option (List ℕ)) (broken : Option ℕ) (text shown : List ℕ) (rule : ℕ)
+    → broken ≡ Some rule → TellsOf known explain broken text → shown ≡ text → Appends old new shown → ExplainFails known explain old new (Mistaken rule)
+mistaken known explain old new broken text shown rule is told whole printed =
+    (text, subst (λ (b : Option ℕ). TellsOf known explain b text) is told, subst (Appends old new) whole printed)

@@ -18,9 +18,9 @@ returns-in_err-print_text-clause-failed g c =
 pub returns-in-None-clause-done : goal.returns-in-None-clause-done
 returns-in-None-clause-done g c =
     let known = g.F.Files.known c.args.files.now c.args.words.file.now in
-    meant known c.args.words _ _ _ (string_bytes c.in_ok-explained.explained.text) c.in-None.is c.in_ok-explained.ensures.told c.in_ok-print_text.ensures.printed
+    meant known c.args.words _ _ _ (string_bytes c.in_ok-explained.explained.text) _ c.in-None.is c.in_ok-explained.ensures.told c.as_str.ensures.value c.in_ok-print_text.ensures.printed
 
 pub returns-clause-failed : goal.returns-clause-failed
 returns-clause-failed g c =
     let known = g.F.Files.known c.args.files.now c.args.words.file.now in
-    mistaken known c.args.words _ _ _ (string_bytes c.in_ok-explained.explained.text) c.in-Some.rule c.in-Some.is c.in_ok-explained.ensures.told c.in_ok-print_text.ensures.printed
+    mistaken known c.args.words _ _ _ (string_bytes c.in_ok-explained.explained.text) _ c.in-Some.rule c.in-Some.is c.in_ok-explained.ensures.told c.as_str.ensures.value c.in_ok-print_text.ensures.printed
