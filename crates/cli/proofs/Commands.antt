@@ -2,79 +2,114 @@
 use Rattle.std.proofs.Common.{◌≡◌, List, ℕ, Bool, true, false, Option, Result, Ok, Err, sym, subst, refl, inl, inr}
 use Rattle.std.proofs.lemmas.Result.{on_ok_weaker}
 use Rattle.std.specs.Result.{OnOk, IfErr}
-use Rattle.std.specs.Prelude.{IsErrAnd}
 use Rattle.std.specs.Io.KnownBytes.{Appends}
 use Rattle.clap.specs.Words.{Text}
 use Rattle.scenario_files.specs.Shelves.{Shelf}
+use Rattle.explain_command.specs.Outcomes.{ExplainFails, PrintsMeaning}
 use Rattle.run_command.specs.Outcomes.{RunFails, RunsAll}
-use Rattle.run_command.proofs.Causes.{run_memory, run_output, run_usage}
+use Rattle.run_command.proofs.Causes.{run_memory, run_mistaken, run_output, run_usage}
 use Rattle.sweep_command.specs.Outcomes.{AsksForProgress, SweepFails}
-use Rattle.sweep_command.proofs.Causes.{sweep_memory, sweep_output, sweep_usage}
+use Rattle.sweep_command.proofs.Causes.{sweep_memory, sweep_mistaken, sweep_output, sweep_usage}
 use Rattle.cli.specs.Outcomes.{CheckFails, HasDone, Fails}
 use Rattle.files.specs.Files.{Making}
 use Rattle.command_line.specs.Printed.{rows_line}
-use Rattle.command_line.specs.Words.{Answers, AsksForRun, AsksForCheck, AsksForSweep, IsCommand}
+use Rattle.command_line.specs.Words.{Answers, AsksForRun, AsksForCheck, AsksForExplain, AsksForSweep, IsCommand}
 use Rattle.command_line.specs.declared.release.Release.{Release}
 use Rattle.command_line.specs.declared.words.Asked.{Asked}
 use Rattle.command_line.specs.declared.words.Asked.TheVariants as asked
+use Rattle.command_line.specs.declared.explaining.ExplainWords.{ExplainWords}
 use Rattle.command_line.specs.declared.words.RunWords.{RunWords}
 use Rattle.command_line.specs.declared.words.SweepWords.{SweepWords}
 use Rattle.command_line.specs.declared.failure.Failure.{Failure}
-use Rattle.command_line.specs.declared.failure.Failure.TheVariants.{File, Usage, Rule, Case, Workers, Division, Run, Memory, Output}
+use Rattle.command_line.specs.declared.failure.Failure.TheVariants.{File, Usage, Rule, Mistaken, Case, Workers, Division, Run, Memory, Output}
 
 -- words with an answer are a command
 pub is_command : (words : List Text) (answer : Asked) → Answers words answer → IsCommand words
 is_command words (asked.Run run) h = inl (run, h)
 is_command words (asked.Check file) h = inr (inl (file.now, h))
-is_command words (asked.Sweep sweep) h = inr (inr (inl (sweep, h)))
-is_command words (asked.Help help) h = inr (inr (inr (inl h.1)))
-is_command words asked.Version h = inr (inr (inr (inr h)))
+is_command words (asked.Explain explain) h = inr (inr (inl (explain, h)))
+is_command words (asked.Sweep sweep) h = inr (inr (inr (inl (sweep, h))))
+is_command words (asked.Help help) h = inr (inr (inr (inr (inl h.1))))
+is_command words asked.Version h = inr (inr (inr (inr (inr h))))
 
 -- why a run that the words ask for was not done
-pub run_fails : (words : List Text) (before after : Shelf) (making : Making) (run : RunWords) (failure : Failure)
-    → AsksForRun words run → RunFails before after making run failure → Fails words before after making failure
-run_fails words before after making run (File name) asks fails = inl (run, asks, fails)
-run_fails words before after making run (Rule rule) asks fails = inl (run, asks, fails)
-run_fails words before after making run (Case rule settings) asks fails = inl (run, asks, fails)
-run_fails words before after making run Workers asks fails = inl (run, asks, fails)
-run_fails words before after making run (Division cause) asks fails = inl (run, asks, fails)
-run_fails words before after making run (Run cause) asks fails = inl (run, asks, fails)
-run_fails words before after making run Usage asks fails = absurd (run_usage before after making run fails)
-run_fails words before after making run Output asks fails = absurd (run_output before after making run fails)
-run_fails words before after making run Memory asks fails = run_memory before after making run fails
+pub run_fails : (words : List Text) (before after : Shelf) (making : Making) (old new : Option (List ℕ)) (run : RunWords) (failure : Failure)
+    → AsksForRun words run → RunFails before after making run failure → Fails words before after making old new failure
+run_fails words before after making old new run (File name) asks fails = inl (run, asks, fails)
+run_fails words before after making old new run (Rule rule) asks fails = inl (run, asks, fails)
+run_fails words before after making old new run (Mistaken rule) asks fails = absurd (run_mistaken before after making run rule fails)
+run_fails words before after making old new run (Case rule settings) asks fails = inl (run, asks, fails)
+run_fails words before after making old new run Workers asks fails = inl (run, asks, fails)
+run_fails words before after making old new run (Division cause) asks fails = inl (run, asks, fails)
+run_fails words before after making old new run (Run cause) asks fails = inl (run, asks, fails)
+run_fails words before after making old new run Usage asks fails = absurd (run_usage before after making run fails)
+run_fails words before after making old new run Output asks fails = absurd (run_output before after making run fails)
+run_fails words before after making old new run Memory asks fails = run_memory before after making run fails
 
 -- why a check that the words ask for was not done
-pub check_fails : (words : List Text) (before after : Shelf) (making : Making) (file : Text) (failure : Failure)
-    → AsksForCheck words file → CheckFails before after file failure → Fails words before after making failure
-check_fails words before after making file (File name) asks fails = inr (inl (file, asks, fails))
-check_fails words before after making file (Rule rule) asks fails = inr (inl (file, asks, fails))
-check_fails words before after making file (Case rule settings) asks fails = absurd fails.cause
-check_fails words before after making file Memory asks fails = fails.same
-check_fails words before after making file Usage asks fails = absurd fails.cause
-check_fails words before after making file Workers asks fails = absurd fails.cause
-check_fails words before after making file (Division cause) asks fails = absurd fails.cause
-check_fails words before after making file (Run cause) asks fails = absurd fails.cause
-check_fails words before after making file Output asks fails = absurd fails.cause
+pub check_fails : (words : List Text) (before after : Shelf) (making : Making) (old new : Option (List ℕ)) (file : Text) (failure : Failure)
+    → AsksForCheck words file → CheckFails before after file failure → Fails words before after making old new failure
+check_fails words before after making old new file (File name) asks fails = inr (inl (file, asks, fails))
+check_fails words before after making old new file (Rule rule) asks fails = inr (inl (file, asks, fails))
+check_fails words before after making old new file (Mistaken rule) asks fails = absurd fails.cause
+check_fails words before after making old new file (Case rule settings) asks fails = absurd fails.cause
+check_fails words before after making old new file Memory asks fails = fails.same
+check_fails words before after making old new file Usage asks fails = absurd fails.cause
+check_fails words before after making old new file Workers asks fails = absurd fails.cause
+check_fails words before after making old new file (Division cause) asks fails = absurd fails.cause
+check_fails words before after making old new file (Run cause) asks fails = absurd fails.cause
+check_fails words before after making old new file Output asks fails = absurd fails.cause
+
+-- why the scenario that the words ask to explain isn't explained
+pub explain_fails : (words : List Text) (before after : Shelf) (making : Making) (old new : Option (List ℕ)) (explain : ExplainWords) (failure : Failure)
+    → AsksForExplain words explain → (after ≡ before) → ExplainFails (before explain.file.now) explain old new failure → Fails words before after making old new failure
+explain_fails words before after making old new explain (File name) asks same fails = inr (inr (inl (explain, asks, record { cause = fails; same = same })))
+explain_fails words before after making old new explain (Rule rule) asks same fails = absurd fails
+explain_fails words before after making old new explain (Mistaken rule) asks same fails = (explain, asks, record { cause = fails; same = same })
+explain_fails words before after making old new explain (Case rule settings) asks same fails = absurd fails
+explain_fails words before after making old new explain Memory asks same fails = same
+explain_fails words before after making old new explain Usage asks same fails = absurd fails
+explain_fails words before after making old new explain Workers asks same fails = absurd fails
+explain_fails words before after making old new explain (Division cause) asks same fails = absurd fails
+explain_fails words before after making old new explain (Run cause) asks same fails = absurd fails
+explain_fails words before after making old new explain Output asks same fails = inr (inr (inl (explain, asks, fails, same)))
+
+-- the same of an answer that is an explanation
+pub asked_explain_fails : (words : List Text) (before after : Shelf) (making : Making) (old new : Option (List ℕ)) (answer : Asked) (explain : ExplainWords) (failure : Failure)
+    → answer ≡ asked.Explain explain → Answers words answer → (after ≡ before) → ExplainFails (before explain.file.now) explain old new failure
+    → Fails words before after making old new failure
+asked_explain_fails words before after making old new answer explain failure is h same fails =
+    let asks : Answers words (asked.Explain explain) = subst (Answers words) is h in
+    explain_fails words before after making old new explain failure asks same fails
+
+-- what a scenario means that the words ask to explain was printed
+pub asked_explain_done : {E : Type 0} (release : Release) (words : List Text) (before after : Shelf) (making : Making) (old new : Option (List ℕ)) (answer : Asked) (explain : ExplainWords)
+    (printed : Result (Unit {0}) E) → answer ≡ asked.Explain explain → Answers words answer → (after ≡ before)
+    → OnOk printed (PrintsMeaning (before explain.file.now) explain old new) → OnOk printed (HasDone release words before after making old new)
+asked_explain_done release words before after making old new answer explain printed is h same told =
+    let asks : Answers words (asked.Explain explain) = subst (Answers words) is h in
+    on_ok_weaker printed (λ prints. inr (inr (inl (explain, asks, prints, same)))) told
 
 -- why a sweep that the words ask for was not done
-pub sweep_fails : (words : List Text) (before after : Shelf) (making : Making) (sweep : SweepWords) (failure : Failure)
-    → AsksForSweep words sweep → SweepFails before after making sweep failure → Fails words before after making failure
-sweep_fails words before after making sweep (File name) asks fails = inr (inr (sweep, asks, fails))
-sweep_fails words before after making sweep (Rule rule) asks fails = inr (inr (sweep, asks, fails))
-sweep_fails words before after making sweep (Case rule settings) asks fails = inr (inr (sweep, asks, fails))
-sweep_fails words before after making sweep Workers asks fails = inr (inr (sweep, asks, fails))
-sweep_fails words before after making sweep (Division cause) asks fails = inr (inr (sweep, asks, fails))
-sweep_fails words before after making sweep (Run cause) asks fails = inr (inr (sweep, asks, fails))
-sweep_fails words before after making sweep Usage asks fails = absurd (sweep_usage before after making sweep fails)
-sweep_fails words before after making sweep Output asks fails = absurd (sweep_output before after making sweep fails)
-sweep_fails words before after making sweep Memory asks fails = sweep_memory before after making sweep fails
+pub sweep_fails : (words : List Text) (before after : Shelf) (making : Making) (old new : Option (List ℕ)) (sweep : SweepWords) (failure : Failure)
+    → AsksForSweep words sweep → SweepFails before after making sweep failure → Fails words before after making old new failure
+sweep_fails words before after making old new sweep (File name) asks fails = inr (inr (inr (sweep, asks, fails)))
+sweep_fails words before after making old new sweep (Rule rule) asks fails = inr (inr (inr (sweep, asks, fails)))
+sweep_fails words before after making old new sweep (Mistaken rule) asks fails = absurd (sweep_mistaken before after making sweep rule fails)
+sweep_fails words before after making old new sweep (Case rule settings) asks fails = inr (inr (inr (sweep, asks, fails)))
+sweep_fails words before after making old new sweep Workers asks fails = inr (inr (inr (sweep, asks, fails)))
+sweep_fails words before after making old new sweep (Division cause) asks fails = inr (inr (inr (sweep, asks, fails)))
+sweep_fails words before after making old new sweep (Run cause) asks fails = inr (inr (inr (sweep, asks, fails)))
+sweep_fails words before after making old new sweep Usage asks fails = absurd (sweep_usage before after making sweep fails)
+sweep_fails words before after making old new sweep Output asks fails = absurd (sweep_output before after making sweep fails)
+sweep_fails words before after making old new sweep Memory asks fails = sweep_memory before after making sweep fails
 
 -- the same of an answer that is a run
-pub asked_run_fails : (words : List Text) (before after : Shelf) (making : Making) (answer : Asked) (run : RunWords) (failure : Failure)
-    → answer ≡ asked.Run run → Answers words answer → RunFails before after making run failure → Fails words before after making failure
-asked_run_fails words before after making answer run failure is h fails =
+pub asked_run_fails : (words : List Text) (before after : Shelf) (making : Making) (old new : Option (List ℕ)) (answer : Asked) (run : RunWords) (failure : Failure)
+    → answer ≡ asked.Run run → Answers words answer → RunFails before after making run failure → Fails words before after making old new failure
+asked_run_fails words before after making old new answer run failure is h fails =
     let asks : Answers words (asked.Run run) = subst (Answers words) is h in
-    run_fails words before after making run failure asks fails
+    run_fails words before after making old new run failure asks fails
 
 -- a run that the words ask for was done, and the number of its rows printed
 pub asked_run_done : {E : Type 0} (release : Release) (words : List Text) (before after : Shelf) (making : Making) (old new : Option (List ℕ)) (answer : Asked) (run : RunWords) (count : ℕ)
@@ -85,11 +120,11 @@ asked_run_done release words before after making old new answer run count printe
     on_ok_weaker printed (λ appended. inl (count, (run, asks, ran), appended)) told
 
 -- the same of an answer that is a sweep
-pub asked_sweep_fails : (words : List Text) (before after : Shelf) (making : Making) (answer : Asked) (sweep : SweepWords) (failure : Failure)
-    → answer ≡ asked.Sweep sweep → Answers words answer → SweepFails before after making sweep failure → Fails words before after making failure
-asked_sweep_fails words before after making answer sweep failure is h fails =
+pub asked_sweep_fails : (words : List Text) (before after : Shelf) (making : Making) (old new : Option (List ℕ)) (answer : Asked) (sweep : SweepWords) (failure : Failure)
+    → answer ≡ asked.Sweep sweep → Answers words answer → SweepFails before after making sweep failure → Fails words before after making old new failure
+asked_sweep_fails words before after making old new answer sweep failure is h fails =
     let asks : Answers words (asked.Sweep sweep) = subst (Answers words) is h in
-    sweep_fails words before after making sweep failure asks fails
+    sweep_fails words before after making old new sweep failure asks fails
 
 -- where the words ask for no sweep that tells how far it has come, this one doesn't
 pub asked_untold : (words : List Text) (answer : Asked) (sweep : SweepWords) → answer ≡ asked.Sweep sweep → Answers words answer
@@ -101,8 +136,3 @@ asked_untold words answer sweep is h none = go sweep.progress refl
     go true e =
         let asks : Answers words (asked.Sweep sweep) = subst (Answers words) is h in
         absurd (none (sweep, asks, e))
-
--- what a `?` hands on is the error that it was given
-pub handed_on : {T E : Type 0} (Q : E → Type 0) (r : Result T E) (e : E) → IsErrAnd r (λ y. y ≡ e) → Q e → IfErr r Q
-handed_on Q (Ok x) e gives h = absurd gives
-handed_on Q (Err y) e gives h = subst Q (sym gives) h

@@ -4,15 +4,17 @@ use Rattle.std.specs.Io.KnownBytes.{Appends}
 use Rattle.scenario.specs.Setup.{Setup, member_count}
 use Rattle.clap.specs.Words.{Text}
 use Rattle.files.specs.Files.{KnownFile, Making}
-use Rattle.command_line.specs.Words.{AsksForRun, AsksForCheck, AsksForHelp, AsksForVersion, IsNoCommand}
+use Rattle.command_line.specs.Words.{AsksForRun, AsksForCheck, AsksForExplain, AsksForHelp, AsksForVersion, IsNoCommand}
 use Rattle.command_line.specs.Printed.{rows_line, members_line, release_line}
-use Rattle.command_line.specs.Failures.{status_of}
+use Rattle.command_line.specs.Failures.{status_of, IsMistaken}
 use Rattle.command_line.specs.declared.release.Release.{Release}
+use Rattle.command_line.specs.declared.explaining.ExplainWords.{ExplainWords}
 use Rattle.command_line.specs.declared.words.RunWords.{RunWords}
 use Rattle.command_line.specs.declared.failure.Failure.{Failure}
-use Rattle.command_line.specs.declared.failure.Failure.TheVariants.{Usage, Memory, Output}
+use Rattle.command_line.specs.declared.failure.Failure.TheVariants.{Usage, Mistaken, Memory, Output}
 use Rattle.scenario_files.specs.Shelves.{Shelf, IsRefused}
 use Rattle.scenario_files.specs.Loading.{HasVerdict, LoadFails}
+use Rattle.explain_command.specs.Outcomes.{ExplainFails, IsExplained, PrintsMeaning}
 use Rattle.run_command.specs.Outcomes.{DoesRun, RunFails}
 use Rattle.sweep_command.specs.Outcomes.{DoesSweep, DoesNotSweep}
 
@@ -28,6 +30,11 @@ pub record HoldsScenario (known : KnownFile) (members : ℕ) : Type 0 where
 abbrev pub DoesCheck : List Text → Shelf → Shelf → ℕ → Type 0
 DoesCheck words before after members = (file : Text) × AsksForCheck words file × HoldsScenario (before file) members × (after ≡ before)
 
+-- what the scenario of the file means that the words ask to explain was printed
+abbrev pub DoesExplain : List Text → Shelf → Shelf → Option (List ℕ) → Option (List ℕ) → Type 0
+DoesExplain words before after old new =
+    (explain : ExplainWords) × AsksForExplain words explain × PrintsMeaning (before explain.file.now) explain old new × (after ≡ before)
+
 abbrev pub DoesHelp : List Text → Shelf → Shelf → Type 0
 DoesHelp words before after = AsksForHelp words × (after ≡ before)
 
@@ -35,20 +42,27 @@ abbrev pub DoesVersion : List Text → Shelf → Shelf → Type 0
 DoesVersion words before after = AsksForVersion words × (after ≡ before)
 
 -- what the words ask for was done: a run, and the number of its rows printed; a check, and the number of members
--- printed; a sweep, and the lines of its cases printed; help was printed; or the line that tells of this release
+-- printed; what a scenario means printed; a sweep, and the lines of its cases printed; help was printed; or the line that tells of this release
 abbrev pub HasDone : Release → List Text → Shelf → Shelf → Making → Option (List ℕ) → Option (List ℕ) → Type 0
 HasDone release words before after making old new = ((count : ℕ) × DoesRun words before after making count × Appends old new (rows_line count))
     ⊎ (((members : ℕ) × DoesCheck words before after members × Appends old new (members_line members))
+    ⊎ (DoesExplain words before after old new
     ⊎ (((lines : List ℕ) × DoesSweep words before after making lines × Appends old new lines)
     ⊎ (DoesHelp words before after
-    ⊎ (DoesVersion words before after × Appends old new (release_line release)))))
+    ⊎ (DoesVersion words before after × Appends old new (release_line release))))))
 
--- the same, but that standard output took less than it was given
+-- a text tells of the scenario of the file that the words ask to explain
+abbrev pub Explains : List Text → Shelf → Shelf → Type 0
+Explains words before after =
+    (explain : ExplainWords) × AsksForExplain words explain × IsExplained (before explain.file.now) explain × (after ≡ before)
+
+-- the same, but that standard output took less than it was given; of a scenario that is refused too it was to get what is told
 abbrev pub DoneUnprinted : List Text → Shelf → Shelf → Making → Type 0
 DoneUnprinted words before after making = ((count : ℕ) × DoesRun words before after making count)
     ⊎ (((members : ℕ) × DoesCheck words before after members)
+    ⊎ (Explains words before after
     ⊎ (((lines : List ℕ) × DoesSweep words before after making lines)
-    ⊎ (DoesHelp words before after ⊎ DoesVersion words before after)))
+    ⊎ (DoesHelp words before after ⊎ DoesVersion words before after))))
 
 -- ---- what was not done
 
@@ -56,24 +70,32 @@ DoneUnprinted words before after making = ((count : ℕ) × DoesRun words before
 abbrev pub CheckFails : Shelf → Shelf → Text → Failure → Type 0
 CheckFails before after file failure = IsRefused before after (LoadFails (before file) file failure)
 
--- why a run, a check or a sweep that the words ask for was not done
-abbrev pub DoesNot : List Text → Shelf → Shelf → Making → Failure → Type 0
-DoesNot words before after making failure =
+-- why the scenario of the file isn't explained: the file was not read, or standard output has got the mistakes of its text
+abbrev pub DoesNotExplain : List Text → Shelf → Shelf → Option (List ℕ) → Option (List ℕ) → Failure → Type 0
+DoesNotExplain words before after old new failure = (explain : ExplainWords) × AsksForExplain words explain
+    × IsRefused before after (ExplainFails (before explain.file.now) explain old new failure)
+
+-- why a run, a check, an explanation or a sweep that the words ask for was not done
+abbrev pub DoesNot : List Text → Shelf → Shelf → Making → Option (List ℕ) → Option (List ℕ) → Failure → Type 0
+DoesNot words before after making old new failure =
     ((run : RunWords) × AsksForRun words run × RunFails before after making run failure)
     ⊎ (((file : Text) × AsksForCheck words file × CheckFails before after file failure)
-    ⊎ DoesNotSweep words before after making failure)
+    ⊎ (DoesNotExplain words before after old new failure
+    ⊎ DoesNotSweep words before after making failure))
 
 -- why what the words ask for wasn't done
-abbrev pub Fails : List Text → Shelf → Shelf → Making → Failure → Type 0
-Fails words before after making Usage = IsNoCommand words × (after ≡ before)
-Fails words before after making Output = DoneUnprinted words before after making
-Fails words before after making Memory = after ≡ before
-Fails words before after making failure = DoesNot words before after making failure
+abbrev pub Fails : List Text → Shelf → Shelf → Making → Option (List ℕ) → Option (List ℕ) → Failure → Type 0
+Fails words before after making old new Usage = IsNoCommand words × (after ≡ before)
+Fails words before after making old new Output = DoneUnprinted words before after making
+Fails words before after making old new (Mistaken rule) = DoesNotExplain words before after old new (Mistaken rule)
+Fails words before after making old new Memory = after ≡ before
+Fails words before after making old new failure = DoesNot words before after making old new failure
 
 -- How a command ended that answered this status, which isn't 0: by a failure of that status. Standard output is as it was,
--- unless it failed itself.
-pub record Ends {O : Type 0} (words : List Text) (before after : Shelf) (making : Making) (old new : O) (status : ℕ) : Type 0 where
+-- unless it failed itself or has got the mistakes of a text that was to be explained.
+pub record Ends {O : Type 0} (words : List Text) (before after : Shelf) (making : Making) (contents : O → Option (List ℕ)) (old new : O)
+    (status : ℕ) : Type 0 where
   pub failure : Failure
   pub told : status ≡ status_of failure
-  pub cause : Fails words before after making failure
-  pub silent : failure ≢ Output → new ≡ old
+  pub cause : Fails words before after making (contents old) (contents new) failure
+  pub silent : failure ≢ Output → ¬ (IsMistaken failure) → new ≡ old

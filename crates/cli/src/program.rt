@@ -1,14 +1,16 @@
 //! The program as a function over files and writers.
 ghost use Rattle.std.specs.Prelude.{◌≡◌, ◌≢◌, ◌⊎◌, ◌≤◌, map, IfErr, OnOk, IsErrOf};
-ghost use Rattle.command_line.specs.Words.{IsCommand, IsNoCommand};
+ghost use Rattle.command_line.specs.Failures.{IsMistaken};
+ghost use Rattle.command_line.specs.Words.{AsksToExplain, IsCommand, IsNoCommand};
 ghost use Rattle.sweep_command.specs.Outcomes.{AsksForProgress};
 ghost use Rattle.cli.specs.Outcomes.{HasDone, Fails, Ends};
 
 use crate::simulation::ByThreads;
 use command_line::{
-    Asked, Failure, Release, parse, print_cases, print_help, print_members, print_release,
-    print_rows, refuse,
+    Asked, Failure, Release, parse, print_help, print_members, print_release, print_rows,
+    print_text, refuse,
 };
+use explain_command::explain_file;
 use files::Files;
 use run_command::run;
 use scenario_files::load;
@@ -22,8 +24,8 @@ use sweep_command::sweep_file;
 /// Does what the words ask for, and answers the exit status.
 ///
 /// `rt` starts the threads of a run and lets them wait. `release` is what the program tells of itself. `words` are
-/// those of the command line without the program's name. A failure is told in one line on `err`, and `out` then gets nothing, unless `out` itself
-/// failed. A sweep that is to tell how far it has come does so on `progress`, as far as that takes its lines.
+/// those of the command line without the program's name. A failure is told in one line on `err`, and `out` then gets nothing, unless it
+/// failed itself or gets the mistakes of a scenario. A sweep that is to tell how far it has come does so on `progress`, as far as that takes its lines.
 pub fn command<S: AsStr, F: Files, O: Write, E: Write, P: Write>(
     rt: &(impl Threads + Wait + Sync),
     alloc: Global,
@@ -38,7 +40,7 @@ pub fn command<S: AsStr, F: Files, O: Write, E: Write, P: Write>(
 
     // Status 0: what the words ask for was done. A run has left its trace in the file of that name, and its
     // report where one is asked for, and told standard output the number of its rows; a check, the number
-    // of members; a sweep has left its table, and told the lines of its cases; who asks for the version was told
+    // of members; an explanation, what the scenario means; a sweep has left its table, and told the lines of its cases; who asks for the version was told
     // the line of this release.
     ensures done { result ≡ 0 → HasDone release.now (map S.text words.now) (F.known files.old) (F.known files.new) (F.making files.old)
         (O.contents out.old) (O.contents out.new) }
@@ -46,14 +48,15 @@ pub fn command<S: AsStr, F: Files, O: Write, E: Write, P: Write>(
     // Any other status has its cause, which the files and the words bear out.
     ensures failed { result ≢ 0
         → Ends (map S.text words.now) (F.known files.old) (F.known files.new) (F.making files.old)
-        out.old out.new result }
+        O.contents out.old out.new result }
 
     // Status 2 is for words that are no command. They get it, unless memory is refused.
     ensures usage { result ≡ 2 → IsNoCommand (map S.text words.now) }
     ensures other { ¬ (IsCommand (map S.text words.now)) → (result ≡ 2) ⊎ (result ≡ 5) }
 
-    // What failed says nothing on standard output, and what was done nothing on standard error.
-    ensures silent { 2 ≤ result → out.new ≡ out.old }
+    // What failed says nothing on standard output, but for the mistakes of a scenario that was to be explained and is
+    // refused; and what was done says nothing on standard error.
+    ensures silent { 2 ≤ result → ¬ (AsksToExplain (map S.text words.now)) ⊎ (result ≢ 3) → out.new ≡ out.old }
     ensures quiet { result ≡ 0 → err.new ≡ err.old }
 
     // No words but those of a sweep that is to tell of it write to `progress`.
@@ -78,12 +81,13 @@ fn perform<'a, S: AsStr, F: Files, O: Write, P: Write>(
     ensures done { OnOk result (HasDone release.now (map S.text words.entry.now) (F.known files.old) (F.known files.new) (F.making files.old)
         (O.contents out.old) (O.contents out.new)) }
     ensures failed { IfErr result
-        (Fails (map S.text words.entry.now) (F.known files.old) (F.known files.new) (F.making files.old)) }
+        (Fails (map S.text words.entry.now) (F.known files.old) (F.known files.new) (F.making files.old)
+        (O.contents out.old) (O.contents out.new)) }
     ensures command { OnOk result (IsCommand (map S.text words.entry.now)) }
     ensures other { ¬ (IsCommand (map S.text words.entry.now))
         → IfErr result (λ failure. (failure ≡ Failure.Usage) ⊎ (failure ≡ Failure.Memory)) }
     ensures usage { IsErrOf result Failure.Usage → IsNoCommand (map S.text words.entry.now) }
-    ensures silent { IfErr result (λ failure. failure ≢ Failure.Output → out.new ≡ out.old) }
+    ensures silent { IfErr result (λ failure. failure ≢ Failure.Output → ¬ (IsMistaken failure) → out.new ≡ out.old) }
     ensures unasked { ¬ (AsksForProgress (map S.text words.entry.now)) → progress.new ≡ progress.old }
 {
     match parse(alloc, words)? {
@@ -97,9 +101,10 @@ fn perform<'a, S: AsStr, F: Files, O: Write, P: Write>(
             let scenario = load(alloc, file, files)?;
             print_members(scenario.members(), out)
         }
+        Asked::Explain(words) => explain_file(alloc, words, files, out),
         Asked::Sweep(words) => {
             let lines = sweep_file(rt, alloc, &words, files, progress)?;
-            print_cases(lines.as_str(), out)
+            print_text(lines.as_str(), out)
         }
     }
 }

@@ -1,5 +1,5 @@
 //! The program over the system: its files, and the words that it hands to a program.
-ghost use Rattle.std.specs.Prelude.{◌≡◌, ◌≤◌};
+ghost use Rattle.std.specs.Prelude.{◌≡◌, ◌≢◌, ◌≤◌};
 ghost use Rattle.std.specs.Process.{exit_status};
 
 use crate::program::command;
@@ -22,7 +22,7 @@ pub fn run_program<
     P: Write,
 >(rt: &R, release: &Release<'_>, out: &mut O, err: &mut E, progress: &mut P) -> ExitCode
     ensures range { exit_status result ≤ 5 }
-    ensures silent { 2 ≤ exit_status result → out.new ≡ out.old }
+    ensures silent { 2 ≤ exit_status result → exit_status result ≢ 3 → out.new ≡ out.old }
     ensures quiet { exit_status result ≡ 0 → err.new ≡ err.old }
 {
     let status = match words(rt) {

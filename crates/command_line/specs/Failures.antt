@@ -12,7 +12,7 @@ use Rattle.command_line.specs.Shown.{shown_name}
 use Rattle.command_line.specs.Division.{AreParts, AsksForWorkers, DivisionFails, ListFails}
 use Rattle.command_line.specs.declared.words.Split.{Split}
 use Rattle.command_line.specs.declared.failure.Failure.{Failure}
-use Rattle.command_line.specs.declared.failure.Failure.TheVariants.{File, Usage, Rule, Case, Workers, Division, Run, Memory, Output}
+use Rattle.command_line.specs.declared.failure.Failure.TheVariants.{File, Usage, Rule, Mistaken, Case, Workers, Division, Run, Memory, Output}
 
 -- the exit status
 abbrev pub status_of : Failure → ℕ
@@ -20,11 +20,17 @@ status_of (File name) = 1
 status_of Output = 1
 status_of Usage = 2
 status_of (Rule number) = 3
+status_of (Mistaken number) = 3
 status_of (Case number settings) = 3
 status_of Workers = 4
 status_of (Division cause) = 4
 status_of (Run cause) = 5
 status_of Memory = 5
+
+-- the failure of a text that was to be explained and is refused
+abbrev pub IsMistaken : Failure → Type 0
+IsMistaken (Mistaken rule) = Unit {0}
+IsMistaken _ = ⊥
 
 -- the number by which users know a fault of a run
 abbrev pub fault_number : Fault → ℕ
@@ -49,6 +55,7 @@ abbrev pub message_of : Failure → List ℕ
 message_of (File name) = codes "file " ++ shown_name name.now
 message_of Usage = codes "usage"
 message_of (Rule number) = codes "scenario rule " ++ decimal number
+message_of (Mistaken number) = codes "scenario rule " ++ decimal number
 message_of (Case number settings) = codes "scenario rule " ++ decimal number ++ case_settings (string_bytes settings)
 message_of Workers = codes "workers"
 message_of (Division cause) = codes "division V" ++ decimal (division_number cause)

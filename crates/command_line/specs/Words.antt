@@ -11,7 +11,8 @@ use Rattle.clap.specs.declared.error.kind.ErrorKind.TheVariants.{DisplayHelp, Di
 use Rattle.cases.specs.Sweep.{Sweep as Planned}
 use Rattle.cases.specs.Asked.{IsSweepOf}
 use Rattle.command_line.specs.declared.words.Asked.{Asked}
-use Rattle.command_line.specs.declared.words.Asked.TheVariants.{Run, Check, Sweep, Help, Version}
+use Rattle.command_line.specs.declared.words.Asked.TheVariants.{Run, Check, Explain, Sweep, Help, Version}
+use Rattle.command_line.specs.declared.explaining.ExplainWords.{ExplainWords}
 use Rattle.command_line.specs.declared.words.RunWords.{RunWords}
 use Rattle.command_line.specs.declared.words.SweepWords.{SweepWords}
 use Rattle.command_line.specs.declared.words.Split.{Split}
@@ -49,6 +50,10 @@ check_app = with_rule (new_app (codes "check")) file_rule
 abbrev pub flag_rule : Text → Rule
 flag_rule name = record (new_rule name) { long = Some name; action = Some SetTrue }
 
+-- the command `explain`: a file, and the flag --json
+abbrev pub explain_app : App
+explain_app = with_rule (with_rule (new_app (codes "explain")) file_rule) (flag_rule (codes "json"))
+
 -- the command `sweep`: a file and the option --table, both required; --seeds and --workers; --set, which may stand more than once;
 -- and the flag --progress
 abbrev pub sweep_app : App
@@ -64,7 +69,9 @@ bare_app = let app = new_app (codes "swimsim") in
     record app { top = record app.top { has_version = true; no_binary_name = true; subcommand_required = true } }
 
 abbrev pub swimsim_app : App
-swimsim_app = with_subcommand (with_subcommand (with_subcommand bare_app run_app.top) check_app.top) sweep_app.top
+swimsim_app =
+    let checked = with_subcommand (with_subcommand bare_app run_app.top) check_app.top in
+    with_subcommand (with_subcommand checked explain_app.top) sweep_app.top
 
 -- what `clap` knows as this, with no argument that holds for what stands below it
 abbrev pub IsLocal : App → Command → Type 0
@@ -97,6 +104,13 @@ abbrev pub is_given : Option Text → Bool
 is_given None = false
 is_given (Some word) = bytes_eq word (codes "true")
 
+-- the command that was met is `explain`, with these words
+pub record IsExplainIn (met : Option (Text × List Row)) (explain : ExplainWords) : Type 0 where
+  pub rows : List Row
+  pub met_explain : met ≡ Some (codes "explain", rows)
+  pub file : first_of (codes "FILE") rows ≡ Some explain.file.now
+  pub json : is_given (first_of (codes "json") rows) ≡ explain.json
+
 -- The words of all settings, in their order, and that of the seeds, if there is one, ask for this plan. Words that ask for none, as a
 -- key that stands twice, make no sweep.
 abbrev pub IsPlanIn : List Row → Planned → Type 0
@@ -120,6 +134,14 @@ AsksForRun words run = (fault_of swimsim_app words ≡ []) × IsRunIn (subcomman
 abbrev pub AsksForCheck : List Text → Text → Type 0
 AsksForCheck words file = (fault_of swimsim_app words ≡ []) × IsCheckIn (subcommand_of swimsim_app words) file
 
+-- the words have no fault, and ask to explain a file so
+abbrev pub AsksForExplain : List Text → ExplainWords → Type 0
+AsksForExplain words explain = (fault_of swimsim_app words ≡ []) × IsExplainIn (subcommand_of swimsim_app words) explain
+
+-- the words ask to explain some file
+abbrev pub AsksToExplain : List Text → Type 0
+AsksToExplain words = (explain : ExplainWords) × AsksForExplain words explain
+
 -- the words have no fault, and ask for this sweep
 abbrev pub AsksForSweep : List Text → SweepWords → Type 0
 AsksForSweep words sweep = (fault_of swimsim_app words ≡ []) × IsSweepIn (subcommand_of swimsim_app words) sweep
@@ -136,20 +158,23 @@ AsksForVersion words = IsAmong DisplayVersion (fault_of swimsim_app words)
 abbrev pub Answers : List Text → Asked → Type 0
 Answers words (Run run) = AsksForRun words run
 Answers words (Check file) = AsksForCheck words file.now
+Answers words (Explain explain) = AsksForExplain words explain
 Answers words (Sweep sweep) = AsksForSweep words sweep
 Answers words (Help help) = (kind_of help ≡ DisplayHelp) × AsksForHelp words
 Answers words Version = AsksForVersion words
 
--- the words have no fault, but ask for no run, no check and no sweep
+-- the words have no fault, but ask for no run, no check, no explanation and no sweep
 abbrev pub AsksForNone : List Text → Type 0
 AsksForNone words = (fault_of swimsim_app words ≡ []) × ((run : RunWords) → ¬ (AsksForRun words run))
-    × ((file : Text) → ¬ (AsksForCheck words file)) × ((sweep : SweepWords) → ¬ (AsksForSweep words sweep))
+    × ((file : Text) → ¬ (AsksForCheck words file)) × ((explain : ExplainWords) → ¬ (AsksForExplain words explain))
+    × ((sweep : SweepWords) → ¬ (AsksForSweep words sweep))
 
--- the words have a fault that is no wish for help or for the version, or none but ask for neither a run nor a check nor a sweep
+-- the words have a fault that is no wish for help or for the version, or none but ask for neither a run nor a check nor an explanation nor a sweep
 abbrev pub IsNoCommand : List Text → Type 0
 IsNoCommand words = ((kind : ErrorKind) × (kind ≢ DisplayHelp) × (kind ≢ DisplayVersion) × IsAmong kind (fault_of swimsim_app words)) ⊎ AsksForNone words
 
--- the words ask for a run, a check, a sweep, help or the version
+-- the words ask for a run, a check, an explanation, a sweep, help or the version
 abbrev pub IsCommand : List Text → Type 0
 IsCommand words = ((run : RunWords) × AsksForRun words run) ⊎ (((file : Text) × AsksForCheck words file)
-    ⊎ (((sweep : SweepWords) × AsksForSweep words sweep) ⊎ (AsksForHelp words ⊎ AsksForVersion words)))
+    ⊎ (((explain : ExplainWords) × AsksForExplain words explain)
+    ⊎ (((sweep : SweepWords) × AsksForSweep words sweep) ⊎ (AsksForHelp words ⊎ AsksForVersion words))))

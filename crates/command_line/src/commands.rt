@@ -3,6 +3,7 @@ ghost use Rattle.std.specs.Prelude.{◌≡◌, IfOk, false};
 ghost use Rattle.clap.specs.Words.{App, app_of, rule_of, with_rule};
 ghost use Rattle.command_line.specs.Words.{check_app, file_rule, flag_rule, option_rule, required_rule, repeated_rule, run_app, sweep_app, swimsim_app, IsLocal};
 
+use crate::explaining::explain_command;
 use clap::{Arg, ArgAction, Command};
 use std::alloc::{AllocError, Global};
 
@@ -19,6 +20,7 @@ pub(crate) fn program_command<'a>(alloc: Global) -> Result<Command<'a>, AllocErr
         .subcommand_required(true)
         .subcommand(run_command(alloc)?)?
         .subcommand(check_command(alloc)?)?
+        .subcommand(explain_command(alloc)?)?
         .subcommand(sweep_command(alloc)?)
 }
 
@@ -124,7 +126,7 @@ fn sweep_command<'a>(alloc: Global) -> Result<Command<'a>, AllocError>
 }
 
 /// A command with the scenario's file more.
-fn with_file<'a>(alloc: Global, command: Command<'a>) -> Result<Command<'a>, AllocError>
+pub(crate) fn with_file<'a>(alloc: Global, command: Command<'a>) -> Result<Command<'a>, AllocError>
     ensures { (app : App) → IsLocal app command.entry → IfOk result (IsLocal (with_rule app file_rule)) }
 {
     command.arg(file_argument(alloc))
@@ -170,7 +172,7 @@ fn with_repeated<'a>(
 }
 
 /// A command with a flag more, which takes no value and may be left out.
-fn with_flag<'a>(
+pub(crate) fn with_flag<'a>(
     alloc: Global,
     command: Command<'a>,
     name: &'a str,

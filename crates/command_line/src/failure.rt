@@ -19,6 +19,8 @@ pub enum Failure<'a> {
     Usage,
     /// The scenario breaks this rule.
     Rule(u8),
+    /// The scenario that was to be explained breaks this rule; standard output has its mistakes.
+    Mistaken(u8),
     /// A case of a sweep breaks this rule: the scenario with these settings, each `KEY=V`, with spaces between
     /// them. There are none where the sweep sets nothing.
     Case { rule: u8, settings: String },
@@ -42,7 +44,7 @@ impl Failure<'_> {
         match self {
             Failure::File(_) | Failure::Output => 1,
             Failure::Usage => 2,
-            Failure::Rule(_) | Failure::Case { .. } => 3,
+            Failure::Rule(_) | Failure::Mistaken(_) | Failure::Case { .. } => 3,
             Failure::Workers | Failure::Division(_) => 4,
             Failure::Run(_) | Failure::Memory => 5,
         }
@@ -83,7 +85,7 @@ impl fmt::Display for Failure<'_> {
                 write_name(f, name)
             }
             Failure::Usage => write!(f, "usage"),
-            Failure::Rule(rule) => write!(f, "scenario rule {rule}"),
+            Failure::Rule(rule) | Failure::Mistaken(rule) => write!(f, "scenario rule {rule}"),
             Failure::Case { rule, settings } => {
                 write!(f, "scenario rule {rule}")?;
                 write_settings(f, settings)

@@ -3,6 +3,7 @@
 
 mod commands;
 mod division;
+mod explaining;
 mod failure;
 mod printing;
 mod release;
@@ -11,7 +12,8 @@ pub mod system;
 mod words;
 
 pub use division::{division_asked, workers_asked};
+pub use explaining::ExplainWords;
 pub use failure::{Failure, refuse};
-pub use printing::{print_cases, print_help, print_members, print_release, print_rows};
+pub use printing::{print_text, print_help, print_members, print_release, print_rows};
 pub use release::Release;
 pub use words::{Asked, RunWords, Split, SweepWords, parse};

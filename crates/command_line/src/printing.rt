@@ -34,10 +34,10 @@ pub fn print_members<'a, O: Write>(members: usize, out: &mut O) -> Result<(), Fa
     Ok(())
 }
 
-/// Prints what is told of the cases of a sweep.
+/// Prints a text: what is told of the cases of a sweep, or of a file that was to be explained.
 ///
 /// Failure: `Output` where `out` takes less, or its flush fails.
-pub fn print_cases<'a, O: Write>(text: &str, out: &mut O) -> Result<(), Failure<'a>>
+pub fn print_text<'a, O: Write>(text: &str, out: &mut O) -> Result<(), Failure<'a>>
     ensures printed { OnOk result (Appends (O.contents out.old) (O.contents out.new) text.now) }
     ensures failure { IfErr result (λ failure. failure ≡ Failure.Output) }
 {

@@ -8,6 +8,7 @@ ghost use Rattle.command_line.specs.declared.words.SweepWords.{SweepWords as Sou
 ghost use Rattle.command_line.specs.Words.{is_given, swimsim_app, Answers, IsCheckIn, IsNoCommand, IsPlanIn, IsRunIn, IsSplitIn, IsSweepIn};
 
 use crate::commands::program_command;
+use crate::explaining::{ExplainWords, explain_asked};
 use crate::failure::Failure;
 use cases::{Plan, PlanFault};
 use clap::error::ErrorKind;
@@ -63,6 +64,8 @@ pub enum Asked<'a> {
     Run(RunWords<'a>),
     /// To check the scenario in the file of this name.
     Check(&'a str),
+    /// To explain what the text in a file means, or why it is refused.
+    Explain(ExplainWords<'a>),
     /// To run a scenario by many seeds and settings, and write a table of the runs.
     Sweep(SweepWords<'a>),
     /// To be shown the help that is this answer's text.
@@ -84,7 +87,10 @@ pub fn parse<'a, S: AsStr>(alloc: Global, words: &'a [S]) -> Result<Asked<'a>, F
             Some(run) => Ok(Asked::Run(run)),
             None => match check_asked(&matches) {
                 Some(file) => Ok(Asked::Check(file)),
-                None => Ok(Asked::Sweep(sweep_asked(alloc, &matches)?)),
+                None => match explain_asked(&matches) {
+                    Some(explain) => Ok(Asked::Explain(explain)),
+                    None => Ok(Asked::Sweep(sweep_asked(alloc, &matches)?)),
+                },
             },
         },
         Err(error) => match error.kind() {
@@ -200,7 +206,7 @@ fn plan_asked<'a>(alloc: Global, sweep: &ArgMatches<'a>) -> Result<Plan, Failure
 }
 
 /// Whether a flag is given.
-fn is_given(matches: &ArgMatches<'_>, id: &str) -> bool
+pub(crate) fn is_given(matches: &ArgMatches<'_>, id: &str) -> bool
     ensures { result ≡ is_given (first_of id.now (rows_of (found_of matches.now))) }
 {
     match value_of(matches, id) {
@@ -226,7 +232,7 @@ fn values_of<'a>(
 }
 
 /// The first value of an argument, if it has one.
-fn value_of<'a>(matches: &ArgMatches<'a>, id: &str) -> Option<&'a str>
+pub(crate) fn value_of<'a>(matches: &ArgMatches<'a>, id: &str) -> Option<&'a str>
     ensures { option_map (λ word. word.now) result ≡ first_of id.now (rows_of (found_of matches.now)) }
 {
     matches.get_str(id)

@@ -1,13 +1,13 @@
 -- By what no run fails, and what holds where memory was refused.
-use Rattle.std.proofs.Common.{◌≡◌, inl, inr}
+use Rattle.std.proofs.Common.{◌≡◌, ℕ, inl, inr}
 use Rattle.scenario_files.specs.Shelves.{Shelf}
 use Rattle.scenario_files.specs.Checks.{FailsCheck}
 use Rattle.run_command.specs.Outcomes.{RunFails}
 use Rattle.files.specs.Files.{Making}
 use Rattle.command_line.specs.declared.words.RunWords.{RunWords}
-use Rattle.command_line.specs.declared.failure.Failure.TheVariants.{Usage, Memory, Output}
+use Rattle.command_line.specs.declared.failure.Failure.TheVariants.{Usage, Mistaken, Memory, Output}
 
--- no check of a run fails by the words or by standard output, and so no run does
+-- no check of a run fails by the words, by standard output or by what is explained, and so no run does
 check_usage : (before : Shelf) (run : RunWords) → FailsCheck before run Usage → ⊥
 check_usage before run (inl count) = count
 check_usage before run (inr (inl file)) = file.2
@@ -25,6 +25,15 @@ check_output before run (inr (inr split)) = split.4
 pub run_output : (before after : Shelf) (making : Making) (run : RunWords) → RunFails before after making run Output → ⊥
 run_output before after making run (inl refused) = check_output before run refused.cause
 run_output before after making run (inr store) = store.cause
+
+check_mistaken : (before : Shelf) (run : RunWords) (rule : ℕ) → FailsCheck before run (Mistaken rule) → ⊥
+check_mistaken before run rule (inl count) = count
+check_mistaken before run rule (inr (inl file)) = file.2
+check_mistaken before run rule (inr (inr split)) = split.4
+
+pub run_mistaken : (before after : Shelf) (making : Making) (run : RunWords) (rule : ℕ) → RunFails before after making run (Mistaken rule) → ⊥
+run_mistaken before after making run rule (inl refused) = check_mistaken before run rule refused.cause
+run_mistaken before after making run rule (inr store) = store.cause
 
 -- where memory was refused, no file has changed
 pub run_memory : (before after : Shelf) (making : Making) (run : RunWords) → RunFails before after making run Memory → after ≡ before

@@ -1,5 +1,6 @@
 -- What a file holds that a text was written to, and how what ended a command is told.
 use Rattle.std.proofs.Common.{◌≡◌, ◌∙◌, ℕ, List, [], Option, Some, None, Result, Ok, Err, IfSome, IfOk, IfErr, OnErr, ap, sym, subst, refl}
+use Rattle.std.specs.Prelude.{IsErrAnd}
 use Rattle.std.specs.Io.KnownBytes.{Appends}
 use Rattle.trace.specs.Sinks.{AppendsBeginning}
 use Rattle.files.specs.Files.{KnownFile, HoldsNow, ClosesAs}
@@ -53,3 +54,8 @@ each_ok (Err e) h more = tt
 pub each_err : {T E P : Type 0} {Q : E → Type 0} (r : Result T E) → OnErr r P → ((e : E) → r ≡ Err e → P → Q e) → IfErr r Q
 each_err (Ok x) h more = tt
 each_err (Err e) h more = more e refl h
+
+-- what a `?` hands on is the error that it was given
+pub handed_on : {T E : Type 0} (Q : E → Type 0) (r : Result T E) (e : E) → IsErrAnd r (λ y. y ≡ e) → Q e → IfErr r Q
+handed_on Q (Ok x) e gives h = absurd gives
+handed_on Q (Err y) e gives h = subst Q (sym gives) h

@@ -24,7 +24,7 @@ pub fn load<'a, F: Files>(
     ensures same { F.known files.new ≡ F.known files.old }
     ensures making { F.making files.new ≡ F.making files.old }
 {
-    let bytes = bytes_of(alloc, name, files)?;
+    let bytes = load_bytes(alloc, name, files)?;
     check(alloc, bytes.as_slice())
 }
 
@@ -39,7 +39,7 @@ pub fn load_document<'a, F: Files>(
     ensures same { F.known files.new ≡ F.known files.old }
     ensures making { F.making files.new ≡ F.making files.old }
 {
-    let bytes = bytes_of(alloc, name, files)?;
+    let bytes = load_bytes(alloc, name, files)?;
     match document(alloc, bytes.as_slice()) {
         Ok(tree) => Ok(tree),
         Err(refusal) => Err(text_failure(refusal.rule)),
@@ -47,7 +47,7 @@ pub fn load_document<'a, F: Files>(
 }
 
 /// The bytes of a file.
-fn bytes_of<'a, F: Files>(
+pub fn load_bytes<'a, F: Files>(
     alloc: Global,
     name: &'a str,
     files: &mut F,

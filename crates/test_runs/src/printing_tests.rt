@@ -1,7 +1,7 @@
 //! What a failure tells that no command can be made to have, and printing whose flush fails.
 use base::Fault;
 use command_line::{
-    Asked, Failure, parse, print_cases, print_help, print_members, print_rows, refuse,
+    Asked, Failure, parse, print_text, print_help, print_members, print_rows, refuse,
 };
 use files::testing::{Failing, MemoryWriter};
 use scenario::DivisionFault;
@@ -75,7 +75,7 @@ fn members_whose_flush_fails_are_a_failure(rt: HostRuntime) {
 #[test]
 fn cases_whose_flush_fails_are_a_failure(rt: HostRuntime) {
     let mut out = unflushed(&rt);
-    let printed = print_cases("runs\n", &mut out);
+    let printed = print_text("runs\n", &mut out);
     assert_failed(&rt, printed, &out, "runs\n");
 }
 

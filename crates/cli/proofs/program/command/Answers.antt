@@ -1,8 +1,13 @@
 -- the status tells done from not done, and why
-use Rattle.std.proofs.Common.{◌≡◌, ◌≢◌, ◌≤◌, ◌⊎◌, ◌∙◌, ℕ, Err, ap, sym, refl, inl, inr, arith}
-use Rattle.command_line.specs.Failures.{status_of}
+use Rattle.std.proofs.Common.{◌≡◌, ◌≢◌, ◌≤◌, ◌⊎◌, ◌∙◌, ℕ, List, Option, Err, ap, sym, refl, inl, inr, arith}
+use Rattle.clap.specs.Words.{Text}
+use Rattle.files.specs.Files.{Making}
+use Rattle.scenario_files.specs.Shelves.{Shelf}
+use Rattle.command_line.specs.Failures.{status_of, IsMistaken}
+use Rattle.command_line.specs.Words.{AsksToExplain}
+use Rattle.cli.specs.Outcomes.{Fails}
 use Rattle.command_line.specs.declared.failure.Failure.{Failure}
-use Rattle.command_line.specs.declared.failure.Failure.TheVariants.{File, Usage, Rule, Case, Workers, Division, Run, Memory, Output}
+use Rattle.command_line.specs.declared.failure.Failure.TheVariants.{File, Usage, Rule, Mistaken, Case, Workers, Division, Run, Memory, Output}
 use Rattle.cli.proofs.program.command.Goals as goal
 
 -- no failure has the status of what was done
@@ -11,6 +16,7 @@ no_failure (File name) e = omega arith
 no_failure Output e = omega arith
 no_failure Usage e = omega arith
 no_failure (Rule number) e = omega arith
+no_failure (Mistaken number) e = omega arith
 no_failure (Case number settings) e = omega arith
 no_failure Workers e = omega arith
 no_failure (Division cause) e = omega arith
@@ -23,6 +29,7 @@ is_usage (File name) e = absurd (omega arith)
 is_usage Output e = absurd (omega arith)
 is_usage Usage e = refl
 is_usage (Rule number) e = absurd (omega arith)
+is_usage (Mistaken number) e = absurd (omega arith)
 is_usage (Case number settings) e = absurd (omega arith)
 is_usage Workers e = absurd (omega arith)
 is_usage (Division cause) e = absurd (omega arith)
@@ -34,6 +41,44 @@ not_output : (failure : Failure) → 2 ≤ status_of failure → failure ≢ Out
 not_output failure low e =
     let is : status_of failure ≡ 1 = ap status_of e in
     omega arith
+
+-- a text that was to be explained and is refused has status 3, and words that ask to explain one
+has_three : (failure : Failure) → IsMistaken failure → status_of failure ≡ 3
+has_three (Mistaken number) is = refl
+has_three (File name) is = absurd is
+has_three Output is = absurd is
+has_three Usage is = absurd is
+has_three (Rule number) is = absurd is
+has_three (Case number settings) is = absurd is
+has_three Workers is = absurd is
+has_three (Division cause) is = absurd is
+has_three (Run cause) is = absurd is
+has_three Memory is = absurd is
+
+asks_to_explain : (words : List Text) (before after : Shelf) (making : Making) (old new : Option (List ℕ)) (failure : Failure)
+    → Fails words before after making old new failure → IsMistaken failure → AsksToExplain words
+asks_to_explain words before after making old new (Mistaken number) fails is = (fails.0, fails.1)
+asks_to_explain words before after making old new (File name) fails is = absurd is
+asks_to_explain words before after making old new Output fails is = absurd is
+asks_to_explain words before after making old new Usage fails is = absurd is
+asks_to_explain words before after making old new (Rule number) fails is = absurd is
+asks_to_explain words before after making old new (Case number settings) fails is = absurd is
+asks_to_explain words before after making old new Workers fails is = absurd is
+asks_to_explain words before after making old new (Division cause) fails is = absurd is
+asks_to_explain words before after making old new (Run cause) fails is = absurd is
+asks_to_explain words before after making old new Memory fails is = absurd is
+
+not_mistaken : (words : List Text) (before after : Shelf) (making : Making) (old new : Option (List ℕ)) (failure : Failure)
+    → Fails words before after making old new failure → (¬ (AsksToExplain words)) ⊎ (status_of failure ≢ 3) → ¬ (IsMistaken failure)
+not_mistaken words before after making old new failure fails (inl none) = λ is. none (asks_to_explain words before after making old new failure fails is)
+not_mistaken words before after making old new failure fails (inr other) = λ is. other (has_three failure is)
+
+-- the same of the status that was answered
+untold : (words : List Text) (before after : Shelf) (making : Making) (old new : Option (List ℕ)) (failure : Failure) (status : ℕ)
+    → status ≡ status_of failure → Fails words before after making old new failure → (¬ (AsksToExplain words)) ⊎ (status ≢ 3) → ¬ (IsMistaken failure)
+untold words before after making old new failure status is fails (inl none) = not_mistaken words before after making old new failure fails (inl none)
+untold words before after making old new failure status is fails (inr other) =
+    not_mistaken words before after making old new failure fails (inr (λ three. other (is ∙ three)))
 
 -- the status of words that are no command, or of memory
 two_or_five : (failure : Failure) (status : ℕ) → status ≡ status_of failure → (failure ≡ Usage) ⊎ (failure ≡ Memory) → (status ≡ 2) ⊎ (status ≡ 5)
@@ -50,7 +95,7 @@ pub returns-in-Ok-clause-other : goal.returns-in-Ok-clause-other
 returns-in-Ok-clause-other g c none = absurd (none c.in-Ok.ensures.command)
 
 pub returns-in-Ok-clause-silent : goal.returns-in-Ok-clause-silent
-returns-in-Ok-clause-silent g c low = absurd (omega arith)
+returns-in-Ok-clause-silent g c low _ = absurd (omega arith)
 
 pub returns-in-Err-clause-done : goal.returns-in-Err-clause-done
 returns-in-Err-clause-done g c e = absurd (no_failure c.in-Err.failure (sym c.refuse.ensures.status ∙ e))
@@ -70,9 +115,10 @@ pub returns-in-Err-clause-other : goal.returns-in-Err-clause-other
 returns-in-Err-clause-other g c none = two_or_five c.in-Err.failure c.refuse.result c.refuse.ensures.status (c.in-Err.ensures.other none)
 
 pub returns-in-Err-clause-silent : goal.returns-in-Err-clause-silent
-returns-in-Err-clause-silent g c low =
+returns-in-Err-clause-silent g c low other =
     let status = c.refuse.ensures.status in
     c.in-Err.ensures.silent (not_output c.in-Err.failure (omega (arith, status)))
+    (untold _ _ _ _ _ _ c.in-Err.failure c.refuse.result status c.in-Err.ensures.failed other)
 
 pub returns-in-Err-clause-quiet : goal.returns-in-Err-clause-quiet
 returns-in-Err-clause-quiet g c e = absurd (no_failure c.in-Err.failure (sym c.refuse.ensures.status ∙ e))

@@ -1,5 +1,7 @@
 -- a run or a sweep that the words ask for, done and told or not done
-use Rattle.cli.proofs.Commands.{asked_run_done, asked_run_fails, asked_sweep_fails, asked_untold, handed_on, is_command}
+use Rattle.std.proofs.lemmas.Result.{IfErr-weaker}
+use Rattle.cli.proofs.Commands.{asked_explain_done, asked_explain_fails, asked_run_done, asked_run_fails, asked_sweep_fails, asked_untold, is_command}
+use Rattle.scenario_files.proofs.Held.{handed_on}
 use Rattle.cli.proofs.program.perform.Goals as goal
 
 pub returns-in_ok-summary-in-Run-clause-done : goal.returns-in_ok-summary-in-Run-clause-done
@@ -9,7 +11,18 @@ returns-in_ok-summary-in-Run-clause-done g c =
 pub returns-in_err-summary-in-Run-clause-failed : goal.returns-in_err-summary-in-Run-clause-failed
 returns-in_err-summary-in-Run-clause-failed g c =
     handed_on _ _ _ c.from_residual-in_err-summary-in-Run.ensures.1
-    (asked_run_fails _ _ _ _ _ _ _ c.in-Run.is c.in_ok-help.ensures.answer c.in_err-summary-in-Run.ensures.failed)
+    (asked_run_fails _ _ _ _ _ _ _ _ _ c.in-Run.is c.in_ok-help.ensures.answer c.in_err-summary-in-Run.ensures.failed)
+
+pub returns-in-Explain-clause-done : goal.returns-in-Explain-clause-done
+returns-in-Explain-clause-done g c =
+    asked_explain_done c.args.release.now _ _ _ _ _ _ _ _ c.explain_file.result c.in-Explain.is c.in_ok-help.ensures.answer c.explain_file.ensures.same c.explain_file.ensures.done
+
+pub returns-in-Explain-clause-failed : goal.returns-in-Explain-clause-failed
+returns-in-Explain-clause-failed g c =
+    IfErr-weaker c.explain_file.result _ _ (λ failure fails. asked_explain_fails _ _ _ _ _ _ _ _ failure c.in-Explain.is c.in_ok-help.ensures.answer c.explain_file.ensures.same fails) c.explain_file.ensures.failed
+
+pub returns-in-Explain-clause-other : goal.returns-in-Explain-clause-other
+returns-in-Explain-clause-other g c none = absurd (none (is_command _ _ c.in_ok-help.ensures.answer))
 
 pub returns-in_ok-lines-in-Sweep-clause-other : goal.returns-in_ok-lines-in-Sweep-clause-other
 returns-in_ok-lines-in-Sweep-clause-other g c none = absurd (none (is_command _ _ c.in_ok-help.ensures.answer))
@@ -21,7 +34,7 @@ returns-in_ok-lines-in-Sweep-clause-unasked g c none =
 pub returns-in_err-lines-in-Sweep-clause-failed : goal.returns-in_err-lines-in-Sweep-clause-failed
 returns-in_err-lines-in-Sweep-clause-failed g c =
     handed_on _ _ _ c.from_residual-in_err-lines-in-Sweep.ensures.1
-    (asked_sweep_fails _ _ _ _ _ _ _ c.in-Sweep.is c.in_ok-help.ensures.answer c.in_err-lines-in-Sweep.ensures.failed)
+    (asked_sweep_fails _ _ _ _ _ _ _ _ _ c.in-Sweep.is c.in_ok-help.ensures.answer c.in_err-lines-in-Sweep.ensures.failed)
 
 pub returns-in_err-lines-in-Sweep-clause-other : goal.returns-in_err-lines-in-Sweep-clause-other
 returns-in_err-lines-in-Sweep-clause-other g c none = absurd (none (is_command _ _ c.in_ok-help.ensures.answer))

@@ -26,5 +26,7 @@ returns c =
     let runs = c.in_ok-subcommand.ensures.shape c.in_ok-run_command.ensures.1 ∙ ap₂ with_subcommand bare_is (ap (λ (a : App). a.top) c.in_ok-run_command.ensures.0) in
     let checks = c.in_ok-subcommand-2.ensures.shape c.in_ok-check_command.ensures.1
     ∙ ap₂ with_subcommand runs (ap (λ (a : App). a.top) c.in_ok-check_command.ensures.0) in
-    IfOk-weaker c.subcommand-3.result _ _ (λ command h. h.shape c.in_ok-sweep_command.ensures.1
-    ∙ ap₂ with_subcommand checks (ap (λ (a : App). a.top) c.in_ok-sweep_command.ensures.0)) c.subcommand-3.ensures
+    let explains = c.in_ok-subcommand-3.ensures.shape c.in_ok-explain_command.ensures.1
+    ∙ ap₂ with_subcommand checks (ap (λ (a : App). a.top) c.in_ok-explain_command.ensures.0) in
+    IfOk-weaker c.subcommand-4.result _ _ (λ command h. h.shape c.in_ok-sweep_command.ensures.1
+    ∙ ap₂ with_subcommand explains (ap (λ (a : App). a.top) c.in_ok-sweep_command.ensures.0)) c.subcommand-4.ensures

@@ -1,0 +1,43 @@
+//! The command `explain`: what it takes, and what its words ask for.
+ghost use Rattle.std.specs.Prelude.{◌≡◌, IfOk, IfSome, IsNone};
+ghost use Rattle.clap.specs.Words.{subcommand_rows_of};
+ghost use Rattle.command_line.specs.declared.explaining.ExplainWords.{ExplainWords as Wondered};
+ghost use Rattle.command_line.specs.Words.{explain_app, IsExplainIn, IsLocal};
+
+use crate::commands::{with_file, with_flag};
+use crate::words::{is_given, value_of};
+use clap::{ArgMatches, Command};
+use std::alloc::{AllocError, Global};
+
+/// The words of the command `explain`.
+#[derive(Clone, Copy, Debug, PartialEq, Eq)]
+pub struct ExplainWords<'a> {
+    /// The name of the scenario's file.
+    pub file: &'a str,
+    /// Whether a JSON document is wanted in place of lines.
+    pub json: bool,
+}
+
+/// The command `explain`.
+pub(crate) fn explain_command<'a>(alloc: Global) -> Result<Command<'a>, AllocError>
+    ensures { IfOk result (IsLocal explain_app) }
+{
+    let filed = with_file(
+        alloc,
+        Command::new(alloc, "explain").about(
+            "Tells all mistakes of a scenario that is refused, or what one that is accepted means",
+        ),
+    )?;
+    with_flag(alloc, filed, "json", "Prints one JSON document in place of lines")
+}
+
+/// The explanation that is asked for by words that `clap` took.
+pub(crate) fn explain_asked<'a>(matches: &ArgMatches<'a>) -> Option<ExplainWords<'a>>
+    ensures some { IfSome result (IsExplainIn (subcommand_rows_of matches.now)) }
+    ensures none { IsNone result → (wish : Wondered) → ¬ (IsExplainIn (subcommand_rows_of matches.now) wish) }
+{
+    let explain = matches.subcommand_matches("explain")?;
+    let file = value_of(explain, "FILE")?;
+    let json = is_given(explain, "json");
+    Some(ExplainWords { file, json })
+}

@@ -1,0 +1,41 @@
+-- What `explain` tells of the scenario of a file, and why it tells nothing.
+use Rattle.std.specs.Prelude.{◌≡◌, ℕ, List, Bool, true, false, Option, Some, None, Result, Ok, Err}
+use Rattle.std.specs.Io.KnownBytes.{Appends}
+use Rattle.scenario.specs.Setup.{Setup}
+use Rattle.mistake_text.specs.Told.{TellsDocument, TellsLines}
+use Rattle.files.specs.Files.{KnownFile}
+use Rattle.command_line.specs.declared.explaining.ExplainWords.{ExplainWords}
+use Rattle.command_line.specs.declared.failure.Failure.{Failure}
+use Rattle.command_line.specs.declared.failure.Failure.TheVariants.{Mistaken, Output}
+use Rattle.scenario_files.specs.Loading.{HasVerdict}
+use Rattle.scenario_files.specs.Shelves.{IsUnread}
+
+-- the text tells the mistakes of a scenario that is refused by this rule, as a JSON document or in lines
+abbrev pub TellsMistakes : Bool → ℕ → List ℕ → Type 0
+TellsMistakes true rule text = TellsDocument rule text
+TellsMistakes false rule text = TellsLines rule text
+
+-- The text tells of a scenario with this verdict: of one that breaks no rule what it means; of another its mistakes, the
+-- least rule among which is the one that it is refused by.
+abbrev pub TellsText : Result Setup ℕ → Bool → Option ℕ → List ℕ → Type 0
+TellsText (Ok s) json broken text = broken ≡ None
+TellsText (Err rule) json broken text = (broken ≡ Some rule) × TellsMistakes json rule text
+
+-- the text tells of the scenario of the file
+abbrev pub TellsOf : KnownFile → ExplainWords → Option ℕ → List ℕ → Type 0
+TellsOf known explain broken text = (answer : Result Setup ℕ) × HasVerdict known answer × TellsText answer explain.json broken text
+
+-- what an accepted scenario means was printed
+abbrev pub PrintsMeaning : KnownFile → ExplainWords → Option (List ℕ) → Option (List ℕ) → Type 0
+PrintsMeaning known explain old new = (text : List ℕ) × TellsOf known explain None text × Appends old new text
+
+-- some text tells of the scenario
+abbrev pub IsExplained : KnownFile → ExplainWords → Type 0
+IsExplained known explain = (broken : Option ℕ) × (text : List ℕ) × TellsOf known explain broken text
+
+-- No scenario's meaning was printed: the text is refused by this rule, and its mistakes were printed; standard output took
+-- less than what is told; or the file was not read.
+abbrev pub ExplainFails : KnownFile → ExplainWords → Option (List ℕ) → Option (List ℕ) → Failure → Type 0
+ExplainFails known explain old new (Mistaken rule) = (text : List ℕ) × TellsOf known explain (Some rule) text × Appends old new text
+ExplainFails known explain old new Output = IsExplained known explain
+ExplainFails known explain old new failure = IsUnread known explain.file.now failure

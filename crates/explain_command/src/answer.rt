@@ -1,0 +1,72 @@
+//! What is told of a text.
+ghost use Rattle.std.specs.Prelude.{◌≡◌, IfOk, None, Ok, Some, string_bytes};
+ghost use Rattle.scenario_reader.specs.Rules.{verdict};
+ghost use Rattle.explain_command.specs.Outcomes.{TellsMistakes, TellsText};
+
+use crate::meaning::meaning;
+use base::Memory;
+use command_line::ExplainWords;
+use mistakes::of_refused;
+use scenario::Scenario;
+use scenario_reader::read;
+use std::alloc::Global;
+
+/// What is told of a text.
+#[derive(Debug, Drop)]
+pub(crate) struct Explained {
+    /// What is printed.
+    pub(crate) text: String,
+    /// The least rule that the scenario breaks; none where it is accepted.
+    pub(crate) broken: Option<u8>,
+}
+
+/// The number of the rule that stands for want of memory.
+const MEMORY_RULE: u8 = 11;
+
+/// What is told of the text that these bytes are.
+pub(crate) fn explained_text(
+    alloc: Global,
+    words: ExplainWords<'_>,
+    bytes: &[u8],
+) -> Result<Explained, Memory>
+    ensures { IfOk result (λ told. TellsText (verdict bytes.now) words.entry.json told.broken (string_bytes told.text)) }
+{
+    match read(alloc, bytes) {
+        Ok(scenario) => accepted(alloc, words, &scenario),
+        Err(refusal) if refusal.rule == MEMORY_RULE => Err(Memory),
+        Err(refusal) => refused(alloc, words, bytes, refusal.rule),
+    }
+}
+
+/// What is told of an accepted text, which says this scenario.
+fn accepted(
+    alloc: Global,
+    words: ExplainWords<'_>,
+    scenario: &Scenario,
+) -> Result<Explained, Memory>
+    ensures { IfOk result (λ told. told.broken ≡ None) }
+{
+    let text = meaning(alloc, words, scenario)?;
+    Ok(Explained { text, broken: None })
+}
+
+/// What is told of a text that is refused by this rule.
+fn refused(
+    alloc: Global,
+    words: ExplainWords<'_>,
+    bytes: &[u8],
+    rule: u8,
+) -> Result<Explained, Memory>
+    ensures { IfOk result (λ told. (told.broken ≡ Some rule) × TellsMistakes words.entry.json rule (string_bytes told.text)) }
+{
+    let mistakes = of_refused(alloc, bytes, rule)?;
+    let text = if words.json {
+        mistake_text::json(alloc, words.file, bytes, &mistakes)?
+    } else {
+        mistake_text::lines(alloc, words.file, bytes, &mistakes)?
+    };
+    Ok(Explained {
+        text,
+        broken: Some(rule),
+    })
+}

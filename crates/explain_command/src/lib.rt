@@ -1,0 +1,9 @@
+//! The command `explain`: all mistakes of the scenario of a file that is refused, or what one that is accepted
+//! means.
+#![tactic(auto)]
+
+mod answer;
+mod explaining;
+mod meaning;
+
+pub use explaining::explain_file;

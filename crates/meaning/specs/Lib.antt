@@ -1,0 +1,4 @@
+pub mod Times
+pub mod Trips
+pub mod Quiet
+pub mod Groups

@@ -1,0 +1,118 @@
+//! The mistakes of a text as JSON.
+ghost use Rattle.std.specs.Prelude.{◌≡◌, ◌++◌, ◌∷◌, [], IfOk, OnOk, Some, codes, map, string_bytes, true};
+ghost use Rattle.serde_json.specs.Data.{depth, number, unsigned};
+ghost use Rattle.serde_json.specs.Find.{get};
+ghost use Rattle.serde_json.specs.Read.{read};
+ghost use Rattle.serde_json.specs.View.{view};
+ghost use Rattle.mistakes.specs.Told.{IsLeastRule};
+ghost use Rattle.mistake_text.specs.Told.{AreRulesOf, TellsDocument, are_shallow, document_of, document_with};
+
+use crate::choice::{MOST, shown};
+use crate::context::Context;
+use crate::words::{Words, words_of};
+use base::Memory;
+use mistakes::{Mistake, Mistakes};
+use serde_json::{Value, json};
+use std::alloc::{AllocError, Global};
+use toml_places::{Position, position_of};
+
+/// The mistakes of the text of a file as a JSON document, at most 50 of them by their places, on a line of its
+/// own; `more` says how many others there are.
+pub fn json(alloc: Global, file: &str, bytes: &[u8], mistakes: &Mistakes) -> Result<String, Memory>
+    requires least { IsLeastRule mistakes.now.rule mistakes.now.list.items }
+    ensures { IfOk result (λ text. TellsDocument mistakes.now.rule (string_bytes text)) }
+{
+    let context = Context::new(alloc, bytes, mistakes);
+    let shown = shown(alloc, mistakes)?;
+    let values = values(&context, shown.as_slice())?;
+    let more = mistakes.list.len().saturating_sub(MOST);
+    let mut text = document_text(alloc, file, values, more)?;
+    text.push_str("\n")?;
+    Ok(text)
+}
+
+/// The text of the document that has these values of mistakes.
+fn document_text(
+    alloc: Global,
+    file: &str,
+    values: Vec<Value>,
+    more: usize,
+) -> Result<String, Memory>
+    ensures { are_shallow (map view values.items) ≡ true → IfOk result
+        (λ text. read (string_bytes text) ≡ Some (document_of file.now (map view values.items) more)) }
+{
+    let document = document(alloc, file, Value::Array(values), more)?;
+    Ok(document.to_string(alloc)?)
+}
+
+/// The document that has this list of mistakes.
+fn document(alloc: Global, file: &str, mistakes: Value, more: usize) -> Result<Value, AllocError>
+    ensures { IfOk result (λ value. view value ≡ document_with file.now (view mistakes) more) }
+{
+    json!(in alloc; {"file": file, "accepted": false, "mistakes": mistakes, "more": more})
+}
+
+/// The values of these mistakes.
+fn values(context: &Context<'_>, shown: &[Mistake]) -> Result<Vec<Value>, Memory>
+    ensures rules { IfOk result (λ values. AreRulesOf shown.now (map view values.items)) }
+    ensures shallow { IfOk result (λ values. are_shallow (map view values.items) ≡ true) }
+{
+    let mut values = Vec::new(context.alloc);
+    for mistake in shown {
+        values.push(mistake_value(context, mistake)?)?;
+    }
+    Ok(values)
+}
+
+/// A mistake as a JSON object.
+fn mistake_value(context: &Context<'_>, mistake: &Mistake) -> Result<Value, Memory>
+    ensures rule { IfOk result (λ value. get (codes "rule") (view value) ≡ Some (number (unsigned mistake.now.rule))) }
+    ensures shallow { IfOk result (λ value. depth (view value) ≡ 1) }
+{
+    let alloc = context.alloc;
+    let words = words_of(context, mistake)?;
+    let remedy = remedy_of(alloc, &words)?;
+    let at = position_of(context.bytes, mistake.span.start);
+    let length = context.at(mistake.span).chars().count();
+    let message = words.message.as_str();
+    match object(alloc, mistake.rule, message, remedy.as_str(), at, length) {
+        Ok(value) => Ok(value),
+        Err(_) => Err(Memory),
+    }
+}
+
+/// The JSON object that tells this of a mistake.
+fn object(
+    alloc: Global,
+    rule: u8,
+    message: &str,
+    remedy: &str,
+    at: Position,
+    length: usize,
+) -> Result<Value, AllocError>
+    ensures rule { IfOk result (λ value. get (codes "rule") (view value) ≡ Some (number (unsigned rule))) }
+    ensures shallow { IfOk result (λ value. depth (view value) ≡ 1) }
+{
+    let line = at.line;
+    let column = at.column;
+    json!(in alloc; {
+        "rule": rule,
+        "message": message,
+        "remedy": remedy,
+        "line": line,
+        "column": column,
+        "length": length
+    })
+}
+
+/// What to do, and what else helps.
+fn remedy_of(alloc: Global, words: &Words) -> Result<String, Memory> {
+    let label = words.label.as_str();
+    let note = words.note.as_str();
+    let parting = if label.is_empty() || note.is_empty() {
+        ""
+    } else {
+        "; "
+    };
+    Ok(format!(in alloc; "{label}{parting}{note}")?)
+}

@@ -1,0 +1,148 @@
+//! The mistakes of a text as lines for people.
+ghost use Rattle.std.specs.Prelude.{◌≡◌, ◌++◌, IfOk, OnOk, string_bytes};
+ghost use Rattle.mistakes.specs.Told.{IsLeastRule};
+ghost use Rattle.mistake_text.specs.Told.{AreBlocks, TellsLines, block_of, count_line, head_of};
+
+use crate::choice::{MOST, shown};
+use crate::context::Context;
+use crate::excerpt::excerpt_of;
+use crate::shown::shown_whole;
+use crate::words::words_of;
+use base::Memory;
+use mistakes::{Mistake, Mistakes};
+use std::alloc::{AllocError, Global};
+use toml_places::{Position, position_of};
+
+/// The mistakes of the text of a file, at most 50 of them by their places, and how many there are.
+pub fn lines(alloc: Global, file: &str, bytes: &[u8], mistakes: &Mistakes) -> Result<String, Memory>
+    requires least { IsLeastRule mistakes.now.rule mistakes.now.list.items }
+    ensures { IfOk result (λ text. TellsLines mistakes.now.rule (string_bytes text)) }
+{
+    let context = Context::new(alloc, bytes, mistakes);
+    let file = shown_whole(alloc, file)?;
+    let shown = shown(alloc, mistakes)?;
+    let mut lines = blocks(&context, file.as_str(), shown.as_slice())?;
+    push_count(&mut lines, mistakes.list.len())?;
+    Ok(lines)
+}
+
+/// The lines of these mistakes.
+fn blocks(context: &Context<'_>, file: &str, shown: &[Mistake]) -> Result<String, Memory>
+    ensures { IfOk result (λ text. AreBlocks shown.now (string_bytes text)) }
+{
+    let mut lines = String::new(context.alloc);
+    for mistake in shown {
+        let words = told(context, file, mistake)?;
+        push_block(&mut lines, mistake.rule, words.as_str())?;
+    }
+    Ok(lines)
+}
+
+/// Adds the words on a mistake of a rule.
+fn push_block(lines: &mut String, rule: u8, words: &str) -> Result<(), AllocError>
+    ensures { OnOk result (string_bytes lines.new ≡ string_bytes lines.old ++ block_of rule words.now) }
+{
+    push_head(lines, rule)?;
+    lines.push_str(words)
+}
+
+/// Adds what the words on a mistake of a rule begin with.
+fn push_head(lines: &mut String, rule: u8) -> Result<(), AllocError>
+    ensures { OnOk result (string_bytes lines.new ≡ string_bytes lines.old ++ head_of rule) }
+{
+    write!(lines, "error[rule {rule}]: ")
+}
+
+/// Adds how many mistakes there are.
+fn push_count(lines: &mut String, count: usize) -> Result<(), AllocError>
+    ensures { OnOk result (string_bytes lines.new ≡ string_bytes lines.old ++ count_line count) }
+{
+    if count == 1 {
+        return lines.push_str("1 mistake\n");
+    }
+    if count <= MOST {
+        return write!(lines, "{count} mistakes\n");
+    }
+    let more = count - MOST;
+    write!(lines, "{count} mistakes, {more} of them not shown\n")
+}
+
+/// The words on a mistake: what is wrong, where, the line, and what helps.
+fn told(context: &Context<'_>, file: &str, mistake: &Mistake) -> Result<String, Memory> {
+    let alloc = context.alloc;
+    let words = words_of(context, mistake)?;
+    let message = words.message.as_str();
+    let at = position_of(context.bytes, mistake.span.start);
+    let line = at.line;
+    let column = at.column;
+    let gutter = spaces(alloc, digits(line))?;
+    let gutter = gutter.as_str();
+    let mut lines = format!(in alloc; "{message}\n{gutter} --> {file}:{line}:{column}\n")?;
+    push_excerpt(context, &mut lines, mistake, at, words.label.as_str())?;
+    if !words.note.is_empty() {
+        let note = words.note.as_str();
+        let block = format!(in alloc; "{gutter}  |\n{gutter}  = {note}\n")?;
+        lines.push_str(block.as_str())?;
+    }
+    lines.push_str("\n")?;
+    Ok(lines)
+}
+
+/// Adds the line of the text, and the mark below it with what to do.
+fn push_excerpt(
+    context: &Context<'_>,
+    lines: &mut String,
+    mistake: &Mistake,
+    at: Position,
+    label: &str,
+) -> Result<(), Memory> {
+    let alloc = context.alloc;
+    let excerpt = excerpt_of(context, mistake.span)?;
+    let line = at.line;
+    let gutter = spaces(alloc, digits(line))?;
+    let gutter = gutter.as_str();
+    let source = excerpt.line.as_str();
+    let source = if source.is_empty() {
+        format!(in alloc; "{gutter}  |\n {line} |\n")?
+    } else {
+        format!(in alloc; "{gutter}  |\n {line} | {source}\n")?
+    };
+    lines.push_str(source.as_str())?;
+    let indent = spaces(alloc, excerpt.indent)?;
+    let indent = indent.as_str();
+    let marks = repeated(alloc, '^', excerpt.marks)?;
+    let marks = marks.as_str();
+    let marked = if label.is_empty() {
+        format!(in alloc; "{gutter}  | {indent}{marks}\n")?
+    } else {
+        format!(in alloc; "{gutter}  | {indent}{marks} {label}\n")?
+    };
+    lines.push_str(marked.as_str())?;
+    Ok(())
+}
+
+/// How many digits a number has.
+fn digits(number: usize) -> usize {
+    let mut left = number;
+    for count in 1..20usize {
+        if left < 10 {
+            return count;
+        }
+        left /= 10;
+    }
+    20
+}
+
+/// So many spaces.
+fn spaces(alloc: Global, count: usize) -> Result<String, Memory> {
+    repeated(alloc, ' ', count)
+}
+
+/// A character so many times.
+fn repeated(alloc: Global, c: char, count: usize) -> Result<String, Memory> {
+    let mut text = String::new(alloc);
+    for _ in 0..count {
+        text.push(c)?;
+    }
+    Ok(text)
+}

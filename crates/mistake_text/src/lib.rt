@@ -1,0 +1,20 @@
+//! The mistakes of a scenario text in words: as lines for people, and as JSON.
+#![tactic(auto)]
+
+mod as_json;
+mod as_lines;
+mod choice;
+mod context;
+mod excerpt;
+mod names;
+mod nearest;
+mod rows;
+mod shape_words;
+mod shown;
+#[cfg(test)]
+mod tests;
+mod value_words;
+mod words;
+
+pub use as_json::json;
+pub use as_lines::lines;

@@ -1,0 +1,149 @@
+//! The words of mistakes of rules 8 to 10.
+use crate::context::Context;
+use crate::rows::version_of;
+use crate::words::Words;
+use base::Memory;
+use mistakes::Departure;
+use schema::{FormatKey, Version};
+use toml_places::Span;
+
+/// What a member does, and what that is called.
+fn departure_words(departure: Departure) -> (&'static str, &'static str) {
+    match departure {
+        Departure::Crash => ("crashes", "crash"),
+        Departure::Leave => ("leaves", "leave"),
+    }
+}
+
+/// Rule 8: a member goes twice.
+pub(crate) fn gone_words(
+    context: &Context<'_>,
+    span: Span,
+    now: Departure,
+    before: Departure,
+    other: Span,
+) -> Result<Words, Memory> {
+    let alloc = context.alloc;
+    let member = context.shown_name(span)?;
+    let line = context.line(other);
+    let (goes, _) = departure_words(now);
+    let (first_goes, first) = departure_words(before);
+    let message = if now == before {
+        format!(in alloc; "`{member}` {goes} twice")?
+    } else {
+        format!(in alloc; "`{member}` {first_goes} and {goes}")?
+    };
+    Ok(Words {
+        message,
+        label: format!(in alloc; "its {first} is on line {line}")?,
+        note: String::from_str(alloc, "a member goes once, for good: take one of them away")?,
+    })
+}
+
+/// Rule 8: two slow times of a member overlap.
+pub(crate) fn overlap_words(
+    context: &Context<'_>,
+    span: Span,
+    other: Span,
+) -> Result<Words, Memory> {
+    let alloc = context.alloc;
+    let member = context.shown_name(span)?;
+    let line = context.line(other);
+    Ok(Words {
+        message: format!(in alloc; "two slow times of `{member}` overlap")?,
+        label: format!(in alloc; "the other is on line {line}")?,
+        note: String::from_str(
+            alloc,
+            "let the later `from` be no less than the earlier `until`",
+        )?,
+    })
+}
+
+/// Rule 9: the timeout isn't below the period.
+pub(crate) fn timeout_words(
+    context: &Context<'_>,
+    timeout: u64,
+    period: u64,
+    other: Span,
+) -> Result<Words, Memory> {
+    let alloc = context.alloc;
+    let line = context.line(other);
+    let most = period.saturating_sub(1);
+    Ok(Words {
+        message: format!(in alloc; "`timeout` {timeout} isn't below `period` {period}")?,
+        label: format!(in alloc; "write {most} or less")?,
+        note: format!(in alloc; "`period` is on line {line}")?,
+    })
+}
+
+/// Rule 9: a group that starts at moment 0 has a contact.
+pub(crate) fn needless_words(context: &Context<'_>) -> Result<Words, Memory> {
+    Words::fixed(
+        context.alloc,
+        "a group that starts at 0 has a `contact`",
+        "take it away, or give the group a `start` over 0",
+        "members that start at 0 know each other from the start",
+    )
+}
+
+/// Rule 9: the contact starts later itself.
+pub(crate) fn late_words(context: &Context<'_>, span: Span, start: u64) -> Result<Words, Memory> {
+    let alloc = context.alloc;
+    let member = context.shown_name(span)?;
+    Ok(Words {
+        message: format!(in alloc; "the contact `{member}` starts at {start} itself")?,
+        label: String::from_str(alloc, "write a member of a group with start 0")?,
+        note: String::new(alloc),
+    })
+}
+
+/// Rule 9: a member goes too early.
+pub(crate) fn early_words(
+    context: &Context<'_>,
+    departure: Departure,
+    at: u64,
+    start: u64,
+) -> Result<Words, Memory> {
+    let alloc = context.alloc;
+    let (_, name) = departure_words(departure);
+    let least = start.saturating_add(1);
+    Ok(Words {
+        message: format!(in alloc; "a {name} at {at}, where the member starts at {start}")?,
+        label: format!(in alloc; "write {least} or more")?,
+        note: format!(in alloc; "a {name} comes after its member's start")?,
+    })
+}
+
+/// Rule 9: a time is over when it begins.
+pub(crate) fn end_words(
+    context: &Context<'_>,
+    key: FormatKey,
+    begins: u64,
+    until: u64,
+) -> Result<Words, Memory> {
+    let alloc = context.alloc;
+    let key = key.text();
+    let least = begins.saturating_add(1);
+    Ok(Words {
+        message: format!(in alloc; "`until` {until} isn't after `{key}` {begins}")?,
+        label: format!(in alloc; "write {least} or more")?,
+        note: String::new(alloc),
+    })
+}
+
+/// Rule 10: there are too many members.
+pub(crate) fn size_words(context: &Context<'_>, members: u128, most: u64) -> Result<Words, Memory> {
+    let alloc = context.alloc;
+    let note = match version_of(context) {
+        Version::One => {
+            let more = Version::Two.most_members();
+            format!(in alloc; "with `version = 2` there may be {more}")?
+        }
+        Version::Two => String::new(alloc),
+    };
+    Ok(Words {
+        message: format!(in alloc; "there are {members} members, more than {most}")?,
+        label: format!(in alloc; "from here on there are more than {most}")?,
+        note,
+    })
+}

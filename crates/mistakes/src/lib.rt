@@ -1,0 +1,20 @@
+//! All mistakes of a scenario text: of each the rule that it breaks, its cause, and where it stands.
+#![tactic(auto)]
+
+mod cause;
+mod departures;
+mod list;
+mod members;
+mod names;
+mod shape;
+mod sizes;
+mod telling;
+#[cfg(test)]
+mod tests;
+mod times;
+mod walk;
+
+pub use cause::{Cause, Departure, Found, Home};
+pub use list::{Mistake, Mistakes};
+pub use members::Known;
+pub use telling::{has_rule, of_refused};

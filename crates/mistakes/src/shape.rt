@@ -1,0 +1,177 @@
+//! Rules 2 to 5: which keys a table has, and of what kind and range their values are.
+use crate::cause::{Cause, Found, Home};
+use crate::walk::{Walk, found_at, is_within, items_of};
+use base::Memory;
+use schema::{Absence, FormatKey, KeyRule, Kind, Section, Version};
+use toml_places::{Content, Places};
+
+/// Judges the whole text, and the tables and the items of lists that its keys call for.
+pub(crate) fn judge_shape(walk: &mut Walk<'_>) -> Result<(), Memory> {
+    judge_table(walk, home(Section::Top, None), Places::TOP)?;
+    for row in Section::Top.rows(walk.version) {
+        if let Some(place) = walk.places.child(Places::TOP, row.key.text()) {
+            judge_below(walk, row, place)?;
+        }
+    }
+    Ok(())
+}
+
+/// A table of a section.
+fn home(section: Section, key: Option<FormatKey>) -> Home {
+    Home { section, key }
+}
+
+/// Judges what a key of the whole text has as its value, where that is a table or a list of tables.
+fn judge_below(walk: &mut Walk<'_>, row: &KeyRule, place: usize) -> Result<(), Memory> {
+    match row.kind {
+        Kind::Table(section) => {
+            if found_at(walk.places, place) == Found::Table {
+                judge_table(walk, home(section, Some(row.key)), place)?;
+            }
+            Ok(())
+        }
+        Kind::List(section) => judge_items(walk, row, section, items_of(walk.places, place)),
+        Kind::Whole { .. } | Kind::Switch | Kind::Text => Ok(()),
+    }
+}
+
+/// Judges the items of a list of tables.
+fn judge_items(
+    walk: &mut Walk<'_>,
+    row: &KeyRule,
+    section: Section,
+    items: &[usize],
+) -> Result<(), Memory> {
+    for item in items {
+        let found = found_at(walk.places, *item);
+        if found == Found::Table {
+            judge_table(walk, home(section, Some(row.key)), *item)?;
+        } else {
+            let span = walk.places.value(*item);
+            walk.add(4, Cause::WrongItem { row: *row, found }, span)?;
+        }
+    }
+    Ok(())
+}
+
+/// Judges the keys of a table.
+fn judge_table(walk: &mut Walk<'_>, home: Home, table: usize) -> Result<(), Memory> {
+    let rows = home.section.rows(walk.version);
+    for row in rows {
+        match walk.places.child(table, row.key.text()) {
+            Some(place) => judge_value(walk, row, place)?,
+            None => judge_absence(walk, home, row, table)?,
+        }
+    }
+    judge_keys(walk, home, rows, table)
+}
+
+/// Judges that a key of a table isn't there.
+fn judge_absence(
+    walk: &mut Walk<'_>,
+    home: Home,
+    row: &KeyRule,
+    table: usize,
+) -> Result<(), Memory> {
+    let span = walk.places.header(table);
+    match row.absence {
+        Absence::Refused => {
+            let row = told_row(row);
+            walk.add(2, Cause::MissingKey { home, row }, span)
+        }
+        Absence::RefusedOver0(key) => match whole_at(walk, table, key) {
+            Some(start) if start > 0 => walk.add(2, Cause::MissingContact { start }, span),
+            _ => Ok(()),
+        },
+        Absence::Default(_) | Absence::Optional => Ok(()),
+    }
+}
+
+/// The whole number of a key, whatever its range.
+fn whole_at(walk: &Walk<'_>, table: usize, key: FormatKey) -> Option<i64> {
+    let place = walk.places.child(table, key.text())?;
+    match walk.places.content(place) {
+        Some(Content::Whole(number)) => Some(*number),
+        _ => None,
+    }
+}
+
+/// Judges the kind of a value, its range, and that a list has an item where it needs one.
+fn judge_value(walk: &mut Walk<'_>, row: &KeyRule, place: usize) -> Result<(), Memory> {
+    let found = found_at(walk.places, place);
+    let span = walk.places.value(place);
+    if !is_of_kind(row.kind, found) {
+        let row = *row;
+        return walk.add(4, Cause::WrongKind { row, found }, span);
+    }
+    match walk.places.content(place) {
+        Some(Content::Whole(number)) if !is_within(row.kind, *number) => {
+            let number = *number;
+            let row = told_row(row);
+            walk.add(5, Cause::OutOfRange { row, number }, span)
+        }
+        Some(Content::List(items)) if items.is_empty() && row.absence == Absence::Refused => {
+            walk.add(2, Cause::EmptyList { row: *row }, span)
+        }
+        _ => Ok(()),
+    }
+}
+
+/// The row that is told of a key: of the version, that which knows all of them.
+fn told_row(row: &KeyRule) -> KeyRule {
+    if row.key == FormatKey::Version {
+        for other in Section::Top.rows(Version::Two) {
+            if other.key == FormatKey::Version {
+                return *other;
+            }
+        }
+    }
+    *row
+}
+
+/// Whether a value is of the kind that a key calls for.
+fn is_of_kind(kind: Kind, found: Found) -> bool {
+    match kind {
+        Kind::Whole { .. } => found == Found::Whole,
+        Kind::Switch => found == Found::Switch,
+        Kind::Text => found == Found::Text,
+        Kind::Table(_) => found == Found::Table,
+        Kind::List(_) => found == Found::List,
+    }
+}
+
+/// Judges whether the format names each key of a table.
+fn judge_keys(
+    walk: &mut Walk<'_>,
+    home: Home,
+    rows: &[KeyRule],
+    table: usize,
+) -> Result<(), Memory> {
+    if let Some(Content::Table(keys)) = walk.places.content(table) {
+        for (name, place) in keys.iter() {
+            if !is_named(rows, name.as_str()) {
+                let cause = unknown(walk, home, name.as_str(), *place);
+                let span = walk.places.key(*place);
+                walk.add(3, cause, span)?;
+            }
+        }
+    }
+    Ok(())
+}
+
+/// Whether one of the rows is of the key that is spelt so.
+fn is_named(rows: &[KeyRule], name: &str) -> bool {
+    rows.iter().any(|row| row.key.text() == name)
+}
+
+/// Why the format doesn't name a key.
+fn unknown(walk: &Walk<'_>, home: Home, name: &str, place: usize) -> Cause {
+    if is_named(home.section.rows(Version::Two), name) {
+        Cause::LaterKey
+    } else {
+        Cause::UnknownKey {
+            home,
+            found: found_at(walk.places, place),
+        }
+    }
+}

@@ -1,0 +1,217 @@
+//! The walk over the places of a text, which finds its mistakes.
+use crate::cause::{Cause, Found};
+use crate::departures::judge_departures;
+use crate::list::{Mistake, Mistakes};
+use crate::members::Known;
+use crate::names::judge_names;
+use crate::shape::judge_shape;
+use crate::sizes::judge_size;
+use crate::times::judge_times;
+use base::Memory;
+use indexmap::IndexMap;
+use schema::{Absence, FormatKey, KeyRule, Kind, Section, Version};
+use std::alloc::Global;
+use toml_places::{Content, Places, Span};
+
+/// What is gone over, and the mistakes so far.
+#[derive(Drop)]
+pub(crate) struct Walk<'p> {
+    pub(crate) alloc: Global,
+    pub(crate) places: &'p Places,
+    pub(crate) version: Version,
+    pub(crate) list: Vec<Mistake>,
+}
+
+impl<'p> Walk<'p> {
+    /// Adds a mistake.
+    pub(crate) fn add(&mut self, rule: u8, cause: Cause, span: Span) -> Result<(), Memory> {
+        self.list.push(Mistake { rule, cause, span })?;
+        Ok(())
+    }
+
+    /// The items of the list of a key of the whole text; none where no list is there.
+    pub(crate) fn items(&self, key: FormatKey) -> &'p [usize] {
+        match self.places.child(Places::TOP, key.text()) {
+            Some(place) => items_of(self.places, place),
+            None => &[],
+        }
+    }
+
+    /// The items of a list that version 2 adds.
+    pub(crate) fn added_items(&self, key: FormatKey) -> &'p [usize] {
+        match self.version {
+            Version::One => &[],
+            Version::Two => self.items(key),
+        }
+    }
+
+    /// The text of a key of a table, and its place.
+    pub(crate) fn text(&self, table: usize, key: FormatKey) -> Option<(&'p str, usize)> {
+        let place = self.places.child(table, key.text())?;
+        match self.places.content(place) {
+            Some(Content::Text(text)) => Some((text.as_str(), place)),
+            _ => None,
+        }
+    }
+
+    /// The whole number of a key of a table, if it keeps its kind and range; its default where it isn't
+    /// there.
+    pub(crate) fn number(&self, section: Section, table: usize, key: FormatKey) -> Option<u64> {
+        let row = row_of(section.rows(self.version), key)?;
+        match self.places.child(table, key.text()) {
+            Some(place) => match self.places.content(place) {
+                Some(Content::Whole(number)) if is_within(row.kind, *number) => {
+                    u64::try_from(*number).ok()
+                }
+                _ => None,
+            },
+            None => match row.absence {
+                Absence::Default(number) => Some(number),
+                Absence::Refused | Absence::RefusedOver0(_) | Absence::Optional => None,
+            },
+        }
+    }
+
+    /// Where the value of a key of a table stands; where it isn't there, where the table begins.
+    pub(crate) fn value_of(&self, table: usize, key: FormatKey) -> Span {
+        match self.places.child(table, key.text()) {
+            Some(place) => self.places.value(place),
+            None => self.places.header(table),
+        }
+    }
+}
+
+/// The places of the items of a list.
+pub(crate) fn items_of(places: &Places, list: usize) -> &[usize] {
+    match places.content(list) {
+        Some(Content::List(items)) => items.as_slice(),
+        _ => &[],
+    }
+}
+
+/// The row of a key.
+fn row_of(rows: &[KeyRule], key: FormatKey) -> Option<KeyRule> {
+    for row in rows {
+        if row.key == key {
+            return Some(*row);
+        }
+    }
+    None
+}
+
+/// Whether a number is in the range of a kind.
+pub(crate) fn is_within(kind: Kind, number: i64) -> bool {
+    match kind {
+        Kind::Whole { least, most } => match u64::try_from(number) {
+            Ok(number) => least <= number && number <= most,
+            Err(_) => false,
+        },
+        Kind::Switch | Kind::Text | Kind::Table(_) | Kind::List(_) => true,
+    }
+}
+
+/// What kind of value stands at a place.
+pub(crate) fn found_at(places: &Places, place: usize) -> Found {
+    match places.content(place) {
+        Some(Content::Whole(_)) => Found::Whole,
+        Some(Content::Switch(_)) => Found::Switch,
+        Some(Content::Text(_)) => Found::Text,
+        Some(Content::Float) => Found::Float,
+        Some(Content::Datetime) => Found::Datetime,
+        Some(Content::List(_)) => Found::List,
+        Some(Content::Table(_)) | None => Found::Table,
+    }
+}
+
+/// The mistakes of a text that is refused by a rule, by their places.
+pub(crate) fn find_mistakes(alloc: Global, bytes: &[u8], rule: u8) -> Result<Mistakes, Memory> {
+    match std::str::from_utf8(bytes) {
+        Ok(text) if rule == 1 => document_fault(alloc, text),
+        Ok(text) => walk_over(alloc, text, rule),
+        Err(error) => {
+            let start = error.valid_up_to();
+            let span = Span {
+                start,
+                end: bytes.len().min(start.saturating_add(1)),
+            };
+            one_mistake(alloc, Cause::NoUtf8, span, "")
+        }
+    }
+}
+
+/// The mistake of a text that is no TOML document.
+fn document_fault(alloc: Global, text: &str) -> Result<Mistakes, Memory> {
+    match toml::table_from_str(alloc, text) {
+        Ok(_) => one_mistake(alloc, Cause::General, Span { start: 0, end: 0 }, ""),
+        Err(error) => match error.span() {
+            Some(range) => {
+                let span = Span {
+                    start: range.start,
+                    end: range.end,
+                };
+                one_mistake(alloc, Cause::NoDocument, span, error.message())
+            }
+            None => Err(Memory),
+        },
+    }
+}
+
+/// A single mistake of rule 1.
+fn one_mistake(alloc: Global, cause: Cause, span: Span, fault: &str) -> Result<Mistakes, Memory> {
+    let mut list = Vec::new(alloc);
+    list.push(Mistake {
+        rule: 1,
+        cause,
+        span,
+    })?;
+    Ok(Mistakes {
+        list,
+        rule: 1,
+        version: Version::One,
+        groups: IndexMap::new(alloc),
+        fault: String::from_str(alloc, fault)?,
+    })
+}
+
+/// The mistakes of a document that is refused by a rule.
+fn walk_over(alloc: Global, text: &str, rule: u8) -> Result<Mistakes, Memory> {
+    let places = toml_places::read(alloc, text)?;
+    let mut walk = Walk {
+        alloc,
+        places: &places,
+        version: version_of(&places),
+        list: Vec::new(alloc),
+    };
+    judge_shape(&mut walk)?;
+    let groups = judge_values(&mut walk)?;
+    let version = walk.version;
+    let mut list = walk.list;
+    list.sort_by_key(|mistake| mistake.span.start)?;
+    Ok(Mistakes {
+        list,
+        rule,
+        version,
+        groups,
+        fault: String::new(alloc),
+    })
+}
+
+/// Judges what the values mean together. What comes out are the groups by their names.
+fn judge_values(walk: &mut Walk<'_>) -> Result<IndexMap<String, Known>, Memory> {
+    let roster = judge_names(walk)?;
+    judge_departures(walk, &roster)?;
+    judge_times(walk, &roster)?;
+    judge_size(walk)?;
+    Ok(roster.groups)
+}
+
+/// The version by which a text is judged.
+fn version_of(places: &Places) -> Version {
+    match places.child(Places::TOP, FormatKey::Version.text()) {
+        Some(place) => match places.content(place) {
+            Some(Content::Whole(2)) => Version::Two,
+            _ => Version::One,
+        },
+        None => Version::One,
+    }
+}
