@@ -28,7 +28,12 @@ pub(crate) fn explain_command<'a>(alloc: Global) -> Result<Command<'a>, AllocErr
             "Tells all mistakes of a scenario that is refused, or what one that is accepted means",
         ),
     )?;
-    with_flag(alloc, filed, "json", "Prints one JSON document in place of lines")
+    with_flag(
+        alloc,
+        filed,
+        "json",
+        "Prints one JSON document in place of lines",
+    )
 }
 
 /// The explanation that is asked for by words that `clap` took.

@@ -14,6 +14,6 @@ mod words;
 pub use division::{division_asked, workers_asked};
 pub use explaining::ExplainWords;
 pub use failure::{Failure, refuse};
-pub use printing::{print_text, print_help, print_members, print_release, print_rows};
+pub use printing::{print_help, print_members, print_release, print_rows, print_text};
 pub use release::Release;
 pub use words::{Asked, RunWords, Split, SweepWords, parse};

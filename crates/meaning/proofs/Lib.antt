@@ -1,2 +1,0 @@
-pub mod Greatest
-pub mod Sums

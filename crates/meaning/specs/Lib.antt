@@ -1,4 +1,0 @@
-pub mod Times
-pub mod Trips
-pub mod Quiet
-pub mod Groups

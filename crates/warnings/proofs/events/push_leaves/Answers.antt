@@ -1,8 +1,0 @@
-use Rattle.warnings.specs.Told.{told_at, told_of_leave}
-use Rattle.warnings.proofs.More.{told_more}
-use Rattle.warnings.proofs.events.push_leaves.Goals as goal
-
-pub loop-place-preserved : goal.loop-place-preserved
-loop-place-preserved c =
-    let s = c.args.scenario.now in
-    told_more (told_at (told_of_leave s) s.leaves) _ _ _ c.loop-place.place c.loop-place.invariant c.in_ok-push_leave.ensures

@@ -1,6 +1,0 @@
-use Rattle.std.proofs.Common.{◌≡◌, ◌++◌}
-use Rattle.warnings.specs.Told.{told_below, told_of_leave}
-use Rattle.warnings.proofs.events.push_leaves.Given as goal
-
-abbrev pub invariant-loop-place : goal.invariant-loop-place
-invariant-loop-place l = l.told.items ≡ l.fn.told.items ++ told_below (told_of_leave l.scenario) l.scenario.leaves l.place

@@ -1,6 +1,0 @@
-use Rattle.std.proofs.Common.{◌≡◌, ◌++◌}
-use Rattle.warnings.specs.Told.{told_below, told_of_slow}
-use Rattle.warnings.proofs.slows.push_slows.Given as goal
-
-abbrev pub invariant-loop-place : goal.invariant-loop-place
-invariant-loop-place l = l.told.items ≡ l.fn.told.items ++ told_below (told_of_slow l.scenario l.trip) l.scenario.slows l.place
