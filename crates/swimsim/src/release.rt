@@ -3,6 +3,6 @@
 /// The number of the version.
 pub const VERSION: &str = "1.0.0";
 /// The digest of the sources.
-pub const SOURCES: &str = "0e29b80dc0cb7d15ac015785470f73f74b66b56dae98cae988ee80f4e8d5bdb6";
+pub const SOURCES: &str = "0e5bbabfb00e688dc152a9429fef69b2c32a8e25f0cf36fa4520a025313162f1";
 /// The kit.
 pub const KIT: &str = "rattle-kit-13f logic dac8208d650f15bf";

@@ -1,7 +1,7 @@
 //! What a failure tells that no command can be made to have, and printing whose flush fails.
 use base::Fault;
 use command_line::{
-    Asked, Failure, parse, print_text, print_help, print_members, print_rows, refuse,
+    Asked, Failure, parse, print_help, print_members, print_rows, print_text, refuse,
 };
 use files::testing::{Failing, MemoryWriter};
 use scenario::DivisionFault;
