@@ -1,6 +1,6 @@
 -- What an answer to the words says of them, and of what was not done.
 use Rattle.std.proofs.Common.{◌≡◌, List, ℕ, Bool, true, false, Option, Result, Ok, Err, sym, subst, refl, inl, inr}
-use Rattle.std.proofs.lemmas.Result.{on_ok_weaker}
+use Rattle.std.proofs.lemmas.Result.{on_ok_weaker, IfErr-weaker}
 use Rattle.std.specs.Result.{OnOk, IfErr}
 use Rattle.std.specs.Io.KnownBytes.{Appends}
 use Rattle.clap.specs.Words.{Text}
@@ -8,7 +8,7 @@ use Rattle.scenario_files.specs.Shelves.{Shelf}
 use Rattle.explain_command.specs.Outcomes.{ExplainFails, PrintsMeaning}
 use Rattle.run_command.specs.Outcomes.{RunFails, RunsAll}
 use Rattle.run_command.proofs.Causes.{run_memory, run_mistaken, run_output, run_usage}
-use Rattle.sweep_command.specs.Outcomes.{AsksForProgress, SweepFails}
+use Rattle.sweep_command.specs.Outcomes.{AsksForProgress, SweepFails, SweepsAll}
 use Rattle.sweep_command.proofs.Causes.{sweep_memory, sweep_mistaken, sweep_output, sweep_usage}
 use Rattle.cli.specs.Outcomes.{CheckFails, HasDone, Fails}
 use Rattle.files.specs.Files.{Making}
@@ -125,6 +125,14 @@ pub asked_sweep_fails : (words : List Text) (before after : Shelf) (making : Mak
 asked_sweep_fails words before after making old new answer sweep failure is h fails =
     let asks : Answers words (asked.Sweep sweep) = subst (Answers words) is h in
     sweep_fails words before after making old new sweep failure asks fails
+
+-- a sweep that the words ask for was done, and its lines were not printed
+pub asked_sweep_unprinted : (words : List Text) (before after : Shelf) (making : Making) (old new : Option (List ℕ)) (answer : Asked) (sweep : SweepWords) (lines : List ℕ)
+    (printed : Result (Unit {0}) Failure) → answer ≡ asked.Sweep sweep → Answers words answer → SweepsAll before after making sweep lines
+    → IfErr printed (λ failure. failure ≡ Output) → IfErr printed (Fails words before after making old new)
+asked_sweep_unprinted words before after making old new answer sweep lines printed is h swept told =
+    let asks : Answers words (asked.Sweep sweep) = subst (Answers words) is h in
+    IfErr-weaker printed _ _ (λ failure same. subst (Fails words before after making old new) (sym same) (inr (inr (inr (inl (lines, (sweep, asks, swept))))))) told
 
 -- where the words ask for no sweep that tells how far it has come, this one doesn't
 pub asked_untold : (words : List Text) (answer : Asked) (sweep : SweepWords) → answer ≡ asked.Sweep sweep → Answers words answer

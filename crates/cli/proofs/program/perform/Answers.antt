@@ -1,6 +1,6 @@
 -- a run or a sweep that the words ask for, done and told or not done
 use Rattle.std.proofs.lemmas.Result.{IfErr-weaker}
-use Rattle.cli.proofs.Commands.{asked_explain_done, asked_explain_fails, asked_run_done, asked_run_fails, asked_sweep_fails, asked_untold, is_command}
+use Rattle.cli.proofs.Commands.{asked_explain_done, asked_explain_fails, asked_run_done, asked_run_fails, asked_sweep_fails, asked_sweep_unprinted, asked_untold, is_command}
 use Rattle.scenario_files.proofs.Held.{handed_on}
 use Rattle.cli.proofs.program.perform.Goals as goal
 
@@ -23,6 +23,10 @@ returns-in-Explain-clause-failed g c =
 
 pub returns-in-Explain-clause-other : goal.returns-in-Explain-clause-other
 returns-in-Explain-clause-other g c none = absurd (none (is_command _ _ c.in_ok-help.ensures.answer))
+
+pub returns-in_ok-lines-in-Sweep-clause-failed : goal.returns-in_ok-lines-in-Sweep-clause-failed
+returns-in_ok-lines-in-Sweep-clause-failed g c =
+    asked_sweep_unprinted _ _ _ _ _ _ _ _ _ c.print_text.result c.in-Sweep.is c.in_ok-help.ensures.answer c.in_ok-lines-in-Sweep.ensures.done c.print_text.ensures.failure
 
 pub returns-in_ok-lines-in-Sweep-clause-other : goal.returns-in_ok-lines-in-Sweep-clause-other
 returns-in_ok-lines-in-Sweep-clause-other g c none = absurd (none (is_command _ _ c.in_ok-help.ensures.answer))
