@@ -11,8 +11,6 @@ mod nearest;
 mod rows;
 mod shape_words;
 mod shown;
-#[cfg(test)]
-mod tests;
 mod value_words;
 mod words;
 

@@ -9,8 +9,6 @@ mod names;
 mod shape;
 mod sizes;
 mod telling;
-#[cfg(test)]
-mod tests;
 mod times;
 mod walk;
 
