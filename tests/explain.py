@@ -95,7 +95,7 @@ def hostile(size):
     yield 'a byte 0', b'a = "\x00"\n', b'error[rule 1]', 20
     yield 'an empty text', b'', b'6 mistakes', 20
     yield 'no last line feed', b'version', b'error[rule 1]', 20
-    yield '10,000 entries of 4,096 members', large + crashes, b'10000 mistakes, 9950 of them not shown', 1
+    yield '10,000 entries of 4,096 members', large + crashes, b'10000 mistakes, 9950 of them not shown', 10
     keys = b''.join(b'k%d = 1\n' % i for i in range(100000))
     yield '100,000 unknown keys', HEAD + keys + GROUP, b'100000 mistakes', 20
     yield 'a great comment', b'#' + b'x' * size + b'\n', b'6 mistakes', 300

@@ -15,7 +15,7 @@ Ran = namedtuple('Ran', 'status out err')
 Case = namedtuple('Case', 'name check arguments')
 
 # no call takes as long as this
-SECONDS = 60
+SECONDS = 300
 
 
 class Wrong(Exception):

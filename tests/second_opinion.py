@@ -29,7 +29,7 @@ from scenarios import NEWEST_TAKEN, document_of, judge
 TOP = Path(__file__).resolve().parent.parent
 BUILT = TOP / 'crates' / 'swimsim' / 'out' / 'swimsim'
 # a run takes the program some milliseconds
-SECONDS = 60
+SECONDS = 300
 
 
 def seed_of_sources():
