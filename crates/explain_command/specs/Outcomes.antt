@@ -3,7 +3,9 @@ use Rattle.std.specs.Prelude.{◌≡◌, ℕ, List, Bool, true, false, Option, S
 use Rattle.std.specs.Io.KnownBytes.{Appends}
 use Rattle.scenario.specs.Setup.{Setup}
 use Rattle.mistake_text.specs.Told.{TellsDocument, TellsLines}
+use Rattle.accepted.specs.Told.{TellsMeaning, TellsMeaningDocument}
 use Rattle.files.specs.Files.{KnownFile}
+use Rattle.command_line.specs.Shown.{shown_name}
 use Rattle.command_line.specs.declared.explaining.ExplainWords.{ExplainWords}
 use Rattle.command_line.specs.declared.failure.Failure.{Failure}
 use Rattle.command_line.specs.declared.failure.Failure.TheVariants.{Mistaken, Output}
@@ -15,15 +17,20 @@ abbrev pub TellsMistakes : Bool → ℕ → List ℕ → Type 0
 TellsMistakes true rule text = TellsDocument rule text
 TellsMistakes false rule text = TellsLines rule text
 
+-- the text tells what a scenario means that the file of this name says, as a JSON document or in lines
+abbrev pub TellsSetup : Bool → Setup → List ℕ → List ℕ → Type 0
+TellsSetup true s file text = TellsMeaningDocument s file text
+TellsSetup false s file text = TellsMeaning s (shown_name file) text
+
 -- The text tells of a scenario with this verdict: of one that breaks no rule what it means; of another its mistakes, the
 -- least rule among which is the one that it is refused by.
-abbrev pub TellsText : Result Setup ℕ → Bool → Option ℕ → List ℕ → Type 0
-TellsText (Ok s) json broken text = broken ≡ None
-TellsText (Err rule) json broken text = (broken ≡ Some rule) × TellsMistakes json rule text
+abbrev pub TellsText : Result Setup ℕ → ExplainWords → Option ℕ → List ℕ → Type 0
+TellsText (Ok s) explain broken text = (broken ≡ None) × TellsSetup explain.json s explain.file.now text
+TellsText (Err rule) explain broken text = (broken ≡ Some rule) × TellsMistakes explain.json rule text
 
 -- the text tells of the scenario of the file
 abbrev pub TellsOf : KnownFile → ExplainWords → Option ℕ → List ℕ → Type 0
-TellsOf known explain broken text = (answer : Result Setup ℕ) × HasVerdict known answer × TellsText answer explain.json broken text
+TellsOf known explain broken text = (answer : Result Setup ℕ) × HasVerdict known answer × TellsText answer explain broken text
 
 -- what an accepted scenario means was printed
 abbrev pub PrintsMeaning : KnownFile → ExplainWords → Option (List ℕ) → Option (List ℕ) → Type 0

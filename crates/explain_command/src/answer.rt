@@ -1,9 +1,9 @@
 //! What is told of a text.
 ghost use Rattle.std.specs.Prelude.{◌≡◌, IfOk, None, Ok, Some, string_bytes};
 ghost use Rattle.scenario_reader.specs.Rules.{verdict};
-ghost use Rattle.explain_command.specs.Outcomes.{TellsMistakes, TellsText};
+ghost use Rattle.explain_command.specs.Outcomes.{TellsMistakes, TellsSetup, TellsText};
 
-use crate::meaning::meaning;
+use crate::accepting::meaning;
 use base::Memory;
 use command_line::ExplainWords;
 use mistakes::of_refused;
@@ -29,10 +29,10 @@ pub(crate) fn explained_text(
     words: ExplainWords<'_>,
     bytes: &[u8],
 ) -> Result<Explained, Memory>
-    ensures { IfOk result (λ told. TellsText (verdict bytes.now) words.entry.json told.broken (string_bytes told.text)) }
+    ensures { IfOk result (λ told. TellsText (verdict bytes.now) words.entry told.broken (string_bytes told.text)) }
 {
     match read(alloc, bytes) {
-        Ok(scenario) => accepted(alloc, words, &scenario),
+        Ok(scenario) => accepted(alloc, words, bytes, &scenario),
         Err(refusal) if refusal.rule == MEMORY_RULE => Err(Memory),
         Err(refusal) => refused(alloc, words, bytes, refusal.rule),
     }
@@ -42,11 +42,13 @@ pub(crate) fn explained_text(
 fn accepted(
     alloc: Global,
     words: ExplainWords<'_>,
+    bytes: &[u8],
     scenario: &Scenario,
 ) -> Result<Explained, Memory>
-    ensures { IfOk result (λ told. told.broken ≡ None) }
+    ensures { IfOk result (λ told. (told.broken ≡ None)
+        × TellsSetup words.entry.json scenario.now words.entry.file.now (string_bytes told.text)) }
 {
-    let text = meaning(alloc, words, scenario)?;
+    let text = meaning(alloc, words, bytes, scenario)?;
     Ok(Explained { text, broken: None })
 }
 

@@ -2,8 +2,9 @@
 //! means.
 #![tactic(auto)]
 
+mod accepting;
 mod answer;
 mod explaining;
-mod meaning;
+mod shown;
 
 pub use explaining::explain_file;

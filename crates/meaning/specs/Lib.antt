@@ -1,0 +1,6 @@
+pub mod Times
+pub mod Trips
+pub mod Quiet
+pub mod Groups
+pub mod News
+pub mod Each

@@ -1,0 +1,20 @@
+ghost use Rattle.std.specs.Prelude.{◌≡◌, ◌<◌, ◌^◌};
+ghost use Rattle.scenario.specs.Setup.{member_count};
+ghost use Rattle.membership.specs.Table.{live_count};
+ghost use Rattle.member.specs.State.{State};
+ghost use Rattle.member.specs.Send.{limit_of};
+ghost use Rattle.meaning.specs.News.{message_limit};
+
+use base::digits;
+use scenario::Scenario;
+
+/// On how many messages of a member its news of somebody rides at the most, while the member knows
+/// all members and holds none as confirmed.
+pub fn message_limit(scenario: &Scenario) -> u64
+    ensures value { result ≡ message_limit scenario.now }
+    ensures member { (t : State) → live_count t.table ≡ member_count scenario.now → result ≡ limit_of scenario.now t }
+    ensures small { result < 2 ^ 40 }
+{
+    let members = scenario.members() as u32;
+    scenario.swim().lambda * u64::from(digits(members))
+}

@@ -1,0 +1,57 @@
+-- What of the script happens up to the end, as JSON.
+use Rattle.std.specs.Prelude.{ℕ, nat_le, if◌then◌else◌, List, [], ◌∷◌, codes, flat_map}
+use Rattle.std.specs.List.{range_with_len}
+use Rattle.std.specs.Option.{option_map_or}
+use Rattle.scenario.specs.Setup.{Setup, member_count, name_of, crash_of}
+use Rattle.scenario.specs.declared.settings.Slow.{Slow}
+use Rattle.scenario.specs.declared.settings.Leave.{Leave}
+use Rattle.scenario.specs.declared.settings.Cut.{Cut}
+use Rattle.serde_json.specs.Data.{Data, string, object, put, no_members}
+use Rattle.meaning.specs.Groups.{group_name}
+use Rattle.meaning_json.specs.Figures.{whole, list_of}
+
+-- who goes when
+unfoldable pub departure_data : Setup → ℕ → ℕ → Data
+departure_data s m at = object (put (codes "at") (whole at) (put (codes "member") (string (name_of s m)) no_members))
+
+-- who goes by the end
+abbrev pub departure_item : Setup → ℕ → ℕ → List Data
+departure_item s m at = if nat_le at s.end then departure_data s m at ∷ [] else []
+
+abbrev pub crash_item : Setup → ℕ → List Data
+crash_item s m = option_map_or (departure_item s m) (crash_of s m) []
+
+abbrev pub crashes_data : Setup → Data
+crashes_data s = list_of (flat_map (crash_item s) (range_with_len 0 (member_count s)))
+
+abbrev pub leave_item : Setup → Leave → List Data
+leave_item s l = departure_item s l.member l.at
+
+abbrev pub leaves_data : Setup → Data
+leaves_data s = list_of (flat_map (leave_item s) s.leaves)
+
+-- who is slow when, and by how much
+unfoldable pub slow_data : Setup → Slow → Data
+slow_data s e =
+    object (put (codes "extra") (whole e.extra) (put (codes "until") (whole e.until) (put (codes "from") (whole e.from) (put (codes "member") (string (name_of s e.member)) no_members))))
+
+abbrev pub slow_item : Setup → Slow → List Data
+slow_item s e = if nat_le e.from s.end then slow_data s e ∷ [] else []
+
+abbrev pub slows_data : Setup → Data
+slows_data s = list_of (flat_map (slow_item s) s.slows)
+
+-- between which groups the link is cut, and when
+unfoldable pub cut_data : Setup → Cut → Data
+cut_data s c =
+    object (put (codes "until") (whole c.until) (put (codes "at") (whole c.at) (put (codes "to") (string (group_name s c.to)) (put (codes "from") (string (group_name s c.from)) no_members))))
+
+abbrev pub cut_item : Setup → Cut → List Data
+cut_item s c = if nat_le c.at s.end then cut_data s c ∷ [] else []
+
+abbrev pub cuts_data : Setup → Data
+cuts_data s = list_of (flat_map (cut_item s) s.cuts)
+
+unfoldable pub script_data : Setup → Data
+script_data s =
+    object (put (codes "cuts") (cuts_data s) (put (codes "slows") (slows_data s) (put (codes "leaves") (leaves_data s) (put (codes "crashes") (crashes_data s) no_members))))

@@ -1,0 +1,142 @@
+ghost use Rattle.std.specs.Prelude.{◌≡◌, IfOk};
+ghost use Rattle.serde_json.specs.View.{view};
+ghost use Rattle.meaning.specs.Groups.{groups_of};
+ghost use Rattle.meaning_json.specs.Document.{document, document_with, figures_data, cluster_data, warnings_data, warning_data, warning_with};
+
+use crate::figures::{
+    groups_value, link_value, news_value, paths_value, quiet_value, times_value, whole_or_null,
+};
+use crate::lists::{list_of, push_value};
+use crate::script::script_value;
+use base::Memory;
+use meaning::groups_of;
+use meaning_text::{kind_of, message_of, remedy_of};
+use scenario::Scenario;
+use serde_json::{Value, json};
+use std::alloc::{AllocError, Global};
+use warnings::{Findings, Place, Placed};
+
+/// What the scenario in the file of this name means, as a JSON value: that it is accepted, its figures
+/// and its warnings; or `Memory` where it was refused.
+pub fn json_of(
+    alloc: Global,
+    file: &str,
+    scenario: &Scenario,
+    findings: &Findings,
+    placed: &[Placed],
+) -> Result<Value, Memory>
+    ensures { IfOk result (λ v. view v ≡ document file.now scenario.now findings.now placed.now) }
+{
+    let trip = findings.round_trip;
+    let groups = groups_of(alloc, scenario)?;
+    let figures = figures_value(alloc, scenario, groups.as_slice(), findings.window, trip)?;
+    let warnings = warnings_value(alloc, scenario, trip, placed)?;
+    Ok(document_value(alloc, file, figures, warnings)?)
+}
+
+/// The document of a file's scenario with these figures and warnings.
+#[tactic(auto, unfolding(crate::specs::Document::document_with))]
+fn document_value(
+    alloc: Global,
+    file: &str,
+    figures: Value,
+    warnings: Value,
+) -> Result<Value, AllocError>
+    ensures { IfOk result (λ v. view v ≡ document_with file.now (view figures) (view warnings)) }
+{
+    json!(in alloc; {"file": file, "accepted": true, "figures": figures, "warnings": warnings})
+}
+
+/// The figures.
+#[tactic(auto, unfolding(crate::specs::Document::figures_data))]
+fn figures_value(
+    alloc: Global,
+    scenario: &Scenario,
+    groups: &[usize],
+    window: Option<u64>,
+    trip: u64,
+) -> Result<Value, AllocError>
+    requires { groups.now ≡ groups_of scenario.now }
+    ensures { IfOk result (λ v. view v ≡ figures_data scenario.now window trip) }
+{
+    let cluster = cluster_value(alloc, scenario, groups, window, trip)?;
+    let times = times_value(alloc, scenario)?;
+    let news = news_value(alloc, scenario)?;
+    let script = script_value(alloc, scenario, groups)?;
+    let quiet = quiet_value(alloc, scenario)?;
+    json!(in alloc; {"cluster": cluster, "times": times, "news": news, "script": script, "quiet": quiet})
+}
+
+/// The members, their links, and how long answers take.
+#[tactic(auto, unfolding(crate::specs::Document::cluster_data))]
+fn cluster_value(
+    alloc: Global,
+    scenario: &Scenario,
+    groups: &[usize],
+    window: Option<u64>,
+    trip: u64,
+) -> Result<Value, AllocError>
+    requires { groups.now ≡ groups_of scenario.now }
+    ensures { IfOk result (λ v. view v ≡ cluster_data scenario.now window trip) }
+{
+    let members = scenario.members();
+    let groups_list = groups_value(alloc, scenario, groups)?;
+    let link = link_value(alloc, scenario.link())?;
+    let paths = paths_value(alloc, scenario, groups)?;
+    let window = whole_or_null(window);
+    json!(in alloc; {
+        "members": members, "groups": groups_list, "link": link, "paths": paths, "window": window,
+        "round_trip": trip
+    })
+}
+
+/// The warnings.
+fn warnings_value(
+    alloc: Global,
+    scenario: &Scenario,
+    trip: u64,
+    placed: &[Placed],
+) -> Result<Value, Memory>
+    ensures { IfOk result (λ v. view v ≡ warnings_data scenario.now trip placed.now) }
+{
+    let mut values = Vec::new(alloc);
+    for warning in placed {
+        push_value(&mut values, warning_value(alloc, scenario, trip, warning)?)?;
+    }
+    Ok(list_of(values))
+}
+
+/// A warning: its kind, its reason, what mends it, and where it is.
+fn warning_value(
+    alloc: Global,
+    scenario: &Scenario,
+    trip: u64,
+    placed: &Placed,
+) -> Result<Value, Memory>
+    ensures { IfOk result (λ v. view v ≡ warning_data scenario.now trip placed.now) }
+{
+    let message = message_of(alloc, placed.warning, scenario, trip)?;
+    let kind = kind_of(placed.warning);
+    let remedy = remedy_of(placed.warning);
+    Ok(warning_object(alloc, kind, message.as_str(), remedy, placed.place)?)
+}
+
+/// The object that tells this of a warning.
+#[tactic(auto, unfolding(crate::specs::Document::warning_with))]
+fn warning_object(
+    alloc: Global,
+    kind: &str,
+    message: &str,
+    remedy: &str,
+    place: Place,
+) -> Result<Value, AllocError>
+    ensures { IfOk result (λ v. view v ≡ warning_with kind.now message.now remedy.now place) }
+{
+    let line = place.line;
+    let column = place.column;
+    let length = place.length;
+    json!(in alloc; {
+        "kind": kind, "message": message, "remedy": remedy, "line": line, "column": column,
+        "length": length
+    })
+}

@@ -1,0 +1,258 @@
+ghost use Rattle.std.specs.Prelude.{◌≡◌, ◌++◌, ◌<◌, ◌≤◌, IfOk, OnOk, length, map};
+ghost use Rattle.serde_json.specs.View.{view};
+ghost use Rattle.scenario.specs.Setup.{member_count};
+ghost use Rattle.meaning.specs.Each.{made_at};
+ghost use Rattle.meaning.specs.Groups.{groups_of};
+ghost use Rattle.meaning_json.specs.Figures.{whole_or_null, link_data, contact_data, group_data, group_item, groups_data, path_data, path_item, paths_data, suspicion_item, suspicions_data, pace_data, pace_item, health_data, times_data, news_data, quiet_data};
+
+use crate::lists::{list_of, push_value};
+use base::MemberId;
+use meaning::{
+    cost_of_quiet, first_of, group_name, is_hidden, item_at, least_suspicion, member_name,
+    message_limit, most_accusers, nack_delay, pace_with, suspicion_time, worst_health,
+};
+use meaning_text::{name_of_group, size_of_group};
+use scenario::{Link, Path, Scenario};
+use serde_json::{Value, json};
+use std::alloc::{AllocError, Global};
+
+/// A number, or null where there is none.
+pub(crate) fn whole_or_null(number: Option<u64>) -> Value
+    ensures { view result ≡ whole_or_null number }
+{
+    match number {
+        Some(number) => Value::from(number),
+        None => Value::Null,
+    }
+}
+
+/// What a link does.
+#[tactic(auto, unfolding(crate::specs::Figures::link_data))]
+pub(crate) fn link_value(alloc: Global, link: Link) -> Result<Value, AllocError>
+    ensures { IfOk result (λ v. view v ≡ link_data link) }
+{
+    json!(in alloc; {"delay": link.delay, "jitter": link.jitter, "loss": link.loss})
+}
+
+/// The groups.
+pub(crate) fn groups_value(
+    alloc: Global,
+    scenario: &Scenario,
+    groups: &[usize],
+) -> Result<Value, AllocError>
+    requires { groups.now ≡ groups_of scenario.now }
+    ensures { IfOk result (λ v. view v ≡ groups_data scenario.now) }
+{
+    let mut values = Vec::new(alloc);
+    for member in 0..scenario.members() {
+        push_group(alloc, &mut values, scenario, groups, member)?;
+    }
+    Ok(list_of(values))
+}
+
+/// Appends the group of a member, if the member is its first.
+fn push_group(
+    alloc: Global,
+    values: &mut Vec<Value>,
+    scenario: &Scenario,
+    groups: &[usize],
+    member: usize,
+) -> Result<(), AllocError>
+    requires member { member < member_count scenario.now }
+    requires groups { groups.now ≡ groups_of scenario.now }
+    ensures { OnOk result (map view values.new.items ≡ map view values.old.items ++ group_item scenario.now member) }
+{
+    let _few = scenario.members();
+    let number = scenario.group_number(MemberId(member as u16));
+    if first_of(groups, number) == member {
+        push_value(values, group_value(alloc, scenario, groups, member)?)
+    } else {
+        Ok(())
+    }
+}
+
+/// The group of a member: its name, how many members it has, when these start, and whom they ask.
+#[tactic(auto, unfolding(crate::specs::Figures::group_data))]
+fn group_value(
+    alloc: Global,
+    scenario: &Scenario,
+    groups: &[usize],
+    member: usize,
+) -> Result<Value, AllocError>
+    requires member { member < member_count scenario.now }
+    requires groups { groups.now ≡ groups_of scenario.now }
+    ensures { IfOk result (λ v. view v ≡ group_data scenario.now member) }
+{
+    let _few = scenario.members();
+    let name = name_of_group(scenario, groups, member);
+    let size = size_of_group(scenario, groups, member);
+    let start = scenario.start(MemberId(member as u16)).ticks();
+    let contact = contact_value(alloc, scenario, scenario.contact(MemberId(member as u16)))?;
+    json!(in alloc; {"name": name, "members": size, "start": start, "contact": contact})
+}
+
+/// Whom the members of a group ask to let them join; null where they ask nobody.
+fn contact_value(
+    alloc: Global,
+    scenario: &Scenario,
+    contact: Option<MemberId>,
+) -> Result<Value, AllocError>
+    ensures { IfOk result (λ v. view v ≡ contact_data scenario.now contact) }
+{
+    match contact {
+        Some(member) => Value::try_from_str(alloc, member_name(scenario, member.index())),
+        None => Ok(Value::Null),
+    }
+}
+
+/// The paths that decide.
+pub(crate) fn paths_value(
+    alloc: Global,
+    scenario: &Scenario,
+    groups: &[usize],
+) -> Result<Value, AllocError>
+    requires { groups.now ≡ groups_of scenario.now }
+    ensures { IfOk result (λ v. view v ≡ paths_data scenario.now) }
+{
+    let mut values = Vec::new(alloc);
+    for place in 0..scenario.paths().len() {
+        push_path(alloc, &mut values, scenario, groups, place)?;
+    }
+    Ok(list_of(values))
+}
+
+/// Appends the path at this place, if it decides.
+fn push_path(
+    alloc: Global,
+    values: &mut Vec<Value>,
+    scenario: &Scenario,
+    groups: &[usize],
+    place: usize,
+) -> Result<(), AllocError>
+    requires { groups.now ≡ groups_of scenario.now }
+    ensures { OnOk result (map view values.new.items
+        ≡ map view values.old.items ++ made_at (path_item scenario.now) scenario.now.paths place) }
+{
+    let paths = scenario.paths();
+    let Some(path) = item_at(paths, place) else {
+        return Ok(());
+    };
+    if is_hidden(paths, place, &path) {
+        Ok(())
+    } else {
+        push_value(values, path_value(alloc, scenario, groups, place, &path)?)
+    }
+}
+
+/// A path: its number in the text, between which groups it is, and what its link does.
+#[tactic(auto, unfolding(crate::specs::Figures::path_data))]
+fn path_value(
+    alloc: Global,
+    scenario: &Scenario,
+    groups: &[usize],
+    place: usize,
+    path: &Path,
+) -> Result<Value, AllocError>
+    requires groups { groups.now ≡ groups_of scenario.now }
+    requires place { place < length scenario.now.paths }
+    ensures { IfOk result (λ v. view v ≡ path_data scenario.now place path.now) }
+{
+    let _paths = scenario.paths();
+    let number = place + 1;
+    let from = group_name(scenario, groups, path.from);
+    let to = group_name(scenario, groups, path.to);
+    let link = link_value(alloc, path.link)?;
+    json!(in alloc; {"number": number, "from": from, "to": to, "link": link})
+}
+
+/// The times of the protocol among all members.
+#[tactic(auto, unfolding(crate::specs::Figures::times_data))]
+pub(crate) fn times_value(alloc: Global, scenario: &Scenario) -> Result<Value, AllocError>
+    ensures { IfOk result (λ v. view v ≡ times_data scenario.now) }
+{
+    let least = least_suspicion(scenario);
+    let suspicions = suspicions_value(alloc, scenario)?;
+    let health = health_value(alloc, scenario)?;
+    let nack = nack_delay(scenario);
+    json!(in alloc; {
+        "least_suspicion": least, "suspicions": suspicions, "health": health, "nack_delay": nack
+    })
+}
+
+/// How long a suspicion lasts, by the number of further accusers.
+fn suspicions_value(alloc: Global, scenario: &Scenario) -> Result<Value, AllocError>
+    ensures { IfOk result (λ v. view v ≡ suspicions_data scenario.now) }
+{
+    let mut values = Vec::new(alloc);
+    for accusers in 0..most_accusers(scenario) + 1 {
+        push_suspicion(&mut values, scenario, accusers)?;
+    }
+    Ok(list_of(values))
+}
+
+/// Appends how long a suspicion lasts with so many further accusers.
+fn push_suspicion(
+    values: &mut Vec<Value>,
+    scenario: &Scenario,
+    accusers: u64,
+) -> Result<(), AllocError>
+    ensures { OnOk result (map view values.new.items ≡ map view values.old.items ++ suspicion_item scenario.now accusers) }
+{
+    push_value(values, Value::from(suspicion_time(scenario, accusers)))
+}
+
+/// Period and timeout, by the health counter.
+fn health_value(alloc: Global, scenario: &Scenario) -> Result<Value, AllocError>
+    ensures { IfOk result (λ v. view v ≡ health_data scenario.now) }
+{
+    let mut values = Vec::new(alloc);
+    for health in 0..worst_health(scenario) + 1 {
+        push_pace(alloc, &mut values, scenario, health)?;
+    }
+    Ok(list_of(values))
+}
+
+/// Appends period and timeout of a member whose health counter stands so.
+fn push_pace(
+    alloc: Global,
+    values: &mut Vec<Value>,
+    scenario: &Scenario,
+    health: u64,
+) -> Result<(), AllocError>
+    requires { health ≤ 16 }
+    ensures { OnOk result (map view values.new.items ≡ map view values.old.items ++ pace_item scenario.now health) }
+{
+    push_value(values, pace_value(alloc, scenario, health)?)
+}
+
+/// Period and timeout of a member whose health counter stands so.
+#[tactic(auto, unfolding(crate::specs::Figures::pace_data))]
+fn pace_value(alloc: Global, scenario: &Scenario, health: u64) -> Result<Value, AllocError>
+    requires { health ≤ 16 }
+    ensures { IfOk result (λ v. view v ≡ pace_data scenario.now health) }
+{
+    let pace = pace_with(scenario, health);
+    json!(in alloc; {"period": pace.period, "timeout": pace.timeout})
+}
+
+/// How far an update spreads.
+#[tactic(auto, unfolding(crate::specs::Figures::news_data))]
+pub(crate) fn news_value(alloc: Global, scenario: &Scenario) -> Result<Value, AllocError>
+    ensures { IfOk result (λ v. view v ≡ news_data scenario.now) }
+{
+    let limit = message_limit(scenario);
+    let carry = scenario.swim().carry;
+    json!(in alloc; {"limit": limit, "carry": carry})
+}
+
+/// What a quiet run costs.
+#[tactic(auto, unfolding(crate::specs::Figures::quiet_data))]
+pub(crate) fn quiet_value(alloc: Global, scenario: &Scenario) -> Result<Value, AllocError>
+    ensures { IfOk result (λ v. view v ≡ quiet_data scenario.now) }
+{
+    let quiet = cost_of_quiet(scenario);
+    json!(in alloc; {
+        "messages_a_period": quiet.messages_a_period, "messages_a_second": quiet.messages_a_second,
+        "messages": quiet.messages, "rows": quiet.rows, "bytes": quiet.bytes
+    })
+}

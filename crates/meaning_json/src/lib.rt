@@ -1,0 +1,9 @@
+//! What a scenario means, as a JSON value: its figures, and what it is warned of.
+#![tactic(auto)]
+
+mod document;
+mod figures;
+mod lists;
+mod script;
+
+pub use document::json_of;

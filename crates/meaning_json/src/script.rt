@@ -1,0 +1,192 @@
+ghost use Rattle.std.specs.Prelude.{◌≡◌, ◌++◌, ◌<◌, IfOk, OnOk, flat_map, map};
+ghost use Rattle.serde_json.specs.View.{view};
+ghost use Rattle.scenario.specs.Setup.{member_count};
+ghost use Rattle.meaning.specs.Groups.{groups_of};
+ghost use Rattle.meaning_json.specs.Figures.{list_of};
+ghost use Rattle.meaning_json.specs.Script.{departure_data, departure_item, crash_item, crashes_data, leave_item, slow_data, slow_item, cut_data, cut_item, script_data};
+
+use crate::lists::{list_of, push_value};
+use base::{MemberId, Moment};
+use meaning::{group_name, member_name};
+use scenario::{Cut, Leave, Scenario, Slow};
+use serde_json::{Value, json};
+use std::alloc::{AllocError, Global};
+
+/// What of the script happens up to the end: crashes by the members' numbers, the rest in the order of
+/// the text.
+#[tactic(auto, unfolding(crate::specs::Script::script_data))]
+pub(crate) fn script_value(
+    alloc: Global,
+    scenario: &Scenario,
+    groups: &[usize],
+) -> Result<Value, AllocError>
+    requires { groups.now ≡ groups_of scenario.now }
+    ensures { IfOk result (λ v. view v ≡ script_data scenario.now) }
+{
+    let crashes = crashes_value(alloc, scenario)?;
+    let leaves = leaves_value(alloc, scenario, scenario.leaves())?;
+    let slows = slows_value(alloc, scenario, scenario.slows())?;
+    let cuts = cuts_value(alloc, scenario, groups, scenario.cuts())?;
+    json!(in alloc; {"crashes": crashes, "leaves": leaves, "slows": slows, "cuts": cuts})
+}
+
+/// The crashes.
+fn crashes_value(alloc: Global, scenario: &Scenario) -> Result<Value, AllocError>
+    ensures { IfOk result (λ v. view v ≡ crashes_data scenario.now) }
+{
+    let mut values = Vec::new(alloc);
+    for member in 0..scenario.members() {
+        push_crash(alloc, &mut values, scenario, member)?;
+    }
+    Ok(list_of(values))
+}
+
+/// Appends the crash of a member, if it crashes by the end.
+fn push_crash(
+    alloc: Global,
+    values: &mut Vec<Value>,
+    scenario: &Scenario,
+    member: usize,
+) -> Result<(), AllocError>
+    requires { member < member_count scenario.now }
+    ensures { OnOk result (map view values.new.items ≡ map view values.old.items ++ crash_item scenario.now member) }
+{
+    let _few = scenario.members();
+    match scenario.crash(MemberId(member as u16)) {
+        Some(at) => push_departure(alloc, values, scenario, member, at),
+        None => Ok(()),
+    }
+}
+
+/// The leaves.
+fn leaves_value(alloc: Global, scenario: &Scenario, leaves: &[Leave]) -> Result<Value, AllocError>
+    ensures { IfOk result (λ v. view v ≡ list_of (flat_map (leave_item scenario.now) leaves.now)) }
+{
+    let mut values = Vec::new(alloc);
+    for leave in leaves {
+        push_departure(alloc, &mut values, scenario, leave.member.index(), leave.at)?;
+    }
+    Ok(list_of(values))
+}
+
+/// Appends who goes when, unless it is after the end.
+fn push_departure(
+    alloc: Global,
+    values: &mut Vec<Value>,
+    scenario: &Scenario,
+    member: usize,
+    at: Moment,
+) -> Result<(), AllocError>
+    ensures { OnOk result (map view values.new.items ≡ map view values.old.items ++ departure_item scenario.now member at) }
+{
+    if at.ticks() <= scenario.end().ticks() {
+        push_value(values, departure_value(alloc, scenario, member, at)?)
+    } else {
+        Ok(())
+    }
+}
+
+/// Who goes when.
+#[tactic(auto, unfolding(crate::specs::Script::departure_data))]
+fn departure_value(
+    alloc: Global,
+    scenario: &Scenario,
+    member: usize,
+    at: Moment,
+) -> Result<Value, AllocError>
+    ensures { IfOk result (λ v. view v ≡ departure_data scenario.now member at) }
+{
+    let name = member_name(scenario, member);
+    json!(in alloc; {"member": name, "at": at.ticks()})
+}
+
+/// The slow times.
+fn slows_value(alloc: Global, scenario: &Scenario, slows: &[Slow]) -> Result<Value, AllocError>
+    ensures { IfOk result (λ v. view v ≡ list_of (flat_map (slow_item scenario.now) slows.now)) }
+{
+    let mut values = Vec::new(alloc);
+    for slow in slows {
+        push_slow(alloc, &mut values, scenario, slow)?;
+    }
+    Ok(list_of(values))
+}
+
+/// Appends a slow time, if it begins by the end.
+fn push_slow(
+    alloc: Global,
+    values: &mut Vec<Value>,
+    scenario: &Scenario,
+    slow: &Slow,
+) -> Result<(), AllocError>
+    ensures { OnOk result (map view values.new.items ≡ map view values.old.items ++ slow_item scenario.now slow.now) }
+{
+    if slow.from.ticks() <= scenario.end().ticks() {
+        push_value(values, slow_value(alloc, scenario, slow)?)
+    } else {
+        Ok(())
+    }
+}
+
+/// Who is slow when, and by how much.
+#[tactic(auto, unfolding(crate::specs::Script::slow_data))]
+fn slow_value(alloc: Global, scenario: &Scenario, slow: &Slow) -> Result<Value, AllocError>
+    ensures { IfOk result (λ v. view v ≡ slow_data scenario.now slow.now) }
+{
+    let name = member_name(scenario, slow.member.index());
+    let from = slow.from.ticks();
+    let until = slow.until.ticks();
+    json!(in alloc; {"member": name, "from": from, "until": until, "extra": slow.extra})
+}
+
+/// The cuts.
+fn cuts_value(
+    alloc: Global,
+    scenario: &Scenario,
+    groups: &[usize],
+    cuts: &[Cut],
+) -> Result<Value, AllocError>
+    requires { groups.now ≡ groups_of scenario.now }
+    ensures { IfOk result (λ v. view v ≡ list_of (flat_map (cut_item scenario.now) cuts.now)) }
+{
+    let mut values = Vec::new(alloc);
+    for cut in cuts {
+        push_cut(alloc, &mut values, scenario, groups, cut)?;
+    }
+    Ok(list_of(values))
+}
+
+/// Appends a cut, if it begins by the end.
+fn push_cut(
+    alloc: Global,
+    values: &mut Vec<Value>,
+    scenario: &Scenario,
+    groups: &[usize],
+    cut: &Cut,
+) -> Result<(), AllocError>
+    requires { groups.now ≡ groups_of scenario.now }
+    ensures { OnOk result (map view values.new.items ≡ map view values.old.items ++ cut_item scenario.now cut.now) }
+{
+    if cut.at.ticks() <= scenario.end().ticks() {
+        push_value(values, cut_value(alloc, scenario, groups, cut)?)
+    } else {
+        Ok(())
+    }
+}
+
+/// Between which groups the link is cut, and when.
+#[tactic(auto, unfolding(crate::specs::Script::cut_data))]
+fn cut_value(
+    alloc: Global,
+    scenario: &Scenario,
+    groups: &[usize],
+    cut: &Cut,
+) -> Result<Value, AllocError>
+    requires { groups.now ≡ groups_of scenario.now }
+    ensures { IfOk result (λ v. view v ≡ cut_data scenario.now cut.now) }
+{
+    let from = group_name(scenario, groups, cut.from);
+    let to = group_name(scenario, groups, cut.to);
+    let at = cut.at.ticks();
+    let until = cut.until.ticks();
+    json!(in alloc; {"from": from, "to": to, "at": at, "until": until})
+}

@@ -1,0 +1,185 @@
+ghost use Rattle.std.specs.Prelude.{◌≡◌, ◌++◌, ◌<◌, OnOk, flat_map};
+ghost use Rattle.std.specs.List.{range_with_len};
+ghost use Rattle.std.specs.String.{string_bytes};
+ghost use Rattle.scenario.specs.Setup.{member_count};
+ghost use Rattle.meaning.specs.Groups.{groups_of};
+ghost use Rattle.meaning_text.specs.Lines.{departure_text, departure_line, crash_line, leave_line, slow_text, slow_line, cut_text, cut_line, script_lines};
+
+use base::{MemberId, Moment};
+use meaning::{group_name, member_name};
+use scenario::{Cut, Leave, Scenario, Slow};
+use std::alloc::AllocError;
+
+/// Appends what of the script happens up to the end: crashes by the members' numbers, the rest in the
+/// order of the text.
+#[tactic(auto, unfolding(crate::specs::Lines::script_lines))]
+pub(crate) fn push_script(
+    text: &mut String,
+    scenario: &Scenario,
+    groups: &[usize],
+) -> Result<(), AllocError>
+    requires { groups.now ≡ groups_of scenario.now }
+    ensures { OnOk result (string_bytes text.new ≡ string_bytes text.old ++ script_lines scenario.now) }
+{
+    push_crashes(text, scenario)?;
+    push_leaves(text, scenario, scenario.leaves())?;
+    push_slows(text, scenario, scenario.slows())?;
+    push_cuts(text, scenario, groups, scenario.cuts())
+}
+
+/// Appends the crashes.
+fn push_crashes(text: &mut String, scenario: &Scenario) -> Result<(), AllocError>
+    ensures { OnOk result (string_bytes text.new
+        ≡ string_bytes text.old ++ flat_map (crash_line scenario.now) (range_with_len 0 (member_count scenario.now))) }
+{
+    for member in 0..scenario.members() {
+        push_crash(text, scenario, member)?;
+    }
+    Ok(())
+}
+
+/// Appends the crash of a member, if it crashes by the end.
+fn push_crash(text: &mut String, scenario: &Scenario, member: usize) -> Result<(), AllocError>
+    requires { member < member_count scenario.now }
+    ensures { OnOk result (string_bytes text.new ≡ string_bytes text.old ++ crash_line scenario.now member) }
+{
+    let _few = scenario.members();
+    match scenario.crash(MemberId(member as u16)) {
+        Some(at) => push_departure(text, scenario, "crash", member, at),
+        None => Ok(()),
+    }
+}
+
+/// Appends the leaves.
+fn push_leaves(text: &mut String, scenario: &Scenario, leaves: &[Leave]) -> Result<(), AllocError>
+    ensures { OnOk result (string_bytes text.new ≡ string_bytes text.old ++ flat_map (leave_line scenario.now) leaves.now) }
+{
+    for leave in leaves {
+        push_leave(text, scenario, leave)?;
+    }
+    Ok(())
+}
+
+/// Appends a leave, if it is by the end.
+fn push_leave(text: &mut String, scenario: &Scenario, leave: &Leave) -> Result<(), AllocError>
+    ensures { OnOk result (string_bytes text.new ≡ string_bytes text.old ++ leave_line scenario.now leave.now) }
+{
+    push_departure(text, scenario, "leave", leave.member.index(), leave.at)
+}
+
+/// Appends who goes and when, unless it is after the end.
+fn push_departure(
+    text: &mut String,
+    scenario: &Scenario,
+    word: &str,
+    member: usize,
+    at: Moment,
+) -> Result<(), AllocError>
+    ensures { OnOk result (string_bytes text.new ≡ string_bytes text.old ++ departure_line scenario.now word.now member at) }
+{
+    if at.ticks() <= scenario.end().ticks() {
+        push_departure_text(text, scenario, word, member, at)
+    } else {
+        Ok(())
+    }
+}
+
+/// Appends who goes and when.
+#[tactic(auto, unfolding(crate::specs::Lines::departure_text))]
+fn push_departure_text(
+    text: &mut String,
+    scenario: &Scenario,
+    word: &str,
+    member: usize,
+    at: Moment,
+) -> Result<(), AllocError>
+    ensures { OnOk result (string_bytes text.new ≡ string_bytes text.old ++ departure_text scenario.now word.now member at) }
+{
+    let name = member_name(scenario, member);
+    let ticks = at.ticks();
+    writeln!(text, "{word} {name} {ticks}")
+}
+
+/// Appends the slow times.
+fn push_slows(text: &mut String, scenario: &Scenario, slows: &[Slow]) -> Result<(), AllocError>
+    ensures { OnOk result (string_bytes text.new ≡ string_bytes text.old ++ flat_map (slow_line scenario.now) slows.now) }
+{
+    for slow in slows {
+        push_slow(text, scenario, slow)?;
+    }
+    Ok(())
+}
+
+/// Appends a slow time, if it begins by the end.
+fn push_slow(text: &mut String, scenario: &Scenario, slow: &Slow) -> Result<(), AllocError>
+    ensures { OnOk result (string_bytes text.new ≡ string_bytes text.old ++ slow_line scenario.now slow.now) }
+{
+    if slow.from.ticks() <= scenario.end().ticks() {
+        push_slow_text(text, scenario, slow)
+    } else {
+        Ok(())
+    }
+}
+
+/// Appends who is slow when, and by how much.
+#[tactic(auto, unfolding(crate::specs::Lines::slow_text))]
+fn push_slow_text(text: &mut String, scenario: &Scenario, slow: &Slow) -> Result<(), AllocError>
+    ensures { OnOk result (string_bytes text.new ≡ string_bytes text.old ++ slow_text scenario.now slow.now) }
+{
+    let name = member_name(scenario, slow.member.index());
+    let from = slow.from.ticks();
+    let until = slow.until.ticks();
+    let extra = slow.extra;
+    writeln!(text, "slow {name} from {from} until {until} extra {extra}")
+}
+
+/// Appends the cuts.
+fn push_cuts(
+    text: &mut String,
+    scenario: &Scenario,
+    groups: &[usize],
+    cuts: &[Cut],
+) -> Result<(), AllocError>
+    requires { groups.now ≡ groups_of scenario.now }
+    ensures { OnOk result (string_bytes text.new ≡ string_bytes text.old ++ flat_map (cut_line scenario.now) cuts.now) }
+{
+    for cut in cuts {
+        push_cut(text, scenario, groups, cut)?;
+    }
+    Ok(())
+}
+
+/// Appends a cut, if it begins by the end.
+fn push_cut(
+    text: &mut String,
+    scenario: &Scenario,
+    groups: &[usize],
+    cut: &Cut,
+) -> Result<(), AllocError>
+    requires { groups.now ≡ groups_of scenario.now }
+    ensures { OnOk result (string_bytes text.new ≡ string_bytes text.old ++ cut_line scenario.now cut.now) }
+{
+    if cut.at.ticks() <= scenario.end().ticks() {
+        push_cut_text(text, scenario, groups, cut)
+    } else {
+        Ok(())
+    }
+}
+
+/// Appends between which groups the link is cut, and when.
+#[tactic(auto, unfolding(crate::specs::Lines::cut_text))]
+fn push_cut_text(
+    text: &mut String,
+    scenario: &Scenario,
+    groups: &[usize],
+    cut: &Cut,
+) -> Result<(), AllocError>
+    requires { groups.now ≡ groups_of scenario.now }
+    ensures { OnOk result (string_bytes text.new ≡ string_bytes text.old ++ cut_text scenario.now cut.now) }
+{
+    let from = group_name(scenario, groups, cut.from);
+    let to = group_name(scenario, groups, cut.to);
+    let at = cut.at.ticks();
+    let until = cut.until.ticks();
+    writeln!(text, "cut {from} {to} from {at} until {until}")
+}

@@ -1,0 +1,9 @@
+use Rattle.meaning.specs.Each.{made_at}
+use Rattle.warnings.specs.Told.{told_of_cut}
+use Rattle.meaning.proofs.More.{told_more}
+use Rattle.warnings.proofs.events.push_cuts.Goals as goal
+
+pub loop-place-preserved : goal.loop-place-preserved
+loop-place-preserved c =
+    let s = c.args.scenario.now in
+    told_more (made_at (told_of_cut s) s.cuts) _ _ _ c.loop-place.place c.loop-place.invariant c.in_ok-push_cut.ensures

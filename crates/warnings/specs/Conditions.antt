@@ -1,0 +1,71 @@
+-- When a scenario is warned of something. `trip` is the greatest round trip of a pair of members.
+use Rattle.std.specs.Prelude.{ℕ, ◌+◌, ◌*◌, Bool, false, List, not, ◌&&◌, ◌||◌, nat_lt, nat_le, nat_eq, Option}
+use Rattle.std.specs.Option.{option_map_or}
+use Rattle.scenario.specs.Setup.{Setup, member_count, crash_of, leave_of}
+use Rattle.scenario.specs.declared.settings.Link.{Link}
+use Rattle.scenario.specs.declared.settings.Path.{Path}
+use Rattle.scenario.specs.declared.settings.Slow.{Slow}
+use Rattle.scenario.specs.declared.settings.Lifeguard.{Lifeguard}
+use Rattle.suspicion.specs.Times.{most_accusers, min_timeout}
+use Rattle.suspicion.specs.Settings.{terms_of}
+use Rattle.meaning.specs.Groups.{size_of}
+
+-- the greatest round trip is longer than the timeout
+abbrev pub is_answer_late : Setup → ℕ → Bool
+is_answer_late s trip = nat_lt s.swim.timeout trip
+
+-- a ping-req, the helper's ping and both answers, sent at the timeout, can come after the period
+abbrev pub is_relay_late : Setup → ℕ → Bool
+is_relay_late s trip = nat_lt 0 s.swim.helpers && nat_lt s.swim.period (s.swim.timeout + 2 * trip)
+
+-- the least suspicion among all members
+abbrev pub least_suspicion : Setup → ℕ
+least_suspicion s = min_timeout (terms_of s) (member_count s)
+
+-- the first probe begins at 1 and fails a period later, and its suspicion runs out after the end
+abbrev pub is_end_early : Setup → Bool
+is_end_early s = nat_lt s.end (1 + s.swim.period + least_suspicion s)
+
+-- LHA-Suspicion is on, and K' is below K
+abbrev pub are_accusers_few : Setup → Bool
+are_accusers_few s = s.lifeguard.suspicion && nat_lt (most_accusers (terms_of s) (member_count s)) s.lifeguard.confirmations
+
+-- but for the prober and the target there are fewer members than helpers
+abbrev pub are_helpers_many : Setup → Bool
+are_helpers_many s = nat_lt (member_count s) (s.swim.helpers + 2)
+
+-- every message is lost
+abbrev pub loses_all : Link → Bool
+loses_all l = nat_eq l.loss 1000000
+
+-- one of the switches is on, and one is off
+abbrev pub is_in_part : Lifeguard → Bool
+is_in_part l = (l.probe || l.suspicion || l.buddy) && not (l.probe && l.suspicion && l.buddy)
+
+-- some first period may begin after the end
+abbrev pub is_spread_long : Setup → Bool
+is_spread_long s = nat_lt s.end s.swim.spread
+
+-- a path from a group to itself that has at most one of the members of these groups
+abbrev pub is_lonely : List ℕ → Path → Bool
+is_lonely groups p = nat_eq p.from p.to && nat_le (size_of groups p.from) 1
+
+-- it begins after the end
+abbrev pub is_past : Setup → ℕ → Bool
+is_past s at = nat_lt s.end at
+
+-- something has come by a moment
+abbrev pub has_come : Option ℕ → ℕ → Bool
+has_come at t = option_map_or (λ came. nat_le came t) at false
+
+-- the member has crashed or left by a moment
+abbrev pub is_down : Setup → ℕ → ℕ → Bool
+is_down s m t = nat_lt m (member_count s) && (has_come (crash_of s m) t || has_come (leave_of s m) t)
+
+-- with what the slow member adds on the way there and back the greatest round trip is longer than the timeout
+abbrev pub is_slow_answer_late : Setup → ℕ → Slow → Bool
+is_slow_answer_late s trip e = nat_lt s.swim.timeout (trip + 2 * e.extra)
+
+-- a crash at this moment is in time, but no suspicion that begins with it runs out before the end
+abbrev pub is_unconfirmed : Setup → ℕ → Bool
+is_unconfirmed s at = nat_le at s.end && nat_lt s.end (at + least_suspicion s)

@@ -1,0 +1,4 @@
+pub mod Conditions
+pub mod Told
+pub mod About
+pub mod Findings

@@ -1,0 +1,107 @@
+#!/usr/bin/env python3
+"""Sees that `swimsim explain` tells of accepted scenarios what was worked out for them apart from it.
+
+    tests/meaning.py [--program FILE]
+
+For each NAME.txt of tests/meaning/ the scenario is NAME.toml beside it, or that of examples/. The lines must be those
+of NAME.txt and the JSON value that of NAME.json, both with status 0 and nothing on standard error. Then comes a text of
+4,096 members and 10,000 entries, which must be told of in time. The last line is `N passed, M failed`, and the status
+is 1 where one failed. tests/meaning_expected.py writes these files.
+"""
+
+import argparse
+import json
+import subprocess
+import sys
+import tempfile
+import time
+from pathlib import Path
+
+TOP = Path(__file__).resolve().parent.parent
+ROOM = TOP / 'tests' / 'meaning'
+LINES = ('explain',)
+JSON = ('explain', '--json')
+SECONDS = 10  # it takes less than one on a machine that does nothing else
+
+
+def scenario_of(name):
+    """The file of a scenario by its name: the one that is made for this test, else an example."""
+    own = ROOM / f'{name}.toml'
+    return own if own.exists() else TOP / 'examples' / f'{name}.toml'
+
+
+def told(program, words, scenario):
+    """What the program writes of a scenario, called within its folder; None where it refuses or complains."""
+    done = subprocess.run([program, *words, scenario.name], cwd=scenario.parent, capture_output=True, text=True)
+    return done.stdout if done.returncode == 0 and not done.stderr else None
+
+
+def value_of(text):
+    """The JSON value of a text, None where it is none."""
+    try:
+        return json.loads(text or '')
+    except ValueError:
+        return None
+
+
+def failures(program, name):
+    """What isn't told of a scenario as it was worked out: `lines`, `JSON`, both or nothing."""
+    scenario = scenario_of(name)
+    if told(program, LINES, scenario) != (ROOM / f'{name}.txt').read_text():
+        yield 'lines'
+    if value_of(told(program, JSON, scenario)) != json.loads((ROOM / f'{name}.json').read_text()):
+        yield 'JSON'
+
+
+def entries(count, text):
+    """So many items of a list, each by its number."""
+    return ''.join(text(number) for number in range(count))
+
+
+def large():
+    """A text of 64 groups of 64 members each and of 10,000 entries, a few thousand of each kind."""
+    return (
+        'version = 2\nseed = 7\nend = 5000\nswim = { period = 1000, timeout = 300 }\nlink = { delay = 10 }\n'
+        + entries(64, lambda i: f'[[group]]\nname = "g{i}"\ncount = 64\n')
+        + entries(3000, lambda i: f'[[path]]\nfrom = "g{i % 64}"\nto = "g{i // 64 % 64}"\ndelay = {10 + i % 7}\n')
+        + entries(3000, lambda i: f'[[slow]]\nmember = "g{i % 64}-{i % 64}"\nfrom = {i // 64 * 100}\n'
+                                  f'until = {i // 64 * 100 + 100}\nextra = 1000\n')
+        + entries(2000, lambda i: f'[[crash]]\nmember = "g{i // 64}-{i % 64}"\nat = {i + 4000}\n')
+        + entries(1000, lambda i: f'[[leave]]\nmember = "g{(i + 2000) // 64}-{(i + 2000) % 64}"\nat = {i + 4500}\n')
+        + entries(1000, lambda i: f'[[cut]]\nfrom = "g{i % 64}"\nto = "g{i // 64 % 64}"\n'
+                                  f'at = {i}\nuntil = {i + 10000}\n')
+    )
+
+
+def delay(program):
+    """What is wrong with how a large text is told of; empty where nothing is."""
+    with tempfile.TemporaryDirectory() as room:
+        scenario = Path(room) / 'large.toml'
+        scenario.write_text(large())
+        began = time.monotonic()
+        lines = (told(program, LINES, scenario) or '').splitlines()
+        seconds = time.monotonic() - began
+    if not lines or not lines[-1].startswith('warnings '):
+        return 'nothing is told'
+    return f'{seconds:.1f} seconds' if seconds > SECONDS else ''
+
+
+def main():
+    parser = argparse.ArgumentParser(description=__doc__.splitlines()[0])
+    parser.add_argument('--program', type=Path, default=TOP / 'swimsim', help='the program, else the launcher')
+    program = parser.parse_args().program.resolve()
+    names = sorted(file.stem for file in ROOM.glob('*.txt'))
+    failed = 0
+    for name in names:
+        wrong = list(failures(program, name))
+        failed += bool(wrong)
+        print(f'{name}: {" and ".join(wrong) + " differ" if wrong else "as worked out"}')
+    late = delay(program)
+    failed += bool(late)
+    print(f'large: {late or "in time"}')
+    print(f'{len(names) + 1 - failed} passed, {failed} failed')
+    return 1 if failed else 0
+
+
+if __name__ == '__main__':
+    sys.exit(main())
