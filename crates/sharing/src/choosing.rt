@@ -1,0 +1,69 @@
+//! By which parts a run is shared. No result depends on it.
+ghost use Rattle.std.specs.Prelude.{◌≡◌, ◌<◌, ◌≤◌, length, IfOk, IfSome};
+ghost use Rattle.scenario.specs.Setup.{member_count};
+ghost use Rattle.links.specs.Arrival.{AreLinksOf};
+
+use crate::sites::by_sites;
+use crate::turn_length::{has_long_turns, long_turn};
+use base::Memory;
+use horizons::horizons;
+use links::Links;
+use scenario::{Division, Scenario};
+use std::alloc::Global;
+
+/// The parts by which the run takes less time than by those of the division: its sites, or all members as one part where
+/// a turn of neither is worth handing over. None where the division's own are good.
+pub(crate) fn better_parts(
+    alloc: Global,
+    scenario: &Scenario,
+    division: &Division,
+) -> Result<Option<Division>, Memory>
+    requires divides { length division.now.part_of ≡ member_count scenario.now }
+    ensures { IfOk result (λ chosen. IfSome chosen (λ parts. length parts.part_of ≡ member_count scenario.now)) }
+{
+    let links = Links::of(alloc, scenario)?;
+    if is_worthwhile(alloc, scenario, division, &links)? {
+        return Ok(None);
+    }
+    if let Some(sites) = by_sites(alloc, scenario, &links, long_turn(scenario))? {
+        if is_worthwhile(alloc, scenario, &sites, &links)? {
+            return Ok(Some(sites));
+        }
+    }
+    one_part(alloc, scenario)
+}
+
+/// Whether a turn of these parts is worth handing over.
+fn is_worthwhile(
+    alloc: Global,
+    scenario: &Scenario,
+    division: &Division,
+    links: &Links,
+) -> Result<bool, Memory>
+    requires links { AreLinksOf links.now scenario.now }
+    requires divides { length division.now.part_of ≡ member_count scenario.now }
+{
+    if division.parts() == 1 {
+        return Ok(false);
+    }
+    let horizons = horizons(alloc, scenario, division, links)?;
+    Ok(has_long_turns(scenario, &horizons))
+}
+
+/// All members of the scenario as one part.
+fn one_part(alloc: Global, scenario: &Scenario) -> Result<Option<Division>, Memory>
+    ensures { IfOk result (λ made. IfSome made (λ whole. length whole.part_of ≡ member_count scenario.now)) }
+{
+    let part_of = (0..scenario.members()).map(|_| 0).collect(alloc)?;
+    Ok(divided(scenario, 1, part_of))
+}
+
+/// The scenario's members by the numbers of their parts, where these are good.
+pub(crate) fn divided(scenario: &Scenario, parts: usize, part_of: Vec<u8>) -> Option<Division>
+    ensures { IfSome result (λ division. length division.part_of ≡ member_count scenario.now) }
+{
+    match Division::new(scenario, parts, part_of) {
+        Ok(division) => Some(division),
+        Err(_) => None,
+    }
+}
