@@ -10,7 +10,7 @@ use Rattle.run_command.specs.Outcomes.{RunFails, RunsAll}
 use Rattle.run_command.proofs.Causes.{run_memory, run_mistaken, run_output, run_usage}
 use Rattle.sweep_command.specs.Outcomes.{AsksForProgress, SweepFails, SweepsAll}
 use Rattle.sweep_command.proofs.Causes.{sweep_memory, sweep_mistaken, sweep_output, sweep_usage}
-use Rattle.cli.specs.Outcomes.{CheckFails, HasDone, Fails}
+use Rattle.cli.specs.Outcomes.{CheckFails, EndsRunBy, HasDone, Fails}
 use Rattle.files.specs.Files.{Making}
 use Rattle.command_line.specs.Printed.{rows_line}
 use Rattle.command_line.specs.Words.{Answers, AsksForRun, AsksForCheck, AsksForExplain, AsksForSweep, IsCommand}
@@ -34,7 +34,7 @@ is_command words asked.Version h = inr (inr (inr (inr (inr h))))
 
 -- why a run that the words ask for was not done
 pub run_fails : (words : List Text) (before after : Shelf) (making : Making) (old new : Option (List ℕ)) (run : RunWords) (failure : Failure)
-    → AsksForRun words run → RunFails before after making run failure → Fails words before after making old new failure
+    → AsksForRun words run → RunFails EndsRunBy before after making run failure → Fails words before after making old new failure
 run_fails words before after making old new run (File name) asks fails = inl (run, asks, fails)
 run_fails words before after making old new run (Rule rule) asks fails = inl (run, asks, fails)
 run_fails words before after making old new run (Mistaken rule) asks fails = absurd (run_mistaken before after making run rule fails)
@@ -106,7 +106,7 @@ sweep_fails words before after making old new sweep Memory asks fails = sweep_me
 
 -- the same of an answer that is a run
 pub asked_run_fails : (words : List Text) (before after : Shelf) (making : Making) (old new : Option (List ℕ)) (answer : Asked) (run : RunWords) (failure : Failure)
-    → answer ≡ asked.Run run → Answers words answer → RunFails before after making run failure → Fails words before after making old new failure
+    → answer ≡ asked.Run run → Answers words answer → RunFails EndsRunBy before after making run failure → Fails words before after making old new failure
 asked_run_fails words before after making old new answer run failure is h fails =
     let asks : Answers words (asked.Run run) = subst (Answers words) is h in
     run_fails words before after making old new run failure asks fails

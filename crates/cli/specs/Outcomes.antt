@@ -1,7 +1,11 @@
 -- What a command has done once it ends: on standard output, and in the files as far as they tell.
-use Rattle.std.specs.Prelude.{◌≡◌, ◌≢◌, ◌⊎◌, ℕ, List, Option, Ok}
+use Rattle.std.specs.Prelude.{◌≡◌, ◌≢◌, ◌⊎◌, ℕ, ◌≤◌, List, Option, Ok}
 use Rattle.std.specs.Io.KnownBytes.{Appends}
+use Rattle.base.specs.declared.fault.Fault.{Fault}
+use Rattle.base.specs.declared.fault.Fault.TheVariants as fault
 use Rattle.scenario.specs.Setup.{Setup, member_count}
+use Rattle.member_laws.specs.Runs.{WearsOut}
+use Rattle.outputs.specs.Promise.{WearsOutReport}
 use Rattle.clap.specs.Words.{Text}
 use Rattle.files.specs.Files.{KnownFile, Making}
 use Rattle.command_line.specs.Words.{AsksForRun, AsksForCheck, AsksForExplain, AsksForHelp, AsksForVersion, IsNoCommand}
@@ -66,6 +70,11 @@ DoneUnprinted words before after making = ((count : ℕ) × DoesRun words before
 
 -- ---- what was not done
 
+-- By which faults the run of a scenario by so many workers may end: by a worn counter only where one would pass its limit, by
+-- what threads lost only where there are several workers.
+abbrev pub EndsRunBy : Setup → ℕ → Fault → Type 0
+EndsRunBy s workers cause = (cause ≡ fault.Worn → WearsOut s ⊎ WearsOutReport s) × (cause ≡ fault.Relay → 2 ≤ workers)
+
 -- why the file was not checked
 abbrev pub CheckFails : Shelf → Shelf → Text → Failure → Type 0
 CheckFails before after file failure = IsRefused before after (LoadFails (before file) file failure)
@@ -78,7 +87,7 @@ DoesNotExplain words before after old new failure = (explain : ExplainWords) × 
 -- why a run, a check, an explanation or a sweep that the words ask for was not done
 abbrev pub DoesNot : List Text → Shelf → Shelf → Making → Option (List ℕ) → Option (List ℕ) → Failure → Type 0
 DoesNot words before after making old new failure =
-    ((run : RunWords) × AsksForRun words run × RunFails before after making run failure)
+    ((run : RunWords) × AsksForRun words run × RunFails EndsRunBy before after making run failure)
     ⊎ (((file : Text) × AsksForCheck words file × CheckFails before after file failure)
     ⊎ (DoesNotExplain words before after old new failure
     ⊎ DoesNotSweep words before after making failure))

@@ -1,15 +1,17 @@
 //! The simulation of a scenario by threads.
-ghost use Rattle.std.specs.Prelude.{◌≡◌, ◌≢◌, ◌<◌, ◌⊎◌, IfOk, IfErr, OnOk, OnErr, IsErrOf, length};
+ghost use Rattle.std.specs.Prelude.{◌≡◌, ◌≢◌, ◌<◌, ◌≤◌, ◌⊎◌, IfOk, IfErr, OnOk, OnErr, IsErrOf, length};
 ghost use Rattle.std.specs.Thread.{IsSync};
 ghost use Rattle.scenario.specs.Setup.{member_count};
 ghost use Rattle.member_laws.specs.Runs.{WearsOut};
 ghost use Rattle.trace.specs.Writers.{writer_under, put_failures};
 ghost use Rattle.outputs.specs.Promise.{WritesRun, WritesBeginning, WearsOutReport};
+ghost use Rattle.cli.specs.Outcomes.{EndsRunBy};
 
 use base::Fault;
-use exchange::{OpenGate, Summary};
+use outputs::Summary;
 use run_command::Simulator;
 use scenario::{Division, Scenario, Workers};
+use sharing::run_shared;
 use std::alloc::Global;
 use std::io::Write;
 use std::sync::Wait;
@@ -24,7 +26,11 @@ pub(crate) struct ByThreads<'r, R> {
 }
 
 impl<H: Threads + Wait + Sync> Simulator for ByThreads<'_, H> {
+    ghost use Rattle.cli.specs.Outcomes.{EndsRunBy};
+
     ghost ready = { IsSync H.row };
+
+    ghost ends_by = { EndsRunBy };
 
     fn simulate<T: Write, R: Write>(
         &self,
@@ -66,21 +72,19 @@ pub fn simulate<T: Write, R: Write>(
     ensures write { IsErrOf result.2 Fault.Write → (0 < put_failures result.0) ⊎ (0 < put_failures result.1) }
     ensures relay { IsErrOf result.2 Fault.Relay → put_failures result.0 ≡ 0 }
     ensures others_report { IfErr result.2 (λ cause. cause ≢ Fault.Write → put_failures result.1 ≡ 0) }
+
+    // one worker alone loses nothing to threads
+    ensures threads { IsErrOf result.2 Fault.Relay → 2 ≤ workers }
+    ensures cause { IfErr result.2 (EndsRunBy scenario.now workers) }
 {
     let mut trace = Put::new(trace);
     let mut report = Put::new(report);
-    // one worker has nobody to share with: windows of parts would only cost time
-    if workers.count() == 1 {
-        let outcome = exchange::run_streamed(alloc, scenario, &mut trace, &mut report);
-        return (trace, report, outcome);
-    }
-    let outcome = exchange::run(
+    let outcome = run_shared(
         rt,
         alloc,
         scenario,
         division,
         workers,
-        &OpenGate,
         &mut trace,
         &mut report,
     );

@@ -4,6 +4,8 @@ use Rattle.std.specs.List.{AllByRecursion}
 use Rattle.std.proofs.lemmas.List.{length-append}
 use Rattle.relay.specs.declared.batch.Lot.{Lot}
 use Rattle.windows.specs.declared.bounded.Bounded.{Bounded}
+use Rattle.windows.specs.Several.{numbers_of, parts_of}
+use Rattle.turns.specs.Parts.{CountFrom}
 use Rattle.exchange.specs.Batches.{AreNumberedFrom, AreBatches}
 use Rattle.workers.specs.Gates.{AwaitsAll}
 
@@ -23,7 +25,11 @@ batches_on count lots after lot counted are is number filled =
 pub count_on : (count : ℕ) (lots after : List Lot) (lot : Lot) → count ≡ length lots → after ≡ lots ++ lot ∷ [] → count + 1 ≡ length after
 count_on count lots after lot counted is = let all = length-append lots (lot ∷ []) in subst (λ l. count + 1 ≡ length l) (sym is) (omega (arith, counted, all))
 
--- each part is awaited in the window
-pub all_awaited : {Q : Type 0} (awaits : ℕ → ℕ → Type 0) → AwaitsAll awaits → (window : ℕ) → 1 ≤ window → (parts : List (Bounded Q)) → AllByRecursion (λ (b : Bounded Q). awaits window b.part.number) parts
-all_awaited awaits all window from [] = tt
-all_awaited awaits all window from (b ∷ bs) = (all window b.part.number from, all_awaited awaits all window from bs)
+-- each part is awaited in the window, since their numbers count from one on
+pub all_awaited : {Q : Type 0} (awaits : ℕ → ℕ → Type 0) (count : ℕ) → AwaitsAll awaits count → (window : ℕ) → 1 ≤ window → (n : ℕ) (parts : List (Bounded Q)) → CountFrom n (numbers_of (parts_of parts))
+    → n + length parts ≤ count → AllByRecursion (λ (b : Bounded Q). awaits window b.part.number) parts
+all_awaited awaits count all window from n [] numbered within = tt
+all_awaited awaits count all window from n (b ∷ bs) numbered within = (
+  all window b.part.number from (omega (arith, numbered.0, within)),
+  all_awaited awaits count all window from (n + 1) bs numbered.1 (omega (arith, within)),
+)

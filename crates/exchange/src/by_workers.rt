@@ -1,5 +1,5 @@
 //! A run by threads that live as long as it does: workers run the windows of the parts, a driver deals and
-//! exchanges, and the calling thread writes. One worker alone is the driver itself.
+//! exchanges and is one of the workers, and the calling thread writes.
 ghost use Rattle.std.specs.Prelude.{◌≡◌, ◌<◌, ◌≤◌, ◌^◌, ◌⊎◌, [], length, Some, IfOk, IfErr, OnOk, OnErr, IsErrOf};
 ghost use Rattle.board.specs.Deal.{whole};
 ghost use Rattle.board.specs.Seats.{AreAllSeats};
@@ -60,7 +60,7 @@ pub fn run<A: Sink, B: Sink, G: Gate, R: Threads + Wait + Sync>(
 
     // The gate allows for each worker, and for each part in each window.
     requires known { KnowsAll G.knows workers }
-    requires windows { AwaitsAll G.awaits }
+    requires windows { AwaitsAll G.awaits division.now.parts }
 
     // The sinks get exactly the trace of the scenario's run, and the report on it; after a fault a beginning of that.
     ensures promise { KeepsPromise A.held A.failed B.held B.failed scenario.now trace.old trace.new report.old report.new result }
@@ -87,7 +87,7 @@ fn run_into<A: Sink, G: Gate, R: Threads + Wait + Sync>(
     requires divides { length division.now.part_of ≡ member_count scenario.now }
     requires countable { A.failed trace.old < 2 ^ 63 }
     requires known { KnowsAll G.knows workers }
-    requires windows { AwaitsAll G.awaits }
+    requires windows { AwaitsAll G.awaits division.now.parts }
     ensures trace { KeepsTrace scenario.now (A.held trace.old) (A.held trace.new) (A.failed trace.old) (A.failed trace.new) result }
     ensures sound { IsSound scenario.now }
 {
@@ -125,7 +125,7 @@ fn by_pool<
     requires one { K.scenario ≡ Some basis.scenario.now }
     requires first { G.knows 0 }
     requires known { KnowsAll G.knows workers }
-    requires windows { AwaitsAll G.awaits }
+    requires windows { AwaitsAll G.awaits basis.division.now.parts }
     ensures { KeepsTrace basis.entry.scenario.now (A.held trace.old) (A.held trace.new) (A.failed trace.old) (A.failed trace.new) result }
 {
     let tallied = Tallied::new(alloc)?;
@@ -171,7 +171,7 @@ fn over_board<
     requires board { K.scenario ≡ Some basis.scenario.now }
     requires first { G.knows 0 }
     requires known { KnowsAll G.knows workers }
-    requires windows { AwaitsAll G.awaits }
+    requires windows { AwaitsAll G.awaits basis.division.now.parts }
     requires sends { MaySend basis.scenario.now relay sender }
     requires takes { MayTake basis.scenario.now relay taker }
     requires none_tallied { tallied.tallies ≡ [] }
@@ -223,7 +223,7 @@ fn at_board<
     requires board { K.scenario ≡ Some basis.scenario.now }
     requires first { G.knows 0 }
     requires known { KnowsAll G.knows workers }
-    requires windows { AwaitsAll G.awaits }
+    requires windows { AwaitsAll G.awaits basis.division.now.parts }
     requires all { AreAllSeats board.now seats.items }
     requires count { length seats.items ≡ whole }
     requires ready { CanBegin Q.set basis parts.items }

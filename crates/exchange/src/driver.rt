@@ -76,7 +76,7 @@ pub(crate) fn drive<
     requires ready { CanBegin Q.set task.basis task.parts.items }
     requires board { K.scenario ≡ Some task.basis.scenario.now }
     requires worker { G.knows 0 }
-    requires windows { AwaitsAll G.awaits }
+    requires windows { AwaitsAll G.awaits task.basis.division.now.parts }
     requires fresh { task.pool.windows ≡ 0 }
     requires seat { MaySend task.basis.scenario.now task.relay.now task.seat }
     ensures { IsDriven task.entry.basis.scenario.now task.entry.relay.now result.0 }
@@ -120,7 +120,7 @@ fn turns_by_pool<
     requires none_yet { rows_so_far row_sender.old ≡ [] }
     requires board { K.scenario ≡ Some course.now.scenario.now }
     requires worker { G.knows 0 }
-    requires windows { AwaitsAll G.awaits }
+    requires windows { AwaitsAll G.awaits course.now.division.now.parts }
     requires fresh { pool.old.windows ≡ 0 }
     requires counts { CountsBatches row_sender.old.batches row_sender.old.seat }
     requires unsent { row_sender.old.batches ≡ 0 }
@@ -160,7 +160,7 @@ fn turns_to_horizons<
     requires none_yet { rows_so_far row_sender.old ≡ [] }
     requires board { K.scenario ≡ Some course.now.scenario.now }
     requires worker { G.knows 0 }
-    requires windows { AwaitsAll G.awaits }
+    requires windows { AwaitsAll G.awaits course.now.division.now.parts }
     requires fresh { pool.old.windows ≡ 0 }
     requires counts { CountsBatches row_sender.old.batches row_sender.old.seat }
     requires unsent { row_sender.old.batches ≡ 0 }

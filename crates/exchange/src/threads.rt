@@ -26,9 +26,9 @@ pub(crate) struct Ended {
     pub(crate) written: Written,
 }
 
-/// Starts a worker at each of so many posts and the driver, who has the pool, writes on the calling thread what
-/// the driver sends, and returns once all threads have ended: what they leave, the pool's post, and the others, or
-/// `Memory` where there was none for these. One worker alone is the driver itself.
+/// Starts a thread for each of so many workers, of which the first is the driver, who has the pool. It writes on the
+/// calling thread what the driver sends, and returns once all threads have ended: what they leave, the pool's post,
+/// and the others, or `Memory` where there was none for these.
 ///
 /// Faults: `Relay` where a thread could not be started, `Memory` where its handle could not be kept. Then nothing
 /// was written.
@@ -62,7 +62,7 @@ pub(crate) fn within<
 >
     requires first { G.knows 0 }
     requires known { KnowsAll G.knows workers }
-    requires windows { AwaitsAll G.awaits }
+    requires windows { AwaitsAll G.awaits task.basis.division.now.parts }
     requires board { K.scenario ≡ Some task.basis.scenario.now }
     requires fresh { task.pool.windows ≡ 0 }
     requires ready { CanBegin Q.set task.basis task.parts.items }
@@ -93,7 +93,7 @@ pub(crate) fn within<
                 × MaySend task.basis.scenario.now task.relay.now task.seat
                 × MayWrite writer (A.failed trace.now)
                 × (task.basis.scenario.now ≡ writer.scenario.now) × (task.relay.now ≡ writer.relay.now)
-                × G.knows 0 × KnowsAll G.knows workers × AwaitsAll G.awaits
+                × G.knows 0 × KnowsAll G.knows workers × AwaitsAll G.awaits task.basis.division.now.parts
                 × (K.scenario ≡ Some task.basis.scenario.now) × (task.pool.windows ≡ 0) }
             ensures same { result.1.ghost_name ≡ trace.entry.ghost_name }
             ensures ended { IfOk result.0 (λ r. HasEnded writer.entry.scenario.now writer.entry.relay.now
@@ -113,7 +113,7 @@ pub(crate) fn within<
                     requires { IsSync R.row
                         × CanBegin Q.set task.basis task.parts.items
                         × MaySend task.basis.scenario.now task.relay.now task.seat
-                        × (K.scenario ≡ Some task.basis.scenario.now) × G.knows 0 × AwaitsAll G.awaits
+                        × (K.scenario ≡ Some task.basis.scenario.now) × G.knows 0 × AwaitsAll G.awaits task.basis.division.now.parts
                         × (task.pool.windows ≡ 0) }
                     ensures { IsDriven task.entry.basis.scenario.now task.entry.relay.now result.0 }
                 { drive(rt, alloc, task) },
@@ -130,14 +130,7 @@ pub(crate) fn within<
     ended
 }
 
-/// How many threads so many workers are: one alone is the driver.
-fn thread_count(workers: usize) -> usize
-    ensures { result ≤ workers }
-{
-    if workers == 1 { 0 } else { workers }
-}
-
-/// Starts the threads of so many workers, each at one of the posts, and by numbers from 0.
+/// Starts the threads of so many workers, each at one of the posts, but for worker 0, who is the driver.
 fn start_workers<
     's,
     'b: 's,
@@ -160,11 +153,10 @@ fn start_workers<
     requires known { KnowsAll G.knows workers }
     ensures { IfErr result IsEarly }
 {
-    let count = thread_count(workers);
-    let Ok(mut threads) = Vec::with_capacity(alloc, count) else {
+    let Ok(mut threads) = Vec::with_capacity(alloc, workers) else {
         return Err(Fault::Memory);
     };
-    for worker in 0..count {
+    for worker in 1..workers {
         let Some(post) = posts.pop() else {
             return Err(Fault::Relay);
         };

@@ -4,6 +4,8 @@ use Rattle.scenario_files.specs.Shelves.{Shelf}
 use Rattle.scenario_files.specs.Checks.{FailsCheck}
 use Rattle.run_command.specs.Outcomes.{RunFails}
 use Rattle.files.specs.Files.{Making}
+use Rattle.base.specs.declared.fault.Fault.{Fault}
+use Rattle.scenario.specs.Setup.{Setup}
 use Rattle.command_line.specs.declared.words.RunWords.{RunWords}
 use Rattle.command_line.specs.declared.failure.Failure.TheVariants.{Usage, Mistaken, Memory, Output}
 
@@ -13,7 +15,7 @@ check_usage before run (inl count) = count
 check_usage before run (inr (inl file)) = file.2
 check_usage before run (inr (inr split)) = split.4
 
-pub run_usage : (before after : Shelf) (making : Making) (run : RunWords) → RunFails before after making run Usage → ⊥
+pub run_usage : {EndsBy : Setup → ℕ → Fault → Type 0} (before after : Shelf) (making : Making) (run : RunWords) → RunFails EndsBy before after making run Usage → ⊥
 run_usage before after making run (inl refused) = check_usage before run refused.cause
 run_usage before after making run (inr store) = store.cause
 
@@ -22,7 +24,7 @@ check_output before run (inl count) = count
 check_output before run (inr (inl file)) = file.2
 check_output before run (inr (inr split)) = split.4
 
-pub run_output : (before after : Shelf) (making : Making) (run : RunWords) → RunFails before after making run Output → ⊥
+pub run_output : {EndsBy : Setup → ℕ → Fault → Type 0} (before after : Shelf) (making : Making) (run : RunWords) → RunFails EndsBy before after making run Output → ⊥
 run_output before after making run (inl refused) = check_output before run refused.cause
 run_output before after making run (inr store) = store.cause
 
@@ -31,11 +33,11 @@ check_mistaken before run rule (inl count) = count
 check_mistaken before run rule (inr (inl file)) = file.2
 check_mistaken before run rule (inr (inr split)) = split.4
 
-pub run_mistaken : (before after : Shelf) (making : Making) (run : RunWords) (rule : ℕ) → RunFails before after making run (Mistaken rule) → ⊥
+pub run_mistaken : {EndsBy : Setup → ℕ → Fault → Type 0} (before after : Shelf) (making : Making) (run : RunWords) (rule : ℕ) → RunFails EndsBy before after making run (Mistaken rule) → ⊥
 run_mistaken before after making run rule (inl refused) = check_mistaken before run rule refused.cause
 run_mistaken before after making run rule (inr store) = store.cause
 
 -- where memory was refused, no file has changed
-pub run_memory : (before after : Shelf) (making : Making) (run : RunWords) → RunFails before after making run Memory → after ≡ before
+pub run_memory : {EndsBy : Setup → ℕ → Fault → Type 0} (before after : Shelf) (making : Making) (run : RunWords) → RunFails EndsBy before after making run Memory → after ≡ before
 run_memory before after making run (inl refused) = refused.same
 run_memory before after making run (inr store) = store.cause

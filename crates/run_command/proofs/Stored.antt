@@ -37,13 +37,14 @@ module _ (s : Setup) (start made end : Shelf) (trace : Text) (old new held repor
     others = rest_kept;
   }
 
-  pub trace_begun : (cause : Fault) → WritesBeginning s old new report_old report_new → (cause ≡ fault.Worn → WearsOut s ⊎ WearsOutReport s) → held ≡ new
-      → BreaksOff s start end trace None cause
-  trace_begun cause begins worn same = record {
+  pub trace_begun : (EndsBy : Fault → Type 0) (cause : Fault) → EndsBy cause → WritesBeginning s old new report_old report_new → (cause ≡ fault.Worn → WearsOut s ⊎ WearsOutReport s) → held ≡ new
+      → BreaksOff EndsBy s start end trace None cause
+  trace_begun EndsBy cause may begins worn same = record {
     rows = begins.rows;
     run = begins.run;
     written = go begins.written;
     others = rest_kept;
+    may = may;
     worn = worn;
   }
     where
@@ -158,18 +159,19 @@ module _ (start made between end : Shelf) (trace report : Text) (apart : IfSome 
       }
 
   -- it broke off
-  pub both_begun : (s : Setup) (cause : Fault) (old new held report_old report_new report_held : Option (List ℕ))
+  pub both_begun : (EndsBy : Fault → Type 0) (s : Setup) (cause : Fault) (old new held report_old report_new report_held : Option (List ℕ))
       → HoldsNow (start trace) (made trace) [] → IfSome (start trace) (λ _. old ≡ Some [])
       → HoldsNow (start report) (made report) [] → IfSome (start report) (λ _. report_old ≡ Some [])
       → ClosesAs (made trace) (between trace) held → ClosesAs (between report) (end report) report_held
-      → WritesBeginning s old new report_old report_new → (cause ≡ fault.Worn → WearsOut s ⊎ WearsOutReport s) → held ≡ new → report_held ≡ report_new
-      → BreaksOff s start end trace (Some report) cause
-  both_begun s cause old new held report_old report_new report_held empty fresh report_empty report_fresh closed report_ends begins worn same report_same = record {
+      → EndsBy cause → WritesBeginning s old new report_old report_new → (cause ≡ fault.Worn → WearsOut s ⊎ WearsOutReport s) → held ≡ new → report_held ≡ report_new
+      → BreaksOff EndsBy s start end trace (Some report) cause
+  both_begun EndsBy s cause old new held report_old report_new report_held empty fresh report_empty report_fresh closed report_ends may begins worn same report_same = record {
     rows = begins.rows;
     run = begins.run;
     written = both_begin (trace_text s begins.rows) (report_text s begins.rows) old new report_old report_new empty fresh report_empty report_fresh
         (subst (λ h. ClosesAs (made trace) (between trace) h) same closed) (subst (λ h. ClosesAs (between report) (end report) h) report_same report_ends)
         begins.written;
     others = others_kept;
+    may = may;
     worn = worn;
   }

@@ -62,14 +62,15 @@ DoesRun words before after making count = (run : RunWords) × AsksForRun words r
 abbrev pub BeginsReport : Shelf → Shelf → Option Text → List ℕ → Type 0
 BeginsReport before after report text = IfSome report (λ name. HoldsBeginning (before name) (after name) text)
 
--- the scenario's run was ended by the fault: in its trace, when the report is still empty, or in the report, when the trace is
+-- the scenario's run was ended by the fault, which is one by which it may end: in its trace, when the report is still empty, or in the report, when the trace is
 -- whole; no other file has changed
-pub record BreaksOff (s : Setup) (before after : Shelf) (trace : Text) (report : Option Text) (cause : Fault) : Type 0 where
+pub record BreaksOff (EndsBy : Fault → Type 0) (s : Setup) (before after : Shelf) (trace : Text) (report : Option Text) (cause : Fault) : Type 0 where
   pub rows : List Row
   pub run : IsRunOf s rows
   pub written : (HoldsBeginning (before trace) (after trace) (trace_text s rows) × HoldsReport before after report [])
       ⊎ (HoldsNow (before trace) (after trace) (trace_text s rows) × BeginsReport before after report (report_text s rows))
   pub others : KeepsRest before after trace report
+  pub may : EndsBy cause
   pub worn : cause ≡ fault.Worn → WearsOut s ⊎ WearsOutReport s
 
 -- The file of this name can't be made: it is the trace's; or it is the report's, and may be the trace's too. Nor can one that is
@@ -80,20 +81,21 @@ IsUnmade making file trace report name = ((name ≡ trace) × CannotMake making 
 
 -- No whole run of the scenario was stored: a file can't be made, memory was refused, or the run broke off. Before it began no file
 -- has changed.
-abbrev pub StoreFails : Setup → Shelf → Shelf → Making → Text → Text → Option Text → Failure → Type 0
-StoreFails s before after making file trace report (File name) = IsUnmade making file trace report name.now × (after ≡ before)
-StoreFails s before after making file trace report Memory = after ≡ before
-StoreFails s before after making file trace report (Run cause) = DifferentFiles making file trace report × BreaksOff s before after trace report cause
-StoreFails s before after making file trace report _ = ⊥
+abbrev pub StoreFails : (Fault → Type 0) → Setup → Shelf → Shelf → Making → Text → Text → Option Text → Failure → Type 0
+StoreFails EndsBy s before after making file trace report (File name) = IsUnmade making file trace report name.now × (after ≡ before)
+StoreFails EndsBy s before after making file trace report Memory = after ≡ before
+StoreFails EndsBy s before after making file trace report (Run cause) = DifferentFiles making file trace report × BreaksOff EndsBy s before after trace report cause
+StoreFails EndsBy s before after making file trace report _ = ⊥
 
 -- all checks passed, but the run was not stored whole
-pub record FailsToStore (before after : Shelf) (making : Making) (run : RunWords) (failure : Failure) : Type 0 where
+pub record FailsToStore (EndsBy : Setup → ℕ → Fault → Type 0) (before after : Shelf) (making : Making) (run : RunWords) (failure : Failure) : Type 0 where
   pub workers : ℕ
   pub scenario : Setup
   pub deal : Deal
   pub checks : PassesChecks before run workers scenario deal
-  pub cause : StoreFails scenario before after making run.file.now run.trace.now (word_given run.report) failure
+  pub cause : StoreFails (EndsBy scenario workers) scenario before after making run.file.now run.trace.now (word_given run.report) failure
 
--- why the run that the words of `run` ask for was not done: the first check that failed, and after all checks what befell the files
-abbrev pub RunFails : Shelf → Shelf → Making → RunWords → Failure → Type 0
-RunFails before after making run failure = IsRefused before after (FailsCheck before run failure) ⊎ FailsToStore before after making run failure
+-- why the run that the words of `run` ask for was not done: the first check that failed, and after all checks what befell the files.
+-- By which faults a run may end is said of the scenario and the number of workers.
+abbrev pub RunFails : (Setup → ℕ → Fault → Type 0) → Shelf → Shelf → Making → RunWords → Failure → Type 0
+RunFails EndsBy before after making run failure = IsRefused before after (FailsCheck before run failure) ⊎ FailsToStore EndsBy before after making run failure

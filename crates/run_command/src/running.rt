@@ -22,7 +22,7 @@ pub fn run<'a, M: Simulator, F: Files>(
     ensures done { IfOk result
         (λ summary. RunsAll (F.known files.old) (F.known files.new) (F.making files.old) words.entry summary.rows) }
     ensures failed { IfErr result
-        (RunFails (F.known files.old) (F.known files.new) (F.making files.old) words.entry) }
+        (RunFails M.ends_by (F.known files.old) (F.known files.new) (F.making files.old) words.entry) }
 {
     let prepared = prepare(alloc, words, files)?;
     match words.report {

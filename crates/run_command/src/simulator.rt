@@ -1,8 +1,8 @@
 //! What simulates a scenario.
-ghost use Rattle.std.specs.Prelude.{◌≡◌, ◌⊎◌, IfOk, OnErr, IsErrOf, length};
+ghost use Rattle.std.specs.Prelude.{◌≡◌, ◌⊎◌, ◌<◌, IfOk, IfErr, OnOk, OnErr, IsErrOf, length};
 ghost use Rattle.scenario.specs.Setup.{member_count};
 ghost use Rattle.member_laws.specs.Runs.{WearsOut};
-ghost use Rattle.trace.specs.Writers.{writer_under};
+ghost use Rattle.trace.specs.Writers.{writer_under, put_failures};
 ghost use Rattle.outputs.specs.Promise.{WritesRun, WritesBeginning, WearsOutReport};
 
 use base::Fault;
@@ -14,8 +14,16 @@ use trace::Put;
 
 /// What simulates a scenario.
 pub trait Simulator {
+    ghost use Rattle.std.specs.Prelude.{ℕ};
+    ghost use Rattle.base.specs.declared.fault.Fault.{Fault};
+    ghost use Rattle.scenario.specs.Setup.{Setup};
+
     /// What must be known before it simulates anything, as that other threads may use what it goes by.
     ghost ready: { Type 0 };
+
+    /// By which faults the run of a scenario by so many workers may end. Whoever calls a simulator knows nothing of it,
+    /// and so tells no other fault than the one that came.
+    ghost ends_by: { Setup → ℕ → Fault → Type 0 };
 
     /// Runs a scenario by the parts of a division of its members and so many workers, writes its trace to one
     /// writer and then its report to the other, and gives both back. After a fault they have got a beginning of
@@ -35,5 +43,12 @@ pub trait Simulator {
             (R.contents report) (R.contents (writer_under result.1)) summary.rows) }
         ensures beginning { OnErr result.2 (WritesBeginning scenario.now (T.contents trace) (T.contents (writer_under result.0))
             (R.contents report) (R.contents (writer_under result.1))) }
-        ensures worn { IsErrOf result.2 Fault.Worn → WearsOut scenario.now ⊎ WearsOutReport scenario.now };
+
+        // no fault comes without its cause
+        ensures cause { IfErr result.2 (ends_by scenario.now workers) }
+        ensures worn { IsErrOf result.2 Fault.Worn → WearsOut scenario.now ⊎ WearsOutReport scenario.now }
+        ensures write { IsErrOf result.2 Fault.Write → (0 < put_failures result.0) ⊎ (0 < put_failures result.1) }
+        ensures relay { IsErrOf result.2 Fault.Relay → put_failures result.0 ≡ 0 }
+        ensures whole { OnOk result.2 (put_failures result.0 ≡ 0) }
+        ensures whole_report { OnOk result.2 (put_failures result.1 ≡ 0) };
 }

@@ -24,7 +24,7 @@ pub(crate) fn store_trace<'a, M: Simulator, F: Files>(
     ensures done { IfOk result (λ summary. StoresRun prepared.now.scenario (F.known files.old) (F.known files.new)
         words.entry.trace.now None summary.rows) }
     ensures apart { OnOk result (DifferentFiles (F.making files.old) words.entry.file.now words.entry.trace.now None) }
-    ensures failed { IfErr result (StoreFails prepared.now.scenario (F.known files.old) (F.known files.new)
+    ensures failed { IfErr result (StoreFails (M.ends_by prepared.now.scenario prepared.now.workers) prepared.now.scenario (F.known files.old) (F.known files.new)
         (F.making files.old) words.entry.file.now words.entry.trace.now None) }
 {
     let made = match files.make(words.file, words.trace) {
@@ -59,7 +59,7 @@ pub(crate) fn store_both<'a, M: Simulator, F: Files>(
         words.entry.trace.now (Some report.entry.now) summary.rows) }
     ensures apart { OnOk result (DifferentFiles (F.making files.old) words.entry.file.now words.entry.trace.now
         (Some report.entry.now)) }
-    ensures failed { IfErr result (StoreFails prepared.now.scenario (F.known files.old) (F.known files.new)
+    ensures failed { IfErr result (StoreFails (M.ends_by prepared.now.scenario prepared.now.workers) prepared.now.scenario (F.known files.old) (F.known files.new)
         (F.making files.old) words.entry.file.now words.entry.trace.now (Some report.entry.now)) }
 {
     let (made_trace, made_report) = match files.make_both(words.file, words.trace, report) {

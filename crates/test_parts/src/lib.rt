@@ -10,4 +10,6 @@ mod horizons_tests;
 #[cfg(test)]
 mod part_tests;
 #[cfg(test)]
+mod watched;
+#[cfg(test)]
 mod workers_tests;

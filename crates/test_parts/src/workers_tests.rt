@@ -1,4 +1,4 @@
-//! Two parts, of which one has all members and the other nobody, by one worker and by several.
+//! Four parts, of which one has all members and the others nobody, by one worker and by several.
 ghost use Rattle.std.specs.Prelude.{◌≡◌, ◌+◌, ◌<◌, ◌≤◌, ℕ, ⊤, Some, length, IfOk};
 ghost use Rattle.std.specs.List.{AllByRecursion};
 ghost use Rattle.std.specs.Thread.{IsSync};
@@ -6,10 +6,11 @@ ghost use Rattle.board.specs.Deal.{whole};
 ghost use Rattle.board.specs.Seats.{AreAllSeats};
 ghost use Rattle.board.specs.Sites.{table_of, AreSingleSeats};
 ghost use Rattle.links.specs.Arrival.{AreLinksOf};
-ghost use Rattle.worker_queue.specs.SetOf.{set_of};
+ghost use Rattle.std.specs.FinMap.{empty};
 ghost use Rattle.windows.specs.WorldOf.{world_of};
 ghost use Rattle.windows.specs.Window.{IsConsistentPart};
 
+use crate::watched::{Watch, WatchedQueue};
 use base::{Fault, Memory, Moment};
 use board::{Site, posts_at, seats_of};
 use links::Links;
@@ -26,7 +27,7 @@ use std::thread;
 use std::thread::Threads;
 use trace::Row;
 use windows::{Bounded, Done, Part};
-use worker_queue::TreeQueue;
+use worker_queue::{EventQueue, TreeQueue};
 use workers::{
     Gate, OfScenario, OpenGate, Signals, TaskBoard, TaskPost, TaskSeat, WorkerPool, close_board,
     first_of, open_board, work,
@@ -66,53 +67,89 @@ fn links_of(rt: &impl Abort, alloc: Global, scenario: &Scenario) -> Links
 }
 
 /// The part that has all members, before the run.
-fn everybody(alloc: Global, scenario: &Scenario) -> Result<Part<TreeQueue<Event>>, Memory>
-    ensures { IfOk result (λ part. IsConsistentPart scenario.now (world_of set_of part)) }
+fn everybody<Q: EventQueue<Event> + Drop>(
+    alloc: Global,
+    scenario: &Scenario,
+    queue: Q,
+) -> Result<Part<Q>, Memory>
+    requires none { Q.set queue ≡ empty }
+    ensures { IfOk result (λ part. IsConsistentPart scenario.now (world_of Q.set part)) }
 {
     let _end = scenario.end();
-    Part::whole(alloc, scenario, TreeQueue::new(alloc))
+    Part::whole(alloc, scenario, queue)
 }
 
 /// A part that has nobody.
-fn nobody(alloc: Global, scenario: &Scenario) -> Part<TreeQueue<Event>>
-    ensures { IsConsistentPart scenario.now (world_of set_of result) }
+fn nobody<Q: EventQueue<Event> + Drop>(
+    alloc: Global,
+    scenario: &Scenario,
+    number: usize,
+    queue: Q,
+) -> Part<Q>
+    requires none { Q.set queue ≡ empty }
+    ensures { IsConsistentPart scenario.now (world_of Q.set result) }
 {
     let _end = scenario.end();
-    let queue = TreeQueue::new(alloc);
-    Part::new(alloc, 1, queue)
+    Part::new(alloc, number, queue)
 }
 
-/// Both parts, that with all members below this bound, the other below the end.
-fn both(
+/// The part of everybody below this bound.
+fn first_below(
     alloc: Global,
     scenario: &Scenario,
     bound: Moment,
-) -> Result<Vec<Bounded<TreeQueue<Event>>>, Memory>
+    watch: &Watch,
+) -> Result<Bounded<WatchedQueue>, Memory>
+    requires { bound ≤ scenario.now.end }
+    ensures in_time { IfOk result (λ b. b.bound ≤ scenario.now.end + 1) }
+    ensures consistent { IfOk result (λ b. IsConsistentPart scenario.now (world_of ⟦<WatchedQueue as EventQueue<Event>>⟧.set b.part)) }
+{
+    let queue = WatchedQueue::new(alloc, watch, 0, watch.room)?;
+    let part = everybody(alloc, scenario, queue)?;
+    Ok(Bounded { part, bound })
+}
+
+/// The part of nobody of this number, below the end.
+fn other_below(
+    alloc: Global,
+    scenario: &Scenario,
+    number: usize,
+    watch: &Watch,
+) -> Result<Bounded<WatchedQueue>, Memory>
+    ensures in_time { IfOk result (λ b. b.bound ≤ scenario.now.end + 1) }
+    ensures consistent { IfOk result (λ b. IsConsistentPart scenario.now (world_of ⟦<WatchedQueue as EventQueue<Event>>⟧.set b.part)) }
+{
+    let queue = WatchedQueue::new(alloc, watch, number, usize::MAX)?;
+    let part = nobody(alloc, scenario, number, queue);
+    let bound = scenario.end();
+    Ok(Bounded { part, bound })
+}
+
+/// The four parts, that with all members below this bound, the others below the end.
+fn four(
+    alloc: Global,
+    scenario: &Scenario,
+    bound: Moment,
+    watch: &Watch,
+) -> Result<Vec<Bounded<WatchedQueue>>, Memory>
     requires { bound ≤ scenario.now.end }
     ensures in_time { IfOk result (λ parts. AllByRecursion (λ b. b.bound ≤ scenario.now.end + 1) parts.items) }
-    ensures consistent { IfOk result (λ parts. AllByRecursion (λ b. IsConsistentPart scenario.now (world_of set_of b.part)) parts.items) }
+    ensures consistent { IfOk result (λ parts. AllByRecursion (λ b. IsConsistentPart scenario.now (world_of ⟦<WatchedQueue as EventQueue<Event>>⟧.set b.part)) parts.items) }
 {
-    let first = match everybody(alloc, scenario) {
-        Ok(part) => part,
-        Err(Memory) => return Err(Memory),
-    };
+    let first = first_below(alloc, scenario, bound, watch)?;
+    let second = other_below(alloc, scenario, 1, watch)?;
+    let third = other_below(alloc, scenario, 2, watch)?;
+    let fourth = other_below(alloc, scenario, 3, watch)?;
     let mut parts = Vec::new(alloc);
-    match parts.push(Bounded { part: first, bound }) {
-        Ok(()) => {}
-        Err(_) => return Err(Memory),
-    }
-    let second = Bounded {
-        part: nobody(alloc, scenario),
-        bound: scenario.end(),
-    };
-    match parts.push(second) {
-        Ok(()) => Ok(parts),
-        Err(_) => Err(Memory),
-    }
+    parts.push(first)?;
+    parts.push(second)?;
+    parts.push(third)?;
+    parts.push(fourth)?;
+    Ok(parts)
 }
 
 /// The rows of these windows follow.
-fn add_rows(all: Vec<Done<TreeQueue<Event>>>, rows: &mut Vec<Row>) -> Result<(), Memory> {
+fn add_rows(all: Vec<Done<WatchedQueue>>, rows: &mut Vec<Row>) -> Result<(), Memory> {
     for done in all {
         let Done {
             part: _,
@@ -131,9 +168,10 @@ fn add_rows(all: Vec<Done<TreeQueue<Event>>>, rows: &mut Vec<Row>) -> Result<(),
 fn drive<'b, 'a, G: Gate, J: Site, K: OfScenario>(
     rt: &impl Wait,
     alloc: Global,
-    pool: &mut WorkerPool<'b, 'a, TreeQueue<Event>, G, J, K>,
+    pool: &mut WorkerPool<'b, 'a, WatchedQueue, G, J, K>,
     scenario: &'a Scenario,
     links: &'a Links,
+    watch: &Watch,
 ) -> Result<Vec<Row>, Fault>
     requires fits { AreLinksOf links.now scenario.now }
     requires one { K.scenario ≡ Some scenario.now }
@@ -144,7 +182,8 @@ fn drive<'b, 'a, G: Gate, J: Site, K: OfScenario>(
     let mut rows = Vec::new(alloc);
     for window in 0..WINDOWS {
         let bound = (window + 1).min(scenario.end().ticks());
-        let parts = match both(alloc, scenario, Moment(bound)) {
+        watch.clear();
+        let parts = match four(alloc, scenario, Moment(bound), watch) {
             Ok(parts) => parts,
             Err(Memory) => return Err(Fault::Memory),
         };
@@ -160,18 +199,19 @@ fn drive<'b, 'a, G: Gate, J: Site, K: OfScenario>(
     Ok(rows)
 }
 
-/// The same, with a thread for each worker: the rows, and all posts.
+/// The same, with a thread for each worker but the driver: the rows, and all posts.
 fn within<'b, 'a, G: Gate, J: Site + Send, K: OfScenario + Send + Sync, R: Threads + Wait + Sync>(
     rt: &R,
     alloc: Global,
     workers: usize,
-    mut posts: Vec<TaskPost<'b, 'a, TreeQueue<Event>, G, J, K>>,
-    mut pool: WorkerPool<'b, 'a, TreeQueue<Event>, G, J, K>,
+    mut posts: Vec<TaskPost<'b, 'a, WatchedQueue, G, J, K>>,
+    mut pool: WorkerPool<'b, 'a, WatchedQueue, G, J, K>,
     signals: &Signals,
     gate: &G,
     scenario: &'a Scenario,
     links: &'a Links,
-) -> Result<(Vec<Row>, Vec<TaskPost<'b, 'a, TreeQueue<Event>, G, J, K>>), Fault>
+    watch: &Watch,
+) -> Result<(Vec<Row>, Vec<TaskPost<'b, 'a, WatchedQueue, G, J, K>>), Fault>
     requires fits { AreLinksOf links.now scenario.now }
     requires one { K.scenario ≡ Some scenario.now }
     requires known { (worker : ℕ) → G.knows worker }
@@ -181,18 +221,18 @@ fn within<'b, 'a, G: Gate, J: Site + Send, K: OfScenario + Send + Sync, R: Threa
     thread::scope(
         thread::scope_env(),
         rt,
-        move |scope| -> Result<(Vec<Row>, Vec<TaskPost<TreeQueue<Event>, G, J, K>>), Fault>
+        move |scope| -> Result<(Vec<Row>, Vec<TaskPost<WatchedQueue, G, J, K>>), Fault>
             requires { IsSync R.row × IsSync G.row × AreLinksOf links.now scenario.now
                 × (K.scenario ≡ Some scenario.now) × ((worker : ℕ) → G.knows worker)
                 × ((window part : ℕ) → 1 ≤ window → G.awaits window part) × (pool.windows ≡ 0) }
         {
             let mut threads = Vec::new(alloc);
-            for worker in 0..workers {
+            for worker in 1..workers {
                 let Some(post) = posts.pop() else {
                     return Err(Fault::Relay);
                 };
                 let thread = scope.spawn(
-                    move || -> TaskPost<TreeQueue<Event>, G, J, K>
+                    move || -> TaskPost<WatchedQueue, G, J, K>
                         requires { G.knows worker }
                     { work(rt, alloc, post, signals, gate, worker) },
                 );
@@ -204,7 +244,7 @@ fn within<'b, 'a, G: Gate, J: Site + Send, K: OfScenario + Send + Sync, R: Threa
                     Err(_) => return Err(Fault::Memory),
                 }
             }
-            let rows = drive(rt, alloc, &mut pool, scenario, links);
+            let rows = drive(rt, alloc, &mut pool, scenario, links, watch);
             match posts.push(pool.leave()) {
                 Ok(()) => {}
                 Err(_) => return Err(Fault::Memory),
@@ -228,12 +268,13 @@ fn at_board<'a, G: Gate, J: Site + Send, K: OfScenario + Send + Sync, R: Threads
     rt: &R,
     alloc: Global,
     workers: usize,
-    board: &TaskBoard<'a, TreeQueue<Event>, G, K>,
-    seats: Vec<TaskSeat<'a, TreeQueue<Event>>>,
+    board: &TaskBoard<'a, WatchedQueue, G, K>,
+    seats: Vec<TaskSeat<'a, WatchedQueue>>,
     gate: &G,
     scenario: &'a Scenario,
     links: &'a Links,
-) -> Result<(Vec<Row>, Vec<TaskSeat<'a, TreeQueue<Event>>>), Fault>
+    watch: &Watch,
+) -> Result<(Vec<Row>, Vec<TaskSeat<'a, WatchedQueue>>), Fault>
     requires fits { AreLinksOf links.now scenario.now }
     requires one { K.scenario ≡ Some scenario.now }
     requires known { (worker : ℕ) → G.knows worker }
@@ -244,7 +285,7 @@ fn at_board<'a, G: Gate, J: Site + Send, K: OfScenario + Send + Sync, R: Threads
     ensures { IfOk result (λ r. AreSingleSeats board.now r.1.items) }
 {
     let signals = Signals::new();
-    let mut posts: Vec<TaskPost<TreeQueue<Event>, G, J, K>> = match posts_at(alloc, board, seats) {
+    let mut posts: Vec<TaskPost<WatchedQueue, G, J, K>> = match posts_at(alloc, board, seats) {
         Ok(posts) => posts,
         Err(Memory) => return Err(Fault::Memory),
     };
@@ -253,7 +294,7 @@ fn at_board<'a, G: Gate, J: Site + Send, K: OfScenario + Send + Sync, R: Threads
     };
     let pool = WorkerPool::new(workers, own, &signals, gate);
     let (rows, posts) = match within(
-        rt, alloc, workers, posts, pool, &signals, gate, scenario, links,
+        rt, alloc, workers, posts, pool, &signals, gate, scenario, links, watch,
     ) {
         Ok(pair) => pair,
         Err(fault) => return Err(fault),
@@ -264,29 +305,32 @@ fn at_board<'a, G: Gate, J: Site + Send, K: OfScenario + Send + Sync, R: Threads
     }
 }
 
-/// The rows of all windows, by so many workers.
+/// The rows of all windows, by so many workers, over a board with room for so many parts.
 fn by_workers<'a, G: Gate, K: OfScenario + Send + Sync, R: Threads + Wait + Sync>(
     rt: &R,
     alloc: Global,
     workers: usize,
+    room: usize,
     gate: &G,
     scenario: &'a Scenario,
     links: &'a Links,
+    watch: &Watch,
 ) -> Result<Vec<Row>, Fault>
     requires fits { AreLinksOf links.now scenario.now }
     requires one { K.scenario ≡ Some scenario.now }
     requires known { (worker : ℕ) → G.knows worker }
+    requires room { (1 ≤ room) × (room ≤ 64) }
     requires told { (window part : ℕ) → 1 ≤ window → G.awaits window part }
 {
     let (board, seats): (
-        TaskBoard<'a, TreeQueue<Event>, G, K>,
-        Vec<TaskSeat<'a, TreeQueue<Event>>>,
-    ) = match open_board(alloc, scenario, 2) {
+        TaskBoard<'a, WatchedQueue, G, K>,
+        Vec<TaskSeat<'a, WatchedQueue>>,
+    ) = match open_board(alloc, scenario, room) {
         Ok(pair) => pair,
         Err(Memory) => return Err(Fault::Memory),
     };
     let (rows, seats) = match at_board::<G, Brand, K, R>(
-        rt, alloc, workers, &board, seats, gate, scenario, links,
+        rt, alloc, workers, &board, seats, gate, scenario, links, watch,
     ) {
         Ok(pair) => pair,
         Err(fault) => return Err(fault),
@@ -304,7 +348,7 @@ fn in_turn(alloc: Global, scenario: &Scenario, links: &Links) -> Result<Vec<Row>
     let _end = scenario.end();
     let mut rows = Vec::new(alloc);
     for window in 0..WINDOWS {
-        let part = match everybody(alloc, scenario) {
+        let part = match everybody(alloc, scenario, TreeQueue::new(alloc)) {
             Ok(part) => part,
             Err(Memory) => return Err(Fault::Memory),
         };
@@ -324,14 +368,33 @@ fn are_same(rows: &[Row], wanted: &[Row]) -> bool {
     rows.len() == wanted.len() && rows.iter().zip(wanted).all(|(row, wanted)| row == wanted)
 }
 
+/// What is seen of queues of which the first takes so many events.
+fn watch_of(alloc: Global, room: usize) -> Result<Watch, Fault> {
+    match Watch::new(alloc, room) {
+        Ok(watch) => Ok(watch),
+        Err(Memory) => Err(Fault::Memory),
+    }
+}
+
+/// The same, as another sees it.
+fn another(watch: &Watch) -> Result<Watch, Fault> {
+    match watch.another() {
+        Ok(watch) => Ok(watch),
+        Err(Memory) => Err(Fault::Memory),
+    }
+}
+
 /// Counts who enters.
 #[derive(Drop)]
 struct Counter {
-    /// By window and part, window w and part p at 2w + p.
-    entered: [AtomicU64; 8],
+    /// By window and part, window w and part p at 4w + p.
+    entered: [AtomicU64; 16],
     /// How often a worker entered whose number is that of no worker.
     strangers: AtomicU64,
+    /// How often a part was entered that was run already.
+    late: AtomicU64,
     workers: usize,
+    watch: Watch,
 }
 
 impl Gate for Counter {
@@ -343,8 +406,11 @@ impl Gate for Counter {
         if worker >= self.workers {
             self.strangers.fetch_add(1, Ordering::SeqCst);
         }
-        if window <= WINDOWS && part < 2 {
-            let place = window as usize * 2 + part;
+        if self.watch.is_asked(part) {
+            self.late.fetch_add(1, Ordering::SeqCst);
+        }
+        if window <= WINDOWS && part < 4 {
+            let place = window as usize * 4 + part;
             self.entered[place].fetch_add(1, Ordering::SeqCst);
         } else {
             self.strangers.fetch_add(1, Ordering::SeqCst);
@@ -352,8 +418,16 @@ impl Gate for Counter {
     }
 }
 
-fn eight() -> [AtomicU64; 8] {
+fn sixteen() -> [AtomicU64; 16] {
     [
+        AtomicU64::new(0),
+        AtomicU64::new(0),
+        AtomicU64::new(0),
+        AtomicU64::new(0),
+        AtomicU64::new(0),
+        AtomicU64::new(0),
+        AtomicU64::new(0),
+        AtomicU64::new(0),
         AtomicU64::new(0),
         AtomicU64::new(0),
         AtomicU64::new(0),
@@ -365,7 +439,7 @@ fn eight() -> [AtomicU64; 8] {
     ]
 }
 
-/// Each part enters once in each window.
+/// Each part enters once in each window, before it is run.
 fn counted<R: Abort + Threads + Wait + Sync>(
     rt: &R,
     alloc: Global,
@@ -375,21 +449,27 @@ fn counted<R: Abort + Threads + Wait + Sync>(
 ) -> Result<Vec<Row>, Fault>
     requires { AreLinksOf links.now scenario.now }
 {
+    let watch = watch_of(alloc, usize::MAX)?;
     let gate = Counter {
-        entered: eight(),
+        entered: sixteen(),
         strangers: AtomicU64::new(0),
+        late: AtomicU64::new(0),
         workers,
+        watch: another(&watch)?,
     };
-    let rows = by_workers::<Counter, Brand, R>(rt, alloc, workers, &gate, scenario, links);
-    for cell in &gate.entered[2..] {
+    let rows = by_workers::<Counter, Brand, R>(
+        rt, alloc, workers, 4, &gate, scenario, links, &watch,
+    );
+    for cell in &gate.entered[4..] {
         assert_eq!(rt; cell.load(Ordering::SeqCst), 1);
     }
     assert_eq!(rt; gate.strangers.load(Ordering::SeqCst), 0);
+    assert_eq!(rt; gate.late.load(Ordering::SeqCst), 0);
     rows
 }
 
 #[test]
-fn two_parts_by_one_two_and_three_workers(rt: HostRuntime) -> Result<(), Fail> {
+fn four_parts_by_one_two_and_three_workers(rt: HostRuntime) -> Result<(), Fail> {
     let alloc = rt.alloc();
     let scenario = scenario_of(&rt, alloc);
     let links = links_of(&rt, alloc, &scenario);
@@ -409,21 +489,81 @@ fn an_open_gate_lets_all_pass(rt: HostRuntime) -> Result<(), Fail> {
     let alloc = rt.alloc();
     let scenario = scenario_of(&rt, alloc);
     let links = links_of(&rt, alloc, &scenario);
+    let watch = watch_of(alloc, usize::MAX)?;
     let rows = by_workers::<OpenGate, Brand, HostRuntime>(
-        &rt, alloc, 2, &OpenGate, &scenario, &links,
+        &rt, alloc, 2, 4, &OpenGate, &scenario, &links, &watch,
     )?;
     assert_eq!(rt; rows.len(), 12);
+    Ok(())
+}
+
+/// Holds whoever enters until a queue was let go.
+#[derive(Drop)]
+struct Holder {
+    watch: Watch,
+    /// How often one waited in vain.
+    alone: AtomicU64,
+}
+
+impl Gate for Holder {
+    ghost knows = { λ _. ⊤ };
+
+    ghost awaits = { λ _ _. ⊤ };
+
+    fn enter(&self, _worker: usize, _window: u64, _part: usize) {
+        for _ in 0..LOOKS {
+            if self.watch.is_gone() {
+                return;
+            }
+            thread::yield_now();
+        }
+        self.alone.fetch_add(1, Ordering::SeqCst);
+    }
+}
+
+/// What the windows of the four parts come to where the board has room for one, and each of two workers waits with what
+/// it took until a part was let go: that is one for which there was no room. The first part takes so many events.
+fn crowded<R: Abort + Threads + Wait + Sync>(
+    rt: &R,
+    alloc: Global,
+    scenario: &Scenario,
+    links: &Links,
+    room: usize,
+) -> Result<Vec<Row>, Fault>
+    requires { AreLinksOf links.now scenario.now }
+{
+    let watch = watch_of(alloc, room)?;
+    let gate = Holder {
+        watch: another(&watch)?,
+        alone: AtomicU64::new(0),
+    };
+    let rows = by_workers::<Holder, Brand, R>(rt, alloc, 2, 1, &gate, scenario, links, &watch);
+    assert_eq!(rt; gate.alone.load(Ordering::SeqCst), 0);
+    rows
+}
+
+/// A part for which the board has no room is fault 4; where another is refused memory in its window, that comes first.
+#[test]
+fn a_part_that_comes_back_is_told_unless_memory_was_refused(rt: HostRuntime) -> Result<(), Fail> {
+    let alloc = rt.alloc();
+    let scenario = scenario_of(&rt, alloc);
+    let links = links_of(&rt, alloc, &scenario);
+    let came = crowded(&rt, alloc, &scenario, &links, usize::MAX);
+    assert!(rt; came.is_err_and(|fault| fault == Fault::Relay));
+    // both starts pend, and nothing that comes of them may
+    let came = crowded(&rt, alloc, &scenario, &links, 2);
+    assert!(rt; came.is_err_and(|fault| fault == Fault::Memory));
     Ok(())
 }
 
 /// How often who holds the others looks whether all are there.
 const LOOKS: u64 = 10_000_000;
 
-/// Holds whoever enters until both parts have entered the window.
+/// Holds whoever enters until two parts have entered the window.
 #[derive(Drop)]
 struct Meeting {
     /// By window.
-    entered: [AtomicU64; 8],
+    entered: [AtomicU64; 16],
     /// How often nobody came.
     alone: AtomicU64,
 }
@@ -455,10 +595,13 @@ fn two_workers_meet_in_every_window(rt: HostRuntime) -> Result<(), Fail> {
     let scenario = scenario_of(&rt, alloc);
     let links = links_of(&rt, alloc, &scenario);
     let gate = Meeting {
-        entered: eight(),
+        entered: sixteen(),
         alone: AtomicU64::new(0),
     };
-    let rows = by_workers::<Meeting, Brand, HostRuntime>(&rt, alloc, 2, &gate, &scenario, &links)?;
+    let watch = watch_of(alloc, usize::MAX)?;
+    let rows = by_workers::<Meeting, Brand, HostRuntime>(
+        &rt, alloc, 2, 4, &gate, &scenario, &links, &watch,
+    )?;
     assert_eq!(rt; rows.len(), 12);
     assert_eq!(rt; gate.alone.load(Ordering::SeqCst), 0);
     Ok(())

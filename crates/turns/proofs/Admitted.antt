@@ -27,8 +27,9 @@ use Rattle.windows.specs.Admitting.{AreFromBelow, with_member, opened_below}
 use Rattle.windows.proofs.Admitting.{scripts_from_below, one_more_opened}
 use Rattle.windows.proofs.Wholes.{pending_kept}
 use Rattle.horizons.specs.Between.{part_number}
-use Rattle.turns.specs.Parts.{nobody, StandFor}
-use Rattle.turns.proofs.Coming.{same_count, at_place, elsewhere}
+use Rattle.windows.specs.Several.{numbers_of}
+use Rattle.turns.specs.Parts.{nobody, CountFrom, StandFor}
+use Rattle.turns.proofs.Coming.{same_count, at_place, elsewhere, same_numbers}
 use Rattle.turns.proofs.Turning.{world_at}
 
 -- ---- a part of it
@@ -101,6 +102,11 @@ module _ (owns : ℕ → Bool) (m : ℕ) where
       retain_events owns (script_of s m) w.pending ∙ ap (with_events (own_keys owns w.pending)) (script_own s false other) in
       λ i. record { members = members i; pending = pending i }
 
+-- one part more, with the next number
+pub one_more_counted : {Q : Type 0} (n : ℕ) (parts : List (Part Q)) (next : Part Q) → CountFrom n (numbers_of parts) → next.number ≡ n + length parts → CountFrom n (numbers_of (parts ++ next ∷ []))
+one_more_counted n [] next counted is = (omega (arith, is), tt)
+one_more_counted n (p ∷ ps) next counted is = (counted.0, one_more_counted (n + 1) ps next counted.1 (omega (arith, is)))
+
 -- ---- all parts
 
 module _ {Q : Type 0} (set : Q → FinMap key_cmp Event) (s : Setup) (deal : Deal) where
@@ -110,9 +116,10 @@ module _ {Q : Type 0} (set : Q → FinMap key_cmp Event) (s : Setup) (deal : Dea
   world_there (p ∷ ps) (suc i) low all = world_there ps i (omega arith) all.1
 
   -- at first nobody is in any part
-  pub none_stand : (parts : List (Part Q)) → length parts ≡ deal.parts → AllByRecursion (λ p. world_of set p ≡ nobody) parts → StandFor set deal parts (opened_below s 0)
-  none_stand parts count all = record {
+  pub none_stand : (parts : List (Part Q)) → length parts ≡ deal.parts → AllByRecursion (λ p. world_of set p ≡ nobody) parts → CountFrom 0 (numbers_of parts) → StandFor set deal parts (opened_below s 0)
+  none_stand parts count all numbered = record {
     count = count;
+    numbered = numbered;
     worlds = λ i low. world_there parts i (omega (arith, count)) all ∙ ap Some (sym (nobody_in (is_in (part_number deal) i)));
   }
 
@@ -123,7 +130,7 @@ module _ {Q : Type 0} (set : Q → FinMap key_cmp Event) (s : Setup) (deal : Dea
       (pending_kept (is_in (part_number deal) i) (opened_below s n) q (subst (λ (w : Cluster). IsPending w q) (world_at set deal parts (opened_below s n) stand i part here) there))
 
   module _ (parts : List (Part Q)) (n place : ℕ) (part after : Part Q) (stand : StandFor set deal parts (opened_below s n)) (own : part_number deal n ≡ place) (here : slice_get parts place ≡ Some part)
-      (admitted : world_of set after ≡ with_member s n (world_of set part)) where
+      (admitted : world_of set after ≡ with_member s n (world_of set part)) (number : after.number ≡ part.number) where
     within : place < length parts
     within = slice_get_within parts place part here
 
@@ -148,5 +155,6 @@ module _ {Q : Type 0} (set : Q → FinMap key_cmp Event) (s : Setup) (deal : Dea
     pub one_more_stands : StandFor set deal (slice_set parts place after) (opened_below s (n + 1))
     one_more_stands = record {
       count = same_count parts place after ∙ stand.count;
+      numbered = subst (CountFrom 0) (sym (same_numbers parts place part after here number)) stand.numbered;
       worlds = λ i low. at i low (eqb i place) refl ∙ ap (λ w. Some (part_of (is_in (part_number deal) i) w)) (sym (one_more_opened s n));
     }

@@ -37,9 +37,9 @@ use Rattle.windows.specs.Window.{is_own}
 use Rattle.windows.specs.Several.{RanWindows}
 use Rattle.windows.proofs.PartRuns.{own_run}
 use Rattle.horizons.specs.Between.{part_number}
-use Rattle.turns.specs.Parts.{HaveTheirMembers, StandFor, MayTurn, HaveCome}
+use Rattle.turns.specs.Parts.{CountFrom, HaveTheirMembers, StandFor, MayTurn, HaveCome}
 use Rattle.turns.proofs.Coming.{behind}
-use Rattle.turns.proofs.Turning.{many, windows_from, rows_same, has_window, out_same, same_count, are_windows, fact_by_number, own_by_part}
+use Rattle.turns.proofs.Turning.{many, windows_from, rows_same, has_window, out_same, same_count, are_windows, fact_by_number, own_by_part, numbers_stay}
 use Rattle.turns.proofs.Ends.{schedule_end, whole_after}
 
 -- ---- events that pend once they have come
@@ -185,6 +185,7 @@ module _ {Q : Type 0} (set : Q → FinMap key_cmp Event) (s : Setup) (sound : Is
   pub stand_after : (after : List (Part Q)) → HaveCome set (part_number deal) (map (λ (d : Done Q). d.part) ds) after outs → StandFor set deal after led.0
   stand_after after come = record {
     count = come.count ∙ count_after;
+    numbered = subst (CountFrom 0) (sym (come.numbers ∙ numbers_stay set s ps ds had)) ready.stand.numbered;
     worlds = λ i low.
         let done = there ds i (omega (arith, low, as_many)) in
         let world = fact_by_number set s (λ n x. part_of (is_in (part_number deal) n) led.0 ≡ with_arrivals x (for_own (is_in (part_number deal) n) (all_out windows)))

@@ -1,5 +1,5 @@
 -- Events that come to the parts of their receivers.
-use Rattle.std.proofs.Common.{◌≡◌, ◌≢◌, ℕ, zero, suc, ◌<◌, Bool, true, false, cond, eqb, nat_eq, List, [], ◌∷◌, ◌++◌, map, length, Option, Some, None, slice_set, ap, ◌∙◌, sym, subst, refl, arith}
+use Rattle.std.proofs.Common.{◌≡◌, ◌≢◌, ℕ, zero, suc, ◌<◌, Bool, true, false, cond, eqb, nat_eq, List, [], ◌∷◌, ◌++◌, map, length, Option, Some, None, Result, Ok, Err, OnOk, slice_set, ap, ◌∙◌, sym, subst, refl, arith}
 use Rattle.std.specs.Option.{option_map, is_some}
 use Rattle.std.specs.List.{slice_get}
 use Rattle.std.specs.FinMap.{FinMap, contains_key}
@@ -19,6 +19,7 @@ use Rattle.member_laws.specs.Runs.{Cluster}
 use Rattle.windows.specs.declared.part.Part.{Part}
 use Rattle.windows.specs.Parts.{is_in, for_own, with_arrivals}
 use Rattle.windows.specs.WorldOf.{world_of}
+use Rattle.windows.specs.Several.{numbers_of}
 use Rattle.windows.proofs.Admitting.{absent}
 use Rattle.windows.proofs.Deliveries.{all_at, all_before}
 use Rattle.windows.proofs.Cuts.{joined_joined}
@@ -49,6 +50,17 @@ elsewhere (y ∷ ys) zero (suc q) x h = refl
 elsewhere (y ∷ ys) (suc i) zero x h = refl
 elsewhere (y ∷ ys) (suc i) (suc q) x h = elsewhere ys i q x (λ e. h (ap suc e))
 
+-- what two facts of what went well give
+pub if_both : {T E P Q R : Type 0} (r : Result T E) → OnOk r P → OnOk r Q → (P → Q → R) → OnOk r R
+if_both (Ok _) p q so = so p q
+if_both (Err _) p q so = tt
+
+-- one of its kind in the place of a part leaves the numbers as they are
+pub same_numbers : {Q : Type 0} (parts : List (Part Q)) (i : ℕ) (part after : Part Q) → slice_get parts i ≡ Some part → after.number ≡ part.number → numbers_of (slice_set parts i after) ≡ numbers_of parts
+same_numbers [] i part after here same = refl
+same_numbers {Q} (p ∷ ps) zero part after here same = ap (λ n. n ∷ numbers_of ps) (same ∙ ap (λ (q : Part Q). q.number) (sym (same_Some p part here)))
+same_numbers (p ∷ ps) (suc i) part after here same = ap (λ ns. p.number ∷ ns) (same_numbers ps i part after here same)
+
 -- of new events that are added one after the other, each is new when its turn comes
 next_is_new : {C : Type 0} (pending : FinMap key_cmp C) (before : List (Key × C)) (e : Key × C) (after : List (Key × C)) → AreNew pending (before ++ e ∷ after)
     → contains_key (with_events pending before) e.0 ≡ false
@@ -64,11 +76,12 @@ behind f (Some x) y is = (x, refl, same_Some (f x) y is)
 
 module _ {Q : Type 0} (set : Q → FinMap key_cmp Event) (division : ℕ → ℕ) where
   pub none_come : (parts : List (Part Q)) → HaveCome set division parts parts []
-  none_come parts = record { count = refl; worlds = λ i. refl }
+  none_come parts = record { count = refl; worlds = λ i. refl; numbers = refl }
 
   pub more_come : (a b c : List (Part Q)) (es fs : List (Key × Content)) → HaveCome set division a b es → HaveCome set division b c fs → HaveCome set division a c (es ++ fs)
   more_come a b c es fs first second = record {
     count = second.count ∙ first.count;
+    numbers = second.numbers ∙ first.numbers;
     worlds = λ i.
         let own = for_own (is_in division i) in
         second.worlds i
@@ -81,7 +94,7 @@ module _ {Q : Type 0} (set : Q → FinMap key_cmp Event) (division : ℕ → ℕ
 
   -- one event comes to its part
   module _ (parts : List (Part Q)) (place : ℕ) (part after : Part Q) (event : Event) (own : division event.key.to ≡ place) (here : slice_get parts place ≡ Some part)
-      (took : world_of set after ≡ with_arrivals (world_of set part) (pair_of event ∷ [])) (within : place < length parts) where
+      (took : world_of set after ≡ with_arrivals (world_of set part) (pair_of event ∷ [])) (number : after.number ≡ part.number) (within : place < length parts) where
     world_after : (b : Bool) → is_in division place event.key.to ≡ b → world_of set after ≡ with_arrivals (world_of set part) (cond b (pair_of event ∷ []) [])
     world_after true mine = took
     world_after false other = absurd (false≢true (sym other ∙ eq-eqb (division event.key.to) place own))
@@ -105,7 +118,7 @@ module _ {Q : Type 0} (set : Q → FinMap key_cmp Event) (division : ℕ → ℕ
         other_place i false e other = e
 
     pub one_comes : HaveCome set division parts (slice_set parts place after) (pair_of event ∷ [])
-    one_comes = record { count = same_count parts place after; worlds = λ i. at i (eqb i place) refl }
+    one_comes = record { count = same_count parts place after; worlds = λ i. at i (eqb i place) refl; numbers = same_numbers parts place part after here number }
 
   -- of new events that come, each is new when its turn comes
   new_own : (pending : FinMap key_cmp Content) (es rest : List (Key × Content)) (e : Key × Content) (i : ℕ) (b : Bool) → is_in division i e.0.to ≡ b

@@ -32,7 +32,7 @@ module _ {Q : Type 0} (set : Q → FinMap key_cmp Event) (s : Setup) (sound : Is
   windows_rise [] (d ∷ ds) had = absurd had
   windows_rise (p ∷ ps) [] had = absurd had
   windows_rise (p ∷ ps) (d ∷ ds) had = (
-    part_rows_rise s sound (is_own (world_of set p.part)) p.bound had.0.0 (world_of set p.part) (world_of set d.part) (map pair_of d.out.items) d.rows.items had.0.1.run,
+    part_rows_rise s sound (is_own (world_of set p.part)) p.bound had.0.0.0 (world_of set p.part) (world_of set d.part) (map pair_of d.out.items) d.rows.items had.0.0.1.run,
     windows_rise ps ds had.1,
   )
 

@@ -26,7 +26,7 @@ use Rattle.windows.specs.WorldOf.{world_of}
 use Rattle.windows.specs.Window.{is_own, IsConsistentPart, RunsWindow}
 use Rattle.windows.specs.Cluster.{IsWholeCluster}
 use Rattle.windows.proofs.Wholes.{part_consistent, own_here, window_by_number}
-use Rattle.windows.specs.Several.{RanWindows, parts_of}
+use Rattle.windows.specs.Several.{RanWindow, RanWindows, parts_of, numbers_of}
 use Rattle.horizons.specs.Between.{part_number}
 use Rattle.turns.specs.Parts.{StandFor}
 
@@ -83,7 +83,7 @@ module _ {Q : Type 0} where
 
 module _ {Q : Type 0} (set : Q → FinMap key_cmp Event) (s : Setup) where
   pub one_window_more : (parts : List (Bounded Q)) (done : List (Done Q)) (part : Bounded Q) (last : Done Q) → RanWindows set s parts done
-      → RunsWindow s part.bound (world_of set part.part) last.out.items last.rows.items (world_of set last.part) → RanWindows set s (parts ++ part ∷ []) (done ++ last ∷ [])
+      → RanWindow set s part last → RanWindows set s (parts ++ part ∷ []) (done ++ last ∷ [])
   one_window_more [] [] part last had one = (one, tt)
   one_window_more [] (d ∷ done) part last had one = absurd had
   one_window_more (p ∷ parts) [] part last had one = absurd had
@@ -95,13 +95,20 @@ module _ {Q : Type 0} (set : Q → FinMap key_cmp Event) (s : Setup) where
   same_count (p ∷ ps) [] had = absurd had
   same_count (p ∷ ps) (d ∷ ds) had = ap suc (same_count ps ds had.1)
 
+  -- the parts have their numbers still
+  pub numbers_stay : (ps : List (Bounded Q)) (ds : List (Done Q)) → RanWindows set s ps ds → numbers_of (map (λ (d : Done Q). d.part) ds) ≡ numbers_of (parts_of ps)
+  numbers_stay [] [] had = refl
+  numbers_stay [] (d ∷ ds) had = absurd had
+  numbers_stay (p ∷ ps) [] had = absurd had
+  numbers_stay (p ∷ ps) (d ∷ ds) had = ap (λ n. n ∷ numbers_of (map (λ (d : Done Q). d.part) ds)) had.0.1 ∙ ap (λ ns. p.part.number ∷ ns) (numbers_stay ps ds had.1)
+
   -- the windows of the parts, numbered from a on
   abbrev pub windows_from : (a : ℕ) (ps : List (Bounded Q)) (ds : List (Done Q)) → RanWindows set s ps ds → List (Window State Content Row)
   windows_from a [] [] had = []
   windows_from a [] (d ∷ ds) had = absurd had
   windows_from a (p ∷ ps) [] had = absurd had
   windows_from a (p ∷ ps) (d ∷ ds) had =
-      record { part = a; keys = had.0.0; out = map pair_of d.out.items; rows = d.rows.items; after = world_of set d.part } ∷ windows_from (a + 1) ps ds had.1
+      record { part = a; keys = had.0.0.0; out = map pair_of d.out.items; rows = d.rows.items; after = world_of set d.part } ∷ windows_from (a + 1) ps ds had.1
 
   pub rows_same : (a : ℕ) (ps : List (Bounded Q)) (ds : List (Done Q)) (had : RanWindows set s ps ds) → all_rows (windows_from a ps ds had) ≡ flat_map (λ d. d.rows.items) ds
   rows_same a [] [] had = refl
@@ -185,7 +192,7 @@ module _ {Q : Type 0} (set : Q → FinMap key_cmp Event) (s : Setup) where
     all_windows a [] (d ∷ ds) had follow = absurd had
     all_windows a (p ∷ ps) [] had follow = absurd had
     all_windows a (p ∷ ps) (d ∷ ds) had follow =
-        (first_run a p ps had.0.0 (map pair_of d.out.items) d.rows.items (world_of set d.part) follow had.0.1, all_windows (a + 1) ps ds had.1 (next_follow a p ps follow))
+        (first_run a p ps had.0.0.0 (map pair_of d.out.items) d.rows.items (world_of set d.part) follow had.0.0.1, all_windows (a + 1) ps ds had.1 (next_follow a p ps follow))
 
     follow_all : (ps : List (Bounded Q)) → StandFor set deal (parts_of ps) w → ((i : ℕ) (b : Bounded Q) → slice_get ps i ≡ Some b → bounds i ≡ b.bound) → Follow 0 ps
     follow_all ps stand each i p here =

@@ -25,7 +25,7 @@ use Rattle.windows.specs.Cluster.{IsPeopled, LiesBetween, IsRowOrder, IsWholeClu
 use Rattle.windows.specs.Horizon.{AreHorizons}
 use Rattle.windows.specs.WorldOf.{world_of}
 use Rattle.windows.specs.Window.{is_own}
-use Rattle.windows.specs.Several.{RanWindows, parts_of}
+use Rattle.windows.specs.Several.{RanWindows, parts_of, numbers_of}
 use Rattle.horizons.specs.Between.{part_number}
 
 -- a cluster of nobody, in which nothing pends
@@ -50,6 +50,11 @@ IsInRowOrder made sorted = (cmp : Row → Row → Ordering) × IsRowOrder cmp ×
 abbrev pub RowsRise : {Q : Type 0} → List (Done Q) → Type 0
 RowsRise {Q} done = AllByRecursion (λ (d : Done Q). IsRising IsPlaceBefore (map place_of d.rows.items)) done
 
+-- these are the numbers from this one on, each once, in their order
+abbrev pub CountFrom : ℕ → List ℕ → Type 0
+CountFrom n [] = Unit {0}
+CountFrom n (m ∷ ms) = (m ≡ n) × CountFrom (n + 1) ms
+
 module _ {Q : Type 0} (set : Q → FinMap key_cmp Event) where
   -- just before moments up to this one nothing pends in the part
   abbrev pub PendsFrom : Part Q → Option ℕ → Type 0
@@ -69,10 +74,11 @@ module _ {Q : Type 0} (set : Q → FinMap key_cmp Event) where
   abbrev pub IsLeastMoment : List (Part Q) → Option ℕ → Type 0
   IsLeastMoment parts least = (t : ℕ) → NonePendsBefore parts t ↔ IsUpTo least t
 
-  -- The parts stand for this world: each, at the place of its number, for its part of it.
+  -- The parts stand for this world: each, at the place of its number, for its part of it; their numbers count from 0.
   pub record StandFor (deal : Deal) (parts : List (Part Q)) (w : Cluster) : Type 0 where
     pub count : length parts ≡ deal.parts
     pub worlds : (i : ℕ) → i < deal.parts → option_map (world_of set) (slice_get parts i) ≡ Some (part_of (is_in (part_number deal) i) w)
+    pub numbered : CountFrom 0 (numbers_of parts)
 
   -- each part has the members that are divided to it
   abbrev pub HaveTheirMembers : Deal → List (Part Q) → Type 0
@@ -101,10 +107,11 @@ module _ {Q : Type 0} (set : Q → FinMap key_cmp Event) where
     pub past : AllByRecursion (λ (b : Bounded Q). first < b.bound) bounded
     pub horizons : (w : Cluster) → StandFor deal parts w → IsWholeCluster s w → HaveHorizons s deal bounded w
 
-  -- these events have come to the parts of their receivers
+  -- these events have come to the parts of their receivers, which keep their numbers
   pub record HaveCome (division : ℕ → ℕ) (before after : List (Part Q)) (events : List (Key × Content)) : Type 0 where
     pub count : length after ≡ length before
     pub worlds : (i : ℕ) → option_map (world_of set) (slice_get after i) ≡ option_map (λ p. with_arrivals (world_of set p) (for_own (is_in division i) events)) (slice_get before i)
+    pub numbers : numbers_of after ≡ numbers_of before
 
   -- This is what the windows of all parts gave, somewhere in a run.
   pub record Came (deal : Deal) (done : List (Done Q)) : Type 0 where

@@ -6,7 +6,8 @@ ghost use Rattle.worker_queue.specs.SetOf.{set_of};
 ghost use Rattle.windows.specs.WorldOf.{world_of};
 ghost use Rattle.windows.specs.Admitting.{opened_below};
 ghost use Rattle.horizons.specs.Between.{part_number};
-ghost use Rattle.turns.specs.Parts.{nobody, StandFor};
+ghost use Rattle.windows.specs.Several.{numbers_of};
+ghost use Rattle.turns.specs.Parts.{nobody, CountFrom, StandFor};
 ghost use Rattle.turns.specs.Wheels.{wheel_set};
 
 use base::{MemberId, Memory};
@@ -32,9 +33,10 @@ pub fn open_parts(
     Ok(parts)
 }
 
-/// So many parts, in which nobody is.
+/// So many parts, in which nobody is. Their numbers count from 0.
 fn empty_parts(alloc: Global, count: usize) -> Result<Vec<Part<TreeQueue<Event>>>, Memory>
     ensures count { IfOk result (λ parts. vec_len parts ≡ count) }
+    ensures numbered { IfOk result (λ parts. CountFrom 0 (numbers_of parts.items)) }
     ensures empty { IfOk result (λ parts. AllByRecursion (λ part. world_of set_of part ≡ nobody) parts.items) }
 {
     let mut parts = Vec::new(alloc);
@@ -63,6 +65,7 @@ pub fn open_wheels(
 /// So many parts, in which nobody is, with a wheel each.
 fn empty_wheels(alloc: Global, count: usize) -> Result<Vec<Part<WheelQueue<Event>>>, Memory>
     ensures count { IfOk result (λ parts. vec_len parts ≡ count) }
+    ensures numbered { IfOk result (λ parts. CountFrom 0 (numbers_of parts.items)) }
     ensures empty { IfOk result (λ parts. AllByRecursion (λ part. world_of wheel_set part ≡ nobody) parts.items) }
 {
     let mut parts = Vec::new(alloc);

@@ -13,20 +13,22 @@ use Rattle.trace.specs.declared.row.Row.{Row}
 use Rattle.member.specs.declared.content.Content.{Content}
 use Rattle.member.specs.State.{State}
 use Rattle.member.specs.Step.{step}
-use Rattle.member.proofs.Fair.{steps_later, steps_linked}
+use Rattle.member.specs.Places.{place_of}
+use Rattle.member.proofs.Fair.{steps_later, steps_linked, steps_counted}
 use Rattle.member_laws.specs.Words.{IsConsistent, IsAmongMembers}
 use Rattle.member_laws.specs.Runs.{Cluster, IsSoundCluster}
 use Rattle.member_laws.proofs.Reached.{step_among}
-use Rattle.windows.specs.Schedule.{TestedStep, Schedule, CatchesUp, OffersEarly, MeetsState}
+use Rattle.windows.specs.Schedule.{TestedStep, Schedule, CatchesUp, OffersEarly, MeetsState, rows_by}
 use Rattle.windows.specs.Horizon.{AreHorizons, KeepsBetween, IsClearIn}
 use Rattle.windows.specs.Parts.{Window, AreWindowsOfDifferentParts, StandsAfter, IncludesPart, PartRun, is_in, part_of, all_keys, all_rows}
-use Rattle.windows.specs.Cluster.{link_delay, IsRunFrom, IsPeopled, LiesBetween, IsClearOf}
+use Rattle.windows.specs.Cluster.{link_delay, IsRunFrom, IsPeopled, LiesBetween, IsClearOf, whose}
 use Rattle.windows.proofs.Far.{all_both}
 use Rattle.windows.proofs.Early.{early_step}
 use Rattle.windows.proofs.Clear.{clear_offers, horizons_offer}
 use Rattle.windows.proofs.Division.{after_all, all_schedule, ready_after, stands_after, none_left, stands_once}
 use Rattle.windows.proofs.States.{met_by_schedule}
-use Rattle.windows.proofs.Schedules.{weaker_step, weaker_schedule, with_fact, rows_by_schedule, met_by_part}
+use Rattle.windows.proofs.Released.{tells_receiver}
+use Rattle.windows.proofs.Schedules.{weaker_step, weaker_schedule, with_fact, rows_by_schedule, each_by_schedule, met_by_part}
 use Rattle.windows.proofs.Members.{sends_as_itself, sound_stays, receiver_low}
 
 module _ (s : Setup) (sound : IsSound s) (division : ℕ → ℕ) (between : ℕ → ℕ → ℕ) (lies : LiesBetween s division between) where
@@ -101,6 +103,20 @@ module _ (s : Setup) (division : ℕ → ℕ) (between : ℕ → ℕ → ℕ) (s
       → IsRunFrom s w run_keys run → IsRunFrom s v left_keys left → IsPermutation (rows ++ left) run
   clear_rows w v keys run_keys left_keys rows run left fact is =
       rows_by_schedule (step s) (steps_later s sound) (sends_as_itself s sound) s.end Clear early_offers w v keys run_keys left_keys rows run left (clear_kept keys w v rows fact is).0
+
+  -- each member's stand in the order of the run
+  pub clear_rows_by : (w v : Cluster) (keys run_keys left_keys : List Key) (rows run left : List Row) → IsSoundCluster s w → Schedule (step s) (IsClearOf s division between) w keys rows v
+      → IsRunFrom s w run_keys run → IsRunFrom s v left_keys left → (m : ℕ) → rows_by whose m run ≡ rows_by whose m rows ++ rows_by whose m left
+  clear_rows_by w v keys run_keys left_keys rows run left fact is whole rest m =
+      each_by_schedule (step s) (steps_later s sound) (sends_as_itself s sound) s.end Clear early_offers whose (tells_receiver (step s) (steps_later s sound) place_of (steps_counted s sound)) m
+      w v keys run_keys left_keys rows run left (clear_kept keys w v rows fact is).0 whole rest
+
+  -- a clear step lowers no horizon
+  pub horizons_stay : (bounds : ℕ → ℕ) (w v : Cluster) (k : Key) (made : List Row) → IsSoundCluster s w → AreHorizons s.end division (IsPeopled s division) between bounds w
+      → TestedStep (step s) (IsClearOf s division between) w k v made → AreHorizons s.end division (IsPeopled s division) between bounds v
+  horizons_stay bounds w v k made fact horizons is =
+      let offers = horizons_offer (step s) (steps_later s sound) s.end division (IsPeopled s division) between (IsSoundCluster s) (keeps_between s sound division between lies) bounds in
+      subst (AreHorizons s.end division (IsPeopled s division) between bounds) (sym is.world) (offers.stays w k is.content (fact, horizons) (is.passes, fact) is.here).1
 
   -- what the run from its end meets, the run meets
   pub clear_met : (w v : Cluster) (keys : List Key) (rows : List Row) (m : ℕ) (t : State) → IsSoundCluster s w → Schedule (step s) (IsClearOf s division between) w keys rows v

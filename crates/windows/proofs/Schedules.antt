@@ -59,6 +59,14 @@ module _ {S C R : Type 0} (step : Machine S C R) (later : MakesLater step) (own 
       subst (λ l. IsPermutation (rows ++ l) all) (same_run step later end v left_ks left rest).1
       (subst (IsPermutation (rows ++ trace step later end v)) (same_run step later end w all_ks all whole).1 (schedule_rows step later own end Test early ks w v rows is))
 
+  -- and each member's in the same order
+  pub each_by_schedule : (whose : R → ℕ) → TellsWhose whose step → (m : ℕ) (w v : World S C) (ks all_ks left_ks : List Key) (rows all left : List R) → Schedule step Test w ks rows v
+      → SequentialRun step end w all_ks all → SequentialRun step end v left_ks left → rows_by whose m all ≡ rows_by whose m rows ++ rows_by whose m left
+  each_by_schedule whose tells m w v ks all_ks left_ks rows all left is whole rest =
+      ap (rows_by whose m) (sym (same_run step later end w all_ks all whole).1)
+      ∙ schedule_by step later own end Test early whose tells m ks w v rows is
+      ∙ ap (λ l. rows_by whose m rows ++ rows_by whose m l) (same_run step later end v left_ks left rest).1
+
   -- a state in which the steps of a part below its bound leave a member, the run meets
   module _ (division bounds : ℕ → ℕ) (Ready : World S C → Type 0) (offers : OffersWindows division bounds Test Ready step) where
     pub met_by_part : (part : ℕ) (w after : World S C) (ks : List Key) (out : List (Key × C)) (rows : List R) (m : ℕ) (state : S) → Ready w
@@ -95,9 +103,8 @@ module _ {S C R : Type 0} (step : Machine S C R) (later : MakesLater step) (own 
     -- and each member's in the same order
     pub safe_rows_by : (whose : R → ℕ) → TellsWhose whose step → (m : ℕ) → rows_by whose m all ≡ rows_by whose m rows ++ rows_by whose m left
     safe_rows_by whose tells m =
-        ap (rows_by whose m) (sym (same_run step later end w all_ks all whole).1)
-        ∙ schedule_by step later own end (IsSafeIn end least_delay Fact) (safe_offers step later end least_delay Fact keeps) whose tells m ks w v rows (schedule_kept ks w v rows fact is).0
-        ∙ ap (λ l. rows_by whose m rows ++ rows_by whose m l) (same_run step later end v left_ks left rest).1
+        each_by_schedule step later own end (IsSafeIn end least_delay Fact) (safe_offers step later end least_delay Fact keeps) whose tells m w v ks all_ks left_ks rows all left
+        (schedule_kept ks w v rows fact is).0 whole rest
 
     module _ (place : R → Key × ℕ) (counts : CountsRows place step) (cmp : R → R → Ordering) (total : IsTotalOrder cmp) (agrees : (a b : R) → IsPlaceBefore (place a) (place b) → cmp a b ≡ Less) where
       -- where all events before a bound were handled, and no later one, the rows, sorted, are the next of the run

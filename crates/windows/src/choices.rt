@@ -15,6 +15,7 @@ ghost use Rattle.windows.specs.Play.{NonePasses, Plays, IsPlayOf, IsLeastLeft, I
 ghost use Rattle.windows.specs.Choosing.{safe_bound, IsPlayed, HasChosen, HasPlayed};
 ghost use Rattle.windows.specs.WorldOf.{world_of};
 
+use crate::faults::told;
 use crate::part::Part;
 use crate::setting::Setting;
 use crate::steps::{handle_taken, nothing};
@@ -59,10 +60,9 @@ pub fn play(alloc: Global, scenario: &Scenario, choices: &[MemberId]) -> Result<
     ensures worn { IsErrOf result Fault.Worn → WearsOut scenario.now }
     ensures faults { IfErr result (λ fault. (fault ≡ Fault.Memory) ⊎ (fault ≡ Fault.Worn)) }
 {
-    let mut played = match play_out(alloc, scenario, choices) {
+    let mut played = match told(play_out(alloc, scenario, choices)) {
         Ok(played) => played,
-        Err(StepError::Memory) => return Err(Fault::Memory),
-        Err(StepError::Worn) => return Err(Fault::Worn),
+        Err(fault) => return Err(fault),
     };
     match played.rows.sort() {
         Ok(()) => Ok(played),

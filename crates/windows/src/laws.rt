@@ -151,8 +151,9 @@ pub fn windows_write_the_next_rows()
 /// Each part may run up to a bound of its own, where no pending event's walk of links reaches the
 /// part before it: a clear event may be handled before its turn, and windows below such bounds, in
 /// any order, are a schedule of clear steps, after which no part has events left below its bound. Of
-/// such a schedule's rows, those of the run from where it ends are the rest; it meets no state that
-/// the run doesn't.
+/// such a schedule's rows, those of the run from where it ends are the rest, and each member's rows
+/// are a beginning of its rows in the run; it meets no state that the run doesn't. A clear step lowers
+/// no horizon: what were horizons before it still are.
 pub fn parts_may_run_to_their_horizons()
     ensures early { (s : Setup) (division : ℕ → ℕ) (between : ℕ → ℕ → ℕ) (w v : Cluster) (k : Key) (made : List Row)
         → IsSound s → LiesBetween s division between → IsSoundCluster s w
@@ -169,6 +170,14 @@ pub fn parts_may_run_to_their_horizons()
     ensures rows { (s : Setup) (division : ℕ → ℕ) (between : ℕ → ℕ → ℕ) (w v : Cluster) (keys run_keys left_keys : List Key) (rows run left : List Row)
         → IsSound s → LiesBetween s division between → IsSoundCluster s w → Schedule (step s) (IsClearOf s division between) w keys rows v
         → IsRunFrom s w run_keys run → IsRunFrom s v left_keys left → IsPermutation (rows ++ left) run }
+    ensures of_each_member { (s : Setup) (division : ℕ → ℕ) (between : ℕ → ℕ → ℕ) (w v : Cluster) (keys run_keys left_keys : List Key) (rows run left : List Row)
+        → IsSound s → LiesBetween s division between → IsSoundCluster s w → Schedule (step s) (IsClearOf s division between) w keys rows v
+        → IsRunFrom s w run_keys run → IsRunFrom s v left_keys left
+        → (m : ℕ) → rows_by whose m run ≡ rows_by whose m rows ++ rows_by whose m left }
+    ensures horizons { (s : Setup) (division : ℕ → ℕ) (between : ℕ → ℕ → ℕ) (bounds : ℕ → ℕ) (w v : Cluster) (k : Key) (made : List Row)
+        → IsSound s → LiesBetween s division between → IsSoundCluster s w
+        → AreHorizons s.end division (IsPeopled s division) between bounds w → TestedStep (step s) (IsClearOf s division between) w k v made
+        → AreHorizons s.end division (IsPeopled s division) between bounds v }
     ensures states { (s : Setup) (division : ℕ → ℕ) (between : ℕ → ℕ → ℕ) (w v : Cluster) (keys : List Key) (rows : List Row) (m : ℕ) (t : State)
         → IsSound s → LiesBetween s division between → IsSoundCluster s w → Schedule (step s) (IsClearOf s division between) w keys rows v
         → MeetsState (step s) s.end v m t → MeetsState (step s) s.end w m t }

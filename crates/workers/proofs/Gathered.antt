@@ -22,10 +22,15 @@ use Rattle.workers.specs.declared.ring.Ticket.{Ticket}
 use Rattle.workers.specs.Pools.{bounded_of, all_bounded, IsOfScenario}
 use Rattle.workers.specs.Faults.{Joins}
 
+-- two facts of what went well are one
+pub both_well : {T E : Type 0} (r : Result T E) (P Q : T → Type 0) → IfOk r P → IfOk r Q → IfOk r (λ x. P x × Q x)
+both_well (Ok x) P Q p q = (p, q)
+both_well (Err e) P Q p q = tt
+
 module _ {Q : Type 0} (set : Q → FinMap key_cmp Event) (s : Setup) where
-  -- this is the window of the part below this bound
+  -- this is the window of the part below this bound, after which the part has its number still
   abbrev pub IsWindow : ℕ → Bounded Q → Done Q → Type 0
-  IsWindow at b done = RunsWindow s at (world_of set b.part) done.out.items done.rows.items (world_of set done.part)
+  IsWindow at b done = RunsWindow s at (world_of set b.part) done.out.items done.rows.items (world_of set done.part) × (done.part.number ≡ b.part.number)
 
   -- one window more
   pub had_more : (bs : List (Bounded Q)) (ds : List (Done Q)) (b : Bounded Q) (d : Done Q) → RanWindows set s bs ds → IsWindow b.bound b d → RanWindows set s (bs ++ b ∷ []) (ds ++ d ∷ [])
@@ -110,14 +115,15 @@ module _ {Q : Type 0} (set : Q → FinMap key_cmp Event) (s : Setup) where
   pub ticket_more : (tickets : List (Ticket Q)) (t : Ticket Q) (so_far after : Result (Vec (Done Q) Global) Fault) (came : Result (Done Q) Fault) → IsOfScenario s t
       → SoFar set s (all_bounded tickets) so_far
       → IfOk came (λ done. RunsWindow t.scenario.value t.bound (world_of set t.before.value) done.out.items done.rows.items (world_of set done.part))
+      → IfOk came (λ done. done.part.number ≡ t.before.value.number)
       → (IsErrOf came Worn → WearsInWindow t.scenario.value t.bound (world_of set t.before.value))
       → IfErr came (λ fault. fault ≢ Write)
       → IfOk after (λ all. Joins so_far came all) → (IsErrOf after Worn → IsErrOf so_far Worn ⊎ IsErrOf came Worn)
       → (IfErr so_far (λ fault. fault ≢ Write) → IfErr came (λ fault. fault ≢ Write) → IfErr after (λ fault. fault ≢ Write))
       → SoFar set s (all_bounded (tickets ++ t ∷ [])) after
-  ticket_more tickets t so_far after came of so ok worn write joins either writes =
+  ticket_more tickets t so_far after came of so ok number worn write joins either writes =
       let b = bounded_of t in
       subst (λ bs. SoFar set s bs after) (sym (all_bounded_more tickets t))
       (so_far_more set s (all_bounded tickets) b so_far after came so
-      (subst (λ x. IfOk came (IsWindow set x b.bound b)) of ok)
+      (subst (λ x. IfOk came (IsWindow set x b.bound b)) of (both_well came _ _ ok number))
       (subst (λ x. IsErrOf came Worn → WearsInWindow x b.bound (world_of set b.part)) of worn) write joins either writes)

@@ -25,9 +25,10 @@ asked_of (Word.Asked a ∷ (w ∷ ws)) = None
 asked_of (Word.Came r ∷ ws) = None
 
 module _ {Q : Type 0} (set : Q → FinMap key_cmp Event) where
-  -- what came of a part that was asked for its window: that window, or a fault, which is a worn counter where it says so
+  -- what came of a part that was asked for its window: that window, after which the part has its number still, or a fault, which is a worn counter where it says so
   pub record ComesOf (ask : Ask Q) (came : Result (Done Q) StepError) : Type 0 where
     pub ok : IfOk came (λ done. RunsWindow ask.0 ask.1.0 (world_of set ask.1.1) done.out.items done.rows.items (world_of set done.part))
+    pub number : IfOk came (λ done. done.part.number ≡ ask.1.1.number)
     pub worn : IsErrOf came step_error.Worn → WearsInWindow ask.0 ask.1.0 (world_of set ask.1.1)
 
   -- the word answers what was asked

@@ -5,6 +5,6 @@ use Rattle.std.specs.Prelude.{ℕ, ◌<◌, ◌≤◌}
 abbrev pub KnowsAll : (ℕ → Type 0) → ℕ → Type 0
 KnowsAll knows workers = (worker : ℕ) → worker < workers → knows worker
 
--- each part may be entered in each window, which count from 1
-abbrev pub AwaitsAll : (ℕ → ℕ → Type 0) → Type 0
-AwaitsAll awaits = (window part : ℕ) → 1 ≤ window → awaits window part
+-- each of so many parts, which count from 0, may be entered in each window, which count from 1
+abbrev pub AwaitsAll : (ℕ → ℕ → Type 0) → ℕ → Type 0
+AwaitsAll awaits parts = (window part : ℕ) → 1 ≤ window → part < parts → awaits window part

@@ -1,24 +1,10 @@
-ghost use Rattle.std.specs.Prelude.{◌≡◌, ◌≢◌, ◌++◌, ◌∷◌, [], ◌⊎◌, Ok, IfOk, IfErr, IsErrOf};
+ghost use Rattle.std.specs.Prelude.{◌≡◌, ◌≢◌, ◌++◌, ◌∷◌, [], ◌⊎◌, IfOk, IfErr, IsErrOf};
 ghost use Rattle.workers.specs.Faults.{rank_of, first_of, Joins};
 
 use base::Fault;
-use member::{Event, StepError};
+use member::Event;
 use windows::Done;
 use worker_queue::EventQueue;
-
-/// What came of a window, its error as a fault of the run.
-pub(crate) fn told<T: Drop>(came: Result<T, StepError>) -> Result<T, Fault>
-    ensures ok { IfOk result (λ value. came ≡ Ok value) }
-    ensures worn { IsErrOf result Fault.Worn → IsErrOf came StepError.Worn }
-    ensures memory { IsErrOf result Fault.Memory → IsErrOf came StepError.Memory }
-    ensures write { IfErr result (λ fault. fault ≢ Fault.Write) }
-{
-    match came {
-        Ok(value) => Ok(value),
-        Err(StepError::Memory) => Err(Fault::Memory),
-        Err(StepError::Worn) => Err(Fault::Worn),
-    }
-}
 
 /// What came of several windows, and of one more: all of them, or the first of their faults.
 pub(crate) fn joined<Q: EventQueue<Event> + Drop>(

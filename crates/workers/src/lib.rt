@@ -1,12 +1,13 @@
 //! Workers that run the windows of parts, for as long as a run lasts: the driver deals the parts over a board,
-//! each with the task of its window, and gets what came of them in the order in which they were dealt.
+//! each with the task of its window, runs with the others what lies there, and gets what came of them in the order in
+//! which they were dealt.
 #![tactic(auto)]
 
 mod close;
 mod faults;
 mod gate;
+mod looks;
 mod open;
-mod pause;
 mod pieces;
 mod pool;
 mod ring;

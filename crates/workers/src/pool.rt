@@ -9,7 +9,7 @@ ghost use Rattle.windows.specs.Several.{RanWindows, OneWears};
 ghost use Rattle.workers.specs.Pools.{all_bounded, IsOfScenario};
 ghost use Rattle.workers.specs.Pieces.{Belongs};
 
-use crate::faults::{joined, told};
+use crate::faults::joined;
 use crate::gate::Gate;
 use crate::pieces::{OfScenario, TaskPost};
 use crate::ring::Ticket;
@@ -22,7 +22,7 @@ use member::Event;
 use scenario::Scenario;
 use std::alloc::Global;
 use std::sync::Wait;
-use windows::{Bounded, Done};
+use windows::{Bounded, Done, told};
 use worker_queue::EventQueue;
 
 /// The driver's hold on its workers. Once it is dropped or has left they end.
@@ -54,8 +54,8 @@ impl<'b, 'a, Q: EventQueue<Event> + Drop, G: Gate, J: Site, K: OfScenario> Worke
     J,
     K,
 > {
-    /// A pool of so many workers, which take what is dealt from the post. With one worker the driver does its
-    /// work, and nothing is dealt.
+    /// A pool of so many workers, which take what is dealt from the post. The driver is worker 0; where there is
+    /// no other, nothing is dealt.
     pub fn new(
         workers: usize,
         post: TaskPost<'b, 'a, Q, G, J, K>,
@@ -79,7 +79,7 @@ impl<'b, 'a, Q: EventQueue<Event> + Drop, G: Gate, J: Site, K: OfScenario> Worke
         post
     }
 
-    /// The windows of these parts, each below its bound, by the workers, in the order of the parts. The gate is
+    /// The windows of these parts, each below its bound, by the workers and the driver, in the order of the parts. The gate is
     /// told of each part, in the next window after those that were begun before: they count from 1.
     ///
     /// Faults: `Memory` and `Worn` of a part's window, `Relay` where a task was handed back or lost. Of
@@ -111,6 +111,7 @@ impl<'b, 'a, Q: EventQueue<Event> + Drop, G: Gate, J: Site, K: OfScenario> Worke
             return run_alone(alloc, self.gate, parts, window, scenario, links);
         }
         let dealt = self.deal(rt, alloc, parts, window, scenario, links);
+        self.help(rt, alloc);
         self.hold.0.wait_group.wait(rt);
         let Dealt { tickets, fault } = dealt;
         let so_far = begun(alloc, fault, tickets.len());
@@ -159,6 +160,22 @@ impl<'b, 'a, Q: EventQueue<Event> + Drop, G: Gate, J: Site, K: OfScenario> Worke
         Dealt {
             tickets,
             fault: None,
+        }
+    }
+
+    /// Runs tasks that lie on the board, as worker 0, until none does.
+    fn help(&mut self, rt: &impl Wait, alloc: Global)
+        requires worker { G.knows 0 }
+        ensures same { self.new.windows ≡ self.old.windows }
+    {
+        for _ in rt.forever() {
+            match self.post.take(rt) {
+                Some(task) => {
+                    task.run(alloc, self.gate, 0);
+                    self.hold.0.wait_group.remove();
+                }
+                None => return,
+            }
         }
     }
 

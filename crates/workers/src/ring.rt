@@ -6,7 +6,6 @@ ghost use Rattle.windows.specs.Window.{RunsWindow};
 ghost use Rattle.windows.specs.Wears.{WearsInWindow};
 ghost use Rattle.workers.specs.Answers.{asked_of, ComesOf};
 
-use crate::faults::told;
 use base::{Fault, Memory, Moment};
 use member::{Event, StepError};
 use rtrb::{Consumer, Producer, Protocol, RingBuffer};
@@ -14,7 +13,7 @@ use scenario::Scenario;
 use std::alloc::Global;
 use std::marker::PhantomData;
 use std::snapshot::Snapshot;
-use windows::{Done, Part};
+use windows::{Done, Part, told};
 use worker_queue::EventQueue;
 
 /// What is asked: the window of a part.
@@ -115,6 +114,7 @@ impl<Q: EventQueue<Event> + Drop> Ticket<Q> {
     /// What came of the part. Faults: `Memory` and `Worn` of its window, `Relay` where nothing came.
     pub(crate) fn answer(self) -> Result<Done<Q>, Fault>
         ensures ok { IfOk result (λ done. RunsWindow self.scenario.value self.bound (world_of Q.set self.before.value) done.out.items done.rows.items (world_of Q.set done.part)) }
+        ensures number { IfOk result (λ done. done.part.number ≡ self.before.value.number) }
         ensures write { IfErr result (λ fault. fault ≢ Fault.Write) }
         ensures worn { IsErrOf result Fault.Worn → WearsInWindow self.scenario.value self.bound (world_of Q.set self.before.value) }
     {

@@ -31,6 +31,7 @@ impl<'a, Q: EventQueue<Event> + Drop> Terms<'a, Q> {
     pub(crate) fn run(self, alloc: Global, part: Part<Q>) -> Result<Done<Q>, StepError>
         requires { part ≡ self.part.value }
         ensures ok { IfOk result (λ done. RunsWindow self.entry.scenario.now self.entry.bound (world_of Q.set part) done.out.items done.rows.items (world_of Q.set done.part)) }
+        ensures number { IfOk result (λ done. done.part.number ≡ part.number) }
         ensures worn { IsErrOf result StepError.Worn → WearsInWindow self.entry.scenario.now self.entry.bound (world_of Q.set part) }
     {
         let Terms {

@@ -1,4 +1,5 @@
-use crate::pause::{LOOKS, pause};
+use crate::looks::LOOKS;
+use std::hint;
 use std::sync::Wait;
 use std::sync::atomic::{AtomicUsize, Ordering};
 use std::thread::Parker;
@@ -47,11 +48,11 @@ impl WaitGroup {
     }
 
     fn is_over_soon(&self) -> bool {
-        for look in 0..LOOKS {
+        for _ in 0..LOOKS {
             if self.is_over() {
                 return true;
             }
-            pause(look);
+            hint::spin_loop();
         }
         false
     }

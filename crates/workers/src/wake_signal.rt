@@ -1,4 +1,5 @@
-use crate::pause::{LOOKS, pause};
+use crate::looks::LOOKS;
+use std::hint;
 use std::sync::Wait;
 use std::sync::atomic::{AtomicBool, AtomicU64, AtomicUsize, Ordering};
 
@@ -57,11 +58,11 @@ impl WakeSignal {
     }
 
     fn rings_soon(&self, heard: u64) -> bool {
-        for look in 0..LOOKS {
+        for _ in 0..LOOKS {
             if self.rings() != heard {
                 return true;
             }
-            pause(look);
+            hint::spin_loop();
         }
         false
     }

@@ -1,7 +1,9 @@
 use Rattle.std.proofs.Common.{Some, ap, ◌∙◌, sym, subst, arith}
 use Rattle.member.specs.Opening.{opening}
 use Rattle.relay.specs.Seats.{IsSender}
+use Rattle.scenario.specs.Division.{Deal}
 use Rattle.turns.specs.Parts.{StandFor}
+use Rattle.workers.specs.Gates.{AwaitsAll}
 use Rattle.exchange.specs.Sending.{rows_so_far, IsDriven}
 use Rattle.exchange.proofs.Endings.{is_driven}
 use Rattle.exchange.proofs.driver.drive.Goals as goal
@@ -12,6 +14,10 @@ turns_by_pool-outcome-requires-clause-opened g c = λ loans lives.
     let basis = c.args.task.basis in
     subst (λ s. StandFor g.Q.EventQueue.set c.course_of-course.result.division.now c.args.task.parts.items (opening s)) (sym of_course.scenario)
     (subst (λ d. StandFor g.Q.EventQueue.set d c.args.task.parts.items (opening basis.scenario.now)) (sym of_course.division) c.requires.ready.opened)
+
+pub turns_by_pool-outcome-requires-clause-windows : goal.turns_by_pool-outcome-requires-clause-windows
+turns_by_pool-outcome-requires-clause-windows g c = λ loans lives.
+    subst (λ (d : Deal). AwaitsAll g.G.Gate.awaits d.parts) (sym c.course_of-course.ensures.division) c.requires.windows
 
 pub returns : goal.returns
 returns g c =

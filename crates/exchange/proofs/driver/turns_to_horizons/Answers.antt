@@ -1,7 +1,10 @@
-use Rattle.std.proofs.Common.{All, Err, ◌+◌, [], ap, ◌∙◌, sym, subst, refl, arith}
+use Rattle.std.proofs.Common.{All, Err, ◌+◌, [], length, ap, ◌∙◌, sym, subst, refl, arith}
 use Rattle.trace.specs.Text.{NamesMembers}
 use Rattle.exchange.specs.Sending.{rows_so_far}
 use Rattle.turns.specs.Bounds.{IsFirstMoment}
+use Rattle.windows.specs.Several.{numbers_of}
+use Rattle.turns.specs.Parts.{CountFrom}
+use Rattle.turns.proofs.Turning.{many}
 use Rattle.turns.proofs.Goes.{IsUnderWay, not_yet, consistent, came, further, goes_on, one_wears, begins, ends_here, ends_past, names_on, begins_on}
 use Rattle.exchange.proofs.Batching.{all_awaited}
 use Rattle.exchange.proofs.Endings.{comes_whole, comes_by, comes_by_memory}
@@ -132,7 +135,13 @@ pub run_windows-requires-clause-worker : goal.run_windows-requires-clause-worker
 run_windows-requires-clause-worker g c = λ loans lives. c.requires.worker
 
 pub run_windows-requires-clause-awaited : goal.run_windows-requires-clause-awaited
-run_windows-requires-clause-awaited g c = λ loans lives. all_awaited g.G.Gate.awaits c.requires.windows (c.loop-from.pool.windows + 1) (omega arith) c.in_ok-bounded.bounded.items
+run_windows-requires-clause-awaited g c = λ loans lives.
+    let bounded = c.in_ok-bounded.bounded.items in
+    let stand = c.loop-from.invariant.run.stand in
+    let same = c.in_ok-bounded.ensures.same in
+    let count = ap length same in
+    all_awaited g.G.Gate.awaits c.args.course.now.division.now.parts c.requires.windows (c.loop-from.pool.windows + 1) (omega arith) 0 bounded
+    (subst (λ ps. CountFrom 0 (numbers_of ps)) (sym same) stand.numbered) (omega (arith, many bounded, count, stand.count))
 
 pub run_windows-requires-clause-countable : goal.run_windows-requires-clause-countable
 run_windows-requires-clause-countable g c = λ loans lives.

@@ -1,5 +1,7 @@
 -- what the files hold of a run that was done, and of one that broke off
-use Rattle.std.proofs.Common.{◌∙◌, Err, ap}
+use Rattle.std.proofs.Common.{◌∙◌, Result, Err, IfErr, ap, subst}
+use Rattle.base.specs.declared.fault.Fault.{Fault}
+use Rattle.outputs.specs.declared.summary.Summary.{Summary}
 use Rattle.scenario_files.proofs.Held.{each_err, each_ok, told_done, told_failed}
 use Rattle.run_command.proofs.Stored.{both_begun, both_stored}
 use Rattle.run_command.proofs.storing.store_both.Goals as goal
@@ -21,11 +23,12 @@ returns-clause-failed g c =
     let known = g.F.Files.known in
     let run = c.simulate-made_trace in
     let holds = g.F.Made.Write.contents in
+    let ends_by = g.M.Simulator.ends_by c.args.prepared.now.scenario c.args.prepared.now.workers in
     told_failed _ run.result.2 c.run_told.result c.run_told.ensures (each_err run.result.2 run.ensures.beginning (λ cause is begins. (
       c.in-Ok.ensures.apart,
       both_begun (known c.args.files.now) (known c.make_both.new.self) (known c.close.new.self) (known c.close-2.new.self) c.args.words.trace.now c.args.report.now
           c.in-Ok.ensures.differ c.in-Ok.ensures.others c.close.ensures.others c.close-2.ensures.others
-          c.args.prepared.now.scenario cause _ _ _ _ _ _ c.in-Ok.ensures.empty c.in-Ok.ensures.made c.in-Ok.ensures.empty_too c.in-Ok.ensures.made_too
-          c.close.ensures.closed c.close-2.ensures.closed begins (λ e. run.ensures.worn (is ∙ ap Err e))
+          ends_by c.args.prepared.now.scenario cause _ _ _ _ _ _ c.in-Ok.ensures.empty c.in-Ok.ensures.made c.in-Ok.ensures.empty_too c.in-Ok.ensures.made_too
+          c.close.ensures.closed c.close-2.ensures.closed (subst (λ (r : Result Summary Fault). IfErr r ends_by) is run.ensures.cause) begins (λ e. run.ensures.worn (is ∙ ap Err e))
           (ap holds c.into_inner.ensures) (ap holds c.into_inner-2.ensures),
     )))

@@ -27,6 +27,6 @@ nobody_consistent s = record {
 
 pub returns : goal.returns
 unfolding with_pending
-returns c =
+returns g c =
     let s = c.args.scenario.now in
-    subst (IsConsistentPart s) (sym (c.new.ensures.world ∙ ap with_pending (ap contents_in c.new-queue.ensures ∙ contents_by-empty content_of))) (nobody_consistent s)
+    subst (IsConsistentPart s) (sym (c.new.ensures.world ∙ ap with_pending (ap contents_in c.requires.none ∙ contents_by-empty content_of))) (nobody_consistent s)

@@ -2,8 +2,7 @@ use Rattle.std.proofs.Common.{ap, refl, arith}
 use Rattle.std.specs.Option.{unwrap_or}
 use Rattle.std.proofs.lemmas.Option.{slice_get_read}
 use Rattle.horizons.specs.Between.{part_number}
-use Rattle.windows.proofs.Deliveries.{if_ok}
-use Rattle.turns.proofs.Coming.{one_comes, absent_at_place}
+use Rattle.turns.proofs.Coming.{if_both, one_comes, absent_at_place}
 use Rattle.turns.proofs.parts.place.Goals as goal
 
 pub receive-requires-clause-own : goal.receive-requires-clause-own
@@ -28,5 +27,5 @@ returns g c =
     let deal = c.args.division.now in
     let own = ap (λ o. unwrap_or o deal.parts) c.part-place.ensures.value in
     let here = slice_get_read c.args.parts.now.items _ c.part-place.result part refl (omega (arith, c.requires.count, c.part-place.ensures.below)) c.index_mut-part.ensures.value in
-    if_ok c.receive.result c.receive.ensures.world
-    (λ came. one_comes g.Q.EventQueue.set (part_number deal) c.args.parts.now.items c.part-place.result part c.receive.new.self c.args.event own here came (omega (arith, c.requires.count, c.part-place.ensures.below)))
+    if_both c.receive.result c.receive.ensures.world c.receive.ensures.number
+    (λ came number. one_comes g.Q.EventQueue.set (part_number deal) c.args.parts.now.items c.part-place.result part c.receive.new.self c.args.event own here came number (omega (arith, c.requires.count, c.part-place.ensures.below)))

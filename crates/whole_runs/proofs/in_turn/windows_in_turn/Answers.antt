@@ -36,8 +36,10 @@ loop-bounded-preserved g c =
           ∙ ap (λ ps. c.loop-bounded.yielded ++ ps) (sym c.in-Some.ensures.steps.0) ∙ c.loop-bounded.invariant.left;
       windows =
           subst (RanWindows g.Q.EventQueue.set s (c.loop-bounded.yielded ++ c.in-Some.bounded ∷ [])) (sym c.in_ok-push.ensures.items)
-          (one_window_more g.Q.EventQueue.set s c.loop-bounded.yielded c.loop-bounded.all.items c.in-Some.bounded c.in_ok-done.done c.loop-bounded.invariant.windows
-          (subst (λ b. RunsWindow s b (world_of g.Q.EventQueue.set c.in-Some.bounded.part) c.in_ok-done.done.out.items c.in_ok-done.done.rows.items (world_of g.Q.EventQueue.set c.in_ok-done.done.part)) in_time c.in_ok-done.ensures.ok));
+          (one_window_more g.Q.EventQueue.set s c.loop-bounded.yielded c.loop-bounded.all.items c.in-Some.bounded c.in_ok-done.done c.loop-bounded.invariant.windows (
+            subst (λ b. RunsWindow s b (world_of g.Q.EventQueue.set c.in-Some.bounded.part) c.in_ok-done.done.out.items c.in_ok-done.done.rows.items (world_of g.Q.EventQueue.set c.in_ok-done.done.part)) in_time c.in_ok-done.ensures.ok,
+            c.in_ok-done.ensures.number,
+          ));
       in_time = times.1;
       consistent = (subst (AllByRecursion (λ b. IsConsistentPart s (world_of g.Q.EventQueue.set b.part))) c.in-Some.ensures.steps.0 c.loop-bounded.invariant.consistent).1;
     }

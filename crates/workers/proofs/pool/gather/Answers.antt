@@ -12,7 +12,7 @@ loop-ticket-preserved g c =
       left = append_assoc c.loop-ticket.yielded (c.in-Some.ticket ∷ []) c.next.new.self.rest.items ∙ ap (λ ts. c.loop-ticket.yielded ++ ts) (sym c.in-Some.ensures.steps.0) ∙ c.loop-ticket.invariant.left;
       so_far =
           ticket_more g.Q.EventQueue.set s c.loop-ticket.yielded c.in-Some.ticket c.loop-ticket.so_far c.joined-so_far.result c.answer.result next.0 c.loop-ticket.invariant.so_far
-          c.answer.ensures.ok c.answer.ensures.worn c.answer.ensures.write c.joined-so_far.ensures.ok c.joined-so_far.ensures.worn c.joined-so_far.ensures.write;
+          c.answer.ensures.ok c.answer.ensures.number c.answer.ensures.worn c.answer.ensures.write c.joined-so_far.ensures.ok c.joined-so_far.ensures.worn c.joined-so_far.ensures.write;
       begun = still (IsOk c.args.begun) c.loop-ticket.so_far c.joined-so_far.result c.answer.result c.loop-ticket.invariant.begun c.joined-so_far.ensures.ok;
       windows = next.1;
     }

@@ -6,4 +6,4 @@ pub send-requires : goal.send-requires
 send-requires g c =
     let me = c.args.self in
     comes_along g.Q.EventQueue.set _ _ _ _ _ _ c.run-came.result (me.scenario_of_terms ∙ sym me.scenario_of_reply) (sym me.bound_of_reply) (sym me.part_of_reply)
-    (record { ok = c.run-came.ensures.ok; worn = c.run-came.ensures.worn })
+    (record { ok = c.run-came.ensures.ok; number = c.run-came.ensures.number; worn = c.run-came.ensures.worn })

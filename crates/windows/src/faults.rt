@@ -1,0 +1,19 @@
+ghost use Rattle.std.specs.Prelude.{◌≡◌, ◌≢◌, ◌⊎◌, Ok, IfOk, IfErr, IsErrOf};
+
+use base::Fault;
+use member::StepError;
+
+/// What came of steps, their error as the fault of a run: a worn counter is told as that, and want of memory as that.
+pub fn told<T: Drop>(came: Result<T, StepError>) -> Result<T, Fault>
+    ensures ok { IfOk result (λ value. came ≡ Ok value) }
+    ensures worn { IsErrOf result Fault.Worn → IsErrOf came StepError.Worn }
+    ensures memory { IsErrOf result Fault.Memory → IsErrOf came StepError.Memory }
+    ensures faults { IfErr result (λ fault. (fault ≡ Fault.Memory) ⊎ (fault ≡ Fault.Worn)) }
+    ensures write { IfErr result (λ fault. fault ≢ Fault.Write) }
+{
+    match came {
+        Ok(value) => Ok(value),
+        Err(StepError::Memory) => Err(Fault::Memory),
+        Err(StepError::Worn) => Err(Fault::Worn),
+    }
+}
