@@ -485,6 +485,21 @@ def run_case(seed, number, newest):
     return text_of(rng, document), document, rng
 
 
+def far_case(seed, number, newest):
+    """The same of sites so far apart that several workers run them as parts: a window has hundreds of events."""
+    rng = random.Random(f'{seed} far {number}')
+    sites = 'abcd'[:rng.randint(2, 4)]
+    document = {
+        'version': rng.randint(1, newest), 'seed': rng.randrange(2**63), 'end': 2500,
+        'swim': {'period': rng.choice([20, 30]), 'timeout': 8, 'spread': 20},
+        'link': {'delay': rng.choice([600, 1000]), 'jitter': rng.choice([0, 5])},
+        'group': [{'name': site, 'count': rng.randint(10, 12)} for site in sites],
+        'path': [{'from': site, 'to': site, 'delay': rng.randint(1, 3), 'loss': rng.choice([0, 50_000])} for site in sites],
+        'crash': [{'member': f'{site}-{rng.randrange(10)}', 'at': rng.randint(100, 2000)} for site in sites],
+    }
+    return text_of(rng, document), document, rng
+
+
 def text_case(seed, number, newest):
     """A text that may break any rule."""
     rng = random.Random(f'{seed} text {number}')
@@ -527,7 +542,7 @@ def sweep_case(seed, number, newest):
 
 # a run's and a sweep's text come with what else they are made of
 TEXTS = {
-    'run': lambda *case: run_case(*case)[0], 'text': text_case, 'sweep': lambda *case: sweep_case(*case)[0],
+    'run': lambda *case: run_case(*case)[0], 'far': lambda *case: far_case(*case)[0], 'text': text_case, 'sweep': lambda *case: sweep_case(*case)[0],
 }
 
 

@@ -119,32 +119,26 @@ until = 6000
 extra = 1200
 '''
 
-# so many rows that most are still to come once the first batch was written
-LONG = '''version = 1
+# members that probe each other every 100 ticks
+HASTY = '''version = 1
 seed = 3
-end = 36000
+end = {end}
 [swim]
 period = 100
 timeout = 30
 spread = 1
 [link]
 delay = 2
-[[group]]
+'''
+
+# so many rows that most are still to come once the first batch was written
+LONG = HASTY.format(end=36000) + '''[[group]]
 name = "n"
 count = 64
 '''
 
 # two sites so far apart that each has windows of its own that are long enough for a thread
-FAR = '''version = 1
-seed = 3
-end = 4000
-[swim]
-period = 100
-timeout = 30
-spread = 1
-[link]
-delay = 2
-[[group]]
+FAR = HASTY.format(end=4000) + '''[[group]]
 name = "n"
 count = 32
 [[group]]

@@ -1,7 +1,7 @@
 #!/usr/bin/env python3
 """Compares the program with tests/model.py on random cases.
 
-    tests/second_opinion.py [--program FILE] [--seed N] [--runs 300] [--texts 2000] [--sweeps 20] [--newest V]
+    tests/second_opinion.py [--program FILE] [--seed N] [--runs 300] [--far 12] [--texts 2000] [--sweeps 20] [--newest V]
 
 The program is the one that ./swimsim has built, or FILE. Of each run the trace and the report are compared
 byte for byte, by 1 to 3 workers and some division; of each text what `check` says of it; of each sweep its
@@ -80,20 +80,37 @@ def division_of(rng, members):
         words += ['--parts', str(rng.choice([1, 2, 3, 5, 64]))]
     if which == 2:
         parts = rng.choice([1, 2, 4, 64])
-        words += ['--division', ','.join(str(rng.randrange(parts)) for _ in range(members))]
+        words += ['--division', ','.join(str(rng.randrange(parts)) for _ in members)]
     return words
+
+
+def site_division_of(rng, members):
+    """Words for two to four workers, and for no parts or for those of the groups."""
+    words = ['--workers', str(rng.randint(2, 4))]
+    parts = ','.join(str(ord(member['name'][0]) - ord('a')) for member in members)
+    return [*words, '--division', parts] if rng.randrange(2) else words
 
 
 def try_run(program, folder, seed, number, newest):
     """The words of a run, its text, and the first difference or None."""
-    text, _, rng = generate.run_case(seed, number, newest)
+    return tried(program, folder, generate.run_case(seed, number, newest), division_of, newest)
+
+
+def try_far(program, folder, seed, number, newest):
+    """The same of a run whose parts the program hands to its workers."""
+    return tried(program, folder, generate.far_case(seed, number, newest), site_division_of, newest)
+
+
+def tried(program, folder, case, words_of, newest):
+    """The same of this case, by words that are made for its members."""
+    text, _, rng = case
     file, trace, report = folder / 'scenario.toml', folder / 'trace.csv', folder / 'report.txt'
     file.write_bytes(text)
     for output in (trace, report):
         output.write_bytes(b'')
     _, scenario = judge(document_of(text), newest)
     rows = model.rows_of(scenario)
-    options = division_of(rng, len(scenario['members']))
+    options = words_of(rng, scenario['members'])
     done = ran([program, 'run', file, '--trace', trace, '--report', report, *options])
     expected = {**outcome(0, f'rows {len(rows)}\n'.encode(), b''),
                 'trace': model_text.trace_of(scenario, rows).encode(),
@@ -134,7 +151,7 @@ def try_sweep(program, folder, seed, number, newest):
     return ['sweep', 'FILE', '--table', 'T', *options], text, compared(expected, found)
 
 
-TRIALS = {'run': try_run, 'text': try_text, 'sweep': try_sweep}
+TRIALS = {'run': try_run, 'far': try_far, 'text': try_text, 'sweep': try_sweep}
 
 
 def fault_of(case):
@@ -155,6 +172,7 @@ def main():
     arguments.add_argument('--program', type=Path, default=BUILT)
     arguments.add_argument('--seed', type=int)
     arguments.add_argument('--runs', type=int, default=300)
+    arguments.add_argument('--far', type=int, default=12)
     arguments.add_argument('--texts', type=int, default=2000)
     arguments.add_argument('--sweeps', type=int, default=20)
     arguments.add_argument('--newest', type=int, default=NEWEST_TAKEN)
@@ -163,7 +181,7 @@ def main():
         sys.exit(f'{options.program} is not there; ./swimsim builds it')
     seed = seed_of_sources() if options.seed is None else options.seed
     print(f'seed {seed}, versions 1 to {options.newest}')
-    counts = {'run': options.runs, 'text': options.texts, 'sweep': options.sweeps}
+    counts = {'run': options.runs, 'far': options.far, 'text': options.texts, 'sweep': options.sweeps}
     program = options.program.resolve()
     cases = [(program, seed, kind, number, options.newest) for kind in counts for number in range(counts[kind])]
     with ProcessPoolExecutor() as pool:
