@@ -3,3 +3,4 @@ pub mod World
 pub mod Run
 pub mod Rising
 pub mod Logarithm
+pub mod Beats

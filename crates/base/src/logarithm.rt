@@ -1,5 +1,5 @@
 ghost use Rattle.std.specs.Prelude.{◌≡◌, ◌-◌, ◌≤◌};
-ghost use Rattle.base.specs.Logarithm.{digit_count, leading_digit, log_of};
+ghost use Rattle.base.specs.Logarithm.{digit_count, leading_digit, log_of, leading_digits, tenth_log_of, fine_log_of};
 
 /// The decimal logarithms of 1 to 10, in thousandths, rounded to the nearest.
 const THOUSANDTHS: [u32; 10] = [0, 301, 477, 602, 699, 778, 845, 903, 954, 1000];
@@ -46,9 +46,65 @@ pub fn log_thousandths(n: u32) -> u32
     1000 * following + THOUSANDTHS[(leading - 1) as usize]
 }
 
+/// The decimal logarithms of 1.0 to 9.9, in thousandths, rounded down.
+const TENTHS: [u32; 90] = [
+    0, 41, 79, 113, 146, 176, 204, 230, 255, 278, 301, 322, 342, 361, 380, 397, 414, 431, 447, 462,
+    477, 491, 505, 518, 531, 544, 556, 568, 579, 591, 602, 612, 623, 633, 643, 653, 662, 672, 681,
+    690, 698, 707, 716, 724, 732, 740, 748, 755, 763, 770, 778, 785, 792, 799, 806, 812, 819, 826,
+    832, 838, 845, 851, 857, 863, 869, 875, 880, 886, 892, 897, 903, 908, 913, 919, 924, 929, 934,
+    939, 944, 949, 954, 959, 963, 968, 973, 977, 982, 986, 991, 995,
+];
+
+/// A number's two leading decimal digits as a number, and how many digits follow the first.
+#[derive(Clone, Copy)]
+struct Leading {
+    digits: u32,
+    following: u32,
+}
+
+fn leading_of(n: u32) -> Leading
+    requires { 1 ≤ n }
+    ensures digits { result.digits ≡ leading_digits n }
+    ensures following { result.following ≡ digit_count n - 1 }
+    ensures at_least_10 { 10 ≤ result.digits }
+    ensures at_most_99 { result.digits ≤ 99 }
+    ensures at_most_9 { result.following ≤ 9 }
+{
+    let mut digits = u64::from(n) * 10;
+    let mut following = 0;
+    while digits >= 100 {
+        digits /= 10;
+        following += 1;
+    }
+    Leading {
+        digits: digits as u32,
+        following,
+    }
+}
+
+/// A thousand times the decimal logarithm of a tenth of a number of two digits, rounded down.
+fn tenth_log(digits: u32) -> u32
+    requires at_least_10 { 10 ≤ digits }
+    requires at_most_99 { digits ≤ 99 }
+    ensures value { result ≡ tenth_log_of digits }
+    ensures small { result ≤ 1000 }
+{
+    TENTHS[(digits - 10) as usize]
+}
+
+/// About a thousand times a number's decimal logarithm: exact at powers of ten, and between them it
+/// goes by the two leading digits, rounded down.
+pub fn fine_log_thousandths(n: u32) -> u32
+    requires { 1 ≤ n }
+    ensures { result ≡ fine_log_of n }
+{
+    let Leading { digits, following } = leading_of(n);
+    1000 * following + tenth_log(digits)
+}
+
 #[cfg(test)]
 mod tests {
-    use super::{digits, log_thousandths};
+    use super::{digits, fine_log_thousandths, log_thousandths};
 
     #[test]
     fn logarithms_are_exact_at_powers_of_ten(rt: HostRuntime) {
@@ -63,6 +119,20 @@ mod tests {
             assert_eq!(rt; log_thousandths(n), wanted, "of {n}");
         }
         assert_eq!(rt; log_thousandths(u32::MAX), 9602);
+    }
+
+    #[test]
+    fn finer_logarithms_go_by_two_digits(rt: HostRuntime) {
+        for (n, wanted) in [
+            (1, 0),
+            (2, 301),
+            (19, 1278),
+            (109, 2000),
+            (99, 1995),
+            (4096, 3602),
+        ] {
+            assert_eq!(rt; fine_log_thousandths(n), wanted, "of {n}");
+        }
     }
 
     #[test]

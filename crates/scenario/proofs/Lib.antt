@@ -1,3 +1,4 @@
 pub mod Names
 pub mod Between
 pub mod Members
+pub mod Pauses

@@ -1,4 +1,5 @@
 pub mod GroupNames
 pub mod Setup
+pub mod Profile
 pub mod SetupOf
 pub mod Division

@@ -1,9 +1,9 @@
 -- A scenario as its text says it, and what is said of its members.
-use Rattle.std.specs.Prelude.{◌≡◌, ℕ, ◌<◌, ◌≤◌, ◌^◌, ◌+◌, ◌-◌, Bool, true, ◌&&◌, if◌then◌else◌, nat_lt, nat_le, nat_eq, List, [], ◌∷◌, ◌++◌, map, filter, find, sum_by, flat_map, codes, decimal, Option, Some, None, IfSome, option_map, option_and_then, unwrap_or, slice_get}
+use Rattle.std.specs.Prelude.{◌≡◌, ◌≢◌, ℕ, ◌<◌, ◌≤◌, ◌^◌, ◌+◌, ◌-◌, Bool, true, false, not, ◌&&◌, if◌then◌else◌, nat_lt, nat_le, nat_eq, List, [], ◌∷◌, ◌++◌, map, filter, find, sum_by, flat_map, codes, decimal, Option, Some, None, IfSome, option_map, option_and_then, unwrap_or, slice_get}
 use Rattle.std.specs.List.{range_with_len, list_any, list_all, AllByRecursion}
 use Rattle.std.specs.Option.{is_some, option_map_or}
 use Rattle.schema.specs.declared.schema.Version.{Version}
-use Rattle.schema.specs.declared.schema.Version.TheVariants.{One}
+use Rattle.schema.specs.declared.schema.Version.TheVariants.{One, Three}
 use Rattle.scenario.specs.GroupNames.{is_group_name}
 use Rattle.scenario.specs.declared.settings.Swim.{Swim}
 use Rattle.scenario.specs.declared.settings.Suspicion.{Suspicion}
@@ -14,6 +14,9 @@ use Rattle.scenario.specs.declared.settings.Slow.{Slow}
 use Rattle.scenario.specs.declared.settings.Crash.{Crash}
 use Rattle.scenario.specs.declared.settings.Leave.{Leave}
 use Rattle.scenario.specs.declared.settings.Cut.{Cut}
+use Rattle.scenario.specs.declared.settings.Gossip.{Gossip}
+use Rattle.scenario.specs.declared.settings.Stream.{Stream}
+use Rattle.scenario.specs.declared.settings.Pause.{Pause}
 
 -- members of one name, told apart by an index
 pub record Group : Type 0 where
@@ -46,6 +49,11 @@ pub record Setup : Type 0 where
   pub leaves : List Leave
   -- in the order of the text
   pub cuts : List Cut
+  -- how members gossip, where they do
+  pub gossip : Option Gossip
+  pub stream : Stream
+  -- in the order of the text
+  pub pauses : List Pause
 
 -- NAME-0 to NAME-(count - 1), the index in decimal without leading zeros
 abbrev pub names_below : List ℕ → ℕ → List (List ℕ)
@@ -120,6 +128,23 @@ cuts_off from to t c = (nat_eq c.from from && nat_eq c.to to) && (nat_le c.at t 
 abbrev pub is_cut : Setup → ℕ → ℕ → ℕ → Bool
 is_cut s i j t = list_any (cuts_off (group_at s.groups i) (group_at s.groups j) t) s.cuts
 
+-- the member is in this pause at the moment
+abbrev pub is_in_pause : ℕ → ℕ → Pause → Bool
+is_in_pause m t p = nat_eq p.member m && (nat_le p.from t && nat_lt t p.until)
+
+-- the member is paused at the moment
+abbrev pub is_paused : Setup → ℕ → ℕ → Bool
+is_paused s m t = list_any (is_in_pause m t) s.pauses
+
+-- the ends of all pauses, added up: no pause lasts longer
+abbrev pub ends_of : List Pause → ℕ
+ends_of ps = sum_by (λ p. p.until) ps
+
+-- When a member handles what is for a moment: at the first moment from that one on at which it isn't paused. It is
+-- among those looked at, since the last of these comes after all pauses.
+unfoldable pub awake : Setup → ℕ → ℕ → ℕ
+awake s m t = unwrap_or (find (λ u. not (is_paused s m u)) (range_with_len t (ends_of s.pauses + 1))) t
+
 -- a link's numbers are in the format's ranges
 pub record IsSoundLink (l : Link) : Type 0 where
   pub delay : (0 < l.delay) × (l.delay ≤ 2 ^ 20)
@@ -136,9 +161,22 @@ pub record IsPlain (s : Setup) : Type 0 where
   pub leaves : s.leaves ≡ []
   pub cuts : s.cuts ≡ []
 
+-- the numbers of gossip are in the format's ranges
+pub record IsSoundGossip (g : Gossip) : Type 0 where
+  pub interval : (0 < g.interval) × (g.interval ≤ 2 ^ 24)
+  pub nodes : (0 < g.nodes) × (g.nodes ≤ 16)
+  pub dead : g.dead ≤ 2 ^ 40
+  pub push : g.push ≤ 2 ^ 24
+
+-- Nobody calls, gossips or pauses: so is every scenario of versions 1 and 2.
+pub record IsWithoutThird (s : Setup) : Type 0 where
+  pub fallback : s.swim.fallback ≡ false
+  pub gossip : s.gossip ≡ None
+  pub pauses : s.pauses ≡ []
+
 -- What every scenario keeps: the format's ranges of its numbers, the timeout below the period, the form of
 -- groups' names, who asks whom to join, crashes and leaves after the starts, of each member at most one, and
--- cuts that last.
+-- cuts and pauses that last.
 pub record IsSound (s : Setup) : Type 0 where
   pub end : s.end ≤ 2 ^ 40
   pub period : s.swim.period ≤ 2 ^ 24
@@ -166,3 +204,8 @@ pub record IsSound (s : Setup) : Type 0 where
   pub once : (m : ℕ) → is_some (leave_of s m) ≡ true → crash_of s m ≡ None
   pub cuts : AllByRecursion (λ c. (c.at < c.until) × (c.until ≤ 2 ^ 40)) s.cuts
   pub first : s.version ≡ One → IsPlain s × (member_count s ≤ 1024)
+  pub gossip : IfSome s.gossip IsSoundGossip
+  pub connect : (0 < s.stream.connect) × (s.stream.connect ≤ 2 ^ 24)
+  pub again : (0 < s.stream.again) × (s.stream.again ≤ 2 ^ 24)
+  pub pauses : AllByRecursion (λ p. (p.from < p.until) × (p.until ≤ 2 ^ 40)) s.pauses
+  pub before_third : s.version ≢ Three → IsWithoutThird s

@@ -11,7 +11,7 @@ group_of g = record { name = string_bytes g.name; count = g.count; start = g.sta
 
 -- what contents say
 abbrev pub setup_in : Contents → Setup
-setup_in s = record { version = s.version; seed = s.seed; end = s.end; swim = s.swim; suspicion = s.suspicion; lifeguard = s.lifeguard; link = s.link; groups = map group_of s.groups.items; paths = s.paths.items; slows = s.slows.items; crashes = s.crashes.items; leaves = s.leaves.items; cuts = s.cuts.items }
+setup_in s = record { version = s.version; seed = s.seed; end = s.end; swim = s.swim; suspicion = s.suspicion; lifeguard = s.lifeguard; link = s.link; groups = map group_of s.groups.items; paths = s.paths.items; slows = s.slows.items; crashes = s.crashes.items; leaves = s.leaves.items; cuts = s.cuts.items; gossip = s.gossip; stream = s.stream; pauses = s.pauses.items }
 
 abbrev pub setup_of : Inside → Setup
 setup_of s = setup_in s.contents

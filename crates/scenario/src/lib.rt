@@ -2,10 +2,14 @@
 #![tactic(auto)]
 
 mod division;
+pub mod laws;
+mod profile;
 mod scenario;
 mod settings;
 
 pub use division::{Division, DivisionFault, Workers};
 pub use scenario::{Contents, Scenario};
 pub use schema::Version;
-pub use settings::{Crash, Cut, Group, Leave, Lifeguard, Link, Path, Slow, Suspicion, Swim};
+pub use settings::{
+    Crash, Cut, Gossip, Group, Leave, Lifeguard, Link, Path, Pause, Slow, Stream, Suspicion, Swim,
+};

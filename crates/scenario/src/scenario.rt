@@ -1,11 +1,13 @@
-ghost use Rattle.std.specs.Prelude.{◌≡◌, ◌<◌, ◌≤◌, ◌^◌};
+ghost use Rattle.std.specs.Prelude.{◌≡◌, ◌<◌, ◌≤◌, ◌^◌, ℕ, true, false};
 ghost use Rattle.std.specs.Prelude.{string_bytes, map, filter, find, nat_eq, slice_get, option_map, option_and_then, option_copied, IfSome};
 ghost use Rattle.std.specs.List.{list_any};
 ghost use Rattle.std.specs.Option.{option_map_or};
 ghost use Rattle.scenario.specs.SetupOf.{group_of, setup_in};
-ghost use Rattle.scenario.specs.Setup.{member_count, member_names, name_of, group_at, leads, last_link, link_between, start_of, contact_of, crash_of, leave_of, is_slow, extra_of, cuts_off, is_cut, IsSound, IsSoundLink};
+ghost use Rattle.scenario.specs.Setup.{member_count, member_names, name_of, group_at, leads, last_link, link_between, start_of, contact_of, crash_of, leave_of, is_slow, extra_of, cuts_off, is_cut, is_in_pause, awake, IsSound, IsSoundLink};
 
-use crate::settings::{Crash, Cut, Group, Leave, Lifeguard, Link, Path, Slow, Suspicion, Swim};
+use crate::settings::{
+    Crash, Cut, Gossip, Group, Leave, Lifeguard, Link, Path, Pause, Slow, Stream, Suspicion, Swim,
+};
 use base::{MemberId, Moment};
 use schema::Version;
 use std::marker::Model;
@@ -31,6 +33,11 @@ pub struct Contents {
     pub crashes: Vec<Crash>,
     pub leaves: Vec<Leave>,
     pub cuts: Vec<Cut>,
+    /// How members gossip between their probes, where they do.
+    pub gossip: Option<Gossip>,
+    /// How streams send again what was lost.
+    pub stream: Stream,
+    pub pauses: Vec<Pause>,
     /// The names of all members, at their numbers.
     pub names: Vec<String>,
 }
@@ -72,7 +79,7 @@ impl Scenario {
         self.contents.version
     }
 
-    /// How many members there are: 1 to 1,024 in version 1, and to 4,096 in version 2.
+    /// How many members there are: 1 to 1,024 in version 1, and to 4,096 from version 2 on.
     pub fn members(&self) -> usize
         ensures count { result ≡ member_count self.now }
         ensures at_most_4096 { result ≤ 4096 }
@@ -252,6 +259,39 @@ impl Scenario {
         self.contents.cuts.as_slice()
     }
 
+    /// How members gossip between their probes; none where they don't, as in versions 1 and 2.
+    pub fn gossip(&self) -> Option<Gossip>
+        ensures value { result ≡ self.now.gossip }
+        ensures sound { IsSound self.now }
+    {
+        self.contents.gossip
+    }
+
+    /// How streams send again what was lost.
+    pub fn stream(&self) -> Stream
+        ensures value { result ≡ self.now.stream }
+        ensures sound { IsSound self.now }
+    {
+        self.contents.stream
+    }
+
+    /// When the member handles what comes for the moment: the first one, from that on, at which its
+    /// process isn't paused. Where it is later, it is the end of a pause.
+    pub fn awake(&self, member: MemberId, moment: Moment) -> Moment
+        requires { member < member_count self.now }
+        ensures value { result ≡ awake self.now member moment }
+        ensures later { moment ≤ result }
+        ensures small { moment ≤ 2 ^ 40 → result ≤ 2 ^ 40 }
+        ensures put_off { moment < result → result ≤ 2 ^ 40 }
+        ensures sound { IsSound self.now }
+    {
+        Moment(awake_at(
+            self.contents.pauses.as_slice(),
+            member.index(),
+            moment.ticks(),
+        ))
+    }
+
     /// The link of every pair of members whose groups no path names.
     pub fn link(&self) -> Link
         ensures value { result ≡ self.now.link }
@@ -351,6 +391,33 @@ fn cuts_off(cut: &Cut, from: usize, to: usize, at: u64) -> bool
     ensures { result ≡ cuts_off from to at cut.now }
 {
     cut.from == from && cut.to == to && cut.at.ticks() <= at && at < cut.until.ticks()
+}
+
+/// The first moment, from the given one on, at which the member isn't paused.
+fn awake_at(pauses: &[Pause], member: usize, moment: u64) -> u64
+    ensures later { moment ≤ result }
+    ensures before { (t : ℕ) → moment ≤ t → t < result → list_any (is_in_pause member t) pauses.now ≡ true }
+    ensures there { list_any (is_in_pause member result) pauses.now ≡ false }
+{
+    let mut at = moment;
+    while let Some(pause) = pause_at(pauses, member, at) {
+        at = pause.until.ticks();
+    }
+    at
+}
+
+/// The first pause in which the member is at the moment.
+fn pause_at(pauses: &[Pause], member: usize, at: u64) -> Option<&Pause>
+    ensures { option_copied result ≡ find (is_in_pause member at) pauses.now }
+{
+    pauses.iter().find(|pause| is_in_pause(pause, member, at))
+}
+
+/// Whether the member is in this pause at the moment.
+fn is_in_pause(pause: &Pause, member: usize, at: u64) -> bool
+    ensures { result ≡ is_in_pause member at pause.now }
+{
+    pause.member.index() == member && pause.from.ticks() <= at && at < pause.until.ticks()
 }
 
 /// The link of the last path from one group to another, else the link that is given.

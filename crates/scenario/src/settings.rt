@@ -15,6 +15,8 @@ pub struct Swim {
     pub lambda: u64,
     /// Members begin their first period within this many ticks of their start.
     pub spread: u64,
+    /// Whether a probe whose ping goes unanswered calls its target over a stream too (version 3).
+    pub fallback: bool,
 }
 
 /// How long a suspicion lasts (SWIM, section 4.2; Lifeguard's LHA-Suspicion).
@@ -65,6 +67,28 @@ pub struct Path {
     pub link: Link,
 }
 
+/// How members gossip between their probes (version 3). Times are in ticks.
+#[derive(Clone, Copy, Debug, PartialEq, Eq)]
+pub struct Gossip {
+    /// How long a member waits between two rounds of gossip.
+    pub interval: u64,
+    /// To how many members it gossips in one round, at most.
+    pub nodes: u64,
+    /// How long it goes on gossiping to a member that it holds to be dead; 0: not at all.
+    pub dead: u64,
+    /// How long it waits between two exchanges of the whole table; 0: there are none.
+    pub push: u64,
+}
+
+/// How a stream sends again what was lost (version 3). Times are in ticks.
+#[derive(Clone, Copy, Debug, PartialEq, Eq)]
+pub struct Stream {
+    /// How long the first try to open it waits; each further one waits twice as long.
+    pub connect: u64,
+    /// The same for what is sent over it.
+    pub again: u64,
+}
+
 /// Members of one name, told apart by an index.
 #[derive(Debug, Drop)]
 pub struct Group {
@@ -112,6 +136,16 @@ pub struct Cut {
     pub to: usize,
     /// The first moment at which the link is cut.
     pub at: Moment,
+    /// The first moment at which it no longer is.
+    pub until: Moment,
+}
+
+/// A time in which a member's process is paused: it handles no message and no timer (version 3).
+#[derive(Clone, Copy, Debug, PartialEq, Eq)]
+pub struct Pause {
+    pub member: MemberId,
+    /// The first moment at which the member is paused.
+    pub from: Moment,
     /// The first moment at which it no longer is.
     pub until: Moment,
 }

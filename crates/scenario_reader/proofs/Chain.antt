@@ -15,8 +15,8 @@ use Rattle.scenario.specs.declared.settings.Slow.{Slow}
 use Rattle.scenario.specs.declared.settings.Crash.{Crash}
 use Rattle.scenario.specs.declared.settings.Leave.{Leave}
 use Rattle.scenario.specs.Setup.{Setup, Group}
-use Rattle.scenario_reader.specs.Reading.{version_of, added_items, plain_groups, setup_of_tree}
-use Rattle.scenario_reader.specs.Rules.{any_two, is_same_member, overlaps, has_lost_contact, names_no_member, names_no_group, is_bad_contact, is_over, is_early, breaks_names, breaks_references, is_same_leaver, crashes_too, is_early_leave, is_cut_over, breaks_pairs, breaks_times, breaks_added_references, breaks_departures, breaks_added_times, breaks_size, least_broken, least_broken_by, judged_if_read, unless_broken, document_verdict, tree_of, verdict, KeepsValues}
+use Rattle.scenario_reader.specs.Reading.{version_of, added_items, pause_items, plain_groups, setup_of_tree}
+use Rattle.scenario_reader.specs.Rules.{any_two, is_same_member, overlaps, has_lost_contact, names_no_member, names_no_group, is_bad_contact, is_over, is_early, breaks_names, breaks_references, is_same_leaver, crashes_too, is_early_leave, is_cut_over, is_pause_over, breaks_pairs, breaks_times, breaks_added_references, breaks_departures, breaks_pauses, breaks_added_times, breaks_size, least_broken, least_broken_by, judged_if_read, unless_broken, document_verdict, tree_of, verdict, KeepsValues}
 
 -- where no rule on the tables is broken, the rules on the values decide
 pub values_least : (d : Data) → KeepsShape (version_of d) d → least_broken d ≡ least_broken_by d (setup_of_tree d)
@@ -54,31 +54,36 @@ module _ (d : Data) (s : Setup) where
           departures_least broken = rw (named, known, known_too, once, broken)
 
           module _ (once_too : breaks_departures s.crashes s.leaves ≡ false) where
-            pub times_least : breaks_times s ≡ true → least_broken_by d s ≡ Some 9
+            pub pauses_least : breaks_pauses s.pauses ≡ true → least_broken_by d s ≡ Some 8
             unfolding least_broken_by
-            times_least broken = rw (named, known, known_too, once, once_too, broken)
+            pauses_least broken = rw (named, known, known_too, once, once_too, broken)
 
-            module _ (timely : breaks_times s ≡ false) where
-              pub added_times_least : breaks_added_times s ≡ true → least_broken_by d s ≡ Some 9
+            module _ (apart : breaks_pauses s.pauses ≡ false) where
+              pub times_least : breaks_times s ≡ true → least_broken_by d s ≡ Some 9
               unfolding least_broken_by
-              added_times_least broken = rw (named, known, known_too, once, once_too, timely, broken)
+              times_least broken = rw (named, known, known_too, once, once_too, apart, broken)
 
-              pub size_least : breaks_added_times s ≡ false → breaks_size s ≡ true → least_broken_by d s ≡ Some 10
-              unfolding least_broken_by
-              size_least timely_too broken = rw (named, known, known_too, once, once_too, timely, timely_too, broken)
+              module _ (timely : breaks_times s ≡ false) where
+                pub added_times_least : breaks_added_times s ≡ true → least_broken_by d s ≡ Some 9
+                unfolding least_broken_by
+                added_times_least broken = rw (named, known, known_too, once, once_too, apart, timely, broken)
+
+                pub size_least : breaks_added_times s ≡ false → breaks_size s ≡ true → least_broken_by d s ≡ Some 10
+                unfolding least_broken_by
+                size_least timely_too broken = rw (named, known, known_too, once, once_too, apart, timely, timely_too, broken)
 
 pub version_is : (d : Data) → (setup_of_tree d).version ≡ version_of d
 unfolding setup_of_tree
 version_is d = refl
 
 nothing_by : (d : Data) (s : Setup) → breaks_names (plain_groups d) ≡ false → breaks_references d (plain_groups d) ≡ false → breaks_added_references s.version d (plain_groups d) ≡ false
-    → breaks_pairs s.crashes s.slows ≡ false → breaks_departures s.crashes s.leaves ≡ false → breaks_times s ≡ false → breaks_added_times s ≡ false → breaks_size s ≡ false → least_broken_by d s ≡ None
+    → breaks_pairs s.crashes s.slows ≡ false → breaks_departures s.crashes s.leaves ≡ false → breaks_pauses s.pauses ≡ false → breaks_times s ≡ false → breaks_added_times s ≡ false → breaks_size s ≡ false → least_broken_by d s ≡ None
 unfolding least_broken_by
-nothing_by d s a b e f g h i j = rw (a, b, e, f, g, h, i, j)
+nothing_by d s a b e f g p h i j = rw (a, b, e, f, g, p, h, i, j)
 
 pub nothing_broken : (d : Data) → KeepsValues d → least_broken_by d (setup_of_tree d) ≡ None
 nothing_broken d k =
-    nothing_by d (setup_of_tree d) k.names k.references (ap (λ v. breaks_added_references v d (plain_groups d)) (version_is d) ∙ k.added_references) k.pairs k.departures k.times k.added_times k.size
+    nothing_by d (setup_of_tree d) k.names k.references (ap (λ v. breaks_added_references v d (plain_groups d)) (version_is d) ∙ k.added_references) k.pairs k.departures k.pauses k.times k.added_times k.size
 
 -- the four kinds of references
 module _ (d : Data) (gs : List Group) where
@@ -129,17 +134,22 @@ module _ (s : Setup) where
   unfolding breaks_times
   early_crash r a b e f = rw (a, b, e, f)
 
--- the two kinds of references that version 2 adds
+-- the three kinds of references that versions 2 and 3 add
 module _ (v : Version) (d : Data) (gs : List Group) where
   pub lost_leave : list_any (names_no_member gs) (added_items v key.Leave d) ≡ true → breaks_added_references v d gs ≡ true
   unfolding breaks_added_references
   lost_leave broken = rw broken
 
-  pub lost_cut : (r : Bool) → list_any (names_no_member gs) (added_items v key.Leave d) ≡ false → list_any (names_no_group gs) (added_items v key.Cut d) ≡ r → breaks_added_references v d gs ≡ r
+  pub lost_cut : list_any (names_no_member gs) (added_items v key.Leave d) ≡ false → list_any (names_no_group gs) (added_items v key.Cut d) ≡ true → breaks_added_references v d gs ≡ true
   unfolding breaks_added_references
-  lost_cut r a b = rw (a, b)
+  lost_cut a broken = rw (a, broken)
 
--- its two kinds of pairs
+  pub lost_pause : (r : Bool) → list_any (names_no_member gs) (added_items v key.Leave d) ≡ false → list_any (names_no_group gs) (added_items v key.Cut d) ≡ false
+      → list_any (names_no_member gs) (pause_items v d) ≡ r → breaks_added_references v d gs ≡ r
+  unfolding breaks_added_references
+  lost_pause r a b e = rw (a, b, e)
+
+-- two of the kinds of pairs
 module _ (crashes : List Crash) (leaves : List Leave) where
   pub leave_pairs : any_two is_same_leaver leaves ≡ true → breaks_departures crashes leaves ≡ true
   unfolding breaks_departures
@@ -149,15 +159,19 @@ module _ (crashes : List Crash) (leaves : List Leave) where
   unfolding breaks_departures
   crash_and_leave r a b = rw (a, b)
 
--- its two kinds of moments
+-- the three kinds of moments
 module _ (s : Setup) where
   pub early_leave : list_any (is_early_leave s) s.leaves ≡ true → breaks_added_times s ≡ true
   unfolding breaks_added_times
   early_leave broken = rw broken
 
-  pub cut_over : (r : Bool) → list_any (is_early_leave s) s.leaves ≡ false → list_any is_cut_over s.cuts ≡ r → breaks_added_times s ≡ r
+  pub cut_over : list_any (is_early_leave s) s.leaves ≡ false → list_any is_cut_over s.cuts ≡ true → breaks_added_times s ≡ true
   unfolding breaks_added_times
-  cut_over r a b = rw (a, b)
+  cut_over a broken = rw (a, broken)
+
+  pub pause_over : (r : Bool) → list_any (is_early_leave s) s.leaves ≡ false → list_any is_cut_over s.cuts ≡ false → list_any is_pause_over s.pauses ≡ r → breaks_added_times s ≡ r
+  unfolding breaks_added_times
+  pause_over r a b e = rw (a, b, e)
 
 -- the document of bytes that `toml` read
 pub has_tree : (bytes : List ℕ) (ms : Members) → IsUtf8 bytes → parse_document bytes ≡ Some ms → tree_of bytes ≡ Some (table ms)

@@ -23,6 +23,9 @@ use Rattle.scenario.specs.declared.settings.Slow.{Slow}
 use Rattle.scenario.specs.declared.settings.Crash.{Crash}
 use Rattle.scenario.specs.declared.settings.Leave.{Leave}
 use Rattle.scenario.specs.declared.settings.Cut.{Cut}
+use Rattle.scenario.specs.declared.settings.Gossip.{Gossip}
+use Rattle.scenario.specs.declared.settings.Stream.{Stream}
+use Rattle.scenario.specs.declared.settings.Pause.{Pause}
 use Rattle.scenario_reader.specs.Roster.{named_group, AreNumberedFrom}
 use Rattle.scenario_reader.specs.declared.roster.Block.{Block}
 use Rattle.scenario.specs.GroupNames.{is_group_name}
@@ -128,7 +131,8 @@ pub total_of : {V : Type 0} (group : V → Group) (vs : List V) (gs : List Group
 total_of group vs gs same = ap (sum_by (λ (g : Group). g.count)) (sym same) ∙ fold-map (λ (n : ℕ) (g : Group). n + g.count) group 0 vs
 
 -- a scenario is its fields
-pub same_setup : (s : Setup) (version : Version) (seed end : ℕ) (swim : Swim) (suspicion : Suspicion) (lifeguard : Lifeguard) (link : Link) (groups : List Group) (paths : List Path) (slows : List Slow) (crashes : List Crash) (leaves : List Leave) (cuts : List Cut)
+pub same_setup : (s : Setup) (version : Version) (seed end : ℕ) (swim : Swim) (suspicion : Suspicion) (lifeguard : Lifeguard) (link : Link) (groups : List Group) (paths : List Path) (slows : List Slow) (crashes : List Crash) (leaves : List Leave) (cuts : List Cut) (gossip : Option Gossip) (stream : Stream) (pauses : List Pause)
     → version ≡ s.version → seed ≡ s.seed → end ≡ s.end → swim ≡ s.swim → suspicion ≡ s.suspicion → lifeguard ≡ s.lifeguard → link ≡ s.link → groups ≡ s.groups → paths ≡ s.paths → slows ≡ s.slows → crashes ≡ s.crashes → leaves ≡ s.leaves → cuts ≡ s.cuts
-    → record { version = version; seed = seed; end = end; swim = swim; suspicion = suspicion; lifeguard = lifeguard; link = link; groups = groups; paths = paths; slows = slows; crashes = crashes; leaves = leaves; cuts = cuts } ≡ s
-same_setup s version seed end swim suspicion lifeguard link groups paths slows crashes leaves cuts v a b c d e f g h i j k l = rw (v, a, b, c, d, e, f, g, h, i, j, k, l)
+    → gossip ≡ s.gossip → stream ≡ s.stream → pauses ≡ s.pauses
+    → record { version = version; seed = seed; end = end; swim = swim; suspicion = suspicion; lifeguard = lifeguard; link = link; groups = groups; paths = paths; slows = slows; crashes = crashes; leaves = leaves; cuts = cuts; gossip = gossip; stream = stream; pauses = pauses } ≡ s
+same_setup s version seed end swim suspicion lifeguard link groups paths slows crashes leaves cuts gossip stream pauses v a b c d e f g h i j k l m n o = rw (v, a, b, c, d, e, f, g, h, i, j, k, l, m, n, o)

@@ -8,10 +8,11 @@ use Rattle.toml.specs.Data.{Data}
 use Rattle.schema.specs.Tree.{items_at}
 use Rattle.schema.specs.Values.{text_at}
 use Rattle.schema.specs.declared.schema.FormatKey.TheVariants as key
+use Rattle.schema.specs.declared.schema.Section.TheVariants as section
 use Rattle.schema.proofs.Trees.{any-map}
 use Rattle.scenario.specs.Setup.{Setup, Group, start_of}
-use Rattle.scenario_reader.specs.Reading.{version_of, added_items, plain_group, plain_groups, group_in, slow_in, crash_in, leave_in, cut_in, member_named, setup_of_tree}
-use Rattle.scenario_reader.specs.Rules.{names_no_member, breaks_references, breaks_added_references, is_bad_contact, is_over, is_early, is_early_leave, is_cut_over}
+use Rattle.scenario_reader.specs.Reading.{version_of, added_items, pause_items, plain_group, plain_groups, group_in, slow_in, crash_in, leave_in, cut_in, pause_in, member_named, setup_of_tree}
+use Rattle.scenario_reader.specs.Rules.{names_no_member, breaks_references, breaks_added_references, is_bad_contact, is_over, is_early, is_early_leave, is_cut_over, is_pause_over}
 use Rattle.scenario_reader.specs.Roster.{start_in}
 use Rattle.scenario_reader.specs.Times.{is_bad_contact_in, is_over_in, is_early_in, is_cut_over_in}
 use Rattle.scenario_reader.proofs.Trees.{any_same}
@@ -52,7 +53,7 @@ module _ (tree : Data) where
       (λ d. option_same (λ c. nat_eq (group_in gs d).start 0 || nat_lt 0 (start_of s c)) (λ c. nat_eq (group_in gs d).start 0 || nat_lt 0 (start_in gs c))
       (λ c. ap (λ n. nat_eq (group_in gs d).start 0 || nat_lt 0 n) (starts_are tree c)) (group_in gs d).contact) (items_at key.Group tree)
 
-  pub overs_same : list_any is_over (setup_of_tree tree).slows ≡ list_any is_over_in (items_at key.Slow tree)
+  pub overs_same : list_any is_over (setup_of_tree tree).slows ≡ list_any (is_over_in section.Slow) (items_at key.Slow tree)
   unfolding setup_of_tree
   overs_same = any-map is_over (slow_in (plain_groups tree)) (items_at key.Slow tree)
 
@@ -88,3 +89,7 @@ early_leaves_same tree known =
 pub cuts_over_same : (tree : Data) → list_any is_cut_over (setup_of_tree tree).cuts ≡ list_any is_cut_over_in (added_items (version_of tree) key.Cut tree)
 unfolding setup_of_tree
 cuts_over_same tree = any-map is_cut_over (cut_in (plain_groups tree)) (added_items (version_of tree) key.Cut tree)
+
+pub pauses_over_same : (tree : Data) → list_any is_pause_over (setup_of_tree tree).pauses ≡ list_any (is_over_in section.Pause) (pause_items (version_of tree) tree)
+unfolding setup_of_tree
+pauses_over_same tree = any-map is_pause_over (pause_in (plain_groups tree)) (pause_items (version_of tree) tree)

@@ -14,7 +14,7 @@ use Rattle.schema.specs.Values.{default_of, whole_or, number_at, text_if}
 use Rattle.schema.specs.Shape.{is_over_0, is_refused, is_absent, is_missing, is_other_kind, is_outside, has_fault, table_breaks, breaks, KeepsShape}
 use Rattle.schema.proofs.Trees.{any-flat_map}
 use Rattle.schema.specs.declared.schema.Version.{Version}
-use Rattle.schema.specs.declared.schema.Version.TheVariants.{One, Two}
+use Rattle.schema.specs.declared.schema.Version.TheVariants.{One, Two, Three}
 use Rattle.schema.specs.declared.schema.KeyRule.{KeyRule}
 use Rattle.schema.specs.declared.schema.FormatKey.{FormatKey}
 use Rattle.schema.specs.declared.schema.FormatKey.TheVariants as key
@@ -26,11 +26,11 @@ use Rattle.schema.specs.declared.schema.Absence.TheVariants.{Refused, RefusedOve
 use Rattle.schema.specs.declared.shape.Check.{Check}
 use Rattle.schema.specs.declared.shape.Check.TheVariants.{Missing, WrongKind, OutOfRange}
 use Rattle.scenario.specs.GroupNames.{is_group_name}
-use Rattle.scenario.specs.Setup.{Setup, Group, IsSound, IsSoundLink, leads, group_at, last_link, member_count, start_of, is_slow}
-use Rattle.scenario_reader.specs.Reading.{plain_group, plain_groups, names_of_all, member_named, group_in, swim_in, suspicion_in, lifeguard_in, link_in, link_over, path_in, slow_in, crash_in, leave_in, cut_in, version_of, added_items, setup_of_tree}
-use Rattle.scenario_reader.specs.Rules.{has_lost_contact, is_bad_contact, is_early, is_over, any_two, is_same_leaver, crashes_too, is_early_leave, is_cut_over, breaks_names, breaks_references, breaks_times, breaks_departures, breaks_added_times, KeepsValues}
+use Rattle.scenario.specs.Setup.{Setup, Group, IsSound, IsSoundLink, IsSoundGossip, leads, group_at, last_link, member_count, start_of, is_slow}
+use Rattle.scenario_reader.specs.Reading.{plain_group, plain_groups, names_of_all, member_named, group_in, swim_in, suspicion_in, lifeguard_in, link_in, link_over, path_in, slow_in, crash_in, leave_in, cut_in, pause_in, gossip_of, gossip_in, stream_in, stream_table, version_of, added_items, pause_items, setup_of_tree}
+use Rattle.scenario_reader.specs.Rules.{has_lost_contact, is_bad_contact, is_early, is_over, any_two, is_same_leaver, crashes_too, is_early_leave, is_cut_over, is_pause_over, breaks_names, breaks_references, breaks_times, breaks_departures, breaks_added_times, KeepsValues}
 use Rattle.scenario_reader.proofs.Find.{length-names_of_all}
-use Rattle.scenario_reader.proofs.First.{plain_of}
+use Rattle.scenario_reader.proofs.First.{plain_of, without_third}
 use Rattle.scenario.proofs.Members.{most_of_all}
 use Rattle.scenario.specs.declared.settings.Swim.{Swim}
 use Rattle.scenario.specs.declared.settings.Suspicion.{Suspicion}
@@ -41,6 +41,8 @@ use Rattle.scenario.specs.declared.settings.Slow.{Slow}
 use Rattle.scenario.specs.declared.settings.Crash.{Crash}
 use Rattle.scenario.specs.declared.settings.Leave.{Leave}
 use Rattle.scenario.specs.declared.settings.Cut.{Cut}
+use Rattle.scenario.specs.declared.settings.Stream.{Stream}
+use Rattle.scenario.specs.declared.settings.Pause.{Pause}
 
 neither : (a b : Bool) → (a || b) ≡ false → (a ≡ false) × (b ≡ false)
 neither true b e = absurd (false≢true (sym e))
@@ -231,7 +233,7 @@ record LifeguardSound (s : Lifeguard) : Type 0 where
   nack_percent : Within 1 100 s.nack_percent
 
 -- the numbers of the scenario
-swim_sound : (v : Version) (o : Option Data) (d : Data) → o ≡ Some d → ((e : Data) → o ≡ Some e → Keeps v section.Swim e) → SwimSound (swim_in o)
+swim_sound : (v : Version) (o : Option Data) (d : Data) → o ≡ Some d → ((e : Data) → o ≡ Some e → Keeps v section.Swim e) → SwimSound (swim_in v o)
 unfolding key_rules_of spelling_of
 swim_sound v o d at kept = record {
   period = (required v section.Swim 0 key.Period 2 0x100_0000 (λ _. refl) o d at (kept d at)).1;
@@ -240,6 +242,43 @@ swim_sound v o d at kept = record {
   carry = optional v section.Swim 3 key.Carry 6 1 64 (λ _. refl) (omega arith, omega arith) o kept;
   lambda = optional v section.Swim 4 key.Lambda 3 1 100 (λ _. refl) (omega arith, omega arith) o kept;
   spread = optional v section.Swim 5 key.Spread 1 1 0x100_0000 (λ _. refl) (omega arith, omega arith) o kept;
+}
+
+-- how members gossip and how streams send again, where the version has their tables
+gossip_one : (v : Version) (d : Data) → Keeps v section.Gossip d → IsSoundGossip (gossip_of d)
+unfolding key_rules_of spelling_of
+gossip_one v d kept = record {
+  interval = required v section.Gossip 0 key.Interval 1 0x100_0000 (λ _. refl) (Some d) d refl kept;
+  nodes = number_kept v section.Gossip 1 key.Nodes (Default 3) 1 16 (λ _. refl) d (λ _. (omega arith, omega arith)) kept;
+  dead = (number_kept v section.Gossip 2 key.Dead (Default 0) 0 0x100_0000_0000 (λ _. refl) d (λ _. (omega arith, omega arith)) kept).1;
+  push = (number_kept v section.Gossip 3 key.Push (Default 0) 0 0x100_0000 (λ _. refl) d (λ _. (omega arith, omega arith)) kept).1;
+}
+
+gossip_if : (v : Version) (o : Option Data) → ((d : Data) → o ≡ Some d → Keeps v section.Gossip d) → IfSome (option_map gossip_of o) IsSoundGossip
+gossip_if v None kept = tt
+gossip_if v (Some d) kept = gossip_one v d (kept d refl)
+
+gossip_sound : (v : Version) (tree : Data) → AllKept v tree → IfSome (gossip_in v (value_at key.Gossip tree)) IsSoundGossip
+unfolding key_rules_of
+gossip_sound One tree kept = tt
+gossip_sound Two tree kept = tt
+gossip_sound Three tree kept = gossip_if Three (value_at key.Gossip tree) (table_kept Three tree 13 key.Gossip Optional section.Gossip (λ _. refl) kept)
+
+stream_kept : (v : Version) (tree : Data) → AllKept v tree → (d : Data) → stream_table v tree ≡ Some d → Keeps v section.Stream d
+unfolding key_rules_of
+stream_kept One tree kept d at = absurd (let no : None ≡ Some d = at in cc)
+stream_kept Two tree kept d at = absurd (let no : None ≡ Some d = at in cc)
+stream_kept Three tree kept d at = table_kept Three tree 14 key.Stream Optional section.Stream (λ _. refl) kept d at
+
+record StreamSound (s : Stream) : Type 0 where
+  connect : Within 1 0x100_0000 s.connect
+  again : Within 1 0x100_0000 s.again
+
+stream_sound : (v : Version) (o : Option Data) → ((d : Data) → o ≡ Some d → Keeps v section.Stream d) → StreamSound (stream_in o)
+unfolding key_rules_of spelling_of
+stream_sound v o kept = record {
+  connect = optional v section.Stream 0 key.Connect 1000 1 0x100_0000 (λ _. refl) (omega arith, omega arith) o kept;
+  again = optional v section.Stream 1 key.Again 200 1 0x100_0000 (λ _. refl) (omega arith, omega arith) o kept;
 }
 
 suspicion_sound : (v : Version) (o : Option Data) → ((d : Data) → o ≡ Some d → Keeps v section.Suspicion d) → SuspicionSound (suspicion_in o)
@@ -371,7 +410,7 @@ module _ {A : Type 0} (member at : A → ℕ) (s : Setup) where
       let small : at x ≤ 2 ^ 40 = omega (arith, at_is d, at_kept v d kept.0) in
       departure_step m (nat_eq (member x) m) x (find (λ y. nat_eq (member y) m) (map read ds)) refl parts.0 small (departures_sound v read at_is m ds kept.1 parts.1)
 
--- the lists that version 2 adds
+-- the lists that versions 2 and 3 add
 leaves_kept : (v : Version) (tree : Data) → KeepsShape v tree → AllByRecursion (Keeps v section.Departure) (added_items v key.Leave tree)
 unfolding key_rules_of
 leaves_kept One tree shape = tt
@@ -379,6 +418,10 @@ leaves_kept Two tree shape =
     let row = list_row key.Leave Optional section.Departure in
     items_kept Two section.Departure (value_at key.Leave tree) (below_kept Two tree Missing 12 row (λ _. refl) shape.missing) (below_kept Two tree WrongKind 12 row (λ _. refl) shape.kinds)
     (below_kept Two tree OutOfRange 12 row (λ _. refl) shape.ranges)
+leaves_kept Three tree shape =
+    let row = list_row key.Leave Optional section.Departure in
+    items_kept Three section.Departure (value_at key.Leave tree) (below_kept Three tree Missing 12 row (λ _. refl) shape.missing) (below_kept Three tree WrongKind 12 row (λ _. refl) shape.kinds)
+    (below_kept Three tree OutOfRange 12 row (λ _. refl) shape.ranges)
 
 cuts_kept : (v : Version) (tree : Data) → KeepsShape v tree → AllByRecursion (Keeps v section.Cut) (added_items v key.Cut tree)
 unfolding key_rules_of
@@ -387,6 +430,19 @@ cuts_kept Two tree shape =
     let row = list_row key.Cut Optional section.Cut in
     items_kept Two section.Cut (value_at key.Cut tree) (below_kept Two tree Missing 11 row (λ _. refl) shape.missing) (below_kept Two tree WrongKind 11 row (λ _. refl) shape.kinds)
     (below_kept Two tree OutOfRange 11 row (λ _. refl) shape.ranges)
+cuts_kept Three tree shape =
+    let row = list_row key.Cut Optional section.Cut in
+    items_kept Three section.Cut (value_at key.Cut tree) (below_kept Three tree Missing 11 row (λ _. refl) shape.missing) (below_kept Three tree WrongKind 11 row (λ _. refl) shape.kinds)
+    (below_kept Three tree OutOfRange 11 row (λ _. refl) shape.ranges)
+
+pauses_kept : (v : Version) (tree : Data) → KeepsShape v tree → AllByRecursion (Keeps v section.Pause) (pause_items v tree)
+unfolding key_rules_of
+pauses_kept One tree shape = tt
+pauses_kept Two tree shape = tt
+pauses_kept Three tree shape =
+    let row = list_row key.Pause Optional section.Pause in
+    items_kept Three section.Pause (value_at key.Pause tree) (below_kept Three tree Missing 15 row (λ _. refl) shape.missing) (below_kept Three tree WrongKind 15 row (λ _. refl) shape.kinds)
+    (below_kept Three tree OutOfRange 15 row (λ _. refl) shape.ranges)
 
 until_kept : (v : Version) (d : Data) → Keeps v section.Cut d → number_at section.Cut key.Until (Some d) ≤ 2 ^ 40
 unfolding key_rules_of
@@ -399,6 +455,18 @@ cuts_sound v gs (d ∷ ds) kept lasting =
     let c = cut_in gs d in
     let parts = neither (is_cut_over c) (list_any is_cut_over (map (cut_in gs) ds)) lasting in
     ((leb-false c.until c.at parts.0, until_kept v d kept.0), cuts_sound v gs ds kept.1 parts.1)
+
+pause_end_kept : (v : Version) (d : Data) → Keeps v section.Pause d → number_at section.Pause key.Until (Some d) ≤ 2 ^ 40
+unfolding key_rules_of
+pause_end_kept v d kept = (required v section.Pause 2 key.Until 0 0x100_0000_0000 (λ _. refl) (Some d) d refl kept).1
+
+pauses_sound : (v : Version) (gs : List Group) (ds : List Data) → AllByRecursion (Keeps v section.Pause) ds → list_any is_pause_over (map (pause_in gs) ds) ≡ false
+    → AllByRecursion (λ (p : Pause). (p.from < p.until) × (p.until ≤ 2 ^ 40)) (map (pause_in gs) ds)
+pauses_sound v gs [] kept lasting = tt
+pauses_sound v gs (d ∷ ds) kept lasting =
+    let p = pause_in gs d in
+    let parts = neither (is_pause_over p) (list_any is_pause_over (map (pause_in gs) ds)) lasting in
+    ((leb-false p.until p.from parts.0, pause_end_kept v d kept.0), pauses_sound v gs ds kept.1 parts.1)
 
 -- nobody crashes and leaves
 none_of : (m : ℕ) (cs : List Crash) → list_any (λ (c : Crash). nat_eq c.member m) cs ≡ false → find (λ (c : Crash). nat_eq c.member m) cs ≡ None
@@ -552,10 +620,11 @@ sound_of tree shape values =
     let swim_there = table_there section.Swim (value_at key.Swim tree) (absent 3) in
     let link_there = table_there section.Link (value_at key.Link tree) (absent 6) in
     let group = list_there section.Group (value_at key.Group tree) (absent 7) (each_false (has_fault is_other_kind tree) 7 (key_rules_of v section.Top) top.kinds) in
-    let swim : SwimSound (swim_in (value_at key.Swim tree)) = swim_sound v _ swim_there.0 swim_there.1 (table_kept v tree 3 key.Swim Refused section.Swim (λ _. refl) kept) in
+    let swim : SwimSound (swim_in v (value_at key.Swim tree)) = swim_sound v _ swim_there.0 swim_there.1 (table_kept v tree 3 key.Swim Refused section.Swim (λ _. refl) kept) in
     let suspicion : SuspicionSound (suspicion_in (value_at key.Suspicion tree)) = suspicion_sound v _ (table_kept v tree 4 key.Suspicion Optional section.Suspicion (λ _. refl) kept) in
     let lifeguard : LifeguardSound (lifeguard_in (value_at key.Lifeguard tree)) = lifeguard_sound v _ (table_kept v tree 5 key.Lifeguard Optional section.Lifeguard (λ _. refl) kept) in
     let link : IsSoundLink (link_in (value_at key.Link tree)) = link_sound v _ link_there.0 link_there.1 (table_kept v tree 6 key.Link Refused section.Link (λ _. refl) kept) in
+    let stream : StreamSound (stream_in (stream_table v tree)) = stream_sound v (stream_table v tree) (stream_kept v tree kept) in
     let first : 0 < number_at section.Group key.Count (Some group.0) = count_sound v group.0 (first_kept v tree 7 key.Group Refused section.Group (λ _. refl) kept group.0 group.1 group.2) in
     let below : (i : ℕ) (k : FormatKey) (a : Absence) (s : Section) → IsRow v section.Top i (list_row k a s) → AllByRecursion (Keeps v s) (items_at k tree) =
     λ i k a s is. items_kept v s (value_at k tree) (below_kept v tree Missing i (list_row k a s) is shape.missing) (below_kept v tree WrongKind i (list_row k a s) is shape.kinds)
@@ -572,7 +641,8 @@ sound_of tree shape values =
     let allowed = ltb-false (most_members v) (member_count s) values.size in
     let few : member_count s ≤ 4096 = omega (arith, allowed, most_of_all v) in
     let apart = neither (any_two is_same_leaver s.leaves) (list_any (crashes_too s.crashes) s.leaves) values.departures in
-    let lasting = neither (list_any (is_early_leave s) s.leaves) (list_any is_cut_over s.cuts) values.added_times in
+    let lasting = neither (list_any (is_early_leave s) s.leaves) (list_any is_cut_over s.cuts || list_any is_pause_over s.pauses) values.added_times in
+    let over = neither (list_any is_cut_over s.cuts) (list_any is_pause_over s.pauses) lasting.1 in
     record {
       end = end_sound v tree top;
       period = swim.period;
@@ -605,6 +675,11 @@ sound_of tree shape values =
       extras = λ m t. extras_sound v gs (is_slow m t) (items_at key.Slow tree) (below 9 key.Slow Optional section.Slow (λ _. refl));
       leaves = λ m. departures_sound (λ (l : Leave). l.member) (λ (l : Leave). l.at) s v (leave_in gs) (λ _. refl) m (added_items v key.Leave tree) (leaves_kept v tree shape) lasting.0;
       once = λ m. once_of m s.crashes s.leaves apart.1;
-      cuts = cuts_sound v gs (added_items v key.Cut tree) (cuts_kept v tree shape) lasting.1;
+      cuts = cuts_sound v gs (added_items v key.Cut tree) (cuts_kept v tree shape) over.0;
       first = λ one. (plain_of tree one, ltb-false 1024 (member_count s) (ap (λ w. nat_lt (most_members w) (member_count s)) (sym one) ∙ values.size));
+      gossip = gossip_sound v tree kept;
+      connect = stream.connect;
+      again = stream.again;
+      pauses = pauses_sound v gs (pause_items v tree) (pauses_kept v tree shape) over.1;
+      before_third = without_third tree;
     }

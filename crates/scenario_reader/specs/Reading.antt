@@ -1,11 +1,11 @@
 -- The scenario that a TOML document says, key by key, with the format's defaults.
-use Rattle.std.specs.Prelude.{ℕ, List, [], if◌then◌else◌, nat_eq, Option, Some, None, map, flat_map, unwrap_or, option_and_then, bytes_eq}
+use Rattle.std.specs.Prelude.{ℕ, Bool, false, List, [], if◌then◌else◌, nat_eq, Option, Some, None, map, option_map, flat_map, unwrap_or, option_and_then, bytes_eq}
 use Rattle.std.specs.List.{position}
 use Rattle.toml.specs.Data.{Data}
 use Rattle.schema.specs.Tree.{value_at, items_at}
-use Rattle.schema.specs.Values.{whole_or, number_at, switch_at, text_if, text_at}
+use Rattle.schema.specs.Values.{whole_or, number_at, switch_at, switch_set, text_if, text_at}
 use Rattle.schema.specs.declared.schema.Version.{Version}
-use Rattle.schema.specs.declared.schema.Version.TheVariants.{One, Two}
+use Rattle.schema.specs.declared.schema.Version.TheVariants.{One, Two, Three}
 use Rattle.schema.specs.declared.schema.FormatKey.{FormatKey}
 use Rattle.schema.specs.declared.schema.FormatKey.TheVariants as key
 use Rattle.schema.specs.declared.schema.Section.TheVariants as section
@@ -19,15 +19,29 @@ use Rattle.scenario.specs.declared.settings.Slow.{Slow}
 use Rattle.scenario.specs.declared.settings.Crash.{Crash}
 use Rattle.scenario.specs.declared.settings.Leave.{Leave}
 use Rattle.scenario.specs.declared.settings.Cut.{Cut}
+use Rattle.scenario.specs.declared.settings.Gossip.{Gossip}
+use Rattle.scenario.specs.declared.settings.Stream.{Stream}
+use Rattle.scenario.specs.declared.settings.Pause.{Pause}
 
--- version 2 where the document's `version` is that whole number, else version 1
+-- the version of that number, 2 or 3, else version 1
+abbrev pub version_numbered : ℕ → Version
+version_numbered n = if nat_eq n 2 then Two else if nat_eq n 3 then Three else One
+
+-- version 2 or 3 where the document's `version` is that whole number, else version 1
 unfoldable pub version_of : Data → Version
-version_of tree = if nat_eq (whole_or 0 (value_at key.Version tree)) 2 then Two else One
+version_of tree = version_numbered (whole_or 0 (value_at key.Version tree))
 
 -- the items of a list that version 2 adds
 abbrev pub added_items : Version → FormatKey → Data → List Data
 added_items One key tree = []
 added_items Two key tree = items_at key tree
+added_items Three key tree = items_at key tree
+
+-- the pauses, which version 3 adds
+abbrev pub pause_items : Version → Data → List Data
+pause_items One tree = []
+pause_items Two tree = []
+pause_items Three tree = items_at key.Pause tree
 
 -- one item of the list of groups, its contact left out
 abbrev pub plain_group : Data → Group
@@ -109,6 +123,14 @@ cut_in groups d = record {
   until = number_at section.Cut key.Until (Some d);
 }
 
+-- one item of the list of pauses
+abbrev pub pause_in : List Group → Data → Pause
+pause_in groups d = record {
+  member = member_at groups key.Member d;
+  from = number_at section.Pause key.From (Some d);
+  until = number_at section.Pause key.Until (Some d);
+}
+
 abbrev pub slows_in : List Group → Data → List Slow
 slows_in groups tree = map (slow_in groups) (items_at key.Slow tree)
 
@@ -121,15 +143,25 @@ leaves_in v groups tree = map (leave_in groups) (added_items v key.Leave tree)
 abbrev pub cuts_in : Version → List Group → Data → List Cut
 cuts_in v groups tree = map (cut_in groups) (added_items v key.Cut tree)
 
+abbrev pub pauses_in : Version → List Group → Data → List Pause
+pauses_in v groups tree = map (pause_in groups) (pause_items v tree)
+
+-- whether a stream takes over where a ping goes unanswered; never before version 3
+abbrev pub fallback_in : Version → Option Data → Bool
+fallback_in One d = false
+fallback_in Two d = false
+fallback_in Three d = switch_set key.Fallback d
+
 -- how members probe and gossip
-abbrev pub swim_in : Option Data → Swim
-swim_in d = record {
+abbrev pub swim_in : Version → Option Data → Swim
+swim_in v d = record {
   period = number_at section.Swim key.Period d;
   timeout = number_at section.Swim key.Timeout d;
   helpers = number_at section.Swim key.Helpers d;
   carry = number_at section.Swim key.Carry d;
   lambda = number_at section.Swim key.Lambda d;
   spread = number_at section.Swim key.Spread d;
+  fallback = fallback_in v d;
 }
 
 -- how long suspicions last
@@ -151,13 +183,38 @@ lifeguard_in d = record {
 abbrev pub link_in : Option Data → Link
 link_in d = record { delay = number_at section.Link key.Delay d; jitter = number_at section.Link key.Jitter d; loss = number_at section.Link key.Loss d }
 
+-- how members gossip between their probes
+abbrev pub gossip_of : Data → Gossip
+gossip_of d = record {
+  interval = number_at section.Gossip key.Interval (Some d);
+  nodes = number_at section.Gossip key.Nodes (Some d);
+  dead = number_at section.Gossip key.Dead (Some d);
+  push = number_at section.Gossip key.Push (Some d);
+}
+
+-- the same, where they do; never before version 3
+abbrev pub gossip_in : Version → Option Data → Option Gossip
+gossip_in One d = None
+gossip_in Two d = None
+gossip_in Three d = option_map gossip_of d
+
+-- how streams send again
+abbrev pub stream_in : Option Data → Stream
+stream_in d = record { connect = number_at section.Stream key.Connect d; again = number_at section.Stream key.Again d }
+
+-- the table of streams, which version 3 adds
+abbrev pub stream_table : Version → Data → Option Data
+stream_table One tree = None
+stream_table Two tree = None
+stream_table Three tree = value_at key.Stream tree
+
 -- the scenario of a document
 unfoldable pub setup_of_tree : Data → Setup
 setup_of_tree tree = record {
   version = version_of tree;
   seed = number_at section.Top key.Seed (Some tree);
   end = number_at section.Top key.End (Some tree);
-  swim = swim_in (value_at key.Swim tree);
+  swim = swim_in (version_of tree) (value_at key.Swim tree);
   suspicion = suspicion_in (value_at key.Suspicion tree);
   lifeguard = lifeguard_in (value_at key.Lifeguard tree);
   link = link_in (value_at key.Link tree);
@@ -167,4 +224,7 @@ setup_of_tree tree = record {
   crashes = crashes_in (plain_groups tree) tree;
   leaves = leaves_in (version_of tree) (plain_groups tree) tree;
   cuts = cuts_in (version_of tree) (plain_groups tree) tree;
+  gossip = gossip_in (version_of tree) (value_at key.Gossip tree);
+  stream = stream_in (stream_table (version_of tree) tree);
+  pauses = pauses_in (version_of tree) (plain_groups tree) tree;
 }

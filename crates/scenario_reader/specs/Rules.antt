@@ -10,15 +10,16 @@ use Rattle.schema.specs.Tree.{items_at}
 use Rattle.schema.specs.Values.{text_if, text_at}
 use Rattle.schema.specs.Shape.{least_broken_of_shape}
 use Rattle.schema.specs.declared.schema.Version.{Version}
-use Rattle.schema.specs.declared.schema.Version.TheVariants.{One}
+use Rattle.schema.specs.declared.schema.Version.TheVariants.{One, Two}
 use Rattle.schema.specs.declared.schema.FormatKey.TheVariants as key
 use Rattle.scenario.specs.GroupNames.{is_group_name}
 use Rattle.scenario.specs.Setup.{Setup, Group, start_of, member_count}
-use Rattle.scenario_reader.specs.Reading.{version_of, added_items, plain_groups, member_named, group_named, setup_of_tree}
+use Rattle.scenario_reader.specs.Reading.{version_of, added_items, pause_items, plain_groups, member_named, group_named, setup_of_tree}
 use Rattle.scenario.specs.declared.settings.Slow.{Slow}
 use Rattle.scenario.specs.declared.settings.Crash.{Crash}
 use Rattle.scenario.specs.declared.settings.Leave.{Leave}
 use Rattle.scenario.specs.declared.settings.Cut.{Cut}
+use Rattle.scenario.specs.declared.settings.Pause.{Pause}
 
 -- a group of this name may not follow these groups: the name has another form or is taken
 abbrev pub breaks_name : List Group → List ℕ → Bool
@@ -79,12 +80,13 @@ is_over e = nat_le e.until e.from
 unfoldable pub breaks_times : Setup → Bool
 breaks_times s = nat_le s.swim.period s.swim.timeout || (list_any (is_bad_contact s) s.groups || (list_any is_over s.slows || list_any (is_early s) s.crashes))
 
--- ---- what version 2 adds
+-- ---- what versions 2 and 3 add
 
--- to rule 7: a leave of nobody, or a cut from or to no group
+-- to rule 7: a leave or a pause of nobody, or a cut from or to no group
 unfoldable pub breaks_added_references : Version → Data → List Group → Bool
 breaks_added_references v tree groups =
-    list_any (names_no_member groups) (added_items v key.Leave tree) || list_any (names_no_group groups) (added_items v key.Cut tree)
+    list_any (names_no_member groups) (added_items v key.Leave tree)
+    || (list_any (names_no_group groups) (added_items v key.Cut tree) || list_any (names_no_member groups) (pause_items v tree))
 
 -- two leaves of one member
 abbrev pub is_same_leaver : Leave → Leave → Bool
@@ -98,6 +100,14 @@ crashes_too crashes l = list_any (λ c. nat_eq c.member l.member) crashes
 unfoldable pub breaks_departures : List Crash → List Leave → Bool
 breaks_departures crashes leaves = any_two is_same_leaver leaves || list_any (crashes_too crashes) leaves
 
+-- two pauses of one member overlap
+abbrev pub pauses_overlap : Pause → Pause → Bool
+pauses_overlap a b = nat_eq a.member b.member && (nat_lt a.from b.until && nat_lt b.from a.until)
+
+-- to rule 8: two pauses of one member that overlap
+unfoldable pub breaks_pauses : List Pause → Bool
+breaks_pauses pauses = any_two pauses_overlap pauses
+
 -- a leave that isn't after its member's start
 abbrev pub is_early_leave : Setup → Leave → Bool
 is_early_leave s l = nat_le l.at (start_of s l.member)
@@ -106,13 +116,17 @@ is_early_leave s l = nat_le l.at (start_of s l.member)
 abbrev pub is_cut_over : Cut → Bool
 is_cut_over c = nat_le c.until c.at
 
--- to rule 9: one of these two
+-- a pause that is over when it begins
+abbrev pub is_pause_over : Pause → Bool
+is_pause_over p = nat_le p.until p.from
+
+-- to rule 9: one of these three
 unfoldable pub breaks_added_times : Setup → Bool
-breaks_added_times s = list_any (is_early_leave s) s.leaves || list_any is_cut_over s.cuts
+breaks_added_times s = list_any (is_early_leave s) s.leaves || (list_any is_cut_over s.cuts || list_any is_pause_over s.pauses)
 
 -- ---- the least rule, and the answer
 
--- rule 10: more members than there may be in the version, 1,024 or 4,096
+-- rule 10: more members than there may be in the version: 1,024, or 4,096 from version 2 on
 abbrev pub breaks_size : Setup → Bool
 breaks_size s = nat_lt (most_members s.version) (member_count s)
 
@@ -123,6 +137,7 @@ pub record KeepsValues (tree : Data) : Type 0 where
   pub added_references : breaks_added_references (version_of tree) tree (plain_groups tree) ≡ false
   pub pairs : breaks_pairs (setup_of_tree tree).crashes (setup_of_tree tree).slows ≡ false
   pub departures : breaks_departures (setup_of_tree tree).crashes (setup_of_tree tree).leaves ≡ false
+  pub pauses : breaks_pauses (setup_of_tree tree).pauses ≡ false
   pub times : breaks_times (setup_of_tree tree) ≡ false
   pub added_times : breaks_added_times (setup_of_tree tree) ≡ false
   pub size : breaks_size (setup_of_tree tree) ≡ false
@@ -141,7 +156,7 @@ least_of names references pairs times size =
 unfoldable pub least_broken_by : Data → Setup → Option ℕ
 least_broken_by tree s =
     least_of (breaks_names (plain_groups tree)) (breaks_references tree (plain_groups tree) || breaks_added_references s.version tree (plain_groups tree))
-    (breaks_pairs s.crashes s.slows || breaks_departures s.crashes s.leaves) (breaks_times s || breaks_added_times s) (breaks_size s)
+    (breaks_pairs s.crashes s.slows || (breaks_departures s.crashes s.leaves || breaks_pauses s.pauses)) (breaks_times s || breaks_added_times s) (breaks_size s)
 
 -- the least broken rule of a document
 unfoldable pub least_broken : Data → Option ℕ
@@ -182,6 +197,29 @@ first_least_broken tree = option_or (least_broken_of_shape One tree) (first_leas
 -- what a text was answered
 unfoldable pub first_verdict : List ℕ → Result Setup ℕ
 first_verdict bytes = judged_if_read first_least_broken (tree_of bytes)
+
+-- ---- version 2 by itself
+
+-- to rules 7 and 9, what version 2 alone added
+unfoldable pub second_breaks_references : Version → Data → List Group → Bool
+second_breaks_references v tree groups =
+    list_any (names_no_member groups) (added_items v key.Leave tree) || list_any (names_no_group groups) (added_items v key.Cut tree)
+
+unfoldable pub second_breaks_times : Setup → Bool
+second_breaks_times s = list_any (is_early_leave s) s.leaves || list_any is_cut_over s.cuts
+
+-- the least broken of the rules on the values, as it was before there was a version 3
+unfoldable pub second_least_broken_by : Data → Setup → Option ℕ
+second_least_broken_by tree s =
+    least_of (breaks_names (plain_groups tree)) (breaks_references tree (plain_groups tree) || second_breaks_references s.version tree (plain_groups tree))
+    (breaks_pairs s.crashes s.slows || breaks_departures s.crashes s.leaves) (breaks_times s || second_breaks_times s) (breaks_size s)
+
+unfoldable pub second_least_broken : Data → Option ℕ
+second_least_broken tree = option_or (least_broken_of_shape Two tree) (second_least_broken_by tree (setup_of_tree tree))
+
+-- what a text was answered
+unfoldable pub second_verdict : List ℕ → Result Setup ℕ
+second_verdict bytes = judged_if_read second_least_broken (tree_of bytes)
 
 -- the version of a text; 1 where it is no document
 abbrev pub version_in : List ℕ → Version

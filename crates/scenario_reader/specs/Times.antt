@@ -5,6 +5,7 @@ use Rattle.std.specs.Prelude.{Some}
 use Rattle.toml.specs.Data.{Data}
 use Rattle.schema.specs.Values.{number_at, text_if, text_at}
 use Rattle.schema.specs.declared.schema.FormatKey.TheVariants as key
+use Rattle.schema.specs.declared.schema.Section.{Section}
 use Rattle.schema.specs.declared.schema.Section.TheVariants as section
 use Rattle.scenario.specs.Setup.{Group}
 use Rattle.scenario_reader.specs.Reading.{member_named}
@@ -15,9 +16,9 @@ abbrev pub is_bad_contact_in : List Group → Data → Bool
 is_bad_contact_in groups d =
     option_map_or (λ c. nat_eq (number_at section.Group key.Start (Some d)) 0 || nat_lt 0 (start_in groups c)) (option_and_then (member_named groups) (text_if key.Contact d)) false
 
--- a slow time that is over when it begins
-abbrev pub is_over_in : Data → Bool
-is_over_in d = nat_le (number_at section.Slow key.Until (Some d)) (number_at section.Slow key.From (Some d))
+-- a slow time or a pause that is over when it begins
+abbrev pub is_over_in : Section → Data → Bool
+is_over_in s d = nat_le (number_at s key.Until (Some d)) (number_at s key.From (Some d))
 
 -- a crash or a leave that isn't after its member's start
 abbrev pub is_early_in : List Group → Data → Bool

@@ -1,29 +1,38 @@
-//! What version 2 adds to the rules on the values of a text: leaves and cuts.
+//! What versions 2 and 3 add to the rules on the values of a text: leaves, cuts and pauses.
 ghost use Rattle.std.specs.Prelude.{◌≡◌, ◌≢◌, ◌||◌, ℕ, true, false, is_some, nat_eq, map, IfOk, OnOk, IfErr};
 ghost use Rattle.std.specs.List.{list_any};
 ghost use Rattle.toml.specs.View.{view};
-ghost use Rattle.scenario_reader.specs.Reading.{version_of, added_items, member_at, plain_groups, crashes_in, leaves_in, setup_of_tree};
-ghost use Rattle.scenario_reader.specs.Rules.{breaks_added_references, breaks_departures, breaks_added_times};
+ghost use Rattle.scenario_reader.specs.Reading.{version_of, version_numbered, added_items, pause_items, member_at, plain_groups, crashes_in, leaves_in, pauses_in, setup_of_tree};
+ghost use Rattle.scenario_reader.specs.Rules.{breaks_added_references, breaks_departures, breaks_pauses, breaks_added_times};
 ghost use Rattle.scenario_reader.specs.Times.{is_cut_over_in};
 
-use crate::pairs::{check_crashes, member};
+use crate::pairs::{check_crashes, check_spans, member};
 use crate::references::{first_lost_path, first_stranger};
 use crate::refusal::Refusal;
 use crate::roster::Roster;
-use crate::times::first_early;
+use crate::times::{first_early, first_over};
 use base::Memory;
 use indexmap::IndexSet;
 use schema::{FormatKey, Section, Version, items_at, number, whole_or};
 use std::alloc::Global;
 use toml::Value;
 
-/// The version of a document's format: 2 where it says so, else 1.
+/// The version of a document's format: 2 or 3 where it says so, else 1.
 #[tactic(auto, unfolding(crate::specs::Reading::version_of))]
-pub(crate) fn version_of(tree: &Value) -> Version
+pub fn version_of(tree: &Value) -> Version
     ensures { result ≡ version_of (view tree.now) }
 {
-    if whole_or(0, tree.get(FormatKey::Version.text())) == 2 {
+    version_numbered(whole_or(0, tree.get(FormatKey::Version.text())))
+}
+
+/// The version of that number, 2 or 3, else version 1.
+fn version_numbered(number: u64) -> Version
+    ensures { result ≡ version_numbered number }
+{
+    if number == 2 {
         Version::Two
+    } else if number == 3 {
+        Version::Three
     } else {
         Version::One
     }
@@ -35,11 +44,21 @@ pub(crate) fn added_items(version: Version, key: FormatKey, tree: &Value) -> &[V
 {
     match version {
         Version::One => &[],
-        Version::Two => items_at(key, tree),
+        Version::Two | Version::Three => items_at(key, tree),
     }
 }
 
-/// Refuses a leave or a cut that names no member or no group.
+/// The pauses, which version 3 adds.
+pub(crate) fn pause_items(version: Version, tree: &Value) -> &[Value]
+    ensures { map view result.now ≡ pause_items version (view tree.now) }
+{
+    match version {
+        Version::One | Version::Two => &[],
+        Version::Three => items_at(FormatKey::Pause, tree),
+    }
+}
+
+/// Refuses a leave, a cut or a pause that names no member or no group.
 pub(crate) fn check_added_references(
     version: Version,
     roster: &Roster,
@@ -51,7 +70,10 @@ pub(crate) fn check_added_references(
     if let Some(i) = first_stranger(roster, added_items(version, FormatKey::Leave, tree)) {
         return Err(Refusal::in_item(7, i));
     }
-    match first_lost_path(roster, added_items(version, FormatKey::Cut, tree)) {
+    if let Some(i) = first_lost_path(roster, added_items(version, FormatKey::Cut, tree)) {
+        return Err(Refusal::in_item(7, i));
+    }
+    match first_stranger(roster, pause_items(version, tree)) {
         Some(i) => Err(Refusal::in_item(7, i)),
         None => Ok(()),
     }
@@ -113,7 +135,20 @@ fn is_among(members: &IndexSet<u128>, member: u128) -> bool
     members.contains(&member)
 }
 
-/// Refuses a leave that isn't after its member's start, and a cut that is over when it begins.
+/// Refuses two pauses of one member that overlap.
+pub(crate) fn check_pauses(
+    alloc: Global,
+    version: Version,
+    roster: &Roster,
+    tree: &Value,
+) -> Result<(), Refusal>
+    ensures ok { OnOk result (breaks_pauses (pauses_in version roster.now (view tree.now)) ≡ false) }
+    ensures err { IfErr result (λ r. r.rule ≢ 11 → (r.rule ≡ 8) × (breaks_pauses (pauses_in version roster.now (view tree.now)) ≡ true)) }
+{
+    check_spans(alloc, Section::Pause, roster, pause_items(version, tree))
+}
+
+/// Refuses a leave that isn't after its member's start, and a cut or a pause that is over when it begins.
 pub(crate) fn check_added_times(
     version: Version,
     roster: &Roster,
@@ -128,7 +163,10 @@ pub(crate) fn check_added_times(
     if let Some(i) = first_early(roster, added_items(version, FormatKey::Leave, tree)) {
         return Err(Refusal::in_item(9, i));
     }
-    match first_cut_over(added_items(version, FormatKey::Cut, tree)) {
+    if let Some(i) = first_cut_over(added_items(version, FormatKey::Cut, tree)) {
+        return Err(Refusal::in_item(9, i));
+    }
+    match first_over(Section::Pause, pause_items(version, tree)) {
         Some(i) => Err(Refusal::in_item(9, i)),
         None => Ok(()),
     }

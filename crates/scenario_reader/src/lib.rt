@@ -11,5 +11,6 @@ mod roster;
 mod tables;
 mod times;
 
+pub use additions::version_of;
 pub use reader::{document, read, read_document};
 pub use refusal::Refusal;

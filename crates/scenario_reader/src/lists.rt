@@ -1,15 +1,16 @@
-//! The lists of a document that breaks no rule: groups, paths, slow times, crashes, leaves and cuts.
+//! The lists of a document that breaks no rule: groups, paths, slow times, crashes, leaves, cuts and
+//! pauses.
 ghost use Rattle.std.specs.Prelude.{◌≡◌, ◌≤◌, ◌<◌, ◌++◌, map, sum_by, flat_map, string_bytes, option_and_then, IfOk, OnOk};
 ghost use Rattle.toml.specs.View.{view};
 ghost use Rattle.schema.specs.Values.{text_if};
 ghost use Rattle.scenario.specs.Setup.{names_in, names_below};
 ghost use Rattle.scenario.specs.SetupOf.{group_of};
-ghost use Rattle.scenario_reader.specs.Reading.{slows_in, crashes_in, leaves_in, cuts_in, plain_group, group_in, member_named, group_named, group_at_key, member_at, link_over, path_in, slow_in, crash_in, leave_in, cut_in};
+ghost use Rattle.scenario_reader.specs.Reading.{slows_in, crashes_in, leaves_in, cuts_in, pauses_in, pause_in, plain_group, group_in, member_named, group_named, group_at_key, member_at, link_over, path_in, slow_in, crash_in, leave_in, cut_in};
 
-use crate::additions::added_items;
+use crate::additions::{added_items, pause_items};
 use crate::roster::{Found, Roster};
 use base::{MemberId, Memory, Moment};
-use scenario::{Crash, Cut, Group, Leave, Link, Path, Slow};
+use scenario::{Crash, Cut, Group, Leave, Link, Path, Pause, Slow};
 use schema::{FormatKey, Section, Version, items_at, number, text, text_if, whole_or};
 use std::alloc::Global;
 use toml::Value;
@@ -125,9 +126,10 @@ pub(crate) struct Script {
     pub(crate) crashes: Vec<Crash>,
     pub(crate) leaves: Vec<Leave>,
     pub(crate) cuts: Vec<Cut>,
+    pub(crate) pauses: Vec<Pause>,
 }
 
-/// The slow times, crashes, leaves and cuts, each in their order.
+/// The slow times, crashes, leaves, cuts and pauses, each in their order.
 pub(crate) fn read_script(
     alloc: Global,
     version: Version,
@@ -139,6 +141,7 @@ pub(crate) fn read_script(
     ensures crashes { IfOk result (λ s. s.crashes.items ≡ crashes_in roster.now (view tree.now)) }
     ensures leaves { IfOk result (λ s. s.leaves.items ≡ leaves_in version roster.now (view tree.now)) }
     ensures cuts { IfOk result (λ s. s.cuts.items ≡ cuts_in version roster.now (view tree.now)) }
+    ensures pauses { IfOk result (λ s. s.pauses.items ≡ pauses_in version roster.now (view tree.now)) }
 {
     let Ok(slows) = read_slows(alloc, roster, items_at(FormatKey::Slow, tree)) else {
         return Err(Memory);
@@ -152,11 +155,15 @@ pub(crate) fn read_script(
     let Ok(cuts) = read_cuts(alloc, roster, added_items(version, FormatKey::Cut, tree)) else {
         return Err(Memory);
     };
+    let Ok(pauses) = read_pauses(alloc, roster, pause_items(version, tree)) else {
+        return Err(Memory);
+    };
     Ok(Script {
         slows,
         crashes,
         leaves,
         cuts,
+        pauses,
     })
 }
 
@@ -251,6 +258,30 @@ fn read_cut(roster: &Roster, item: &Value) -> Cut
         to: group_at(roster, FormatKey::To, item),
         at: Moment(number(Section::Cut, FormatKey::At, Some(item))),
         until: Moment(number(Section::Cut, FormatKey::Until, Some(item))),
+    }
+}
+
+/// The pauses in their order.
+fn read_pauses(alloc: Global, roster: &Roster, list: &[Value]) -> Result<Vec<Pause>, Memory>
+    requires at_most_4096 { sum_by (λ g. g.count) roster.now ≤ 4096 }
+    ensures { IfOk result (λ pauses. pauses.items ≡ map (λ v. pause_in roster.now (view v)) list.now) }
+{
+    let mut pauses = Vec::new(alloc);
+    for item in list {
+        pauses.push(read_pause(roster, item))?;
+    }
+    Ok(pauses)
+}
+
+/// One pause.
+fn read_pause(roster: &Roster, item: &Value) -> Pause
+    requires at_most_4096 { sum_by (λ g. g.count) roster.now ≤ 4096 }
+    ensures { result ≡ pause_in roster.now (view item.now) }
+{
+    Pause {
+        member: member_at(roster, item),
+        from: Moment(number(Section::Pause, FormatKey::From, Some(item))),
+        until: Moment(number(Section::Pause, FormatKey::Until, Some(item))),
     }
 }
 

@@ -1,10 +1,10 @@
-//! What a text may say of a member only once: its crash, and its slowness at a moment.
+//! What a text may say of a member only once: its crash, and its slowness or its pause at a moment.
 ghost use Rattle.std.specs.Prelude.{◌≡◌, ◌≢◌, map, true, false, is_some, not, ◌||◌, nat_eq, nat_lt, OnOk, IfErr, IfOk};
 ghost use Rattle.std.specs.List.Sorted.{IsSorted};
 ghost use Rattle.toml.specs.View.{view};
-ghost use Rattle.scenario_reader.specs.Reading.{member_at, slow_in, slows_in, crash_in, crashes_in};
+ghost use Rattle.scenario_reader.specs.Reading.{member_at, slows_in, crash_in, crashes_in};
 ghost use Rattle.scenario_reader.specs.Rules.{any_two, is_same_member, overlaps, breaks_pairs};
-ghost use Rattle.scenario_reader.specs.Spans.{slow_of, plain_slow, span_cmp};
+ghost use Rattle.scenario_reader.specs.Spans.{slow_of, span_in, span_cmp};
 
 use crate::refusal::Refusal;
 use crate::roster::Roster;
@@ -14,7 +14,7 @@ use schema::{FormatKey, Section, items_at, number, text};
 use std::alloc::Global;
 use toml::Value;
 
-/// A time in which a member is slow.
+/// A time in which a member is slow or paused.
 #[derive(Clone, Copy, Debug, PartialEq, Eq, PartialOrd, Ord)]
 pub(crate) struct Span {
     /// The member's number.
@@ -31,7 +31,12 @@ pub(crate) fn check_pairs(alloc: Global, roster: &Roster, tree: &Value) -> Resul
     ensures err { IfErr result (λ r. r.rule ≢ 11 → (r.rule ≡ 8) × (breaks_pairs (crashes_in roster.now (view tree.now)) (slows_in roster.now (view tree.now)) ≡ true)) }
 {
     match check_crashes(alloc, roster, items_at(FormatKey::Crash, tree)) {
-        Ok(()) => check_slows(alloc, roster, items_at(FormatKey::Slow, tree)),
+        Ok(()) => check_spans(
+            alloc,
+            Section::Slow,
+            roster,
+            items_at(FormatKey::Slow, tree),
+        ),
         Err(refusal) => Err(refusal),
     }
 }
@@ -62,12 +67,17 @@ pub(crate) fn member(roster: &Roster, item: &Value) -> u128
     }
 }
 
-/// Refuses two slow times of one member that overlap.
-fn check_slows(alloc: Global, roster: &Roster, list: &[Value]) -> Result<(), Refusal>
-    ensures ok { OnOk result (any_two overlaps (map (λ v. slow_in roster.now (view v)) list.now) ≡ false) }
-    ensures err { IfErr result (λ r. r.rule ≢ 11 → (r.rule ≡ 8) × (any_two overlaps (map (λ v. slow_in roster.now (view v)) list.now) ≡ true)) }
+/// Refuses two slow times of one member that overlap, or two pauses.
+pub(crate) fn check_spans(
+    alloc: Global,
+    section: Section,
+    roster: &Roster,
+    list: &[Value],
+) -> Result<(), Refusal>
+    ensures ok { OnOk result (any_two overlaps (map (λ v. span_in section roster.now (view v)) list.now) ≡ false) }
+    ensures err { IfErr result (λ r. r.rule ≢ 11 → (r.rule ≡ 8) × (any_two overlaps (map (λ v. span_in section roster.now (view v)) list.now) ≡ true)) }
 {
-    let mut spans = match list_spans(alloc, roster, list) {
+    let mut spans = match list_spans(alloc, section, roster, list) {
         Ok(spans) => spans,
         Err(Memory) => return Err(Refusal::memory()),
     };
@@ -81,25 +91,30 @@ fn check_slows(alloc: Global, roster: &Roster, list: &[Value]) -> Result<(), Ref
     }
 }
 
-/// The slow times of a list.
-fn list_spans(alloc: Global, roster: &Roster, list: &[Value]) -> Result<Vec<Span>, Memory>
-    ensures { IfOk result (λ spans. map slow_of spans.items ≡ map (λ v. plain_slow roster.now (view v)) list.now) }
+/// The slow times or pauses of a list.
+fn list_spans(
+    alloc: Global,
+    section: Section,
+    roster: &Roster,
+    list: &[Value],
+) -> Result<Vec<Span>, Memory>
+    ensures { IfOk result (λ spans. map slow_of spans.items ≡ map (λ v. span_in section roster.now (view v)) list.now) }
 {
     let mut spans = Vec::new(alloc);
     for (i, item) in list.iter().enumerate() {
-        spans.push(read_span(roster, i, item))?;
+        spans.push(read_span(section, roster, i, item))?;
     }
     Ok(spans)
 }
 
-/// One slow time.
-fn read_span(roster: &Roster, index: usize, item: &Value) -> Span
-    ensures { slow_of result ≡ plain_slow roster.now (view item.now) }
+/// One slow time or pause.
+fn read_span(section: Section, roster: &Roster, index: usize, item: &Value) -> Span
+    ensures { slow_of result ≡ span_in section roster.now (view item.now) }
 {
     Span {
         member: member(roster, item),
-        from: number(Section::Slow, FormatKey::From, Some(item)),
-        until: number(Section::Slow, FormatKey::Until, Some(item)),
+        from: number(section, FormatKey::From, Some(item)),
+        until: number(section, FormatKey::Until, Some(item)),
         item: index,
     }
 }
@@ -122,7 +137,7 @@ fn first_overlap(spans: &[Span]) -> Option<usize>
     None
 }
 
-/// Whether two times in which one member is slow overlap.
+/// Whether two times in which one member is slow, or paused, overlap.
 fn overlap(a: &Span, b: &Span) -> bool
     ensures { result ≡ overlaps (slow_of a.now) (slow_of b.now) }
 {

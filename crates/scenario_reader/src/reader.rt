@@ -5,15 +5,19 @@ ghost use Rattle.toml.specs.Errors.{IsMemory};
 ghost use Rattle.schema.specs.Schema.{most_members};
 ghost use Rattle.schema.specs.Shape.{KeepsShape};
 ghost use Rattle.scenario_reader.specs.Reading.{version_of, plain_group, plain_groups, setup_of_tree};
-ghost use Rattle.scenario_reader.specs.Rules.{document_verdict, tree_of, least_broken_by, verdict, first_verdict, version_in, KeepsValues};
+ghost use Rattle.scenario_reader.specs.Rules.{document_verdict, tree_of, least_broken_by, verdict, first_verdict, second_verdict, version_in, KeepsValues};
 
-use crate::additions::{check_added_references, check_added_times, check_departures, version_of};
+use crate::additions::{
+    check_added_references, check_added_times, check_departures, check_pauses, version_of,
+};
 use crate::lists::{count_of, list_names, read_groups, read_paths, read_script};
 use crate::pairs::check_pairs;
 use crate::references::check_references;
 use crate::refusal::{Refusal, place_of};
 use crate::roster::Roster;
-use crate::tables::{read_lifeguard, read_link, read_suspicion, read_swim};
+use crate::tables::{
+    read_gossip, read_lifeguard, read_link, read_stream, read_suspicion, read_swim,
+};
 use crate::times::check_times;
 use base::{Memory, Moment};
 use scenario::{Contents, Scenario};
@@ -21,15 +25,17 @@ use schema::{FormatKey, Section, Version, check_shape, items_at, number};
 use std::alloc::Global;
 use toml::Value;
 
-/// Reads a scenario from the bytes of its text, a TOML document in the format of version 1 or 2.
+/// Reads a scenario from the bytes of its text, a TOML document in the format of versions 1 to 3.
 /// A text that breaks a rule is refused by the least such rule. One of version 1 is answered as it was
-/// before there was version 2.
+/// before there was version 2, and one of version 2 as it was before there was version 3.
 pub fn read(alloc: Global, bytes: &[u8]) -> Result<Scenario, Refusal>
     ensures accepted { IfOk result (λ s. verdict bytes.now ≡ Ok s) }
     ensures refused { IfErr result (λ r. r.rule ≢ 11 → verdict bytes.now ≡ Err r.rule) }
     ensures numbered { IfErr result (λ r. (1 ≤ r.rule) × (r.rule ≤ 11)) }
     ensures accepted_first { version_in bytes.now ≡ Version.One → IfOk result (λ s. first_verdict bytes.now ≡ Ok s) }
     ensures refused_first { version_in bytes.now ≡ Version.One → IfErr result (λ r. r.rule ≢ 11 → first_verdict bytes.now ≡ Err r.rule) }
+    ensures accepted_second { version_in bytes.now ≡ Version.Two → IfOk result (λ s. second_verdict bytes.now ≡ Ok s) }
+    ensures refused_second { version_in bytes.now ≡ Version.Two → IfErr result (λ r. r.rule ≢ 11 → second_verdict bytes.now ≡ Err r.rule) }
 {
     let tree = document(alloc, bytes)?;
     read_document(alloc, &tree)
@@ -116,6 +122,9 @@ fn judge(alloc: Global, tree: &Value) -> Result<Roster, Refusal>
     if let Err(refusal) = check_departures(alloc, version, &roster, tree) {
         return Err(refusal);
     }
+    if let Err(refusal) = check_pauses(alloc, version, &roster, tree) {
+        return Err(refusal);
+    }
     if let Err(refusal) = check_times(&roster, tree) {
         return Err(refusal);
     }
@@ -164,6 +173,9 @@ fn decide(alloc: Global, roster: &Roster, tree: &Value) -> Result<Scenario, Memo
         crashes: script.crashes,
         leaves: script.leaves,
         cuts: script.cuts,
+        gossip: read_gossip(tree),
+        stream: read_stream(tree),
+        pauses: script.pauses,
         names,
     };
     Ok(Scenario::of(contents))

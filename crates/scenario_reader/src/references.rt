@@ -51,7 +51,7 @@ fn has_lost_contact(roster: &Roster, group: &Value) -> bool
     }
 }
 
-/// The index of the first slow time, crash or leave of nobody.
+/// The index of the first slow time, crash, leave or pause of nobody.
 pub(crate) fn first_stranger(roster: &Roster, list: &[Value]) -> Option<usize>
     ensures { is_some result ≡ list_any (λ v. names_no_member roster.now (view v)) list.now }
 {
@@ -63,7 +63,7 @@ pub(crate) fn first_stranger(roster: &Roster, list: &[Value]) -> Option<usize>
     None
 }
 
-/// Whether a slow time, a crash or a leave is of nobody.
+/// Whether a slow time, a crash, a leave or a pause is of nobody.
 fn names_no_member(roster: &Roster, item: &Value) -> bool
     ensures { result ≡ names_no_member roster.now (view item.now) }
 {

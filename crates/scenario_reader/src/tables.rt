@@ -1,10 +1,11 @@
 //! The tables of settings that stand once in a text.
-ghost use Rattle.std.specs.Prelude.{◌≡◌};
+ghost use Rattle.std.specs.Prelude.{◌≡◌, option_map};
 ghost use Rattle.toml.specs.View.{view};
-ghost use Rattle.scenario_reader.specs.Reading.{setup_of_tree};
+ghost use Rattle.scenario_reader.specs.Reading.{fallback_in, gossip_of, stream_table, setup_of_tree};
 
-use scenario::{Lifeguard, Link, Suspicion, Swim};
-use schema::{FormatKey, Section, number, switch};
+use crate::additions::version_of;
+use scenario::{Gossip, Lifeguard, Link, Stream, Suspicion, Swim};
+use schema::{FormatKey, Section, Version, number, switch, switch_set};
 use toml::Value;
 
 /// How members probe and gossip.
@@ -20,6 +21,17 @@ pub(crate) fn read_swim(tree: &Value) -> Swim
         carry: number(Section::Swim, FormatKey::Carry, table),
         lambda: number(Section::Swim, FormatKey::Lambda, table),
         spread: number(Section::Swim, FormatKey::Spread, table),
+        fallback: fallback(version_of(tree), table),
+    }
+}
+
+/// Whether a stream takes over where a ping goes unanswered; never before version 3.
+fn fallback(version: Version, swim: Option<&Value>) -> bool
+    ensures { result ≡ fallback_in version (option_map (λ v. view v.now) swim.entry) }
+{
+    match version {
+        Version::One | Version::Two => false,
+        Version::Three => switch_set(FormatKey::Fallback, swim),
     }
 }
 
@@ -61,5 +73,53 @@ pub(crate) fn read_link(tree: &Value) -> Link
         delay: number(Section::Link, FormatKey::Delay, table),
         jitter: number(Section::Link, FormatKey::Jitter, table),
         loss: number(Section::Link, FormatKey::Loss, table),
+    }
+}
+
+/// How members gossip between their probes; none where they don't, as before version 3.
+#[tactic(auto, unfolding(crate::specs::Reading::setup_of_tree))]
+pub(crate) fn read_gossip(tree: &Value) -> Option<Gossip>
+    ensures { result ≡ (setup_of_tree (view tree.now)).gossip }
+{
+    match version_of(tree) {
+        Version::One | Version::Two => None,
+        Version::Three => match tree.get(FormatKey::Gossip.text()) {
+            Some(table) => Some(gossip_of(table)),
+            None => None,
+        },
+    }
+}
+
+/// What a table says of gossip.
+fn gossip_of(table: &Value) -> Gossip
+    ensures { result ≡ gossip_of (view table.now) }
+{
+    Gossip {
+        interval: number(Section::Gossip, FormatKey::Interval, Some(table)),
+        nodes: number(Section::Gossip, FormatKey::Nodes, Some(table)),
+        dead: number(Section::Gossip, FormatKey::Dead, Some(table)),
+        push: number(Section::Gossip, FormatKey::Push, Some(table)),
+    }
+}
+
+/// How streams send again.
+#[tactic(auto, unfolding(crate::specs::Reading::setup_of_tree))]
+pub(crate) fn read_stream(tree: &Value) -> Stream
+    ensures { result ≡ (setup_of_tree (view tree.now)).stream }
+{
+    let table = stream_table(version_of(tree), tree);
+    Stream {
+        connect: number(Section::Stream, FormatKey::Connect, table),
+        again: number(Section::Stream, FormatKey::Again, table),
+    }
+}
+
+/// The table of streams, which version 3 adds.
+fn stream_table(version: Version, tree: &Value) -> Option<&Value>
+    ensures { option_map (λ v. view v.now) result ≡ stream_table version (view tree.now) }
+{
+    match version {
+        Version::One | Version::Two => None,
+        Version::Three => tree.get(FormatKey::Stream.text()),
     }
 }

@@ -30,7 +30,7 @@ pub(crate) fn check_times(roster: &Roster, tree: &Value) -> Result<(), Refusal>
     if let Some(i) = first_bad_contact(roster, items_at(FormatKey::Group, tree)) {
         return Err(Refusal::in_item(9, i));
     }
-    if let Some(i) = first_over(items_at(FormatKey::Slow, tree)) {
+    if let Some(i) = first_over(Section::Slow, items_at(FormatKey::Slow, tree)) {
         return Err(Refusal::in_item(9, i));
     }
     match first_early(roster, items_at(FormatKey::Crash, tree)) {
@@ -73,24 +73,23 @@ fn contact(roster: &Roster, group: &Value) -> Option<Found>
     }
 }
 
-/// The index of the first slow time that is over when it begins.
-fn first_over(list: &[Value]) -> Option<usize>
-    ensures { is_some result ≡ list_any (λ v. is_over_in (view v)) list.now }
+/// The index of the first slow time or pause that is over when it begins.
+pub(crate) fn first_over(section: Section, list: &[Value]) -> Option<usize>
+    ensures { is_some result ≡ list_any (λ v. is_over_in section (view v)) list.now }
 {
     for (i, item) in list.iter().enumerate() {
-        if is_over(item) {
+        if is_over(section, item) {
             return Some(i);
         }
     }
     None
 }
 
-/// Whether a slow time is over when it begins.
-fn is_over(slow: &Value) -> bool
-    ensures { result ≡ is_over_in (view slow.now) }
+/// Whether a slow time or a pause is over when it begins.
+fn is_over(section: Section, item: &Value) -> bool
+    ensures { result ≡ is_over_in section (view item.now) }
 {
-    number(Section::Slow, FormatKey::Until, Some(slow))
-        <= number(Section::Slow, FormatKey::From, Some(slow))
+    number(section, FormatKey::Until, Some(item)) <= number(section, FormatKey::From, Some(item))
 }
 
 /// The index of the first crash or leave that isn't after its member's start.

@@ -1,14 +1,14 @@
 -- How the keys of the format are spelt, and which keys a kind of table has in a version, with their ranges and defaults.
 use Rattle.std.specs.Prelude.{ℕ, ◌-◌, ◌^◌, List, [], ◌∷◌, codes}
 use Rattle.schema.specs.declared.schema.Version.{Version}
-use Rattle.schema.specs.declared.schema.Version.TheVariants.{One, Two}
+use Rattle.schema.specs.declared.schema.Version.TheVariants.{One, Two, Three}
 use Rattle.schema.specs.declared.schema.KeyRule.{KeyRule}
 use Rattle.schema.specs.declared.schema.FormatKey.{FormatKey}
 use Rattle.schema.specs.declared.schema.FormatKey.TheVariants as key
 use Rattle.schema.specs.declared.schema.Kind.{Kind}
 use Rattle.schema.specs.declared.schema.Kind.TheVariants.{Whole, Switch, Text, Table}
 use Rattle.schema.specs.declared.schema.Kind.TheVariants as kind
-use Rattle.schema.specs.declared.schema.Absence.TheVariants.{Refused, RefusedOver0, Default, Optional}
+use Rattle.schema.specs.declared.schema.Absence.TheVariants.{Refused, RefusedOver0, Default, Off, Optional}
 use Rattle.schema.specs.declared.schema.Section.{Section}
 use Rattle.schema.specs.declared.schema.Section.TheVariants as section
 
@@ -27,12 +27,16 @@ spelling_of key.Slow = codes "slow"
 spelling_of key.Crash = codes "crash"
 spelling_of key.Cut = codes "cut"
 spelling_of key.Leave = codes "leave"
+spelling_of key.Pause = codes "pause"
+spelling_of key.Gossip = codes "gossip"
+spelling_of key.Stream = codes "stream"
 spelling_of key.Period = codes "period"
 spelling_of key.Timeout = codes "timeout"
 spelling_of key.Helpers = codes "helpers"
 spelling_of key.Carry = codes "carry"
 spelling_of key.Lambda = codes "lambda"
 spelling_of key.Spread = codes "spread"
+spelling_of key.Fallback = codes "fallback"
 spelling_of key.Alpha = codes "alpha"
 spelling_of key.Beta = codes "beta"
 spelling_of key.Probe = codes "probe"
@@ -53,6 +57,12 @@ spelling_of key.Member = codes "member"
 spelling_of key.Until = codes "until"
 spelling_of key.Extra = codes "extra"
 spelling_of key.At = codes "at"
+spelling_of key.Interval = codes "interval"
+spelling_of key.Nodes = codes "nodes"
+spelling_of key.Dead = codes "dead"
+spelling_of key.Push = codes "push"
+spelling_of key.Connect = codes "connect"
+spelling_of key.Again = codes "again"
 
 -- a key that has to be there
 abbrev required : FormatKey → Kind → KeyRule
@@ -66,6 +76,10 @@ required_over_0 other k values = record { key = k; absence = RefusedOver0 other;
 abbrev or_else : ℕ → FormatKey → Kind → KeyRule
 or_else default k values = record { key = k; absence = Default default; kind = values }
 
+-- a switch that is off where it isn't there
+abbrev off : FormatKey → KeyRule
+off k = record { key = k; absence = Off; kind = Switch }
+
 -- a key that may be left out
 abbrev optional : FormatKey → Kind → KeyRule
 optional k values = record { key = k; absence = Optional; kind = values }
@@ -74,16 +88,31 @@ optional k values = record { key = k; absence = Optional; kind = values }
 abbrev pub number_of : Version → ℕ
 number_of One = 1
 number_of Two = 2
+number_of Three = 3
 
 -- how many members a scenario may have
 abbrev pub most_members : Version → ℕ
 most_members One = 1024
 most_members Two = 4096
+most_members Three = 4096
 
--- the lists that version 2 adds to the whole text
-abbrev pub added_lists : Version → List KeyRule
-added_lists One = []
-added_lists Two = optional key.Cut (kind.List section.Cut) ∷ optional key.Leave (kind.List section.Departure) ∷ []
+-- what versions 2 and 3 add to the whole text
+abbrev pub added_keys : Version → List KeyRule
+added_keys One = []
+added_keys Two = optional key.Cut (kind.List section.Cut) ∷ optional key.Leave (kind.List section.Departure) ∷ []
+added_keys Three =
+    optional key.Cut (kind.List section.Cut)
+    ∷ optional key.Leave (kind.List section.Departure)
+    ∷ optional key.Gossip (Table section.Gossip)
+    ∷ optional key.Stream (Table section.Stream)
+    ∷ optional key.Pause (kind.List section.Pause)
+    ∷ []
+
+-- what version 3 adds to how members probe
+abbrev pub added_to_swim : Version → List KeyRule
+added_to_swim One = []
+added_to_swim Two = []
+added_to_swim Three = off key.Fallback ∷ []
 
 -- The keys of a kind of table, each with its kind, its range and its default: moments go up to 2^40, lengths of time up to 2^24, delays and jitters up to
 -- 2^20 ticks, and a loss is in parts per million. No default differs between versions.
@@ -100,7 +129,7 @@ key_rules_of v section.Top =
     ∷ optional key.Path (kind.List section.Path)
     ∷ optional key.Slow (kind.List section.Slow)
     ∷ optional key.Crash (kind.List section.Departure)
-    ∷ added_lists v
+    ∷ added_keys v
 key_rules_of v section.Swim =
     required key.Period (Whole 2 (2 ^ 24))
     ∷ required key.Timeout (Whole 1 (2 ^ 24))
@@ -108,7 +137,7 @@ key_rules_of v section.Swim =
     ∷ or_else 6 key.Carry (Whole 1 64)
     ∷ or_else 3 key.Lambda (Whole 1 100)
     ∷ or_else 1 key.Spread (Whole 1 (2 ^ 24))
-    ∷ []
+    ∷ added_to_swim v
 key_rules_of v section.Suspicion =
     or_else 5 key.Alpha (Whole 1 100)
     ∷ or_else 6 key.Beta (Whole 1 100)
@@ -153,5 +182,20 @@ key_rules_of v section.Cut =
     required key.From Text
     ∷ required key.To Text
     ∷ required key.At (Whole 0 (2 ^ 40))
+    ∷ required key.Until (Whole 0 (2 ^ 40))
+    ∷ []
+key_rules_of v section.Gossip =
+    required key.Interval (Whole 1 (2 ^ 24))
+    ∷ or_else 3 key.Nodes (Whole 1 16)
+    ∷ or_else 0 key.Dead (Whole 0 (2 ^ 40))
+    ∷ or_else 0 key.Push (Whole 0 (2 ^ 24))
+    ∷ []
+key_rules_of v section.Stream =
+    or_else 1000 key.Connect (Whole 1 (2 ^ 24))
+    ∷ or_else 200 key.Again (Whole 1 (2 ^ 24))
+    ∷ []
+key_rules_of v section.Pause =
+    required key.Member Text
+    ∷ required key.From (Whole 0 (2 ^ 40))
     ∷ required key.Until (Whole 0 (2 ^ 40))
     ∷ []

@@ -1,5 +1,5 @@
 -- The values of the keys of a TOML document, with the format's defaults.
-use Rattle.std.specs.Prelude.{ℕ, Bool, List, [], true, Option, Some, pos, unwrap_or, option_and_then}
+use Rattle.std.specs.Prelude.{ℕ, Bool, List, [], true, false, Option, Some, pos, unwrap_or, option_and_then}
 use Rattle.std.specs.Option.{option_map_or}
 use Rattle.toml.specs.Data.{Data, integer, boolean, as_str}
 use Rattle.schema.specs.Schema.{spelling_of, key_rules_of}
@@ -36,6 +36,15 @@ is_on _ = true
 -- the switch of a key; where the table isn't there, it is on
 unfoldable pub switch_at : FormatKey → Option Data → Bool
 switch_at key d = is_on (option_and_then (value_at key) d)
+
+-- a switch that isn't there is off
+abbrev pub is_set : Option Data → Bool
+is_set (Some (boolean b)) = b
+is_set _ = false
+
+-- the switch of a key; where the table isn't there, it is off
+unfoldable pub switch_set : FormatKey → Option Data → Bool
+switch_set key d = is_set (option_and_then (value_at key) d)
 
 -- the text of a key, if it is there
 unfoldable pub text_if : FormatKey → Data → Option (List ℕ)

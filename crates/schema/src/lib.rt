@@ -4,8 +4,9 @@
 
 mod schema;
 mod shape;
+mod tables;
 mod values;
 
 pub use schema::{Absence, FormatKey, KeyRule, Kind, Section, Version};
 pub use shape::{Check, ShapeFault, TablePlace, check_shape};
-pub use values::{items_at, number, switch, text, text_if, whole_or};
+pub use values::{items_at, number, switch, switch_set, text, text_if, whole_or};

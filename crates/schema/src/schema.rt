@@ -1,7 +1,12 @@
-//! The format of a scenario text, as rows of data: a constant for each kind of table, and for each
-//! version where they differ.
+//! The format of a scenario text: its versions, its keys and its tables, each with the rows of its
+//! keys.
 ghost use Rattle.std.specs.Prelude.{◌≡◌};
 ghost use Rattle.schema.specs.Schema.{most_members, spelling_of, key_rules_of};
+
+use crate::tables::{
+    CUT, DEPARTURE, GOSSIP, GROUP_1, GROUP_2, LIFEGUARD, LINK, PATH, PAUSE, SLOW, STREAM,
+    SUSPICION, SWIM_1, SWIM_3, TOP_1, TOP_2, TOP_3,
+};
 
 /// A version of the format.
 #[derive(Clone, Copy, Debug, PartialEq, Eq)]
@@ -10,6 +15,8 @@ pub enum Version {
     One,
     /// They leave too, links are cut, and clusters are larger.
     Two,
+    /// Members follow memberlist's rules, and their processes pause.
+    Three,
 }
 
 impl Version {
@@ -19,7 +26,7 @@ impl Version {
     {
         match self {
             Version::One => 1024,
-            Version::Two => 4096,
+            Version::Two | Version::Three => 4096,
         }
     }
 }
@@ -40,12 +47,16 @@ pub enum FormatKey {
     Crash,
     Cut,
     Leave,
+    Pause,
+    Gossip,
+    Stream,
     Period,
     Timeout,
     Helpers,
     Carry,
     Lambda,
     Spread,
+    Fallback,
     Alpha,
     Beta,
     Probe,
@@ -66,6 +77,12 @@ pub enum FormatKey {
     Until,
     Extra,
     At,
+    Interval,
+    Nodes,
+    Dead,
+    Push,
+    Connect,
+    Again,
 }
 
 impl FormatKey {
@@ -88,12 +105,16 @@ impl FormatKey {
             FormatKey::Crash => "crash",
             FormatKey::Cut => "cut",
             FormatKey::Leave => "leave",
+            FormatKey::Pause => "pause",
+            FormatKey::Gossip => "gossip",
+            FormatKey::Stream => "stream",
             FormatKey::Period => "period",
             FormatKey::Timeout => "timeout",
             FormatKey::Helpers => "helpers",
             FormatKey::Carry => "carry",
             FormatKey::Lambda => "lambda",
             FormatKey::Spread => "spread",
+            FormatKey::Fallback => "fallback",
             FormatKey::Alpha => "alpha",
             FormatKey::Beta => "beta",
             FormatKey::Probe => "probe",
@@ -114,6 +135,12 @@ impl FormatKey {
             FormatKey::Until => "until",
             FormatKey::Extra => "extra",
             FormatKey::At => "at",
+            FormatKey::Interval => "interval",
+            FormatKey::Nodes => "nodes",
+            FormatKey::Dead => "dead",
+            FormatKey::Push => "push",
+            FormatKey::Connect => "connect",
+            FormatKey::Again => "again",
         }
     }
 }
@@ -137,6 +164,12 @@ pub enum Section {
     Departure,
     /// One item of the list of cuts.
     Cut,
+    /// How members gossip between their probes.
+    Gossip,
+    /// How streams between members send again.
+    Stream,
+    /// One item of the list of times in which a member's process is paused.
+    Pause,
 }
 
 impl Section {
@@ -147,7 +180,7 @@ impl Section {
     {
         match self {
             Section::Top => top_rows(version),
-            Section::Swim => &SWIM,
+            Section::Swim => swim_rows(version),
             Section::Suspicion => &SUSPICION,
             Section::Lifeguard => &LIFEGUARD,
             Section::Link => &LINK,
@@ -156,6 +189,9 @@ impl Section {
             Section::Slow => &SLOW,
             Section::Departure => &DEPARTURE,
             Section::Cut => &CUT,
+            Section::Gossip => &GOSSIP,
+            Section::Stream => &STREAM,
+            Section::Pause => &PAUSE,
         }
     }
 }
@@ -168,6 +204,18 @@ fn top_rows(version: Version) -> &'static [KeyRule]
     match version {
         Version::One => &TOP_1,
         Version::Two => &TOP_2,
+        Version::Three => &TOP_3,
+    }
+}
+
+/// The keys of how members probe and gossip.
+#[tactic(auto, unfolding(crate::specs::Schema::key_rules_of))]
+fn swim_rows(version: Version) -> &'static [KeyRule]
+    ensures { result.now ≡ key_rules_of version Section.Swim }
+{
+    match version {
+        Version::One | Version::Two => &SWIM_1,
+        Version::Three => &SWIM_3,
     }
 }
 
@@ -178,7 +226,7 @@ fn group_rows(version: Version) -> &'static [KeyRule]
 {
     match version {
         Version::One => &GROUP_1,
-        Version::Two => &GROUP_2,
+        Version::Two | Version::Three => &GROUP_2,
     }
 }
 
@@ -206,6 +254,8 @@ pub enum Absence {
     RefusedOver0(FormatKey),
     /// The key has this value.
     Default(u64),
+    /// The switch is off.
+    Off,
     /// A switch is on, the keys of a table have their defaults, a list is empty, and a path has the
     /// number of the link of all pairs.
     Optional,
@@ -218,419 +268,3 @@ pub struct KeyRule {
     pub absence: Absence,
     pub kind: Kind,
 }
-
-const VERSION_1: KeyRule = KeyRule {
-    key: FormatKey::Version,
-    absence: Absence::Refused,
-    kind: Kind::Whole { least: 1, most: 1 },
-};
-
-const VERSION_2: KeyRule = KeyRule {
-    key: FormatKey::Version,
-    absence: Absence::Refused,
-    kind: Kind::Whole { least: 1, most: 2 },
-};
-
-const SEED: KeyRule = KeyRule {
-    key: FormatKey::Seed,
-    absence: Absence::Refused,
-    kind: Kind::Whole {
-        least: 0,
-        most: 0x7fff_ffff_ffff_ffff,
-    },
-};
-
-const END: KeyRule = KeyRule {
-    key: FormatKey::End,
-    absence: Absence::Refused,
-    kind: Kind::Whole {
-        least: 0,
-        most: 0x100_0000_0000,
-    },
-};
-
-const SWIM_TABLE: KeyRule = KeyRule {
-    key: FormatKey::Swim,
-    absence: Absence::Refused,
-    kind: Kind::Table(Section::Swim),
-};
-
-const SUSPICION_TABLE: KeyRule = KeyRule {
-    key: FormatKey::Suspicion,
-    absence: Absence::Optional,
-    kind: Kind::Table(Section::Suspicion),
-};
-
-const LIFEGUARD_TABLE: KeyRule = KeyRule {
-    key: FormatKey::Lifeguard,
-    absence: Absence::Optional,
-    kind: Kind::Table(Section::Lifeguard),
-};
-
-const LINK_TABLE: KeyRule = KeyRule {
-    key: FormatKey::Link,
-    absence: Absence::Refused,
-    kind: Kind::Table(Section::Link),
-};
-
-const GROUPS: KeyRule = KeyRule {
-    key: FormatKey::Group,
-    absence: Absence::Refused,
-    kind: Kind::List(Section::Group),
-};
-
-const PATHS: KeyRule = KeyRule {
-    key: FormatKey::Path,
-    absence: Absence::Optional,
-    kind: Kind::List(Section::Path),
-};
-
-const SLOWS: KeyRule = KeyRule {
-    key: FormatKey::Slow,
-    absence: Absence::Optional,
-    kind: Kind::List(Section::Slow),
-};
-
-const CRASHES: KeyRule = KeyRule {
-    key: FormatKey::Crash,
-    absence: Absence::Optional,
-    kind: Kind::List(Section::Departure),
-};
-
-const CUTS: KeyRule = KeyRule {
-    key: FormatKey::Cut,
-    absence: Absence::Optional,
-    kind: Kind::List(Section::Cut),
-};
-
-const LEAVES: KeyRule = KeyRule {
-    key: FormatKey::Leave,
-    absence: Absence::Optional,
-    kind: Kind::List(Section::Departure),
-};
-
-/// The whole text in version 1.
-const TOP_1: [KeyRule; 11] = [
-    VERSION_1,
-    SEED,
-    END,
-    SWIM_TABLE,
-    SUSPICION_TABLE,
-    LIFEGUARD_TABLE,
-    LINK_TABLE,
-    GROUPS,
-    PATHS,
-    SLOWS,
-    CRASHES,
-];
-
-/// The whole text in version 2.
-const TOP_2: [KeyRule; 13] = [
-    VERSION_2,
-    SEED,
-    END,
-    SWIM_TABLE,
-    SUSPICION_TABLE,
-    LIFEGUARD_TABLE,
-    LINK_TABLE,
-    GROUPS,
-    PATHS,
-    SLOWS,
-    CRASHES,
-    CUTS,
-    LEAVES,
-];
-
-/// How members probe and gossip.
-pub(crate) const SWIM: [KeyRule; 6] = [
-    KeyRule {
-        key: FormatKey::Period,
-        absence: Absence::Refused,
-        kind: Kind::Whole {
-            least: 2,
-            most: 0x100_0000,
-        },
-    },
-    KeyRule {
-        key: FormatKey::Timeout,
-        absence: Absence::Refused,
-        kind: Kind::Whole {
-            least: 1,
-            most: 0x100_0000,
-        },
-    },
-    KeyRule {
-        key: FormatKey::Helpers,
-        absence: Absence::Default(3),
-        kind: Kind::Whole { least: 0, most: 16 },
-    },
-    KeyRule {
-        key: FormatKey::Carry,
-        absence: Absence::Default(6),
-        kind: Kind::Whole { least: 1, most: 64 },
-    },
-    KeyRule {
-        key: FormatKey::Lambda,
-        absence: Absence::Default(3),
-        kind: Kind::Whole {
-            least: 1,
-            most: 100,
-        },
-    },
-    KeyRule {
-        key: FormatKey::Spread,
-        absence: Absence::Default(1),
-        kind: Kind::Whole {
-            least: 1,
-            most: 0x100_0000,
-        },
-    },
-];
-
-/// How long suspicions last.
-pub(crate) const SUSPICION: [KeyRule; 2] = [
-    KeyRule {
-        key: FormatKey::Alpha,
-        absence: Absence::Default(5),
-        kind: Kind::Whole {
-            least: 1,
-            most: 100,
-        },
-    },
-    KeyRule {
-        key: FormatKey::Beta,
-        absence: Absence::Default(6),
-        kind: Kind::Whole {
-            least: 1,
-            most: 100,
-        },
-    },
-];
-
-/// Lifeguard's switches and their settings.
-pub(crate) const LIFEGUARD: [KeyRule; 6] = [
-    KeyRule {
-        key: FormatKey::Probe,
-        absence: Absence::Optional,
-        kind: Kind::Switch,
-    },
-    KeyRule {
-        key: FormatKey::Suspicion,
-        absence: Absence::Optional,
-        kind: Kind::Switch,
-    },
-    KeyRule {
-        key: FormatKey::Buddy,
-        absence: Absence::Optional,
-        kind: Kind::Switch,
-    },
-    KeyRule {
-        key: FormatKey::Ceiling,
-        absence: Absence::Default(8),
-        kind: Kind::Whole { least: 0, most: 16 },
-    },
-    KeyRule {
-        key: FormatKey::Confirmations,
-        absence: Absence::Default(3),
-        kind: Kind::Whole { least: 0, most: 9 },
-    },
-    KeyRule {
-        key: FormatKey::NackPercent,
-        absence: Absence::Default(80),
-        kind: Kind::Whole {
-            least: 1,
-            most: 100,
-        },
-    },
-];
-
-/// How messages travel.
-pub(crate) const LINK: [KeyRule; 3] = [
-    KeyRule {
-        key: FormatKey::Delay,
-        absence: Absence::Refused,
-        kind: Kind::Whole {
-            least: 1,
-            most: 0x10_0000,
-        },
-    },
-    KeyRule {
-        key: FormatKey::Jitter,
-        absence: Absence::Default(0),
-        kind: Kind::Whole {
-            least: 0,
-            most: 0x10_0000,
-        },
-    },
-    KeyRule {
-        key: FormatKey::Loss,
-        absence: Absence::Default(0),
-        kind: Kind::Whole {
-            least: 0,
-            most: 1_000_000,
-        },
-    },
-];
-
-const NAME: KeyRule = KeyRule {
-    key: FormatKey::Name,
-    absence: Absence::Refused,
-    kind: Kind::Text,
-};
-
-const COUNT_1: KeyRule = KeyRule {
-    key: FormatKey::Count,
-    absence: Absence::Refused,
-    kind: Kind::Whole {
-        least: 1,
-        most: 1024,
-    },
-};
-
-const COUNT_2: KeyRule = KeyRule {
-    key: FormatKey::Count,
-    absence: Absence::Refused,
-    kind: Kind::Whole {
-        least: 1,
-        most: 4096,
-    },
-};
-
-const START: KeyRule = KeyRule {
-    key: FormatKey::Start,
-    absence: Absence::Default(0),
-    kind: Kind::Whole {
-        least: 0,
-        most: 0x100_0000_0000,
-    },
-};
-
-const CONTACT: KeyRule = KeyRule {
-    key: FormatKey::Contact,
-    absence: Absence::RefusedOver0(FormatKey::Start),
-    kind: Kind::Text,
-};
-
-/// A group of members in version 1.
-const GROUP_1: [KeyRule; 4] = [NAME, COUNT_1, START, CONTACT];
-
-/// A group of members in version 2.
-const GROUP_2: [KeyRule; 4] = [NAME, COUNT_2, START, CONTACT];
-
-/// The link from the members of one group to those of another.
-pub(crate) const PATH: [KeyRule; 5] = [
-    KeyRule {
-        key: FormatKey::From,
-        absence: Absence::Refused,
-        kind: Kind::Text,
-    },
-    KeyRule {
-        key: FormatKey::To,
-        absence: Absence::Refused,
-        kind: Kind::Text,
-    },
-    KeyRule {
-        key: FormatKey::Delay,
-        absence: Absence::Optional,
-        kind: Kind::Whole {
-            least: 1,
-            most: 0x10_0000,
-        },
-    },
-    KeyRule {
-        key: FormatKey::Jitter,
-        absence: Absence::Optional,
-        kind: Kind::Whole {
-            least: 0,
-            most: 0x10_0000,
-        },
-    },
-    KeyRule {
-        key: FormatKey::Loss,
-        absence: Absence::Optional,
-        kind: Kind::Whole {
-            least: 0,
-            most: 1_000_000,
-        },
-    },
-];
-
-/// A time in which a member is slow.
-pub(crate) const SLOW: [KeyRule; 4] = [
-    KeyRule {
-        key: FormatKey::Member,
-        absence: Absence::Refused,
-        kind: Kind::Text,
-    },
-    KeyRule {
-        key: FormatKey::From,
-        absence: Absence::Refused,
-        kind: Kind::Whole {
-            least: 0,
-            most: 0x100_0000_0000,
-        },
-    },
-    KeyRule {
-        key: FormatKey::Until,
-        absence: Absence::Refused,
-        kind: Kind::Whole {
-            least: 0,
-            most: 0x100_0000_0000,
-        },
-    },
-    KeyRule {
-        key: FormatKey::Extra,
-        absence: Absence::Refused,
-        kind: Kind::Whole {
-            least: 1,
-            most: 0x100_0000,
-        },
-    },
-];
-
-/// The crash or the leave of a member.
-pub(crate) const DEPARTURE: [KeyRule; 2] = [
-    KeyRule {
-        key: FormatKey::Member,
-        absence: Absence::Refused,
-        kind: Kind::Text,
-    },
-    KeyRule {
-        key: FormatKey::At,
-        absence: Absence::Refused,
-        kind: Kind::Whole {
-            least: 0,
-            most: 0x100_0000_0000,
-        },
-    },
-];
-
-/// A time in which the links from one group to another, or within one, lose all.
-pub(crate) const CUT: [KeyRule; 4] = [
-    KeyRule {
-        key: FormatKey::From,
-        absence: Absence::Refused,
-        kind: Kind::Text,
-    },
-    KeyRule {
-        key: FormatKey::To,
-        absence: Absence::Refused,
-        kind: Kind::Text,
-    },
-    KeyRule {
-        key: FormatKey::At,
-        absence: Absence::Refused,
-        kind: Kind::Whole {
-            least: 0,
-            most: 0x100_0000_0000,
-        },
-    },
-    KeyRule {
-        key: FormatKey::Until,
-        absence: Absence::Refused,
-        kind: Kind::Whole {
-            least: 0,
-            most: 0x100_0000_0000,
-        },
-    },
-];

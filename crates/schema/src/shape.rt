@@ -193,7 +193,7 @@ fn is_missing(row: &KeyRule, table: &Value) -> bool
         Absence::RefusedOver0(key) => {
             is_over_0(table.get(key.text())) && is_absent(row.kind, table.get(row.key.text()))
         }
-        Absence::Default(_) | Absence::Optional => false,
+        Absence::Default(_) | Absence::Off | Absence::Optional => false,
     }
 }
 

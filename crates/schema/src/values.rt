@@ -2,7 +2,7 @@
 ghost use Rattle.std.specs.Prelude.{◌≡◌, ℕ, [], map, option_map, unwrap_or};
 ghost use Rattle.toml.specs.View.{view};
 ghost use Rattle.schema.specs.Tree.{items_at};
-ghost use Rattle.schema.specs.Values.{default_of, whole_or, number_at, is_on, switch_at, text_if, text_at};
+ghost use Rattle.schema.specs.Values.{default_of, whole_or, number_at, is_on, switch_at, is_set, switch_set, text_if, text_at};
 
 use crate::schema::{Absence, FormatKey, Section, Version};
 use crate::shape::{items, rule_named};
@@ -51,6 +51,27 @@ fn is_on(value: Option<&Value>) -> bool
     }
 }
 
+/// The switch of a key of a table; off where the table, the key or a boolean isn't there.
+#[tactic(auto, unfolding(crate::specs::Values::switch_set))]
+pub fn switch_set(key: FormatKey, table: Option<&Value>) -> bool
+    ensures { result ≡ switch_set key (option_map (λ v. view v.now) table.entry) }
+{
+    match table {
+        Some(table) => is_set(table.get(key.text())),
+        None => false,
+    }
+}
+
+/// Whether the switch is there and on.
+fn is_set(value: Option<&Value>) -> bool
+    ensures { result ≡ is_set (option_map (λ v. view v.now) value.entry) }
+{
+    match value {
+        Some(Value::Boolean(switch)) => *switch,
+        _ => false,
+    }
+}
+
 /// The whole number from 0 on that is there, else the default.
 pub fn whole_or(default: u64, value: Option<&Value>) -> u64
     ensures { result ≡ whole_or default (option_map (λ v. view v.now) value.entry) }
@@ -68,7 +89,7 @@ fn default_of(section: Section, key: FormatKey) -> u64
     match rule_named(section.rows(Version::One), key.text()) {
         Some(row) => match row.absence {
             Absence::Default(number) => number,
-            Absence::Refused | Absence::RefusedOver0(_) | Absence::Optional => 0,
+            Absence::Refused | Absence::RefusedOver0(_) | Absence::Off | Absence::Optional => 0,
         },
         None => 0,
     }

@@ -10,7 +10,7 @@ use Rattle.schema.specs.Schema.{most_members}
 use Rattle.schema.specs.declared.schema.Version.{Version}
 use Rattle.schema.specs.declared.schema.FormatKey.TheVariants as key
 use Rattle.scenario.specs.Setup.{Group, names_in, member_count, IsSound}
-use Rattle.scenario_reader.specs.Reading.{version_of, plain_groups, group_in, path_in, slows_in, crashes_in, leaves_in, cuts_in, setup_of_tree}
+use Rattle.scenario_reader.specs.Reading.{version_of, plain_groups, group_in, path_in, slows_in, crashes_in, leaves_in, cuts_in, pauses_in, setup_of_tree}
 use Rattle.scenario_reader.specs.Rules.{KeepsValues}
 use Rattle.scenario.specs.SetupOf.{group_of}
 use Rattle.scenario.specs.declared.settings.Link.{Link}
@@ -56,6 +56,10 @@ module _ (tree : Data) (gs : List Group) (same : gs ≡ plain_groups tree) where
   unfolding setup_of_tree
   cuts_are v version = ap (λ w. cuts_in w gs tree) version ∙ ap (λ hs. cuts_in (version_of tree) hs tree) same
 
+  pauses_are : (v : Version) → v ≡ version_of tree → pauses_in v gs tree ≡ (setup_of_tree tree).pauses
+  unfolding setup_of_tree
+  pauses_are v version = ap (λ w. pauses_in w gs tree) version ∙ ap (λ hs. pauses_in (version_of tree) hs tree) same
+
 pub read_groups-requires : goal.read_groups-requires
 read_groups-requires c = record { at_most_4096 = few_members (view c.args.tree.now) c.args.roster.now c.requires.groups c.requires.values }
 
@@ -70,13 +74,14 @@ of-requires c =
     let link = c.read_link-link.result in
     let same = same_setup (setup_of_tree tree) c.version_of-version.result c.number.result c.number-2.result c.read_swim.result c.read_suspicion.result c.read_lifeguard.result link
     (map group_of c.in-Ok.groups.items) c.in-Ok-read_paths.paths.items c.in-Ok-read_script.script.slows.items c.in-Ok-read_script.script.crashes.items
-    c.in-Ok-read_script.script.leaves.items c.in-Ok-read_script.script.cuts.items
+    c.in-Ok-read_script.script.leaves.items c.in-Ok-read_script.script.cuts.items c.read_gossip.result c.read_stream.result c.in-Ok-read_script.script.pauses.items
     c.version_of-version.ensures c.number.ensures c.number-2.ensures c.read_swim.ensures c.read_suspicion.ensures c.read_lifeguard.ensures c.read_link-link.ensures
     (c.in-Ok.ensures ∙ groups_are tree gs c.requires.groups c.items_at-list.result.now c.items_at-list.ensures)
     (c.in-Ok-read_paths.ensures ∙ paths_are tree gs c.requires.groups c.items_at.result.now link c.read_link-link.ensures c.items_at.ensures)
     (c.in-Ok-read_script.ensures.slows ∙ slows_are tree gs c.requires.groups) (c.in-Ok-read_script.ensures.crashes ∙ crashes_are tree gs c.requires.groups)
     (c.in-Ok-read_script.ensures.leaves ∙ leaves_are tree gs c.requires.groups c.version_of-version.result c.version_of-version.ensures)
-    (c.in-Ok-read_script.ensures.cuts ∙ cuts_are tree gs c.requires.groups c.version_of-version.result c.version_of-version.ensures) in
+    (c.in-Ok-read_script.ensures.cuts ∙ cuts_are tree gs c.requires.groups c.version_of-version.result c.version_of-version.ensures)
+    c.read_gossip.ensures c.read_stream.ensures (c.in-Ok-read_script.ensures.pauses ∙ pauses_are tree gs c.requires.groups c.version_of-version.result c.version_of-version.ensures) in
     record {
       named = c.in-Ok-list_names.ensures ∙ sym (flat_map-map names_in (λ v. group_in gs (view v)) c.items_at-list.result.now) ∙ ap (flat_map names_in) (sym c.in-Ok.ensures);
       sound = subst IsSound (sym same) (sound_of tree c.requires.shape c.requires.values);
@@ -91,10 +96,11 @@ returns c =
     c.of.ensures
     ∙ same_setup (setup_of_tree tree) c.version_of-version.result c.number.result c.number-2.result c.read_swim.result c.read_suspicion.result c.read_lifeguard.result link
     (map group_of c.in-Ok.groups.items) c.in-Ok-read_paths.paths.items c.in-Ok-read_script.script.slows.items c.in-Ok-read_script.script.crashes.items
-    c.in-Ok-read_script.script.leaves.items c.in-Ok-read_script.script.cuts.items
+    c.in-Ok-read_script.script.leaves.items c.in-Ok-read_script.script.cuts.items c.read_gossip.result c.read_stream.result c.in-Ok-read_script.script.pauses.items
     c.version_of-version.ensures c.number.ensures c.number-2.ensures c.read_swim.ensures c.read_suspicion.ensures c.read_lifeguard.ensures c.read_link-link.ensures
     (c.in-Ok.ensures ∙ groups_are tree gs c.requires.groups c.items_at-list.result.now c.items_at-list.ensures)
     (c.in-Ok-read_paths.ensures ∙ paths_are tree gs c.requires.groups c.items_at.result.now link c.read_link-link.ensures c.items_at.ensures)
     (c.in-Ok-read_script.ensures.slows ∙ slows_are tree gs c.requires.groups) (c.in-Ok-read_script.ensures.crashes ∙ crashes_are tree gs c.requires.groups)
     (c.in-Ok-read_script.ensures.leaves ∙ leaves_are tree gs c.requires.groups c.version_of-version.result c.version_of-version.ensures)
     (c.in-Ok-read_script.ensures.cuts ∙ cuts_are tree gs c.requires.groups c.version_of-version.result c.version_of-version.ensures)
+    c.read_gossip.ensures c.read_stream.ensures (c.in-Ok-read_script.ensures.pauses ∙ pauses_are tree gs c.requires.groups c.version_of-version.result c.version_of-version.ensures)

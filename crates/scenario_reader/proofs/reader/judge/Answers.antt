@@ -8,9 +8,9 @@ use Rattle.schema.specs.Tree.{items_at}
 use Rattle.schema.specs.declared.schema.Version.{Version}
 use Rattle.schema.specs.declared.schema.FormatKey.TheVariants as key
 use Rattle.scenario.specs.Setup.{Setup, Group, member_count}
-use Rattle.scenario_reader.specs.Reading.{version_of, plain_group, plain_groups, slows_in, crashes_in, leaves_in, setup_of_tree}
-use Rattle.scenario_reader.specs.Rules.{breaks_names, breaks_references, breaks_added_references, breaks_pairs, breaks_departures, breaks_times, breaks_added_times, breaks_size, least_broken_by, KeepsValues}
-use Rattle.scenario_reader.proofs.Chain.{version_is, names_least, references_least, added_references_least, pairs_least, departures_least, times_least, added_times_least, size_least}
+use Rattle.scenario_reader.specs.Reading.{version_of, plain_group, plain_groups, slows_in, crashes_in, leaves_in, pauses_in, setup_of_tree}
+use Rattle.scenario_reader.specs.Rules.{breaks_names, breaks_references, breaks_added_references, breaks_pairs, breaks_departures, breaks_pauses, breaks_times, breaks_added_times, breaks_size, least_broken_by, KeepsValues}
+use Rattle.scenario_reader.proofs.Chain.{version_is, names_least, references_least, added_references_least, pairs_least, departures_least, pauses_least, times_least, added_times_least, size_least}
 use Rattle.scenario_reader.proofs.Groups.{total_of}
 use Rattle.scenario_reader.proofs.Sound.{counts_same}
 use Rattle.scenario_reader.proofs.Trees.{map_items}
@@ -36,6 +36,13 @@ departures_are : (tree : Data) (gs : List Group) (v : Version) → gs ≡ plain_
 unfolding setup_of_tree
 departures_are tree gs v same version =
     ap (λ hs. breaks_departures (crashes_in hs tree) (leaves_in (version_of tree) hs tree)) (sym same) ∙ ap (λ w. breaks_departures (crashes_in gs tree) (leaves_in w gs tree)) (sym version)
+
+-- pauses as the scenario has them
+pauses_are : (tree : Data) (gs : List Group) (v : Version) → gs ≡ plain_groups tree → v ≡ version_of tree
+    → breaks_pauses (setup_of_tree tree).pauses ≡ breaks_pauses (pauses_in v gs tree)
+unfolding setup_of_tree
+pauses_are tree gs v same version =
+    ap (λ hs. breaks_pauses (pauses_in (version_of tree) hs tree)) (sym same) ∙ ap (λ w. breaks_pauses (pauses_in w gs tree)) (sym version)
 
 -- more members than the version allows, as they were counted
 many_are : (tree : Data) (list : List Value) (v : Version) → map (λ d. plain_group (view d)) list ≡ plain_groups tree → v ≡ version_of tree
@@ -87,34 +94,41 @@ module _ (tree : Data) (list : List Value) (items : map view list ≡ items_at k
               (departures_are tree gs v same version ∙ broken)
 
           module _ (once_too : breaks_departures (crashes_in gs tree) (leaves_in v gs tree) ≡ false) where
-            times_broken : breaks_times s ≡ true → least_broken_by tree s ≡ Some 9
-            times_broken =
-                times_least tree s named (known_are ∙ known) (references_are tree gs v same version ∙ known_too) (pairs_are tree gs same ∙ once)
-                (departures_are tree gs v same version ∙ once_too)
+            pauses_broken : breaks_pauses (pauses_in v gs tree) ≡ true → least_broken_by tree s ≡ Some 8
+            pauses_broken broken =
+                pauses_least tree s named (known_are ∙ known) (references_are tree gs v same version ∙ known_too) (pairs_are tree gs same ∙ once)
+                (departures_are tree gs v same version ∙ once_too) (pauses_are tree gs v same version ∙ broken)
 
-            module _ (timely : breaks_times s ≡ false) where
-              added_times_broken : breaks_added_times s ≡ true → least_broken_by tree s ≡ Some 9
-              added_times_broken =
-                  added_times_least tree s named (known_are ∙ known) (references_are tree gs v same version ∙ known_too) (pairs_are tree gs same ∙ once)
-                  (departures_are tree gs v same version ∙ once_too) timely
+            module _ (apart : breaks_pauses (pauses_in v gs tree) ≡ false) where
+              times_broken : breaks_times s ≡ true → least_broken_by tree s ≡ Some 9
+              times_broken =
+                  times_least tree s named (known_are ∙ known) (references_are tree gs v same version ∙ known_too) (pairs_are tree gs same ∙ once)
+                  (departures_are tree gs v same version ∙ once_too) (pauses_are tree gs v same version ∙ apart)
 
-              module _ (timely_too : breaks_added_times s ≡ false) where
-                size_broken : nat_lt (most_members v) (sum_by (λ d. (plain_group (view d)).count) list) ≡ true → least_broken_by tree s ≡ Some 10
-                size_broken many =
-                    size_least tree s named (known_are ∙ known) (references_are tree gs v same version ∙ known_too) (pairs_are tree gs same ∙ once)
-                    (departures_are tree gs v same version ∙ once_too) timely timely_too (many_are tree list v are version ∙ many)
+              module _ (timely : breaks_times s ≡ false) where
+                added_times_broken : breaks_added_times s ≡ true → least_broken_by tree s ≡ Some 9
+                added_times_broken =
+                    added_times_least tree s named (known_are ∙ known) (references_are tree gs v same version ∙ known_too) (pairs_are tree gs same ∙ once)
+                    (departures_are tree gs v same version ∙ once_too) (pauses_are tree gs v same version ∙ apart) timely
 
-                all_kept : nat_lt (most_members v) (sum_by (λ d. (plain_group (view d)).count) list) ≡ false → KeepsValues tree
-                all_kept few = record {
-                  names = named;
-                  references = known_are ∙ known;
-                  added_references = ap (λ w. breaks_added_references w tree (plain_groups tree)) (sym version) ∙ ap (breaks_added_references v tree) (sym same) ∙ known_too;
-                  pairs = pairs_are tree gs same ∙ once;
-                  departures = departures_are tree gs v same version ∙ once_too;
-                  times = timely;
-                  added_times = timely_too;
-                  size = many_are tree list v are version ∙ few;
-                }
+                module _ (timely_too : breaks_added_times s ≡ false) where
+                  size_broken : nat_lt (most_members v) (sum_by (λ d. (plain_group (view d)).count) list) ≡ true → least_broken_by tree s ≡ Some 10
+                  size_broken many =
+                      size_least tree s named (known_are ∙ known) (references_are tree gs v same version ∙ known_too) (pairs_are tree gs same ∙ once)
+                      (departures_are tree gs v same version ∙ once_too) (pauses_are tree gs v same version ∙ apart) timely timely_too (many_are tree list v are version ∙ many)
+
+                  all_kept : nat_lt (most_members v) (sum_by (λ d. (plain_group (view d)).count) list) ≡ false → KeepsValues tree
+                  all_kept few = record {
+                    names = named;
+                    references = known_are ∙ known;
+                    added_references = ap (λ w. breaks_added_references w tree (plain_groups tree)) (sym version) ∙ ap (breaks_added_references v tree) (sym same) ∙ known_too;
+                    pairs = pairs_are tree gs same ∙ once;
+                    departures = departures_are tree gs v same version ∙ once_too;
+                    pauses = pauses_are tree gs v same version ∙ apart;
+                    times = timely;
+                    added_times = timely_too;
+                    size = many_are tree list v are version ∙ few;
+                  }
 
 pub returns-in-Err-clause-err : goal.returns-in-Err-clause-err
 returns-in-Err-clause-err c = λ other.
@@ -153,6 +167,14 @@ returns-in-Err-check_departures-clause-err c = λ other.
     c.in_default.ensures.ok c.in_default-check_added_references.ensures.ok c.in_default-check_pairs.ensures.ok broken.1
     ∙ ap Some (sym broken.0)
 
+pub returns-in-Err-check_pauses-clause-err : goal.returns-in-Err-check_pauses-clause-err
+returns-in-Err-check_pauses-clause-err c = λ other.
+    let broken = c.in-Err-check_pauses.ensures.err other in
+    pauses_broken (view c.args.tree.now) c.items_at-list.result.now c.items_at-list.ensures
+    c.in-Ok.roster c.in-Ok.ensures.ok c.version_of-version.result c.version_of-version.ensures c.in-Ok.ensures.fine
+    c.in_default.ensures.ok c.in_default-check_added_references.ensures.ok c.in_default-check_pairs.ensures.ok c.in_default-check_departures.ensures.ok broken.1
+    ∙ ap Some (sym broken.0)
+
 pub check_times-requires-clause-groups : goal.check_times-requires-clause-groups
 check_times-requires-clause-groups c = c.in-Ok.ensures.ok ∙ groups_are (view c.args.tree.now) c.items_at-list.result.now c.items_at-list.ensures
 
@@ -161,7 +183,7 @@ returns-in-Err-check_times-clause-err c = λ other.
     let broken = c.in-Err-check_times.ensures.err in
     times_broken (view c.args.tree.now) c.items_at-list.result.now c.items_at-list.ensures
     c.in-Ok.roster c.in-Ok.ensures.ok c.version_of-version.result c.version_of-version.ensures c.in-Ok.ensures.fine
-    c.in_default.ensures.ok c.in_default-check_added_references.ensures.ok c.in_default-check_pairs.ensures.ok c.in_default-check_departures.ensures.ok broken.1
+    c.in_default.ensures.ok c.in_default-check_added_references.ensures.ok c.in_default-check_pairs.ensures.ok c.in_default-check_departures.ensures.ok c.in_default-check_pauses.ensures.ok broken.1
     ∙ ap Some (sym broken.0)
 
 pub check_added_times-requires-clause-groups : goal.check_added_times-requires-clause-groups
@@ -172,14 +194,14 @@ returns-in-Err-check_added_times-clause-err c = λ other.
     let broken = c.in-Err-check_added_times.ensures.err in
     added_times_broken (view c.args.tree.now) c.items_at-list.result.now c.items_at-list.ensures
     c.in-Ok.roster c.in-Ok.ensures.ok c.version_of-version.result c.version_of-version.ensures c.in-Ok.ensures.fine
-    c.in_default.ensures.ok c.in_default-check_added_references.ensures.ok c.in_default-check_pairs.ensures.ok c.in_default-check_departures.ensures.ok c.in_default-check_times.ensures.ok broken.1
+    c.in_default.ensures.ok c.in_default-check_added_references.ensures.ok c.in_default-check_pairs.ensures.ok c.in_default-check_departures.ensures.ok c.in_default-check_pauses.ensures.ok c.in_default-check_times.ensures.ok broken.1
     ∙ ap Some (sym broken.0)
 
 pub returns-then-are_too_many-clause-err : goal.returns-then-are_too_many-clause-err
 returns-then-are_too_many-clause-err c = λ other.
     size_broken (view c.args.tree.now) c.items_at-list.result.now c.items_at-list.ensures
     c.in-Ok.roster c.in-Ok.ensures.ok c.version_of-version.result c.version_of-version.ensures c.in-Ok.ensures.fine
-    c.in_default.ensures.ok c.in_default-check_added_references.ensures.ok c.in_default-check_pairs.ensures.ok c.in_default-check_departures.ensures.ok c.in_default-check_times.ensures.ok c.in_default-check_added_times.ensures.ok (sym c.are_too_many.ensures ∙ c.if-are_too_many.true)
+    c.in_default.ensures.ok c.in_default-check_added_references.ensures.ok c.in_default-check_pairs.ensures.ok c.in_default-check_departures.ensures.ok c.in_default-check_pauses.ensures.ok c.in_default-check_times.ensures.ok c.in_default-check_added_times.ensures.ok (sym c.are_too_many.ensures ∙ c.if-are_too_many.true)
 
 pub returns-clause-groups : goal.returns-clause-groups
 returns-clause-groups c = c.in-Ok.ensures.ok ∙ groups_are (view c.args.tree.now) c.items_at-list.result.now c.items_at-list.ensures
@@ -188,4 +210,4 @@ pub returns-clause-kept : goal.returns-clause-kept
 returns-clause-kept c =
     all_kept (view c.args.tree.now) c.items_at-list.result.now c.items_at-list.ensures
     c.in-Ok.roster c.in-Ok.ensures.ok c.version_of-version.result c.version_of-version.ensures c.in-Ok.ensures.fine
-    c.in_default.ensures.ok c.in_default-check_added_references.ensures.ok c.in_default-check_pairs.ensures.ok c.in_default-check_departures.ensures.ok c.in_default-check_times.ensures.ok c.in_default-check_added_times.ensures.ok (sym c.are_too_many.ensures ∙ c.if-are_too_many.false)
+    c.in_default.ensures.ok c.in_default-check_added_references.ensures.ok c.in_default-check_pairs.ensures.ok c.in_default-check_departures.ensures.ok c.in_default-check_pauses.ensures.ok c.in_default-check_times.ensures.ok c.in_default-check_added_times.ensures.ok (sym c.are_too_many.ensures ∙ c.if-are_too_many.false)

@@ -4,6 +4,7 @@ use Rattle.std.specs.List.{list_any}
 use Rattle.toml.specs.View.{view}
 use Rattle.schema.specs.Tree.{items_at}
 use Rattle.schema.specs.declared.schema.FormatKey.TheVariants as key
+use Rattle.schema.specs.declared.schema.Section.TheVariants as section
 use Rattle.scenario_reader.specs.Reading.{plain_groups, setup_of_tree}
 use Rattle.scenario_reader.specs.Rules.{breaks_references}
 use Rattle.scenario_reader.specs.Times.{is_bad_contact_in, is_over_in, is_early_in}
@@ -38,7 +39,7 @@ returns-in-Some-first_over-clause-err c =
     let timeout : nat_le s.swim.period s.swim.timeout ≡ false = ap (λ w. nat_le w.period w.timeout) (sym c.read_swim-swim.ensures) ∙ early in
     let contacts = contacts_same tree ∙ ap (λ hs. list_any (is_bad_contact_in hs) (items_at key.Group tree)) (sym c.requires.groups)
     ∙ any_items (is_bad_contact_in gs) (items_at key.Group tree) c.items_at.result.now c.first_bad_contact.result c.items_at.ensures c.first_bad_contact.ensures in
-    let overs = overs_same tree ∙ any_items is_over_in (items_at key.Slow tree) c.items_at-2.result.now c.first_over.result c.items_at-2.ensures c.first_over.ensures in
+    let overs = overs_same tree ∙ any_items (is_over_in section.Slow) (items_at key.Slow tree) c.items_at-2.result.now c.first_over.result c.items_at-2.ensures c.first_over.ensures in
     (c.in_item-in-Some-first_over.ensures, slow_over s timeout (contacts ∙ ap is_some c.in_default.is) (overs ∙ ap is_some c.in-Some-first_over.is))
 
 pub returns-in-Some-first_early-clause-err : goal.returns-in-Some-first_early-clause-err
@@ -50,7 +51,7 @@ returns-in-Some-first_early-clause-err c =
     let timeout : nat_le s.swim.period s.swim.timeout ≡ false = ap (λ w. nat_le w.period w.timeout) (sym c.read_swim-swim.ensures) ∙ early in
     let contacts = contacts_same tree ∙ ap (λ hs. list_any (is_bad_contact_in hs) (items_at key.Group tree)) (sym c.requires.groups)
     ∙ any_items (is_bad_contact_in gs) (items_at key.Group tree) c.items_at.result.now c.first_bad_contact.result c.items_at.ensures c.first_bad_contact.ensures in
-    let overs = overs_same tree ∙ any_items is_over_in (items_at key.Slow tree) c.items_at-2.result.now c.first_over.result c.items_at-2.ensures c.first_over.ensures in
+    let overs = overs_same tree ∙ any_items (is_over_in section.Slow) (items_at key.Slow tree) c.items_at-2.result.now c.first_over.result c.items_at-2.ensures c.first_over.ensures in
     let known : breaks_references tree (plain_groups tree) ≡ false = ap (breaks_references tree) (sym c.requires.groups) ∙ c.requires.known in
     let earlies = earlies_same tree known ∙ ap (λ hs. list_any (is_early_in hs) (items_at key.Crash tree)) (sym c.requires.groups)
     ∙ any_items (is_early_in gs) (items_at key.Crash tree) c.items_at-3.result.now c.first_early.result c.items_at-3.ensures c.first_early.ensures in
@@ -65,7 +66,7 @@ returns-in-None-clause-ok c =
     let timeout : nat_le s.swim.period s.swim.timeout ≡ false = ap (λ w. nat_le w.period w.timeout) (sym c.read_swim-swim.ensures) ∙ early in
     let contacts = contacts_same tree ∙ ap (λ hs. list_any (is_bad_contact_in hs) (items_at key.Group tree)) (sym c.requires.groups)
     ∙ any_items (is_bad_contact_in gs) (items_at key.Group tree) c.items_at.result.now c.first_bad_contact.result c.items_at.ensures c.first_bad_contact.ensures in
-    let overs = overs_same tree ∙ any_items is_over_in (items_at key.Slow tree) c.items_at-2.result.now c.first_over.result c.items_at-2.ensures c.first_over.ensures in
+    let overs = overs_same tree ∙ any_items (is_over_in section.Slow) (items_at key.Slow tree) c.items_at-2.result.now c.first_over.result c.items_at-2.ensures c.first_over.ensures in
     let known : breaks_references tree (plain_groups tree) ≡ false = ap (breaks_references tree) (sym c.requires.groups) ∙ c.requires.known in
     let earlies = earlies_same tree known ∙ ap (λ hs. list_any (is_early_in hs) (items_at key.Crash tree)) (sym c.requires.groups)
     ∙ any_items (is_early_in gs) (items_at key.Crash tree) c.items_at-3.result.now c.first_early.result c.items_at-3.ensures c.first_early.ensures in

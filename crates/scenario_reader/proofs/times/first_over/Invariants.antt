@@ -5,4 +5,4 @@ use Rattle.scenario_reader.specs.Times.{is_over_in}
 use Rattle.scenario_reader.proofs.times.first_over.Given as goal
 
 abbrev pub invariant-loop-i : goal.invariant-loop-i
-invariant-loop-i l = list_any (λ v. is_over_in (view v)) (take l.i l.list) ≡ false
+invariant-loop-i l = list_any (λ v. is_over_in l.section (view v)) (take l.i l.list) ≡ false

@@ -9,3 +9,7 @@ returns-in-One c = search rules
 pub returns-in-Two : goal.returns-in-Two
 unfolding key_rules_of
 returns-in-Two c = search rules
+
+pub returns-in-Three : goal.returns-in-Three
+unfolding key_rules_of
+returns-in-Three c = search rules

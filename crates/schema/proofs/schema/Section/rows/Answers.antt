@@ -2,10 +2,6 @@ use Rattle.std.proofs.Common.{rules}
 use Rattle.schema.specs.Schema.{key_rules_of}
 use Rattle.schema.proofs.schema.Section.rows.Goals as goal
 
-pub returns-in-Swim : goal.returns-in-Swim
-unfolding key_rules_of
-returns-in-Swim c = search rules
-
 pub returns-in-Suspicion : goal.returns-in-Suspicion
 unfolding key_rules_of
 returns-in-Suspicion c = search rules
@@ -33,3 +29,15 @@ returns-in-Departure c = search rules
 pub returns-in-Cut : goal.returns-in-Cut
 unfolding key_rules_of
 returns-in-Cut c = search rules
+
+pub returns-in-Gossip : goal.returns-in-Gossip
+unfolding key_rules_of
+returns-in-Gossip c = search rules
+
+pub returns-in-Stream : goal.returns-in-Stream
+unfolding key_rules_of
+returns-in-Stream c = search rules
+
+pub returns-in-Pause : goal.returns-in-Pause
+unfolding key_rules_of
+returns-in-Pause c = search rules
