@@ -1,1 +1,2 @@
 pub mod Overrides
+pub mod Refutations

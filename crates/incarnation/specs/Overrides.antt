@@ -1,16 +1,34 @@
 -- Which claim takes the place of which (SWIM, section 4.2).
 use Rattle.std.specs.Prelude.{ℕ, ◌<◌, ◌≤◌}
+use Rattle.base.specs.declared.profile.Profile.{Profile}
+use Rattle.base.specs.declared.profile.Profile.TheVariants.{Papers, Memberlist}
 use Rattle.incarnation.specs.declared.Claim.{Claim}
 use Rattle.incarnation.specs.declared.Claim.TheVariants.{Alive, Suspect, Confirm}
 
--- a claim with its incarnation number, first the new one, overrides the old one about the same member
-abbrev pub Overrides : Claim × ℕ → Claim × ℕ → Type 0
-Overrides (Alive, i) (Alive, j) = j < i
-Overrides (Alive, i) (Suspect, j) = j < i
-Overrides (Suspect, i) (Suspect, j) = j < i
-Overrides (Suspect, i) (Alive, j) = j ≤ i
-Overrides (Confirm, i) (Alive, j) = Unit {0}
-Overrides (Confirm, i) (Suspect, j) = Unit {0}
-Overrides (Alive, i) (Confirm, j) = ⊥
-Overrides (Suspect, i) (Confirm, j) = ⊥
-Overrides (Confirm, i) (Confirm, j) = ⊥
+-- By the papers' rules a claim with its incarnation number, first the new one, overrides the old one about the same member. Confirm is for good.
+abbrev pub OverridesForGood : Claim × ℕ → Claim × ℕ → Type 0
+OverridesForGood (Alive, i) (Alive, j) = j < i
+OverridesForGood (Alive, i) (Suspect, j) = j < i
+OverridesForGood (Suspect, i) (Suspect, j) = j < i
+OverridesForGood (Suspect, i) (Alive, j) = j ≤ i
+OverridesForGood (Confirm, i) (Alive, j) = Unit {0}
+OverridesForGood (Confirm, i) (Suspect, j) = Unit {0}
+OverridesForGood (Alive, i) (Confirm, j) = ⊥
+OverridesForGood (Suspect, i) (Confirm, j) = ⊥
+OverridesForGood (Confirm, i) (Confirm, j) = ⊥
+
+-- By memberlist's rules: a death can be refuted, and a suspicion that stands is not begun anew.
+abbrev pub OverridesUntilRefuted : Claim × ℕ → Claim × ℕ → Type 0
+OverridesUntilRefuted (Alive, i) (Alive, j) = j < i
+OverridesUntilRefuted (Alive, i) (Suspect, j) = j < i
+OverridesUntilRefuted (Alive, i) (Confirm, j) = j < i
+OverridesUntilRefuted (Suspect, i) (Alive, j) = j ≤ i
+OverridesUntilRefuted (Confirm, i) (Alive, j) = j ≤ i
+OverridesUntilRefuted (Confirm, i) (Suspect, j) = j ≤ i
+OverridesUntilRefuted (Suspect, i) (Suspect, j) = ⊥
+OverridesUntilRefuted (Suspect, i) (Confirm, j) = ⊥
+OverridesUntilRefuted (Confirm, i) (Confirm, j) = ⊥
+
+abbrev pub Overrides : Profile → Claim × ℕ → Claim × ℕ → Type 0
+Overrides Papers new old = OverridesForGood new old
+Overrides Memberlist new old = OverridesUntilRefuted new old

@@ -27,7 +27,7 @@ impl Model for Health {
 
 impl Health {
     ghost use Rattle.lifeguard.specs.Health.{full_health, lowered, raised, scaled};
-    ghost use Rattle.lifeguard.specs.Probe.{after_probe};
+    ghost use Rattle.lifeguard.specs.Probe.{after_probe, after_deadline};
 
     /// Full health, with a ceiling of at most 16; a ceiling of 0 switches LHA-Probe's scaling off.
     pub fn new(ceiling: u32) -> Self
@@ -88,6 +88,27 @@ impl Health {
         if probe.missed_nacks() {
             self.missed();
         }
+    }
+
+    /// What a probe that was still under way at its deadline says of the member that probed (memberlist's
+    /// rules): good where a call reached the target, else bad for each nack that is missing, or once
+    /// where none was expected.
+    pub fn deadline_passed(&mut self, probe: &Probe)
+        ensures { self.new ≡ after_deadline self.old probe.now }
+    {
+        if probe.reached {
+            self.good();
+        } else {
+            self.rise_by(probe.misses());
+        }
+    }
+
+    /// So much more, not above the ceiling.
+    fn rise_by(&mut self, failures: u32)
+        requires { failures ≤ 255 }
+        ensures { self.new ≡ raised self.old failures }
+    {
+        self.counter = (self.counter + failures).min(self.ceiling);
     }
 
     /// The counter: 0 in full health, and at most the ceiling.

@@ -1,10 +1,10 @@
 //! Laws of the definitions, whatever calls a member makes. Each function does nothing: its contract
 //! is the law.
-ghost use Rattle.std.specs.Prelude.{◌≡◌, ◌≢◌, ◌≤◌, ◌+◌, ◌⊎◌, ◌↔◌, ℕ, List, false, min, IsTrue};
+ghost use Rattle.std.specs.Prelude.{◌≡◌, ◌≢◌, ◌≤◌, ◌<◌, ◌+◌, ◌⊎◌, ◌↔◌, ℕ, List, false, min, IsTrue};
 ghost use Rattle.std.specs.FinSet as set;
 ghost use Rattle.lifeguard.specs.Health.{LocalHealth, Sign, full_health, raised, scaled, after_signs};
 ghost use Rattle.lifeguard.specs.NackDelay.{nack_delay_of};
-ghost use Rattle.lifeguard.specs.Probe.{FailsWithRoom, MissedNacks, after_probe, fresh_probe, with_nacks};
+ghost use Rattle.lifeguard.specs.Probe.{FailsWithRoom, MissedNacks, after_probe, after_deadline, fresh_probe, with_nacks, with_reach};
 ghost use Rattle.lifeguard.specs.Relays.{RelaySet, relay_cmp};
 ghost use Rattle.lifeguard.specs.declared.probe.Probe.{Probe};
 
@@ -38,6 +38,17 @@ pub fn failed_probe_adds_one_or_two()
         (((after_probe h p).counter ≡ h.counter + 1) ↔ (p.expected ≤ p.nacks)) }
     ensures ceiling { (h : LocalHealth) (p : Probe) → p.acked ≡ false →
         (after_probe h p).counter ≤ h.ceiling }
+{}
+
+/// By memberlist's rules a probe that failed adds nothing where all nacks came, one where none was
+/// expected, and never passes the ceiling; one that reached its target never makes health worse.
+pub fn missing_nacks_are_added()
+    ensures all_came { (h : LocalHealth) (p : Probe) → p.reached ≡ false → 0 < p.expected → p.expected ≤ p.nacks
+        → h.counter ≤ h.ceiling → (after_deadline h p).counter ≡ h.counter }
+    ensures none_expected { (h : LocalHealth) (p : Probe) → p.reached ≡ false → p.expected ≡ 0
+        → (after_deadline h p).counter ≡ min (h.counter + 1) h.ceiling }
+    ensures ceiling { (h : LocalHealth) (p : Probe) → p.reached ≡ false → (after_deadline h p).counter ≤ h.ceiling }
+    ensures reached { (h : LocalHealth) (p : Probe) → (after_deadline h (with_reach p)).counter ≤ h.counter }
 {}
 
 /// The worse the health, the longer a scaled time, which is never shorter than it is unscaled.

@@ -1,6 +1,6 @@
-ghost use Rattle.std.specs.Prelude.{◌≡◌, ◌<◌, ◌↔◌, IsTrue};
+ghost use Rattle.std.specs.Prelude.{◌≡◌, ◌<◌, ◌≤◌, ◌↔◌, IsTrue};
 
-use base::MemberId;
+use base::{MemberId, Moment};
 
 /// The most nacks of one probe that are counted: a probe asks at most 16 helpers.
 const MOST_NACKS: u8 = 16;
@@ -18,10 +18,16 @@ pub struct Probe {
     pub nacks: u8,
     /// Whether an ack came, from the target or by a helper.
     pub acked: bool,
+    /// Whether a call reached the target. (This and what follows is of memberlist's rules.)
+    pub reached: bool,
+    /// The incarnation number at which the target was held when the probe began.
+    pub number: u64,
+    /// When the probe ends.
+    pub deadline: Moment,
 }
 
 impl Probe {
-    ghost use Rattle.lifeguard.specs.Probe.{fresh_probe, with_nack, MissedNacks};
+    ghost use Rattle.lifeguard.specs.Probe.{fresh_probe, timed_probe, with_nack, with_reach, misses_of, MissedNacks};
 
     /// A probe that begins: nobody was asked to help, and nothing has come.
     pub fn new(seq: u64, target: MemberId) -> Self
@@ -33,6 +39,40 @@ impl Probe {
             expected: 0,
             nacks: 0,
             acked: false,
+            reached: false,
+            number: 0,
+            deadline: Moment(0),
+        }
+    }
+
+    /// A probe that begins, of a target that is held at incarnation number `number`, and ends at
+    /// `deadline` (memberlist's rules).
+    pub fn timed(seq: u64, target: MemberId, number: u64, deadline: Moment) -> Self
+        ensures { result ≡ timed_probe seq target number deadline }
+    {
+        let mut probe = Probe::new(seq, target);
+        probe.number = number;
+        probe.deadline = deadline;
+        probe
+    }
+
+    /// A call reached the target.
+    pub fn reach(&mut self)
+        ensures { self.new ≡ with_reach self.old }
+    {
+        self.reached = true;
+    }
+
+    /// How much a probe that failed tells against its own member (memberlist's rules): the nacks that
+    /// were expected and did not come, or 1 where none was expected.
+    pub fn misses(&self) -> u32
+        ensures value { result ≡ misses_of self.now }
+        ensures few { result ≤ 255 }
+    {
+        if self.expected > 0 {
+            u32::from(self.expected.saturating_sub(self.nacks))
+        } else {
+            1
         }
     }
 

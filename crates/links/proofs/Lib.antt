@@ -4,3 +4,4 @@ pub mod Arrivals
 pub mod Pairs
 pub mod Search
 pub mod Cuts
+pub mod Tries

@@ -29,10 +29,12 @@ pub record IsCutBy (s : Setup) (from to now : ℕ) (c : Cut) : Type 0 where
   pub begun : c.at ≤ now
   pub lasting : now < c.until
 
--- the links serve this scenario: they have its members, of whom there is one at least, and give the link from each to each, when it is cut, and by how much each is slow at each moment
+-- the links serve this scenario: they have its members, of whom there is one at least, and give the link from each to each, when it is cut, by how much each is slow at each moment, and when streams send again
 pub record AreLinksOf (l : Links) (s : Setup) : Type 0 where
   pub members : length l.groups.items ≡ member_count s
   pub some : 0 < member_count s
   pub links : (i j : ℕ) → i < member_count s → j < member_count s → link_at l i j ≡ link_between s i j
   pub cuts : (i j t : ℕ) → i < member_count s → j < member_count s → is_cut_at l i j t ≡ is_cut s i j t
   pub extras : (m t : ℕ) → extra_at l m t ≡ extra_of s m t
+  pub connect : l.connect ≡ s.stream.connect
+  pub again : l.again ≡ s.stream.again

@@ -2,3 +2,4 @@ pub mod Arrival
 pub mod Entries
 pub mod Table
 pub mod Least
+pub mod Trips

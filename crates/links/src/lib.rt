@@ -9,5 +9,6 @@ mod outages;
 mod routes;
 mod spans;
 mod table;
+mod trips;
 
 pub use table::Links;

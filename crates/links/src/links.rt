@@ -23,12 +23,15 @@ impl Links {
     pub fn of(alloc: Global, scenario: &Scenario) -> Result<Self, Memory>
         ensures { IfOk result (λ links. AreLinksOf links scenario.now) }
     {
+        let stream = scenario.stream();
         Ok(Links {
             groups: groups_of(alloc, scenario)?,
             link: scenario.link(),
             routes: routes_of(alloc, scenario.paths())?,
             spans: spans_of(alloc, scenario.slows())?,
             outages: outages_of(alloc, scenario.cuts())?,
+            connect: stream.connect,
+            again: stream.again,
         })
     }
 
@@ -103,7 +106,7 @@ impl Links {
     }
 
     /// Whether the link from one member to another is cut at a moment.
-    fn is_cut(&self, from: usize, to: usize, at: u64) -> bool
+    pub(crate) fn is_cut(&self, from: usize, to: usize, at: u64) -> bool
         ensures { result ≡ is_cut_at self.now from to at }
     {
         if self.outages.is_empty() {
@@ -125,7 +128,7 @@ impl Links {
     }
 
     /// By how many ticks a member is slow at a moment.
-    fn extra(&self, member: MemberId, at: u64) -> u64
+    pub(crate) fn extra(&self, member: MemberId, at: u64) -> u64
         ensures value { result ≡ extra_at self.now member at }
         ensures extra_fits { result ≤ 2 ^ 24 }
     {

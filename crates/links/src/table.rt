@@ -22,6 +22,11 @@ pub struct Links {
     pub(crate) spans: BTreeMap<MemberId, Vec<SlowSpan>>,
     /// The times in which the link from one group to another is cut.
     pub(crate) outages: BTreeMap<(usize, usize), Vec<Outage>>,
+    /// After how many ticks a call is begun again that was lost.
+    pub(crate) connect: u64,
+    /// After how many ticks is sent again what was lost of a stream.
+    pub(crate) again: u64,
+    ghost waits_sound: { (connect ≤ 2 ^ 24) × (again ≤ 2 ^ 24) },
     ghost links_sound: { (i j : ℕ) → IsSoundLink (link_of_pair groups.items link routes.entries i j) },
     ghost extras_sound: { (m t : ℕ) → extra_in (spans_in spans.entries m) t ≤ 2 ^ 24 },
 }

@@ -195,10 +195,13 @@ module _ (incs : List ℕ) where
   entries_push (None ∷ claims) n m x is = entries_push claims (n + 1) m x (omega arith)
   entries_push (Some c ∷ claims) n m x is = ap (λ l. (n, (c, slice_index incs n)) ∷ l) (entries_push claims (n + 1) m x (omega arith))
 
-  pub entries_more : (claims : List (Option Claim)) (n : ℕ) (x : Option Claim) → n < length claims → get_or claims n None ≡ x → entries_from 0 (take (n + 1) claims) incs ≡ entries_from 0 (take n claims) incs ++ entry_at n x
-  entries_more claims n x within is =
+  pub entries_more_from : (claims : List (Option Claim)) (a n m : ℕ) (x : Option Claim) → m ≡ a + n → n < length claims → get_or claims n None ≡ x → entries_from a (take (n + 1) claims) incs ≡ entries_from a (take n claims) incs ++ entry_at m x
+  entries_more_from claims a n m x at within is =
       let long : length (take n claims) ≡ n = length-take-le n claims (omega arith) in
-      ap (λ l. entries_from 0 l incs) (take_more claims n None within) ∙ entries_push (take n claims) 0 n (get_or claims n None) (omega arith) ∙ ap (λ c. entries_from 0 (take n claims) incs ++ entry_at n c) is
+      ap (λ l. entries_from a l incs) (take_more claims n None within) ∙ entries_push (take n claims) a m (get_or claims n None) (omega arith) ∙ ap (λ c. entries_from a (take n claims) incs ++ entry_at m c) is
+
+  pub entries_more : (claims : List (Option Claim)) (n : ℕ) (x : Option Claim) → n < length claims → get_or claims n None ≡ x → entries_from 0 (take (n + 1) claims) incs ≡ entries_from 0 (take n claims) incs ++ entry_at n x
+  entries_more claims n x within is = entries_more_from claims 0 n n x (omega arith) within is
 
 -- a claim that was read, with its number
 pub get_read : (claims : List (Option Claim)) (incs : List ℕ) (place : ℕ) (x : Option Claim) → place < length claims → x ≡ get_or claims place x

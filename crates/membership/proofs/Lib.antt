@@ -1,4 +1,5 @@
 pub mod Alive
 mod Columns
+mod Sides
 mod Entries
 pub mod Few

@@ -1,2 +1,4 @@
 pub mod Columns
 pub mod Table
+pub mod Deaths
+pub mod Candidates

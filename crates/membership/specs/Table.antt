@@ -1,7 +1,9 @@
 -- What a member holds of others (SWIM, section 4.2), and what is read from it.
-use Rattle.std.specs.Prelude.{ℕ, ◌+◌, ◌&&◌, ◌||◌, Bool, true, false, not, nat_lt, nat_eq, List, map, filter, count_by}
+use Rattle.std.specs.Prelude.{ℕ, ◌+◌, ◌&&◌, ◌||◌, Bool, true, false, not, nat_lt, nat_le, nat_eq, if◌then◌else◌, List, map, filter, count_by}
 use Rattle.std.specs.Ordering.{nat_cmp}
 use Rattle.std.specs.FinMap.{FinMap, entries, from_entries}
+use Rattle.base.specs.declared.profile.Profile.{Profile}
+use Rattle.base.specs.declared.profile.Profile.TheVariants.{Papers, Memberlist}
 use Rattle.incarnation.specs.declared.Claim.{Claim}
 use Rattle.incarnation.specs.declared.Claim.TheVariants.{Alive, Suspect, Confirm}
 use Rattle.incarnation.specs.declared.Update.{Update}
@@ -30,9 +32,11 @@ is_confirm Suspect = false
 is_confirm Confirm = true
 
 -- whether the first claim overrides the second: the relation `Overrides` as a test
-abbrev pub does_override : Claim × ℕ → Claim × ℕ → Bool
-does_override new old =
+abbrev pub does_override : Profile → Claim × ℕ → Claim × ℕ → Bool
+does_override Papers new old =
     not (is_confirm old.0) && (is_confirm new.0 || nat_lt old.1 new.1 || (is_suspect new.0 && is_alive old.0 && nat_eq new.1 old.1))
+does_override Memberlist new old =
+    if is_alive new.0 then nat_lt old.1 new.1 else (is_alive old.0 || (is_confirm new.0 && is_suspect old.0)) && nat_le old.1 new.1
 
 -- n, the members that are not confirmed, oneself included
 unfoldable pub live_count : Known → ℕ

@@ -1,6 +1,7 @@
 ghost use Rattle.std.specs.Prelude.{◌≡◌};
 ghost use Rattle.membership.specs.Table.{is_alive, is_suspect, is_confirm, does_override};
 
+use base::Profile;
 use incarnation::{Claim, overrides};
 
 /// Whether a member is held to be up.
@@ -33,9 +34,10 @@ pub fn is_confirm(claim: Claim) -> bool
     }
 }
 
-/// Whether the first claim takes the place of the second (SWIM, section 4.2).
-pub fn does_override(new: (Claim, u64), old: (Claim, u64)) -> bool
-    ensures { result ≡ does_override new old }
+/// Whether the first claim takes the place of the second (SWIM, section 4.2), by the rules of a
+/// profile.
+pub fn does_override(profile: Profile, new: (Claim, u64), old: (Claim, u64)) -> bool
+    ensures { result ≡ does_override profile new old }
 {
-    overrides(new, old)
+    overrides(profile, new, old)
 }

@@ -3,8 +3,13 @@ ghost use Rattle.std.specs.Option.{option_map_or};
 ghost use Rattle.std.specs.FinMap.{empty, get, insert, remove};
 ghost use Rattle.membership.specs.Table.{all_alive, is_alive, known_of, live_count, alive_but, update_by, updates_by};
 ghost use Rattle.membership.specs.Columns.{entries_from, claim_at, claim_weight};
+ghost use Rattle.membership.specs.Deaths.{since_of};
+ghost use Rattle.membership.specs.Candidates.{candidates_of, does_fit};
 
+use crate::candidates::{Candidate, Fitting, append_known};
 use crate::claims::{is_alive, is_confirm};
+use crate::deaths::Deaths;
+use crate::numbers::{number_at, reach_number, write_number};
 use base::{MemberId, Memory};
 use incarnation::{Claim, Update};
 use std::alloc::Global;
@@ -119,6 +124,42 @@ impl Table {
         list_alive_but(alloc, &self.claims, member)
     }
 
+    /// All that are known and oneself, who isn't in the table, in the order of their numbers, and whether
+    /// each may be taken, by `deaths` where it is held to be down. `Memory` where it was refused.
+    pub fn candidates(
+        &self,
+        alloc: Global,
+        own: MemberId,
+        fitting: &Fitting,
+        deaths: &Deaths,
+    ) -> Result<Vec<Candidate>, Memory>
+        ensures { IfOk result (λ them. them.items ≡ candidates_of own (does_fit fitting.now (since_of deaths.now)) self.now) }
+    {
+        let end = self.claims.len();
+        let place = usize::from(own.0);
+        let mut them = Vec::new(alloc);
+        append_known(
+            &mut them,
+            &self.claims[..place.min(end)],
+            0,
+            fitting,
+            deaths,
+        )?;
+        them.push(Candidate {
+            member: own,
+            fits: false,
+        })?;
+        let next = place + 1;
+        append_known(
+            &mut them,
+            &self.claims[next.min(end)..],
+            next,
+            fitting,
+            deaths,
+        )?;
+        Ok(them)
+    }
+
     /// All that is held, in the order of the members' numbers, as updates of one accuser. `Memory` where
     /// it was refused.
     pub fn updates_by(&self, alloc: Global, accuser: MemberId) -> Result<Vec<Update>, Memory>
@@ -201,41 +242,6 @@ fn hold_alive(claims: &mut Vec<Option<Claim>>, members: &[MemberId]) -> usize
         live = put_claim(claims, member.index(), Claim::Alive, live);
     }
     live
-}
-
-// The number at a place: 0 past the end.
-fn number_at(incs: &[u64], place: usize) -> u64
-    ensures { result ≡ slice_index incs.now place }
-{
-    match incs.get(place) {
-        Some(inc) => *inc,
-        None => 0,
-    }
-}
-
-// Has a place for a number, with 0 where there was none. A 0 needs none.
-fn reach_number(incs: &mut Vec<u64>, place: usize, inc: u64) -> Result<(), Memory>
-    ensures place { OnOk result (inc ≢ 0 → place < vec_len incs.new) }
-    ensures same { (k : ℕ) → slice_index incs.new.items k ≡ slice_index incs.old.items k }
-{
-    if inc == 0 {
-        return Ok(());
-    }
-    while incs.len() <= place {
-        incs.push(0)?;
-    }
-    Ok(())
-}
-
-// Writes a number at a place. There is nothing to write where that is past the end, for a 0.
-fn write_number(incs: &mut Vec<u64>, place: usize, inc: u64)
-    requires { inc ≢ 0 → place < vec_len incs.old }
-    ensures same { slice_index incs.new.items place ≡ inc }
-    ensures others { (k : ℕ) → k ≢ place → slice_index incs.new.items k ≡ slice_index incs.old.items k }
-{
-    if place < incs.len() {
-        incs[place] = inc;
-    }
 }
 
 // What a claim adds to the count of those who are not confirmed.

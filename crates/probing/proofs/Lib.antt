@@ -2,3 +2,4 @@ pub mod SoundLemmas
 pub mod CallLemmas
 pub mod RoundLemmas
 pub mod OthersLemmas
+mod SampleLemmas

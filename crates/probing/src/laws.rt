@@ -1,9 +1,11 @@
 //! What holds of the probe order by its definition, for any words of 32 bits.
 
-ghost use Rattle.std.specs.Prelude.{◌≡◌, ◌≢◌, ℕ, ◌-◌, ◌<◌, ◌≤◌, ◌^◌, Some, None, List, length, map, min, All, IsPermutation};
+ghost use Rattle.std.specs.Prelude.{◌≡◌, ◌≢◌, ℕ, ◌-◌, ◌*◌, ◌<◌, ◌≤◌, ◌^◌, true, false, Some, None, List, [], length, map, min, All, IsPermutation};
 ghost use Rattle.streams.specs.Draw.{Words, AreWords, IsRestOf, shuffle_of};
 ghost use Rattle.probing.specs.ProbeOrder.{ProbeOrder, IsSoundOrder, times_in, round_over, next_of, insert_of, remove_of, helpers_of};
 ghost use Rattle.probing.specs.Rounds.{probes_of, probed, coming, others};
+ghost use Rattle.probing.specs.Samples.{is_in, does_fit_in, sample_of, words_after};
+ghost use Rattle.membership.specs.declared.candidates.Candidate.{Candidate};
 
 /// No call makes a member appear twice or moves the mark out of the list.
 pub fn orders_stay_sound()
@@ -23,6 +25,8 @@ pub fn calls_take_the_first_words()
         → IsRestOf words (insert_of words member order).1 }
     ensures helpers { (words : Words) (count : ℕ) (candidates : List ℕ)
         → IsRestOf words (helpers_of words count candidates).1 }
+    ensures sample { (words : Words) (k : ℕ) (candidates : List Candidate)
+        → IsRestOf words (sample_of words k candidates).1 }
 {}
 
 /// A probe goes to a member of the list, and there is one unless the list is empty. All members stay.
@@ -94,4 +98,21 @@ pub fn helpers_are_candidates()
     ensures each { (words : Words) (count : ℕ) (candidates : List ℕ) (member : ℕ) → AreWords words
         → length candidates < 2 ^ 32 - 1
         → times_in (helpers_of words count candidates).0 member ≤ times_in candidates member }
+{}
+
+/// A sample takes members that fit, each once, and no more than asked for.
+pub fn samples_are_of_those_that_fit()
+    ensures number { (words : Words) (k : ℕ) (candidates : List Candidate)
+        → length (sample_of words k candidates).0 ≤ k }
+    ensures each { (words : Words) (k : ℕ) (candidates : List Candidate) (member : ℕ)
+        → is_in member (sample_of words k candidates).0 ≡ true → does_fit_in candidates member ≡ true }
+    ensures once { (words : Words) (k : ℕ) (candidates : List Candidate) (member : ℕ)
+        → times_in (sample_of words k candidates).0 member ≤ 1 }
+{}
+
+/// Where nobody fits, all draws are made: three for each candidate.
+pub fn samples_in_vain_make_all_draws()
+    ensures { (words : Words) (k : ℕ) (candidates : List Candidate) → 0 < k
+        → ((member : ℕ) → does_fit_in candidates member ≡ false)
+        → sample_of words k candidates ≡ ([], words_after (3 * length candidates) (length candidates) words) }
 {}

@@ -7,8 +7,10 @@ ghost use Rattle.streams.specs.Draw.{words_of};
 ghost use Rattle.probing.specs.ProbeOrder.{NoRepeats, IsSoundOrder, times_in, round_over, next_of, insert_of, remove_of, helpers_of};
 
 pub mod laws;
+mod samples;
 
 use base::{MemberId, Memory};
+pub use samples::sample;
 use std::marker::Model;
 use streams::Stream;
 

@@ -1,36 +1,52 @@
--- The table of logarithms, and a number's logarithm by it.
-use Rattle.std.proofs.Common.{◌≡◌, ℕ, zero, suc, ◌+◌, ◌-◌, ◌<◌, ◌≤◌, ◌⊎◌, inl, inr, length, get_or, ap, ◌∙◌, sym, refl, arith, lit≤}
+-- The tables of logarithms, and a number's logarithm by them, by both profiles.
+use Rattle.std.proofs.Common.{◌≡◌, ℕ, zero, suc, ◌+◌, ◌-◌, ◌*◌, ◌/◌, ◌<◌, ◌≤◌, ◌^◌, Bool, true, false, ◌&&◌, leb, ◌⊎◌, inl, inr, List, [], ◌∷◌, length, get_or, ap, ◌∙◌, sym, refl, arith, lit≤}
 use Rattle.std.specs.Fmt.{decimal, digits}
+use Rattle.std.proofs.Math.Nat.{div-one}
+use Rattle.std.proofs.lemmas.Bool.{leb-true, false≢true}
 use Rattle.std.proofs.lemmas.Fmt.{decimal_digit, length-decimal-le}
-use Rattle.base.specs.Logarithm.{thousandths_table, thousandths_of, digit_count, leading_digit, log_of}
+use Rattle.base.specs.declared.profile.Profile.{Profile}
+use Rattle.base.specs.declared.profile.Profile.TheVariants.{Papers, Memberlist}
+use Rattle.base.specs.Logarithm.{thousandths_table, thousandths_of, digit_count, leading_digit, log_of, leading_digits, tenth_log_of, fine_log_of}
+use Rattle.base.proofs.FineLogs.{tenths, tenth_is, tenth-le}
+use Rattle.suspicion.specs.Times.{size_log, accuser_log}
+
+-- ---- tables that rise
+
+abbrev rises : List ℕ → Bool
+rises [] = true
+rises (x ∷ []) = true
+rises (x ∷ y ∷ ys) = leb x y && rises (y ∷ ys)
+
+first : (a b : Bool) → (a && b) ≡ true → a ≡ true
+first true b h = refl
+first false b h = h
+
+second : (a b : Bool) → (a && b) ≡ true → b ≡ true
+second true b h = h
+second false b h = absurd (false≢true h)
 
 -- each entry is at most the next one
-entry_rises : (i : ℕ) → i < 9 → get_or thousandths_table i 0 ≤ get_or thousandths_table (suc i) 0
-entry_rises zero h = lit≤ tt
-entry_rises (suc zero) h = lit≤ tt
-entry_rises (suc (suc zero)) h = lit≤ tt
-entry_rises (suc (suc (suc zero))) h = lit≤ tt
-entry_rises (suc (suc (suc (suc zero)))) h = lit≤ tt
-entry_rises (suc (suc (suc (suc (suc zero))))) h = lit≤ tt
-entry_rises (suc (suc (suc (suc (suc (suc zero)))))) h = lit≤ tt
-entry_rises (suc (suc (suc (suc (suc (suc (suc zero))))))) h = lit≤ tt
-entry_rises (suc (suc (suc (suc (suc (suc (suc (suc zero)))))))) h = lit≤ tt
-entry_rises (suc (suc (suc (suc (suc (suc (suc (suc (suc i))))))))) h = absurd (omega arith)
+next_rises : (t : List ℕ) (i : ℕ) → rises t ≡ true → suc i < length t → get_or t i 0 ≤ get_or t (suc i) 0
+next_rises [] i r h = absurd (omega (arith, h))
+next_rises (x ∷ []) i r h = absurd (omega (arith, h))
+next_rises (x ∷ y ∷ ys) zero r h = leb-true x y (first (leb x y) (rises (y ∷ ys)) r)
+next_rises (x ∷ y ∷ ys) (suc i) r h = next_rises (y ∷ ys) i (second (leb x y) (rises (y ∷ ys)) r) (omega (arith, h))
 
-entries_rise : (d i : ℕ) → i + d ≤ 9 → get_or thousandths_table i 0 ≤ get_or thousandths_table (i + d) 0
-entries_rise zero i h = let same : get_or thousandths_table i 0 ≡ get_or thousandths_table (i + 0) 0 = ap (λ k. get_or thousandths_table k 0) (let e : i ≡ i + 0 = omega arith in e) in omega (arith, same)
-entries_rise (suc d) i h =
-    let rest = entries_rise d i (omega arith) in
-    let step = entry_rises (i + d) (omega arith) in
-    let same : get_or thousandths_table (suc (i + d)) 0 ≡ get_or thousandths_table (i + suc d) 0 = ap (λ k. get_or thousandths_table k 0) (let e : suc (i + d) ≡ i + suc d = omega arith in e) in
+entries_rise : (t : List ℕ) (d i : ℕ) → rises t ≡ true → i + d < length t → get_or t i 0 ≤ get_or t (i + d) 0
+entries_rise t zero i r h = let same : get_or t i 0 ≡ get_or t (i + 0) 0 = ap (λ k. get_or t k 0) (let e : i ≡ i + 0 = omega arith in e) in omega (arith, same)
+entries_rise t (suc d) i r h =
+    let rest = entries_rise t d i r (omega (arith, h)) in
+    let step = next_rises t (i + d) r (omega (arith, h)) in
+    let same : get_or t (suc (i + d)) 0 ≡ get_or t (i + suc d) 0 = ap (λ k. get_or t k 0) (let e : suc (i + d) ≡ i + suc d = omega arith in e) in
     omega (arith, rest, step, same)
 
--- the logarithms rise
-pub thousandths-rise : (a b : ℕ) → 1 ≤ a → a ≤ b → b ≤ 10 → thousandths_of a ≤ thousandths_of b
-thousandths-rise a b some h few =
-    let rise = entries_rise (b - a) (a - 1) (omega arith) in
-    let same : get_or thousandths_table (a - 1 + (b - a)) 0 ≡ get_or thousandths_table (b - 1) 0 = ap (λ k. get_or thousandths_table k 0) (let e : a - 1 + (b - a) ≡ b - 1 = omega arith in e) in
+of_ten-rise : (t : List ℕ) (a b : ℕ) → rises t ≡ true → length t ≡ 10 → 1 ≤ a → a ≤ b → b ≤ 10 → get_or t (a - 1) 0 ≤ get_or t (b - 1) 0
+of_ten-rise t a b r long some h few =
+    let rise = entries_rise t (b - a) (a - 1) r (omega (arith, long)) in
+    let same : get_or t (a - 1 + (b - a)) 0 ≡ get_or t (b - 1) 0 = ap (λ k. get_or t k 0) (let e : a - 1 + (b - a) ≡ b - 1 = omega arith in e) in
     omega (arith, rise, same)
+
+-- ---- by the leading digit
 
 -- none is over 1000
 entry-le : (i : ℕ) → get_or thousandths_table i 0 ≤ 1000
@@ -46,15 +62,8 @@ entry-le (suc (suc (suc (suc (suc (suc (suc (suc zero)))))))) = lit≤ tt
 entry-le (suc (suc (suc (suc (suc (suc (suc (suc (suc zero))))))))) = lit≤ tt
 entry-le (suc (suc (suc (suc (suc (suc (suc (suc (suc (suc i)))))))))) = lit≤ tt
 
-pub thousandths-le : (d : ℕ) → thousandths_of d ≤ 1000
+thousandths-le : (d : ℕ) → thousandths_of d ≤ 1000
 thousandths-le d = entry-le (d - 1)
-
--- that of 1 is 0, and of more it is not
-pub thousandths-one : thousandths_of 1 ≡ 0
-thousandths-one = refl
-
-pub thousandths-positive : (b : ℕ) → 2 ≤ b → b ≤ 10 → 301 ≤ thousandths_of b
-thousandths-positive b some few = thousandths-rise 2 b (lit≤ tt) some few
 
 below_ten : (m : ℕ) → m < 10 → log_of m ≡ thousandths_of m
 below_ten m h =
@@ -75,13 +84,87 @@ of_table m (inr e) = ap log_of e ∙ ten ∙ sym (ap thousandths_of e)
 up_to_ten : (m : ℕ) → m ≤ 10 → (m < 10) ⊎ (m ≡ 10)
 up_to_ten m h = grind arith
 
--- up to ten the logarithm is the table's
-pub log_of-table : (m : ℕ) → m ≤ 10 → log_of m ≡ thousandths_of m
-log_of-table m h = of_table m (up_to_ten m h)
+-- ---- by the two leading digits
+
+-- the finer logarithms of 1 to 10
+abbrev fine_table : List ℕ
+fine_table = 0 ∷ 301 ∷ 477 ∷ 602 ∷ 698 ∷ 778 ∷ 845 ∷ 903 ∷ 954 ∷ 1000 ∷ []
+
+every_tenth : (i : ℕ) → i < 9 → get_or tenths (i * 10) 0 ≡ get_or fine_table i 0
+every_tenth zero h = refl
+every_tenth (suc zero) h = refl
+every_tenth (suc (suc zero)) h = refl
+every_tenth (suc (suc (suc zero))) h = refl
+every_tenth (suc (suc (suc (suc zero)))) h = refl
+every_tenth (suc (suc (suc (suc (suc zero))))) h = refl
+every_tenth (suc (suc (suc (suc (suc (suc zero)))))) h = refl
+every_tenth (suc (suc (suc (suc (suc (suc (suc zero))))))) h = refl
+every_tenth (suc (suc (suc (suc (suc (suc (suc (suc zero)))))))) h = refl
+every_tenth (suc (suc (suc (suc (suc (suc (suc (suc (suc i))))))))) h = absurd (omega arith)
+
+fine_below_ten : (m : ℕ) → 1 ≤ m → m < 10 → fine_log_of m ≡ get_or fine_table (m - 1) 0
+fine_below_ten m some h =
+    let one : digit_count m ≡ 1 = ap length (decimal_digit m h) in
+    let none : digit_count m - 1 ≡ 0 = omega (arith, one) in
+    let lead : leading_digits m ≡ m * 10 = ap (λ k. m * 10 / 10 ^ k) none ∙ div-one (m * 10) in
+    let log : tenth_log_of (leading_digits m) ≡ get_or tenths (m * 10 - 10) 0 = ap tenth_log_of lead ∙ tenth_is (m * 10) (omega arith) (omega arith) in
+    let place : get_or tenths (m * 10 - 10) 0 ≡ get_or tenths ((m - 1) * 10) 0 = ap (λ k. get_or tenths k 0) (let e : m * 10 - 10 ≡ (m - 1) * 10 = omega arith in e) in
+    omega (arith, none, log, place, every_tenth (m - 1) (omega arith))
+
+ten_digits : digit_count 10 ≡ 2
+unfolding digits
+ten_digits = refl
+
+fine_ten : fine_log_of 10 ≡ 1000
+fine_ten =
+    let two : digit_count 10 ≡ 2 = ten_digits in
+    let one : digit_count 10 - 1 ≡ 1 = omega (arith, two) in
+    let lead : leading_digits 10 ≡ 10 = ap (λ k. 10 * 10 / 10 ^ k) one in
+    let log : tenth_log_of (leading_digits 10) ≡ 0 = ap tenth_log_of lead ∙ tenth_is 10 (lit≤ tt) (lit≤ tt) in
+    omega (arith, one, log)
+
+fine_of_table : (m : ℕ) → 1 ≤ m → (m < 10) ⊎ (m ≡ 10) → fine_log_of m ≡ get_or fine_table (m - 1) 0
+fine_of_table m some (inl h) = fine_below_ten m some h
+fine_of_table m some (inr e) = ap fine_log_of e ∙ fine_ten ∙ sym (ap (λ k. get_or fine_table (k - 1) 0) e)
+
+fine_is : (m : ℕ) → 1 ≤ m → m ≤ 10 → fine_log_of m ≡ get_or fine_table (m - 1) 0
+fine_is m some few = fine_of_table m some (up_to_ten m few)
+
+-- ---- by both profiles
+
+-- the logarithms of accusers rise
+pub log-rises : (p : Profile) (a b : ℕ) → 1 ≤ a → a ≤ b → b ≤ 10 → accuser_log p a ≤ accuser_log p b
+log-rises Papers a b some h few = of_ten-rise thousandths_table a b refl refl some h few
+log-rises Memberlist a b some h few =
+    let rise = of_ten-rise fine_table a b refl refl some h few in
+    omega (arith, rise, fine_is a some (omega arith), fine_is b (omega arith) few)
+
+-- none is over 1000
+pub log-le_thousand : (p : Profile) (d : ℕ) → 1 ≤ d → d ≤ 10 → accuser_log p d ≤ 1000
+log-le_thousand Papers d some few = thousandths-le d
+log-le_thousand Memberlist d some few = let rise = log-rises Memberlist d 10 some few (lit≤ tt) in omega (arith, rise, fine_ten)
+
+-- that of 1 is 0, and of more it is not
+pub log-one : (p : Profile) → accuser_log p 1 ≡ 0
+log-one Papers = refl
+log-one Memberlist = fine_is 1 (lit≤ tt) (lit≤ tt)
+
+pub log-positive : (p : Profile) (b : ℕ) → 2 ≤ b → b ≤ 10 → 301 ≤ accuser_log p b
+log-positive Papers b some few = log-rises Papers 2 b (lit≤ tt) some few
+log-positive Memberlist b some few = let rise = log-rises Memberlist 2 b (lit≤ tt) some few in omega (arith, rise, fine_is 2 (lit≤ tt) (lit≤ tt))
+
+-- up to ten the logarithm of a size is that of as many accusers
+pub size_log-small : (p : Profile) (m : ℕ) → m ≤ 10 → size_log p m ≡ accuser_log p m
+size_log-small Papers m h = of_table m (up_to_ten m h)
+size_log-small Memberlist m h = refl
 
 -- the logarithm of a cluster's size
-pub log_of-le : (n : ℕ) → n ≤ 4096 → log_of n ≤ 4000
-log_of-le n h =
+pub size_log-le : (p : Profile) (n : ℕ) → n ≤ 4096 → size_log p n ≤ 4000
+size_log-le Papers n h =
     let few : digit_count n ≤ 4 = length-decimal-le 4 n (lit≤ tt) (omega arith) (omega arith) in
     let entry = thousandths-le (leading_digit n) in
+    omega (arith, few, entry)
+size_log-le Memberlist n h =
+    let few : digit_count n ≤ 4 = length-decimal-le 4 n (lit≤ tt) (omega arith) (omega arith) in
+    let entry = tenth-le (leading_digits n) in
     omega (arith, few, entry)

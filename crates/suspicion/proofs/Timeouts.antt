@@ -4,11 +4,24 @@ use Rattle.std.proofs.Math.Nat.{div-mul-le_self, div-le_of_le-mul, mul-le-mul_le
 use Rattle.std.proofs.lemmas.Nat.{le-div, mul-le}
 use Rattle.std.proofs.Math.Bool.{or-true}
 use Rattle.std.proofs.lemmas.Bool.{leb-true, leb-false, le-leb, lt-leb}
-use Rattle.base.specs.Logarithm.{thousandths_of}
+use Rattle.base.specs.declared.profile.Profile.{Profile}
+use Rattle.base.specs.declared.profile.Profile.TheVariants.{Papers, Memberlist}
 use Rattle.suspicion.specs.declared.terms.Terms.{Terms}
 use Rattle.suspicion.specs.Ranges.{AreSound}
-use Rattle.suspicion.proofs.Tables.{thousandths-rise, thousandths-positive}
-use Rattle.suspicion.specs.Times.{min_timeout, max_timeout, most_accusers, timeout}
+use Rattle.suspicion.proofs.Tables.{log-rises, log-positive, log-one}
+use Rattle.suspicion.specs.Times.{counted_of, accuser_log, min_timeout, max_timeout, most_accusers, timeout}
+
+counted-le : (p : Profile) (wanted others : ℕ) → counted_of p wanted others ≤ wanted
+counted-le Papers wanted others = omega arith
+counted-le Memberlist wanted others = either (leb wanted others)
+  where
+    either : (b : Bool) → cond b wanted 0 ≤ wanted
+    either true = omega arith
+    either false = omega arith
+
+-- no more accusers count than are wanted
+pub most-le : (terms : Terms) (n : ℕ) → most_accusers terms n ≤ terms.accusers_wanted
+most-le terms n = counted-le terms.profile terms.accusers_wanted (n - 2)
 
 div_rises : (a b k : ℕ) → 0 < k → a ≤ b → a / k ≤ b / k
 div_rises a b k some h = let down = div-mul-le_self a k in le-div (a / k) b k some (omega (arith, down))
@@ -46,7 +59,7 @@ way-rises span r s whole some h = div_rises (span * r) (span * s) whole some (mu
 -- the longest timeout without the part that C accusers take off
 abbrev pub shortened : Terms → ℕ → ℕ → ℕ
 shortened terms n c =
-    max_timeout terms n - (max_timeout terms n - min_timeout terms n) * thousandths_of (c + 1) / thousandths_of (most_accusers terms n + 1)
+    max_timeout terms n - (max_timeout terms n - min_timeout terms n) * accuser_log terms.profile (c + 1) / accuser_log terms.profile (most_accusers terms n + 1)
 
 -- the timeout while accusers are missing
 pub timeout-missing : (terms : Terms) (n c : ℕ) → not terms.shortens ≡ false → c < most_accusers terms n → timeout terms n c ≡ shortened terms n c
@@ -64,7 +77,7 @@ pub timeout-off : (terms : Terms) (n c : ℕ) → not terms.shortens ≡ true �
 timeout-off terms n c off = ap (λ b. cond (b || leb (most_accusers terms n) c) (min_timeout terms n) (shortened terms n c)) off
 
 -- from its parts
-pub timeout_from_parts : (terms : Terms) (n c shortest reached whole : ℕ) → shortest ≡ min_timeout terms n → reached ≡ thousandths_of (c + 1) → whole ≡ thousandths_of (most_accusers terms n + 1)
+pub timeout_from_parts : (terms : Terms) (n c shortest reached whole : ℕ) → shortest ≡ min_timeout terms n → reached ≡ accuser_log terms.profile (c + 1) → whole ≡ accuser_log terms.profile (most_accusers terms n + 1)
     → not terms.shortens ≡ false → c < most_accusers terms n → terms.beta * shortest - (terms.beta * shortest - shortest) * reached / whole ≡ timeout terms n c
 timeout_from_parts terms n c shortest reached whole s r w on h =
     (λ i. terms.beta * s i - (terms.beta * s i - s i) * r i / w i) ∙ sym (timeout-missing terms n c on h)
@@ -81,8 +94,9 @@ left-le beta shortest reached whole some h =
 
 shortest-le_shortened : (terms : Terms) (n c : ℕ) → AreSound terms → c < most_accusers terms n → min_timeout terms n ≤ shortened terms n c
 shortest-le_shortened terms n c sound missing =
-    let rise = thousandths-rise (c + 1) (most_accusers terms n + 1) (omega arith) (omega arith) (omega (arith, sound.accusers_wanted)) in
-    (left-le terms.beta (min_timeout terms n) (thousandths_of (c + 1)) (thousandths_of (most_accusers terms n + 1)) sound.beta.0 rise).0
+    let few = most-le terms n in
+    let rise = log-rises terms.profile (c + 1) (most_accusers terms n + 1) (omega arith) (omega arith) (omega (arith, few, sound.accusers_wanted)) in
+    (left-le terms.beta (min_timeout terms n) (accuser_log terms.profile (c + 1)) (accuser_log terms.profile (most_accusers terms n + 1)) sound.beta.0 rise).0
 
 min_by_cases : (terms : Terms) (n c : ℕ) (off enough : Bool) → AreSound terms → not terms.shortens ≡ off → leb (most_accusers terms n) c ≡ enough → min_timeout terms n ≤ timeout terms n c
 min_by_cases terms n c true enough sound q d = let e = timeout-off terms n c q in omega (arith, e)
@@ -112,23 +126,24 @@ falls_by_cases terms n c d false true sound q e h =
     let there = timeout-enough terms n d (leb-true (most_accusers terms n) d e) in let least = min-le-timeout terms n c sound in omega (arith, there, least)
 falls_by_cases terms n c d false false sound q e h =
     let missing : d < most_accusers terms n = leb-false (most_accusers terms n) d e in
+    let few = most-le terms n in
     let here = timeout-missing terms n c q (omega (arith, missing)) in
     let there = timeout-missing terms n d q missing in
-    let rise = thousandths-rise (c + 1) (d + 1) (omega arith) (omega arith) (omega (arith, missing, sound.accusers_wanted)) in
-    let positive = thousandths-positive (most_accusers terms n + 1) (omega (arith, missing)) (omega (arith, sound.accusers_wanted)) in
-    let more = way-rises (max_timeout terms n - min_timeout terms n) (thousandths_of (c + 1)) (thousandths_of (d + 1)) (thousandths_of (most_accusers terms n + 1)) (omega (arith, positive)) rise in
+    let rise = log-rises terms.profile (c + 1) (d + 1) (omega arith) (omega arith) (omega (arith, missing, few, sound.accusers_wanted)) in
+    let positive = log-positive terms.profile (most_accusers terms n + 1) (omega (arith, missing)) (omega (arith, few, sound.accusers_wanted)) in
+    let more = way-rises (max_timeout terms n - min_timeout terms n) (accuser_log terms.profile (c + 1)) (accuser_log terms.profile (d + 1)) (accuser_log terms.profile (most_accusers terms n + 1)) (omega (arith, positive)) rise in
     omega (arith, here, there, more)
 
 pub timeout-falls : (terms : Terms) (n c d : ℕ) → AreSound terms → c ≤ d → timeout terms n d ≤ timeout terms n c
 timeout-falls terms n c d sound h = falls_by_cases terms n c d (not terms.shortens) (leb (most_accusers terms n) d) sound refl refl h
 
-times_zero : (n : ℕ) → n * thousandths_of (0 + 1) ≡ 0
-times_zero n = omega arith
+times_zero : (p : Profile) (n : ℕ) → n * accuser_log p (0 + 1) ≡ 0
+times_zero p n = let none : n * 0 ≡ 0 = omega arith in ap (λ k. n * k) (log-one p) ∙ none
 
 -- while nobody else has accused the whole time is left
 pub timeout-alone : (terms : Terms) (n : ℕ) → terms.shortens ≡ true → 0 < most_accusers terms n → timeout terms n 0 ≡ max_timeout terms n
 timeout-alone terms n on h =
     let e = timeout-missing terms n 0 (ap not on) h in
-    let none : (max_timeout terms n - min_timeout terms n) * thousandths_of (0 + 1) / thousandths_of (most_accusers terms n + 1) ≡ 0 =
-    ap (λ k. k / thousandths_of (most_accusers terms n + 1)) (times_zero (max_timeout terms n - min_timeout terms n)) ∙ zero-div (thousandths_of (most_accusers terms n + 1)) in
+    let none : (max_timeout terms n - min_timeout terms n) * accuser_log terms.profile (0 + 1) / accuser_log terms.profile (most_accusers terms n + 1) ≡ 0 =
+    ap (λ k. k / accuser_log terms.profile (most_accusers terms n + 1)) (times_zero terms.profile (max_timeout terms n - min_timeout terms n)) ∙ zero-div (accuser_log terms.profile (most_accusers terms n + 1)) in
     omega (arith, e, none)

@@ -1,9 +1,9 @@
 ghost use Rattle.std.specs.Prelude.{◌≡◌, ◌^◌, ◌<◌, ◌≤◌};
 ghost use Rattle.suspicion.specs.Ranges.{AreSound};
-ghost use Rattle.suspicion.specs.Times.{min_timeout, most_accusers, timeout};
+ghost use Rattle.suspicion.specs.Times.{size_log, min_timeout, most_accusers, timeout};
 ghost use Rattle.suspicion.specs.Settings.{terms_of};
 
-use base::log_thousandths;
+use base::{Profile, fine_log_thousandths, log_thousandths};
 use scenario::Scenario;
 
 /// The settings that say how long suspicions last.
@@ -17,6 +17,8 @@ pub struct Terms {
     pub beta: u64,
     /// LHA-Suspicion: whether further accusers shorten a suspicion.
     pub shortens: bool,
+    /// By whose rules logarithms and further accusers are counted.
+    pub profile: Profile,
     /// How many further accusers bring a suspicion to its shortest (Lifeguard's K).
     pub accusers_wanted: u64,
 }
@@ -34,6 +36,7 @@ impl Terms {
             alpha: suspicion.alpha,
             beta: suspicion.beta,
             shortens: lifeguard.suspicion,
+            profile: scenario.profile(),
             accusers_wanted: lifeguard.confirmations,
         }
     }
@@ -56,9 +59,21 @@ impl Terms {
             return shortest;
         }
         let longest = self.beta * shortest;
-        let reached = u64::from(log_thousandths(accusers as u32 + 1));
-        let whole = u64::from(log_thousandths(most as u32 + 1));
+        let reached = logarithm(self.profile, accusers as u32 + 1);
+        let whole = logarithm(self.profile, most as u32 + 1);
         longest - (longest - shortest) * reached / whole
+    }
+}
+
+// The logarithm of a number of members, or of accusers, in thousandths.
+fn logarithm(profile: Profile, n: u32) -> u64
+    requires { 1 ≤ n }
+    ensures value { result ≡ size_log profile n }
+    ensures small { result < 2 ^ 32 }
+{
+    match profile {
+        Profile::Papers => u64::from(log_thousandths(n)),
+        Profile::Memberlist => u64::from(fine_log_thousandths(n)),
     }
 }
 
@@ -71,17 +86,20 @@ fn shortest(terms: Terms, members: u32) -> u64
     ensures positive { 1 ≤ result }
     ensures short { result < 2 ^ 33 }
 {
-    let logarithm = u64::from(log_thousandths(members)).max(1000);
-    (terms.alpha * logarithm * terms.period / 1000).max(1)
+    let size = logarithm(terms.profile, members).max(1000);
+    (terms.alpha * size * terms.period / 1000).max(1)
 }
 
 /// How many further accusers count of a suspicion that started among this many members (K': K, or
-/// fewer where there are no more members to accuse).
+/// fewer where there are no more members to accuse; by memberlist's rules none then).
 pub(crate) fn most_counted(terms: Terms, members: u32) -> u64
     requires { 1 ≤ members }
     ensures { result ≡ most_accusers terms members }
 {
-    terms
-        .accusers_wanted
-        .min(u64::from(members.saturating_sub(2)))
+    let others = u64::from(members.saturating_sub(2));
+    match terms.profile {
+        Profile::Papers => terms.accusers_wanted.min(others),
+        Profile::Memberlist if terms.accusers_wanted <= others => terms.accusers_wanted,
+        Profile::Memberlist => 0,
+    }
 }

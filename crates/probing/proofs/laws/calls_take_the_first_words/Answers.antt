@@ -1,7 +1,9 @@
-use Rattle.std.proofs.Common.{ℕ, ◌+◌, ◌==◌, length, Option}
+use Rattle.std.proofs.Common.{ℕ, ◌+◌, ◌*◌, ◌==◌, length, Option}
 use Rattle.streams.specs.Draw.{Words, IsRestOf}
 use Rattle.streams.proofs.PlaceLemmas.{rest_after-zero, either_holds, below_rest, shuffle_rest}
 use Rattle.probing.specs.ProbeOrder.{ProbeOrder, ready_of, next_of, insert_of, helpers_of}
+use Rattle.probing.specs.Samples.{sample_of}
+use Rattle.probing.proofs.SampleLemmas.{sampled_rest}
 use Rattle.probing.proofs.laws.calls_take_the_first_words.Goals as goal
 
 -- no draw
@@ -27,3 +29,7 @@ returns-clause-insert c words member order = below_rest words (length order.memb
 pub returns-clause-helpers : goal.returns-clause-helpers
 unfolding helpers_of
 returns-clause-helpers c words count candidates = shuffle_rest words candidates
+
+pub returns-clause-sample : goal.returns-clause-sample
+unfolding sample_of
+returns-clause-sample c words k candidates = sampled_rest (3 * length candidates) k candidates words
