@@ -1,20 +1,29 @@
 -- The events and the rows of a step, part by part.
-use Rattle.std.proofs.Common.{◌≡◌, ◌≢◌, ℕ, suc, ◌+◌, ◌<◌, ◌≤◌, Bool, true, false, cond, not, nat_eq, nat_lt, ◌&&◌, List, [], ◌∷◌, ◌++◌, map, length, Option, Some, None, ap, ◌∙◌, sym, subst, refl, arith}
+use Rattle.std.proofs.Common.{◌≡◌, ◌≢◌, ℕ, zero, suc, ◌+◌, ◌-◌, ◌*◌, ◌%◌, ◌^◌, ◌<◌, ◌≤◌, Bool, true, false, cond, not, nat_eq, nat_lt, nat_le, ◌&&◌, List, [], ◌∷◌, ◌++◌, map, length, Option, Some, None, ap, ◌∙◌, sym, subst, refl, arith}
 use Rattle.std.specs.Option.{option_map, IfSome}
 use Rattle.std.specs.List.{AllByRecursion, range_with_len}
 use Rattle.std.specs.FinMap.{get}
 use Rattle.std.specs.FinSet as set
+use Rattle.std.proofs.Math.Nat.{mod-lt}
+use Rattle.std.proofs.lemmas.Bool.{eqb-false}
 use Rattle.std.proofs.lemmas.List.{map-append}
 use Rattle.std.proofs.lemmas.List.FromFn.{map-range_with_len_more}
 use Rattle.base.specs.declared.key.Key.{Key}
 use Rattle.base.specs.Run.{MakesLater}
 use Rattle.base.specs.Rising.{CountsRows, UsesNumbers}
 use Rattle.base.proofs.Rising.{all_append, all_weaker, rising_append}
-use Rattle.scenario.specs.Setup.{Setup, IsSound, link_between, contact_of, extra_of, start_of}
+use Rattle.base.specs.Beats.{IsNextInStep, next_in_step}
+use Rattle.base.specs.declared.profile.Profile.{Profile}
+use Rattle.base.specs.declared.profile.Profile.TheVariants.{Papers, Memberlist}
+use Rattle.scenario.specs.Setup.{Setup, IsSound, IsSoundGossip, link_between, contact_of, extra_of, start_of, is_cut, awake}
+use Rattle.scenario.specs.Profile.{profile_of}
+use Rattle.scenario.specs.declared.settings.Gossip as settings
+use Rattle.scenario.proofs.Pauses.{is_awake_at}
 use Rattle.trace.specs.declared.row.Row.{Row}
 use Rattle.trace.specs.declared.row.What.{What}
 use Rattle.streams.specs.Draw.{Words, below_of, lost_of}
 use Rattle.links.specs.Arrival.{uncut_arrival_of, arrival_of}
+use Rattle.links.specs.Trips.{uncut_try_of, try_of, or_else, tried_of, trip_of, and_then, comes_of, call_of, answer_of, kept_arrival_of}
 use Rattle.links.proofs.Arrivals.{whether_cut}
 use Rattle.incarnation.specs.declared.Claim.{Claim}
 use Rattle.incarnation.specs.declared.Claim.TheVariants.{Alive, Suspect, Confirm}
@@ -23,19 +32,20 @@ use Rattle.lifeguard.specs.declared.probe.Probe.{Probe}
 use Rattle.lifeguard.specs.Health.{LocalHealth}
 use Rattle.suspicion.specs.Ranges.{AreSound}
 use Rattle.suspicion.specs.Settings.{terms_of}
-use Rattle.suspicion.specs.Suspicions.{HeldSuspicion, accused_of, answer_of, is_due}
+use Rattle.suspicion.specs.Suspicions.{HeldSuspicion, accused_of, answer_of as answer_to, is_due}
 use Rattle.probing.specs.ProbeOrder.{next_of}
 use Rattle.suspicion.proofs.Timeouts.{min-le-timeout}
 use Rattle.member.specs.declared.member.Phase.{Phase}
-use Rattle.member.specs.declared.member.Phase.TheVariants.{Waiting, Joining, Running}
+use Rattle.member.specs.declared.member.Phase.TheVariants.{Waiting, Joining, Running, Down}
 use Rattle.member.specs.declared.content.Content.{Content}
-use Rattle.member.specs.declared.content.Content.TheVariants.{Start, Crash, Leave, JoinTimer, PeriodTimer, TimeoutTimer, NackTimer, SuspicionTimer, Join, Welcome, Ping, PingReq, Ack, Nack, Bye}
-use Rattle.member.specs.State.{State}
+use Rattle.member.specs.declared.content.Content.TheVariants.{Start, Crash, Leave, JoinTimer, PeriodTimer, TimeoutTimer, NackTimer, SuspicionTimer, Join, Welcome, Ping, PingReq, Ack, Nack, Bye, DeadlineTimer, GossipTimer, PushTimer, Call, Answer, Gossip, Push, Pull}
+use Rattle.member.specs.State.{State, is_probed}
+use Rattle.incarnation.specs.Refutations.{does_refute}
 use Rattle.membership.specs.Table.{is_confirm, does_override, live_count}
 use Rattle.member.specs.Turn.{Effect, on_state, unchanged, with_row, with_number, with_event, with_timer}
-use Rattle.member.specs.Send.{sent, sent_off, sent_to_each, ping_sent, ping_req_sent, ack_sent, nack_sent, join_sent, join_sent_to, welcome_sent, bye_sent}
-use Rattle.member.specs.Apply.{with_put, passed_on, with_health, refuted, heard_dead, own_applied, with_told, with_place, placed_unless_known, with_claim, claim_kept, alive_heard, suspect_heard, confirm_heard, claim_heard, news_heard, accusation_counted, accusation_heard, is_repeated, other_applied, applied, all_applied}
-use Rattle.member.specs.Step.{first_period_set, began, join_asked, joining_begun, started, crashed, join_handled, joined, suspected, probe_failed, probe_ended, probe_begun, target_probed, next_probed, period_begun, help_asked, timed_out, nack_heard, ping_heard, ping_req_heard, ack_taken, ack_heard, nack_due, confirmed, suspicion_over, withdrawn, byes_said, departed, plain_handled, handled, step}
+use Rattle.member.specs.Send.{posted, sent, sent_off, sent_to_each, carried, gossip_sent, call_sent, answer_sent, push_sent, pull_sent, ping_sent, ping_req_sent, ack_sent, nack_sent, join_sent, join_sent_to, welcome_sent, bye_sent}
+use Rattle.member.specs.Apply.{gossip_set, with_put, passed_on, with_health, refuted, heard_dead, is_own_death, own_applied, with_told, with_place, with_turn, with_claim, claim_kept, without_suspicion, alive_heard, suspect_heard, death_kept, confirm_heard, claim_heard, news_heard, accusation_counted, accusation_heard, is_repeated, is_heeded, other_applied, applied, all_applied}
+use Rattle.member.specs.Step.{push_begun, first_push_set, push_period, doublings_to, pushed, first_period_set, suspected_at, timed_probe_failed, probe_settled, timed_probe_begun, timed_target_probed, next_timed_probed, waiting_probed, has_time, period_beaten, is_under_way, probed_in_turn, deadline_over, timed_answered, timed_ack_heard, sampled_help, called, timed_out_timed, answer_heard, is_told_out, gossip_spread, gossip_set_again, gossip_due, merged, push_due, push_heard, timed_handled, handled_by, began, join_asked, joining_begun, started, crashed, join_handled, joined, suspected, probe_failed, probe_ended, probe_begun, target_probed, next_probed, period_begun, help_asked, timed_out, nack_heard, ping_heard, ping_req_heard, ack_taken, ack_heard, nack_due, confirmed, suspicion_over, withdrawn, byes_said, departed, plain_handled, handled, step}
 use Rattle.member.specs.Places.{place_of}
 use Rattle.member.specs.Fair.{IsWellMade}
 
@@ -57,8 +67,95 @@ pub arrival_later : (s : Setup) (from to now : ℕ) (words : Words) → IfSome (
 arrival_later s from to now words =
     whether_cut (λ p. IfSome p.0 (λ at. now + (link_between s from to).delay ≤ at)) s from to now words tt (uncut_later s from to now words)
 
+-- ---- trips
+
+-- there is something later than a moment, if there is anything
+abbrev IsFrom : ℕ → Option ℕ × Words → Type 0
+IsFrom d p = IfSome p.0 (λ a. d ≤ a)
+
+from_choice : (b : Bool) (p q : Option ℕ × Words) (d : ℕ) → IsFrom d p → IsFrom d q → IsFrom d (cond {A = Option ℕ × Words} b p q)
+from_choice true p q d a b = a
+from_choice false p q d a b = b
+
+from_sooner : (d e : ℕ) (p : Option ℕ × Words) → d ≤ e → IsFrom e p → IsFrom d p
+from_sooner d e (None, words) h from = tt
+from_sooner d e (Some at, words) h from = omega (arith, from, h)
+
+sooner : (now more d : ℕ) → now + d ≤ now + more + d
+sooner now more d = omega arith
+
+from_next : (more : ℕ → Words → Option ℕ × Words) (p : Option ℕ × Words) (d : ℕ) → IsFrom d p → ((there : ℕ) (words : Words) → d ≤ there → IsFrom d (more there words)) → IsFrom d (and_then more p)
+from_next more (None, words) d first onward = tt
+from_next more (Some there, words) d first onward = onward there words first
+
+module _ (s : Setup) where
+  try_later : (from to now : ℕ) (words : Words) → IsFrom (now + (link_between s from to).delay) (try_of s from to now words)
+  unfolding try_of uncut_try_of
+  try_later from to now words =
+      let link = link_between s from to in
+      let lost = lost_of words link.loss in
+      from_choice (is_cut s from to now) _ _ (now + link.delay) tt (from_choice lost.0 _ _ (now + link.delay) tt (omega arith))
+
+  tried_or : (more : Words → Option ℕ × Words) (p : Option ℕ × Words) (d : ℕ) → IsFrom d p → ((words : Words) → IsFrom d (more words)) → IsFrom d (or_else more p)
+  tried_or more (None, words) d first rest = rest words
+  tried_or more (Some there, words) d first rest = first
+
+  tried_later : (from to now wait k left : ℕ) (words : Words) → IsFrom (now + (link_between s from to).delay) (tried_of s from to now wait k left words)
+  tried_later from to now wait k zero words = tt
+  tried_later from to now wait k (suc left) words =
+      let sent : ℕ = now + wait * (2 ^ k - 1) in
+      tried_or (tried_of s from to now wait (k + 1) left) (try_of s from to sent words) (now + (link_between s from to).delay)
+      (from_sooner (now + (link_between s from to).delay) (sent + (link_between s from to).delay) (try_of s from to sent words) (sooner now (wait * (2 ^ k - 1)) (link_between s from to).delay) (try_later from to sent words))
+      (λ rest. tried_later from to now wait (k + 1) left rest)
+
+  trip_later : (from to now wait : ℕ) (words : Words) → IsFrom (now + (link_between s from to).delay) (trip_of s from to now wait words)
+  unfolding trip_of
+  trip_later from to now wait words = tried_later from to now wait 0 8 words
+
+  comes_later : (from to sent d there : ℕ) (words : Words) → d ≤ there → IsFrom d (comes_of s from to sent there words)
+  comes_later from to sent d there words h = omega (arith, h)
+
+  pub call_later : (from to now : ℕ) (words : Words) → IsFrom (now + (link_between s from to).delay) (call_of s from to now words)
+  unfolding call_of
+  call_later from to now words =
+      let d = now + (link_between s from to).delay in
+      let begun = trip_of s from to now s.stream.connect words in
+      let answered = and_then (λ there. trip_of s to from there s.stream.connect) begun in
+      let sent = and_then (λ there. trip_of s from to there s.stream.again) answered in
+      from_next (comes_of s from to now) sent d
+      (from_next (λ there. trip_of s from to there s.stream.again) answered d
+      (from_next (λ there. trip_of s to from there s.stream.connect) begun d (trip_later from to now s.stream.connect words) (λ there rest h. from_sooner d (there + (link_between s to from).delay) (trip_of s to from there s.stream.connect rest) (omega (arith, h)) (trip_later to from there s.stream.connect rest)))
+      (λ there rest h. from_sooner d (there + (link_between s from to).delay) (trip_of s from to there s.stream.again rest) (omega (arith, h)) (trip_later from to there s.stream.again rest)))
+      (λ there rest h. comes_later from to now d there rest h)
+
+  pub answer_later : (from to now : ℕ) (words : Words) → IsFrom (now + (link_between s from to).delay) (answer_of s from to now words)
+  unfolding answer_of
+  answer_later from to now words =
+      let d = now + (link_between s from to).delay in
+      from_next (comes_of s from to now) (trip_of s from to now s.stream.again words) d (trip_later from to now s.stream.again words) (λ there rest h. comes_later from to now d there rest h)
+
+  pub kept_later : (from to now : ℕ) (words : Words) → IsFrom (now + (link_between s from to).delay) (kept_arrival_of s from to now words)
+  unfolding kept_arrival_of
+  kept_later from to now words =
+      let link = link_between s from to in
+      let jitter = below_of words (link.jitter + 1) in
+      from_choice (is_cut s from to now) _ _ (now + link.delay) tt (comes_later from to now (now + link.delay) (now + link.delay + jitter.0) jitter.1 (omega arith))
+
 terms_sound : (s : Setup) → IsSound s → AreSound (terms_of s)
 terms_sound s sound = record { period = sound.period; alpha = sound.alpha.1; beta = sound.beta; accusers_wanted = sound.confirmations }
+
+pub positive : (n : ℕ) → nat_eq n 0 ≡ false → 0 < n
+positive zero some = absurd (eqb-false zero 0 some refl)
+positive (suc n) some = omega arith
+
+further : (now beat a b : ℕ) → now < beat → now < beat + a + b
+further now beat a b h = omega arith
+
+ahead : (now n r : ℕ) → r < n → now < now + n - r
+ahead now n r few = omega arith
+
+long_period : (push doublings : ℕ) → 0 < push → 0 < push * (1 + doublings)
+long_period push doublings some = omega (arith, some)
 
 length_more : (rows : List Row) (row : Row) → length (rows ++ row ∷ []) ≡ length rows + 1
 length_more [] row = refl
@@ -92,13 +189,14 @@ module _ (s : Setup) (sound : IsSound s) (k : Key) (n : ℕ) where
     counts = fair.counts;
   }
 
-  fair_event : (at to : ℕ) (content : Content) (o : Effect) → k.at < at → (to ≢ k.to → k.at + (link_between s k.to to).delay ≤ at) → IsWellMade s k n o → IsWellMade s k n (with_event k at to content o)
+  fair_event : (at to : ℕ) (content : Content) (o : Effect) → k.at < at → (to ≢ k.to → k.at + (link_between s k.to to).delay ≤ at) → IsWellMade s k n o → IsWellMade s k n (with_event s k at to content o)
   unfolding with_event
   fair_event at to content o h linked fair =
-      let last : Key = record { at = at; to = to; from = k.to; number = o.state.next_number } in
+      let put_off = (is_awake_at s to at).later in
+      let last : Key = record { at = awake s to at; to = to; from = k.to; number = o.state.next_number } in
       record {
-        later = all_append (λ e. k.at < e.0.at) o.events ((last, content) ∷ []) fair.later (h, tt);
-        linked = all_append (λ e. e.0.to ≢ k.to → k.at + (link_between s k.to e.0.to).delay ≤ e.0.at) o.events ((last, content) ∷ []) fair.linked (linked, tt);
+        later = all_append (λ e. k.at < e.0.at) o.events ((last, content) ∷ []) fair.later (omega (arith, h, put_off), tt);
+        linked = all_append (λ e. e.0.to ≢ k.to → k.at + (link_between s k.to e.0.to).delay ≤ e.0.at) o.events ((last, content) ∷ []) fair.linked ((λ other. let there = linked other in omega (arith, there, put_off)), tt);
         made = all_append (λ e. (e.0.from ≡ k.to) × (n ≤ e.0.number) × (e.0.number < o.state.next_number + 1)) o.events ((last, content) ∷ [])
             (all_weaker (λ e. (e.0.from ≡ k.to) × (n ≤ e.0.number) × (e.0.number < o.state.next_number)) _ (λ e g. (g.0, g.1, let h = g.2 in omega arith)) o.events fair.made)
             ((refl, fair.grows, omega arith), tt);
@@ -108,10 +206,10 @@ module _ (s : Setup) (sound : IsSound s) (k : Key) (n : ℕ) where
         counts = fair.counts;
       }
 
-  fair_own : (at : ℕ) (content : Content) (o : Effect) → k.at < at → IsWellMade s k n o → IsWellMade s k n (with_event k at k.to content o)
+  fair_own : (at : ℕ) (content : Content) (o : Effect) → k.at < at → IsWellMade s k n o → IsWellMade s k n (with_event s k at k.to content o)
   fair_own at content o h fair = fair_event at k.to content o h (λ other. absurd (other refl)) fair
 
-  fair_timer : (ticks : ℕ) (content : Content) (o : Effect) → 0 < ticks → IsWellMade s k n o → IsWellMade s k n (with_timer k ticks content o)
+  fair_timer : (ticks : ℕ) (content : Content) (o : Effect) → 0 < ticks → IsWellMade s k n o → IsWellMade s k n (with_timer s k ticks content o)
   unfolding with_timer
   fair_timer ticks content o h fair = fair_own (k.at + ticks) content o (omega arith) fair
 
@@ -133,16 +231,24 @@ module _ (s : Setup) (sound : IsSound s) (k : Key) (n : ℕ) where
   fair_choice true o p a b = a
   fair_choice false o p a b = b
 
+  -- where the choice of the second says why
+  fair_unless : (b : Bool) (o p : Effect) → IsWellMade s k n o → (b ≡ false → IsWellMade s k n p) → IsWellMade s k n (cond b o p)
+  fair_unless true o p a b = a
+  fair_unless false o p a b = b refl
+
   -- ---- messages
 
-  fair_sent_off : (to : ℕ) (content : Content) (arrival : Option ℕ) (o : Effect) → IfSome arrival (λ at. k.at + (link_between s k.to to).delay ≤ at) → IsWellMade s k n o → IsWellMade s k n (sent_off k to content arrival o)
+  fair_sent_off : (to : ℕ) (content : Content) (arrival : Option ℕ) (o : Effect) → IfSome arrival (λ at. k.at + (link_between s k.to to).delay ≤ at) → IsWellMade s k n o → IsWellMade s k n (sent_off s k to content arrival o)
   fair_sent_off to content None o h fair = fair_number o fair
   fair_sent_off to content (Some at) o h fair = fair_event at to content o (let d = (sound.between k.to to).delay.0 in omega arith) (λ _. h) fair
 
+  fair_posted : (tells : What) (to value : ℕ) (content : Content) (arrival : Option ℕ × Words) (o : Effect) → IsFrom (k.at + (link_between s k.to to).delay) arrival → IsWellMade s k n o
+      → IsWellMade s k n (posted s k tells to value content arrival o)
+  unfolding posted
+  fair_posted tells to value content arrival o later fair = fair_sent_off to content arrival.0 _ later (fair_row tells _ _ _ _ (fair_state _ o refl fair))
+
   fair_sent : (tells : What) (to value : ℕ) (content : Content) (o : Effect) → IsWellMade s k n o → IsWellMade s k n (sent s k tells to value content o)
-  unfolding sent
-  fair_sent tells to value content o fair =
-      fair_sent_off to content _ _ (arrival_later s k.to to k.at o.state.words) (fair_row tells _ _ _ _ (fair_state _ o refl fair))
+  fair_sent tells to value content o fair = fair_posted tells to value content _ o (arrival_later s k.to to k.at o.state.words) fair
 
   fair_ping : (to initiator seq : ℕ) (o : Effect) → IsWellMade s k n o → IsWellMade s k n (ping_sent s k to initiator seq o)
   unfolding ping_sent
@@ -176,6 +282,28 @@ module _ (s : Setup) (sound : IsSound s) (k : Key) (n : ℕ) where
   unfolding bye_sent
   fair_bye to o fair = fair_sent _ to 0 _ o fair
 
+  fair_gossip : (to : ℕ) (o : Effect) → IsWellMade s k n o → IsWellMade s k n (gossip_sent s k to o)
+  unfolding gossip_sent
+  fair_gossip to o fair =
+      let picked = fair_state _ o refl fair in
+      fair_choice (nat_eq (length (carried s None o.state)) 0) _ _ picked (fair_sent _ to 0 _ _ picked)
+
+  fair_call : (to seq : ℕ) (o : Effect) → IsWellMade s k n o → IsWellMade s k n (call_sent s k to seq o)
+  unfolding call_sent
+  fair_call to seq o fair = fair_posted _ to seq _ _ o (call_later s k.to to k.at o.state.words) fair
+
+  fair_answer : (to seq : ℕ) (o : Effect) → IsWellMade s k n o → IsWellMade s k n (answer_sent s k to seq o)
+  unfolding answer_sent
+  fair_answer to seq o fair = fair_posted _ to seq _ _ o (answer_later s k.to to k.at o.state.words) fair
+
+  fair_push : (to : ℕ) (o : Effect) → IsWellMade s k n o → IsWellMade s k n (push_sent s k to o)
+  unfolding push_sent
+  fair_push to o fair = fair_posted _ to 0 _ _ o (kept_later s k.to to k.at o.state.words) fair
+
+  fair_pull : (to : ℕ) (o : Effect) → IsWellMade s k n o → IsWellMade s k n (pull_sent s k to o)
+  unfolding pull_sent
+  fair_pull to o fair = fair_posted _ to 0 _ _ o (kept_later s k.to to k.at o.state.words) fair
+
   fair_each : (send : ℕ → Effect → Effect) → ((to : ℕ) (o : Effect) → IsWellMade s k n o → IsWellMade s k n (send to o)) → (others : List ℕ) (o : Effect) → IsWellMade s k n o
       → IsWellMade s k n (sent_to_each send others o)
   unfolding sent_to_each
@@ -184,13 +312,23 @@ module _ (s : Setup) (sound : IsSound s) (k : Key) (n : ℕ) where
 
   -- ---- updates
 
-  same_passed_on : (loud : Bool) (u : Update) (t : State) → (passed_on loud u t).next_number ≡ t.next_number
-  unfolding passed_on with_put
-  same_passed_on true u t = refl
-  same_passed_on false u t = refl
+  -- a moment in step lies ahead
+  in_step_later : (beat interval : ℕ) → 0 < interval → k.at < next_in_step beat interval k.at
+  in_step_later beat interval some =
+      ahead k.at interval ((k.at + interval - beat % interval) % interval) (mod-lt (k.at + interval - beat % interval) some)
 
-  fair_passed_on : (loud : Bool) (u : Update) (o : Effect) → IsWellMade s k n o → IsWellMade s k n (on_state (passed_on loud u) o)
-  fair_passed_on loud u o fair = fair_state (passed_on loud u o.state) o (same_passed_on loud u o.state) fair
+  fair_gossip_set : (gossip : Option settings.Gossip) (o : Effect) → IfSome gossip IsSoundGossip → IsWellMade s k n o → IsWellMade s k n (gossip_set s k gossip o)
+  fair_gossip_set None o is fair = fair
+  fair_gossip_set (Some gossip) o is fair =
+      fair_choice o.state.gossips _ _ fair (fair_own _ GossipTimer _ (in_step_later (o.state.beat - 1) gossip.interval is.interval.0) (fair_state _ o refl fair))
+
+  fair_put : (u : Update) (o : Effect) → IsWellMade s k n o → IsWellMade s k n (with_put s k u o)
+  unfolding with_put
+  fair_put u o fair = fair_gossip_set s.gossip _ sound.gossip (fair_state _ o refl fair)
+
+  fair_passed_on : (loud : Bool) (u : Update) (o : Effect) → IsWellMade s k n o → IsWellMade s k n (passed_on s k loud u o)
+  unfolding passed_on
+  fair_passed_on loud u o fair = fair_choice loud _ _ (fair_put u o fair) fair
 
   fair_health : (h : LocalHealth) (o : Effect) → IsWellMade s k n o → IsWellMade s k n (with_health k h o)
   unfolding with_health
@@ -198,58 +336,60 @@ module _ (s : Setup) (sound : IsSound s) (k : Key) (n : ℕ) where
       let after : IsWellMade s k n (on_state (λ t. record t { health = h }) o) = fair_state _ o refl fair in
       fair_choice (nat_eq h.counter o.state.health.counter) _ _ after (fair_row _ _ _ _ _ after)
 
-  fair_refuted : (o : Effect) → IsWellMade s k n o → IsWellMade s k n (refuted k o)
-  unfolding refuted with_put
-  fair_refuted o fair = fair_state _ _ refl (fair_health _ _ (fair_row _ _ _ _ _ (fair_state _ o refl fair)))
+  fair_refuted : (number : ℕ) (o : Effect) → IsWellMade s k n o → IsWellMade s k n (refuted s k number o)
+  unfolding refuted
+  fair_refuted number o fair = fair_put _ _ (fair_health _ _ (fair_row _ _ _ _ _ (fair_state _ o refl fair)))
 
   fair_dead : (number : ℕ) (o : Effect) → IsWellMade s k n o → IsWellMade s k n (heard_dead k number o)
   unfolding heard_dead
   fair_dead number o fair = fair_row _ _ _ _ _ (fair_state _ o refl fair)
 
-  fair_own_applied : (claim : Claim) (number : ℕ) (o : Effect) → IsWellMade s k n o → IsWellMade s k n (own_applied k claim number o)
-  fair_own_applied Alive number o fair = fair
-  fair_own_applied Suspect number o fair = fair_choice (nat_eq number o.state.incarnation) _ _ (fair_refuted o fair) fair
-  fair_own_applied Confirm number o fair = fair_choice o.state.heard_dead _ _ fair (fair_dead number o fair)
+  fair_own_applied : (claim : Claim) (number : ℕ) (o : Effect) → IsWellMade s k n o → IsWellMade s k n (own_applied s k claim number o)
+  fair_own_applied claim number o fair =
+      fair_choice (does_refute (profile_of s) o.state.incarnation claim number) _ _ (fair_refuted (number + 1) o fair)
+      (fair_choice (is_own_death (profile_of s) claim o.state.heard_dead) _ _ (fair_dead number o fair) fair)
 
   fair_told : (loud : Bool) (tells : What) (subject value : ℕ) (o : Effect) → IsWellMade s k n o → IsWellMade s k n (with_told loud k tells subject value o)
   fair_told loud tells subject value o fair = fair_choice loud _ _ (fair_row _ _ _ _ o fair) fair
 
-  same_placed : (held : Option (Claim × ℕ)) (u : Update) (t : State) → (placed_unless_known held u t).next_number ≡ t.next_number
-  same_placed (Some held) u t = refl
-  same_placed None u t = placed (is_confirm u.claim)
-    where
-      placed : (b : Bool) → (cond b t (with_place u.subject t)).next_number ≡ t.next_number
-      placed true = refl
-      placed false = refl
+  same_choice : (b : Bool) (t v : State) (number : ℕ) → t.next_number ≡ number → v.next_number ≡ number → (cond b t v).next_number ≡ number
+  same_choice true t v number a b = a
+  same_choice false t v number a b = b
 
   fair_kept : (u : Update) (o : Effect) → IsWellMade s k n o → IsWellMade s k n (on_state (claim_kept u) o)
   unfolding claim_kept
-  fair_kept u o fair = fair_state (claim_kept u o.state) o (same_placed (get o.state.table u.subject) u (with_claim u o.state)) fair
+  fair_kept u o fair =
+      fair_state (claim_kept u o.state) o
+      (same_choice (is_confirm u.claim) _ _ o.state.next_number refl (same_choice (is_probed (get o.state.table u.subject)) _ _ o.state.next_number refl refl)) fair
+
+  same_death : (profile : Profile) (subject now : ℕ) (t : State) → (death_kept profile subject now t).next_number ≡ t.next_number
+  same_death Papers subject now t = refl
+  same_death Memberlist subject now t = refl
 
   fair_claim : (loud : Bool) (u : Update) (claim : Claim) (o : Effect) → IsWellMade s k n o → IsWellMade s k n (claim_heard s loud k u claim o)
   unfolding alive_heard suspect_heard confirm_heard
   fair_claim loud u Alive o fair = fair_told loud _ _ _ _ (fair_state _ o refl fair)
   fair_claim loud u Suspect o fair =
       fair_own _ _ _ (omega (arith, min-le-timeout (terms_of s) (live_count o.state.table) 0 (terms_sound s sound))) (fair_told loud _ _ _ _ (fair_state _ o refl fair))
-  fair_claim loud u Confirm o fair = fair_told loud _ _ _ _ (fair_state _ o refl fair)
+  fair_claim loud u Confirm o fair = fair_told loud _ _ _ _ (fair_state _ o (same_death (profile_of s) u.subject k.at (without_suspicion u.subject o.state)) fair)
 
   fair_news : (loud : Bool) (u : Update) (o : Effect) → IsWellMade s k n o → IsWellMade s k n (news_heard s loud k u o)
   unfolding news_heard
   fair_news loud u o fair = fair_passed_on loud u _ (fair_claim loud u u.claim _ (fair_kept u o fair))
 
-  fair_counted : (loud : Bool) (u : Update) (found : Option HeldSuspicion) (o : Effect) → IsWellMade s k n o → IsWellMade s k n (accusation_counted loud k u (option_map (answer_of k.at) found) o)
+  fair_counted : (loud : Bool) (u : Update) (found : Option HeldSuspicion) (o : Effect) → IsWellMade s k n o → IsWellMade s k n (accusation_counted s loud k u (option_map (answer_to k.at) found) o)
   fair_counted loud u None o fair = fair
   fair_counted loud u (Some suspicion) o fair = fair_passed_on loud u _ (fair_own _ _ _ (omega arith) (fair_told loud _ _ _ o fair))
 
-  fair_accusation : (loud : Bool) (u : Update) (o : Effect) → IsWellMade s k n o → IsWellMade s k n (accusation_heard loud k u o)
+  fair_accusation : (loud : Bool) (u : Update) (o : Effect) → IsWellMade s k n o → IsWellMade s k n (accusation_heard s loud k u o)
   unfolding accusation_heard
   fair_accusation loud u o fair =
       fair_counted loud u (accused_of o.state.suspicions u.subject u.accuser o.state.next_number) _ (fair_state _ o refl fair)
 
   fair_other : (loud : Bool) (u : Update) (held : Option (Claim × ℕ)) (o : Effect) → IsWellMade s k n o → IsWellMade s k n (other_applied s loud k u held o)
-  fair_other loud u None o fair = fair_news loud u o fair
+  fair_other loud u None o fair = fair_choice (is_heeded (profile_of s) loud u.claim) _ _ (fair_news loud u o fair) fair
   fair_other loud u (Some held) o fair =
-      fair_choice (does_override (u.claim, u.inc) held) _ _ (fair_news loud u o fair) (fair_choice (is_repeated u held) _ _ (fair_accusation loud u o fair) fair)
+      fair_choice (does_override (profile_of s) (u.claim, u.inc) held) _ _ (fair_news loud u o fair) (fair_choice (is_repeated (profile_of s) u held) _ _ (fair_accusation loud u o fair) fair)
 
   fair_applied : (loud : Bool) (u : Update) (o : Effect) → IsWellMade s k n o → IsWellMade s k n (applied s loud k u o)
   unfolding applied
@@ -263,9 +403,14 @@ module _ (s : Setup) (sound : IsSound s) (k : Key) (n : ℕ) where
 
   -- ---- joins
 
+  fair_first_push : (beat : ℕ) (gossip : Option settings.Gossip) (o : Effect) → k.at < beat → IsWellMade s k n o → IsWellMade s k n (first_push_set s k beat gossip o)
+  unfolding push_begun
+  fair_first_push beat None o h fair = fair
+  fair_first_push beat (Some gossip) o h fair = fair_choice (nat_eq gossip.push 0) _ _ fair (fair_own _ PushTimer _ (further k.at beat _ _ h) (fair_state _ o refl fair))
+
   fair_first_period : (o : Effect) → IsWellMade s k n o → IsWellMade s k n (first_period_set s k o)
   unfolding first_period_set
-  fair_first_period o fair = fair_timer _ _ _ (omega arith) (fair_state _ o refl fair)
+  fair_first_period o fair = fair_first_push _ s.gossip _ (omega arith) (fair_timer _ _ _ (omega arith) (fair_state _ o refl fair))
 
   fair_asked_join : (o : Effect) → IsWellMade s k n o → IsWellMade s k n (join_asked s k o)
   unfolding join_asked
@@ -381,6 +526,112 @@ module _ (s : Setup) (sound : IsSound s) (k : Key) (n : ℕ) where
   unfolding departed
   fair_departed o fair = fair_state _ _ refl (fair_byes _ (fair_row _ _ _ _ o fair))
 
+  -- ---- probes by memberlist's rules
+
+  fair_suspected_at : (probe : Probe) (held : Option (Claim × ℕ)) (o : Effect) → IsWellMade s k n o → IsWellMade s k n (suspected_at s k probe held o)
+  fair_suspected_at probe None o fair = fair
+  fair_suspected_at probe (Some held) o fair = fair_choice (is_confirm held.0) _ _ fair (fair_applied true _ o fair)
+
+  fair_timed_failed : (probe : Probe) (o : Effect) → IsWellMade s k n o → IsWellMade s k n (timed_probe_failed s k probe o)
+  unfolding timed_probe_failed
+  fair_timed_failed probe o fair = fair_suspected_at probe _ _ (fair_health _ _ (fair_row _ _ _ _ o fair))
+
+  fair_settled : (probe : Option Probe) (o : Effect) → IsWellMade s k n o → IsWellMade s k n (probe_settled s k probe o)
+  unfolding probe_settled
+  fair_settled None o fair = fair
+  fair_settled (Some probe) o fair =
+      let ended = fair_state (record o.state { probe = None }) o refl fair in
+      fair_choice probe.reached _ _ (fair_health _ _ ended) (fair_timed_failed probe _ ended)
+
+  fair_timed_begun : (target : ℕ) (o : Effect) → IsWellMade s k n o → IsWellMade s k n (timed_probe_begun s k target o)
+  unfolding timed_probe_begun
+  fair_timed_begun target o fair =
+      fair_own _ _ _ (omega (arith, sound.timeout.0, sound.timeout.1)) (fair_timer _ _ _ (omega (arith, sound.timeout.0)) (fair_ping target k.to _ _ (fair_state _ o refl fair)))
+
+  fair_timed_target : (target : Option ℕ) (o : Effect) → IsWellMade s k n o → IsWellMade s k n (timed_target_probed s k target o)
+  fair_timed_target None o fair = fair_state _ o refl fair
+  fair_timed_target (Some target) o fair = fair_timed_begun target o fair
+
+  fair_next_timed : (o : Effect) → IsWellMade s k n o → IsWellMade s k n (next_timed_probed s k o)
+  unfolding next_timed_probed
+  fair_next_timed o fair = fair_timed_target (next_of o.state.words o.state.rota).0 _ (fair_state _ o refl fair)
+
+  fair_waiting : (o : Effect) → IsWellMade s k n o → IsWellMade s k n (waiting_probed s k o)
+  fair_waiting o fair = fair_choice o.state.waits _ _ (fair_next_timed _ (fair_state _ o refl fair)) fair
+
+  fair_in_turn : (o : Effect) → IsWellMade s k n o → IsWellMade s k n (probed_in_turn s k o)
+  fair_in_turn o fair = fair_choice (has_time k.at o.state.probe) _ _ (fair_state _ o refl fair) (fair_next_timed _ (fair_settled o.state.probe o fair))
+
+  fair_beaten : (o : Effect) → IsWellMade s k n o → IsWellMade s k n (period_beaten s k o)
+  unfolding period_beaten
+  fair_beaten o fair =
+      fair_in_turn _ (fair_own _ PeriodTimer o (in_step_later o.state.beat s.swim.period (omega (arith, sound.timeout.0, sound.timeout.1))) fair)
+
+  fair_deadline : (seq : ℕ) (o : Effect) → IsWellMade s k n o → IsWellMade s k n (deadline_over s k seq o)
+  unfolding deadline_over
+  fair_deadline seq o fair = fair_choice (is_under_way seq o.state.probe) _ _ (fair_waiting _ (fair_settled o.state.probe o fair)) fair
+
+  fair_timed_answered : (seq : ℕ) (o : Effect) → IsWellMade s k n o → IsWellMade s k n (timed_answered s k seq o)
+  unfolding timed_answered
+  fair_timed_answered seq o fair = fair_choice (is_under_way seq o.state.probe) _ _ (fair_waiting _ (fair_health _ _ (fair_state _ o refl fair))) fair
+
+  fair_timed_ack : (initiator seq : ℕ) (us : List Update) (o : Effect) → IsWellMade s k n o → IsWellMade s k n (timed_ack_heard s k initiator seq us o)
+  unfolding timed_ack_heard
+  fair_timed_ack initiator seq us o fair =
+      let heard = fair_all true us o fair in
+      fair_choice (nat_eq initiator k.to) _ _ (fair_timed_answered seq _ heard) (fair_taken initiator seq _ heard)
+
+  fair_sampled : (probe : Probe) (o : Effect) → IsWellMade s k n o → IsWellMade s k n (sampled_help s k probe o)
+  unfolding sampled_help
+  fair_sampled probe o fair =
+      let asked = fair_each _ (fair_ping_req probe.target probe.seq) _ _ (fair_state _ o refl fair) in
+      fair_choice s.lifeguard.probe _ _ (fair_state _ _ refl asked) asked
+
+  fair_called : (probe : Probe) (o : Effect) → IsWellMade s k n o → IsWellMade s k n (called s k probe o)
+  fair_called probe o fair = fair_choice s.swim.fallback _ _ (fair_call probe.target probe.seq o fair) fair
+
+  fair_timed_out_timed : (seq : ℕ) (probe : Option Probe) (o : Effect) → IsWellMade s k n o → IsWellMade s k n (timed_out_timed s k seq probe o)
+  unfolding timed_out_timed
+  fair_timed_out_timed seq None o fair = fair
+  fair_timed_out_timed seq (Some probe) o fair =
+      fair_choice (nat_eq probe.seq seq) _ _ (fair_called probe _ (fair_choice (nat_lt 0 s.swim.helpers) _ _ (fair_sampled probe o fair) fair)) fair
+
+  fair_answer_heard : (seq : ℕ) (o : Effect) → IsWellMade s k n o → IsWellMade s k n (answer_heard seq o)
+  unfolding answer_heard
+  fair_answer_heard seq o fair = fair_state _ o refl fair
+
+  -- ---- gossip and pushes
+
+  fair_spread : (gossip : settings.Gossip) (o : Effect) → IsWellMade s k n o → IsWellMade s k n (gossip_spread s k gossip o)
+  unfolding gossip_spread
+  fair_spread gossip o fair = fair_each _ fair_gossip _ _ (fair_state _ o refl fair)
+
+  fair_set_again : (o : Effect) → IsWellMade s k n o → IsWellMade s k n (gossip_set_again s k o)
+  fair_set_again o fair = fair_choice (is_told_out o.state) _ _ fair (fair_gossip_set s.gossip o sound.gossip fair)
+
+  fair_gossip_due : (gossip : Option settings.Gossip) (o : Effect) → IsWellMade s k n o → IsWellMade s k n (gossip_due s k gossip o)
+  fair_gossip_due None o fair = fair
+  fair_gossip_due (Some gossip) o fair =
+      let unset = fair_state (record o.state { gossips = false }) o refl fair in
+      fair_choice (is_told_out o.state) _ _ unset (fair_set_again _ (fair_spread gossip _ unset))
+
+  fair_merged : (us : List Update) (o : Effect) → IsWellMade s k n o → IsWellMade s k n (merged s k us o)
+  unfolding merged
+  fair_merged us o fair = fair_all true _ o fair
+
+  fair_pushed : (push : ℕ) (o : Effect) → 0 < push → IsWellMade s k n o → IsWellMade s k n (pushed s k push o)
+  unfolding pushed
+  fair_pushed push o some fair =
+      fair_each _ fair_push _ _ (fair_timer (push_period push (live_count o.state.table)) PushTimer _ (long_period push (doublings_to (live_count o.state.table)) some) (fair_state _ o refl fair))
+
+  fair_push_due : (gossip : Option settings.Gossip) (o : Effect) → IsWellMade s k n o → IsWellMade s k n (push_due s k gossip o)
+  fair_push_due None o fair = fair
+  fair_push_due (Some gossip) o fair = fair_unless (nat_eq gossip.push 0) _ _ fair (λ some. fair_pushed gossip.push o (positive gossip.push some) fair)
+
+  fair_push_heard : (us : List Update) (o : Effect) → IsWellMade s k n o → IsWellMade s k n (push_heard s k us o)
+  unfolding push_heard
+  fair_push_heard us o fair = fair_merged us _ (fair_pull k.from o fair)
+
   -- ---- the step
 
   fair_plain : (content : Content) (phase : Phase) (o : Effect) → IsWellMade s k n o → IsWellMade s k n (plain_handled s k content phase o)
@@ -408,9 +659,28 @@ module _ (s : Setup) (sound : IsSound s) (k : Key) (n : ℕ) where
   fair_handled Bye Running o fair = fair_confirmed k.from (get o.state.table k.from) o fair
   fair_handled content phase o fair = fair_plain content phase o fair
 
+  fair_timed_handled : (content : Content) (o : Effect) → IsWellMade s k n o → IsWellMade s k n (timed_handled s k content o)
+  unfolding timed_handled
+  fair_timed_handled PeriodTimer o fair = fair_beaten o fair
+  fair_timed_handled (TimeoutTimer seq) o fair = fair_timed_out_timed seq o.state.probe o fair
+  fair_timed_handled (DeadlineTimer seq) o fair = fair_deadline seq o fair
+  fair_timed_handled (Ack initiator seq us) o fair = fair_timed_ack initiator seq us o fair
+  fair_timed_handled (Call seq) o fair = fair_answer k.from seq o fair
+  fair_timed_handled (Answer seq) o fair = fair_answer_heard seq o fair
+  fair_timed_handled GossipTimer o fair = fair_gossip_due s.gossip o fair
+  fair_timed_handled (Gossip us) o fair = fair_all true us o fair
+  fair_timed_handled PushTimer o fair = fair_push_due s.gossip o fair
+  fair_timed_handled (Push us) o fair = fair_push_heard us o fair
+  fair_timed_handled (Pull us) o fair = fair_merged us o fair
+  fair_timed_handled content o fair = fair_handled content Running o fair
+
+  fair_by : (phase : Phase) (profile : Profile) (content : Content) (o : Effect) → IsWellMade s k n o → IsWellMade s k n (handled_by phase profile s k content o)
+  fair_by Running Memberlist content o fair = fair_timed_handled content o fair
+  fair_by phase profile content o fair = fair_handled content phase o fair
+
 pub fair_step : (s : Setup) → IsSound s → (k : Key) (c : Content) (t : State) → IsWellMade s k t.next_number (step s k c t)
 unfolding step
-fair_step s sound k c t = fair_handled s sound k t.next_number c t.phase (unchanged t) (fair_begin s sound k t.next_number t refl)
+fair_step s sound k c t = fair_by s sound k t.next_number t.phase (profile_of s) c (unchanged t) (fair_begin s sound k t.next_number t refl)
 
 pub steps_later : (s : Setup) → IsSound s → MakesLater (step s)
 steps_later s sound k c t = (fair_step s sound k c t).later

@@ -1,5 +1,5 @@
 -- What a member of a scenario keeps of its state, through the changes of its table and its rota.
-use Rattle.std.proofs.Common.{◌≡◌, ◌≢◌, ℕ, ◌+◌, ◌<◌, ◌≤◌, ◌==◌, Bool, true, false, cond, eqb, length, Option, Some, None, Result, Ok, Err, OnOk, inl, inr, refl, sym, ap, subst, ◌∙◌, arith}
+use Rattle.std.proofs.Common.{◌≡◌, ◌≢◌, ℕ, ◌+◌, ◌<◌, ◌≤◌, ◌==◌, Bool, true, false, cond, not, eqb, nat_eq, length, Option, Some, None, Result, Ok, Err, OnOk, inl, inr, refl, sym, ap, subst, ◌∙◌, arith}
 use Rattle.std.specs.Option.{is_some, IfSome}
 use Rattle.std.specs.Ordering.{nat_cmp, eq_by_cmp}
 use Rattle.std.specs.Cmp.{nat_cmp_total, unsigned_tied}
@@ -14,19 +14,23 @@ use Rattle.probing.proofs.SoundLemmas.{one_if, one_if-other}
 use Rattle.probing.proofs.RoundLemmas.{is_probe, next_sound}
 use Rattle.probing.proofs.OthersLemmas.{removed_absent, others_counted, remove_sound}
 use Rattle.incarnation.specs.declared.Claim.{Claim}
-use Rattle.membership.specs.Table.{Known}
+use Rattle.lifeguard.specs.declared.probe.Probe.{Probe}
+use Rattle.membership.specs.Table.{Known, is_confirm}
+use Rattle.lifeguard.specs.Probe.{with_nack, with_reach}
+use Rattle.member.specs.Step.{answered, nacked, reached}
 use Rattle.member.specs.Here.{HoldsOthers}
+use Rattle.member.specs.State.{is_probed}
 
 abbrev Held : Type 0
 Held = Claim × ℕ
 
 -- what the table has at a member after another or the same was put
-put_at : (table : Known) (k q : ℕ) (v : Held) → contains_key (insert table k v) q ≡ is_some (cond (eqb q k) (Some v) (get table q))
-put_at table k q v = ap is_some (get-insert nat_cmp_total table k v q ∙ ap (λ b. cond b (Some v) (get table q)) (unsigned_tied q k))
+put_get : (table : Known) (k q : ℕ) (v : Held) → get (insert table k v) q ≡ cond (eqb q k) (Some v) (get table q)
+put_get table k q v = get-insert nat_cmp_total table k v q ∙ ap (λ b. cond b (Some v) (get table q)) (unsigned_tied q k)
 
 -- a member that was put is there
-pub put_there : (table : Known) (k : ℕ) (v : Held) → contains_key (insert table k v) k ≡ true
-put_there table k v = put_at table k k v ∙ ap (λ b. is_some (cond b (Some v) (get table k))) (eq-eqb k k refl)
+pub put_there : (table : Known) (k : ℕ) (v : Held) → get (insert table k v) k ≡ Some v
+put_there table k v = put_get table k k v ∙ ap (λ b. cond b (Some v) (get table k)) (eq-eqb k k refl)
 
 others_cases : (s : Setup) (m : ℕ) (table : Known) (k q : ℕ) (v : Held) (b : Bool) → eqb q k ≡ b → k < member_count s → k ≢ m
     → (contains_key table q ≡ true → (q < member_count s) × (q ≢ m)) → is_some (cond b (Some v) (get table q)) ≡ true → (q < member_count s) × (q ≢ m)
@@ -34,60 +38,101 @@ others_cases s m table k q v true e low apart old there =
     let same : q ≡ k = eqb-true q k e in subst (λ r. (r < member_count s) × (r ≢ m)) (sym same) (low, apart)
 others_cases s m table k q v false e low apart old there = old there
 
-listed_cases : (table : Known) (rota : ProbeOrder) (k q : ℕ) (v : Held) (b : Bool) → (contains_key table q ≡ false → times_in rota.members q ≡ 0)
-    → is_some (cond b (Some v) (get table q)) ≡ false → times_in rota.members q ≡ 0
-listed_cases table rota k q v true old none = absurd (false≢true (sym none))
-listed_cases table rota k q v false old none = old none
+-- who is probed is not out of the rota
+probed_cases : (table : Known) (rota : ProbeOrder) (k q : ℕ) (v : Held) (b : Bool) → is_confirm v.0 ≡ false → (is_probed (get table q) ≡ false → times_in rota.members q ≡ 0)
+    → is_probed (cond b (Some v) (get table q)) ≡ false → times_in rota.members q ≡ 0
+probed_cases table rota k q v true up old none = absurd (false≢true (sym none ∙ ap not up))
+probed_cases table rota k q v false up old none = old none
 
--- another member of the scenario is put into the table
-pub holds_put : (s : Setup) (m : ℕ) (table : Known) (rota : ProbeOrder) (k : ℕ) (v : Held) → k < member_count s → k ≢ m
-    → HoldsOthers s m table rota → HoldsOthers s m (insert table k v) rota
-holds_put s m table rota k v low apart holds = record {
-  others = λ q there. others_cases s m table k q v (eqb q k) refl low apart (holds.others q) (sym (put_at table k q v) ∙ there);
-  listed = λ q none. listed_cases table rota k q v (eqb q k) (holds.listed q) (sym (put_at table k q v) ∙ none);
+-- another member of the scenario, who isn't confirmed, is put into the table
+pub holds_put : (s : Setup) (m : ℕ) (table : Known) (rota : ProbeOrder) (probe : Option Probe) (k : ℕ) (v : Held) → k < member_count s → k ≢ m → is_confirm v.0 ≡ false
+    → HoldsOthers s m table rota probe → HoldsOthers s m (insert table k v) rota probe
+holds_put s m table rota probe k v low apart up holds = record {
+  others = λ q there. others_cases s m table k q v (eqb q k) refl low apart (holds.others q) (sym (ap is_some (put_get table k q v)) ∙ there);
+  listed = λ q none. probed_cases table rota k q v (eqb q k) up (holds.listed q) (sym (ap is_probed (put_get table k q v)) ∙ none);
   sound = holds.sound;
+  target = holds.target;
 }
 
 -- and into the rota
-pub holds_place : (s : Setup) (m : ℕ) (table : Known) (rota : ProbeOrder) (words : Words) (k : ℕ) → contains_key table k ≡ true
-    → IsSoundOrder (insert_of words k rota).0 → HoldsOthers s m table rota → HoldsOthers s m table (insert_of words k rota).0
+pub holds_place : (s : Setup) (m : ℕ) (table : Known) (rota : ProbeOrder) (probe : Option Probe) (words : Words) (k : ℕ) → is_probed (get table k) ≡ true
+    → IsSoundOrder (insert_of words k rota).0 → HoldsOthers s m table rota probe → HoldsOthers s m table (insert_of words k rota).0 probe
 unfolding insert_of
-holds_place s m table rota words k there sound holds = record {
+holds_place s m table rota probe words k there sound holds = record {
   others = holds.others;
   listed = λ q none.
-      let apart : k ≢ q = λ same. false≢true (sym none ∙ ap (contains_key table) (sym same) ∙ there) in
+      let apart : k ≢ q = λ same. false≢true (sym none ∙ ap (λ r. is_probed (get table r)) (sym same) ∙ there) in
       let place = (below_of words (length rota.members + 1)).0 in
       omega (arith, sum_by-insert (λ (it : ℕ). one_if (it == q)) rota.members place k, one_if-other k q apart, holds.listed q none);
   sound = sound;
+  target = holds.target;
 }
 
--- a member is taken out of the rota
-pub holds_remove : (s : Setup) (m : ℕ) (table : Known) (rota : ProbeOrder) (k : ℕ) → HoldsOthers s m table rota → HoldsOthers s m table (remove_of k rota)
-holds_remove s m table rota k holds = record {
-  others = holds.others;
+-- a member that is confirmed is put into the table, and taken out of the rota
+pub holds_confirm : (s : Setup) (m : ℕ) (table : Known) (rota : ProbeOrder) (probe : Option Probe) (k : ℕ) (v : Held) → k < member_count s → k ≢ m
+    → HoldsOthers s m table rota probe → HoldsOthers s m (insert table k v) (remove_of k rota) probe
+holds_confirm s m table rota probe k v low apart holds = record {
+  others = λ q there. others_cases s m table k q v (eqb q k) refl low apart (holds.others q) (sym (ap is_some (put_get table k q v)) ∙ there);
   listed = λ q none.
-      elim (cases_Bool (eqb k q)) [
-        | inl e ↦ subst (λ r. times_in (remove_of k rota).members r ≡ 0) (eqb-true k q e) (removed_absent k rota holds.sound)
-        | inr e ↦ others_counted k q rota holds.sound (eqb-false k q e) ∙ holds.listed q none
+      elim (cases_Bool (eqb q k)) [
+        | inl e ↦ subst (λ r. times_in (remove_of k rota).members r ≡ 0) (sym (eqb-true q k e)) (removed_absent k rota holds.sound)
+        | inr e ↦
+            let other : k ≢ q = λ same. eqb-false q k e (sym same) in
+            let as_before : get (insert table k v) q ≡ get table q = put_get table k q v ∙ ap (λ b. cond b (Some v) (get table q)) e in
+            others_counted k q rota holds.sound other ∙ holds.listed q (ap is_probed (sym as_before) ∙ none)
       ];
   sound = remove_sound k rota holds.sound;
+  target = holds.target;
 }
 
-module _ (s : Setup) (m : ℕ) (table : Known) (rota : ProbeOrder) (words : Words) (fit : AreWords words) (holds : HoldsOthers s m table rota) where
+-- another probe, of a member of the scenario, or none
+pub holds_probe : (s : Setup) (m : ℕ) (table : Known) (rota : ProbeOrder) (before after : Option Probe) → IfSome after (λ p. p.target < member_count s)
+    → HoldsOthers s m table rota before → HoldsOthers s m table rota after
+holds_probe s m table rota before after member holds = record { others = holds.others; listed = holds.listed; sound = holds.sound; target = member }
+
+pub holds_no_probe : (s : Setup) (m : ℕ) (table : Known) (rota : ProbeOrder) (before : Option Probe) → HoldsOthers s m table rota before → HoldsOthers s m table rota None
+holds_no_probe s m table rota before holds = holds_probe s m table rota before None tt holds
+
+target_either : (n : ℕ) (b : Bool) (p q : Probe) → p.target < n → q.target < n → (cond b p q).target < n
+target_either n true p q h g = h
+target_either n false p q h g = g
+
+-- what comes back of a probe leaves its target
+pub holds_answered : (s : Setup) (m : ℕ) (table : Known) (rota : ProbeOrder) (seq : ℕ) (probe : Option Probe) → HoldsOthers s m table rota probe → HoldsOthers s m table rota (answered seq probe)
+holds_answered s m table rota seq None holds = holds
+holds_answered s m table rota seq (Some p) holds =
+    holds_probe s m table rota (Some p) _ (target_either (member_count s) (nat_eq p.seq seq) (record p { acked = true }) p holds.target holds.target) holds
+
+pub holds_nacked : (s : Setup) (m : ℕ) (table : Known) (rota : ProbeOrder) (seq : ℕ) (probe : Option Probe) → HoldsOthers s m table rota probe → HoldsOthers s m table rota (nacked seq probe)
+holds_nacked s m table rota seq None holds = holds
+holds_nacked s m table rota seq (Some p) holds =
+    holds_probe s m table rota (Some p) _ (target_either (member_count s) (nat_eq p.seq seq) (with_nack p) p holds.target holds.target) holds
+
+pub holds_reached : (s : Setup) (m : ℕ) (table : Known) (rota : ProbeOrder) (seq : ℕ) (probe : Option Probe) → HoldsOthers s m table rota probe → HoldsOthers s m table rota (reached seq probe)
+holds_reached s m table rota seq None holds = holds
+holds_reached s m table rota seq (Some p) holds =
+    holds_probe s m table rota (Some p) _ (target_either (member_count s) (nat_eq p.seq seq) (with_reach p) p holds.target holds.target) holds
+
+probed_there : (held : Option Held) → is_probed held ≡ true → is_some held ≡ true
+probed_there None probed = probed
+probed_there (Some held) probed = refl
+
+module _ (s : Setup) (m : ℕ) (table : Known) (rota : ProbeOrder) (probe : Option Probe) (words : Words) (fit : AreWords words) (holds : HoldsOthers s m table rota probe) where
   -- the next probe
-  pub holds_next : HoldsOthers s m table (next_of words rota).1
+  pub holds_next : HoldsOthers s m table (next_of words rota).1 probe
   holds_next = record {
     others = holds.others;
     listed = λ q none.
         omega (arith, sum_by-IsPermutation (λ (it : ℕ). one_if (it == q)) rota.members (next_of words rota).1.members (is_probe words rota fit holds.sound).same, holds.listed q none);
     sound = next_sound words rota fit holds.sound;
+    target = holds.target;
   }
 
   -- goes to a member of the scenario
   pub next_is_member : (target : ℕ) → (next_of words rota).0 ≡ Some target → target < member_count s
   next_is_member target is =
-      elim (cases_Bool (contains_key table target)) [
-        | inl here ↦ (holds.others target here).0
+      elim (cases_Bool (is_probed (get table target))) [
+        | inl here ↦ (holds.others target (probed_there (get table target) here)).0
         | inr none ↦ absurd (impossible (holds.listed target none) ((is_probe words rota fit holds.sound).some target is))
       ]
     where
@@ -111,8 +156,8 @@ put_removed table k v none =
         gone (Some x) h = absurd (false≢true (sym h))
     last q false e = refl
 
-pub own_absent : (s : Setup) (m : ℕ) (table : Known) (rota : ProbeOrder) → HoldsOthers s m table rota → contains_key table m ≡ false
-own_absent s m table rota holds = elim (cases_Bool (contains_key table m)) [ inl here ↦ absurd ((holds.others m here).1 refl) | inr none ↦ none ]
+pub own_absent : (s : Setup) (m : ℕ) (table : Known) (rota : ProbeOrder) (probe : Option Probe) → HoldsOthers s m table rota probe → contains_key table m ≡ false
+own_absent s m table rota probe holds = elim (cases_Bool (contains_key table m)) [ inl here ↦ absurd ((holds.others m here).1 refl) | inr none ↦ none ]
 
 -- what holds holds after a success too
 pub in_any_case : {A E P : Type 0} (r : Result A E) → P → OnOk r P
@@ -120,7 +165,7 @@ in_any_case (Ok x) p = p
 in_any_case (Err e) p = tt
 
 -- whom the next probe goes to, if there is one
-pub next_is_if : (s : Setup) (m : ℕ) (table : Known) (rota : ProbeOrder) (words : Words) → AreWords words → HoldsOthers s m table rota
+pub next_is_if : (s : Setup) (m : ℕ) (table : Known) (rota : ProbeOrder) (probe : Option Probe) (words : Words) → AreWords words → HoldsOthers s m table rota probe
     → (target : Option ℕ) → target ≡ (next_of words rota).0 → IfSome target (λ t. t < member_count s)
-next_is_if s m table rota words fit holds None is = tt
-next_is_if s m table rota words fit holds (Some target) is = next_is_member s m table rota words fit holds target (sym is)
+next_is_if s m table rota probe words fit holds None is = tt
+next_is_if s m table rota probe words fit holds (Some target) is = next_is_member s m table rota probe words fit holds target (sym is)

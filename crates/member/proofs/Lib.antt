@@ -3,6 +3,8 @@ pub mod Worn
 pub mod Holds
 pub mod Lists
 pub mod Helpers
+pub mod Samples
+pub mod Doublings
 pub mod Openings
 pub mod Fair
 pub mod Buddies

@@ -1,6 +1,6 @@
 -- Updates applied and messages sent one after another.
-use Rattle.std.proofs.Common.{◌≡◌, ℕ, ◌+◌, ◌<◌, Bool, List, [], ◌∷◌, ◌++◌, length, get_or, take, drop, refl, sym, ap, subst, ◌∙◌}
-use Rattle.std.proofs.lemmas.List.{take_more, take-append-drop}
+use Rattle.std.proofs.Common.{◌≡◌, ℕ, ◌+◌, ◌<◌, Bool, List, [], ◌∷◌, ◌++◌, length, get_or, take, drop, map, refl, sym, ap, subst, ◌∙◌}
+use Rattle.std.proofs.lemmas.List.{take_more, take-append-drop, map-append}
 use Rattle.base.specs.declared.key.Key.{Key}
 use Rattle.scenario.specs.Setup.{Setup}
 use Rattle.incarnation.specs.declared.Update.{Update}
@@ -37,6 +37,22 @@ module _ (s : Setup) (loud : Bool) (k : Key) where
       let there : IsWorn (all_applied s loud k (take (i + 1) us) o).state = subst (λ (q : Effect). IsWorn q.state) (applied_next us i u o p _ h is so_far refl) worn in
       subst (λ l. IsWorn (all_applied s loud k l o).state) (take-append-drop (i + 1) us)
       (subst (λ (q : Effect). IsWorn q.state) (sym (all_append (take (i + 1) us) (drop (i + 1) us) o)) (kept_all s loud k (drop (i + 1) us) _ there))
+
+  module _ (f : Update → Update) where
+    -- the next update is applied as it is taken
+    pub turned_next : (us : List Update) (i : ℕ) (u : Update) (o p q : Effect) → i < length us → u ≡ get_or us i u
+        → p ≡ all_applied s loud k (map f (take i us)) o → q ≡ applied s loud k (f u) p → q ≡ all_applied s loud k (map f (take (i + 1) us)) o
+    turned_next us i u o p q h is so_far next =
+        next ∙ ap (applied s loud k (f u)) so_far ∙ sym (one_more (map f (take i us)) (f u) o)
+        ∙ ap (λ l. all_applied s loud k l o) (sym (map-append f (take i us) (u ∷ [])) ∙ ap (map f) (sym (take_item us i u h is)))
+
+    -- a counter that is worn by one of them is worn by all
+    pub turned_worn : (us : List Update) (i : ℕ) (u : Update) (o p : Effect) → i < length us → u ≡ get_or us i u
+        → p ≡ all_applied s loud k (map f (take i us)) o → IsWorn (applied s loud k (f u) p).state → IsWorn (all_applied s loud k (map f us) o).state
+    turned_worn us i u o p h is so_far worn =
+        let there : IsWorn (all_applied s loud k (map f (take (i + 1) us)) o).state = subst (λ (q : Effect). IsWorn q.state) (turned_next us i u o p _ h is so_far refl) worn in
+        subst (λ l. IsWorn (all_applied s loud k l o).state) (sym (map-append f (take (i + 1) us) (drop (i + 1) us)) ∙ ap (map f) (take-append-drop (i + 1) us))
+        (subst (λ (q : Effect). IsWorn q.state) (sym (all_append (map f (take (i + 1) us)) (map f (drop (i + 1) us)) o)) (kept_all s loud k (map f (drop (i + 1) us)) _ there))
 
 module _ (send : ℕ → Effect → Effect) where
   each_append : (hs gs : List ℕ) (o : Effect) → sent_to_each send (hs ++ gs) o ≡ sent_to_each send gs (sent_to_each send hs o)

@@ -1,6 +1,6 @@
 -- The tables and rotas with which members start.
 use Rattle.std.proofs.Common.{◌≡◌, ◌≢◌, ℕ, zero, suc, ◌+◌, ◌<◌, ◌≤◌, Bool, true, false, cond, not, eqb, List, [], ◌∷◌, ◌++◌, map, filter, Option, Some, Result, Ok, Err, inl, inr, refl, sym, ap, subst, ◌∙◌, arith}
-use Rattle.std.specs.Option.{is_some}
+use Rattle.std.specs.Option.{is_some, IfSome}
 use Rattle.std.specs.List.{AllByRecursion, range_with_len}
 use Rattle.std.specs.Ordering.{nat_cmp}
 use Rattle.std.specs.Cmp.{unsigned_tied}
@@ -12,17 +12,21 @@ use Rattle.probing.specs.ProbeOrder.{ProbeOrder, NoRepeats, IsSoundOrder, times_
 use Rattle.probing.proofs.SoundLemmas.{times_in-cons, one_if-same, one_if-other}
 use Rattle.incarnation.specs.declared.Claim.{Claim}
 use Rattle.incarnation.specs.declared.Claim.TheVariants.{Alive}
+use Rattle.lifeguard.specs.declared.probe.Probe.{Probe}
 use Rattle.membership.specs.Table.{Known, all_alive}
 use Rattle.membership.proofs.Alive.{put_all, get-alive}
 use Rattle.member.specs.Here.{HoldsOthers}
+use Rattle.member.specs.State.{is_probed}
 use Rattle.member.specs.Step.{is_first_other, first_others}
 
 -- a member that knows nobody
-pub holds_none : (s : Setup) (m : ℕ) (table : Known) (rota : ProbeOrder) → table ≡ empty → rota.members ≡ [] → IsSoundOrder rota → HoldsOthers s m table rota
-holds_none s m table rota nobody none sound = record {
+pub holds_none : (s : Setup) (m : ℕ) (table : Known) (rota : ProbeOrder) (probe : Option Probe) → table ≡ empty → rota.members ≡ [] → IsSoundOrder rota → IfSome probe (λ p. p.target < member_count s)
+    → HoldsOthers s m table rota probe
+holds_none s m table rota probe nobody none sound target = record {
   others = λ q there. absurd (false≢true (sym (ap is_some (ap (λ (t : Known). get t q) nobody ∙ get-empty nat_cmp q)) ∙ there));
   listed = λ q _. ap (λ l. times_in l q) none;
   sound = sound;
+  target = target;
 }
 
 -- ---- the others that start at moment 0
@@ -100,32 +104,33 @@ alive_holds P (x ∷ xs) all q there =
     holds_cases P x q (find nat_cmp q (put_all xs)) (eqb q x) refl all.0 (alive_holds P xs all.1 q)
     (subst (λ b. is_some (cond b (Some (Alive, 0)) (find nat_cmp q (put_all xs))) ≡ true) (unsigned_tied q x) there)
 
-none_cases : (x : ℕ) (xs : List ℕ) (q : ℕ) (o : Option (Claim × ℕ)) (b : Bool) → eqb q x ≡ b → (is_some o ≡ false → times_in xs q ≡ 0)
-    → is_some (cond b (Some (Alive, 0)) o) ≡ false → times_in (x ∷ xs) q ≡ 0
+none_cases : (x : ℕ) (xs : List ℕ) (q : ℕ) (o : Option (Claim × ℕ)) (b : Bool) → eqb q x ≡ b → (is_probed o ≡ false → times_in xs q ≡ 0)
+    → is_probed (cond b (Some (Alive, 0)) o) ≡ false → times_in (x ∷ xs) q ≡ 0
 none_cases x xs q o true e rest none = absurd (false≢true (sym none))
 none_cases x xs q o false e rest none =
     let other : x ≢ q = λ same. eqb-false q x e (sym same) in
     omega (arith, times_in-cons x xs q, one_if-other x q other, rest none)
 
-alive_none : (xs : List ℕ) (q : ℕ) → is_some (find nat_cmp q (put_all xs)) ≡ false → times_in xs q ≡ 0
+alive_none : (xs : List ℕ) (q : ℕ) → is_probed (find nat_cmp q (put_all xs)) ≡ false → times_in xs q ≡ 0
 alive_none [] q none = refl
 alive_none (x ∷ xs) q none =
     none_cases x xs q (find nat_cmp q (put_all xs)) (eqb q x) refl (alive_none xs q)
-    (subst (λ b. is_some (cond b (Some (Alive, 0)) (find nat_cmp q (put_all xs))) ≡ false) (unsigned_tied q x) none)
+    (subst (λ b. is_probed (cond b (Some (Alive, 0)) (find nat_cmp q (put_all xs))) ≡ false) (unsigned_tied q x) none)
 
 -- a member that starts at moment 0 holds others of the scenario, and probes those that it holds
-pub holds_first : (s : Setup) (m : ℕ) (table : Known) (rota : ProbeOrder) (xs : List ℕ) → xs ≡ first_others s m → table ≡ all_alive xs → rota.members ≡ xs → IsSoundOrder rota
-    → HoldsOthers s m table rota
+pub holds_first : (s : Setup) (m : ℕ) (table : Known) (rota : ProbeOrder) (probe : Option Probe) (xs : List ℕ) → xs ≡ first_others s m → table ≡ all_alive xs → rota.members ≡ xs → IsSoundOrder rota
+    → IfSome probe (λ p. p.target < member_count s) → HoldsOthers s m table rota probe
 unfolding first_others
-holds_first s m table rota xs is alive listed sound =
+holds_first s m table rota probe xs is alive listed sound target =
     let all : AllByRecursion (λ q. (q < member_count s) × (q ≢ m)) xs =
     subst (AllByRecursion (λ q. (q < member_count s) × (q ≢ m))) (sym is)
     (subst (λ n. AllByRecursion (λ q. (q < n) × (q ≢ m)) (filter (is_first_other s m) (range_with_len 0 (member_count s)))) (let e : 0 + member_count s ≡ member_count s = omega arith in e) (all_first s m 0 (member_count s))) in
     let here : (q : ℕ) → get table q ≡ find nat_cmp q (put_all xs) = λ q. ap (λ (t : Known). get t q) alive ∙ get-alive xs q in
     record {
       others = λ q there. alive_holds (λ r. (r < member_count s) × (r ≢ m)) xs all q (sym (ap is_some (here q)) ∙ there);
-      listed = λ q none. ap (λ l. times_in l q) listed ∙ alive_none xs q (sym (ap is_some (here q)) ∙ none);
+      listed = λ q none. ap (λ l. times_in l q) listed ∙ alive_none xs q (sym (ap is_probed (here q)) ∙ none);
       sound = sound;
+      target = target;
     }
 
 -- the members of a rota that was made

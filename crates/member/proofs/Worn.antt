@@ -1,9 +1,16 @@
 -- What a counter at its limit makes of the definitions, whose numbers have none.
-use Rattle.std.proofs.Common.{◌≡◌, ℕ, ◌+◌, ◌≤◌, ◌^◌, Bool, true, false, cond, nat_eq, List, [], ◌∷◌, Option, Some, None, Result, Ok, Err, IsErrAnd, inl, inr, sym, ap, ◌∙◌, subst, arith}
+use Rattle.std.proofs.Common.{◌≡◌, ℕ, ◌+◌, ◌<◌, ◌≤◌, ◌^◌, Bool, true, false, cond, nat_eq, nat_le, List, [], ◌∷◌, length, Option, Some, None, Result, Ok, Err, IsErrAnd, inl, inr, sym, ap, ◌∙◌, subst, arith}
 use Rattle.std.specs.Result.{IsErrOf}
+use Rattle.std.specs.Option.{is_none, option_map_or}
 use Rattle.std.specs.FinMap.{get}
+use Rattle.std.proofs.lemmas.Bool.{false≢true, eqb-true, leb-true}
 use Rattle.base.specs.declared.key.Key.{Key}
+use Rattle.base.specs.declared.profile.Profile.{Profile}
+use Rattle.base.specs.declared.profile.Profile.TheVariants.{Papers, Memberlist}
 use Rattle.scenario.specs.Setup.{Setup, contact_of}
+use Rattle.scenario.specs.Profile.{profile_of}
+use Rattle.scenario.specs.declared.settings.Gossip as settings
+use Rattle.streams.specs.Draw.{Words}
 use Rattle.trace.specs.declared.row.What.{What}
 use Rattle.member.specs.declared.content.Content.{Content}
 use Rattle.member.specs.declared.event.Effects.{Effects}
@@ -12,19 +19,20 @@ use Rattle.member.specs.declared.member.Member.{Member}
 use Rattle.member.specs.declared.turn.StepError.{StepError}
 use Rattle.member.specs.declared.turn.StepError.TheVariants.{Worn}
 use Rattle.member.specs.Makes.{Makes}
-use Rattle.member.specs.State.{State}
+use Rattle.member.specs.State.{State, is_probed}
 use Rattle.member.specs.Turn.{Effect, on_state, with_row, with_number, with_event, with_timer}
-use Rattle.member.specs.Send.{sent, sent_off, sent_to_each, ping_sent, ping_req_sent, ack_sent, join_sent, join_sent_to, welcome_sent, bye_sent}
+use Rattle.member.specs.Send.{posted, told_of, sent, sent_off, sent_to_each, ping_sent, ping_req_sent, ack_sent, join_sent, join_sent_to, welcome_sent, bye_sent, carried, gossip_sent, call_sent, answer_sent, push_sent, pull_sent}
 use Rattle.incarnation.specs.declared.Claim.{Claim}
 use Rattle.incarnation.specs.declared.Claim.TheVariants.{Alive, Suspect, Confirm}
 use Rattle.incarnation.specs.declared.Update.{Update}
-use Rattle.lifeguard.specs.Health.{LocalHealth}
+use Rattle.incarnation.specs.Refutations.{does_refute}
+use Rattle.lifeguard.specs.Health.{LocalHealth, scaled}
 use Rattle.suspicion.specs.declared.suspicions.Accused.{Accused}
 use Rattle.membership.specs.Table.{is_confirm, does_override}
-use Rattle.member.specs.Apply.{with_put, passed_on, with_health, refuted, heard_dead, own_applied, with_told, with_place, placed_unless_known, with_claim, claim_kept, alive_heard, suspect_heard, confirm_heard, claim_heard, news_heard, accusation_counted, accusation_heard, is_repeated, other_applied, applied, all_applied}
+use Rattle.member.specs.Apply.{gossip_set, with_put, passed_on, with_health, refuted, heard_dead, is_own_death, own_applied, with_told, with_place, with_turn, with_claim, claim_kept, without_suspicion, alive_heard, suspect_heard, death_kept, confirm_heard, claim_heard, news_heard, accusation_counted, accusation_heard, is_repeated, is_heeded, other_applied, applied, all_applied}
 use Rattle.lifeguard.specs.declared.probe.Probe.{Probe}
-use Rattle.lifeguard.specs.Probe.{fresh_probe}
-use Rattle.member.specs.Step.{suspected, probe_failed, probe_ended, probe_begun, target_probed, next_probed, with_relay, ack_taken, first_period_set}
+use Rattle.lifeguard.specs.Probe.{fresh_probe, timed_probe}
+use Rattle.member.specs.Step.{suspected, probe_failed, probe_ended, probe_begun, target_probed, next_probed, with_relay, ack_taken, push_begun, first_push_set, first_period_set, suspected_at, timed_probe_failed, probe_settled, probe_timers_set, timed_probe_begun, timed_target_probed, next_timed_probed, waiting_probed, has_time, probed_in_turn, timed_answered, timed_ack_taken, called, gossip_set_again, merged_claim, merged}
 use Rattle.member.specs.StateOf.{state_of, effect_of}
 use Rattle.member.specs.Worn.{IsWorn}
 
@@ -51,33 +59,47 @@ pub worn_number : (t : State) → 2 ^ 63 ≤ t.next_number → IsWorn (with_numb
 unfolding with_number
 worn_number t h = inl (omega arith)
 
-pub worn_event : (k : Key) (at to : ℕ) (content : Content) (o : Effect) → 2 ^ 63 ≤ o.state.next_number → IsWorn (with_event k at to content o).state
+pub worn_event : (s : Setup) (k : Key) (at to : ℕ) (content : Content) (o : Effect) → 2 ^ 63 ≤ o.state.next_number → IsWorn (with_event s k at to content o).state
 unfolding with_event
-worn_event k at to content o h = inl (omega arith)
+worn_event s k at to content o h = inl (omega arith)
 
 pub kept_row : (k : Key) (tells : What) (about : Option ℕ) (value : ℕ) (lost : Bool) (o : Effect) → IsWorn o.state → IsWorn (with_row k tells about value lost o).state
 unfolding with_row
 kept_row k tells about value lost o worn = worn
 
-pub kept_event : (k : Key) (at to : ℕ) (content : Content) (o : Effect) → IsWorn o.state → IsWorn (with_event k at to content o).state
+pub kept_event : (s : Setup) (k : Key) (at to : ℕ) (content : Content) (o : Effect) → IsWorn o.state → IsWorn (with_event s k at to content o).state
 unfolding with_event
-kept_event k at to content o worn = elim worn [ inl h ↦ inl (omega arith) | inr h ↦ inr h ]
+kept_event s k at to content o worn = elim worn [ inl h ↦ inl (omega arith) | inr h ↦ inr h ]
 
-pub kept_timer : (k : Key) (ticks : ℕ) (content : Content) (o : Effect) → IsWorn o.state → IsWorn (with_timer k ticks content o).state
+pub kept_timer : (s : Setup) (k : Key) (ticks : ℕ) (content : Content) (o : Effect) → IsWorn o.state → IsWorn (with_timer s k ticks content o).state
 unfolding with_timer
-kept_timer k ticks content o worn = kept_event k _ _ content o worn
+kept_timer s k ticks content o worn = kept_event s k _ _ content o worn
 
 kept_number : (t : State) → IsWorn t → IsWorn (with_number t)
 unfolding with_number
 kept_number t worn = elim worn [ inl h ↦ inl (omega arith) | inr h ↦ inr h ]
 
-kept_sent_off : (k : Key) (to : ℕ) (content : Content) (arrival : Option ℕ) (o : Effect) → IsWorn o.state → IsWorn (sent_off k to content arrival o).state
-kept_sent_off k to content None o worn = kept_number o.state worn
-kept_sent_off k to content (Some at) o worn = kept_event k at to content o worn
+kept_choice : (b : Bool) (o p : Effect) → IsWorn o.state → IsWorn p.state → IsWorn (cond b o p).state
+kept_choice true o p a b = a
+kept_choice false o p a b = b
+
+-- where the choice of the first says why
+kept_test : (b : Bool) (o p : Effect) → (b ≡ true → IsWorn o.state) → IsWorn p.state → IsWorn (cond b o p).state
+kept_test true o p a b = a (λ i. true)
+kept_test false o p a b = b
+
+-- ---- messages
+
+kept_sent_off : (s : Setup) (k : Key) (to : ℕ) (content : Content) (arrival : Option ℕ) (o : Effect) → IsWorn o.state → IsWorn (sent_off s k to content arrival o).state
+kept_sent_off s k to content None o worn = kept_number o.state worn
+kept_sent_off s k to content (Some at) o worn = kept_event s k at to content o worn
+
+pub kept_posted : (s : Setup) (k : Key) (tells : What) (to value : ℕ) (content : Content) (arrival : Option ℕ × Words) (o : Effect) → IsWorn o.state → IsWorn (posted s k tells to value content arrival o).state
+unfolding posted
+kept_posted s k tells to value content arrival o worn = kept_sent_off s k to content _ _ (kept_row k tells _ _ _ _ worn)
 
 pub kept_sent : (s : Setup) (k : Key) (tells : What) (to value : ℕ) (content : Content) (o : Effect) → IsWorn o.state → IsWorn (sent s k tells to value content o).state
-unfolding sent
-kept_sent s k tells to value content o worn = kept_sent_off k to content _ _ (kept_row k tells _ _ _ _ worn)
+kept_sent s k tells to value content o worn = kept_posted s k tells to value content _ o worn
 
 pub kept_ping : (s : Setup) (k : Key) (to initiator seq : ℕ) (o : Effect) → IsWorn o.state → IsWorn (ping_sent s k to initiator seq o).state
 unfolding ping_sent
@@ -107,6 +129,18 @@ pub kept_bye : (s : Setup) (k : Key) (to : ℕ) (o : Effect) → IsWorn o.state 
 unfolding bye_sent
 kept_bye s k to o worn = kept_sent s k _ _ _ _ _ worn
 
+pub kept_gossip : (s : Setup) (k : Key) (to : ℕ) (o : Effect) → IsWorn o.state → IsWorn (gossip_sent s k to o).state
+unfolding gossip_sent
+kept_gossip s k to o worn = kept_choice (nat_eq (length (carried s None o.state)) 0) _ _ worn (kept_sent s k _ _ _ _ _ worn)
+
+pub kept_call : (s : Setup) (k : Key) (to seq : ℕ) (o : Effect) → IsWorn o.state → IsWorn (call_sent s k to seq o).state
+unfolding call_sent
+kept_call s k to seq o worn = kept_posted s k _ _ _ _ _ _ worn
+
+pub kept_push : (s : Setup) (k : Key) (to : ℕ) (o : Effect) → IsWorn o.state → IsWorn (push_sent s k to o).state
+unfolding push_sent
+kept_push s k to o worn = kept_posted s k _ _ _ _ _ _ worn
+
 -- messages one after another, of which each leaves worn what is worn
 pub kept_each : (send : ℕ → Effect → Effect) → ((to : ℕ) (o : Effect) → IsWorn o.state → IsWorn (send to o).state) → (others : List ℕ) (o : Effect) → IsWorn o.state
     → IsWorn (sent_to_each send others o).state
@@ -116,92 +150,105 @@ kept_each send kept (to ∷ others) o worn = kept_each send kept others (send to
 
 -- ---- updates
 
-pub kept_put : (u : Update) (t : State) → IsWorn t → IsWorn (with_put u t)
+pub kept_gossip_set : (s : Setup) (k : Key) (gossip : Option settings.Gossip) (o : Effect) → IsWorn o.state → IsWorn (gossip_set s k gossip o).state
+kept_gossip_set s k None o worn = worn
+kept_gossip_set s k (Some gossip) o worn = kept_choice o.state.gossips _ _ worn (kept_event s k _ _ _ _ worn)
+
+pub kept_put : (s : Setup) (k : Key) (u : Update) (o : Effect) → IsWorn o.state → IsWorn (with_put s k u o).state
 unfolding with_put
-kept_put u t worn = worn
+kept_put s k u o worn = kept_gossip_set s k s.gossip _ worn
 
-pub kept_passed_on : (loud : Bool) (u : Update) (t : State) → IsWorn t → IsWorn (passed_on loud u t)
+pub kept_passed_on : (s : Setup) (k : Key) (loud : Bool) (u : Update) (o : Effect) → IsWorn o.state → IsWorn (passed_on s k loud u o).state
 unfolding passed_on
-kept_passed_on true u t worn = kept_put u t worn
-kept_passed_on false u t worn = worn
-
-kept_choice : (b : Bool) (o p : Effect) → IsWorn o.state → IsWorn p.state → IsWorn (cond b o p).state
-kept_choice true o p a b = a
-kept_choice false o p a b = b
+kept_passed_on s k loud u o worn = kept_choice loud _ _ (kept_put s k u o worn) worn
 
 pub kept_health : (k : Key) (h : LocalHealth) (o : Effect) → IsWorn o.state → IsWorn (with_health k h o).state
 unfolding with_health
 kept_health k h o worn = kept_choice (nat_eq h.counter o.state.health.counter) _ _ worn (kept_row k _ _ _ _ _ worn)
 
--- a refutation when the incarnation number stands at its limit
-pub worn_refuted : (k : Key) (o : Effect) → 2 ^ 63 ≤ o.state.incarnation → IsWorn (refuted k o).state
+-- a refutation when the number stands at its limit
+pub worn_refuted : (s : Setup) (k : Key) (claimed : ℕ) (o : Effect) → 2 ^ 63 ≤ claimed → IsWorn (refuted s k (claimed + 1) o).state
 unfolding refuted
-worn_refuted k o h = kept_put _ _ (kept_health k _ _ (kept_row k _ _ _ _ _ (inr (inr (omega arith)))))
+worn_refuted s k claimed o h = kept_put s k _ _ (kept_health k _ _ (kept_row k _ _ _ _ _ (inr (inr (omega arith)))))
 
-kept_refuted : (k : Key) (o : Effect) → IsWorn o.state → IsWorn (refuted k o).state
+kept_refuted : (s : Setup) (k : Key) (claimed : ℕ) (o : Effect) → o.state.incarnation ≤ claimed → IsWorn o.state → IsWorn (refuted s k (claimed + 1) o).state
 unfolding refuted
-kept_refuted k o worn = kept_put _ _ (kept_health k _ _ (kept_row k _ _ _ _ _ (raised worn)))
+kept_refuted s k claimed o over worn = kept_put s k _ _ (kept_health k _ _ (kept_row k _ _ _ _ _ (raised worn)))
   where
-    raised : IsWorn o.state → IsWorn (record o.state { incarnation = o.state.incarnation + 1 })
+    raised : IsWorn o.state → IsWorn (record o.state { incarnation = claimed + 1 })
     raised worn = elim worn [ inl h ↦ inl h | inr h ↦ inr (elim h [ inl g ↦ inl g | inr g ↦ inr (omega arith) ]) ]
 
 kept_dead : (k : Key) (number : ℕ) (o : Effect) → IsWorn o.state → IsWorn (heard_dead k number o).state
 unfolding heard_dead
 kept_dead k number o worn = kept_row k _ _ _ _ _ worn
 
-kept_own : (k : Key) (claim : Claim) (number : ℕ) (o : Effect) → IsWorn o.state → IsWorn (own_applied k claim number o).state
-kept_own k Alive number o worn = worn
-kept_own k Suspect number o worn = kept_choice (nat_eq number o.state.incarnation) _ _ (kept_refuted k o worn) worn
-kept_own k Confirm number o worn = kept_choice o.state.heard_dead _ _ worn (kept_dead k number o worn)
+-- what is refuted bears one's own number at least
+pub refutes_over : (profile : Profile) (own : ℕ) (claim : Claim) (number : ℕ) → does_refute profile own claim number ≡ true → own ≤ number
+refutes_over Papers own Alive number refutes = absurd (false≢true refutes)
+refutes_over Papers own Suspect number refutes = let same = eqb-true number own refutes in omega arith
+refutes_over Papers own Confirm number refutes = absurd (false≢true refutes)
+refutes_over Memberlist own Alive number refutes = absurd (false≢true refutes)
+refutes_over Memberlist own Suspect number refutes = leb-true own number refutes
+refutes_over Memberlist own Confirm number refutes = leb-true own number refutes
+
+kept_own : (s : Setup) (k : Key) (claim : Claim) (number : ℕ) (o : Effect) → IsWorn o.state → IsWorn (own_applied s k claim number o).state
+kept_own s k claim number o worn =
+    kept_test (does_refute (profile_of s) o.state.incarnation claim number) _ _
+    (λ refutes. kept_refuted s k number o (refutes_over (profile_of s) o.state.incarnation claim number refutes) worn)
+    (kept_choice (is_own_death (profile_of s) claim o.state.heard_dead) _ _ (kept_dead k number o worn) worn)
 
 kept_told : (loud : Bool) (k : Key) (tells : What) (subject value : ℕ) (o : Effect) → IsWorn o.state → IsWorn (with_told loud k tells subject value o).state
 kept_told loud k tells subject value o worn = kept_choice loud _ _ (kept_row k _ _ _ _ _ worn) worn
 
-kept_placed : (held : Option (Claim × ℕ)) (u : Update) (t : State) → IsWorn t → IsWorn (placed_unless_known held u t)
-kept_placed (Some held) u t worn = worn
-kept_placed None u t worn = placed (is_confirm u.claim)
-  where
-    placed : (b : Bool) → IsWorn (cond b t (with_place u.subject t))
-    placed true = worn
-    placed false = worn
+kept_state : (b : Bool) (t v : State) → IsWorn t → IsWorn v → IsWorn (cond b t v)
+kept_state true t v a b = a
+kept_state false t v a b = b
 
 pub kept_claim : (u : Update) (t : State) → IsWorn t → IsWorn (claim_kept u t)
 unfolding claim_kept
-kept_claim u t worn = kept_placed (get t.table u.subject) u (with_claim u t) worn
+kept_claim u t worn = kept_state (is_confirm u.claim) _ _ worn (kept_state (is_probed (get t.table u.subject)) _ _ worn worn)
+
+pub kept_death : (profile : Profile) (subject now : ℕ) (t : State) → IsWorn t → IsWorn (death_kept profile subject now t)
+kept_death Papers subject now t worn = worn
+kept_death Memberlist subject now t worn = worn
 
 pub kept_claim_heard : (s : Setup) (loud : Bool) (k : Key) (u : Update) (claim : Claim) (o : Effect) → IsWorn o.state → IsWorn (claim_heard s loud k u claim o).state
 unfolding alive_heard suspect_heard confirm_heard
 kept_claim_heard s loud k u Alive o worn = kept_told loud k _ _ _ _ worn
-kept_claim_heard s loud k u Suspect o worn = kept_event k _ _ _ _ (kept_told loud k _ _ _ _ worn)
-kept_claim_heard s loud k u Confirm o worn = kept_told loud k _ _ _ _ worn
+kept_claim_heard s loud k u Suspect o worn = kept_event s k _ _ _ _ (kept_told loud k _ _ _ _ worn)
+kept_claim_heard s loud k u Confirm o worn = kept_told loud k _ _ _ _ (kept_death (profile_of s) u.subject k.at (without_suspicion u.subject o.state) worn)
 
 kept_news : (s : Setup) (loud : Bool) (k : Key) (u : Update) (o : Effect) → IsWorn o.state → IsWorn (news_heard s loud k u o).state
 unfolding news_heard
-kept_news s loud k u o worn = kept_passed_on loud u _ (kept_claim_heard s loud k u u.claim _ (kept_claim u o.state worn))
+kept_news s loud k u o worn = kept_passed_on s k loud u _ (kept_claim_heard s loud k u u.claim _ (kept_claim u o.state worn))
 
-kept_counted : (loud : Bool) (k : Key) (u : Update) (accused : Option Accused) (o : Effect) → IsWorn o.state → IsWorn (accusation_counted loud k u accused o).state
-kept_counted loud k u None o worn = worn
-kept_counted loud k u (Some accused) o worn = kept_passed_on loud u _ (kept_event k _ _ _ _ (kept_told loud k _ _ _ _ worn))
+kept_counted : (s : Setup) (loud : Bool) (k : Key) (u : Update) (accused : Option Accused) (o : Effect) → IsWorn o.state → IsWorn (accusation_counted s loud k u accused o).state
+kept_counted s loud k u None o worn = worn
+kept_counted s loud k u (Some accused) o worn = kept_passed_on s k loud u _ (kept_event s k _ _ _ _ (kept_told loud k _ _ _ _ worn))
 
-kept_accusation : (loud : Bool) (k : Key) (u : Update) (o : Effect) → IsWorn o.state → IsWorn (accusation_heard loud k u o).state
+kept_accusation : (s : Setup) (loud : Bool) (k : Key) (u : Update) (o : Effect) → IsWorn o.state → IsWorn (accusation_heard s loud k u o).state
 unfolding accusation_heard
-kept_accusation loud k u o worn = kept_counted loud k u _ _ worn
+kept_accusation s loud k u o worn = kept_counted s loud k u _ _ worn
 
 kept_other : (s : Setup) (loud : Bool) (k : Key) (u : Update) (held : Option (Claim × ℕ)) (o : Effect) → IsWorn o.state → IsWorn (other_applied s loud k u held o).state
-kept_other s loud k u None o worn = kept_news s loud k u o worn
+kept_other s loud k u None o worn = kept_choice (is_heeded (profile_of s) loud u.claim) _ _ (kept_news s loud k u o worn) worn
 kept_other s loud k u (Some held) o worn =
-    kept_choice (does_override (u.claim, u.inc) held) _ _ (kept_news s loud k u o worn)
-    (kept_choice (is_repeated u held) _ _ (kept_accusation loud k u o worn) worn)
+    kept_choice (does_override (profile_of s) (u.claim, u.inc) held) _ _ (kept_news s loud k u o worn)
+    (kept_choice (is_repeated (profile_of s) u held) _ _ (kept_accusation s loud k u o worn) worn)
 
 pub kept_applied : (s : Setup) (loud : Bool) (k : Key) (u : Update) (o : Effect) → IsWorn o.state → IsWorn (applied s loud k u o).state
 unfolding applied
 kept_applied s loud k u o worn =
-    kept_choice (nat_eq u.subject k.to) _ _ (kept_own k u.claim u.inc o worn) (kept_other s loud k u (get o.state.table u.subject) o worn)
+    kept_choice (nat_eq u.subject k.to) _ _ (kept_own s k u.claim u.inc o worn) (kept_other s loud k u (get o.state.table u.subject) o worn)
 
 pub kept_all : (s : Setup) (loud : Bool) (k : Key) (us : List Update) (o : Effect) → IsWorn o.state → IsWorn (all_applied s loud k us o).state
 unfolding all_applied
 kept_all s loud k [] o worn = worn
 kept_all s loud k (u ∷ us) o worn = kept_all s loud k us (applied s loud k u o) (kept_applied s loud k u o worn)
+
+pub kept_merged : (s : Setup) (k : Key) (us : List Update) (o : Effect) → IsWorn o.state → IsWorn (merged s k us o).state
+unfolding merged
+kept_merged s k us o worn = kept_all s true k _ o worn
 
 -- ---- probes
 
@@ -221,14 +268,14 @@ kept_probe_ended s k (Some probe) o worn = kept_choice probe.acked _ _ (kept_hea
 -- a probe when the sequence number stands at its limit
 pub worn_probe : (s : Setup) (k : Key) (target : ℕ) (o : Effect) → 2 ^ 63 ≤ o.state.sequence → IsWorn (probe_begun s k target o).state
 unfolding probe_begun
-worn_probe s k target o h = kept_timer k _ _ _ (kept_ping s k _ _ _ _ (inr (inl (omega arith))))
+worn_probe s k target o h = kept_timer s k _ _ _ (kept_ping s k _ _ _ _ (inr (inl (omega arith))))
+
+kept_more : (t : State) (p : Option Probe) → IsWorn t → IsWorn (record t { sequence = t.sequence + 1; probe = p })
+kept_more t p worn = elim worn [ inl h ↦ inl h | inr h ↦ inr (elim h [ inl g ↦ inl (omega arith) | inr g ↦ inr g ]) ]
 
 kept_begun : (s : Setup) (k : Key) (target : ℕ) (o : Effect) → IsWorn o.state → IsWorn (probe_begun s k target o).state
 unfolding probe_begun
-kept_begun s k target o worn = kept_timer k _ _ _ (kept_ping s k _ _ _ _ (more worn))
-  where
-    more : IsWorn o.state → IsWorn (record o.state { sequence = o.state.sequence + 1; probe = Some (fresh_probe (o.state.sequence + 1) target) })
-    more worn = elim worn [ inl h ↦ inl h | inr h ↦ inr (elim h [ inl g ↦ inl (omega arith) | inr g ↦ inr g ]) ]
+kept_begun s k target o worn = kept_timer s k _ _ _ (kept_ping s k _ _ _ _ (kept_more o.state (Some (fresh_probe (o.state.sequence + 1) target)) worn))
 
 kept_target : (s : Setup) (k : Key) (target : Option ℕ) (o : Effect) → IsWorn o.state → IsWorn (target_probed s k target o).state
 kept_target s k None o worn = worn
@@ -239,7 +286,7 @@ unfolding next_probed
 kept_next s k o worn = kept_target s k _ _ worn
 
 kept_relay : (s : Setup) (k : Key) (seq : ℕ) (o : Effect) → IsWorn o.state → IsWorn (with_relay s k seq o).state
-kept_relay s k seq o worn = kept_timer k _ _ _ worn
+kept_relay s k seq o worn = kept_timer s k _ _ _ worn
 
 -- an answer that is owed, or not
 pub kept_owed : (s : Setup) (k : Key) (seq : ℕ) (o : Effect) → IsWorn o.state → IsWorn (cond s.lifeguard.probe (with_relay s k seq o) o).state
@@ -255,9 +302,82 @@ pub worn_pinged : (s : Setup) (k : Key) (target : ℕ) (o : Effect) (p : Probe) 
     → IsWorn (probe_begun s k target o).state
 unfolding probe_begun
 worn_pinged s k target o p is worn =
-    kept_timer k _ _ _
+    kept_timer s k _ _ _
     (subst (λ (q : Probe). IsWorn (ping_sent s k target k.to (o.state.sequence + 1) (on_state (λ t. record t { sequence = o.state.sequence + 1; probe = Some q }) o)).state) is worn)
+
+pub kept_first_push : (s : Setup) (k : Key) (beat : ℕ) (gossip : Option settings.Gossip) (o : Effect) → IsWorn o.state → IsWorn (first_push_set s k beat gossip o).state
+unfolding push_begun
+kept_first_push s k beat None o worn = worn
+kept_first_push s k beat (Some gossip) o worn = kept_choice (nat_eq gossip.push 0) _ _ worn (kept_event s k _ _ _ _ worn)
 
 pub kept_first_period : (s : Setup) (k : Key) (o : Effect) → IsWorn o.state → IsWorn (first_period_set s k o).state
 unfolding first_period_set
-kept_first_period s k o worn = kept_timer k _ _ _ worn
+kept_first_period s k o worn = kept_first_push s k _ s.gossip _ (kept_timer s k _ _ _ worn)
+
+-- ---- probes by memberlist's rules
+
+kept_suspected_at : (s : Setup) (k : Key) (probe : Probe) (held : Option (Claim × ℕ)) (o : Effect) → IsWorn o.state → IsWorn (suspected_at s k probe held o).state
+kept_suspected_at s k probe None o worn = worn
+kept_suspected_at s k probe (Some held) o worn = kept_choice (is_confirm held.0) _ _ worn (kept_applied s true k _ o worn)
+
+kept_timed_failed : (s : Setup) (k : Key) (probe : Probe) (o : Effect) → IsWorn o.state → IsWorn (timed_probe_failed s k probe o).state
+unfolding timed_probe_failed
+kept_timed_failed s k probe o worn = kept_suspected_at s k probe _ _ (kept_health k _ _ (kept_row k _ _ _ _ _ worn))
+
+pub kept_settled : (s : Setup) (k : Key) (probe : Option Probe) (o : Effect) → IsWorn o.state → IsWorn (probe_settled s k probe o).state
+unfolding probe_settled
+kept_settled s k None o worn = worn
+kept_settled s k (Some probe) o worn = kept_choice probe.reached _ _ (kept_health k _ _ worn) (kept_timed_failed s k probe _ worn)
+
+pub kept_timers : (s : Setup) (k : Key) (seq timeout deadline : ℕ) (o : Effect) → IsWorn o.state → IsWorn (probe_timers_set s k seq timeout deadline o).state
+kept_timers s k seq timeout deadline o worn = kept_event s k _ _ _ _ (kept_timer s k _ _ _ worn)
+
+-- a probe when the sequence number stands at its limit
+pub worn_timed_probe : (s : Setup) (k : Key) (target : ℕ) (o : Effect) → 2 ^ 63 ≤ o.state.sequence → IsWorn (timed_probe_begun s k target o).state
+unfolding timed_probe_begun
+worn_timed_probe s k target o h = kept_event s k _ _ _ _ (kept_timer s k _ _ _ (kept_ping s k _ _ _ _ (inr (inl (omega arith)))))
+
+kept_timed_begun : (s : Setup) (k : Key) (target : ℕ) (o : Effect) → IsWorn o.state → IsWorn (timed_probe_begun s k target o).state
+unfolding timed_probe_begun
+kept_timed_begun s k target o worn =
+    kept_timers s k _ _ _ _
+    (kept_ping s k _ _ _ _
+    (kept_more o.state (Some (timed_probe (o.state.sequence + 1) target (option_map_or (λ held. held.1) (get o.state.table target) 0) (k.at + scaled o.state.health s.swim.period))) worn))
+
+kept_timed_target : (s : Setup) (k : Key) (target : Option ℕ) (o : Effect) → IsWorn o.state → IsWorn (timed_target_probed s k target o).state
+kept_timed_target s k None o worn = worn
+kept_timed_target s k (Some target) o worn = kept_timed_begun s k target o worn
+
+pub kept_next_timed : (s : Setup) (k : Key) (o : Effect) → IsWorn o.state → IsWorn (next_timed_probed s k o).state
+unfolding next_timed_probed
+kept_next_timed s k o worn = kept_timed_target s k _ _ worn
+
+pub kept_waiting : (s : Setup) (k : Key) (o : Effect) → IsWorn o.state → IsWorn (waiting_probed s k o).state
+kept_waiting s k o worn = kept_choice o.state.waits _ _ (kept_next_timed s k _ worn) worn
+
+pub kept_timed_answered : (s : Setup) (k : Key) (seq : ℕ) (o : Effect) → IsWorn o.state → IsWorn (timed_answered s k seq o).state
+unfolding timed_answered
+kept_timed_answered s k seq o worn = kept_choice _ _ _ (kept_waiting s k _ (kept_health k _ _ worn)) worn
+
+pub kept_called : (s : Setup) (k : Key) (probe : Probe) (o : Effect) → IsWorn o.state → IsWorn (called s k probe o).state
+kept_called s k probe o worn = kept_choice s.swim.fallback _ _ (kept_call s k _ _ o worn) worn
+
+pub kept_in_turn : (s : Setup) (k : Key) (o : Effect) → IsWorn o.state → IsWorn (probed_in_turn s k o).state
+kept_in_turn s k o worn = kept_choice (has_time k.at o.state.probe) _ _ worn (kept_next_timed s k _ (kept_settled s k o.state.probe o worn))
+
+pub kept_timed_taken : (s : Setup) (k : Key) (initiator seq : ℕ) (o : Effect) → IsWorn o.state → IsWorn (timed_ack_taken s k initiator seq o).state
+kept_timed_taken s k initiator seq o worn = kept_choice (nat_eq initiator k.to) _ _ (kept_timed_answered s k seq o worn) (kept_taken s k initiator seq o worn)
+
+-- a counter that the ping of a new probe wears
+pub worn_timed_pinged : (s : Setup) (k : Key) (target deadline : ℕ) (o : Effect) (p : Probe) → deadline ≡ k.at + scaled o.state.health s.swim.period
+    → p ≡ timed_probe (o.state.sequence + 1) target (option_map_or (λ held. held.1) (get o.state.table target) 0) deadline
+    → IsWorn (ping_sent s k target k.to (o.state.sequence + 1) (on_state (λ t. record t { sequence = o.state.sequence + 1; probe = Some p }) o)).state
+    → IsWorn (timed_probe_begun s k target o).state
+unfolding timed_probe_begun
+worn_timed_pinged s k target deadline o p at is worn =
+    kept_timers s k _ _ _ _
+    (subst (λ (q : Probe). IsWorn (ping_sent s k target k.to (o.state.sequence + 1) (on_state (λ t. record t { sequence = o.state.sequence + 1; probe = Some q }) o)).state)
+    (is ∙ ap (timed_probe (o.state.sequence + 1) target (option_map_or (λ held. held.1) (get o.state.table target) 0)) at) worn)
+
+pub kept_gossip_set_again : (s : Setup) (k : Key) (o : Effect) → IsWorn o.state → IsWorn (gossip_set_again s k o).state
+kept_gossip_set_again s k o worn = kept_choice _ _ _ worn (kept_gossip_set s k s.gossip o worn)

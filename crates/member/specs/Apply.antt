@@ -1,6 +1,6 @@
 -- What a member makes of an update that it hears, or of one of its own making (SWIM, section 4.2; Lifeguard's LHA-Suspicion).
 -- A quiet application, of an entry that a welcome brought, tells no row about others and passes no update on.
-use Rattle.std.specs.Prelude.{ℕ, ◌+◌, ◌&&◌, Bool, true, false, nat_eq, if◌then◌else◌, List, [], ◌∷◌, Option, Some, None}
+use Rattle.std.specs.Prelude.{ℕ, ◌+◌, ◌-◌, ◌&&◌, ◌||◌, Bool, true, false, not, nat_eq, nat_le, if◌then◌else◌, List, [], ◌∷◌, Option, Some, None}
 use Rattle.std.specs.Option.{option_map}
 use Rattle.std.specs.FinMap.{get, insert, remove}
 use Rattle.base.specs.declared.key.Key.{Key}
@@ -11,19 +11,33 @@ use Rattle.incarnation.specs.declared.Claim.{Claim}
 use Rattle.incarnation.specs.declared.Claim.TheVariants.{Alive, Suspect, Confirm}
 use Rattle.incarnation.specs.declared.Update.{Update}
 use Rattle.lifeguard.specs.Health.{LocalHealth, raised}
-use Rattle.probing.specs.ProbeOrder.{insert_of, remove_of}
+use Rattle.probing.specs.ProbeOrder.{ProbeOrder, insert_of, remove_of}
 use Rattle.suspicion.specs.Settings.{terms_of}
 use Rattle.suspicion.specs.Suspicions.{HeldSuspicion, started_of, accused_of, after_accusation, answer_of}
 use Rattle.suspicion.specs.declared.suspicions.Accused.{Accused}
 use Rattle.suspicion.specs.Times.{timeout}
-use Rattle.member.specs.declared.content.Content.TheVariants.{SuspicionTimer}
-use Rattle.member.specs.State.{State}
-use Rattle.membership.specs.Table.{is_suspect, is_confirm, does_override, live_count}
+use Rattle.member.specs.declared.content.Content.TheVariants.{SuspicionTimer, GossipTimer}
+use Rattle.member.specs.State.{State, is_probed}
+use Rattle.base.specs.declared.profile.Profile.{Profile}
+use Rattle.base.specs.declared.profile.Profile.TheVariants.{Papers, Memberlist}
+use Rattle.base.specs.Beats.{next_in_step}
+use Rattle.scenario.specs.Profile.{profile_of}
+use Rattle.scenario.specs.declared.settings.Gossip as settings
+use Rattle.incarnation.specs.Refutations.{does_refute}
+use Rattle.membership.specs.Deaths.{confirmed_at}
+use Rattle.membership.specs.Table.{is_alive, is_suspect, is_confirm, does_override, live_count}
 use Rattle.member.specs.Turn.{Effect, on_state, with_row, with_event}
 
--- An update that is put is sent with the next messages, as news: it has been sent no times yet.
-unfoldable pub with_put : Update → State → State
-with_put u t = record t { buffer = insert t.buffer u.subject (u, 0) }
+-- the gossip timer at the next moment of gossip, in step with the first period, unless it is set
+abbrev pub gossip_set : Setup → Key → Option settings.Gossip → Effect → Effect
+gossip_set s k None o = o
+gossip_set s k (Some gossip) o =
+    if o.state.gossips then o
+    else with_event s k (next_in_step (o.state.beat - 1) gossip.interval k.at) k.to GossipTimer (on_state (λ t. record t { gossips = true }) o)
+
+-- An update that is put is sent with the next messages, as news: it has been sent no times yet. Where members gossip, it is sent by itself too.
+unfoldable pub with_put : Setup → Key → Update → Effect → Effect
+with_put s k u o = gossip_set s k s.gossip (on_state (λ t. record t { buffer = insert t.buffer u.subject (u, 0) }) o)
 
 -- The health after an event that tells of it, with a row where its counter changed (LHA-Probe).
 unfoldable pub with_health : Key → LocalHealth → Effect → Effect
@@ -36,8 +50,8 @@ abbrev pub with_told : Bool → Key → What → ℕ → ℕ → Effect → Effe
 with_told loud k tells subject value o = if loud then with_row k tells (Some subject) value false o else o
 
 -- the update is passed on, unless the application is quiet
-unfoldable pub passed_on : Bool → Update → State → State
-passed_on loud u t = if loud then with_put u t else t
+unfoldable pub passed_on : Setup → Key → Bool → Update → Effect → Effect
+passed_on s k loud u o = if loud then with_put s k u o else o
 
 -- ---- an update about oneself
 
@@ -45,23 +59,29 @@ passed_on loud u t = if loud then with_put u t else t
 abbrev pub own_claim : ℕ → ℕ → Update
 own_claim me number = record { subject = me; claim = Alive; inc = number; accuser = me }
 
--- A member that hears itself suspected at its own number refutes it by the next one (SWIM, section 4.2), and
--- takes it for a sign that it is slow (LHA-Probe).
-unfoldable pub refuted : Key → Effect → Effect
-refuted k o =
-    let number = o.state.incarnation + 1 in
+-- A member refutes what is claimed of it by a number of its own (SWIM, section 4.2), and takes it for a sign that it is slow (LHA-Probe).
+unfoldable pub refuted : Setup → Key → ℕ → Effect → Effect
+refuted s k number o =
     let told = with_row k what.Refute (Some k.to) number false (on_state (λ t. record t { incarnation = number }) o) in
-    on_state (with_put (own_claim k.to number)) (with_health k (raised told.state.health 1) told)
+    with_put s k (own_claim k.to number) (with_health k (raised told.state.health 1) told)
 
 -- The first Confirm of itself that a member hears. It goes on.
 unfoldable pub heard_dead : Key → ℕ → Effect → Effect
 heard_dead k number o = with_row k what.Dead (Some k.to) number false (on_state (λ t. record t { heard_dead = true }) o)
 
--- Of itself a member heeds Suspect at its own number, and the first Confirm.
-abbrev pub own_applied : Key → Claim → ℕ → Effect → Effect
-own_applied k Alive number o = o
-own_applied k Suspect number o = if nat_eq number o.state.incarnation then refuted k o else o
-own_applied k Confirm number o = if o.state.heard_dead then o else heard_dead k number o
+-- whether a claim about itself that a member doesn't refute tells it that it is dead: by the papers' rules the first Confirm
+abbrev pub is_own_death : Profile → Claim → Bool → Bool
+is_own_death Papers Alive heard = false
+is_own_death Papers Suspect heard = false
+is_own_death Papers Confirm heard = not heard
+is_own_death Memberlist claim heard = false
+
+-- Of itself a member heeds what it refutes, by the number after the claim's, and the first word of its death.
+abbrev pub own_applied : Setup → Key → Claim → ℕ → Effect → Effect
+own_applied s k claim number o =
+    if does_refute (profile_of s) o.state.incarnation claim number then refuted s k (number + 1) o
+    else if is_own_death (profile_of s) claim o.state.heard_dead then heard_dead k number o
+    else o
 
 -- ---- an update about another member
 
@@ -75,13 +95,20 @@ with_place subject t =
     let placed = insert_of t.words subject t.rota in
     record t { rota = placed.0; words = placed.1 }
 
-abbrev pub placed_unless_known : Option (Claim × ℕ) → Update → State → State
-placed_unless_known None u t = if is_confirm u.claim then t else with_place u.subject t
-placed_unless_known (Some held) u t = t
+-- another order of probes
+abbrev pub with_rota : ProbeOrder → State → State
+with_rota rota t = record t { rota = rota }
 
--- The table has the claim. A subject that wasn't known is probed from now on, unless it is confirmed (SWIM, section 4.3).
+-- who is confirmed is probed no more, and who wasn't probed is from now on (SWIM, section 4.3)
+abbrev pub with_turn : Bool → Update → State → State
+with_turn probed u t =
+    if is_confirm u.claim then with_rota (remove_of u.subject t.rota) t
+    else if probed then t
+    else with_place u.subject t
+
+-- The table has the claim, and the subject its turn among those who are probed, or none.
 unfoldable pub claim_kept : Update → State → State
-claim_kept u t = placed_unless_known (get t.table u.subject) u (with_claim u t)
+claim_kept u t = with_turn (is_probed (get t.table u.subject)) u (with_claim u t)
 
 -- no suspicion of the subject
 abbrev pub without_suspicion : ℕ → State → State
@@ -99,56 +126,71 @@ suspicion_begun s k u t = started_of (terms_of s) u.accuser (live_count t.table)
 unfoldable pub suspect_heard : Setup → Bool → Key → Update → Effect → Effect
 suspect_heard s loud k u o =
     let due = k.at + timeout (terms_of s) (live_count o.state.table) 0 in
-    with_event k due k.to (SuspicionTimer u.subject) (with_told loud k what.Suspect u.subject u.inc
+    with_event s k due k.to (SuspicionTimer u.subject) (with_told loud k what.Suspect u.subject u.inc
     (on_state (λ t. record t { suspicions = insert t.suspicions u.subject (suspicion_begun s k u t) }) o))
 
--- Confirm ends a suspicion too, and the subject is probed no more.
-unfoldable pub confirm_heard : Bool → Key → Update → Effect → Effect
-confirm_heard loud k u o =
+-- since when the subject is confirmed, which memberlist's rules ask for
+abbrev pub death_kept : Profile → ℕ → ℕ → State → State
+death_kept Papers subject now t = t
+death_kept Memberlist subject now t = record t { since = confirmed_at subject now t.since }
+
+-- Confirm ends a suspicion too.
+unfoldable pub confirm_heard : Profile → Bool → Key → Update → Effect → Effect
+confirm_heard profile loud k u o =
     with_told loud k what.Confirm u.subject u.inc
-    (on_state (λ t. record t { suspicions = remove t.suspicions u.subject; rota = remove_of u.subject t.rota }) o)
+    (on_state (λ t. death_kept profile u.subject k.at (without_suspicion u.subject t)) o)
 
 abbrev pub claim_heard : Setup → Bool → Key → Update → Claim → Effect → Effect
 claim_heard s loud k u Alive o = alive_heard loud k u o
 claim_heard s loud k u Suspect o = suspect_heard s loud k u o
-claim_heard s loud k u Confirm o = confirm_heard loud k u o
+claim_heard s loud k u Confirm o = confirm_heard (profile_of s) loud k u o
 
 -- A claim that is news: it is kept, acted upon and passed on.
 unfoldable pub news_heard : Setup → Bool → Key → Update → Effect → Effect
 news_heard s loud k u o =
-    on_state (passed_on loud u) (claim_heard s loud k u u.claim (on_state (claim_kept u) o))
+    passed_on s k loud u (claim_heard s loud k u u.claim (on_state (claim_kept u) o))
 
 -- the accusation, where it counts, is passed on, and the suspicion's timer is set again
-abbrev pub accusation_counted : Bool → Key → Update → Option Accused → Effect → Effect
-accusation_counted loud k u None o = o
-accusation_counted loud k u (Some accused) o =
-    on_state (passed_on loud u) (with_event k accused.due k.to (SuspicionTimer u.subject) (with_told loud k what.Accuse u.subject accused.count o))
+abbrev pub accusation_counted : Setup → Bool → Key → Update → Option Accused → Effect → Effect
+accusation_counted s loud k u None o = o
+accusation_counted s loud k u (Some accused) o =
+    passed_on s k loud u (with_event s k accused.due k.to (SuspicionTimer u.subject) (with_told loud k what.Accuse u.subject accused.count o))
 
 -- A further accuser of a suspect, where it counts, shortens the suspicion (LHA-Suspicion). The new timer takes
 -- the place of the old one. Where it does not count, nothing changes.
-unfoldable pub accusation_heard : Bool → Key → Update → Effect → Effect
-accusation_heard loud k u o =
+unfoldable pub accusation_heard : Setup → Bool → Key → Update → Effect → Effect
+accusation_heard s loud k u o =
     let accused = accused_of o.state.suspicions u.subject u.accuser o.state.next_number in
-    accusation_counted loud k u (option_map (answer_of k.at) accused)
+    accusation_counted s loud k u (option_map (answer_of k.at) accused)
     (on_state (λ t. record t { suspicions = after_accusation t.suspicions u.subject u.accuser t.next_number }) o)
 
--- whether the update repeats a suspicion that the table holds at this number
-abbrev pub is_repeated : Update → Claim × ℕ → Bool
-is_repeated u held = is_suspect u.claim && is_suspect held.0 && nat_eq u.inc held.1
+-- whether the numbers of a suspicion that comes and of the one that is held let it be an accusation: the same one; by memberlist's rules a higher one too
+abbrev pub is_of_number : Profile → ℕ → ℕ → Bool
+is_of_number Papers number held = nat_eq number held
+is_of_number Memberlist number held = nat_le held number
+
+-- whether the update repeats a suspicion that the table holds
+abbrev pub is_repeated : Profile → Update → Claim × ℕ → Bool
+is_repeated profile u held = is_suspect u.claim && is_suspect held.0 && is_of_number profile u.inc held.1
+
+-- whether a claim about somebody who isn't known is heeded: by memberlist's rules Alive alone, but for what a welcome brings
+abbrev pub is_heeded : Profile → Bool → Claim → Bool
+is_heeded Papers loud claim = true
+is_heeded Memberlist loud claim = not loud || is_alive claim
 
 -- A claim about another is news where nothing is known of it or where it overrides what is held. Suspect as it is
 -- held may be a further accusation. All else says nothing new.
 abbrev pub other_applied : Setup → Bool → Key → Update → Option (Claim × ℕ) → Effect → Effect
-other_applied s loud k u None o = news_heard s loud k u o
+other_applied s loud k u None o = if is_heeded (profile_of s) loud u.claim then news_heard s loud k u o else o
 other_applied s loud k u (Some held) o =
-    if does_override (u.claim, u.inc) held then news_heard s loud k u o
-    else if is_repeated u held then accusation_heard loud k u o
+    if does_override (profile_of s) (u.claim, u.inc) held then news_heard s loud k u o
+    else if is_repeated (profile_of s) u held then accusation_heard s loud k u o
     else o
 
 -- An update is applied.
 unfoldable pub applied : Setup → Bool → Key → Update → Effect → Effect
 applied s loud k u o =
-    if nat_eq u.subject k.to then own_applied k u.claim u.inc o
+    if nat_eq u.subject k.to then own_applied s k u.claim u.inc o
     else other_applied s loud k u (get o.state.table u.subject) o
 
 -- Updates are applied in their order.

@@ -1,17 +1,18 @@
 -- The conditions under which an event is handled.
-use Rattle.std.specs.Prelude.{◌≡◌, ◌≢◌, ℕ, ◌<◌, ◌≤◌, ◌^◌, true, false, All, Some, unwrap_or}
+use Rattle.std.specs.Prelude.{◌≡◌, ◌≢◌, ℕ, ◌<◌, ◌≤◌, ◌^◌, true, false, All, Option, Some, IfSome, unwrap_or}
 use Rattle.std.proofs.Common.{sym, ap, subst, ◌∙◌}
 use Rattle.std.proofs.Props.{props}
-use Rattle.std.specs.FinMap.{contains_key}
+use Rattle.std.specs.FinMap.{get, contains_key}
 use Rattle.base.specs.declared.key.Key.{Key}
 use Rattle.scenario.specs.Setup.{Setup, IsSound, member_count, contact_of, start_of}
 use Rattle.links.specs.declared.table.Links.{Links}
 use Rattle.links.specs.Arrival.{AreLinksOf}
 use Rattle.probing.specs.ProbeOrder.{ProbeOrder, times_in, IsSoundOrder as IsSoundRota}
 use Rattle.member.specs.declared.content.Content.{Content}
-use Rattle.member.specs.declared.content.Content.TheVariants.{NackTimer, Welcome, Ping, PingReq, Ack}
+use Rattle.member.specs.declared.content.Content.TheVariants.{NackTimer, Welcome, Ping, PingReq, Ack, Gossip, Push, Pull}
 use Rattle.membership.specs.Table.{Known}
-use Rattle.member.specs.State.{State}
+use Rattle.lifeguard.specs.declared.probe.Probe.{Probe}
+use Rattle.member.specs.State.{State, is_probed}
 
 -- the links are the scenario's, the event is one of a run of it, and its receiver and its sender are members
 pub record IsSoundSetting (s : Setup) (l : Links) (k : Key) : Type 0 where
@@ -34,15 +35,16 @@ contact-prop s m a b =
     rest-prop : (c : ℕ) → IsProp (Rest c)
     rest-prop c = hlevel props
 
--- The table is of other members of the scenario, and the rota of members in the table.
-pub record HoldsOthers (s : Setup) (m : ℕ) (table : Known) (rota : ProbeOrder) : Type 0 where
+-- The table is of other members of the scenario, the rota of members in the table that are not confirmed, and the probe of a member.
+pub record HoldsOthers (s : Setup) (m : ℕ) (table : Known) (rota : ProbeOrder) (probe : Option Probe) : Type 0 where
   pub others : (q : ℕ) → contains_key table q ≡ true → (q < member_count s) × (q ≢ m)
-  pub listed : (q : ℕ) → contains_key table q ≡ false → times_in rota.members q ≡ 0
+  pub listed : (q : ℕ) → is_probed (get table q) ≡ false → times_in rota.members q ≡ 0
   pub sound : IsSoundRota rota
+  pub target : IfSome probe (λ p. p.target < member_count s)
 
 -- what a member of a scenario keeps of its state
 abbrev pub HoldsMembers : Setup → ℕ → State → Type 0
-HoldsMembers s m t = HoldsOthers s m t.table t.rota
+HoldsMembers s m t = HoldsOthers s m t.table t.rota t.probe
 
 -- the members that a content names are among the first n
 abbrev pub MentionsMembers : ℕ → Content → Type 0
@@ -51,4 +53,7 @@ MentionsMembers n (Ping initiator seq updates) = (initiator < n) × All (λ u. u
 MentionsMembers n (PingReq target seq updates) = (target < n) × All (λ u. u.subject < n) updates
 MentionsMembers n (Ack initiator seq updates) = (initiator < n) × All (λ u. u.subject < n) updates
 MentionsMembers n (NackTimer initiator seq) = initiator < n
+MentionsMembers n (Gossip updates) = All (λ u. u.subject < n) updates
+MentionsMembers n (Push entries) = All (λ u. u.subject < n) entries
+MentionsMembers n (Pull entries) = All (λ u. u.subject < n) entries
 MentionsMembers n _ = Unit {0}

@@ -8,6 +8,7 @@ use Rattle.base.specs.declared.key.Key.{Key}
 use Rattle.base.specs.World.{World, with_events}
 use Rattle.scenario.specs.Setup.{Setup, member_count, start_of, crash_of, leave_of}
 use Rattle.lifeguard.specs.Health.{LocalHealth, full_health}
+use Rattle.membership.specs.Deaths.{never}
 use Rattle.probing.specs.ProbeOrder.{round_over}
 use Rattle.streams.specs.Draw.{member_words}
 use Rattle.member.specs.declared.member.Phase.TheVariants.{Waiting}
@@ -32,6 +33,10 @@ opening_state s m = record {
   sequence = 0;
   incarnation = 0;
   heard_dead = false;
+  waits = false;
+  gossips = false;
+  beat = 0;
+  since = never;
   health = opening_health s;
   probe = None;
   table = empty;

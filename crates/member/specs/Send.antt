@@ -1,5 +1,5 @@
 -- How messages are sent, and what rides on them.
-use Rattle.std.specs.Prelude.{ℕ, ◌*◌, if◌then◌else◌, List, [], ◌∷◌, Option, Some, None}
+use Rattle.std.specs.Prelude.{ℕ, ◌*◌, nat_eq, length, if◌then◌else◌, List, [], ◌∷◌, Option, Some, None}
 use Rattle.std.specs.Option.{option_map, is_none}
 use Rattle.std.specs.FinMap.{get, insert}
 use Rattle.base.specs.declared.key.Key.{Key}
@@ -13,22 +13,30 @@ use Rattle.incarnation.specs.declared.Update.{Update}
 use Rattle.piggyback.specs.Picked.{picked, left_by_pick}
 use Rattle.suspicion.specs.Suspicions.{first_accuser_of}
 use Rattle.links.specs.Arrival.{arrival_of}
+use Rattle.links.specs.Trips.{call_of, answer_of, kept_arrival_of}
+use Rattle.streams.specs.Draw.{Words}
 use Rattle.member.specs.declared.content.Content.{Content}
-use Rattle.member.specs.declared.content.Content.TheVariants.{Join, Welcome, Ping, PingReq, Ack, Nack, Bye}
+use Rattle.member.specs.declared.content.Content.TheVariants.{Join, Welcome, Ping, PingReq, Ack, Nack, Bye, Gossip, Call, Answer, Push, Pull}
 use Rattle.member.specs.State.{State}
 use Rattle.membership.specs.Table.{Known, is_suspect, live_count, updates_by}
 use Rattle.member.specs.Turn.{Effect, on_state, with_row, with_number, with_event}
 
 -- a message arrives, or is lost: it takes a number all the same
-abbrev pub sent_off : Key → ℕ → Content → Option ℕ → Effect → Effect
-sent_off k to content None o = on_state with_number o
-sent_off k to content (Some at) o = with_event k at to content o
+abbrev pub sent_off : Setup → Key → ℕ → Content → Option ℕ → Effect → Effect
+sent_off s k to content None o = on_state with_number o
+sent_off s k to content (Some at) o = with_event s k at to content o
 
--- A message on its way: the link decides by the member's words whether and when it arrives.
-unfoldable pub sent : Setup → Key → What → ℕ → ℕ → Content → Effect → Effect
-sent s k tells to value content o =
-    let arrival = arrival_of s k.to to k.at o.state.words in
-    sent_off k to content arrival.0 (with_row k tells (Some to) value (is_none arrival.0) (on_state (λ t. record t { words = arrival.1 }) o))
+-- a message whose arrival is decided: a row tells of it
+abbrev pub told_of : Setup → Key → What → ℕ → ℕ → Content → Option ℕ → Effect → Effect
+told_of s k tells to value content arrival o = sent_off s k to content arrival (with_row k tells (Some to) value (is_none arrival) o)
+
+-- A message whose arrival is decided, and the words that this leaves.
+unfoldable pub posted : Setup → Key → What → ℕ → ℕ → Content → Option ℕ × Words → Effect → Effect
+posted s k tells to value content arrival o = told_of s k tells to value content arrival.0 (on_state (λ t. record t { words = arrival.1 }) o)
+
+-- A message over a link: by the member's words is decided whether and when it arrives.
+abbrev pub sent : Setup → Key → What → ℕ → ℕ → Content → Effect → Effect
+sent s k tells to value content o = posted s k tells to value content (arrival_of s k.to to k.at o.state.words) o
 
 -- An update rides on lambda messages for each digit of n, the members that are not confirmed (SWIM, section 4.1).
 abbrev pub limit_of : Setup → State → ℕ
@@ -96,3 +104,29 @@ bye_sent s k to o = sent s k what.Bye to 0 Bye o
 unfoldable pub sent_to_each : (ℕ → Effect → Effect) → List ℕ → Effect → Effect
 sent_to_each send [] o = o
 sent_to_each send (to ∷ others) o = sent_to_each send others (send to o)
+
+-- ---- what memberlist's rules add
+
+-- updates by themselves, if there are any
+abbrev pub news_sent : Setup → Key → ℕ → List Update → Effect → Effect
+news_sent s k to updates o = if nat_eq (length updates) 0 then o else sent s k what.Gossip to 0 (Gossip updates) o
+
+-- Gossip to one of those who are chosen. Where nothing is left to send the rest get nothing.
+unfoldable pub gossip_sent : Setup → Key → ℕ → Effect → Effect
+gossip_sent s k to o = news_sent s k to (carried s None o.state) (on_state (with_picks s None) o)
+
+-- A stream to a target that hasn't answered in time. Nothing rides on it.
+unfoldable pub call_sent : Setup → Key → ℕ → ℕ → Effect → Effect
+call_sent s k to seq o = posted s k what.Call to seq (Call seq) (call_of s k.to to k.at o.state.words) o
+
+unfoldable pub answer_sent : Setup → Key → ℕ → ℕ → Effect → Effect
+answer_sent s k to seq o = posted s k what.Answer to seq (Answer seq) (answer_of s k.to to k.at o.state.words) o
+
+-- All that is known, and oneself.
+unfoldable pub push_sent : Setup → Key → ℕ → Effect → Effect
+push_sent s k to o =
+    posted s k what.Push to 0 (Push (whole_table k.to o.state.incarnation o.state.table)) (kept_arrival_of s k.to to k.at o.state.words) o
+
+unfoldable pub pull_sent : Setup → Key → ℕ → Effect → Effect
+pull_sent s k to o =
+    posted s k what.Pull to 0 (Pull (whole_table k.to o.state.incarnation o.state.table)) (kept_arrival_of s k.to to k.at o.state.words) o

@@ -1,6 +1,7 @@
 -- What a member in memory, and a turn of it, stand for.
 use Rattle.std.specs.Prelude.{map}
 use Rattle.base.specs.declared.key.Key.{Key}
+use Rattle.membership.specs.Deaths.{since_of}
 use Rattle.streams.specs.Draw.{words_of}
 use Rattle.member.specs.declared.content.Content.{Content}
 use Rattle.member.specs.declared.event.Effects.{Effects}
@@ -17,6 +18,10 @@ state_of m = record {
   sequence = m.sequence;
   incarnation = m.incarnation;
   heard_dead = m.heard_dead;
+  waits = m.waits;
+  gossips = m.gossips;
+  beat = m.beat;
+  since = since_of m.deaths;
   health = m.health;
   probe = m.probe;
   table = m.table;

@@ -1,7 +1,8 @@
 -- What a member makes of an event, by cases on the event and the member's phase (SWIM, sections 3 and 4; Lifeguard).
-use Rattle.std.specs.Prelude.{ℕ, ◌+◌, ◌&&◌, Bool, true, false, not, max, nat_eq, nat_lt, if◌then◌else◌, List, [], ◌∷◌, length, filter, Option, Some, None}
+use Rattle.std.specs.Prelude.{ℕ, ◌+◌, ◌-◌, ◌*◌, ◌^◌, count_by, ◌&&◌, Bool, true, false, not, max, nat_eq, nat_lt, if◌then◌else◌, List, [], ◌∷◌, map, length, filter, Option, Some, None}
 use Rattle.std.specs.List.{range_with_len}
-use Rattle.std.specs.FinMap.{get, empty}
+use Rattle.std.specs.Option.{option_map_or}
+use Rattle.std.specs.FinMap.{get, empty, len}
 use Rattle.std.specs.FinSet as set
 use Rattle.base.specs.declared.key.Key.{Key}
 use Rattle.base.specs.World.{Machine}
@@ -12,29 +13,62 @@ use Rattle.incarnation.specs.declared.Claim.{Claim}
 use Rattle.incarnation.specs.declared.Claim.TheVariants.{Alive, Suspect, Confirm}
 use Rattle.incarnation.specs.declared.Update.{Update}
 use Rattle.lifeguard.specs.declared.probe.Probe.{Probe}
-use Rattle.lifeguard.specs.Health.{scaled}
+use Rattle.lifeguard.specs.Health.{lowered, scaled}
 use Rattle.lifeguard.specs.NackDelay.{nack_delay_of}
-use Rattle.lifeguard.specs.Probe.{fresh_probe, with_nack, after_probe}
+use Rattle.lifeguard.specs.Probe.{fresh_probe, timed_probe, with_nack, with_reach, after_probe, after_deadline}
 use Rattle.probing.specs.ProbeOrder.{round_over, next_of, helpers_of}
+use Rattle.probing.specs.Samples.{sample_of}
+use Rattle.base.specs.Beats.{next_in_step}
+use Rattle.base.specs.declared.profile.Profile.{Profile}
+use Rattle.base.specs.declared.profile.Profile.TheVariants.{Papers, Memberlist}
+use Rattle.scenario.specs.Profile.{profile_of}
+use Rattle.scenario.specs.declared.settings.Gossip as settings
 use Rattle.streams.specs.Draw.{below_of}
 use Rattle.suspicion.specs.Suspicions.{is_due}
 use Rattle.member.specs.declared.member.Phase.{Phase}
 use Rattle.member.specs.declared.member.Phase.TheVariants.{Waiting, Joining, Running, Down}
 use Rattle.member.specs.declared.content.Content.{Content}
-use Rattle.member.specs.declared.content.Content.TheVariants.{Start, Crash, Leave, JoinTimer, PeriodTimer, TimeoutTimer, NackTimer, SuspicionTimer, Join, Welcome, Ping, PingReq, Ack, Nack, Bye}
-use Rattle.membership.specs.Table.{is_confirm, alive_but, all_alive}
+use Rattle.member.specs.declared.content.Content.TheVariants.{Start, Crash, Leave, JoinTimer, PeriodTimer, TimeoutTimer, NackTimer, SuspicionTimer, Join, Welcome, Ping, PingReq, Ack, Nack, Bye, DeadlineTimer, GossipTimer, PushTimer, Call, Answer, Gossip, Push, Pull}
+use Rattle.membership.specs.declared.candidates.Candidate.{Candidate}
+use Rattle.membership.specs.declared.candidates.Fitting.{Fitting}
+use Rattle.membership.specs.declared.candidates.Fitting.TheVariants.{AliveBut, Reachable}
+use Rattle.membership.specs.Candidates.{does_fit, candidates_of}
+use Rattle.membership.specs.Table.{is_alive, is_confirm, live_count, alive_but, all_alive}
 use Rattle.member.specs.State.{State}
-use Rattle.member.specs.Turn.{Effect, unchanged, on_state, with_row, with_timer}
-use Rattle.member.specs.Send.{sent_to_each, ping_sent, ping_req_sent, ack_sent, nack_sent, join_sent, welcome_sent, bye_sent}
-use Rattle.member.specs.Apply.{with_health, applied, all_applied}
+use Rattle.member.specs.Turn.{Effect, unchanged, on_state, with_row, with_event, with_timer}
+use Rattle.member.specs.Send.{sent_to_each, ping_sent, ping_req_sent, ack_sent, nack_sent, join_sent, welcome_sent, bye_sent, gossip_sent, call_sent, answer_sent, push_sent, pull_sent}
+use Rattle.member.specs.Apply.{with_health, gossip_set, applied, all_applied}
 
 -- ---- start, crash and join
 
--- The first period begins at a moment that chance decides.
+-- how many doublings bring 32 to a number, if it is more
+abbrev pub doublings_to : ℕ → ℕ
+doublings_to n = count_by (λ m. nat_lt (32 * 2 ^ m) n) (range_with_len 0 n)
+
+-- how often all that is known is told to another member, in a cluster of n: one period longer for each doubling of more than 32 members
+abbrev pub push_period : ℕ → ℕ → ℕ
+push_period push n = push * (1 + doublings_to n)
+
+-- The push timer: a push period and a part of the setting that chance decides after the beat.
+unfoldable pub push_begun : Setup → Key → ℕ → ℕ → Effect → Effect
+push_begun s k beat push o =
+    let drawn = below_of o.state.words push in
+    with_event s k (beat + drawn.0 + push_period push (live_count o.state.table)) k.to PushTimer (on_state (λ t. record t { words = drawn.1 }) o)
+
+-- the first push after a beat, where members push
+abbrev pub first_push_set : Setup → Key → ℕ → Option settings.Gossip → Effect → Effect
+first_push_set s k beat None o = o
+first_push_set s k beat (Some gossip) o = if nat_eq gossip.push 0 then o else push_begun s k beat gossip.push o
+
+-- the first period after so many ticks, at a beat, and the first push
+abbrev pub periods_set : Setup → Key → ℕ → ℕ → Effect → Effect
+periods_set s k ticks beat o = first_push_set s k beat s.gossip (with_timer s k ticks PeriodTimer (on_state (λ t. record t { beat = beat }) o))
+
+-- The first period begins at a moment that chance decides, from which memberlist's rules count the others.
 unfoldable pub first_period_set : Setup → Key → Effect → Effect
 first_period_set s k o =
     let drawn = below_of o.state.words s.swim.spread in
-    with_timer k (1 + drawn.0) PeriodTimer (on_state (λ t. record t { words = drawn.1 }) o)
+    periods_set s k (1 + drawn.0) (k.at + (1 + drawn.0)) (on_state (λ t. record t { words = drawn.1 }) o)
 
 -- whether a member is another one that starts at moment 0
 abbrev pub is_first_other : Setup → ℕ → ℕ → Bool
@@ -52,7 +86,7 @@ began s k o =
 
 -- A member that joins asks its contact, and asks again after a period.
 unfoldable pub join_asked : Setup → Key → Effect → Effect
-join_asked s k o = with_timer k s.swim.period JoinTimer (join_sent s k o)
+join_asked s k o = with_timer s k s.swim.period JoinTimer (join_sent s k o)
 
 -- A member that starts later knows nobody, and joins.
 unfoldable pub joining_begun : Setup → Key → Effect → Effect
@@ -108,7 +142,7 @@ unfoldable pub probe_begun : Setup → Key → ℕ → Effect → Effect
 probe_begun s k target o =
     let seq = o.state.sequence + 1 in
     let pinged = ping_sent s k target k.to seq (on_state (λ t. record t { sequence = seq; probe = Some (fresh_probe seq target) }) o) in
-    with_timer k (scaled pinged.state.health s.swim.timeout) (TimeoutTimer seq) pinged
+    with_timer s k (scaled pinged.state.health s.swim.timeout) (TimeoutTimer seq) pinged
 
 -- the probe of the next target, where there is one
 abbrev pub target_probed : Setup → Key → Option ℕ → Effect → Effect
@@ -126,7 +160,7 @@ next_probed s k o =
 unfoldable pub period_begun : Setup → Key → Effect → Effect
 period_begun s k o =
     let probing = next_probed s k (probe_ended s k o.state.probe o) in
-    with_timer k (scaled probing.state.health s.swim.period) PeriodTimer probing
+    with_timer s k (scaled probing.state.health s.swim.period) PeriodTimer probing
 
 -- Requests to the helpers, one after another.
 abbrev pub all_asked : Setup → Key → ℕ → ℕ → List ℕ → Effect → Effect
@@ -177,7 +211,7 @@ ping_heard s k initiator seq updates o = ack_sent s k k.from initiator seq (all_
 -- LHA-Probe: a helper owes the initiator an answer: the ack that it passes on, or a nack once the nack delay is over.
 abbrev pub with_relay : Setup → Key → ℕ → Effect → Effect
 with_relay s k seq o =
-    with_timer k (nack_delay_of s.lifeguard.nack_percent s.swim.timeout) (NackTimer k.from seq)
+    with_timer s k (nack_delay_of s.lifeguard.nack_percent s.swim.timeout) (NackTimer k.from seq)
     (on_state (λ t. record t { relays = set.insert t.relays (k.from, seq) }) o)
 
 -- A helper pings the target on behalf of the initiator.
@@ -241,6 +275,176 @@ departed s k o = on_state downed (byes_said s k (with_row k what.Leave None 0 fa
 abbrev pub bye_heard : Setup → Key → Effect → Effect
 bye_heard s k o = confirmed s k k.from (get o.state.table k.from) o
 
+-- ---- a member's own probe, by memberlist's rules
+
+-- whom a failed probe suspects: the target at the number at which it was held when the probe began, if the table does not hold it as confirmed now
+abbrev pub suspected_at : Setup → Key → Probe → Option (Claim × ℕ) → Effect → Effect
+suspected_at s k probe None o = o
+suspected_at s k probe (Some held) o =
+    if is_confirm held.0 then o else applied s true k (record { subject = probe.target; claim = Suspect; inc = probe.number; accuser = k.to }) o
+
+-- A probe that nothing reached has failed.
+unfoldable pub timed_probe_failed : Setup → Key → Probe → Effect → Effect
+timed_probe_failed s k probe o =
+    let told = with_row k what.Fail (Some probe.target) probe.seq false o in
+    let weighed = with_health k (after_deadline told.state.health probe) told in
+    suspected_at s k probe (get weighed.state.table probe.target) weighed
+
+-- A probe that is still under way ends. One that a call reached is good; else it has failed.
+unfoldable pub probe_settled : Setup → Key → Option Probe → Effect → Effect
+probe_settled s k None o = o
+probe_settled s k (Some probe) o =
+    let ended = on_state (λ t. record t { probe = None }) o in
+    if probe.reached then with_health k (after_deadline ended.state.health probe) ended else timed_probe_failed s k probe ended
+
+-- the time for a direct answer, which no health makes longer, and the deadline
+abbrev pub probe_timers_set : Setup → Key → ℕ → ℕ → ℕ → Effect → Effect
+probe_timers_set s k seq timeout deadline o = with_event s k deadline k.to (DeadlineTimer seq) (with_timer s k timeout (TimeoutTimer seq) o)
+
+-- A new probe: a ping, the time for a direct answer, and a period as long as health makes it.
+unfoldable pub timed_probe_begun : Setup → Key → ℕ → Effect → Effect
+timed_probe_begun s k target o =
+    let seq = o.state.sequence + 1 in
+    let deadline = k.at + scaled o.state.health s.swim.period in
+    let probe = timed_probe seq target (option_map_or (λ held. held.1) (get o.state.table target) 0) deadline in
+    probe_timers_set s k seq s.swim.timeout deadline (ping_sent s k target k.to seq (on_state (λ t. record t { sequence = seq; probe = Some probe }) o))
+
+abbrev pub timed_target_probed : Setup → Key → Option ℕ → Effect → Effect
+timed_target_probed s k None o = on_state (λ t. record t { probe = None }) o
+timed_target_probed s k (Some target) o = timed_probe_begun s k target o
+
+-- The next target in its turn.
+unfoldable pub next_timed_probed : Setup → Key → Effect → Effect
+next_timed_probed s k o =
+    let next = next_of o.state.words o.state.rota in
+    timed_target_probed s k next.0 (on_state (λ t. record t { rota = next.1; words = next.2 }) o)
+
+-- the next probe, if it was kept waiting
+abbrev pub waiting_probed : Setup → Key → Effect → Effect
+waiting_probed s k o = if o.state.waits then next_timed_probed s k (on_state (λ t. record t { waits = false }) o) else o
+
+-- whether a probe is under way whose deadline is still to come
+abbrev pub has_time : ℕ → Option Probe → Bool
+has_time now None = false
+has_time now (Some probe) = nat_lt now probe.deadline
+
+-- the probe that is under way, if there is one, ends, and the next begins
+abbrev pub next_after_settled : Setup → Key → Effect → Effect
+next_after_settled s k o = next_timed_probed s k (probe_settled s k o.state.probe o)
+
+-- the next probe waits for one that still has time
+abbrev pub probed_in_turn : Setup → Key → Effect → Effect
+probed_in_turn s k o = if has_time k.at o.state.probe then on_state (λ t. record t { waits = true }) o else next_after_settled s k o
+
+-- The beat of the periods: the next comes whole periods after the first, whatever put this one off.
+unfoldable pub period_beaten : Setup → Key → Effect → Effect
+period_beaten s k o =
+    probed_in_turn s k (with_event s k (next_in_step o.state.beat s.swim.period k.at) k.to PeriodTimer o)
+
+-- the probe that is under way ends, and the next begins, if it was kept waiting
+abbrev pub waiting_after_settled : Setup → Key → Effect → Effect
+waiting_after_settled s k o = waiting_probed s k (probe_settled s k o.state.probe o)
+
+-- The probe's time is over.
+unfoldable pub deadline_over : Setup → Key → ℕ → Effect → Effect
+deadline_over s k seq o = if is_under_way seq o.state.probe then waiting_after_settled s k o else o
+
+-- An ack of the probe that is under way ends it.
+unfoldable pub timed_answered : Setup → Key → ℕ → Effect → Effect
+timed_answered s k seq o =
+    if is_under_way seq o.state.probe
+    then waiting_probed s k (with_health k (lowered o.state.health) (on_state (λ t. record t { probe = None }) o))
+    else o
+
+-- an ack reaches the initiator, or is passed on to it
+abbrev pub timed_ack_taken : Setup → Key → ℕ → ℕ → Effect → Effect
+timed_ack_taken s k initiator seq o = if nat_eq initiator k.to then timed_answered s k seq o else ack_taken s k initiator seq o
+
+-- An ack, after what rides on it is applied.
+unfoldable pub timed_ack_heard : Setup → Key → ℕ → ℕ → List Update → Effect → Effect
+timed_ack_heard s k initiator seq updates o = timed_ack_taken s k initiator seq (all_applied s true k updates o)
+
+-- those whom a member may choose for something
+abbrev pub candidates_for : Key → Fitting → State → List Candidate
+candidates_for k fitting t = candidates_of k.to (does_fit fitting t.since) t.table
+
+-- Helpers are drawn among all that are known.
+unfoldable pub sampled_help : Setup → Key → Probe → Effect → Effect
+sampled_help s k probe o =
+    let drawn = sample_of o.state.words s.swim.helpers (candidates_for k (AliveBut probe.target) o.state) in
+    with_expected s probe (length drawn.0) (all_asked s k probe.target probe.seq drawn.0 (on_state (λ t. record t { words = drawn.1 }) o))
+
+-- a stream to the target, where that is wanted
+abbrev pub called : Setup → Key → Probe → Effect → Effect
+called s k probe o = if s.swim.fallback then call_sent s k probe.target probe.seq o else o
+
+-- helpers, where there are to be any
+abbrev pub helped : Setup → Key → Probe → Effect → Effect
+helped s k probe o = if nat_lt 0 s.swim.helpers then sampled_help s k probe o else o
+
+-- The time for a direct answer is up: helpers are asked, and a stream is tried.
+unfoldable pub timed_out_timed : Setup → Key → ℕ → Option Probe → Effect → Effect
+timed_out_timed s k seq None o = o
+timed_out_timed s k seq (Some probe) o = if nat_eq probe.seq seq then called s k probe (helped s k probe o) else o
+
+-- a call that came through reached the target
+abbrev pub reached : ℕ → Option Probe → Option Probe
+reached seq None = None
+reached seq (Some probe) = Some (if nat_eq probe.seq seq then with_reach probe else probe)
+
+-- The answer to a call counts at the deadline alone.
+unfoldable pub answer_heard : ℕ → Effect → Effect
+answer_heard seq o = on_state (λ t. record t { probe = reached seq t.probe }) o
+
+-- ---- gossip and push, by memberlist's rules
+
+-- nothing is left to send
+abbrev pub is_told_out : State → Bool
+is_told_out t = nat_eq (len t.buffer) 0
+
+-- updates to some who are chosen
+unfoldable pub gossip_spread : Setup → Key → settings.Gossip → Effect → Effect
+gossip_spread s k gossip o =
+    let drawn = sample_of o.state.words gossip.nodes (candidates_for k (Reachable k.at gossip.dead) o.state) in
+    sent_to_each (gossip_sent s k) drawn.0 (on_state (λ t. record t { words = drawn.1 }) o)
+
+-- the timer is set again, as long as there is something to send
+abbrev pub gossip_set_again : Setup → Key → Effect → Effect
+gossip_set_again s k o = if is_told_out o.state then o else gossip_set s k s.gossip o
+
+-- updates to some, as long as there is something to send
+abbrev pub gossip_round : Setup → Key → settings.Gossip → Effect → Effect
+gossip_round s k gossip o = if is_told_out o.state then o else gossip_set_again s k (gossip_spread s k gossip o)
+
+-- Updates go out by themselves.
+abbrev pub gossip_due : Setup → Key → Option settings.Gossip → Effect → Effect
+gossip_due s k None o = o
+gossip_due s k (Some gossip) o = gossip_round s k gossip (on_state (λ t. record t { gossips = false }) o)
+
+-- what a stream tells of somebody: a death is not believed, it is suspected
+abbrev pub merged_claim : ℕ → Update → Update
+merged_claim me u = if is_alive u.claim then u else record u { claim = Suspect; accuser = me }
+
+-- All that another knows, in the order of the subjects.
+unfoldable pub merged : Setup → Key → List Update → Effect → Effect
+merged s k entries o = all_applied s true k (map (merged_claim k.to) entries) o
+
+-- All that is known goes to one who is chosen, and again after a push period.
+unfoldable pub pushed : Setup → Key → ℕ → Effect → Effect
+pushed s k push o =
+    let drawn = sample_of o.state.words 1 (candidates_for k (AliveBut k.to) o.state) in
+    let set = with_timer s k (push_period push (live_count o.state.table)) PushTimer (on_state (λ t. record t { words = drawn.1 }) o) in
+    sent_to_each (push_sent s k) drawn.0 set
+
+-- where members push
+abbrev pub push_due : Setup → Key → Option settings.Gossip → Effect → Effect
+push_due s k None o = o
+push_due s k (Some gossip) o = if nat_eq gossip.push 0 then o else pushed s k gossip.push o
+
+-- A push is answered by all that one knows, and then heeded.
+unfoldable pub push_heard : Setup → Key → List Update → Effect → Effect
+push_heard s k entries o = merged s k entries (pull_sent s k k.from o)
+
 -- ---- the step
 
 -- the messages of a probe, at a member that runs
@@ -279,5 +483,25 @@ handled s k Leave Running o = departed s k o
 handled s k Bye Running o = bye_heard s k o
 handled s k content phase o = plain_handled s k content phase o
 
+-- What memberlist's rules add for a member that runs, and what they change of its own probe.
+unfoldable pub timed_handled : Setup → Key → Content → Effect → Effect
+timed_handled s k PeriodTimer o = period_beaten s k o
+timed_handled s k (TimeoutTimer seq) o = timed_out_timed s k seq o.state.probe o
+timed_handled s k (DeadlineTimer seq) o = deadline_over s k seq o
+timed_handled s k (Ack initiator seq updates) o = timed_ack_heard s k initiator seq updates o
+timed_handled s k (Call seq) o = answer_sent s k k.from seq o
+timed_handled s k (Answer seq) o = answer_heard seq o
+timed_handled s k GossipTimer o = gossip_due s k s.gossip o
+timed_handled s k (Gossip updates) o = all_applied s true k updates o
+timed_handled s k PushTimer o = push_due s k s.gossip o
+timed_handled s k (Push entries) o = push_heard s k entries o
+timed_handled s k (Pull entries) o = merged s k entries o
+timed_handled s k content o = handled s k content Running o
+
+-- by whose rules the members go
+abbrev pub handled_by : Phase → Profile → Setup → Key → Content → Effect → Effect
+handled_by Running Memberlist s k content o = timed_handled s k content o
+handled_by phase profile s k content o = handled s k content phase o
+
 unfoldable pub step : Setup → Machine State Content Row
-step s k content t = handled s k content t.phase (unchanged t)
+step s k content t = handled_by t.phase (profile_of s) s k content (unchanged t)

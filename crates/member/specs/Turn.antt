@@ -2,6 +2,7 @@
 use Rattle.std.specs.Prelude.{ℕ, ◌+◌, Bool, [], ◌∷◌, ◌++◌, length, Option}
 use Rattle.base.specs.declared.key.Key.{Key}
 use Rattle.base.specs.World.{Outcome}
+use Rattle.scenario.specs.Setup.{Setup, awake}
 use Rattle.trace.specs.declared.row.Row.{Row}
 use Rattle.trace.specs.declared.row.What.{What}
 use Rattle.member.specs.declared.content.Content.{Content}
@@ -31,14 +32,14 @@ with_row k tells about value lost o = record {
 unfoldable pub with_number : State → State
 with_number t = record t { next_number = t.next_number + 1 }
 
--- An event of the member's making takes the next number.
-unfoldable pub with_event : Key → ℕ → ℕ → Content → Effect → Effect
-with_event k at to content o = record {
+-- An event of the member's making takes the next number. What is due while its receiver is paused waits for the end of the pause.
+unfoldable pub with_event : Setup → Key → ℕ → ℕ → Content → Effect → Effect
+with_event s k at to content o = record {
   state = record o.state { next_number = o.state.next_number + 1 };
-  events = o.events ++ ((record { at = at; to = to; from = k.to; number = o.state.next_number }), content) ∷ [];
+  events = o.events ++ ((record { at = awake s to at; to = to; from = k.to; number = o.state.next_number }), content) ∷ [];
   rows = o.rows;
 }
 
 -- a timer of one's own, so many ticks from now
-unfoldable pub with_timer : Key → ℕ → Content → Effect → Effect
-with_timer k ticks content o = with_event k (k.at + ticks) k.to content o
+unfoldable pub with_timer : Setup → Key → ℕ → Content → Effect → Effect
+with_timer s k ticks content o = with_event s k (k.at + ticks) k.to content o

@@ -1,6 +1,6 @@
 ghost use Rattle.std.specs.Prelude.{◌≡◌, ◌<◌};
 ghost use Rattle.member.specs.Makes.{AreAboutMembers, IsMember, KnowsMembers, Makes};
-ghost use Rattle.member.specs.Step.{answered, ack_taken, ack_heard, nack_heard};
+ghost use Rattle.member.specs.Step.{answered, ack_taken, ack_heard, nacked, nack_heard};
 ghost use Rattle.member.specs.StateOf.{effect_of, state_of};
 
 use crate::event::Effects;
@@ -17,6 +17,13 @@ impl Member {
         ensures state { state_of self.new ≡ record (state_of self.old) { probe = answered seq (state_of self.old).probe } }
         ensures kept { KnowsMembers here.now self.new }
     {
+        self.mark_answered(seq);
+    }
+
+    /// Marks the probe that is under way, if it has this number.
+    fn mark_answered(&mut self, seq: u64)
+        ensures { state_of self.new ≡ record (state_of self.old) { probe = answered seq (state_of self.old).probe } }
+    {
         if let Some(probe) = &mut self.probe {
             if probe.seq == seq {
                 probe.acked = true;
@@ -26,7 +33,7 @@ impl Member {
 
     /// An ack reaches the initiator, or is passed on to it.
     #[tactic(auto, unfolding(crate::specs::Step::ack_taken))]
-    fn take_ack(
+    pub(crate) fn take_ack(
         &mut self,
         turn: &mut Effects,
         here: &Here,
@@ -70,6 +77,13 @@ impl Member {
         requires { KnowsMembers here.now self.old }
         ensures state { effect_of self.new turn.now ≡ nack_heard seq (effect_of self.old turn.now) }
         ensures kept { KnowsMembers here.now self.new }
+    {
+        self.count_nack(seq);
+    }
+
+    /// Counts a nack for the probe that is under way, if it has this number.
+    fn count_nack(&mut self, seq: u64)
+        ensures { state_of self.new ≡ record (state_of self.old) { probe = nacked seq (state_of self.old).probe } }
     {
         if let Some(probe) = &mut self.probe {
             if probe.seq == seq {

@@ -1,14 +1,16 @@
-ghost use Rattle.std.specs.Prelude.{◌≡◌, ◌≢◌, ◌<◌, OnOk};
+ghost use Rattle.std.specs.Prelude.{◌≡◌, ◌≢◌, ◌+◌, ◌<◌, None, OnOk};
 ghost use Rattle.member.specs.Makes.{AreAboutMembers, IsMade, IsMember, KnowsMembers, Makes};
-ghost use Rattle.member.specs.Apply.{with_health, refuted, heard_dead, own_applied, other_applied, applied, all_applied, is_repeated};
+ghost use Rattle.member.specs.Apply.{with_health, refuted, heard_dead, own_applied, is_own_death, other_applied, applied, all_applied, is_repeated, is_of_number, is_heeded};
 ghost use Rattle.member.specs.StateOf.{effect_of};
 
 use crate::event::Effects;
 use crate::here::Here;
 use crate::member::Member;
+use crate::news::is_alive;
 use crate::turn::StepError;
+use base::Profile;
 use base::limits::COUNTER_LIMIT;
-use incarnation::{Claim, Update};
+use incarnation::{Claim, Update, refutes};
 use lifeguard::Health;
 use membership::{does_override, is_suspect};
 use trace::What;
@@ -36,17 +38,17 @@ impl Member {
         }
     }
 
-    /// Refutes a suspicion of oneself by the next incarnation number (SWIM, section 4.2). Worn where
-    /// that number stands at its limit.
+    /// Refutes a claim about oneself by the incarnation number after the claim's (SWIM, section 4.2). Worn
+    /// where that number stands at its limit.
     #[tactic(auto, unfolding(crate::specs::Apply::refuted))]
-    fn refute(&mut self, turn: &mut Effects, here: &Here) -> Result<(), StepError>
+    fn refute(&mut self, turn: &mut Effects, here: &Here, claimed: u64) -> Result<(), StepError>
         requires { KnowsMembers here.now self.old }
-        ensures { Makes here.now result self.old turn.old self.new turn.new (refuted here.now.key) }
+        ensures { Makes here.now result self.old turn.old self.new turn.new (refuted here.now.scenario.now here.now.key (claimed + 1)) }
     {
-        if self.incarnation >= COUNTER_LIMIT {
+        if claimed >= COUNTER_LIMIT {
             return Err(StepError::Worn);
         }
-        let number = self.incarnation + 1;
+        let number = claimed + 1;
         self.incarnation = number;
         self.write_row(turn, here, What::Refute, Some(here.key.to), number, false)?;
         let mut health = self.health;
@@ -58,7 +60,7 @@ impl Member {
             inc: number,
             accuser: here.key.to,
         };
-        self.put(here, claim)
+        self.put(turn, here, claim)
     }
 
     /// Hears for the first time that one was confirmed to have failed.
@@ -80,24 +82,35 @@ impl Member {
         number: u64,
     ) -> Result<(), StepError>
         requires { KnowsMembers here.now self.old }
-        ensures { Makes here.now result self.old turn.old self.new turn.new (own_applied here.now.key claim number) }
+        ensures { Makes here.now result self.old turn.old self.new turn.new (own_applied here.now.scenario.now here.now.key claim number) }
     {
-        match claim {
-            Claim::Alive => Ok(()),
-            Claim::Suspect => {
-                if number == self.incarnation {
-                    self.refute(turn, here)
-                } else {
-                    Ok(())
-                }
-            }
-            Claim::Confirm => {
-                if self.heard_dead {
-                    Ok(())
-                } else {
-                    self.hear_dead(turn, here, number)
-                }
-            }
+        let profile = here.scenario.profile();
+        if refutes(profile, self.incarnation, claim, number) {
+            self.refute(turn, here, number)
+        } else if is_own_death(profile, claim, self.heard_dead) {
+            self.hear_dead(turn, here, number)
+        } else {
+            Ok(())
+        }
+    }
+
+    /// Applies an update about a member that isn't known, if it is heeded.
+    fn hear_unknown(
+        &mut self,
+        turn: &mut Effects,
+        here: &Here,
+        loud: bool,
+        update: &Update,
+    ) -> Result<(), StepError>
+        requires known { KnowsMembers here.now self.old }
+        requires member { IsMember here.now update.now.subject }
+        requires other { update.now.subject ≢ here.now.key.to }
+        ensures { Makes here.now result self.old turn.old self.new turn.new (other_applied here.now.scenario.now loud here.now.key update.now None) }
+    {
+        if is_heeded(here.scenario.profile(), loud, update.claim) {
+            self.hear_news(turn, here, loud, update)
+        } else {
+            Ok(())
         }
     }
 
@@ -115,12 +128,13 @@ impl Member {
         requires other { update.now.subject ≢ here.now.key.to }
         ensures { Makes here.now result self.old turn.old self.new turn.new (other_applied here.now.scenario.now loud here.now.key update.now held) }
     {
+        let profile = here.scenario.profile();
         let Some(held) = held else {
-            return self.hear_news(turn, here, loud, update);
+            return self.hear_unknown(turn, here, loud, update);
         };
-        if does_override((update.claim, update.inc), held) {
+        if does_override(profile, (update.claim, update.inc), held) {
             self.hear_news(turn, here, loud, update)
-        } else if is_repeated(update, held) {
+        } else if is_repeated(profile, update, held) {
             self.hear_accusation(turn, here, loud, update)
         } else {
             Ok(())
@@ -166,9 +180,42 @@ impl Member {
     }
 }
 
-// Whether an update repeats a suspicion as it is held.
-fn is_repeated(update: &Update, held: (Claim, u64)) -> bool
-    ensures { result ≡ is_repeated update.now held }
+// Whether an update repeats a suspicion that is held: at the same number, or by memberlist's rules at
+// that number or over it.
+fn is_repeated(profile: Profile, update: &Update, held: (Claim, u64)) -> bool
+    ensures { result ≡ is_repeated profile update.now held }
 {
-    is_suspect(update.claim) && is_suspect(held.0) && update.inc == held.1
+    is_suspect(update.claim) && is_suspect(held.0) && is_of_number(profile, update.inc, held.1)
+}
+
+// Whether the numbers of a suspicion that comes and of the one that is held let it be an accusation.
+fn is_of_number(profile: Profile, number: u64, held: u64) -> bool
+    ensures { result ≡ is_of_number profile number held }
+{
+    match profile {
+        Profile::Papers => number == held,
+        Profile::Memberlist => number >= held,
+    }
+}
+
+// Whether a claim about a member that isn't known is heeded: by memberlist's rules Alive alone, but for
+// what a welcome brings.
+fn is_heeded(profile: Profile, loud: bool, claim: Claim) -> bool
+    ensures { result ≡ is_heeded profile loud claim }
+{
+    match profile {
+        Profile::Papers => true,
+        Profile::Memberlist => !loud || is_alive(claim),
+    }
+}
+
+// Whether a claim about oneself that isn't refuted tells of one's death: by the papers' rules the first
+// Confirm.
+fn is_own_death(profile: Profile, claim: Claim, heard: bool) -> bool
+    ensures { result ≡ is_own_death profile claim heard }
+{
+    match (profile, claim) {
+        (Profile::Papers, Claim::Confirm) => !heard,
+        _ => false,
+    }
 }

@@ -57,4 +57,32 @@ pub enum Content {
     },
     /// The sender leaves.
     Bye,
+    /// A probe ends (memberlist's rules, as what follows).
+    DeadlineTimer {
+        seq: u64,
+    },
+    /// Updates go out by themselves.
+    GossipTimer,
+    /// All that is known goes to another member.
+    PushTimer,
+    /// A stream to a member that didn't answer in time.
+    Call {
+        seq: u64,
+    },
+    /// The answer to a call.
+    Answer {
+        seq: u64,
+    },
+    /// Updates by themselves.
+    Gossip {
+        updates: Updates,
+    },
+    /// All that the sender knows; it wants to be told too.
+    Push {
+        entries: Updates,
+    },
+    /// All that the sender knows.
+    Pull {
+        entries: Updates,
+    },
 }

@@ -2,8 +2,8 @@ ghost use Rattle.std.specs.Prelude.{◌≡◌, ◌<◌, ◌≤◌, All, length, 
 ghost use Rattle.member.specs.Makes.{Draws, IsMember, KnowsMembers, Makes};
 ghost use Rattle.probing.specs.ProbeOrder.{helpers_of};
 ghost use Rattle.membership.specs.Table.{alive_but};
-ghost use Rattle.member.specs.Step.{all_asked, help_asked, timed_out};
-ghost use Rattle.member.specs.StateOf.{state_of};
+ghost use Rattle.member.specs.Step.{all_asked, with_expected, help_asked, timed_out};
+ghost use Rattle.member.specs.StateOf.{effect_of, state_of};
 
 use crate::event::Effects;
 use crate::here::Here;
@@ -35,7 +35,7 @@ impl Member {
     }
 
     /// Asks helpers, one after another, to ping the target.
-    fn ask_all(
+    pub(crate) fn ask_all(
         &mut self,
         turn: &mut Effects,
         here: &Here,
@@ -56,18 +56,31 @@ impl Member {
     /// Asks helpers to ping the target. With LHA-Probe the probe expects an answer of each.
     #[tactic(auto, unfolding(crate::specs::Step::help_asked))]
     fn ask_help(&mut self, turn: &mut Effects, here: &Here, probe: &Probe) -> Result<(), StepError>
-        requires { KnowsMembers here.now self.old }
+        requires known { KnowsMembers here.now self.old }
+        requires target { IsMember here.now probe.now.target }
         ensures { Makes here.now result self.old turn.old self.new turn.new (help_asked here.now.scenario.now here.now.key probe.now) }
     {
         let count = here.scenario.swim().helpers;
         let helpers = self.draw_helpers(here, probe.target, count)?;
         self.ask_all(turn, here, probe.target, probe.seq, &helpers)?;
-        if here.scenario.lifeguard().probe {
-            let mut expecting = *probe;
-            expecting.expected = helpers.len() as u8;
-            self.probe = Some(expecting);
-        }
+        self.expect(turn, here, probe, helpers.len() as u8);
         Ok(())
+    }
+
+    /// With LHA-Probe the probe expects an answer of each helper that was asked.
+    #[tactic(auto, using(crate::proofs::Holds::holds_probe))]
+    pub(crate) fn expect(&mut self, turn: &Effects, here: &Here, probe: &Probe, count: u8)
+        requires known { KnowsMembers here.now self.old }
+        requires target { IsMember here.now probe.now.target }
+        ensures state { effect_of self.new turn.now ≡ with_expected here.now.scenario.now probe.now count (effect_of self.old turn.now) }
+        ensures kept { KnowsMembers here.now self.new }
+    {
+        if !here.scenario.lifeguard().probe {
+            return;
+        }
+        let mut expecting = *probe;
+        expecting.expected = count;
+        self.probe = Some(expecting);
     }
 
     /// The time for a direct answer is up: helpers are asked, if the probe is still under way and unanswered.

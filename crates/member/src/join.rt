@@ -1,7 +1,7 @@
-ghost use Rattle.std.specs.Prelude.{ℕ, ◌≡◌, ◌<◌, ◌≤◌, ◌&&◌, not, nat_eq, ◌∷◌, ◌++◌, [], if◌then◌else◌, length, OnOk, IfOk, IfErr};
+ghost use Rattle.std.specs.Prelude.{ℕ, ◌≡◌, ◌^◌, ◌<◌, ◌≤◌, ◌&&◌, not, nat_eq, ◌∷◌, ◌++◌, [], if◌then◌else◌, length, OnOk, IfOk, IfErr};
 ghost use Rattle.scenario.specs.Setup.{member_count, start_of};
 ghost use Rattle.member.specs.Makes.{AreAboutMembers, KnowsMembers, Makes};
-ghost use Rattle.member.specs.Step.{first_period_set, first_others, began, join_asked, joining_begun, started, crashed, join_handled, about_others, joined};
+ghost use Rattle.member.specs.Step.{periods_set, first_period_set, first_others, began, join_asked, joining_begun, started, crashed, join_handled, about_others, joined};
 
 use crate::content::Content;
 use crate::event::Effects;
@@ -18,15 +18,36 @@ use std::alloc::{AllocError, Global};
 use trace::What;
 
 impl Member {
-    /// The first period begins at a moment that chance decides.
+    /// The first period begins at a moment that chance decides, from which memberlist's rules count the
+    /// others.
     #[tactic(auto, unfolding(crate::specs::Step::first_period_set))]
     fn set_first_period(&mut self, turn: &mut Effects, here: &Here) -> Result<(), StepError>
         requires { KnowsMembers here.now self.old }
         ensures { Makes here.now result self.old turn.old self.new turn.new (first_period_set here.now.scenario.now here.now.key) }
     {
         let spread = here.scenario.swim().spread as u32;
-        let wait = self.stream.below(spread);
-        self.set_timer(turn, here, 1 + u64::from(wait), Content::PeriodTimer)
+        let ticks = 1 + u64::from(self.stream.below(spread));
+        let beat = Moment(here.key.at.ticks() + ticks);
+        self.set_periods(turn, here, ticks, beat)
+    }
+
+    /// Sets the timer of the first period, so many ticks from now, at the beat from which the others are
+    /// counted, and the first push.
+    fn set_periods(
+        &mut self,
+        turn: &mut Effects,
+        here: &Here,
+        ticks: u64,
+        beat: Moment,
+    ) -> Result<(), StepError>
+        requires ticks_within { ticks ≤ 2 ^ 41 }
+        requires early { beat ≤ 2 ^ 41 }
+        requires known { KnowsMembers here.now self.old }
+        ensures { Makes here.now result self.old turn.old self.new turn.new (periods_set here.now.scenario.now here.now.key ticks beat) }
+    {
+        self.beat = beat;
+        self.set_timer(turn, here, ticks, Content::PeriodTimer)?;
+        self.set_first_push(turn, here, beat)
     }
 
     /// A member that starts at moment 0 knows all others that do, and probes them.

@@ -3,9 +3,11 @@
 
 mod acks;
 mod apply;
+mod calls;
 mod confirm;
 mod content;
 mod event;
+mod gossip;
 mod help;
 mod here;
 mod join;
@@ -16,8 +18,10 @@ mod news;
 mod opening;
 mod period;
 mod pings;
+mod pushes;
 mod send;
 mod step;
+mod timed;
 mod turn;
 mod updates;
 

@@ -1,7 +1,8 @@
 ghost use Rattle.std.specs.Prelude.{◌≤◌, ◌^◌};
 
+use base::Moment;
 use lifeguard::{Health, Probe, Relays};
-use membership::Table;
+use membership::{Deaths, Table};
 use piggyback::Buffer;
 use probing::Rota;
 use streams::Stream;
@@ -32,11 +33,19 @@ pub struct Member {
     pub(crate) incarnation: u64,
     /// Whether it heard that it was confirmed to have failed.
     pub(crate) heard_dead: bool,
+    /// Whether a probe that is still under way keeps the next one waiting (memberlist's rules).
+    pub(crate) waits: bool,
+    /// Whether its gossip timer is set.
+    pub(crate) gossips: bool,
+    /// The moment for which its first period timer was set, 0 before.
+    pub(crate) beat: Moment,
     pub(crate) health: Health,
     /// The probe of the present period.
     pub(crate) probe: Option<Probe>,
     /// What it holds of the others.
     pub(crate) table: Table,
+    /// Since when it holds others to be down.
+    pub(crate) deaths: Deaths,
     /// The updates that are still to be sent.
     pub(crate) buffer: Buffer,
     /// Whom to probe next.

@@ -1,6 +1,11 @@
-ghost use Rattle.std.specs.Prelude.{◌≢◌, ◌<◌, OnOk};
+ghost use Rattle.std.specs.Prelude.{◌≡◌, ◌≢◌, ◌<◌, false, OnOk};
+ghost use Rattle.std.specs.FinMap.{get};
+ghost use Rattle.probing.specs.ProbeOrder.{remove_of};
+ghost use Rattle.scenario.specs.Profile.{profile_of};
 ghost use Rattle.member.specs.Makes.{IsMade, IsMember, KnowsMembers, Makes};
-ghost use Rattle.member.specs.Apply.{with_put, passed_on, with_told, claim_kept, alive_heard, suspect_heard, confirm_heard, claim_heard, news_heard, accusation_counted, accusation_heard};
+ghost use Rattle.member.specs.Apply.{with_put, passed_on, with_told, with_claim, with_rota, with_place, claim_kept, alive_heard, suspect_heard, death_kept, confirm_heard, claim_heard, news_heard, accusation_counted, accusation_heard};
+ghost use Rattle.membership.specs.Table.{is_alive, is_confirm};
+ghost use Rattle.member.specs.State.{is_probed};
 ghost use Rattle.member.specs.StateOf.{effect_of, state_of};
 
 use crate::content::Content;
@@ -8,33 +13,42 @@ use crate::event::Effects;
 use crate::here::Here;
 use crate::member::Member;
 use crate::turn::StepError;
-use base::MemberId;
+use base::{MemberId, Profile};
 use incarnation::{Claim, Update};
 use membership::is_confirm;
 use suspicion::Accused;
 use trace::What;
 
 impl Member {
-    /// Puts an update among those that are still to be sent.
+    /// Puts an update among those that are still to be sent. Where members gossip, it is sent by itself too.
     #[tactic(auto, unfolding(crate::specs::Apply::with_put))]
-    pub(crate) fn put(&mut self, here: &Here, update: Update) -> Result<(), StepError>
+    pub(crate) fn put(
+        &mut self,
+        turn: &mut Effects,
+        here: &Here,
+        update: Update,
+    ) -> Result<(), StepError>
         requires { KnowsMembers here.now self.old }
-        ensures made { IsMade result (state_of self.new) (with_put update (state_of self.old)) }
-        ensures kept { OnOk result (KnowsMembers here.now self.new) }
+        ensures { Makes here.now result self.old turn.old self.new turn.new (with_put here.now.scenario.now here.now.key update) }
     {
         self.buffer.put(update)?;
-        Ok(())
+        self.set_gossip(turn, here)
     }
 
     /// Passes an update on, unless the application is quiet.
     #[tactic(auto, unfolding(crate::specs::Apply::passed_on))]
-    fn pass_on(&mut self, here: &Here, loud: bool, update: &Update) -> Result<(), StepError>
+    fn pass_on(
+        &mut self,
+        turn: &mut Effects,
+        here: &Here,
+        loud: bool,
+        update: &Update,
+    ) -> Result<(), StepError>
         requires { KnowsMembers here.now self.old }
-        ensures made { IsMade result (state_of self.new) (passed_on loud update.now (state_of self.old)) }
-        ensures kept { OnOk result (KnowsMembers here.now self.new) }
+        ensures { Makes here.now result self.old turn.old self.new turn.new (passed_on here.now.scenario.now here.now.key loud update.now) }
     {
         if loud {
-            self.put(here, *update)
+            self.put(turn, here, *update)
         } else {
             Ok(())
         }
@@ -59,7 +73,49 @@ impl Member {
         }
     }
 
-    /// Keeps a claim about another member, which is probed from now on where it wasn't known.
+    /// Keeps a claim that confirms another member, who is probed no more.
+    fn put_out(&mut self, here: &Here, update: &Update) -> Result<(), StepError>
+        requires known { KnowsMembers here.now self.old }
+        requires member { IsMember here.now update.now.subject }
+        requires other { update.now.subject ≢ here.now.key.to }
+        ensures made { IsMade result (state_of self.new) (with_rota (remove_of update.now.subject (state_of self.old).rota) (with_claim update.now (state_of self.old))) }
+        ensures kept { OnOk result (KnowsMembers here.now self.new) }
+    {
+        self.table.set(update.subject, (update.claim, update.inc))?;
+        self.rota.remove(update.subject);
+        Ok(())
+    }
+
+    /// Keeps a claim about another member, who goes on being probed.
+    fn put_again(&mut self, here: &Here, update: &Update) -> Result<(), StepError>
+        requires known { KnowsMembers here.now self.old }
+        requires member { IsMember here.now update.now.subject }
+        requires other { update.now.subject ≢ here.now.key.to }
+        requires up { is_confirm update.now.claim ≡ false }
+        ensures made { IsMade result (state_of self.new) (with_claim update.now (state_of self.old)) }
+        ensures kept { OnOk result (KnowsMembers here.now self.new) }
+    {
+        self.table.set(update.subject, (update.claim, update.inc))?;
+        Ok(())
+    }
+
+    /// Keeps a claim about another member, who is probed from now on.
+    fn put_in(&mut self, here: &Here, update: &Update) -> Result<(), StepError>
+        requires known { KnowsMembers here.now self.old }
+        requires member { IsMember here.now update.now.subject }
+        requires other { update.now.subject ≢ here.now.key.to }
+        requires up { is_confirm update.now.claim ≡ false }
+        requires absent { is_probed (get (state_of self.old).table update.now.subject) ≡ false }
+        ensures made { IsMade result (state_of self.new) (with_place update.now.subject (with_claim update.now (state_of self.old))) }
+        ensures kept { OnOk result (KnowsMembers here.now self.new) }
+    {
+        self.table.set(update.subject, (update.claim, update.inc))?;
+        self.rota.insert(update.subject, &mut self.stream)?;
+        Ok(())
+    }
+
+    /// Keeps a claim about another member. Who is confirmed is probed no more, and who wasn't probed is
+    /// from now on.
     #[tactic(auto, unfolding(crate::specs::Apply::claim_kept))]
     fn keep_claim(&mut self, here: &Here, update: &Update) -> Result<(), StepError>
         requires known { KnowsMembers here.now self.old }
@@ -68,13 +124,13 @@ impl Member {
         ensures made { IsMade result (state_of self.new) (claim_kept update.now (state_of self.old)) }
         ensures kept { OnOk result (KnowsMembers here.now self.new) }
     {
-        let held = self.table.get(update.subject);
-        self.table.set(update.subject, (update.claim, update.inc))?;
-        if held.is_some() || is_confirm(update.claim) {
-            return Ok(());
+        if is_confirm(update.claim) {
+            self.put_out(here, update)
+        } else if is_probed(self.table.get(update.subject)) {
+            self.put_again(here, update)
+        } else {
+            self.put_in(here, update)
         }
-        self.rota.insert(update.subject, &mut self.stream)?;
-        Ok(())
     }
 
     /// Alive ends a suspicion.
@@ -122,7 +178,22 @@ impl Member {
         self.make_event(turn, here, due, here.key.to, timer)
     }
 
-    /// Confirm ends a suspicion, and the subject is probed no more.
+    /// Keeps since when a member is confirmed, where memberlist's rules ask for it.
+    fn keep_death(&mut self, here: &Here, subject: MemberId) -> Result<(), StepError>
+        requires { KnowsMembers here.now self.old }
+        ensures made { IsMade result (state_of self.new) (death_kept (profile_of here.now.scenario.now) subject here.now.key.at (state_of self.old)) }
+        ensures kept { OnOk result (KnowsMembers here.now self.new) }
+    {
+        match here.scenario.profile() {
+            Profile::Papers => Ok(()),
+            Profile::Memberlist => {
+                self.deaths.keep(subject, here.key.at)?;
+                Ok(())
+            }
+        }
+    }
+
+    /// Confirm ends a suspicion.
     #[tactic(auto, unfolding(crate::specs::Apply::confirm_heard))]
     fn hear_confirm(
         &mut self,
@@ -132,10 +203,10 @@ impl Member {
         update: &Update,
     ) -> Result<(), StepError>
         requires { KnowsMembers here.now self.old }
-        ensures { Makes here.now result self.old turn.old self.new turn.new (confirm_heard loud here.now.key update.now) }
+        ensures { Makes here.now result self.old turn.old self.new turn.new (confirm_heard (profile_of here.now.scenario.now) loud here.now.key update.now) }
     {
         self.suspicions.clear(update.subject);
-        self.rota.remove(update.subject);
+        self.keep_death(here, update.subject)?;
         self.tell(turn, here, loud, What::Confirm, update.subject, update.inc)
     }
 
@@ -173,7 +244,7 @@ impl Member {
     {
         self.keep_claim(here, update)?;
         self.hear_claim(turn, here, loud, update)?;
-        self.pass_on(here, loud, update)
+        self.pass_on(turn, here, loud, update)
     }
 
     /// Tells of an accusation that counts, sets the suspicion's timer again, and passes it on.
@@ -186,7 +257,7 @@ impl Member {
         accused: Option<Accused>,
     ) -> Result<(), StepError>
         requires { KnowsMembers here.now self.old }
-        ensures { Makes here.now result self.old turn.old self.new turn.new (accusation_counted loud here.now.key update.now accused) }
+        ensures { Makes here.now result self.old turn.old self.new turn.new (accusation_counted here.now.scenario.now loud here.now.key update.now accused) }
     {
         let Some(accused) = accused else {
             return Ok(());
@@ -203,7 +274,7 @@ impl Member {
             subject: update.subject,
         };
         self.make_event(turn, here, accused.due, here.key.to, timer)?;
-        self.pass_on(here, loud, update)
+        self.pass_on(turn, here, loud, update)
     }
 
     /// A further accuser of a suspect, where it counts, shortens the suspicion (LHA-Suspicion).
@@ -216,7 +287,7 @@ impl Member {
         update: &Update,
     ) -> Result<(), StepError>
         requires { KnowsMembers here.now self.old }
-        ensures { Makes here.now result self.old turn.old self.new turn.new (accusation_heard loud here.now.key update.now) }
+        ensures { Makes here.now result self.old turn.old self.new turn.new (accusation_heard here.now.scenario.now loud here.now.key update.now) }
     {
         let accused = self.suspicions.accuse(
             update.subject,
@@ -226,4 +297,21 @@ impl Member {
         )?;
         self.count_accusation(turn, here, loud, update, accused)
     }
+}
+
+// Whether a member is probed that is held so: not where nothing is held of it, nor where it is confirmed.
+fn is_probed(held: Option<(Claim, u64)>) -> bool
+    ensures { result ≡ is_probed held }
+{
+    match held {
+        Some(held) => !is_confirm(held.0),
+        None => false,
+    }
+}
+
+// Whether a claim says that a member is up.
+pub(crate) fn is_alive(claim: Claim) -> bool
+    ensures { result ≡ is_alive claim }
+{
+    claim == Claim::Alive
 }

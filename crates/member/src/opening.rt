@@ -7,9 +7,9 @@ ghost use Rattle.member.specs.StateOf.{state_of};
 ghost use Rattle.member.specs.Worn.{IsWorn};
 
 use crate::member::{Member, Phase};
-use base::{MemberId, Memory};
+use base::{MemberId, Memory, Moment};
 use lifeguard::{Health, Relays};
-use membership::Table;
+use membership::{Deaths, Table};
 use piggyback::Buffer;
 use probing::Rota;
 use scenario::Scenario;
@@ -64,9 +64,13 @@ impl Member {
             sequence: 0,
             incarnation: 0,
             heard_dead: false,
+            waits: false,
+            gossips: false,
+            beat: Moment(0),
             health: opening_health(scenario),
             probe: None,
             table: Table::new(alloc),
+            deaths: Deaths::new(alloc),
             buffer: Buffer::new(alloc)?,
             rota: empty_rota(alloc)?,
             suspicions: Suspicions::new(alloc)?,

@@ -79,7 +79,7 @@ impl Member {
     }
 
     /// The next member to probe, in the turn of the rota.
-    fn next_target(&mut self, here: &Here) -> Option<MemberId>
+    pub(crate) fn next_target(&mut self, here: &Here) -> Option<MemberId>
         requires { KnowsMembers here.now self.old }
         ensures target { result ≡ (next_of (state_of self.old).words (state_of self.old).rota).0 }
         ensures state { let next = next_of (state_of self.old).words (state_of self.old).rota in
@@ -115,7 +115,7 @@ impl Member {
     }
 
     /// Probes the next member, where there is one.
-    #[tactic(auto, unfolding(crate::specs::Step::next_probed))]
+    #[tactic(auto, using(crate::proofs::Holds::holds_no_probe), unfolding(crate::specs::Step::next_probed))]
     fn probe_next(&mut self, turn: &mut Effects, here: &Here) -> Result<(), StepError>
         requires { KnowsMembers here.now self.old }
         ensures { Makes here.now result self.old turn.old self.new turn.new (next_probed here.now.scenario.now here.now.key) }

@@ -2,7 +2,7 @@ ghost use Rattle.std.specs.Prelude.{◌≡◌, ◌<◌, ◌≤◌, OnOk, IfOk};
 ghost use Rattle.links.specs.Arrival.{arrival_of};
 ghost use Rattle.member.specs.Makes.{Draws, IsMade, IsMember, KnowsMembers, Makes};
 ghost use Rattle.membership.specs.Table.{live_count};
-ghost use Rattle.member.specs.Send.{whole_table, sent, sent_off, carried, with_picks, buddy_of, ping_sent, ping_req_sent, ack_sent, nack_sent, join_sent, welcome_sent, bye_sent};
+ghost use Rattle.member.specs.Send.{whole_table, sent, sent_off, told_of, carried, with_picks, buddy_of, ping_sent, ping_req_sent, ack_sent, nack_sent, join_sent, welcome_sent, bye_sent};
 ghost use Rattle.member.specs.StateOf.{state_of};
 
 use crate::content::Content;
@@ -37,8 +37,9 @@ impl Member {
         content: Content,
         arrival: Option<Moment>,
     ) -> Result<(), StepError>
-        requires { KnowsMembers here.now self.old }
-        ensures { Makes here.now result self.old turn.old self.new turn.new (sent_off here.now.key to content arrival) }
+        requires to { IsMember here.now to }
+        requires known { KnowsMembers here.now self.old }
+        ensures { Makes here.now result self.old turn.old self.new turn.new (sent_off here.now.scenario.now here.now.key to content arrival) }
     {
         match arrival {
             Some(at) => self.make_event(turn, here, at, to, content),
@@ -46,9 +47,28 @@ impl Member {
         }
     }
 
+    /// Tells of a message, which arrives or is lost.
+    pub(crate) fn post(
+        &mut self,
+        turn: &mut Effects,
+        here: &Here,
+        what: What,
+        to: MemberId,
+        value: u64,
+        content: Content,
+        arrival: Option<Moment>,
+    ) -> Result<(), StepError>
+        requires to { IsMember here.now to }
+        requires known { KnowsMembers here.now self.old }
+        ensures { Makes here.now result self.old turn.old self.new turn.new (told_of here.now.scenario.now here.now.key what to value content arrival) }
+    {
+        self.write_row(turn, here, what, Some(to), value, arrival.is_none())?;
+        self.send_off(turn, here, to, content, arrival)
+    }
+
     /// Sends a message: its row, and its arrival unless it is lost.
-    #[tactic(auto, unfolding(crate::specs::Send::sent))]
-    fn send(
+    #[tactic(auto, unfolding(crate::specs::Send::posted))]
+    pub(crate) fn send(
         &mut self,
         turn: &mut Effects,
         here: &Here,
@@ -62,8 +82,7 @@ impl Member {
         ensures { Makes here.now result self.old turn.old self.new turn.new (sent here.now.scenario.now here.now.key what to value content) }
     {
         let arrival = self.arrival(here, to);
-        self.write_row(turn, here, what, Some(to), value, arrival.is_none())?;
-        self.send_off(turn, here, to, content, arrival)
+        self.post(turn, here, what, to, value, content, arrival)
     }
 
     /// How many members are not confirmed, oneself included.
@@ -77,7 +96,7 @@ impl Member {
     }
 
     /// The updates that a message takes along, the buddy first where there is one.
-    fn pick(&mut self, here: &Here, buddy: Option<Update>) -> Result<Updates, StepError>
+    pub(crate) fn pick(&mut self, here: &Here, buddy: Option<Update>) -> Result<Updates, StepError>
         requires { KnowsMembers here.now self.old }
         ensures updates { IfOk result (λ updates. updates ≡ carried here.now.scenario.now buddy (state_of self.old)) }
         ensures state { IsMade result (state_of self.new) (with_picks here.now.scenario.now buddy (state_of self.old)) }
@@ -214,7 +233,7 @@ impl Member {
 
     /// The whole table and oneself. Oneself stands in the table meanwhile.
     #[tactic(auto, unfolding(crate::specs::Send::whole_table))]
-    fn whole_table(&mut self, here: &Here) -> Result<Updates, StepError>
+    pub(crate) fn whole_table(&mut self, here: &Here) -> Result<Updates, StepError>
         requires { KnowsMembers here.now self.old }
         ensures entries { IfOk result (λ entries. entries ≡ whole_table here.now.key.to (state_of self.old).incarnation (state_of self.old).table) }
         ensures state { IsMade result (state_of self.new) (state_of self.old) }
@@ -248,6 +267,7 @@ impl Member {
             Content::Welcome { entries },
         )
     }
+
     /// Says bye to a member.
     #[tactic(auto, unfolding(crate::specs::Send::bye_sent))]
     pub(crate) fn send_bye(

@@ -5,7 +5,8 @@ ghost use Rattle.scenario.specs.Setup.{member_count};
 ghost use Rattle.member.specs.Here.{IsSoundSetting, HoldsMembers};
 ghost use Rattle.member.specs.Makes.{KnowsMembers, Makes};
 ghost use Rattle.member.specs.Here.{MentionsMembers};
-ghost use Rattle.member.specs.Step.{step, handled, plain_handled, probing_handled};
+ghost use Rattle.scenario.specs.Profile.{profile_of};
+ghost use Rattle.member.specs.Step.{step, handled_by, timed_handled, handled, plain_handled, probing_handled};
 ghost use Rattle.member.specs.Steps.{Steps};
 ghost use Rattle.member.specs.StateOf.{state_of};
 ghost use Rattle.member.specs.Worn.{IsWorn};
@@ -15,6 +16,7 @@ use crate::event::{Effects, Event};
 use crate::here::Here;
 use crate::member::{Member, Phase};
 use crate::turn::StepError;
+use base::Profile;
 use links::Links;
 use scenario::Scenario;
 use std::alloc::Global;
@@ -119,6 +121,58 @@ impl Member {
         }
     }
 
+    /// A member that runs, by memberlist's rules: what they add, and what they change of its own probe.
+    #[tactic(auto, unfolding(crate::specs::Step::timed_handled))]
+    fn handle_timed(
+        &mut self,
+        turn: &mut Effects,
+        here: &Here,
+        content: &Content,
+    ) -> Result<(), StepError>
+        requires known { KnowsMembers here.now self.old }
+        requires names { MentionsMembers (member_count here.now.scenario.now) content.now }
+        ensures { Makes here.now result self.old turn.old self.new turn.new (timed_handled here.now.scenario.now here.now.key content.now) }
+    {
+        match content {
+            Content::PeriodTimer => self.beat_period(turn, here),
+            Content::TimeoutTimer { seq } => self.time_out_timed(turn, here, *seq),
+            Content::DeadlineTimer { seq } => self.end_deadline(turn, here, *seq),
+            Content::Ack {
+                initiator,
+                seq,
+                updates,
+            } => self.hear_timed_ack(turn, here, *initiator, *seq, updates.as_slice()),
+            Content::Call { seq } => self.send_answer(turn, here, here.key.from, *seq),
+            Content::Answer { seq } => {
+                self.hear_answer(turn, here, *seq);
+                Ok(())
+            }
+            Content::GossipTimer => self.gossip(turn, here),
+            Content::Gossip { updates } => self.apply_all(turn, here, true, updates.as_slice()),
+            Content::PushTimer => self.end_push(turn, here),
+            Content::Push { entries } => self.hear_push(turn, here, entries.as_slice()),
+            Content::Pull { entries } => self.merge(turn, here, entries.as_slice()),
+            _ => self.handle_running(turn, here, content),
+        }
+    }
+
+    /// A member that runs, by the rules of its profile.
+    fn handle_by_profile(
+        &mut self,
+        turn: &mut Effects,
+        here: &Here,
+        content: &Content,
+    ) -> Result<(), StepError>
+        requires known { KnowsMembers here.now self.old }
+        requires names { MentionsMembers (member_count here.now.scenario.now) content.now }
+        ensures { Makes here.now result self.old turn.old self.new turn.new (handled_by Phase.Running (profile_of here.now.scenario.now) here.now.scenario.now here.now.key content.now) }
+    {
+        match here.scenario.profile() {
+            Profile::Papers => self.handle_running(turn, here, content),
+            Profile::Memberlist => self.handle_timed(turn, here, content),
+        }
+    }
+
     /// By the phase of the member.
     #[tactic(auto, unfolding(crate::specs::Step::handled, crate::specs::Step::plain_handled))]
     fn handle(
@@ -129,12 +183,12 @@ impl Member {
     ) -> Result<(), StepError>
         requires known { KnowsMembers here.now self.old }
         requires names { MentionsMembers (member_count here.now.scenario.now) content.now }
-        ensures { Makes here.now result self.old turn.old self.new turn.new (handled here.now.scenario.now here.now.key content.now (state_of self.old).phase) }
+        ensures { Makes here.now result self.old turn.old self.new turn.new (handled_by (state_of self.old).phase (profile_of here.now.scenario.now) here.now.scenario.now here.now.key content.now) }
     {
         match self.phase {
             Phase::Waiting => self.handle_waiting(turn, here, content),
             Phase::Joining => self.handle_joining(turn, here, content),
-            Phase::Running => self.handle_running(turn, here, content),
+            Phase::Running => self.handle_by_profile(turn, here, content),
             Phase::Down => Ok(()),
         }
     }

@@ -1,5 +1,5 @@
 ghost use Rattle.std.specs.Prelude.{◌≡◌, ◌≤◌, ◌^◌, OnOk, IsErrOf};
-ghost use Rattle.member.specs.Makes.{IsMade, KnowsMembers, Makes};
+ghost use Rattle.member.specs.Makes.{IsMade, IsMember, KnowsMembers, Makes};
 ghost use Rattle.member.specs.Turn.{with_row, with_event, with_number, with_timer};
 ghost use Rattle.member.specs.StateOf.{effect_of, state_of};
 ghost use Rattle.member.specs.Worn.{IsWorn};
@@ -107,7 +107,8 @@ impl Member {
         Ok(())
     }
 
-    /// Makes an event. Worn where the member's number stands at its limit.
+    /// Makes an event, for a moment or for the end of a pause of its receiver that covers it. Worn where the
+    /// member's number stands at its limit.
     #[tactic(auto, using(crate::proofs::Worn::worn_event), unfolding(crate::specs::Turn::with_event))]
     pub(crate) fn make_event(
         &mut self,
@@ -117,15 +118,16 @@ impl Member {
         to: MemberId,
         content: Content,
     ) -> Result<(), StepError>
-        requires { KnowsMembers here.now self.old }
-        ensures { Makes here.now result self.old turn.old self.new turn.new (with_event here.now.key at to content) }
+        requires to { IsMember here.now to }
+        requires known { KnowsMembers here.now self.old }
+        ensures { Makes here.now result self.old turn.old self.new turn.new (with_event here.now.scenario.now here.now.key at to content) }
     {
         let number = self.next_number;
         if number >= COUNTER_LIMIT {
             return Err(StepError::Worn);
         }
         let key = Key {
-            at,
+            at: here.scenario.awake(to, at),
             to,
             from: here.key.to,
             number,
@@ -146,7 +148,7 @@ impl Member {
     ) -> Result<(), StepError>
         requires ticks_within { ticks ≤ 2 ^ 41 }
         requires known { KnowsMembers here.now self.old }
-        ensures { Makes here.now result self.old turn.old self.new turn.new (with_timer here.now.key ticks content) }
+        ensures { Makes here.now result self.old turn.old self.new turn.new (with_timer here.now.scenario.now here.now.key ticks content) }
     {
         let at = Moment(here.key.at.ticks() + ticks);
         self.make_event(turn, here, at, here.key.to, content)

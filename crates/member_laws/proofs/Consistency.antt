@@ -1,5 +1,5 @@
 -- What every state keeps.
-use Rattle.member.specs.declared.content.Content.TheVariants.{Start, Crash, Leave, JoinTimer, PeriodTimer, TimeoutTimer, NackTimer, SuspicionTimer, Join, Welcome, Ping, PingReq, Ack, Nack, Bye}
+use Rattle.member.specs.declared.content.Content.TheVariants.{Start, Crash, Leave, JoinTimer, PeriodTimer, TimeoutTimer, NackTimer, SuspicionTimer, Join, Welcome, Ping, PingReq, Ack, Nack, Bye, DeadlineTimer, GossipTimer, PushTimer, Call, Answer, Gossip, Push, Pull}
 use Rattle.std.proofs.lemmas.List.Elements.{All-from_recursion, recursion_from_All}
 use Rattle.std.specs.List.{AllByRecursion}
 use Rattle.member.specs.Here.{MentionsMembers}
@@ -18,9 +18,7 @@ use Rattle.streams.proofs.RangeLemmas.{rest_fits, words_of_fit}
 use Rattle.incarnation.specs.declared.Claim.{Claim}
 use Rattle.incarnation.specs.declared.Claim.TheVariants.{Alive, Suspect, Confirm}
 use Rattle.incarnation.specs.declared.Update.{Update}
-use Rattle.lifeguard.specs.declared.probe.Probe.{Probe}
 use Rattle.lifeguard.specs.Health.{LocalHealth, lowered, raised}
-use Rattle.lifeguard.specs.Probe.{failures_of, after_probe}
 use Rattle.lifeguard.specs.Relays.{relay_cmp}
 use Rattle.lifeguard.proofs.RelaySets.{relays_total}
 use Rattle.probing.specs.ProbeOrder.{ProbeOrder, insert_of, next_of, remove_of, IsSoundOrder as IsSoundOrder}
@@ -29,14 +27,17 @@ use Rattle.suspicion.specs.Settings.{terms_of}
 use Rattle.suspicion.specs.Suspicions.{HeldSuspicion}
 use Rattle.member.specs.declared.content.Content.{Content}
 use Rattle.member.specs.declared.member.Phase.TheVariants.{Waiting}
-use Rattle.member.specs.State.{State}
-use Rattle.membership.specs.Table.{is_suspect, is_confirm, does_override, all_alive}
+use Rattle.member.specs.State.{State, is_probed}
+use Rattle.base.specs.declared.profile.Profile.{Profile}
+use Rattle.base.specs.declared.profile.Profile.TheVariants.{Papers, Memberlist}
+use Rattle.scenario.specs.Profile.{profile_of}
+use Rattle.membership.specs.Table.{is_suspect, is_confirm, all_alive}
 use Rattle.member.specs.Send.{limit_of}
-use Rattle.member.specs.Apply.{with_claim, with_place, placed_unless_known, claim_kept}
+use Rattle.member.specs.Apply.{with_claim, with_place, claim_kept, without_suspicion, death_kept}
 use Rattle.member.specs.Opening.{opening_state, opening_health}
 use Rattle.member.specs.Step.{step, first_others}
 use Rattle.member_laws.specs.Words.{holds, is_live, IsConsistent, IsAmongMembers, SendsOfMembers, ProbesAMember}
-use Rattle.member_laws.proofs.Moves.{is_news, IsNews, Begins, NewsMoves, Moves, at_once, at_late}
+use Rattle.member_laws.proofs.Moves.{IsNews, Begins, NewsMoves, Moves, at_once, at_late}
 use Rattle.member.proofs.Members.{few_members}
 use Rattle.member_laws.proofs.Walk.{on_any_step, NamesOnly}
 use Rattle.member_laws.proofs.Carried.{all_put, all_left}
@@ -51,13 +52,8 @@ pub record IsHealthy (ceiling : ℕ) (h : LocalHealth) : Type 0 where
 pub healthy_raised : (c : ℕ) (h : LocalHealth) (n : ℕ) → IsHealthy c h → IsHealthy c (raised h n)
 healthy_raised c h n is = record { within = omega arith; same = is.same }
 
-healthy_either : (c : ℕ) (b : Bool) (h g : LocalHealth) → IsHealthy c h → IsHealthy c g → IsHealthy c (cond b h g)
-healthy_either c true h g is as' = is
-healthy_either c false h g is as' = as'
-
-pub healthy_weighed : (c : ℕ) (h : LocalHealth) (p : Probe) → IsHealthy c h → IsHealthy c (after_probe h p)
-healthy_weighed c h p is =
-    healthy_either c p.acked (lowered h) (raised h (failures_of p)) (record { within = let low = is.within in omega arith; same = is.same }) (healthy_raised c h (failures_of p) is)
+pub healthy_lowered : (c : ℕ) (h : LocalHealth) → IsHealthy c h → IsHealthy c (lowered h)
+healthy_lowered c h is = record { within = let low = is.within in omega arith; same = is.same }
 
 -- ---- relays
 
@@ -85,11 +81,10 @@ inserted words member order = below_rest words (length order.members + 1)
 next_rest : (words : Words) (order : ProbeOrder) → AreWords words → IsSoundOrder order → IsRestOf words (next_of words order).2
 next_rest words order fit sound = (is_probe words order fit sound).rest
 
--- news of one who is confirmed there are none
-live_news : (new : Claim × ℕ) (held : Claim × ℕ) → does_override new held ≡ true → is_live held.0 ≡ true
-live_news new (Alive, i) h = refl
-live_news new (Suspect, i) h = refl
-live_news new (Confirm, i) h = absurd (false≢true h)
+-- who is probed is held as live
+probed_live : (held : Option (Claim × ℕ)) → is_probed held ≡ option_map_or (λ (held : Claim × ℕ). is_live held.0) held false
+probed_live None = refl
+probed_live (Some held) = refl
 
 live_known : (s : Setup) (m : ℕ) (t : State) (q : ℕ) (b : Bool) → holds is_live t.table q ≡ b → Keeps s m t → 1 ≤ cond b 1 0 → q < member_count s
 live_known s m t q true e h one = (h.others.others q (known_held is_live (get t.table q) e)).0
@@ -105,61 +100,67 @@ module _ (s : Setup) (sound : IsSound s) (k : Key) where
   Named q = q < member_count s
 
   -- the rota and the words after a claim that does not confirm is kept
-  claimed : (t : State) (u : Update) (held : Option (Claim × ℕ)) → get t.table u.subject ≡ held → Named u.subject → is_news (u.claim, u.inc) held ≡ true → is_live u.claim ≡ true
-      → AreWords t.words → ProbesAlike t.table t.rota
+  claimed : (t : State) (u : Update) → Named u.subject → is_live u.claim ≡ true → AreWords t.words → ProbesAlike t.table t.rota
       → (P : State → Type 0) → (AreWords t.words → ProbesAlike (insert t.table u.subject (u.claim, u.inc)) t.rota → P (with_claim u t))
       → (AreWords (insert_of t.words u.subject t.rota).1 → ProbesAlike (insert t.table u.subject (u.claim, u.inc)) (insert_of t.words u.subject t.rota).0 → P (with_place u.subject (with_claim u t)))
       → P (claim_kept u t)
   unfolding claim_kept
-  claimed t u None none named news live fit probes P plain place =
-      rw (none, not_confirm u.claim live) (place (rest_fits t.words (insert_of t.words u.subject t.rota).1 fit (inserted t.words u.subject t.rota)) (placed t.table t.rota t.words u.subject (u.claim, u.inc) fit (let few = few_members s sound in omega arith) none live probes))
+  claimed t u named live fit probes P plain place = by_claim (is_confirm u.claim) (not_confirm u.claim live)
     where
       not_confirm : (c : Claim) → is_live c ≡ true → is_confirm c ≡ false
       not_confirm Alive h = refl
       not_confirm Suspect h = refl
       not_confirm Confirm h = absurd (false≢true h)
-  claimed t u (Some held) here named news live fit probes P plain place =
-      rw here (plain fit (stays_probed t.table t.rota u.subject (u.claim, u.inc) (ap (λ o. option_map_or (λ (held : Claim × ℕ). is_live held.0) o false) here ∙ live_news (u.claim, u.inc) held news) live probes))
 
-  claimed_confirm : (t : State) (u : Update) (P : State → Type 0) → u.claim ≡ Confirm → P (with_claim u t) → P (claim_kept u t)
+      by_turn : (b : Bool) → is_probed (get t.table u.subject) ≡ b → P (cond b (with_claim u t) (with_place u.subject (with_claim u t)))
+      by_turn true was = plain fit (stays_probed t.table t.rota u.subject (u.claim, u.inc) (sym (probed_live (get t.table u.subject)) ∙ was) live probes)
+      by_turn false was =
+          place (rest_fits t.words (insert_of t.words u.subject t.rota).1 fit (inserted t.words u.subject t.rota))
+          (placed t.table t.rota t.words u.subject (u.claim, u.inc) fit (let few = few_members s sound in omega arith) (sym (probed_live (get t.table u.subject)) ∙ was) live probes)
+
+      by_claim : (b : Bool) → b ≡ false → P (cond b (record (with_claim u t) { rota = remove_of u.subject t.rota }) (cond (is_probed (get t.table u.subject)) (with_claim u t) (with_place u.subject (with_claim u t))))
+      by_claim true is = absurd (false≢true (sym is))
+      by_claim false is = by_turn (is_probed (get t.table u.subject)) refl
+
+  claimed_confirm : (t : State) (u : Update) (P : State → Type 0) → u.claim ≡ Confirm → P (record (with_claim u t) { rota = remove_of u.subject t.rota }) → P (claim_kept u t)
   unfolding claim_kept
-  claimed_confirm t u P e plain = either (get t.table u.subject)
+  claimed_confirm t u P e out = by_claim (is_confirm u.claim) (ap is_confirm e)
     where
-      of_claim : (b : Bool) → b ≡ true → P (cond b (with_claim u t) (with_place u.subject (with_claim u t)))
-      of_claim true is = plain
-      of_claim false is = absurd (false≢true is)
+      by_claim : (b : Bool) → b ≡ true → P (cond b (record (with_claim u t) { rota = remove_of u.subject t.rota }) (cond (is_probed (get t.table u.subject)) (with_claim u t) (with_place u.subject (with_claim u t))))
+      by_claim true is = out
+      by_claim false is = absurd (false≢true is)
 
-      either : (held : Option (Claim × ℕ)) → P (placed_unless_known held u (with_claim u t))
-      either None = of_claim (is_confirm u.claim) (ap is_confirm e)
-      either (Some held) = plain
-
-  put_others : (t : State) (u : Update) → Named u.subject → IsNews k.to t u → Keeps s k.to t → HoldsOthers (member_count s) k.to (insert t.table u.subject (u.claim, u.inc))
+  put_others : (t : State) (u : Update) → Named u.subject → IsNews (profile_of s) k.to t u → Keeps s k.to t → HoldsOthers (member_count s) k.to (insert t.table u.subject (u.claim, u.inc))
   put_others t u named says h = others_put (member_count s) k.to t.table u.subject (u.claim, u.inc) named says.other h.others
 
+  with_death : (profile : Profile) (subject now : ℕ) (t : State) → Keeps s k.to t → Keeps s k.to (death_kept profile subject now t)
+  with_death Papers subject now t h = h
+  with_death Memberlist subject now t h = record { up = h.up; others = h.others; suspects = h.suspects; probes = h.probes; health = h.health; relays = h.relays; words = h.words; buffer = h.buffer; target = h.target }
+
   -- with the rest of the words and of the rota
-  put_alive : (t : State) (u : Update) → Named u.subject → IsNews k.to t u → u.claim ≡ Alive → Keeps s k.to t
+  put_alive : (t : State) (u : Update) → Named u.subject → IsNews (profile_of s) k.to t u → u.claim ≡ Alive → Keeps s k.to t
       → Keeps s k.to (record (claim_kept u t) { suspicions = remove (claim_kept u t).suspicions u.subject })
   put_alive t u named says e h =
       let suspects = cleared t.table t.suspicions (terms_of s) u.subject (u.claim, u.inc) (ap is_suspect e) h.suspects in
-      claimed t u (get t.table u.subject) refl named says.news (ap is_live e) h.words h.probes
+      claimed t u named (ap is_live e) h.words h.probes
       (λ v. Keeps s k.to (record v { suspicions = remove v.suspicions u.subject }))
       (λ fit probes. record { up = h.up; others = put_others t u named says h; suspects = suspects; probes = probes; health = h.health; relays = h.relays; words = fit; buffer = h.buffer; target = h.target })
       (λ fit probes. record { up = h.up; others = put_others t u named says h; suspects = suspects; probes = probes; health = h.health; relays = h.relays; words = fit; buffer = h.buffer; target = h.target })
 
-  put_suspect : (t : State) (u : Update) (x : HeldSuspicion) → Named u.subject → IsNews k.to t u → u.claim ≡ Suspect → Begins s k (claim_kept u t) x → Keeps s k.to t
+  put_suspect : (t : State) (u : Update) (x : HeldSuspicion) → Named u.subject → IsNews (profile_of s) k.to t u → u.claim ≡ Suspect → Begins s k (claim_kept u t) x → Keeps s k.to t
       → Keeps s k.to (record (claim_kept u t) { suspicions = insert (claim_kept u t).suspicions u.subject x })
   put_suspect t u x named says e begins h =
       let suspects = suspected t.table t.suspicions (terms_of s) u.subject (u.claim, u.inc) x (ap is_suspect e) begins.terms h.suspects in
-      claimed t u (get t.table u.subject) refl named says.news (ap is_live e) h.words h.probes
+      claimed t u named (ap is_live e) h.words h.probes
       (λ v. Keeps s k.to (record v { suspicions = insert v.suspicions u.subject x }))
       (λ fit probes. record { up = h.up; others = put_others t u named says h; suspects = suspects; probes = probes; health = h.health; relays = h.relays; words = fit; buffer = h.buffer; target = h.target })
       (λ fit probes. record { up = h.up; others = put_others t u named says h; suspects = suspects; probes = probes; health = h.health; relays = h.relays; words = fit; buffer = h.buffer; target = h.target })
 
-  put_confirm : (t : State) (u : Update) → Named u.subject → IsNews k.to t u → u.claim ≡ Confirm → Keeps s k.to t
-      → Keeps s k.to (record (claim_kept u t) { suspicions = remove (claim_kept u t).suspicions u.subject; rota = remove_of u.subject (claim_kept u t).rota })
+  put_confirm : (t : State) (u : Update) → Named u.subject → IsNews (profile_of s) k.to t u → u.claim ≡ Confirm → Keeps s k.to t
+      → Keeps s k.to (death_kept (profile_of s) u.subject k.at (without_suspicion u.subject (claim_kept u t)))
   put_confirm t u named says e h =
-      claimed_confirm t u (λ v. Keeps s k.to (record v { suspicions = remove v.suspicions u.subject; rota = remove_of u.subject v.rota })) e
-      (record {
+      claimed_confirm t u (λ v. Keeps s k.to (death_kept (profile_of s) u.subject k.at (without_suspicion u.subject v))) e
+      (with_death (profile_of s) u.subject k.at (without_suspicion u.subject (record (with_claim u t) { rota = remove_of u.subject t.rota })) (record {
         up = h.up;
         others = put_others t u named says h;
         suspects = cleared t.table t.suspicions (terms_of s) u.subject (u.claim, u.inc) (ap is_suspect e) h.suspects;
@@ -169,7 +170,7 @@ module _ (s : Setup) (sound : IsSound s) (k : Key) where
         words = h.words;
         buffer = h.buffer;
         target = h.target;
-      })
+      }))
 
   pub news : NewsMoves s k Named (Keeps s k.to)
   news = record {
@@ -189,6 +190,7 @@ module _ (s : Setup) (sound : IsSound s) (k : Key) where
       buffer = h.buffer;
       target = h.target;
     };
+    gossiping = λ t set h. record { up = h.up; others = h.others; suspects = h.suspects; probes = h.probes; health = h.health; relays = h.relays; words = h.words; buffer = h.buffer; target = h.target };
   }
 
   with_health : (t : State) (h : LocalHealth) → IsHealthy (opening_health s).ceiling h → Keeps s k.to t → Keeps s k.to (record t { health = h })
@@ -237,9 +239,11 @@ module _ (s : Setup) (sound : IsSound s) (k : Key) where
       target = h.target;
     };
     heard_dead = λ t h. record { up = h.up; others = h.others; suspects = h.suspects; probes = h.probes; health = h.health; relays = h.relays; words = h.words; buffer = h.buffer; target = h.target };
-    refuted = λ t h. record { up = h.up; others = h.others; suspects = h.suspects; probes = h.probes; health = h.health; relays = h.relays; words = h.words; buffer = h.buffer; target = h.target };
-    weakened = λ t h. with_health t _ (healthy_raised (opening_health s).ceiling t.health 1 h.health) h;
-    weighed = λ t probe h. with_health t _ (healthy_weighed (opening_health s).ceiling t.health probe h.health) h;
+    waiting = λ t waits h. record { up = h.up; others = h.others; suspects = h.suspects; probes = h.probes; health = h.health; relays = h.relays; words = h.words; buffer = h.buffer; target = h.target };
+    beaten = λ t beat h. record { up = h.up; others = h.others; suspects = h.suspects; probes = h.probes; health = h.health; relays = h.relays; words = h.words; buffer = h.buffer; target = h.target };
+    refuted = λ t claim number refutes h. record { up = h.up; others = h.others; suspects = h.suspects; probes = h.probes; health = h.health; relays = h.relays; words = h.words; buffer = h.buffer; target = h.target };
+    weakened = λ t failures h. with_health t _ (healthy_raised (opening_health s).ceiling t.health failures h.health) h;
+    mended = λ t h. with_health t _ (healthy_lowered (opening_health s).ceiling t.health h.health) h;
     welcomed = λ t h. record {
       up = λ is. absurd (let e = is in cc);
       others = h.others;
@@ -364,6 +368,14 @@ names_only n (Ack initiator seq updates) h = (h.0, all_named n updates h.1)
 names_only n (Nack seq) h = tt
 names_only n Leave h = tt
 names_only n Bye h = tt
+names_only n (DeadlineTimer seq) h = tt
+names_only n GossipTimer h = tt
+names_only n PushTimer h = tt
+names_only n (Call seq) h = tt
+names_only n (Answer seq) h = tt
+names_only n (Gossip updates) h = all_named n updates h
+names_only n (Push entries) h = all_named n entries h
+names_only n (Pull entries) h = all_named n entries h
 
 pub names_members : (n : ℕ) (c : Content) → NamesOnly (λ q. q < n) (Unit {0}) c → MentionsMembers n c
 names_members n Start h = tt
@@ -381,6 +393,14 @@ names_members n (Ack initiator seq updates) h = (h.0, All-from_recursion (λ (u 
 names_members n (Nack seq) h = tt
 names_members n Leave h = tt
 names_members n Bye h = tt
+names_members n (DeadlineTimer seq) h = tt
+names_members n GossipTimer h = tt
+names_members n PushTimer h = tt
+names_members n (Call seq) h = tt
+names_members n (Answer seq) h = tt
+names_members n (Gossip updates) h = All-from_recursion (λ (u : Update). u.subject < n) updates h
+names_members n (Push entries) h = All-from_recursion (λ (u : Update). u.subject < n) entries h
+names_members n (Pull entries) h = All-from_recursion (λ (u : Update). u.subject < n) entries h
 
 pub step_consistent : (s : Setup) (k : Key) (c : Content) (t : State) → IsSound s → IsAmongMembers s k c → IsConsistent s k.to t → IsConsistent s k.to (step s k c t).state
 step_consistent s k c t sound among h =

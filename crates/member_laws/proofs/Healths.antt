@@ -1,10 +1,8 @@
 -- Health, and members that wait, whatever the state.
-use Rattle.std.proofs.Common.{◌≡◌, ℕ, Bool, true, false, cond, refl, ◌∙◌, arith}
+use Rattle.std.proofs.Common.{◌≡◌, ℕ, refl, arith}
 use Rattle.base.specs.declared.key.Key.{Key}
 use Rattle.scenario.specs.Setup.{Setup}
-use Rattle.lifeguard.specs.declared.probe.Probe.{Probe}
 use Rattle.lifeguard.specs.Health.{LocalHealth, lowered, raised}
-use Rattle.lifeguard.specs.Probe.{failures_of, after_probe}
 use Rattle.member.specs.declared.content.Content.{Content}
 use Rattle.membership.specs.Table.{Known}
 use Rattle.member.specs.declared.member.Phase.{Phase}
@@ -18,7 +16,7 @@ use Rattle.member_laws.proofs.Walk.{on_step, on_any_step, anyone_named}
 
 -- ---- facts of health alone
 
-module _ (s : Setup) (k : Key) (P : LocalHealth → Type 0) (weakens : (h : LocalHealth) → P h → P (raised h 1)) (weighs : (h : LocalHealth) (p : Probe) → P h → P (after_probe h p)) where
+module _ (s : Setup) (k : Key) (P : LocalHealth → Type 0) (weakens : (h : LocalHealth) (failures : ℕ) → P h → P (raised h failures)) (mends : (h : LocalHealth) → P h → P (lowered h)) where
   abbrev Healthy : Phase → ℕ → LocalHealth → Known → Type 0
   Healthy phase number health table = P health
 
@@ -28,29 +26,21 @@ module _ (s : Setup) (k : Key) (P : LocalHealth → Type 0) (weakens : (h : Loca
     where
       changes : OwnMoves s k (FactOf Healthy)
       changes = record {
-        refuted = λ t h. h;
-        weakened = λ t h. weakens t.health h;
-        weighed = λ t probe h. weighs t.health probe h;
+        refuted = λ t claim number refutes h. h;
+        weakened = λ t failures h. weakens t.health failures h;
+        mended = λ t h. mends t.health h;
         welcomed = λ t h. h;
         downed = λ t h. h;
         began = λ t waits h. h;
         late = λ t waits h. h;
       }
 
-within_either : (b : Bool) (h : LocalHealth) (n : ℕ) → IsWithinCeiling h → IsWithinCeiling (cond b (lowered h) (raised h n))
-within_either true h n is = omega arith
-within_either false h n is = omega arith
-
-ceiling_either : (b : Bool) (h : LocalHealth) (n : ℕ) → (cond b (lowered h) (raised h n)).ceiling ≡ h.ceiling
-ceiling_either true h n = refl
-ceiling_either false h n = refl
-
 pub within_step : (s : Setup) (k : Key) (c : Content) (t : State) → IsWithinCeiling t.health → IsWithinCeiling (step s k c t).state.health
-within_step s k = health_step s k IsWithinCeiling (λ h is. omega arith) (λ h p is. within_either p.acked h (failures_of p) is)
+within_step s k = health_step s k IsWithinCeiling (λ h n is. omega arith) (λ h is. omega arith)
 
 pub ceiling_step : (s : Setup) (k : Key) (c : Content) (t : State) → (step s k c t).state.health.ceiling ≡ t.health.ceiling
 ceiling_step s k c t =
-    health_step s k (λ h. h.ceiling ≡ t.health.ceiling) (λ h is. is) (λ h p is. ceiling_either p.acked h (failures_of p) ∙ is) c t refl
+    health_step s k (λ h. h.ceiling ≡ t.health.ceiling) (λ h n is. is) (λ h is. is) c t refl
 
 pub within_opening : (s : Setup) (m : ℕ) → IsWithinCeiling (opening_state s m).health
 unfolding opening_state
@@ -63,9 +53,9 @@ Up phase number health table = ¬ (phase ≡ Waiting)
 
 up_moves : (s : Setup) (k : Key) → OwnMoves s k (FactOf Up)
 up_moves s k = record {
-  refuted = λ t h. h;
-  weakened = λ t h. h;
-  weighed = λ t probe h. h;
+  refuted = λ t claim number refutes h. h;
+  weakened = λ t failures h. h;
+  mended = λ t h. h;
   welcomed = λ t h is. absurd (let e = is in cc);
   downed = λ t h is. absurd (let e = is in cc);
   began = λ t waits h. absurd (h waits);

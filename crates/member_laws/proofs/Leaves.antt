@@ -13,14 +13,17 @@ use Rattle.trace.specs.declared.row.Row.{Row}
 use Rattle.trace.specs.declared.row.What.{What}
 use Rattle.trace.specs.declared.row.What.TheVariants as what
 use Rattle.lifeguard.specs.Health.{LocalHealth}
+use Rattle.base.specs.declared.profile.Profile.TheVariants.{Papers}
+use Rattle.scenario.specs.Profile.{profile_of}
 use Rattle.member.specs.declared.member.Phase.{Phase}
+use Rattle.member.specs.declared.member.Phase.TheVariants.{Waiting, Joining, Running, Down}
 use Rattle.member.specs.declared.content.Content.{Content}
 use Rattle.member.specs.declared.content.Content.TheVariants.{Crash, Leave, Bye}
 use Rattle.membership.specs.Table.{Known}
 use Rattle.member.specs.State.{State}
 use Rattle.member.specs.Turn.{Effect, unchanged, with_row, with_event}
 use Rattle.member.specs.Opening.{opening, numbers, ending_event, script_of}
-use Rattle.member.specs.Step.{plain_handled, handled, plain_step, step}
+use Rattle.member.specs.Step.{plain_handled, handled, handled_by, plain_step, step}
 use Rattle.member_laws.specs.Runs.{Cluster, IsRunOf, IsPlainRunOf, IsReached}
 use Rattle.member_laws.proofs.Moves.{NewsMoves, OwnMoves, FactOf, keeps_news, keeps_moves, Anyone}
 use Rattle.member_laws.proofs.Walk.{NamesOnly}
@@ -47,9 +50,16 @@ same_handled s k Leave phase o no_leave no_bye = absurd (no_leave refl)
 same_handled s k Bye phase o no_leave no_bye = absurd (no_bye refl)
 same_handled s k c phase o no_leave no_bye = refl
 
-pub same_step : (s : Setup) (k : Key) (c : Content) (t : State) → c ≢ Leave → c ≢ Bye → step s k c t ≡ plain_step s k c t
+by_papers : (phase : Phase) (s : Setup) (k : Key) (c : Content) (o : Effect) → handled_by phase Papers s k c o ≡ handled s k c phase o
+by_papers Waiting s k c o = refl
+by_papers Joining s k c o = refl
+by_papers Running s k c o = refl
+by_papers Down s k c o = refl
+
+pub same_step : (s : Setup) → profile_of s ≡ Papers → (k : Key) (c : Content) (t : State) → c ≢ Leave → c ≢ Bye → step s k c t ≡ plain_step s k c t
 unfolding step plain_step
-same_step s k c t no_leave no_bye = same_handled s k c t.phase (unchanged t) no_leave no_bye
+same_step s papers k c t no_leave no_bye =
+    ap (λ profile. handled_by t.phase profile s k c (unchanged t)) papers ∙ by_papers t.phase s k c (unchanged t) ∙ same_handled s k c t.phase (unchanged t) no_leave no_bye
 
 -- nothing has to be known of the state
 abbrev Whatever : Phase → ℕ → LocalHealth → Known → Type 0
@@ -87,16 +97,16 @@ module _ (s : Setup) (k : Key) where
 
   own_moves : OwnMoves s k (FactOf Whatever)
   own_moves = record {
-    refuted = λ t h. tt;
-    weakened = λ t h. tt;
-    weighed = λ t probe h. tt;
+    refuted = λ t claim number refutes h. tt;
+    weakened = λ t failures h. tt;
+    mended = λ t h. tt;
     welcomed = λ t h. tt;
     downed = λ t h. tt;
     began = λ t waits h. tt;
     late = λ t waits h. tt;
   }
 
-  makes : Makes k Anyone ⊥ AnyRow AnyTime AllStay
+  makes : Makes s k Anyone ⊥ AnyRow AnyTime AllStay
   unfolding with_row with_event
   makes = record {
     row = λ tells about value lost o told named h. h;
@@ -111,7 +121,7 @@ module _ (s : Setup) (k : Key) where
       by_step s k Anyone (FactOf Whatever) news (keeps_moves s k Whatever own_moves) ⊥ AnyRow (any_row (FactOf Whatever) ⊥) (carries_anyone s k (FactOf Whatever))
       AnyTime (any_time s k (FactOf Whatever)) AllStay makes c t tt stays (λ _. tt) (λ _. tt) (λ _. tt) tt
 
-  tells : Makes k Anyone ⊥ TellsOfNone AnyTime AllTellOfNone
+  tells : Makes s k Anyone ⊥ TellsOfNone AnyTime AllTellOfNone
   unfolding with_row with_event
   tells = record {
     row = λ tells about value lost o told named h. all_append (λ row. TellsOfNone row.what) o.rows _ h (told, tt);
@@ -182,20 +192,20 @@ all_rows [] h = tt
 all_rows (row ∷ rows) h = ((no_leave row.what h.0, no_bye row.what h.0), all_rows rows h.1)
 
 module _ (s : Setup) (none : s.leaves ≡ []) where
-  alike : (k : Key) (c : Content) (t : State) → Stays c → step s k c t ≡ plain_step s k c t
-  alike k c t stays = same_step s k c t (stays_no_leave c stays) (stays_no_bye c stays)
+  alike : profile_of s ≡ Papers → (k : Key) (c : Content) (t : State) → Stays c → step s k c t ≡ plain_step s k c t
+  alike papers k c t stays = same_step s papers k c t (stays_no_leave c stays) (stays_no_bye c stays)
 
   keeps : (k : Key) (c : Content) (t : State) → k.at ≤ s.end → StaysAt k c → AnyState k.to t → AnyState k.to (step s k c t).state × AllByRecursion (λ e. StaysAt e.0 e.1) (step s k c t).events
   keeps k c t in_time stays any = (tt, stays_step s k c t stays)
 
-  plain_keeps : (k : Key) (c : Content) (t : State) → k.at ≤ s.end → StaysAt k c → AnyState k.to t → AnyState k.to (plain_step s k c t).state × AllByRecursion (λ e. StaysAt e.0 e.1) (plain_step s k c t).events
-  plain_keeps k c t in_time stays any = (tt, subst (λ (o : Effect). AllByRecursion (λ e. StaysAt e.0 e.1) o.events) (alike k c t stays) (stays_step s k c t stays))
+  plain_keeps : profile_of s ≡ Papers → (k : Key) (c : Content) (t : State) → k.at ≤ s.end → StaysAt k c → AnyState k.to t → AnyState k.to (plain_step s k c t).state × AllByRecursion (λ e. StaysAt e.0 e.1) (plain_step s k c t).events
+  plain_keeps papers k c t in_time stays any = (tt, subst (λ (o : Effect). AllByRecursion (λ e. StaysAt e.0 e.1) o.events) (alike papers k c t stays) (stays_step s k c t stays))
 
   opened : IsKept (step s) AnyState StaysAt s.end keeps (opening s)
   opened = record { members = λ m t here. tt; events = all_with_events StaysAt (flat_map (script_of s) (numbers s)) empty (none_pending StaysAt) (scripts_stay s none (numbers s)) }
 
-  plain_opened : IsKept (plain_step s) AnyState StaysAt s.end plain_keeps (opening s)
-  plain_opened = record { members = λ m t here. tt; events = opened.events }
+  plain_opened : (papers : profile_of s ≡ Papers) → IsKept (plain_step s) AnyState StaysAt s.end (plain_keeps papers) (opening s)
+  plain_opened papers = record { members = λ m t here. tt; events = opened.events }
 
   pub no_leaves : (w : Cluster) (k : Key) (c : Content) → IsReached s w → get w.pending k ≡ Some c → (c ≢ Leave) × (c ≢ Bye)
   no_leaves w k c reached here =
@@ -208,15 +218,15 @@ module _ (s : Setup) (none : s.leaves ≡ []) where
       (run_rows (step s) AnyState StaysAt s.end keeps (λ (row : Row). (row.what ≢ what.Leave) × (row.what ≢ what.Bye))
       (λ k c t stays any. all_rows (step s k c t).rows (tells_step s k c t stays)) keys (opening s) run.last rows run.run opened)
 
-  pub to_plain : (rows : List Row) → IsRunOf s rows → IsPlainRunOf s rows
-  to_plain rows (keys, run) = (keys, record { last = run.last; run = run_alike (step s) (plain_step s) s.end alike keeps keys (opening s) run.last rows opened run.run; over = run.over })
+  pub to_plain : profile_of s ≡ Papers → (rows : List Row) → IsRunOf s rows → IsPlainRunOf s rows
+  to_plain papers rows (keys, run) = (keys, record { last = run.last; run = run_alike (step s) (plain_step s) s.end (alike papers) keeps keys (opening s) run.last rows opened run.run; over = run.over })
 
-  pub from_plain : (rows : List Row) → IsPlainRunOf s rows → IsRunOf s rows
-  from_plain rows (keys, run) = (
+  pub from_plain : profile_of s ≡ Papers → (rows : List Row) → IsPlainRunOf s rows → IsRunOf s rows
+  from_plain papers rows (keys, run) = (
     keys,
     record {
       last = run.last;
-      run = run_alike (plain_step s) (step s) s.end (λ k c t stays. sym (alike k c t stays)) plain_keeps keys (opening s) run.last rows plain_opened run.run;
+      run = run_alike (plain_step s) (step s) s.end (λ k c t stays. sym (alike papers k c t stays)) (plain_keeps papers) keys (opening s) run.last rows (plain_opened papers) run.run;
       over = run.over;
     },
   )

@@ -1,8 +1,10 @@
 pub mod Moves
+pub mod Rests
 pub mod Walk
 pub mod Silence
 pub mod Numbers
 pub mod Confirms
+pub mod Revivals
 pub mod Tables
 pub mod Consistency
 pub mod Healths
@@ -10,6 +12,8 @@ pub mod Made
 pub mod Switches
 pub mod Runs
 pub mod Carried
+pub mod Sampled
+pub mod Trips
 pub mod Reached
 pub mod Moments
 pub mod Opened

@@ -1,8 +1,8 @@
 -- The events and rows of which each step makes its own: what each of them keeps of an effect, every step keeps.
 use Rattle.std.specs.List.{AllByRecursion}
-use Rattle.streams.proofs.PlaceLemmas.{shuffle_rest}
-use Rattle.std.proofs.Common.{◌≡◌, ℕ, ◌+◌, Bool, true, false, cond, not, max, nat_eq, nat_lt, ◌&&◌, List, [], ◌∷◌, length, Option, Some, None, option_map, refl}
-use Rattle.std.specs.Option.{is_none, IfSome}
+use Rattle.streams.proofs.PlaceLemmas.{shuffle_rest, below_rest}
+use Rattle.std.proofs.Common.{◌≡◌, ℕ, ◌+◌, Bool, true, false, cond, not, max, nat_eq, nat_lt, ◌-◌, ◌&&◌, List, [], ◌∷◌, map, length, Option, Some, None, option_map, refl, ◌∙◌}
+use Rattle.std.specs.Option.{is_none, option_map_or, IfSome}
 use Rattle.std.specs.FinMap.{get, insert}
 use Rattle.std.specs.FinSet as set
 use Rattle.std.proofs.lemmas.Bool.{eqb-false}
@@ -12,29 +12,40 @@ use Rattle.trace.specs.declared.row.What.{What}
 use Rattle.trace.specs.declared.row.What.TheVariants as what
 use Rattle.streams.specs.Draw.{Words, below_of, IsRestOf}
 use Rattle.links.specs.Arrival.{arrival_of}
+use Rattle.links.specs.Trips.{call_of, answer_of, kept_arrival_of}
 use Rattle.incarnation.specs.declared.Claim.{Claim}
 use Rattle.incarnation.specs.declared.Claim.TheVariants.{Alive, Suspect, Confirm}
 use Rattle.incarnation.specs.declared.Update.{Update}
 use Rattle.lifeguard.specs.declared.probe.Probe.{Probe}
-use Rattle.lifeguard.specs.Health.{LocalHealth, raised, scaled}
-use Rattle.lifeguard.specs.Probe.{after_probe, fresh_probe}
+use Rattle.lifeguard.specs.Health.{LocalHealth, lowered, raised, scaled}
+use Rattle.lifeguard.specs.Probe.{failures_of, misses_of, after_probe, after_deadline, fresh_probe, timed_probe}
 use Rattle.lifeguard.specs.NackDelay.{nack_delay_of}
 use Rattle.probing.specs.ProbeOrder.{next_of, helpers_of}
 use Rattle.suspicion.specs.Settings.{terms_of}
-use Rattle.suspicion.specs.Suspicions.{HeldSuspicion, accused_of, answer_of, due_of, is_due}
+use Rattle.suspicion.specs.Suspicions.{HeldSuspicion, accused_of, answer_of as answer_to, due_of, is_due}
 use Rattle.suspicion.specs.Times.{timeout}
 use Rattle.member.specs.declared.member.Phase.{Phase}
 use Rattle.member.specs.declared.member.Phase.TheVariants.{Waiting, Joining, Running, Down}
 use Rattle.member.specs.declared.content.Content.{Content}
-use Rattle.member.specs.declared.content.Content.TheVariants.{Start, Crash, Leave, JoinTimer, PeriodTimer, TimeoutTimer, NackTimer, SuspicionTimer, Join, Welcome, Ping, PingReq, Ack, Nack, Bye}
+use Rattle.member.specs.declared.content.Content.TheVariants.{Start, Crash, Leave, JoinTimer, PeriodTimer, TimeoutTimer, NackTimer, SuspicionTimer, Join, Welcome, Ping, PingReq, Ack, Nack, Bye, DeadlineTimer, GossipTimer, PushTimer, Call, Answer, Gossip, Push, Pull}
 use Rattle.member.specs.State.{State}
+use Rattle.base.specs.Beats.{next_in_step}
+use Rattle.base.specs.declared.profile.Profile.{Profile}
+use Rattle.base.specs.declared.profile.Profile.TheVariants.{Papers, Memberlist}
+use Rattle.scenario.specs.Profile.{profile_of}
+use Rattle.scenario.specs.declared.settings.Gossip as settings
+use Rattle.incarnation.specs.Refutations.{does_refute}
+use Rattle.membership.specs.declared.candidates.Fitting.{Fitting}
+use Rattle.membership.specs.declared.candidates.Fitting.TheVariants.{AliveBut, Reachable}
+use Rattle.probing.specs.Samples.{sample_of}
 use Rattle.membership.specs.Table.{is_confirm, does_override, live_count, alive_but}
-use Rattle.member.specs.Send.{whole_table, carried, sent_off, sent, sent_to_each, with_picks, buddy_of, ping_sent, ping_req_sent, ack_sent, nack_sent, join_sent_to, join_sent, welcome_sent, bye_sent}
+use Rattle.member.specs.Send.{whole_table, carried, sent_off, posted, sent, gossip_sent, call_sent, answer_sent, push_sent, pull_sent, sent_to_each, with_picks, buddy_of, ping_sent, ping_req_sent, ack_sent, nack_sent, join_sent_to, join_sent, welcome_sent, bye_sent}
 use Rattle.member.specs.Turn.{Effect, unchanged, on_state, with_row, with_number, with_event, with_timer}
-use Rattle.member.specs.Apply.{with_put, with_health, with_told, passed_on, own_claim, refuted, heard_dead, own_applied, suspicion_begun, claim_kept, alive_heard, suspect_heard, confirm_heard, claim_heard, news_heard, accusation_counted, accusation_heard, is_repeated, other_applied, applied, all_applied}
-use Rattle.member.specs.Step.{about_others, first_period_set, began, join_asked, joining_begun, started, crashed, join_handled, joined, suspected, probe_failed, probe_ended, probe_begun, target_probed, next_probed, period_begun, with_expected, help_asked, timed_out, nack_heard, answered, ping_heard, with_relay, ping_req_heard, ack_taken, ack_heard, nack_due, confirmed, suspicion_over, withdrawn, byes_said, departed, plain_handled, handled, step}
-use Rattle.member_laws.proofs.Moves.{IsNews, NewsMoves, Moves, at_once, at_late, kept_either}
-use Rattle.member_laws.proofs.Walk.{AllNamed, on_row, on_health, on_applied, on_all, on_ended, on_next, on_ping, on_ping_req, on_bye, NamesOnly, one_target}
+use Rattle.member.specs.Apply.{gossip_set, with_put, with_health, with_told, passed_on, own_claim, refuted, heard_dead, is_own_death, own_applied, suspicion_begun, claim_kept, without_suspicion, alive_heard, suspect_heard, death_kept, confirm_heard, claim_heard, news_heard, accusation_counted, accusation_heard, is_repeated, is_heeded, other_applied, applied, all_applied}
+use Rattle.member.specs.Step.{push_begun, first_push_set, push_period, suspected_at, timed_probe_failed, probe_settled, timed_probe_begun, timed_target_probed, next_timed_probed, waiting_probed, has_time, probed_in_turn, period_beaten, is_under_way, deadline_over, timed_answered, timed_ack_heard, candidates_for, sampled_help, helped, called, timed_out_timed, answer_heard, is_told_out, gossip_spread, gossip_round, gossip_due, merged_claim, merged, pushed, push_due, push_heard, timed_handled, handled_by, about_others, first_period_set, began, join_asked, joining_begun, started, crashed, join_handled, joined, suspected, probe_failed, probe_ended, probe_begun, target_probed, next_probed, period_begun, with_expected, help_asked, timed_out, nack_heard, answered, ping_heard, with_relay, ping_req_heard, ack_taken, ack_heard, nack_due, confirmed, suspicion_over, withdrawn, byes_said, departed, plain_handled, handled, step}
+use Rattle.member_laws.proofs.Moves.{IsNews, NewsMoves, Moves, at_once, at_late, kept_either, death_either}
+use Rattle.member_laws.proofs.Rests.{sample_rest}
+use Rattle.member_laws.proofs.Walk.{AllNamed, on_row, on_health, on_applied, on_all, on_ended, on_next, on_ping, on_ping_req, on_bye, on_gossip, on_push_sent, on_pull, on_event, on_timer, on_weighed, on_settled, on_helped, merged_named, no_target, NamesOnly, one_target}
 
 -- ---- the parts
 
@@ -60,15 +71,24 @@ pub record Carries (s : Setup) (k : Key) (Named : ℕ → Type 0) (R : State →
   pub ping : (t : State) (to : ℕ) → R t → AllNamed Named (carried s (buddy_of s to t) t)
   pub contact : (c : ℕ) → contact_of s k.to ≡ Some c → Named c
   pub helpers : (t : State) (but count : ℕ) → R t → AllByRecursion Named (helpers_of t.words count (alive_but but t.table)).0
+  pub sample : (t : State) (fitting : Fitting) (count : ℕ) → R t → AllByRecursion Named (sample_of t.words count (candidates_for k fitting t)).0
   pub whole : (t : State) → R t → AllNamed Named (whole_table k.to t.incarnation t.table)
 
 -- when the events come that are made in such states
 pub record Times (s : Setup) (k : Key) (Timed : ℕ → Type 0) (R : State → Type 0) : Type 0 where
   pub arrival : (t : State) (to at : ℕ) → R t → (arrival_of s k.to to k.at t.words).0 ≡ Some at → Timed at
+  pub call : (t : State) (to at : ℕ) → R t → (call_of s k.to to k.at t.words).0 ≡ Some at → Timed at
+  pub answer : (t : State) (to at : ℕ) → R t → (answer_of s k.to to k.at t.words).0 ≡ Some at → Timed at
+  pub stream : (t : State) (to at : ℕ) → R t → (kept_arrival_of s k.to to k.at t.words).0 ≡ Some at → Timed at
   pub join_timer : Timed (k.at + s.swim.period)
   pub first_period : (t : State) → R t → Timed (k.at + (1 + (below_of t.words s.swim.spread).0))
   pub period_timer : (t : State) → R t → Timed (k.at + scaled t.health s.swim.period)
   pub timeout_timer : (t : State) → R t → Timed (k.at + scaled t.health s.swim.timeout)
+  pub plain_timeout : Timed (k.at + s.swim.timeout)
+  pub beat : (beat : ℕ) → Timed (next_in_step beat s.swim.period k.at)
+  pub gossip_timer : (gossip : settings.Gossip) → s.gossip ≡ Some gossip → (beat : ℕ) → Timed (next_in_step beat gossip.interval k.at)
+  pub first_push : (gossip : settings.Gossip) → s.gossip ≡ Some gossip → nat_eq gossip.push 0 ≡ false → (t v : State) → R t → R v → Timed (k.at + (1 + (below_of t.words s.swim.spread).0) + (below_of v.words gossip.push).0 + push_period gossip.push (live_count v.table))
+  pub push_timer : (gossip : settings.Gossip) → s.gossip ≡ Some gossip → (t : State) → R t → Timed (k.at + push_period gossip.push (live_count t.table))
   pub nack_timer : Timed (k.at + nack_delay_of s.lifeguard.nack_percent s.swim.timeout)
   pub suspicion_timer : (t : State) → R t → Timed (k.at + timeout (terms_of s) (live_count t.table) 0)
   pub accusation_timer : (t : State) (u : Update) (x : HeldSuspicion) → R t → accused_of t.suspicions u.subject u.accuser t.next_number ≡ Some x → Timed (due_of x k.at)
@@ -80,19 +100,27 @@ AnyTime at = Unit {0}
 pub any_time : (s : Setup) (k : Key) (R : State → Type 0) → Times s k AnyTime R
 any_time s k R = record {
   arrival = λ t to at r is. tt;
+  call = λ t to at r is. tt;
+  answer = λ t to at r is. tt;
+  stream = λ t to at r is. tt;
   join_timer = tt;
   first_period = λ t r. tt;
   period_timer = λ t r. tt;
   timeout_timer = λ t r. tt;
+  plain_timeout = tt;
+  beat = λ beat. tt;
+  gossip_timer = λ gossip is beat. tt;
+  first_push = λ gossip is some t v r r'. tt;
+  push_timer = λ gossip is t r. tt;
   nack_timer = tt;
   suspicion_timer = λ t r. tt;
   accusation_timer = λ t u x r is. tt;
 }
 
 -- what each part keeps
-pub record Makes (k : Key) (Named : ℕ → Type 0) (SomeLeave : Type 0) (Tells : What → Type 0) (Timed : ℕ → Type 0) (P : Effect → Type 0) : Type 0 where
+pub record Makes (s : Setup) (k : Key) (Named : ℕ → Type 0) (SomeLeave : Type 0) (Tells : What → Type 0) (Timed : ℕ → Type 0) (P : Effect → Type 0) : Type 0 where
   pub row : (tells : What) (about : Option ℕ) (value : ℕ) (lost : Bool) (o : Effect) → Tells tells → IfSome about Named → P o → P (with_row k tells about value lost o)
-  pub event : (at to : ℕ) (content : Content) (o : Effect) → Timed at → Named to → NamesOnly Named SomeLeave content → P o → P (with_event k at to content o)
+  pub event : (at to : ℕ) (content : Content) (o : Effect) → Timed at → Named to → NamesOnly Named SomeLeave content → P o → P (with_event s k at to content o)
   pub lost : (o : Effect) → P o → P (on_state with_number o)
   pub state : (t : State) (o : Effect) → t.next_number ≡ o.state.next_number → P o → P (record o { state = t })
 
@@ -106,41 +134,38 @@ runs is = absurd (let e = is in cc)
 joins : ¬ (Joining ≡ Waiting)
 joins is = absurd (let e = is in cc)
 
-passed_number : (loud : Bool) (u : Update) (t : State) → (passed_on loud u t).next_number ≡ t.next_number
-unfolding passed_on with_put
-passed_number true u t = refl
-passed_number false u t = refl
-
-put_number : (u : Update) (t : State) → (with_put u t).next_number ≡ t.next_number
-unfolding with_put
-put_number u t = refl
-
 kept_number : (u : Update) (t : State) → (claim_kept u t).next_number ≡ t.next_number
-kept_number u t = kept_either (λ v. v.next_number ≡ t.next_number) u t refl refl
+kept_number u t = kept_either (λ v. v.next_number ≡ t.next_number) u t refl refl refl
+
+death_number : (profile : Profile) (subject now : ℕ) (t : State) → (death_kept profile subject now t).next_number ≡ t.next_number
+death_number profile subject now t = death_either (λ v. v.next_number ≡ t.next_number) profile subject now t refl refl
 
 module _ (s : Setup) (k : Key) (Named : ℕ → Type 0) (R : State → Type 0) (news : NewsMoves s k Named R) (moves : Moves s k Named R)
     (SomeLeave : Type 0) (Tells : What → Type 0) (may : MayTell R SomeLeave Tells) (carries : Carries s k Named R)
-    (Timed : ℕ → Type 0) (times : Times s k Timed R) (P : Effect → Type 0) (makes : Makes k Named SomeLeave Tells Timed P) where
+    (Timed : ℕ → Type 0) (times : Times s k Timed R) (P : Effect → Type 0) (makes : Makes s k Named SomeLeave Tells Timed P) where
   by_either : (b : Bool) (o p : Effect) → (b ≡ true → P o) → (b ≡ false → P p) → P (cond b o p)
   by_either true o p a b = a refl
   by_either false o p a b = b refl
 
-  by_timer : (ticks : ℕ) (content : Content) (o : Effect) → Timed (k.at + ticks) → NamesOnly Named SomeLeave content → P o → P (with_timer k ticks content o)
+  by_timer : (ticks : ℕ) (content : Content) (o : Effect) → Timed (k.at + ticks) → NamesOnly Named SomeLeave content → P o → P (with_timer s k ticks content o)
   unfolding with_timer
   by_timer ticks content o timed named h = makes.event (k.at + ticks) k.to content o timed moves.own named h
 
   -- ---- messages
 
-  by_sent_off : (to : ℕ) (content : Content) (arrival : Option ℕ) (o : Effect) → ((at : ℕ) → arrival ≡ Some at → Timed at) → Named to → NamesOnly Named SomeLeave content → P o → P (sent_off k to content arrival o)
+  by_sent_off : (to : ℕ) (content : Content) (arrival : Option ℕ) (o : Effect) → ((at : ℕ) → arrival ≡ Some at → Timed at) → Named to → NamesOnly Named SomeLeave content → P o → P (sent_off s k to content arrival o)
   by_sent_off to content None o timed there named h = makes.lost o h
   by_sent_off to content (Some at) o timed there named h = makes.event at to content o (timed at refl) there named h
 
-  by_sent : (tells : What) (to value : ℕ) (content : Content) (o : Effect) → Tells tells → Named to → NamesOnly Named SomeLeave content → R o.state → P o → P (sent s k tells to value content o)
-  unfolding sent
-  by_sent tells to value content o told there named r h =
-      let arrival = arrival_of s k.to to k.at o.state.words in
-      by_sent_off to content arrival.0 _ (λ at is. times.arrival o.state to at r is) there named
+  by_posted : (tells : What) (to value : ℕ) (content : Content) (arrival : Option ℕ × Words) (o : Effect) → ((at : ℕ) → arrival.0 ≡ Some at → Timed at) → Tells tells → Named to
+      → NamesOnly Named SomeLeave content → P o → P (posted s k tells to value content arrival o)
+  unfolding posted
+  by_posted tells to value content arrival o timed told there named h =
+      by_sent_off to content arrival.0 _ timed there named
       (makes.row tells (Some to) value (is_none arrival.0) (on_state (λ t. record t { words = arrival.1 }) o) told there (makes.state _ o refl h))
+
+  by_sent : (tells : What) (to value : ℕ) (content : Content) (o : Effect) → Tells tells → Named to → NamesOnly Named SomeLeave content → R o.state → P o → P (sent s k tells to value content o)
+  by_sent tells to value content o told there named r h = by_posted tells to value content _ o (λ at is. times.arrival o.state to at r is) told there named h
 
   by_ping : (to initiator seq : ℕ) (o : Effect) → Named to → Named initiator → R o.state → P o → P (ping_sent s k to initiator seq o)
   unfolding ping_sent
@@ -177,6 +202,29 @@ module _ (s : Setup) (k : Key) (Named : ℕ → Type 0) (R : State → Type 0) (
   unfolding bye_sent
   by_bye some to o there r h = by_sent what.Bye to 0 Bye o (may.plain what.Bye some) there some r h
 
+  by_gossip : (to : ℕ) (o : Effect) → Named to → R o.state → P o → P (gossip_sent s k to o)
+  unfolding gossip_sent
+  by_gossip to o there r h =
+      let picked = makes.state _ o refl h in
+      by_either (nat_eq (length (carried s None o.state)) 0) _ _ (λ _. picked)
+      (λ _. by_sent _ to 0 _ (on_state (with_picks s None) o) (may.plain _ tt) there (carries.plain o.state r) (moves.picked o.state None r) picked)
+
+  by_call : (to seq : ℕ) (o : Effect) → Named to → R o.state → P o → P (call_sent s k to seq o)
+  unfolding call_sent
+  by_call to seq o there r h = by_posted _ to seq (Call seq) _ o (λ at is. times.call o.state to at r is) (may.plain _ tt) there tt h
+
+  by_answer : (to seq : ℕ) (o : Effect) → Named to → R o.state → P o → P (answer_sent s k to seq o)
+  unfolding answer_sent
+  by_answer to seq o there r h = by_posted _ to seq (Answer seq) _ o (λ at is. times.answer o.state to at r is) (may.plain _ tt) there tt h
+
+  by_push_sent : (to : ℕ) (o : Effect) → Named to → R o.state → P o → P (push_sent s k to o)
+  unfolding push_sent
+  by_push_sent to o there r h = by_posted _ to 0 _ _ o (λ at is. times.stream o.state to at r is) (may.plain _ tt) there (carries.whole o.state r) h
+
+  by_pull : (to : ℕ) (o : Effect) → Named to → R o.state → P o → P (pull_sent s k to o)
+  unfolding pull_sent
+  by_pull to o there r h = by_posted _ to 0 _ _ o (λ at is. times.stream o.state to at r is) (may.plain _ tt) there (carries.whole o.state r) h
+
   -- messages one after another, to members that are named
   by_each : (send : ℕ → Effect → Effect) → ((to : ℕ) (o : Effect) → R o.state → R (send to o).state) → ((to : ℕ) (o : Effect) → Named to → R o.state → P o → P (send to o))
       → (others : List ℕ) (o : Effect) → AllByRecursion Named others → R o.state → P o → P (sent_to_each send others o)
@@ -197,29 +245,38 @@ module _ (s : Setup) (k : Key) (Named : ℕ → Type 0) (R : State → Type 0) (
   by_told true tells subject value o told named h = makes.row tells (Some subject) value false o told named h
   by_told false tells subject value o told named h = h
 
-  by_passed : (loud : Bool) (u : Update) (o : Effect) → P o → P (on_state (passed_on loud u) o)
-  by_passed loud u o h = makes.state _ o (passed_number loud u o.state) h
+  by_gossip_set : (gossip : Option settings.Gossip) (o : Effect) → s.gossip ≡ gossip → P o → P (gossip_set s k gossip o)
+  by_gossip_set None o is h = h
+  by_gossip_set (Some gossip) o is h =
+      by_either o.state.gossips o _ (λ _. h)
+      (λ _. makes.event _ k.to GossipTimer (on_state (λ t. record t { gossips = true }) o) (times.gossip_timer gossip is (o.state.beat - 1)) moves.own tt (makes.state _ o refl h))
 
-  by_refuted : (o : Effect) → R o.state → P o → P (refuted k o)
+  by_put : (u : Update) (o : Effect) → P o → P (with_put s k u o)
+  unfolding with_put
+  by_put u o h = by_gossip_set s.gossip _ refl (makes.state _ o refl h)
+
+  by_passed : (loud : Bool) (u : Update) (o : Effect) → P o → P (passed_on s k loud u o)
+  unfolding passed_on
+  by_passed loud u o h = by_either loud (with_put s k u o) o (λ _. by_put u o h) (λ _. h)
+
+  by_refuted : (claim : Claim) (number : ℕ) (o : Effect) → does_refute (profile_of s) o.state.incarnation claim number ≡ true → R o.state → P o → P (refuted s k (number + 1) o)
   unfolding refuted
-  by_refuted o r h =
-      let number = o.state.incarnation + 1 in
-      let more = on_state (λ t. record t { incarnation = number }) o in
-      let told = with_row k what.Refute (Some k.to) number false more in
-      let there : R told.state = on_row s k Named R news what.Refute (Some k.to) number false more (moves.refuted o.state r) in
-      makes.state _ _ (put_number (own_claim k.to number) _)
-      (by_health (raised told.state.health 1) told there (moves.weakened told.state there)
-      (makes.row what.Refute (Some k.to) number false more (may.plain what.Refute tt) moves.own (makes.state _ o refl h)))
+  by_refuted claim number o refutes r h =
+      let more = on_state (λ t. record t { incarnation = number + 1 }) o in
+      let told = with_row k what.Refute (Some k.to) (number + 1) false more in
+      let there : R told.state = on_row s k Named R news what.Refute (Some k.to) (number + 1) false more (moves.refuted o.state claim number refutes r) in
+      by_put (own_claim k.to (number + 1)) _
+      (by_health (raised told.state.health 1) told there (moves.weakened told.state 1 there)
+      (makes.row what.Refute (Some k.to) (number + 1) false more (may.plain what.Refute tt) moves.own (makes.state _ o refl h)))
 
-  by_own : (claim : Claim) (number : ℕ) (o : Effect) → R o.state → P o → P (own_applied k claim number o)
+  by_own : (claim : Claim) (number : ℕ) (o : Effect) → R o.state → P o → P (own_applied s k claim number o)
   unfolding heard_dead
-  by_own Alive number o r h = h
-  by_own Suspect number o r h = by_either (nat_eq number o.state.incarnation) (refuted k o) o (λ _. by_refuted o r h) (λ _. h)
-  by_own Confirm number o r h =
-      by_either o.state.heard_dead o (heard_dead k number o) (λ _. h)
-      (λ _. makes.row _ (Some k.to) number false _ (may.plain _ tt) moves.own (makes.state _ o refl h))
+  by_own claim number o r h =
+      by_either (does_refute (profile_of s) o.state.incarnation claim number) (refuted s k (number + 1) o) _ (λ refutes. by_refuted claim number o refutes r h)
+      (λ _. by_either (is_own_death (profile_of s) claim o.state.heard_dead) (heard_dead k number o) o
+      (λ _. makes.row _ (Some k.to) number false _ (may.plain _ tt) moves.own (makes.state _ o refl h)) (λ _. h))
 
-  by_claim : (loud : Bool) (u : Update) (claim : Claim) (o : Effect) → Named u.subject → IsNews k.to o.state u → u.claim ≡ claim → R o.state → P o
+  by_claim : (loud : Bool) (u : Update) (claim : Claim) (o : Effect) → Named u.subject → IsNews (profile_of s) k.to o.state u → u.claim ≡ claim → R o.state → P o
       → P (claim_heard s loud k u claim (on_state (claim_kept u) o))
   unfolding alive_heard suspect_heard confirm_heard
   by_claim loud u Alive o named says e r h = by_told loud _ u.subject u.inc _ (may.plain _ tt) named (makes.state _ o (kept_number u o.state) h)
@@ -228,34 +285,36 @@ module _ (s : Setup) (k : Key) (Named : ℕ → Type 0) (R : State → Type 0) (
       let there = news.suspect o.state u begun named says e (record { terms = refl; since = refl; members = refl }) r in
       makes.event _ k.to (SuspicionTimer u.subject) _ (times.suspicion_timer (record (claim_kept u o.state) { suspicions = insert (claim_kept u o.state).suspicions u.subject begun }) there) moves.own tt
       (by_told loud _ u.subject u.inc _ (may.plain _ tt) named (makes.state _ o (kept_number u o.state) h))
-  by_claim loud u Confirm o named says e r h = by_told loud _ u.subject u.inc _ (may.plain _ tt) named (makes.state _ o (kept_number u o.state) h)
+  by_claim loud u Confirm o named says e r h =
+      by_told loud _ u.subject u.inc _ (may.plain _ tt) named (makes.state _ o (death_number (profile_of s) u.subject k.at (without_suspicion u.subject (claim_kept u o.state)) ∙ kept_number u o.state) h)
 
-  by_news : (loud : Bool) (u : Update) (o : Effect) → Named u.subject → IsNews k.to o.state u → R o.state → P o → P (news_heard s loud k u o)
+  by_news : (loud : Bool) (u : Update) (o : Effect) → Named u.subject → IsNews (profile_of s) k.to o.state u → R o.state → P o → P (news_heard s loud k u o)
   unfolding news_heard
   by_news loud u o named says r h = by_passed loud u _ (by_claim loud u u.claim o named says refl r h)
 
   by_counted : (loud : Bool) (u : Update) (accused : Option HeldSuspicion) (o : Effect) → ((x : HeldSuspicion) → accused ≡ Some x → Tells what.Accuse) → ((x : HeldSuspicion) → accused ≡ Some x → Timed (due_of x k.at)) → Named u.subject → P o
-      → P (accusation_counted loud k u (option_map (answer_of k.at) accused) o)
+      → P (accusation_counted s loud k u (option_map (answer_to k.at) accused) o)
   by_counted loud u None o told timed named h = h
   by_counted loud u (Some x) o told timed named h = by_passed loud u _ (makes.event _ k.to (SuspicionTimer u.subject) _ (timed x refl) moves.own tt (by_told loud _ u.subject _ o (told x refl) named h))
 
-  by_accusation : (loud : Bool) (u : Update) (o : Effect) → Named u.subject → R o.state → P o → P (accusation_heard loud k u o)
+  by_accusation : (loud : Bool) (u : Update) (o : Effect) → Named u.subject → R o.state → P o → P (accusation_heard s loud k u o)
   unfolding accusation_heard
   by_accusation loud u o named r h =
       by_counted loud u (accused_of o.state.suspicions u.subject u.accuser o.state.next_number) _
       (λ x is. may.accuses o.state u x r is) (λ x is. times.accusation_timer o.state u x r is) named (makes.state _ o refl h)
 
   by_other : (loud : Bool) (u : Update) (held : Option (Claim × ℕ)) (o : Effect) → Named u.subject → ¬ (u.subject ≡ k.to) → get o.state.table u.subject ≡ held → R o.state → P o → P (other_applied s loud k u held o)
-  by_other loud u None o named other none r h = by_news loud u o named (record { other = other; news = rw none refl }) r h
+  by_other loud u None o named other none r h =
+      by_either (is_heeded (profile_of s) loud u.claim) (news_heard s loud k u o) o (λ _. by_news loud u o named (record { other = other; news = rw none refl }) r h) (λ _. h)
   by_other loud u (Some held) o named other here r h =
-      by_either (does_override (u.claim, u.inc) held) (news_heard s loud k u o) (cond (is_repeated u held) (accusation_heard loud k u o) o)
+      by_either (does_override (profile_of s) (u.claim, u.inc) held) (news_heard s loud k u o) (cond (is_repeated (profile_of s) u held) (accusation_heard s loud k u o) o)
       (λ e. by_news loud u o named (record { other = other; news = rw here e }) r h)
-      (λ _. by_either (is_repeated u held) (accusation_heard loud k u o) o (λ _. by_accusation loud u o named r h) (λ _. h))
+      (λ _. by_either (is_repeated (profile_of s) u held) (accusation_heard s loud k u o) o (λ _. by_accusation loud u o named r h) (λ _. h))
 
   by_applied : (loud : Bool) (u : Update) (o : Effect) → Named u.subject → R o.state → P o → P (applied s loud k u o)
   unfolding applied
   by_applied loud u o named r h =
-      by_either (nat_eq u.subject k.to) (own_applied k u.claim u.inc o) (other_applied s loud k u (get o.state.table u.subject) o)
+      by_either (nat_eq u.subject k.to) (own_applied s k u.claim u.inc o) (other_applied s loud k u (get o.state.table u.subject) o)
       (λ _. by_own u.claim u.inc o r h) (λ e. by_other loud u (get o.state.table u.subject) o named (eqb-false u.subject k.to e) refl r h)
 
   by_all : (loud : Bool) (us : List Update) (o : Effect) → AllNamed Named us → R o.state → P o → P (all_applied s loud k us o)
@@ -265,9 +324,21 @@ module _ (s : Setup) (k : Key) (Named : ℕ → Type 0) (R : State → Type 0) (
 
   -- ---- start, crash and join
 
+  by_first_push : (t : State) (gossip : Option settings.Gossip) (o : Effect) → s.gossip ≡ gossip → R t → R o.state → P o
+      → P (first_push_set s k (k.at + (1 + (below_of t.words s.swim.spread).0)) gossip o)
+  unfolding push_begun
+  by_first_push t None o is r r' h = h
+  by_first_push t (Some gossip) o is r r' h =
+      by_either (nat_eq gossip.push 0) o _ (λ _. h)
+      (λ some. makes.event _ k.to PushTimer _ (times.first_push gossip is some t o.state r r') moves.own tt (makes.state _ o refl h))
+
   by_first_period : (o : Effect) → R o.state → P o → P (first_period_set s k o)
   unfolding first_period_set
-  by_first_period o r h = by_timer _ PeriodTimer _ (times.first_period o.state r) tt (makes.state _ o refl h)
+  by_first_period o r h =
+      let drawn = below_of o.state.words s.swim.spread in
+      let there = moves.beaten (record o.state { words = drawn.1 }) (k.at + (1 + drawn.0)) (moves.drawn o.state drawn.1 (below_rest o.state.words s.swim.spread) r) in
+      by_first_push o.state s.gossip _ refl r (on_timer s k Named R news moves (1 + drawn.0) PeriodTimer (on_state (λ t. record t { beat = k.at + (1 + drawn.0); words = drawn.1 }) o) there)
+      (by_timer _ PeriodTimer _ (times.first_period o.state r) tt (makes.state _ o refl h))
 
   by_began : (o : Effect) → R (at_once s k o.state) → P o → P (began s k o)
   unfolding began
@@ -316,7 +387,7 @@ module _ (s : Setup) (k : Key) (Named : ℕ → Type 0) (R : State → Type 0) (
   by_failed probe o named r h =
       let told = with_row k what.Fail (Some probe.target) probe.seq false o in
       let there : R told.state = on_row s k Named R news what.Fail (Some probe.target) probe.seq false o r in
-      let weighed = moves.weighed told.state probe there in
+      let weighed = on_weighed s k Named R news moves probe.acked (failures_of probe) told.state there in
       by_suspected probe.target _ _ refl (on_health s k Named R news moves (after_probe told.state.health probe) told weighed)
       (by_health (after_probe told.state.health probe) told there weighed (makes.row what.Fail (Some probe.target) probe.seq false o (may.plain what.Fail tt) named h))
 
@@ -325,7 +396,7 @@ module _ (s : Setup) (k : Key) (Named : ℕ → Type 0) (R : State → Type 0) (
   by_ended None o none r h = h
   by_ended (Some probe) o here r h =
       by_either probe.acked (with_health k (after_probe o.state.health probe) o) (probe_failed s k probe o)
-      (λ _. by_health (after_probe o.state.health probe) o r (moves.weighed o.state probe r) h) (λ _. by_failed probe o (moves.aimed o.state probe r here) r h)
+      (λ _. by_health (after_probe o.state.health probe) o r (on_weighed s k Named R news moves probe.acked (failures_of probe) o.state r) h) (λ _. by_failed probe o (moves.aimed o.state probe r here) r h)
 
   by_begun : (target : ℕ) (o : Effect) → Named target → R o.state → P o → P (probe_begun s k target o)
   unfolding probe_begun
@@ -427,6 +498,145 @@ module _ (s : Setup) (k : Key) (Named : ℕ → Type 0) (R : State → Type 0) (
   by_departed some o r h =
       makes.state _ _ refl (by_byes some (with_row k what.Leave None 0 false o) (on_row s k Named R news what.Leave None 0 false o r) (makes.row what.Leave None 0 false o (may.plain what.Leave some) tt h))
 
+  -- ---- probes by memberlist's rules
+
+  by_suspected_at : (probe : Probe) (held : Option (Claim × ℕ)) (o : Effect) → get o.state.table probe.target ≡ held → R o.state → P o → P (suspected_at s k probe held o)
+  by_suspected_at probe None o none r h = h
+  by_suspected_at probe (Some held) o here r h =
+      by_either (is_confirm held.0) o (applied s true k (record { subject = probe.target; claim = Suspect; inc = probe.number; accuser = k.to }) o)
+      (λ _. h) (λ _. by_applied true _ o (moves.known o.state probe.target held r here) r h)
+
+  by_timed_failed : (probe : Probe) (o : Effect) → Named probe.target → R o.state → P o → P (timed_probe_failed s k probe o)
+  unfolding timed_probe_failed
+  by_timed_failed probe o named r h =
+      let told = with_row k what.Fail (Some probe.target) probe.seq false o in
+      let there : R told.state = on_row s k Named R news what.Fail (Some probe.target) probe.seq false o r in
+      let weighed = on_weighed s k Named R news moves probe.reached (misses_of probe) told.state there in
+      by_suspected_at probe _ _ refl (on_health s k Named R news moves (after_deadline told.state.health probe) told weighed)
+      (by_health (after_deadline told.state.health probe) told there weighed (makes.row what.Fail (Some probe.target) probe.seq false o (may.plain what.Fail tt) named h))
+
+  ended : (o : Effect) → R o.state → R (record o.state { probe = None })
+  ended o r = moves.probing o.state o.state.sequence None (no_target Named) r
+
+  by_settled : (probe : Option Probe) (o : Effect) → o.state.probe ≡ probe → R o.state → P o → P (probe_settled s k probe o)
+  unfolding probe_settled
+  by_settled None o none r h = h
+  by_settled (Some probe) o here r h =
+      let none = makes.state (record o.state { probe = None }) o refl h in
+      by_either probe.reached _ _
+      (λ _. by_health (after_deadline o.state.health probe) _ (ended o r) (on_weighed s k Named R news moves probe.reached (misses_of probe) (record o.state { probe = None }) (ended o r)) none)
+      (λ _. by_timed_failed probe _ (moves.aimed o.state probe r here) (ended o r) none)
+
+  by_timed_begun : (target : ℕ) (o : Effect) → Named target → R o.state → P o → P (timed_probe_begun s k target o)
+  unfolding timed_probe_begun
+  by_timed_begun target o named r h =
+      let probe = timed_probe (o.state.sequence + 1) target (option_map_or (λ held. held.1) (get o.state.table target) 0) (k.at + scaled o.state.health s.swim.period) in
+      let probing = moves.probing o.state (o.state.sequence + 1) (Some probe) (one_target Named probe named) r in
+      makes.event _ k.to (DeadlineTimer (o.state.sequence + 1)) _ (times.period_timer o.state r) moves.own tt
+      (by_timer _ (TimeoutTimer (o.state.sequence + 1)) _ times.plain_timeout tt (by_ping target k.to _ _ named moves.own probing (makes.state _ o refl h)))
+
+  by_timed_target : (target : Option ℕ) (o : Effect) → ((q : ℕ) → target ≡ Some q → Named q) → R o.state → P o → P (timed_target_probed s k target o)
+  by_timed_target None o named r h = makes.state _ o refl h
+  by_timed_target (Some target) o named r h = by_timed_begun target o (named target refl) r h
+
+  by_next_timed : (o : Effect) → R o.state → P o → P (next_timed_probed s k o)
+  unfolding next_timed_probed
+  by_next_timed o r h = by_timed_target (next_of o.state.words o.state.rota).0 _ (λ q is. moves.targets o.state q r is) (moves.turned o.state r) (makes.state _ o refl h)
+
+  by_waiting_probed : (o : Effect) → R o.state → P o → P (waiting_probed s k o)
+  by_waiting_probed o r h = by_either o.state.waits _ o (λ _. by_next_timed _ (moves.waiting o.state false r) (makes.state _ o refl h)) (λ _. h)
+
+  by_in_turn : (o : Effect) → R o.state → P o → P (probed_in_turn s k o)
+  by_in_turn o r h =
+      by_either (has_time k.at o.state.probe) _ _ (λ _. makes.state _ o refl h)
+      (λ _. by_next_timed _ (on_settled s k Named R news moves o.state.probe o r) (by_settled o.state.probe o refl r h))
+
+  by_beaten : (o : Effect) → R o.state → P o → P (period_beaten s k o)
+  unfolding period_beaten
+  by_beaten o r h =
+      by_in_turn _ (on_event s k Named R news (next_in_step o.state.beat s.swim.period k.at) k.to PeriodTimer o r) (makes.event _ k.to PeriodTimer o (times.beat o.state.beat) moves.own tt h)
+
+  by_deadline : (seq : ℕ) (o : Effect) → R o.state → P o → P (deadline_over s k seq o)
+  unfolding deadline_over
+  by_deadline seq o r h =
+      by_either (is_under_way seq o.state.probe) _ o (λ _. by_waiting_probed _ (on_settled s k Named R news moves o.state.probe o r) (by_settled o.state.probe o refl r h)) (λ _. h)
+
+  by_timed_answered : (seq : ℕ) (o : Effect) → R o.state → P o → P (timed_answered s k seq o)
+  unfolding timed_answered
+  by_timed_answered seq o r h =
+      let none = record o.state { probe = None } in
+      let mended = moves.mended none (ended o r) in
+      by_either (is_under_way seq o.state.probe) _ o
+      (λ _. by_waiting_probed _ (on_health s k Named R news moves (lowered o.state.health) (on_state (λ t. record t { probe = None }) o) mended)
+      (by_health (lowered o.state.health) _ (ended o r) mended (makes.state none o refl h))) (λ _. h)
+
+  by_timed_ack : (initiator seq : ℕ) (updates : List Update) (o : Effect) → Named initiator → AllNamed Named updates → R o.state → P o → P (timed_ack_heard s k initiator seq updates o)
+  unfolding timed_ack_heard
+  by_timed_ack initiator seq updates o begun named r h =
+      let there = on_all s k Named R news moves true updates o named r in
+      let heard = by_all true updates o named r h in
+      by_either (nat_eq initiator k.to) _ _ (λ _. by_timed_answered seq _ there heard) (λ _. by_taken initiator seq _ begun there heard)
+
+  by_sampled : (probe : Probe) (o : Effect) → Named probe.target → R o.state → P o → P (sampled_help s k probe o)
+  unfolding sampled_help
+  by_sampled probe o named r h =
+      by_expected probe _ _ (by_each (ping_req_sent s k probe.target probe.seq) (on_ping_req s k Named R news moves probe.target probe.seq) (λ to o there r h. by_ping_req probe.target probe.seq to o named there r h) _ _
+      (carries.sample o.state (AliveBut probe.target) s.swim.helpers r) (moves.drawn o.state _ (sample_rest o.state.words s.swim.helpers _) r) (makes.state _ o refl h))
+
+  by_helped : (probe : Probe) (o : Effect) → Named probe.target → R o.state → P o → P (helped s k probe o)
+  by_helped probe o named r h = by_either (nat_lt 0 s.swim.helpers) _ o (λ _. by_sampled probe o named r h) (λ _. h)
+
+  by_called : (probe : Probe) (o : Effect) → Named probe.target → R o.state → P o → P (called s k probe o)
+  by_called probe o named r h = by_either s.swim.fallback _ o (λ _. by_call probe.target probe.seq o named r h) (λ _. h)
+
+  by_timed_out_timed : (seq : ℕ) (probe : Option Probe) (o : Effect) → o.state.probe ≡ probe → R o.state → P o → P (timed_out_timed s k seq probe o)
+  unfolding timed_out_timed
+  by_timed_out_timed seq None o here r h = h
+  by_timed_out_timed seq (Some probe) o here r h =
+      let named = moves.aimed o.state probe r here in
+      by_either (nat_eq probe.seq seq) _ o (λ _. by_called probe _ named (on_helped s k Named R news moves probe o named r) (by_helped probe o named r h)) (λ _. h)
+
+  by_answer_heard : (seq : ℕ) (o : Effect) → P o → P (answer_heard seq o)
+  unfolding answer_heard
+  by_answer_heard seq o h = makes.state _ o refl h
+
+  -- ---- gossip and pushes
+
+  by_spread : (gossip : settings.Gossip) (o : Effect) → R o.state → P o → P (gossip_spread s k gossip o)
+  unfolding gossip_spread
+  by_spread gossip o r h =
+      by_each (gossip_sent s k) (on_gossip s k Named R news moves) by_gossip _ _ (carries.sample o.state (Reachable k.at gossip.dead) gossip.nodes r)
+      (moves.drawn o.state _ (sample_rest o.state.words gossip.nodes _) r) (makes.state _ o refl h)
+
+  by_round : (gossip : settings.Gossip) (o : Effect) → R o.state → P o → P (gossip_round s k gossip o)
+  by_round gossip o r h =
+      by_either (is_told_out o.state) o _ (λ _. h) (λ _. let spread = by_spread gossip o r h in by_either (is_told_out (gossip_spread s k gossip o).state) (gossip_spread s k gossip o) _ (λ _. spread) (λ _. by_gossip_set s.gossip _ refl spread))
+
+  by_gossip_due : (gossip : Option settings.Gossip) (o : Effect) → R o.state → P o → P (gossip_due s k gossip o)
+  by_gossip_due None o r h = h
+  by_gossip_due (Some gossip) o r h = by_round gossip _ (news.gossiping o.state false r) (makes.state _ o refl h)
+
+  by_merged : (us : List Update) (o : Effect) → AllNamed Named us → R o.state → P o → P (merged s k us o)
+  unfolding merged
+  by_merged us o named r h = by_all true (map (merged_claim k.to) us) o (merged_named s k Named R news moves us named) r h
+
+  by_pushed : (gossip : settings.Gossip) (o : Effect) → s.gossip ≡ Some gossip → R o.state → P o → P (pushed s k gossip.push o)
+  unfolding pushed
+  by_pushed gossip o is r h =
+      let drawn = sample_of o.state.words 1 (candidates_for k (AliveBut k.to) o.state) in
+      let there = moves.drawn o.state drawn.1 (sample_rest o.state.words 1 _) r in
+      by_each (push_sent s k) (on_push_sent s k Named R news moves) by_push_sent _ _ (carries.sample o.state (AliveBut k.to) 1 r)
+      (on_timer s k Named R news moves (push_period gossip.push (live_count o.state.table)) PushTimer (on_state (λ t. record t { words = drawn.1 }) o) there)
+      (by_timer _ PushTimer _ (times.push_timer gossip is o.state r) tt (makes.state _ o refl h))
+
+  by_push_due : (gossip : Option settings.Gossip) (o : Effect) → s.gossip ≡ gossip → R o.state → P o → P (push_due s k gossip o)
+  by_push_due None o is r h = h
+  by_push_due (Some gossip) o is r h = by_either (nat_eq gossip.push 0) o _ (λ _. h) (λ _. by_pushed gossip o is r h)
+
+  by_push_heard : (us : List Update) (o : Effect) → Named k.from → AllNamed Named us → R o.state → P o → P (push_heard s k us o)
+  unfolding push_heard
+  by_push_heard us o sender named r h = by_merged us _ named (on_pull s k Named R news moves k.from o r) (by_pull k.from o sender r h)
+
   -- ---- the step
 
   by_plain : (content : Content) (phase : Phase) (o : Effect) → Named k.from → NamesOnly Named SomeLeave content → (¬ (phase ≡ Waiting) → R o.state)
@@ -486,6 +696,14 @@ module _ (s : Setup) (k : Key) (Named : ℕ → Type 0) (R : State → Type 0) (
   by_plain (Nack seq) Down o sender named r once late h = h
   by_plain Leave phase o sender named r once late h = h
   by_plain Bye phase o sender named r once late h = h
+  by_plain (DeadlineTimer seq) phase o sender named r once late h = h
+  by_plain GossipTimer phase o sender named r once late h = h
+  by_plain PushTimer phase o sender named r once late h = h
+  by_plain (Call seq) phase o sender named r once late h = h
+  by_plain (Answer seq) phase o sender named r once late h = h
+  by_plain (Gossip updates) phase o sender named r once late h = h
+  by_plain (Push entries) phase o sender named r once late h = h
+  by_plain (Pull entries) phase o sender named r once late h = h
 
   by_handled : (content : Content) (phase : Phase) (o : Effect) → Named k.from → NamesOnly Named SomeLeave content → (¬ (phase ≡ Waiting) → R o.state)
       → (phase ≡ Waiting → R (at_once s k o.state)) → (phase ≡ Waiting → R (at_late o.state)) → P o → P (handled s k content phase o)
@@ -495,8 +713,31 @@ module _ (s : Setup) (k : Key) (Named : ℕ → Type 0) (R : State → Type 0) (
   by_handled Bye Running o sender named r once late h = by_confirmed k.from (get o.state.table k.from) o refl (r runs) h
   by_handled content phase o sender named r once late h = by_plain content phase o sender named r once late h
 
+  by_timed : (content : Content) (o : Effect) → Named k.from → NamesOnly Named SomeLeave content → R o.state → P o → P (timed_handled s k content o)
+  unfolding timed_handled
+  by_timed PeriodTimer o sender named r h = by_beaten o r h
+  by_timed (TimeoutTimer seq) o sender named r h = by_timed_out_timed seq o.state.probe o refl r h
+  by_timed (DeadlineTimer seq) o sender named r h = by_deadline seq o r h
+  by_timed (Ack initiator seq updates) o sender named r h = by_timed_ack initiator seq updates o named.0 named.1 r h
+  by_timed (Call seq) o sender named r h = by_answer k.from seq o sender r h
+  by_timed (Answer seq) o sender named r h = by_answer_heard seq o h
+  by_timed GossipTimer o sender named r h = by_gossip_due s.gossip o r h
+  by_timed (Gossip updates) o sender named r h = by_all true updates o named r h
+  by_timed PushTimer o sender named r h = by_push_due s.gossip o refl r h
+  by_timed (Push entries) o sender named r h = by_push_heard entries o sender named r h
+  by_timed (Pull entries) o sender named r h = by_merged entries o named r h
+  by_timed content o sender named r h = by_handled content Running o sender named (λ _. r) (λ waits. absurd (runs waits)) (λ waits. absurd (runs waits)) h
+
+  by_by : (content : Content) (phase : Phase) (profile : Profile) (o : Effect) → Named k.from → NamesOnly Named SomeLeave content → (¬ (phase ≡ Waiting) → R o.state)
+      → (phase ≡ Waiting → R (at_once s k o.state)) → (phase ≡ Waiting → R (at_late o.state)) → P o → P (handled_by phase profile s k content o)
+  by_by content Running Memberlist o sender named r once late h = by_timed content o sender named (r runs) h
+  by_by content Running Papers o sender named r once late h = by_handled content Running o sender named r once late h
+  by_by content Waiting profile o sender named r once late h = by_handled content Waiting o sender named r once late h
+  by_by content Joining profile o sender named r once late h = by_handled content Joining o sender named r once late h
+  by_by content Down profile o sender named r once late h = by_handled content Down o sender named r once late h
+
   -- Of a member that waits the fact is needed where it starts alone.
   pub by_step : (content : Content) (t : State) → Named k.from → NamesOnly Named SomeLeave content → (¬ (t.phase ≡ Waiting) → R t)
       → (t.phase ≡ Waiting → R (at_once s k t)) → (t.phase ≡ Waiting → R (at_late t)) → P (unchanged t) → P (step s k content t)
   unfolding step
-  by_step content t sender named r once late h = by_handled content t.phase (unchanged t) sender named r once late h
+  by_step content t sender named r once late h = by_by content t.phase (profile_of s) (unchanged t) sender named r once late h

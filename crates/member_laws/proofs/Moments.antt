@@ -1,21 +1,28 @@
 -- No moment of a run reaches 2^42.
-use Rattle.std.proofs.Common.{◌≡◌, ℕ, ◌+◌, ◌*◌, ◌/◌, ◌<◌, ◌≤◌, ◌^◌, Bool, true, false, cond, List, [], ◌∷◌, ◌++◌, flat_map, Option, Some, None, All, sym, ap, subst, ◌∙◌, arith}
+use Rattle.std.proofs.Common.{◌≡◌, ℕ, ◌+◌, ◌-◌, ◌*◌, ◌/◌, ◌%◌, ◌<◌, ◌≤◌, ◌^◌, Bool, true, false, cond, nat_lt, List, [], ◌∷◌, ◌++◌, flat_map, Option, Some, None, All, refl, sym, ap, subst, ◌∙◌, arith}
 use Rattle.std.proofs.lemmas.Option.{same_Some}
 use Rattle.std.specs.Option.{is_some, IfSome}
-use Rattle.std.specs.List.{AllByRecursion}
+use Rattle.std.specs.List.{AllByRecursion, range_with_len}
+use Rattle.std.proofs.lemmas.List.Sums.{count_by-le-length}
+use Rattle.std.proofs.lemmas.List.FromFn.{length-range_with_len}
 use Rattle.std.specs.Ordering.{nat_cmp}
 use Rattle.std.specs.FinMap.{get, insert, remove, empty, get-empty}
-use Rattle.std.proofs.lemmas.Bool.{false≢true}
+use Rattle.std.proofs.lemmas.Bool.{false≢true, ltb-true, ltb-false}
 use Rattle.std.proofs.lemmas.List.Elements.{All-from_recursion}
 use Rattle.std.proofs.lemmas.Nat.{mul-le}
 use Rattle.base.specs.declared.key.Key.{Key}
 use Rattle.base.proofs.Rising.{all_append}
 use Rattle.base.proofs.Kept.{all_with_events}
-use Rattle.scenario.specs.Setup.{Setup, IsSound, member_count, start_of, crash_of, leave_of, link_between, extra_of}
+use Rattle.base.specs.Beats.{next_in_step}
+use Rattle.scenario.specs.Setup.{Setup, IsSound, IsSoundGossip, member_count, start_of, crash_of, leave_of, link_between, extra_of, awake}
+use Rattle.scenario.specs.Profile.{profile_of}
+use Rattle.scenario.specs.declared.settings.Gossip as settings
+use Rattle.scenario.proofs.Pauses.{is_awake_at, awake_small}
 use Rattle.streams.specs.Draw.{Words, AreWords, below_of, lost_of}
 use Rattle.streams.proofs.PlaceLemmas.{lost_rest}
 use Rattle.streams.proofs.RangeLemmas.{rest_fits, below_fits}
 use Rattle.links.specs.Arrival.{uncut_arrival_of, arrival_of}
+use Rattle.links.specs.Trips.{call_of, answer_of, kept_arrival_of}
 use Rattle.links.proofs.Arrivals.{whether_cut}
 use Rattle.incarnation.specs.declared.Update.{Update}
 use Rattle.lifeguard.specs.Health.{scaled}
@@ -24,10 +31,9 @@ use Rattle.suspicion.specs.declared.terms.Terms.{Terms}
 use Rattle.suspicion.specs.Ranges.{AreSound}
 use Rattle.suspicion.specs.Settings.{terms_of}
 use Rattle.suspicion.specs.Suspicions.{HeldSuspicion, accusers_counted, accused_of, due_of}
-use Rattle.suspicion.specs.Times.{min_timeout, timeout}
-use Rattle.suspicion.proofs.Tables.{log_of-le}
+use Rattle.suspicion.specs.Times.{size_log, min_timeout, timeout}
+use Rattle.suspicion.proofs.Tables.{size_log-le}
 use Rattle.suspicion.proofs.Timeouts.{min_timeout-lt, max_timeout-le, timeout-le-max}
-use Rattle.base.specs.Logarithm.{log_of}
 use Rattle.member.specs.declared.content.Content.{Content}
 use Rattle.member.specs.declared.content.Content.TheVariants.{Crash, Leave}
 use Rattle.member.specs.State.{State}
@@ -35,12 +41,14 @@ use Rattle.membership.specs.Table.{live_count}
 use Rattle.membership.proofs.Few.{live_count-le, live_count-positive}
 use Rattle.member.specs.Turn.{Effect, with_row, with_event}
 use Rattle.member.proofs.Members.{few_members}
-use Rattle.member.specs.Apply.{claim_kept}
+use Rattle.member.proofs.Fair.{positive}
+use Rattle.member.specs.Apply.{claim_kept, without_suspicion}
 use Rattle.member.specs.Opening.{opening_state, opening, numbers, ending_event, script_of}
-use Rattle.member.specs.Step.{step}
+use Rattle.member.specs.Step.{step, doublings_to, push_period}
 use Rattle.member_laws.specs.Words.{IsTimely, IsConsistent, IsAmongMembers}
 use Rattle.member_laws.specs.Runs.{Cluster, IsReached}
-use Rattle.member_laws.proofs.Moves.{NewsMoves, Moves, kept_either}
+use Rattle.member_laws.proofs.Moves.{NewsMoves, Moves, kept_either, death_either}
+use Rattle.member_laws.proofs.Trips.{IsUpTo, call_low, answer_low, stream_low}
 use Rattle.member_laws.proofs.Walk.{on_any_step}
 use Rattle.member_laws.proofs.Tables.{OfAll, of_put, of_left, of_confirmed, of_accused}
 use Rattle.member_laws.proofs.Made.{Carries, Times, Makes, by_step}
@@ -57,7 +65,7 @@ Soon at = at < 2 ^ 42
 -- no suspicion lasts longer
 timeout-le : (terms : Terms) (n c : ℕ) → AreSound terms → n ≤ 4096 → timeout terms n c ≤ 2 ^ 40
 timeout-le terms n c sound few =
-    let shortest = min_timeout-lt terms.alpha (log_of n) terms.period sound.alpha (log_of-le n few) sound.period in
+    let shortest = min_timeout-lt terms.alpha (size_log terms.profile n) terms.period sound.alpha (size_log-le terms.profile n few) sound.period in
     let longest = max_timeout-le terms.beta (min_timeout terms n) sound.beta.1 shortest in
     omega (arith, longest, timeout-le-max terms n c sound)
 
@@ -68,6 +76,9 @@ ceiling-le false ceiling h = omega arith
 arrives_soon : (lost : Bool) (rest last : Words) (coming at : ℕ) → Soon coming → (cond {A = Option ℕ × Words} lost (None, rest) (Some coming, last)).0 ≡ Some at → Soon at
 arrives_soon true rest last coming at h is = absurd (false≢true (ap is_some is))
 arrives_soon false rest last coming at h is = subst Soon (same_Some coming at is) h
+
+no_later : (now n r : ℕ) → now + n - r ≤ now + n
+no_later now n r = omega arith
 
 -- ---- a step, up to the end
 
@@ -121,6 +132,34 @@ module _ (s : Setup) (sound : IsSound s) (k : Key) (here : k.to < member_count s
       let lasts = timeout-le x.terms x.members (accusers_counted x) (subst AreSound (sym settled) terms_sound) (omega (arith, began.2, few_members s sound)) in
       omega (arith, in_time, sound.end, began.0, lasts)
 
+  come_soon : (p : Option ℕ × Words) (at : ℕ) → IsUpTo (k.at + 2 ^ 34) p → p.0 ≡ Some at → Soon at
+  come_soon p at low is =
+      let least : at ≤ k.at + 2 ^ 34 = subst (λ (o : Option ℕ). IfSome o (λ a. a ≤ k.at + 2 ^ 34)) is low in
+      omega (arith, in_time, sound.end, least)
+
+  -- what waits for the end of a pause
+  awake_soon : (to at : ℕ) → Soon at → Soon (awake s to at)
+  awake_soon to at soon = by_order (nat_lt at (awake s to at)) refl
+    where
+      by_order : (b : Bool) → nat_lt at (awake s to at) ≡ b → Soon (awake s to at)
+      by_order true later = omega (arith, awake_small s sound to at (awake s to at) (is_awake_at s to at) (ltb-true at (awake s to at) later))
+      by_order false once = omega (arith, soon, ltb-false at (awake s to at) once)
+
+  in_step_soon : (beat interval : ℕ) → interval ≤ 2 ^ 24 → Soon (next_in_step beat interval k.at)
+  in_step_soon beat interval short = omega (arith, in_time, sound.end, short, no_later k.at interval ((k.at + interval - beat % interval) % interval))
+
+  -- no push period is longer
+  push_soon : (push n : ℕ) → push ≤ 2 ^ 24 → n ≤ 4096 → push_period push n ≤ 2 ^ 24 * 4097
+  push_soon push n short few =
+      let most : doublings_to n ≤ 4096 = omega (arith, few, count_by-le-length (λ m. nat_lt (32 * 2 ^ m) n) (range_with_len 0 n), length-range_with_len 0 n) in
+      mul-le push (1 + doublings_to n) (2 ^ 24) 4097 short (omega (arith, most))
+
+  few_live : (t : State) → Keeps s k.to t → live_count t.table ≤ 4096
+  few_live t r = omega (arith, few t r, few_members s sound)
+
+  push_settings : (gossip : settings.Gossip) → s.gossip ≡ Some gossip → IsSoundGossip gossip
+  push_settings gossip is = subst (λ (o : Option settings.Gossip). IfSome o IsSoundGossip) is sound.gossip
+
   times : Times s k Soon (InTime s k.to)
   times = record {
     arrival = λ t to at r is. arrival_soon t.words to at r.0.words is;
@@ -129,6 +168,18 @@ module _ (s : Setup) (sound : IsSound s) (k : Key) (here : k.to < member_count s
         let drawn = below_fits t.words s.swim.spread r.0.words sound.spread.0 (omega (arith, sound.spread.1)) in omega (arith, in_time, sound.end, sound.spread.1, drawn);
     period_timer = λ t r. scaled_soon t s.swim.period sound.period r.0;
     timeout_timer = λ t r. scaled_soon t s.swim.timeout (omega (arith, sound.timeout.1, sound.period)) r.0;
+    call = λ t to at r is. come_soon (call_of s k.to to k.at t.words) at (call_low s sound k.to to k.at t.words r.0.words) is;
+    answer = λ t to at r is. come_soon (answer_of s k.to to k.at t.words) at (answer_low s sound k.to to k.at t.words r.0.words) is;
+    stream = λ t to at r is. come_soon (kept_arrival_of s k.to to k.at t.words) at (stream_low s sound k.to to k.at t.words r.0.words) is;
+    plain_timeout = omega (arith, in_time, sound.end, sound.timeout.1, sound.period);
+    beat = λ beat. in_step_soon beat s.swim.period sound.period;
+    gossip_timer = λ gossip is beat. in_step_soon beat gossip.interval (push_settings gossip is).interval.1;
+    first_push = λ gossip is some t v r r'.
+        let settings = push_settings gossip is in
+        let first = below_fits t.words s.swim.spread r.0.words sound.spread.0 (omega (arith, sound.spread.1)) in
+        let second = below_fits v.words gossip.push r'.0.words (positive gossip.push some) (omega (arith, settings.push)) in
+        omega (arith, in_time, sound.end, sound.spread.1, first, second, settings.push, push_soon gossip.push (live_count v.table) settings.push (few_live v r'.0));
+    push_timer = λ gossip is t r. omega (arith, in_time, sound.end, push_soon gossip.push (live_count t.table) (push_settings gossip is).push (few_live t r.0));
     nack_timer = nack_soon;
     suspicion_timer = λ t r. omega (arith, in_time, sound.end, timeout-le (terms_of s) (live_count t.table) 0 terms_sound (omega (arith, few t r.0, few_members s sound)));
     accusation_timer = accused_soon;
@@ -145,19 +196,20 @@ module _ (s : Setup) (sound : IsSound s) (k : Key) (here : k.to < member_count s
         let there = kept.suspect t u x named says e begins r.0 in
         let live = live_count-le (member_count s) k.to (claim_kept u t).table here there.others.others in
         (there, begun t u x (omega (arith, begins.since, in_time), omega (arith, begins.members, live_count-positive (claim_kept u t).table), omega (arith, begins.members, live)) r.1);
-    confirm = λ t u named says e r. (kept.confirm t u named says e r.0, ended t u r.1);
+    confirm = λ t u named says e r. (kept.confirm t u named says e r.0, death_either (λ v. OfAll (Began s) v.suspicions) (profile_of s) u.subject k.at (without_suspicion u.subject (claim_kept u t)) (ended t u r.1) (ended t u r.1));
     accused = λ t u r. (kept.accused t u r.0, of_accused (Began s) (λ x accuser g h. h) t.suspicions u.subject u.accuser t.next_number r.1);
+    gossiping = λ t set r. (kept.gossiping t set r.0, r.1);
   }
     where
       kept : NewsMoves s k (Below s) (Keeps s k.to)
       kept = news s sound k
 
       ended : (t : State) (u : Update) → IsTimely s t → OfAll (Began s) (remove (claim_kept u t).suspicions u.subject)
-      ended t u h = kept_either (λ v. OfAll (Began s) (remove v.suspicions u.subject)) u t (of_left (Began s) t.suspicions u.subject h) (of_left (Began s) t.suspicions u.subject h)
+      ended t u h = kept_either (λ v. OfAll (Began s) (remove v.suspicions u.subject)) u t (of_left (Began s) t.suspicions u.subject h) (of_left (Began s) t.suspicions u.subject h) (of_left (Began s) t.suspicions u.subject h)
 
       begun : (t : State) (u : Update) (x : HeldSuspicion) → Began s x → IsTimely s t → OfAll (Began s) (insert (claim_kept u t).suspicions u.subject x)
       begun t u x own h =
-          kept_either (λ v. OfAll (Began s) (insert v.suspicions u.subject x)) u t (of_put (Began s) t.suspicions u.subject x own h) (of_put (Began s) t.suspicions u.subject x own h)
+          kept_either (λ v. OfAll (Began s) (insert v.suspicions u.subject x)) u t (of_put (Began s) t.suspicions u.subject x own h) (of_put (Began s) t.suspicions u.subject x own h) (of_put (Began s) t.suspicions u.subject x own h)
 
   timely_moves : Moves s k (Below s) (InTime s k.to)
   timely_moves = record {
@@ -172,9 +224,11 @@ module _ (s : Setup) (sound : IsSound s) (k : Key) (here : k.to < member_count s
     relay_added = λ t relay on r. (kept.relay_added t relay on r.0, r.1);
     relay_removed = λ t relay r. (kept.relay_removed t relay r.0, r.1);
     heard_dead = λ t r. (kept.heard_dead t r.0, r.1);
-    refuted = λ t r. (kept.refuted t r.0, r.1);
-    weakened = λ t r. (kept.weakened t r.0, r.1);
-    weighed = λ t probe r. (kept.weighed t probe r.0, r.1);
+    waiting = λ t waits r. (kept.waiting t waits r.0, r.1);
+    beaten = λ t beat r. (kept.beaten t beat r.0, r.1);
+    refuted = λ t claim number refutes r. (kept.refuted t claim number refutes r.0, r.1);
+    weakened = λ t failures r. (kept.weakened t failures r.0, r.1);
+    mended = λ t r. (kept.mended t r.0, r.1);
     welcomed = λ t r. (kept.welcomed t r.0, r.1);
     downed = λ t r. (kept.downed t r.0, r.1);
     began = λ t waits r. (kept.began t waits r.0, r.1);
@@ -190,6 +244,7 @@ module _ (s : Setup) (sound : IsSound s) (k : Key) (here : k.to < member_count s
     ping = λ t to r. kept.ping t to r.0;
     contact = kept.contact;
     helpers = λ t but count r. kept.helpers t but count r.0;
+    sample = λ t fitting count r. kept.sample t fitting count r.0;
     whole = λ t r. kept.whole t r.0;
   }
     where
@@ -199,11 +254,11 @@ module _ (s : Setup) (sound : IsSound s) (k : Key) (here : k.to < member_count s
   abbrev AllSoon : Effect → Type 0
   AllSoon o = AllByRecursion (λ e. Soon e.0.at) o.events
 
-  makes : Makes k (Below s) (Unit {0}) AnyRow Soon AllSoon
+  makes : Makes s k (Below s) (Unit {0}) AnyRow Soon AllSoon
   unfolding with_row with_event
   makes = record {
     row = λ tells about value lost o told named h. h;
-    event = λ at to content o soon there named h. all_append (λ e. Soon e.0.at) o.events _ h (soon, tt);
+    event = λ at to content o soon there named h. all_append (λ e. Soon e.0.at) o.events _ h (awake_soon to at soon, tt);
     lost = λ o h. h;
     state = λ t o same h. h;
   }

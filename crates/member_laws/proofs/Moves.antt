@@ -9,28 +9,32 @@ use Rattle.incarnation.specs.declared.Claim.{Claim}
 use Rattle.incarnation.specs.declared.Claim.TheVariants.{Alive, Suspect, Confirm}
 use Rattle.incarnation.specs.declared.Update.{Update}
 use Rattle.lifeguard.specs.declared.probe.Probe.{Probe}
-use Rattle.lifeguard.specs.Health.{LocalHealth, raised}
-use Rattle.lifeguard.specs.Probe.{after_probe}
+use Rattle.lifeguard.specs.Health.{LocalHealth, lowered, raised}
 use Rattle.probing.specs.ProbeOrder.{round_over, next_of, remove_of}
 use Rattle.suspicion.specs.Settings.{terms_of}
 use Rattle.suspicion.specs.Suspicions.{HeldSuspicion, after_accusation}
 use Rattle.member.specs.declared.member.Phase.{Phase}
 use Rattle.member.specs.declared.member.Phase.TheVariants.{Waiting, Joining, Running, Down}
-use Rattle.member.specs.State.{State}
+use Rattle.member.specs.State.{State, is_probed}
+use Rattle.base.specs.declared.profile.Profile.{Profile}
+use Rattle.base.specs.declared.profile.Profile.TheVariants.{Papers, Memberlist}
+use Rattle.scenario.specs.Profile.{profile_of}
+use Rattle.incarnation.specs.Refutations.{does_refute}
+use Rattle.membership.specs.Deaths.{confirmed_at}
 use Rattle.membership.specs.Table.{Known, is_confirm, does_override, live_count, all_alive}
 use Rattle.member.specs.Send.{with_picks}
-use Rattle.member.specs.Apply.{with_claim, with_place, placed_unless_known, claim_kept}
+use Rattle.member.specs.Apply.{with_claim, with_place, claim_kept, without_suspicion, death_kept}
 use Rattle.member.specs.Step.{first_others}
 
 -- whether a claim says something new, beside what is held
-abbrev pub is_news : Claim × ℕ → Option (Claim × ℕ) → Bool
-is_news new None = true
-is_news new (Some held) = does_override new held
+abbrev pub is_news : Profile → Claim × ℕ → Option (Claim × ℕ) → Bool
+is_news profile new None = true
+is_news profile new (Some held) = does_override profile new held
 
 -- an update about another member that says something new
-pub record IsNews (me : ℕ) (t : State) (u : Update) : Type 0 where
+pub record IsNews (profile : Profile) (me : ℕ) (t : State) (u : Update) : Type 0 where
   pub other : ¬ (u.subject ≡ me)
-  pub news : is_news (u.claim, u.inc) (get t.table u.subject) ≡ true
+  pub news : is_news profile (u.claim, u.inc) (get t.table u.subject) ≡ true
 
 -- a suspicion that starts at the event, in the state that the claim leaves
 pub record Begins (s : Setup) (k : Key) (t : State) (x : HeldSuspicion) : Type 0 where
@@ -42,13 +46,15 @@ pub record Begins (s : Setup) (k : Key) (t : State) (x : HeldSuspicion) : Type 0
 pub record NewsMoves (s : Setup) (k : Key) (Named : ℕ → Type 0) (R : State → Type 0) : Type 0 where
   pub counted : (t : State) → R t → R (record t { next_number = t.next_number + 1 })
   pub put : (t : State) (u : Update) → Named u.subject → R t → R (record t { buffer = insert t.buffer u.subject (u, 0) })
-  pub alive : (t : State) (u : Update) → Named u.subject → IsNews k.to t u → u.claim ≡ Alive → R t
+  pub alive : (t : State) (u : Update) → Named u.subject → IsNews (profile_of s) k.to t u → u.claim ≡ Alive → R t
       → R (record (claim_kept u t) { suspicions = remove (claim_kept u t).suspicions u.subject })
-  pub suspect : (t : State) (u : Update) (x : HeldSuspicion) → Named u.subject → IsNews k.to t u → u.claim ≡ Suspect → Begins s k (claim_kept u t) x → R t
+  pub suspect : (t : State) (u : Update) (x : HeldSuspicion) → Named u.subject → IsNews (profile_of s) k.to t u → u.claim ≡ Suspect → Begins s k (claim_kept u t) x → R t
       → R (record (claim_kept u t) { suspicions = insert (claim_kept u t).suspicions u.subject x })
-  pub confirm : (t : State) (u : Update) → Named u.subject → IsNews k.to t u → u.claim ≡ Confirm → R t
-      → R (record (claim_kept u t) { suspicions = remove (claim_kept u t).suspicions u.subject; rota = remove_of u.subject (claim_kept u t).rota })
+  pub confirm : (t : State) (u : Update) → Named u.subject → IsNews (profile_of s) k.to t u → u.claim ≡ Confirm → R t
+      → R (death_kept (profile_of s) u.subject k.at (without_suspicion u.subject (claim_kept u t)))
   pub accused : (t : State) (u : Update) → R t → R (record t { suspicions = after_accusation t.suspicions u.subject u.accuser t.next_number })
+  -- the gossip timer is set, or due
+  pub gossiping : (t : State) (set : Bool) → R t → R (record t { gossips = set })
 
 -- a member that starts at moment 0, and one that starts later
 abbrev pub at_once : Setup → Key → State → State
@@ -69,29 +75,34 @@ pub record Moves (s : Setup) (k : Key) (Named : ℕ → Type 0) (R : State → T
   pub turned : (t : State) → R t → R (record t { rota = (next_of t.words t.rota).1; words = (next_of t.words t.rota).2 })
   pub relay_added : (t : State) (relay : ℕ × ℕ) → s.lifeguard.probe ≡ true → R t → R (record t { relays = set.insert t.relays relay })
   pub relay_removed : (t : State) (relay : ℕ × ℕ) → R t → R (record t { relays = set.remove t.relays relay })
+  -- the next probe waits for the present one, or no more
+  pub waiting : (t : State) (waits : Bool) → R t → R (record t { waits = waits })
+  pub beaten : (t : State) (beat : ℕ) → R t → R (record t { beat = beat })
   -- oneself
   pub heard_dead : (t : State) → R t → R (record t { heard_dead = true })
-  pub refuted : (t : State) → R t → R (record t { incarnation = t.incarnation + 1 })
-  pub weakened : (t : State) → R t → R (record t { health = raised t.health 1 })
-  pub weighed : (t : State) (probe : Probe) → R t → R (record t { health = after_probe t.health probe })
+  pub refuted : (t : State) (claim : Claim) (number : ℕ) → does_refute (profile_of s) t.incarnation claim number ≡ true → R t → R (record t { incarnation = number + 1 })
+  pub weakened : (t : State) (failures : ℕ) → R t → R (record t { health = raised t.health failures })
+  pub mended : (t : State) → R t → R (record t { health = lowered t.health })
   -- phases
   pub welcomed : (t : State) → R t → R (record t { phase = Running })
   pub downed : (t : State) → R t → R (record t { phase = Down })
   pub began : (t : State) → t.phase ≡ Waiting → R t → R (at_once s k t)
   pub late : (t : State) → t.phase ≡ Waiting → R t → R (at_late t)
 
--- What is so of a state with the claim, and with the subject in its rota too, is so where the claim is kept.
-pub kept_either : (P : State → Type 0) (u : Update) (t : State) → P (with_claim u t) → P (with_place u.subject (with_claim u t)) → P (claim_kept u t)
-unfolding claim_kept
-kept_either P u t plain placed = of_held (get t.table u.subject)
-  where
-    of_claim : (b : Bool) → P (cond b (with_claim u t) (with_place u.subject (with_claim u t)))
-    of_claim true = plain
-    of_claim false = placed
+either : (P : State → Type 0) (b : Bool) (t v : State) → P t → P v → P (cond b t v)
+either P true t v a c = a
+either P false t v a c = c
 
-    of_held : (held : Option (Claim × ℕ)) → P (placed_unless_known held u (with_claim u t))
-    of_held None = of_claim (is_confirm u.claim)
-    of_held (Some held) = plain
+-- What is so of a state with the claim, and with the subject in its rota or out of it too, is so where the claim is kept.
+pub kept_either : (P : State → Type 0) (u : Update) (t : State) → P (record (with_claim u t) { rota = remove_of u.subject t.rota }) → P (with_claim u t) → P (with_place u.subject (with_claim u t))
+    → P (claim_kept u t)
+unfolding claim_kept
+kept_either P u t out plain placed = either P (is_confirm u.claim) _ _ out (either P (is_probed (get t.table u.subject)) _ _ plain placed)
+
+-- what is so whether or not the moment of a death is kept
+pub death_either : (P : State → Type 0) (profile : Profile) (subject now : ℕ) (t : State) → P t → P (record t { since = confirmed_at subject now t.since }) → P (death_kept profile subject now t)
+death_either P Papers subject now t plain kept = plain
+death_either P Memberlist subject now t plain kept = kept
 
 -- nobody is left out
 abbrev pub Anyone : ℕ → Type 0
@@ -104,24 +115,25 @@ FactOf P t = P t.phase t.incarnation t.health t.table
 
 -- News keep such a fact where a claim that is taken in does.
 pub keeps_news : (s : Setup) (k : Key) (P : Phase → ℕ → LocalHealth → Known → Type 0)
-    → ((t : State) (u : Update) → IsNews k.to t u → FactOf P t → FactOf P (with_claim u t)) → NewsMoves s k Anyone (FactOf P)
+    → ((t : State) (u : Update) → IsNews (profile_of s) k.to t u → FactOf P t → FactOf P (with_claim u t)) → NewsMoves s k Anyone (FactOf P)
 keeps_news s k P claimed = record {
   counted = λ t h. h;
   put = λ t u named h. h;
   alive = λ t u named says e h. kept t u says h;
   suspect = λ t u x named says e begins h. kept t u says h;
-  confirm = λ t u named says e h. kept t u says h;
+  confirm = λ t u named says e h. death_either (FactOf P) (profile_of s) u.subject k.at (without_suspicion u.subject (claim_kept u t)) (kept t u says h) (kept t u says h);
   accused = λ t u h. h;
+  gossiping = λ t set h. h;
 }
   where
-    kept : (t : State) (u : Update) → IsNews k.to t u → FactOf P t → FactOf P (claim_kept u t)
-    kept t u says h = kept_either (FactOf P) u t (claimed t u says h) (claimed t u says h)
+    kept : (t : State) (u : Update) → IsNews (profile_of s) k.to t u → FactOf P t → FactOf P (claim_kept u t)
+    kept t u says h = kept_either (FactOf P) u t (claimed t u says h) (claimed t u says h) (claimed t u says h)
 
 -- The other changes that there are to these four.
 pub record OwnMoves (s : Setup) (k : Key) (R : State → Type 0) : Type 0 where
-  pub refuted : (t : State) → R t → R (record t { incarnation = t.incarnation + 1 })
-  pub weakened : (t : State) → R t → R (record t { health = raised t.health 1 })
-  pub weighed : (t : State) (probe : Probe) → R t → R (record t { health = after_probe t.health probe })
+  pub refuted : (t : State) (claim : Claim) (number : ℕ) → does_refute (profile_of s) t.incarnation claim number ≡ true → R t → R (record t { incarnation = number + 1 })
+  pub weakened : (t : State) (failures : ℕ) → R t → R (record t { health = raised t.health failures })
+  pub mended : (t : State) → R t → R (record t { health = lowered t.health })
   pub welcomed : (t : State) → R t → R (record t { phase = Running })
   pub downed : (t : State) → R t → R (record t { phase = Down })
   pub began : (t : State) → t.phase ≡ Waiting → R t → R (at_once s k t)
@@ -139,10 +151,12 @@ keeps_moves s k P own = record {
   turned = λ t h. h;
   relay_added = λ t relay on h. h;
   relay_removed = λ t relay h. h;
+  waiting = λ t waits h. h;
+  beaten = λ t beat h. h;
   heard_dead = λ t h. h;
   refuted = own.refuted;
   weakened = own.weakened;
-  weighed = own.weighed;
+  mended = own.mended;
   welcomed = own.welcomed;
   downed = own.downed;
   began = own.began;

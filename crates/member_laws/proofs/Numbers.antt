@@ -1,9 +1,14 @@
 -- A member's own incarnation number.
-use Rattle.std.proofs.Common.{◌≡◌, ℕ, ◌+◌, ◌≤◌, Bool, true, false, cond, nat_eq, Option, None, refl, ap, ◌∙◌, arith}
-use Rattle.std.proofs.lemmas.Bool.{eq-eqb, eqb-true, eqb-false}
+use Rattle.std.proofs.Common.{◌≡◌, ℕ, ◌+◌, ◌-◌, ◌≤◌, Bool, true, false, cond, nat_eq, Option, Some, None, refl, sym, ap, ◌∙◌, arith}
+use Rattle.std.proofs.lemmas.Bool.{eq-eqb, eqb-true, eqb-false, false≢true}
 use Rattle.std.specs.FinMap.{get}
 use Rattle.base.specs.declared.key.Key.{Key}
 use Rattle.scenario.specs.Setup.{Setup}
+use Rattle.scenario.specs.Profile.{profile_of}
+use Rattle.scenario.specs.declared.settings.Gossip as settings
+use Rattle.base.specs.Beats.{next_in_step}
+use Rattle.base.specs.declared.profile.Profile.TheVariants.{Papers}
+use Rattle.incarnation.specs.Refutations.{does_refute}
 use Rattle.trace.specs.declared.row.What.{What}
 use Rattle.incarnation.specs.declared.Claim.{Claim}
 use Rattle.incarnation.specs.declared.Claim.TheVariants.{Alive, Suspect, Confirm}
@@ -14,11 +19,13 @@ use Rattle.membership.specs.Table.{Known}
 use Rattle.member.specs.declared.member.Phase.{Phase}
 use Rattle.member.specs.declared.member.Phase.TheVariants.{Waiting}
 use Rattle.member.specs.State.{State}
-use Rattle.member.specs.Turn.{Effect, on_state, with_row}
+use Rattle.member.specs.declared.content.Content.TheVariants.{GossipTimer}
+use Rattle.member.specs.Turn.{Effect, on_state, with_row, with_event}
 use Rattle.member.specs.Opening.{opening_state}
-use Rattle.member.specs.Apply.{with_put, with_health, refuted, heard_dead, own_applied, other_applied, applied}
+use Rattle.member.specs.Apply.{gossip_set, with_put, with_health, refuted, heard_dead, is_own_death, own_applied, other_applied, applied}
 use Rattle.member.specs.Step.{step}
-use Rattle.member_laws.specs.Words.{AccusesOneself, WaitsAsOpened}
+use Rattle.member.proofs.Worn.{refutes_over}
+use Rattle.member_laws.specs.Words.{AccusesOneself, IsRefuted, WaitsAsOpened}
 use Rattle.member_laws.proofs.Moves.{NewsMoves, FactOf, OwnMoves, keeps_news, keeps_moves, Anyone}
 use Rattle.member_laws.proofs.Walk.{on_other, on_step, anyone_named}
 
@@ -42,40 +49,68 @@ after_health k h o = either (nat_eq h.counter o.state.health.counter)
     either true = refl
     either false = ap (λ (t : State). t.incarnation) (after_row k _ _ h.counter false (on_state (λ t. record t { health = h }) o))
 
-one_more : (k : Key) (o : Effect) → (refuted k o).state.incarnation ≡ o.state.incarnation + 1
-unfolding refuted with_put
-one_more k o = after_health k _ _ ∙ ap (λ (t : State). t.incarnation) (after_row k _ _ _ false _)
+after_event : (s : Setup) (k : Key) (at to : ℕ) (content : Content) (o : Effect) → (with_event s k at to content o).state.incarnation ≡ o.state.incarnation
+unfolding with_event
+after_event s k at to content o = refl
 
-own_same : (k : Key) (claim : Claim) (number : ℕ) (b : Bool) (o : Effect) → nat_eq number o.state.incarnation ≡ b → ¬ ((claim ≡ Suspect) × (number ≡ o.state.incarnation))
-    → (own_applied k claim number o).state.incarnation ≡ o.state.incarnation
-unfolding heard_dead
-own_same k Alive number b o e none = refl
-own_same k Suspect number true o e none = absurd (none (refl, eqb-true number o.state.incarnation e))
-own_same k Suspect number false o e none = rw e refl
-own_same k Confirm number b o e none = heard o.state.heard_dead
+after_gossip : (s : Setup) (k : Key) (gossip : Option settings.Gossip) (o : Effect) → (gossip_set s k gossip o).state.incarnation ≡ o.state.incarnation
+after_gossip s k None o = refl
+after_gossip s k (Some gossip) o = either o.state.gossips
   where
-    heard : (b : Bool) → (cond b o (heard_dead k number o)).state.incarnation ≡ o.state.incarnation
-    heard true = refl
-    heard false = ap (λ (t : State). t.incarnation) (after_row k _ _ number false _)
+    set : Effect
+    set = with_event s k (next_in_step (o.state.beat - 1) gossip.interval k.at) k.to GossipTimer (on_state (λ t. record t { gossips = true }) o)
 
-pub refutes : (s : Setup) (loud : Bool) (k : Key) (u : Update) (o : Effect) → AccusesOneself k.to o.state u
-    → (applied s loud k u o).state.incarnation ≡ o.state.incarnation + 1
+    either : (b : Bool) → (cond b o set).state.incarnation ≡ o.state.incarnation
+    either true = refl
+    either false = after_event s k (next_in_step (o.state.beat - 1) gossip.interval k.at) k.to GossipTimer (on_state (λ t. record t { gossips = true }) o)
+
+one_more : (s : Setup) (k : Key) (number : ℕ) (o : Effect) → (refuted s k number o).state.incarnation ≡ number
+unfolding refuted with_put
+one_more s k number o = after_gossip s k s.gossip _ ∙ after_health k _ _ ∙ ap (λ (t : State). t.incarnation) (after_row k _ _ _ false _)
+
+own_same : (s : Setup) (k : Key) (claim : Claim) (number : ℕ) (b : Bool) (o : Effect) → (cond b (heard_dead k number o) o).state.incarnation ≡ o.state.incarnation
+unfolding heard_dead
+own_same s k claim number true o = ap (λ (t : State). t.incarnation) (after_row k _ _ number false _)
+own_same s k claim number false o = refl
+
+own_either : (s : Setup) (k : Key) (claim : Claim) (number : ℕ) (b : Bool) (o : Effect) → b ≡ false
+    → (cond b (refuted s k (number + 1) o) (cond (is_own_death (profile_of s) claim o.state.heard_dead) (heard_dead k number o) o)).state.incarnation ≡ o.state.incarnation
+own_either s k claim number true o is = absurd (false≢true (sym is))
+own_either s k claim number false o is = own_same s k claim number (is_own_death (profile_of s) claim o.state.heard_dead) o
+
+not_true : (b : Bool) → ¬ (b ≡ true) → b ≡ false
+not_true true never = absurd (never refl)
+not_true false never = refl
+
+pub refutes : (s : Setup) (loud : Bool) (k : Key) (u : Update) (o : Effect) → IsRefuted (profile_of s) k.to o.state u
+    → (applied s loud k u o).state.incarnation ≡ u.inc + 1
 unfolding applied
-refutes s loud k u o own =
-    rw (eq-eqb u.subject k.to own.own, own.claim, eq-eqb u.inc o.state.incarnation own.present) (one_more k o)
+refutes s loud k u o is = rw (eq-eqb u.subject k.to is.own, is.refutes) (one_more s k (u.inc + 1) o)
 
-pub else_same : (s : Setup) (loud : Bool) (k : Key) (u : Update) (o : Effect) → ¬ (AccusesOneself k.to o.state u)
+pub else_same : (s : Setup) (loud : Bool) (k : Key) (u : Update) (o : Effect) → ¬ (IsRefuted (profile_of s) k.to o.state u)
     → (applied s loud k u o).state.incarnation ≡ o.state.incarnation
 unfolding applied
 else_same s loud k u o other = either (nat_eq u.subject k.to) refl
   where
     either : (b : Bool) → nat_eq u.subject k.to ≡ b
-        → (cond b (own_applied k u.claim u.inc o) (other_applied s loud k u (get o.state.table u.subject) o)).state.incarnation ≡ o.state.incarnation
+        → (cond b (own_applied s k u.claim u.inc o) (other_applied s loud k u (get o.state.table u.subject) o)).state.incarnation ≡ o.state.incarnation
     either true e =
-        own_same k u.claim u.inc (nat_eq u.inc o.state.incarnation) o refl
-        (λ is. other (record { own = eqb-true u.subject k.to e; claim = is.0; present = is.1 }))
+        own_either s k u.claim u.inc (does_refute (profile_of s) o.state.incarnation u.claim u.inc) o
+        (not_true _ (λ yes. other (record { own = eqb-true u.subject k.to e; refutes = yes })))
     either false e =
         on_other s k Anyone (FactOf (Same o.state.incarnation)) (same_news s k o.state.incarnation) loud u (get o.state.table u.subject) o tt (eqb-false u.subject k.to e) refl refl
+
+-- by the papers' rules what is refuted is a suspicion at one's present number
+pub refuted_by_papers : (me : ℕ) (t : State) (u : Update) → AccusesOneself me t u → IsRefuted Papers me t u
+refuted_by_papers me t u is = record { own = is.own; refutes = rw is.claim (eq-eqb u.inc t.incarnation is.present) }
+
+pub papers_refute : (me : ℕ) (t : State) (u : Update) → IsRefuted Papers me t u → AccusesOneself me t u
+papers_refute me t u is = by_claim u.claim refl is.refutes
+  where
+    by_claim : (claim : Claim) → u.claim ≡ claim → does_refute Papers t.incarnation claim u.inc ≡ true → AccusesOneself me t u
+    by_claim Alive e h = absurd (false≢true h)
+    by_claim Suspect e h = record { own = is.own; claim = e; present = eqb-true u.inc t.incarnation h }
+    by_claim Confirm e h = absurd (false≢true h)
 
 -- ---- a step
 
@@ -85,9 +120,9 @@ NoLess n phase number health table = (n ≤ number) × (phase ≡ Waiting → n 
 
 moves : (s : Setup) (k : Key) (n : ℕ) → OwnMoves s k (FactOf (NoLess n))
 moves s k n = record {
-  refuted = λ t h. (let low = h.0 in omega arith, h.1);
-  weakened = λ t h. h;
-  weighed = λ t probe h. h;
+  refuted = λ t claim number refutes h. (let over = refutes_over (profile_of s) t.incarnation claim number refutes in let low = h.0 in omega arith, h.1);
+  weakened = λ t failures h. h;
+  mended = λ t h. h;
   welcomed = λ t h. (h.0, λ is. absurd (let e = is in cc));
   downed = λ t h. (h.0, λ is. absurd (let e = is in cc));
   began = λ t waits h. (let none = h.1 waits in omega arith, λ is. h.1 waits);

@@ -1,6 +1,8 @@
 -- Wherever a run has come.
 use Rattle.membership.proofs.Few.{entries_below, few_entries}
 use Rattle.member.proofs.Helpers.{helpers_below}
+use Rattle.member.proofs.Samples.{candidates_below, sample_below}
+use Rattle.membership.specs.Candidates.{does_fit}
 use Rattle.member_laws.proofs.Walk.{NamesOnly}
 use Rattle.std.proofs.Common.{◌≡◌, ℕ, zero, suc, ◌+◌, ◌<◌, ◌≤◌, Bool, true, false, cond, eqb, List, [], ◌∷◌, ◌++◌, map, flat_map, Option, Some, None, All, option_map, refl, sym, ap, subst, ◌∙◌, arith, ◌-◌, ◌^◌, length, filter, not, nat_eq, ◌&&◌}
 use Rattle.std.proofs.lemmas.Option.{same_Some}
@@ -34,12 +36,13 @@ use Rattle.membership.specs.Table.{is_suspect, alive_but, is_alive}
 use Rattle.member.specs.Turn.{Effect, with_row, with_event}
 use Rattle.member.specs.Send.{limit_of, suspicion_told, buddy_of}
 use Rattle.member.specs.Opening.{opening_state, opening, numbers, ending_event, script_of}
-use Rattle.member.specs.Step.{step}
+use Rattle.member.specs.Step.{step, candidates_for}
 use Rattle.member_laws.specs.Words.{IsConsistent, IsAmongMembers}
 use Rattle.member_laws.specs.Rows.{IsOn}
 use Rattle.member_laws.specs.Runs.{Cluster, IsReached}
 use Rattle.member_laws.proofs.Tables.{get_put}
 use Rattle.member_laws.proofs.Made.{MayTell, Carries, Makes, AnyTime, any_time, by_step}
+use Rattle.member_laws.proofs.Sampled.{sample_fits}
 use Rattle.member_laws.proofs.Carried.{all_picked, all_whole, all_map, all_filter}
 use Rattle.member_laws.proofs.Consistency.{Keeps, news, moves, started_at_once, started_late, keeps, opening_consistent, step_consistent, names_only, names_members}
 use Rattle.member_laws.proofs.Switches.{each_row_is_on}
@@ -118,6 +121,9 @@ module _ (s : Setup) (sound : IsSound s) (k : Key) (here : k.to < member_count s
     contact = contact_low (start_of s k.to) refl;
     helpers = λ t target count r.
         recursion_from_All (Below s) _ (helpers_below (member_count s) count t.words (alive_but target t.table) r.words (few t target r) (All-from_recursion (Below s) _ (alive_low t target r)));
+    sample = λ t fitting count r.
+        let all = candidates_below (member_count s) k.to (does_fit fitting t.since) t.table (λ q at. (r.others.others q at).0) in
+        recursion_from_All (Below s) _ (sample_below (member_count s) (candidates_for k fitting t) _ all (sample_fits t.words count (candidates_for k fitting t)));
     whole = λ t r. all_whole (Below s) k.to t.incarnation t.table here (λ q at. (r.others.others q at).0);
   }
 
@@ -128,12 +134,12 @@ module _ (s : Setup) (sound : IsSound s) (k : Key) (here : k.to < member_count s
   unfolding with_row
   ours_row tells about value lost o told named h = h
 
-  ours_event : (at to : ℕ) (content : Content) (o : Effect) → AnyTime at → Below s to → NamesOnly (Below s) (Unit {0}) content → AllOurs o → AllOurs (with_event k at to content o)
+  ours_event : (at to : ℕ) (content : Content) (o : Effect) → AnyTime at → Below s to → NamesOnly (Below s) (Unit {0}) content → AllOurs o → AllOurs (with_event s k at to content o)
   unfolding with_event
   ours_event at to content o timed there named h =
       all_append (λ e. IsAmongMembers s e.0 e.1) o.events _ h (record { receiver = there; sender = here; names = names_members (member_count s) content named }, tt)
 
-  makes : Makes k (Below s) (Unit {0}) AnyRow AnyTime AllOurs
+  makes : Makes s k (Below s) (Unit {0}) AnyRow AnyTime AllOurs
   makes = record { row = ours_row; event = ours_event; lost = λ o h. h; state = λ t o same h. h }
 
   step_ours : (c : Content) (t : State) → IsAmongMembers s k c → IsConsistent s k.to t → AllByRecursion (λ e. IsAmongMembers s e.0 e.1) (step s k c t).events
@@ -151,11 +157,11 @@ module _ (s : Setup) (sound : IsSound s) (k : Key) (here : k.to < member_count s
     unfolding with_row
     naming_row tells about value lost o told named h = all_append (NamesMembers s) o.rows _ h (record { member = here; from = maker; about = named }, tt)
 
-    naming_event : (at to : ℕ) (content : Content) (o : Effect) → AllNaming o → AllNaming (with_event k at to content o)
+    naming_event : (at to : ℕ) (content : Content) (o : Effect) → AllNaming o → AllNaming (with_event s k at to content o)
     unfolding with_event
     naming_event at to content o h = h
 
-    names : Makes k (Below s) (Unit {0}) AnyRow AnyTime AllNaming
+    names : Makes s k (Below s) (Unit {0}) AnyRow AnyTime AllNaming
     names = record { row = naming_row; event = λ at to content o timed there named h. naming_event at to content o h; lost = λ o h. h; state = λ t o same h. h }
 
     step_names : (c : Content) (t : State) → IsAmongMembers s k c → IsConsistent s k.to t → AllNaming (step s k c t)

@@ -1,5 +1,5 @@
 -- What each step keeps of a member's state and of the events that pend, a run keeps.
-use Rattle.std.proofs.Common.{◌≡◌, ℕ, ◌≤◌, Bool, true, false, cond, eqb, List, [], ◌∷◌, map, Option, Some, None, refl, sym, ap, subst, ◌∙◌, arith}
+use Rattle.std.proofs.Common.{◌≡◌, ℕ, ◌<◌, ◌≤◌, Bool, true, false, cond, eqb, List, [], ◌∷◌, map, Option, Some, None, refl, sym, ap, subst, ◌∙◌, arith}
 use Rattle.std.proofs.lemmas.Option.{same_Some}
 use Rattle.std.specs.Option.{is_some, option_map}
 use Rattle.std.specs.List.{AllByRecursion}
@@ -11,8 +11,10 @@ use Rattle.base.specs.Order.{key_cmp, key_total}
 use Rattle.base.specs.World.{Machine, World, settled, rows_of, Run}
 use Rattle.base.proofs.Rising.{all_append}
 use Rattle.base.proofs.Kept.{HoldsOfAll, all_with_events}
+use Rattle.base.specs.declared.profile.Profile.TheVariants.{Papers, Memberlist}
+use Rattle.scenario.specs.Profile.{profile_of}
 use Rattle.scenario.specs.Setup.{Setup}
-use Rattle.incarnation.specs.declared.Claim.TheVariants.{Confirm}
+use Rattle.incarnation.specs.declared.Claim.TheVariants.{Alive, Confirm}
 use Rattle.member.specs.declared.content.Content.{Content}
 use Rattle.member.specs.State.{State}
 use Rattle.member.specs.Opening.{opening_state, opening, numbers}
@@ -22,6 +24,7 @@ use Rattle.member_laws.specs.Runs.{Cluster, LeadsTo, IsReached}
 use Rattle.member_laws.proofs.Tables.{get_put}
 use Rattle.member_laws.proofs.Numbers.{never_falls}
 use Rattle.member_laws.proofs.Confirms.{stays_confirmed}
+use Rattle.member_laws.proofs.Revivals.{HeldOver, stays_over, confirmed_over, alive_over}
 use Rattle.member_laws.proofs.Healths.{waits_step}
 
 -- ---- any machine
@@ -111,6 +114,9 @@ abbrev AsConfirmed : Setup → Cluster → ℕ → State → Type 0
 AsConfirmed s w m u =
     WaitsAsOpened s m u × ((t : State) (q i : ℕ) → get w.members m ≡ Some t → get t.table q ≡ Some (Confirm, i) → get u.table q ≡ Some (Confirm, i))
 
+abbrev AsRevived : Setup → Cluster → ℕ → State → Type 0
+AsRevived s w m u = WaitsAsOpened s m u × ((t : State) (q j : ℕ) → get w.members m ≡ Some t → get t.table q ≡ Some (Confirm, j) → HeldOver q j u.table)
+
 module _ (s : Setup) (w v : Cluster) (reached : IsReached s w) (leads : LeadsTo s w v) (m : ℕ) (t u : State) (before : get w.members m ≡ Some t) (behind : get v.members m ≡ Some u) where
   pub rises : t.incarnation ≤ u.incarnation
   rises =
@@ -122,12 +128,24 @@ module _ (s : Setup) (w v : Cluster) (reached : IsReached s w) (leads : LeadsTo 
         events = λ k c here. tt;
       })).members m u behind).1 t before
 
-  pub confirmed_stays : (q i : ℕ) → get t.table q ≡ Some (Confirm, i) → get u.table q ≡ Some (Confirm, i)
-  confirmed_stays q i =
+  pub confirmed_stays : profile_of s ≡ Papers → (q i : ℕ) → get t.table q ≡ Some (Confirm, i) → get u.table q ≡ Some (Confirm, i)
+  confirmed_stays papers q i =
       ((run_kept (step s) (AsConfirmed s w) AnyEvent s.end
-      (λ k c x _ _ h. ((waits_step s k c x h.0, λ y q i here at. stays_confirmed s k c x q i h.0 (h.1 y q i here at)), all_any _))
+      (λ k c x _ _ h. ((waits_step s k c x h.0, λ y q i here at. stays_confirmed s papers k c x q i h.0 (h.1 y q i here at)), all_any _))
       leads.0 w v leads.1 leads.2
       (record {
         members = λ n x here. (waiting_opened s w reached n x here, λ y q i there at. ap (λ (z : State). get z.table q) (same_Some x y (sym here ∙ there)) ∙ at);
         events = λ k c here. tt;
       })).members m u behind).1 t q i before
+
+  pub revived_later : profile_of s ≡ Memberlist → (q j i : ℕ) → get t.table q ≡ Some (Confirm, j) → get u.table q ≡ Some (Alive, i) → j < i
+  revived_later rules q j i confirmed alive =
+      alive_over q j i u.table
+      (((run_kept (step s) (AsRevived s w) AnyEvent s.end
+      (λ k c x _ _ h. ((waits_step s k c x h.0, λ y q j here at. stays_over s rules k c x q j h.0 (h.1 y q j here at)), all_any _))
+      leads.0 w v leads.1 leads.2
+      (record {
+        members = λ n x here. (waiting_opened s w reached n x here, λ y q j there at. confirmed_over q j x.table (ap (λ (z : State). get z.table q) (same_Some x y (sym here ∙ there)) ∙ at));
+        events = λ k c here. tt;
+      })).members m u behind).1 t q j before confirmed)
+      alive

@@ -16,7 +16,6 @@ use Rattle.trace.specs.declared.row.What.TheVariants as what
 use Rattle.incarnation.specs.declared.Update.{Update}
 use Rattle.lifeguard.specs.Health.{LocalHealth}
 use Rattle.lifeguard.proofs.RelaySets.{relays_total}
-use Rattle.probing.specs.ProbeOrder.{remove_of}
 use Rattle.suspicion.specs.declared.terms.Terms.{Terms}
 use Rattle.suspicion.specs.Settings.{terms_of}
 use Rattle.suspicion.specs.Suspicions.{HeldSuspicion, HeldSuspicions, counts, with_accuser, accused}
@@ -24,16 +23,17 @@ use Rattle.member.specs.declared.content.Content.{Content}
 use Rattle.member.specs.State.{State}
 use Rattle.member.specs.Turn.{Effect, with_row, with_event}
 use Rattle.member.specs.Send.{suspicion_told, buddy_of}
-use Rattle.member.specs.Apply.{claim_kept}
+use Rattle.scenario.specs.Profile.{profile_of}
+use Rattle.member.specs.Apply.{claim_kept, without_suspicion, death_kept}
 use Rattle.member.specs.Opening.{opening_health}
 use Rattle.member.specs.Step.{step}
 use Rattle.member_laws.specs.Words.{HasTerms, OwesNoneWithout, IsConsistent}
 use Rattle.member_laws.specs.Rows.{IsOn}
-use Rattle.member_laws.proofs.Moves.{NewsMoves, Moves, kept_either, Anyone}
+use Rattle.member_laws.proofs.Moves.{NewsMoves, Moves, kept_either, death_either, Anyone}
 use Rattle.member_laws.proofs.Walk.{all_anyone, anyone_named}
 use Rattle.member_laws.proofs.Made.{IsPlain, MayTell, Makes, AnyTime, any_time, by_step, Carries}
 use Rattle.member_laws.proofs.Tables.{OfAll, of_put, of_left, of_accused}
-use Rattle.member_laws.proofs.Consistency.{IsHealthy, healthy_raised, healthy_weighed, relay_gone}
+use Rattle.member_laws.proofs.Consistency.{IsHealthy, healthy_raised, healthy_lowered, relay_gone}
 
 -- ---- what the switches stand on
 
@@ -58,6 +58,7 @@ module _ (s : Setup) (k : Key) where
       relays = h.relays;
       health = h.health;
     };
+    gossiping = λ t set h. record { terms = h.terms; relays = h.relays; health = h.health };
   }
     where
       left : (t : State) (u : Update) → IsSet s t → Settled (remove t.suspicions u.subject) (terms_of s)
@@ -66,13 +67,12 @@ module _ (s : Setup) (k : Key) where
       ended : (t : State) (u : Update) → IsSet s t → IsSet s (record (claim_kept u t) { suspicions = remove (claim_kept u t).suspicions u.subject })
       ended t u h =
           kept_either (λ v. IsSet s (record v { suspicions = remove v.suspicions u.subject })) u t
-          (record { terms = left t u h; relays = h.relays; health = h.health }) (record { terms = left t u h; relays = h.relays; health = h.health })
+          (record { terms = left t u h; relays = h.relays; health = h.health }) (record { terms = left t u h; relays = h.relays; health = h.health }) (record { terms = left t u h; relays = h.relays; health = h.health })
 
-      out : (t : State) (u : Update) → IsSet s t
-          → IsSet s (record (claim_kept u t) { suspicions = remove (claim_kept u t).suspicions u.subject; rota = remove_of u.subject (claim_kept u t).rota })
+      out : (t : State) (u : Update) → IsSet s t → IsSet s (death_kept (profile_of s) u.subject k.at (without_suspicion u.subject (claim_kept u t)))
       out t u h =
-          kept_either (λ v. IsSet s (record v { suspicions = remove v.suspicions u.subject; rota = remove_of u.subject v.rota })) u t
-          (record { terms = left t u h; relays = h.relays; health = h.health }) (record { terms = left t u h; relays = h.relays; health = h.health })
+          let kept = ended t u h in
+          death_either (IsSet s) (profile_of s) u.subject k.at (without_suspicion u.subject (claim_kept u t)) kept (record { terms = kept.terms; relays = kept.relays; health = kept.health })
 
       more : (t : State) (u : Update) (x : HeldSuspicion) → x.terms ≡ terms_of s → IsSet s t → Settled (insert t.suspicions u.subject x) (terms_of s)
       more t u x own h = of_put (λ x. x.terms ≡ terms_of s) t.suspicions u.subject x own h.terms
@@ -81,7 +81,7 @@ module _ (s : Setup) (k : Key) where
           → IsSet s (record (claim_kept u t) { suspicions = insert (claim_kept u t).suspicions u.subject x })
       begun t u x own h =
           kept_either (λ v. IsSet s (record v { suspicions = insert v.suspicions u.subject x })) u t
-          (record { terms = more t u x own h; relays = h.relays; health = h.health }) (record { terms = more t u x own h; relays = h.relays; health = h.health })
+          (record { terms = more t u x own h; relays = h.relays; health = h.health }) (record { terms = more t u x own h; relays = h.relays; health = h.health }) (record { terms = more t u x own h; relays = h.relays; health = h.health })
 
   moves : Moves s k Anyone (IsSet s)
   moves = record {
@@ -100,9 +100,11 @@ module _ (s : Setup) (k : Key) where
       health = h.health;
     };
     heard_dead = λ t h. record { terms = h.terms; relays = h.relays; health = h.health };
-    refuted = λ t h. record { terms = h.terms; relays = h.relays; health = h.health };
-    weakened = λ t h. record { terms = h.terms; relays = h.relays; health = healthy_raised (opening_health s).ceiling t.health 1 h.health };
-    weighed = λ t probe h. record { terms = h.terms; relays = h.relays; health = healthy_weighed (opening_health s).ceiling t.health probe h.health };
+    waiting = λ t waits h. record { terms = h.terms; relays = h.relays; health = h.health };
+    beaten = λ t beat h. record { terms = h.terms; relays = h.relays; health = h.health };
+    refuted = λ t claim number refutes h. record { terms = h.terms; relays = h.relays; health = h.health };
+    weakened = λ t failures h. record { terms = h.terms; relays = h.relays; health = healthy_raised (opening_health s).ceiling t.health failures h.health };
+    mended = λ t h. record { terms = h.terms; relays = h.relays; health = healthy_lowered (opening_health s).ceiling t.health h.health };
     welcomed = λ t h. record { terms = h.terms; relays = h.relays; health = h.health };
     downed = λ t h. record { terms = h.terms; relays = h.relays; health = h.health };
     began = λ t waits h. record { terms = h.terms; relays = h.relays; health = h.health };
@@ -164,6 +166,7 @@ carries_anyone s k R = record {
   ping = λ t to h. all_anyone _;
   contact = λ c is. tt;
   helpers = λ t but count h. each_anyone _;
+  sample = λ t fitting count h. each_anyone _;
   whole = λ t h. all_anyone _;
 }
 
@@ -174,11 +177,11 @@ one_row : (s : Setup) (k : Key) (tells : What) (about : Option ℕ) (value : ℕ
 unfolding with_row
 one_row s k tells about value lost o on named h = all_append (λ row. IsOn s row.what) o.rows _ h (on, tt)
 
-same_rows : (s : Setup) (k : Key) (at to : ℕ) (content : Content) (o : Effect) → AllOn s o → AllOn s (with_event k at to content o)
+same_rows : (s : Setup) (k : Key) (at to : ℕ) (content : Content) (o : Effect) → AllOn s o → AllOn s (with_event s k at to content o)
 unfolding with_event
 same_rows s k at to content o h = h
 
-makes : (s : Setup) (k : Key) → Makes k Anyone (Unit {0}) (IsOn s) AnyTime (AllOn s)
+makes : (s : Setup) (k : Key) → Makes s k Anyone (Unit {0}) (IsOn s) AnyTime (AllOn s)
 makes s k = record {
   row = one_row s k;
   event = λ at to content o timed there named h. same_rows s k at to content o h;

@@ -196,11 +196,11 @@ insert_counted words member q order = sum_by-insert (λ (it : ℕ). one_if (it =
 unheld : (test : Claim → Bool) (o : Option (Claim × ℕ)) → o ≡ None → option_map_or (λ (held : Claim × ℕ). test held.0) o false ≡ false
 unheld test o none = ap (λ o. option_map_or (λ (held : Claim × ℕ). test held.0) o false) none
 
--- a member that wasn't known comes into the rota
-pub placed : (table : Known) (rota : ProbeOrder) (words : Words) (k : ℕ) (v : Claim × ℕ) → AreWords words → k < 2 ^ 16 → get table k ≡ None → is_live v.0 ≡ true
+-- a member that wasn't known, or was confirmed, comes into the rota
+pub placed : (table : Known) (rota : ProbeOrder) (words : Words) (k : ℕ) (v : Claim × ℕ) → AreWords words → k < 2 ^ 16 → holds is_live table k ≡ false → is_live v.0 ≡ true
     → ProbesAlike table rota → ProbesAlike (insert table k v) (insert_of words k rota).0
 placed table rota words k v fit low none is h =
-    let absent : times_in rota.members k ≡ 0 = h.probes k ∙ ap (λ b. cond b 1 0) (unheld is_live (get table k) none) in
+    let absent : times_in rota.members k ≡ 0 = h.probes k ∙ ap (λ b. cond b 1 0) none in
     record {
       probes = λ q. insert_counted words k q rota ∙ counted q (eqb q k) refl absent ∙ ap (λ b. cond b 1 0) (sym (holds_put is_live table k q v));
       sound = insert_sound words k rota fit h.sound low absent;

@@ -1,58 +1,43 @@
 -- Every step is made of the changes.
-use Rattle.std.specs.Option.{is_some}
-use Rattle.std.proofs.Common.{◌≡◌, ℕ, ◌+◌, Bool, true, false, cond, not, nat_eq, nat_lt, ◌&&◌, List, [], ◌∷◌, Option, Some, None, option_map, refl, ap, ◌∙◌, sym, subst}
+use Rattle.std.specs.Option.{is_some, option_map_or}
+use Rattle.std.proofs.Common.{◌≡◌, ℕ, ◌+◌, ◌-◌, length, map, Bool, true, false, cond, not, nat_eq, nat_lt, ◌&&◌, List, [], ◌∷◌, Option, Some, None, option_map, refl, ap, sym, subst}
 use Rattle.std.proofs.lemmas.Option.{same_Some}
 use Rattle.std.specs.List.{AllByRecursion}
 use Rattle.std.specs.FinMap.{get}
 use Rattle.std.specs.FinSet as set
 use Rattle.std.proofs.lemmas.Bool.{eqb-false, false≢true}
 use Rattle.base.specs.declared.key.Key.{Key}
-use Rattle.scenario.specs.Setup.{Setup, start_of, contact_of, link_between}
+use Rattle.scenario.specs.Setup.{Setup, start_of, contact_of}
 use Rattle.trace.specs.declared.row.What.{What}
-use Rattle.streams.specs.Draw.{Words, IsRestOf, rest_after, below_of, lost_of}
-use Rattle.streams.proofs.PlaceLemmas.{below_rest, lost_rest, shuffle_rest, rest-rest, rest_after-zero}
-use Rattle.links.specs.Arrival.{uncut_arrival_of, arrival_of}
-use Rattle.links.proofs.Arrivals.{whether_cut}
+use Rattle.streams.specs.Draw.{Words, IsRestOf, below_of}
+use Rattle.streams.proofs.PlaceLemmas.{below_rest, shuffle_rest}
 use Rattle.incarnation.specs.declared.Claim.{Claim}
 use Rattle.incarnation.specs.declared.Claim.TheVariants.{Alive, Suspect, Confirm}
 use Rattle.incarnation.specs.declared.Update.{Update}
 use Rattle.lifeguard.specs.declared.probe.Probe.{Probe}
-use Rattle.lifeguard.specs.Health.{LocalHealth, raised}
-use Rattle.lifeguard.specs.Probe.{after_probe, fresh_probe, with_nack}
+use Rattle.lifeguard.specs.Health.{LocalHealth, lowered, raised, scaled}
+use Rattle.lifeguard.specs.Probe.{failures_of, misses_of, after_probe, after_deadline, fresh_probe, timed_probe, with_nack, with_reach}
 use Rattle.probing.specs.ProbeOrder.{helpers_of, next_of}
-use Rattle.suspicion.specs.Suspicions.{accused_of, answer_of, is_due}
+use Rattle.suspicion.specs.Suspicions.{accused_of, answer_of as answer_to, is_due}
 use Rattle.suspicion.specs.declared.suspicions.Accused.{Accused}
 use Rattle.member.specs.declared.member.Phase.{Phase}
 use Rattle.member.specs.declared.member.Phase.TheVariants.{Waiting, Joining, Running, Down}
 use Rattle.member.specs.declared.content.Content.{Content}
-use Rattle.member.specs.declared.content.Content.TheVariants.{Start, Crash, Leave, JoinTimer, PeriodTimer, TimeoutTimer, NackTimer, SuspicionTimer, Join, Welcome, Ping, PingReq, Ack, Nack, Bye}
+use Rattle.member.specs.declared.content.Content.TheVariants.{Start, Crash, Leave, JoinTimer, PeriodTimer, TimeoutTimer, NackTimer, SuspicionTimer, Join, Welcome, Ping, PingReq, Ack, Nack, Bye, DeadlineTimer, GossipTimer, PushTimer, Call, Answer, Gossip, Push, Pull}
 use Rattle.member.specs.State.{State}
-use Rattle.membership.specs.Table.{is_confirm, does_override, alive_but}
+use Rattle.base.specs.Beats.{next_in_step}
+use Rattle.base.specs.declared.profile.Profile.{Profile}
+use Rattle.base.specs.declared.profile.Profile.TheVariants.{Papers, Memberlist}
+use Rattle.scenario.specs.Profile.{profile_of}
+use Rattle.scenario.specs.declared.settings.Gossip as settings
+use Rattle.incarnation.specs.Refutations.{does_refute}
+use Rattle.membership.specs.Table.{is_alive, is_confirm, does_override, alive_but}
 use Rattle.member.specs.Turn.{Effect, unchanged, on_state, with_row, with_number, with_event, with_timer}
-use Rattle.member.specs.Send.{sent_off, sent, sent_to_each, with_picks, buddy_of, ping_sent, ping_req_sent, ack_sent, nack_sent, join_sent_to, join_sent, welcome_sent, bye_sent}
-use Rattle.member.specs.Apply.{with_put, with_health, with_told, passed_on, refuted, heard_dead, own_applied, claim_kept, alive_heard, suspect_heard, confirm_heard, claim_heard, news_heard, accusation_counted, accusation_heard, is_repeated, other_applied, applied, all_applied}
-use Rattle.member.specs.Step.{first_period_set, began, join_asked, joining_begun, started, crashed, join_handled, joined, suspected, probe_failed, probe_ended, probe_begun, target_probed, next_probed, period_begun, with_expected, help_asked, timed_out, nack_heard, nacked, answered, ping_heard, with_relay, ping_req_heard, ack_taken, ack_heard, nack_due, confirmed, suspicion_over, withdrawn, byes_said, departed, plain_handled, handled, step}
+use Rattle.member.specs.Send.{sent_off, posted, sent, sent_to_each, carried, gossip_sent, call_sent, answer_sent, push_sent, pull_sent, with_picks, buddy_of, ping_sent, ping_req_sent, ack_sent, nack_sent, join_sent_to, join_sent, welcome_sent, bye_sent}
+use Rattle.member.specs.Apply.{gossip_set, with_put, with_health, with_told, passed_on, refuted, heard_dead, is_own_death, own_applied, claim_kept, alive_heard, suspect_heard, confirm_heard, claim_heard, news_heard, accusation_counted, accusation_heard, is_repeated, is_heeded, other_applied, applied, all_applied}
+use Rattle.member.specs.Step.{push_begun, first_push_set, suspected_at, timed_probe_failed, probe_settled, probe_timers_set, timed_probe_begun, timed_target_probed, next_timed_probed, waiting_probed, has_time, probed_in_turn, period_beaten, is_under_way, deadline_over, timed_answered, timed_ack_heard, sampled_help, helped, called, timed_out_timed, reached, answer_heard, is_told_out, gossip_spread, gossip_set_again, gossip_round, gossip_due, merged_claim, merged, pushed, push_due, push_heard, timed_handled, handled_by, first_period_set, began, join_asked, joining_begun, started, crashed, join_handled, joined, suspected, probe_failed, probe_ended, probe_begun, target_probed, next_probed, period_begun, with_expected, help_asked, timed_out, nack_heard, nacked, answered, ping_heard, with_relay, ping_req_heard, ack_taken, ack_heard, nack_due, confirmed, suspicion_over, withdrawn, byes_said, departed, plain_handled, handled, step}
+use Rattle.member_laws.proofs.Rests.{arrival_rest, call_rest, answer_rest, kept_rest, sample_rest}
 use Rattle.member_laws.proofs.Moves.{IsNews, NewsMoves, Moves, at_once, at_late, Anyone}
-
--- the rest of a rest
-rest_of_rest : (words left last : Words) → IsRestOf words left → IsRestOf left last → IsRestOf words last
-rest_of_rest words left last (n, is_left) (m, is_last) = (n + m, is_last ∙ ap (rest_after m) is_left ∙ rest-rest m n words)
-
-lost_or_not : (words : Words) (lost : Bool) (a b : Option ℕ × Words) → IsRestOf words a.1 → IsRestOf words b.1 → IsRestOf words (cond lost a b).1
-lost_or_not words true a b h g = h
-lost_or_not words false a b h g = g
-
-uncut_rest : (s : Setup) (from to now : ℕ) (words : Words) → IsRestOf words (uncut_arrival_of s from to now words).1
-unfolding uncut_arrival_of
-uncut_rest s from to now words =
-    let link = link_between s from to in
-    let left = (lost_of words link.loss).1 in
-    let once = lost_rest words link.loss in
-    lost_or_not words (lost_of words link.loss).0 _ _ once (rest_of_rest words left (below_of left (link.jitter + 1)).1 once (below_rest left (link.jitter + 1)))
-
--- the words that the link of a message leaves
-arrival_rest : (s : Setup) (from to now : ℕ) (words : Words) → IsRestOf words (arrival_of s from to now words).1
-arrival_rest s from to now words = whether_cut (λ p. IsRestOf words p.1) s from to now words (0, rest_after-zero words) (uncut_rest s from to now words)
 
 -- whom the updates of an event are about
 abbrev pub AllNamed : (ℕ → Type 0) → List Update → Type 0
@@ -65,6 +50,9 @@ NamesOnly Named SomeLeave (Welcome entries) = AllNamed Named entries
 NamesOnly Named SomeLeave (Ping initiator seq updates) = Named initiator × AllNamed Named updates
 NamesOnly Named SomeLeave (PingReq target seq updates) = Named target × AllNamed Named updates
 NamesOnly Named SomeLeave (Ack initiator seq updates) = Named initiator × AllNamed Named updates
+NamesOnly Named SomeLeave (Gossip updates) = AllNamed Named updates
+NamesOnly Named SomeLeave (Push entries) = AllNamed Named entries
+NamesOnly Named SomeLeave (Pull entries) = AllNamed Named entries
 NamesOnly Named SomeLeave Leave = SomeLeave
 NamesOnly Named SomeLeave Bye = SomeLeave
 NamesOnly Named SomeLeave _ = Unit {0}
@@ -86,10 +74,15 @@ answered_target P seq None h p is = absurd (false≢true (ap is_some is))
 answered_target P seq (Some x) h p is =
     subst (λ (q : Probe). P q.target) (same_Some _ p is) (subst P (sym (target_either (nat_eq x.seq seq) (record x { acked = true }) x refl)) (h x refl))
 
+reached_target : (P : ℕ → Type 0) (seq : ℕ) (o : Option Probe) → ((p : Probe) → o ≡ Some p → P p.target) → (p : Probe) → reached seq o ≡ Some p → P p.target
+reached_target P seq None h p is = absurd (false≢true (ap is_some is))
+reached_target P seq (Some x) h p is =
+    subst (λ (q : Probe). P q.target) (same_Some _ p is) (subst P (sym (target_either (nat_eq x.seq seq) (with_reach x) x refl)) (h x refl))
+
 pub one_target : (P : ℕ → Type 0) (x : Probe) → P x.target → (p : Probe) → Some x ≡ Some p → P p.target
 one_target P x h p is = subst (λ (q : Probe). P q.target) (same_Some x p is) h
 
-no_target : (P : ℕ → Type 0) (p : Probe) → None ≡ Some p → P p.target
+pub no_target : (P : ℕ → Type 0) (p : Probe) → None ≡ Some p → P p.target
 no_target P p is = absurd (false≢true (ap is_some is))
 
 pub all_anyone : (us : List Update) → AllNamed Anyone us
@@ -112,6 +105,14 @@ anyone_named (Ack initiator seq updates) = (tt, all_anyone updates)
 anyone_named (Nack seq) = tt
 anyone_named Leave = tt
 anyone_named Bye = tt
+anyone_named (DeadlineTimer seq) = tt
+anyone_named GossipTimer = tt
+anyone_named PushTimer = tt
+anyone_named (Call seq) = tt
+anyone_named (Answer seq) = tt
+anyone_named (Gossip updates) = all_anyone updates
+anyone_named (Push entries) = all_anyone entries
+anyone_named (Pull entries) = all_anyone entries
 
 module _ (s : Setup) (k : Key) (Named : ℕ → Type 0) (R : State → Type 0) (news : NewsMoves s k Named R) where
   pub on_either : (b : Bool) (o p : Effect) → R o.state → R p.state → R (cond b o p).state
@@ -122,23 +123,28 @@ module _ (s : Setup) (k : Key) (Named : ℕ → Type 0) (R : State → Type 0) (
   unfolding with_row
   on_row tells about value lost o h = h
 
-  pub on_event : (at to : ℕ) (content : Content) (o : Effect) → R o.state → R (with_event k at to content o).state
+  pub on_event : (at to : ℕ) (content : Content) (o : Effect) → R o.state → R (with_event s k at to content o).state
   unfolding with_event
   on_event at to content o h = news.counted o.state h
 
   pub on_told : (loud : Bool) (tells : What) (subject value : ℕ) (o : Effect) → R o.state → R (with_told loud k tells subject value o).state
   on_told loud tells subject value o h = on_either loud (with_row k tells (Some subject) value false o) o (on_row tells (Some subject) value false o h) h
 
-  pub on_put : (u : Update) (t : State) → Named u.subject → R t → R (with_put u t)
+  pub on_gossip_set : (gossip : Option settings.Gossip) (o : Effect) → R o.state → R (gossip_set s k gossip o).state
+  on_gossip_set None o h = h
+  on_gossip_set (Some gossip) o h =
+      on_either o.state.gossips o (with_event s k (next_in_step (o.state.beat - 1) gossip.interval k.at) k.to GossipTimer (on_state (λ t. record t { gossips = true }) o))
+      h (on_event _ k.to GossipTimer (on_state (λ t. record t { gossips = true }) o) (news.gossiping o.state true h))
+
+  pub on_put : (u : Update) (o : Effect) → Named u.subject → R o.state → R (with_put s k u o).state
   unfolding with_put
-  on_put u t named h = news.put t u named h
+  on_put u o named h = on_gossip_set s.gossip _ (news.put o.state u named h)
 
-  pub on_passed : (loud : Bool) (u : Update) (o : Effect) → Named u.subject → R o.state → R (passed_on loud u o.state)
+  pub on_passed : (loud : Bool) (u : Update) (o : Effect) → Named u.subject → R o.state → R (passed_on s k loud u o).state
   unfolding passed_on
-  on_passed true u o named h = on_put u o.state named h
-  on_passed false u o named h = h
+  on_passed loud u o named h = on_either loud (with_put s k u o) o (on_put u o named h) h
 
-  pub on_claim : (loud : Bool) (u : Update) (claim : Claim) (o : Effect) → Named u.subject → IsNews k.to o.state u → u.claim ≡ claim → R o.state
+  pub on_claim : (loud : Bool) (u : Update) (claim : Claim) (o : Effect) → Named u.subject → IsNews (profile_of s) k.to o.state u → u.claim ≡ claim → R o.state
       → R (claim_heard s loud k u claim (on_state (claim_kept u) o)).state
   unfolding alive_heard suspect_heard confirm_heard
   on_claim loud u Alive o named says e h = on_told loud _ u.subject u.inc _ (news.alive o.state u named says e h)
@@ -146,48 +152,51 @@ module _ (s : Setup) (k : Key) (Named : ℕ → Type 0) (R : State → Type 0) (
       on_event _ k.to _ _ (on_told loud _ u.subject u.inc _ (news.suspect o.state u _ named says e (record { terms = refl; since = refl; members = refl }) h))
   on_claim loud u Confirm o named says e h = on_told loud _ u.subject u.inc _ (news.confirm o.state u named says e h)
 
-  pub on_news : (loud : Bool) (u : Update) (o : Effect) → Named u.subject → IsNews k.to o.state u → R o.state → R (news_heard s loud k u o).state
+  pub on_news : (loud : Bool) (u : Update) (o : Effect) → Named u.subject → IsNews (profile_of s) k.to o.state u → R o.state → R (news_heard s loud k u o).state
   unfolding news_heard
   on_news loud u o named says h = on_passed loud u (claim_heard s loud k u u.claim (on_state (claim_kept u) o)) named (on_claim loud u u.claim o named says refl h)
 
-  pub on_accusation_counted : (loud : Bool) (u : Update) (accused : Option Accused) (o : Effect) → Named u.subject → R o.state → R (accusation_counted loud k u accused o).state
+  pub on_accusation_counted : (loud : Bool) (u : Update) (accused : Option Accused) (o : Effect) → Named u.subject → R o.state → R (accusation_counted s loud k u accused o).state
   on_accusation_counted loud u None o named h = h
   on_accusation_counted loud u (Some accused) o named h =
-      on_passed loud u (with_event k accused.due k.to (SuspicionTimer u.subject) (with_told loud k _ u.subject accused.count o)) named (on_event _ k.to _ _ (on_told loud _ u.subject accused.count o h))
+      on_passed loud u (with_event s k accused.due k.to (SuspicionTimer u.subject) (with_told loud k _ u.subject accused.count o)) named (on_event _ k.to _ _ (on_told loud _ u.subject accused.count o h))
 
-  pub on_accusation : (loud : Bool) (u : Update) (o : Effect) → Named u.subject → R o.state → R (accusation_heard loud k u o).state
+  pub on_accusation : (loud : Bool) (u : Update) (o : Effect) → Named u.subject → R o.state → R (accusation_heard s loud k u o).state
   unfolding accusation_heard
   on_accusation loud u o named h =
-      on_accusation_counted loud u (option_map (answer_of k.at) (accused_of o.state.suspicions u.subject u.accuser o.state.next_number)) _ named (news.accused o.state u h)
+      on_accusation_counted loud u (option_map (answer_to k.at) (accused_of o.state.suspicions u.subject u.accuser o.state.next_number)) _ named (news.accused o.state u h)
 
   pub on_known : (loud : Bool) (u : Update) (held : Claim × ℕ) (b : Bool) (o : Effect) → Named u.subject → ¬ (u.subject ≡ k.to) → get o.state.table u.subject ≡ Some held
-      → does_override (u.claim, u.inc) held ≡ b → R o.state
-      → R (cond b (news_heard s loud k u o) (cond (is_repeated u held) (accusation_heard loud k u o) o)).state
+      → does_override (profile_of s) (u.claim, u.inc) held ≡ b → R o.state
+      → R (cond b (news_heard s loud k u o) (cond (is_repeated (profile_of s) u held) (accusation_heard s loud k u o) o)).state
   on_known loud u held true o named other here e h = on_news loud u o named (record { other = other; news = rw here e }) h
-  on_known loud u held false o named other here e h = on_either (is_repeated u held) (accusation_heard loud k u o) o (on_accusation loud u o named h) h
+  on_known loud u held false o named other here e h = on_either (is_repeated (profile_of s) u held) (accusation_heard s loud k u o) o (on_accusation loud u o named h) h
 
   pub on_other : (loud : Bool) (u : Update) (held : Option (Claim × ℕ)) (o : Effect) → Named u.subject → ¬ (u.subject ≡ k.to) → get o.state.table u.subject ≡ held → R o.state
       → R (other_applied s loud k u held o).state
-  on_other loud u None o named other none h = on_news loud u o named (record { other = other; news = rw none refl }) h
-  on_other loud u (Some held) o named other here h = on_known loud u held (does_override (u.claim, u.inc) held) o named other here refl h
+  on_other loud u None o named other none h =
+      on_either (is_heeded (profile_of s) loud u.claim) (news_heard s loud k u o) o (on_news loud u o named (record { other = other; news = rw none refl }) h) h
+  on_other loud u (Some held) o named other here h = on_known loud u held (does_override (profile_of s) (u.claim, u.inc) held) o named other here refl h
 
   module _ (moves : Moves s k Named R) where
-    pub on_timer : (ticks : ℕ) (content : Content) (o : Effect) → R o.state → R (with_timer k ticks content o).state
+    pub on_timer : (ticks : ℕ) (content : Content) (o : Effect) → R o.state → R (with_timer s k ticks content o).state
     unfolding with_timer
     on_timer ticks content o h = on_event (k.at + ticks) k.to content o h
 
     -- ---- messages
 
-    pub on_sent_off : (to : ℕ) (content : Content) (arrival : Option ℕ) (o : Effect) → R o.state → R (sent_off k to content arrival o).state
+    pub on_sent_off : (to : ℕ) (content : Content) (arrival : Option ℕ) (o : Effect) → R o.state → R (sent_off s k to content arrival o).state
     unfolding with_number
     on_sent_off to content None o h = news.counted o.state h
     on_sent_off to content (Some at) o h = on_event at to content o h
 
+    pub on_posted : (tells : What) (to value : ℕ) (content : Content) (arrival : Option ℕ × Words) (o : Effect) → IsRestOf o.state.words arrival.1 → R o.state
+        → R (posted s k tells to value content arrival o).state
+    unfolding posted
+    on_posted tells to value content arrival o rest h = on_sent_off to content arrival.0 _ (on_row tells (Some to) value _ _ (moves.drawn o.state arrival.1 rest h))
+
     pub on_sent : (tells : What) (to value : ℕ) (content : Content) (o : Effect) → R o.state → R (sent s k tells to value content o).state
-    unfolding sent
-    on_sent tells to value content o h =
-        on_sent_off to content (arrival_of s k.to to k.at o.state.words).0 _ (on_row tells (Some to) value _ _
-        (moves.drawn o.state (arrival_of s k.to to k.at o.state.words).1 (arrival_rest s k.to to k.at o.state.words) h))
+    on_sent tells to value content o h = on_posted tells to value content _ o (arrival_rest s k.to to k.at o.state.words) h
 
     pub on_ping : (to initiator seq : ℕ) (o : Effect) → R o.state → R (ping_sent s k to initiator seq o).state
     unfolding ping_sent
@@ -221,6 +230,28 @@ module _ (s : Setup) (k : Key) (Named : ℕ → Type 0) (R : State → Type 0) (
     unfolding bye_sent
     on_bye to o h = on_sent _ to 0 Bye o h
 
+    pub on_gossip : (to : ℕ) (o : Effect) → R o.state → R (gossip_sent s k to o).state
+    unfolding gossip_sent
+    on_gossip to o h =
+        let picked = moves.picked o.state None h in
+        on_either (nat_eq (length (carried s None o.state)) 0) _ _ picked (on_sent _ to 0 _ (on_state (with_picks s None) o) picked)
+
+    pub on_call : (to seq : ℕ) (o : Effect) → R o.state → R (call_sent s k to seq o).state
+    unfolding call_sent
+    on_call to seq o h = on_posted _ to seq _ _ o (call_rest s k.to to k.at o.state.words) h
+
+    pub on_answer : (to seq : ℕ) (o : Effect) → R o.state → R (answer_sent s k to seq o).state
+    unfolding answer_sent
+    on_answer to seq o h = on_posted _ to seq _ _ o (answer_rest s k.to to k.at o.state.words) h
+
+    pub on_push_sent : (to : ℕ) (o : Effect) → R o.state → R (push_sent s k to o).state
+    unfolding push_sent
+    on_push_sent to o h = on_posted _ to 0 _ _ o (kept_rest s k.to to k.at o.state.words) h
+
+    pub on_pull : (to : ℕ) (o : Effect) → R o.state → R (pull_sent s k to o).state
+    unfolding pull_sent
+    on_pull to o h = on_posted _ to 0 _ _ o (kept_rest s k.to to k.at o.state.words) h
+
     -- messages one after another
     pub on_each : (send : ℕ → Effect → Effect) → ((to : ℕ) (o : Effect) → R o.state → R (send to o).state) → (others : List ℕ) (o : Effect) → R o.state
         → R (sent_to_each send others o).state
@@ -234,20 +265,25 @@ module _ (s : Setup) (k : Key) (Named : ℕ → Type 0) (R : State → Type 0) (
     unfolding with_health
     on_health h o r = on_either (nat_eq h.counter o.state.health.counter) (on_state (λ t. record t { health = h }) o) _ r (on_row _ None h.counter false _ r)
 
-    pub on_refuted : (o : Effect) → R o.state → R (refuted k o).state
+    pub on_refuted : (claim : Claim) (number : ℕ) (o : Effect) → does_refute (profile_of s) o.state.incarnation claim number ≡ true → R o.state → R (refuted s k (number + 1) o).state
     unfolding refuted
-    on_refuted o h =
-        let told = with_row k _ (Some k.to) (o.state.incarnation + 1) false (on_state (λ t. record t { incarnation = o.state.incarnation + 1 }) o) in
-        on_put _ _ moves.own (on_health (raised told.state.health 1) told (moves.weakened told.state (on_row _ (Some k.to) _ false _ (moves.refuted o.state h))))
+    on_refuted claim number o refutes h =
+        let told = with_row k _ (Some k.to) (number + 1) false (on_state (λ t. record t { incarnation = number + 1 }) o) in
+        on_put _ _ moves.own
+        (on_health (raised told.state.health 1) told (moves.weakened told.state 1 (on_row _ (Some k.to) _ false _ (moves.refuted o.state claim number refutes h))))
 
-    pub on_own : (claim : Claim) (number : ℕ) (o : Effect) → R o.state → R (own_applied k claim number o).state
+    pub on_own_claim : (claim : Claim) (number : ℕ) (b : Bool) (o : Effect) → does_refute (profile_of s) o.state.incarnation claim number ≡ b → R o.state
+        → R (cond b (refuted s k (number + 1) o) (cond (is_own_death (profile_of s) claim o.state.heard_dead) (heard_dead k number o) o)).state
     unfolding heard_dead
-    on_own Alive number o h = h
-    on_own Suspect number o h = on_either (nat_eq number o.state.incarnation) (refuted k o) o (on_refuted o h) h
-    on_own Confirm number o h = on_either o.state.heard_dead o (heard_dead k number o) h (on_row _ (Some k.to) number false _ (moves.heard_dead o.state h))
+    on_own_claim claim number true o refutes h = on_refuted claim number o refutes h
+    on_own_claim claim number false o refutes h =
+        on_either (is_own_death (profile_of s) claim o.state.heard_dead) (heard_dead k number o) o (on_row _ (Some k.to) number false _ (moves.heard_dead o.state h)) h
+
+    pub on_own : (claim : Claim) (number : ℕ) (o : Effect) → R o.state → R (own_applied s k claim number o).state
+    on_own claim number o h = on_own_claim claim number (does_refute (profile_of s) o.state.incarnation claim number) o refl h
 
     pub on_subject : (loud : Bool) (u : Update) (b : Bool) (o : Effect) → Named u.subject → nat_eq u.subject k.to ≡ b → R o.state
-        → R (cond b (own_applied k u.claim u.inc o) (other_applied s loud k u (get o.state.table u.subject) o)).state
+        → R (cond b (own_applied s k u.claim u.inc o) (other_applied s loud k u (get o.state.table u.subject) o)).state
     on_subject loud u true o named e h = on_own u.claim u.inc o h
     on_subject loud u false o named e h = on_other loud u (get o.state.table u.subject) o named (eqb-false u.subject k.to e) refl h
 
@@ -262,10 +298,19 @@ module _ (s : Setup) (k : Key) (Named : ℕ → Type 0) (R : State → Type 0) (
 
     -- ---- start, crash and join
 
+    pub on_push_begun : (beat push : ℕ) (o : Effect) → R o.state → R (push_begun s k beat push o).state
+    unfolding push_begun
+    on_push_begun beat push o h = on_event _ k.to PushTimer _ (moves.drawn o.state (below_of o.state.words push).1 (below_rest o.state.words push) h)
+
+    pub on_first_push : (beat : ℕ) (gossip : Option settings.Gossip) (o : Effect) → R o.state → R (first_push_set s k beat gossip o).state
+    on_first_push beat None o h = h
+    on_first_push beat (Some gossip) o h = on_either (nat_eq gossip.push 0) o (push_begun s k beat gossip.push o) h (on_push_begun beat gossip.push o h)
+
     pub on_first_period : (o : Effect) → R o.state → R (first_period_set s k o).state
     unfolding first_period_set
     on_first_period o h =
-        on_timer _ PeriodTimer _ (moves.drawn o.state (below_of o.state.words s.swim.spread).1 (below_rest o.state.words s.swim.spread) h)
+        let drawn = below_of o.state.words s.swim.spread in
+        on_first_push _ s.gossip _ (on_timer _ PeriodTimer _ (moves.beaten (record o.state { words = drawn.1 }) _ (moves.drawn o.state drawn.1 (below_rest o.state.words s.swim.spread) h)))
 
     pub on_began : (o : Effect) → R (at_once s k o.state) → R (began s k o).state
     unfolding began
@@ -306,19 +351,24 @@ module _ (s : Setup) (k : Key) (Named : ℕ → Type 0) (R : State → Type 0) (
         on_either (is_confirm held.0) o (applied s true k (record { subject = target; claim = Suspect; inc = held.1; accuser = k.to }) o)
         h (on_applied true _ o (moves.known o.state target held h here) h)
 
+    -- the health after a probe, whatever came of it
+    pub on_weighed : (b : Bool) (failures : ℕ) (t : State) → R t → R (record t { health = cond b (lowered t.health) (raised t.health failures) })
+    on_weighed true failures t h = moves.mended t h
+    on_weighed false failures t h = moves.weakened t failures h
+
     pub on_failed : (probe : Probe) (o : Effect) → R o.state → R (probe_failed s k probe o).state
     unfolding probe_failed
     on_failed probe o h =
         let told = with_row k _ (Some probe.target) probe.seq false o in
         on_suspected probe.target _ _ refl
-        (on_health (after_probe told.state.health probe) told (moves.weighed told.state probe (on_row _ (Some probe.target) probe.seq false o h)))
+        (on_health (after_probe told.state.health probe) told (on_weighed probe.acked (failures_of probe) told.state (on_row _ (Some probe.target) probe.seq false o h)))
 
     pub on_ended : (probe : Option Probe) (o : Effect) → R o.state → R (probe_ended s k probe o).state
     unfolding probe_ended
     on_ended None o h = h
     on_ended (Some probe) o h =
         on_either probe.acked (with_health k (after_probe o.state.health probe) o) (probe_failed s k probe o)
-        (on_health (after_probe o.state.health probe) o (moves.weighed o.state probe h)) (on_failed probe o h)
+        (on_health (after_probe o.state.health probe) o (on_weighed probe.acked (failures_of probe) o.state h)) (on_failed probe o h)
 
     pub on_begun : (target : ℕ) (o : Effect) → Named target → R o.state → R (probe_begun s k target o).state
     unfolding probe_begun
@@ -410,6 +460,137 @@ module _ (s : Setup) (k : Key) (Named : ℕ → Type 0) (R : State → Type 0) (
     unfolding departed
     on_departed o h = moves.downed _ (on_byes _ (on_row _ None 0 false o h))
 
+    -- ---- probes by memberlist's rules
+
+    pub on_suspected_at : (probe : Probe) (held : Option (Claim × ℕ)) (o : Effect) → get o.state.table probe.target ≡ held → R o.state → R (suspected_at s k probe held o).state
+    on_suspected_at probe None o none h = h
+    on_suspected_at probe (Some held) o here h =
+        on_either (is_confirm held.0) o (applied s true k (record { subject = probe.target; claim = Suspect; inc = probe.number; accuser = k.to }) o)
+        h (on_applied true _ o (moves.known o.state probe.target held h here) h)
+
+    pub on_timed_failed : (probe : Probe) (o : Effect) → R o.state → R (timed_probe_failed s k probe o).state
+    unfolding timed_probe_failed
+    on_timed_failed probe o h =
+        let told = with_row k _ (Some probe.target) probe.seq false o in
+        on_suspected_at probe _ _ refl
+        (on_health (after_deadline told.state.health probe) told (on_weighed probe.reached (misses_of probe) told.state (on_row _ (Some probe.target) probe.seq false o h)))
+
+    pub on_settled : (probe : Option Probe) (o : Effect) → R o.state → R (probe_settled s k probe o).state
+    unfolding probe_settled
+    on_settled None o h = h
+    on_settled (Some probe) o h =
+        let ended = on_state (λ t. record t { probe = None }) o in
+        let none : R ended.state = moves.probing o.state o.state.sequence None (no_target Named) h in
+        on_either probe.reached (with_health k (after_deadline ended.state.health probe) ended) (timed_probe_failed s k probe ended)
+        (on_health (after_deadline ended.state.health probe) ended (on_weighed probe.reached (misses_of probe) ended.state none)) (on_timed_failed probe ended none)
+
+    pub on_timers : (seq timeout deadline : ℕ) (o : Effect) → R o.state → R (probe_timers_set s k seq timeout deadline o).state
+    on_timers seq timeout deadline o h = on_event deadline k.to (DeadlineTimer seq) _ (on_timer timeout (TimeoutTimer seq) o h)
+
+    pub on_timed_begun : (target : ℕ) (o : Effect) → Named target → R o.state → R (timed_probe_begun s k target o).state
+    unfolding timed_probe_begun
+    on_timed_begun target o named h =
+        let seq = o.state.sequence + 1 in
+        let probe = timed_probe seq target (option_map_or (λ held. held.1) (get o.state.table target) 0) (k.at + scaled o.state.health s.swim.period) in
+        on_timers _ _ _ _ (on_ping target k.to seq _ (moves.probing o.state seq (Some probe) (one_target Named probe named) h))
+
+    pub on_timed_target : (target : Option ℕ) (o : Effect) → ((q : ℕ) → target ≡ Some q → Named q) → R o.state → R (timed_target_probed s k target o).state
+    on_timed_target None o named h = moves.probing o.state o.state.sequence None (no_target Named) h
+    on_timed_target (Some target) o named h = on_timed_begun target o (named target refl) h
+
+    pub on_next_timed : (o : Effect) → R o.state → R (next_timed_probed s k o).state
+    unfolding next_timed_probed
+    on_next_timed o h = on_timed_target (next_of o.state.words o.state.rota).0 _ (λ q is. moves.targets o.state q h is) (moves.turned o.state h)
+
+    pub on_waiting_probed : (o : Effect) → R o.state → R (waiting_probed s k o).state
+    on_waiting_probed o h = on_either o.state.waits _ o (on_next_timed (on_state (λ t. record t { waits = false }) o) (moves.waiting o.state false h)) h
+
+    pub on_in_turn : (o : Effect) → R o.state → R (probed_in_turn s k o).state
+    on_in_turn o h = on_either (has_time k.at o.state.probe) _ _ (moves.waiting o.state true h) (on_next_timed _ (on_settled o.state.probe o h))
+
+    pub on_beaten : (o : Effect) → R o.state → R (period_beaten s k o).state
+    unfolding period_beaten
+    on_beaten o h = on_in_turn _ (on_event _ k.to PeriodTimer o h)
+
+    pub on_deadline : (seq : ℕ) (o : Effect) → R o.state → R (deadline_over s k seq o).state
+    unfolding deadline_over
+    on_deadline seq o h = on_either (is_under_way seq o.state.probe) _ o (on_waiting_probed _ (on_settled o.state.probe o h)) h
+
+    pub on_timed_answered : (seq : ℕ) (o : Effect) → R o.state → R (timed_answered s k seq o).state
+    unfolding timed_answered
+    on_timed_answered seq o h =
+        let ended = on_state (λ t. record t { probe = None }) o in
+        on_either (is_under_way seq o.state.probe) _ o
+        (on_waiting_probed _ (on_health (lowered o.state.health) ended (moves.mended ended.state (moves.probing o.state o.state.sequence None (no_target Named) h)))) h
+
+    pub on_timed_ack : (initiator seq : ℕ) (updates : List Update) (o : Effect) → AllNamed Named updates → R o.state → R (timed_ack_heard s k initiator seq updates o).state
+    unfolding timed_ack_heard
+    on_timed_ack initiator seq updates o named h =
+        let heard = on_all true updates o named h in
+        on_either (nat_eq initiator k.to) _ _ (on_timed_answered seq _ heard) (on_taken initiator seq _ heard)
+
+    pub on_sampled : (probe : Probe) (o : Effect) → Named probe.target → R o.state → R (sampled_help s k probe o).state
+    unfolding sampled_help
+    on_sampled probe o named h =
+        on_expected probe _ _ named (on_each (ping_req_sent s k probe.target probe.seq) (on_ping_req probe.target probe.seq) _ _
+        (moves.drawn o.state _ (sample_rest o.state.words s.swim.helpers _) h))
+
+    pub on_called : (probe : Probe) (o : Effect) → R o.state → R (called s k probe o).state
+    on_called probe o h = on_either s.swim.fallback _ o (on_call probe.target probe.seq o h) h
+
+    pub on_helped : (probe : Probe) (o : Effect) → Named probe.target → R o.state → R (helped s k probe o).state
+    on_helped probe o named h = on_either (nat_lt 0 s.swim.helpers) _ o (on_sampled probe o named h) h
+
+    pub on_timed_out_timed : (seq : ℕ) (probe : Option Probe) (o : Effect) → o.state.probe ≡ probe → R o.state → R (timed_out_timed s k seq probe o).state
+    unfolding timed_out_timed
+    on_timed_out_timed seq None o here h = h
+    on_timed_out_timed seq (Some probe) o here h =
+        on_either (nat_eq probe.seq seq) _ o (on_called probe _ (on_helped probe o (moves.aimed o.state probe h here) h)) h
+
+    pub on_answer_heard : (seq : ℕ) (o : Effect) → R o.state → R (answer_heard seq o).state
+    unfolding answer_heard
+    on_answer_heard seq o h = moves.probing o.state o.state.sequence (reached seq o.state.probe) (reached_target Named seq o.state.probe (λ p is. moves.aimed o.state p h is)) h
+
+    -- ---- gossip and pushes
+
+    pub on_spread : (gossip : settings.Gossip) (o : Effect) → R o.state → R (gossip_spread s k gossip o).state
+    unfolding gossip_spread
+    on_spread gossip o h = on_each (gossip_sent s k) on_gossip _ _ (moves.drawn o.state _ (sample_rest o.state.words gossip.nodes _) h)
+
+    pub on_set_again : (o : Effect) → R o.state → R (gossip_set_again s k o).state
+    on_set_again o h = on_either (is_told_out o.state) o _ h (on_gossip_set s.gossip o h)
+
+    pub on_round : (gossip : settings.Gossip) (o : Effect) → R o.state → R (gossip_round s k gossip o).state
+    on_round gossip o h = on_either (is_told_out o.state) o _ h (on_set_again _ (on_spread gossip o h))
+
+    pub on_gossip_due : (gossip : Option settings.Gossip) (o : Effect) → R o.state → R (gossip_due s k gossip o).state
+    on_gossip_due None o h = h
+    on_gossip_due (Some gossip) o h = on_round gossip _ (news.gossiping o.state false h)
+
+    all_merged : (b : Bool) (u : Update) → Named u.subject → Named (cond b u (record u { claim = Suspect; accuser = k.to })).subject
+    all_merged true u named = named
+    all_merged false u named = named
+
+    pub merged_named : (us : List Update) → AllNamed Named us → AllNamed Named (map (merged_claim k.to) us)
+    merged_named [] named = tt
+    merged_named (u ∷ us) named = (all_merged (is_alive u.claim) u named.0, merged_named us named.1)
+
+    pub on_merged : (us : List Update) (o : Effect) → AllNamed Named us → R o.state → R (merged s k us o).state
+    unfolding merged
+    on_merged us o named h = on_all true (map (merged_claim k.to) us) o (merged_named us named) h
+
+    pub on_pushed : (push : ℕ) (o : Effect) → R o.state → R (pushed s k push o).state
+    unfolding pushed
+    on_pushed push o h = on_each (push_sent s k) on_push_sent _ _ (on_timer _ PushTimer _ (moves.drawn o.state _ (sample_rest o.state.words 1 _) h))
+
+    pub on_push_due : (gossip : Option settings.Gossip) (o : Effect) → R o.state → R (push_due s k gossip o).state
+    on_push_due None o h = h
+    on_push_due (Some gossip) o h = on_either (nat_eq gossip.push 0) o _ h (on_pushed gossip.push o h)
+
+    pub on_push_heard : (us : List Update) (o : Effect) → AllNamed Named us → R o.state → R (push_heard s k us o).state
+    unfolding push_heard
+    on_push_heard us o named h = on_merged us _ named (on_pull k.from o h)
+
     -- ---- the step
 
     pub on_plain : (content : Content) (phase : Phase) (o : Effect) → o.state.phase ≡ phase → Named k.from → NamesOnly Named (Unit {0}) content → R o.state → R (plain_handled s k content phase o).state
@@ -468,6 +649,14 @@ module _ (s : Setup) (k : Key) (Named : ℕ → Type 0) (R : State → Type 0) (
     on_plain (Nack seq) Down o is sender named h = h
     on_plain Leave phase o is sender named h = h
     on_plain Bye phase o is sender named h = h
+    on_plain (DeadlineTimer seq) phase o is sender named h = h
+    on_plain GossipTimer phase o is sender named h = h
+    on_plain PushTimer phase o is sender named h = h
+    on_plain (Call seq) phase o is sender named h = h
+    on_plain (Answer seq) phase o is sender named h = h
+    on_plain (Gossip updates) phase o is sender named h = h
+    on_plain (Push entries) phase o is sender named h = h
+    on_plain (Pull entries) phase o is sender named h = h
 
     pub on_handled : (content : Content) (phase : Phase) (o : Effect) → o.state.phase ≡ phase → Named k.from → NamesOnly Named (Unit {0}) content → R o.state → R (handled s k content phase o).state
     unfolding handled
@@ -476,9 +665,32 @@ module _ (s : Setup) (k : Key) (Named : ℕ → Type 0) (R : State → Type 0) (
     on_handled Bye Running o is sender named h = on_confirmed k.from (get o.state.table k.from) o refl h
     on_handled content phase o is sender named h = on_plain content phase o is sender named h
 
+    pub on_timed : (content : Content) (o : Effect) → o.state.phase ≡ Running → Named k.from → NamesOnly Named (Unit {0}) content → R o.state → R (timed_handled s k content o).state
+    unfolding timed_handled
+    on_timed PeriodTimer o is sender named h = on_beaten o h
+    on_timed (TimeoutTimer seq) o is sender named h = on_timed_out_timed seq o.state.probe o refl h
+    on_timed (DeadlineTimer seq) o is sender named h = on_deadline seq o h
+    on_timed (Ack initiator seq updates) o is sender named h = on_timed_ack initiator seq updates o named.1 h
+    on_timed (Call seq) o is sender named h = on_answer k.from seq o h
+    on_timed (Answer seq) o is sender named h = on_answer_heard seq o h
+    on_timed GossipTimer o is sender named h = on_gossip_due s.gossip o h
+    on_timed (Gossip updates) o is sender named h = on_all true updates o named h
+    on_timed PushTimer o is sender named h = on_push_due s.gossip o h
+    on_timed (Push entries) o is sender named h = on_push_heard entries o named h
+    on_timed (Pull entries) o is sender named h = on_merged entries o named h
+    on_timed content o is sender named h = on_handled content Running o is sender named h
+
+    pub on_by : (content : Content) (phase : Phase) (profile : Profile) (o : Effect) → o.state.phase ≡ phase → Named k.from → NamesOnly Named (Unit {0}) content → R o.state
+        → R (handled_by phase profile s k content o).state
+    on_by content Running Memberlist o is sender named h = on_timed content o is sender named h
+    on_by content Running Papers o is sender named h = on_handled content Running o is sender named h
+    on_by content Waiting profile o is sender named h = on_handled content Waiting o is sender named h
+    on_by content Joining profile o is sender named h = on_handled content Joining o is sender named h
+    on_by content Down profile o is sender named h = on_handled content Down o is sender named h
+
     pub on_step : (content : Content) (t : State) → Named k.from → NamesOnly Named (Unit {0}) content → R t → R (step s k content t).state
     unfolding step
-    on_step content t sender named h = on_handled content t.phase (unchanged t) refl sender named h
+    on_step content t sender named h = on_by content t.phase (profile_of s) (unchanged t) refl sender named h
 
     -- A fact of any state, where another holds once the member has started, and that one is kept.
     module _ (Q : State → Type 0) (content : Content) (t : State) (to_Q : (v : State) → R v → Q v) (before : Q t) (up : ¬ (t.phase ≡ Waiting) → R t)
@@ -500,12 +712,20 @@ module _ (s : Setup) (k : Key) (Named : ℕ → Type 0) (R : State → Type 0) (
       on_waiting (Nack seq) is = before
       on_waiting Leave is = before
       on_waiting Bye is = before
+      on_waiting (DeadlineTimer seq) is = before
+      on_waiting GossipTimer is = before
+      on_waiting PushTimer is = before
+      on_waiting (Call seq) is = before
+      on_waiting (Answer seq) is = before
+      on_waiting (Gossip updates) is = before
+      on_waiting (Push entries) is = before
+      on_waiting (Pull entries) is = before
 
-      on_phase : (phase : Phase) → t.phase ≡ phase → NamesOnly Named (Unit {0}) content → Q (handled s k content phase (unchanged t)).state
+      on_phase : (phase : Phase) → t.phase ≡ phase → NamesOnly Named (Unit {0}) content → Q (handled_by phase (profile_of s) s k content (unchanged t)).state
       on_phase Waiting is named = on_waiting content is
-      on_phase Joining is named = to_Q _ (on_handled content Joining (unchanged t) is sender named (up (λ waits. absurd (let e = waits in cc))))
-      on_phase Running is named = to_Q _ (on_handled content Running (unchanged t) is sender named (up (λ waits. absurd (let e = waits in cc))))
-      on_phase Down is named = to_Q _ (on_handled content Down (unchanged t) is sender named (up (λ waits. absurd (let e = waits in cc))))
+      on_phase Joining is named = to_Q _ (on_by content Joining (profile_of s) (unchanged t) is sender named (up (λ waits. absurd (let e = waits in cc))))
+      on_phase Running is named = to_Q _ (on_by content Running (profile_of s) (unchanged t) is sender named (up (λ waits. absurd (let e = waits in cc))))
+      on_phase Down is named = to_Q _ (on_by content Down (profile_of s) (unchanged t) is sender named (up (λ waits. absurd (let e = waits in cc))))
 
       pub on_any_step : NamesOnly Named (Unit {0}) content → Q (step s k content t).state
       unfolding step

@@ -4,7 +4,9 @@ use Rattle.std.specs.Option.{option_map_or}
 use Rattle.std.specs.FinMap.{get, contains_key}
 use Rattle.std.specs.FinSet as set
 use Rattle.base.specs.declared.key.Key.{Key}
+use Rattle.base.specs.declared.profile.Profile.{Profile}
 use Rattle.scenario.specs.Setup.{Setup, member_count}
+use Rattle.incarnation.specs.Refutations.{does_refute}
 use Rattle.streams.specs.Draw.{AreWords}
 use Rattle.incarnation.specs.declared.Claim.{Claim}
 use Rattle.incarnation.specs.declared.Claim.TheVariants.{Suspect}
@@ -27,6 +29,11 @@ pub record AccusesOneself (me : ℕ) (t : State) (u : Update) : Type 0 where
   pub own : u.subject ≡ me
   pub claim : u.claim ≡ Suspect
   pub present : u.inc ≡ t.incarnation
+
+-- the update is about the member itself, and it refutes it
+pub record IsRefuted (profile : Profile) (me : ℕ) (t : State) (u : Update) : Type 0 where
+  pub own : u.subject ≡ me
+  pub refutes : does_refute profile t.incarnation u.claim u.inc ≡ true
 
 -- a member that waits for its start is as in the opening world
 abbrev pub WaitsAsOpened : Setup → ℕ → State → Type 0

@@ -6,11 +6,13 @@ ghost use Rattle.std.specs.FinSet as set;
 ghost use Rattle.base.specs.declared.key.Key.{Key};
 ghost use Rattle.base.specs.World.{Run};
 ghost use Rattle.scenario.specs.Setup.{Setup, IsSound};
+ghost use Rattle.scenario.specs.Profile.{profile_of};
+ghost use Rattle.base.specs.declared.profile.Profile.TheVariants.{Papers, Memberlist};
 ghost use Rattle.trace.specs.declared.row.Row.{Row};
 ghost use Rattle.trace.specs.declared.row.What.TheVariants as what;
 ghost use Rattle.trace.specs.Text.{NamesMembers};
 ghost use Rattle.incarnation.specs.declared.Claim.{Claim};
-ghost use Rattle.incarnation.specs.declared.Claim.TheVariants.{Confirm};
+ghost use Rattle.incarnation.specs.declared.Claim.TheVariants.{Alive, Confirm};
 ghost use Rattle.incarnation.specs.declared.Update.{Update};
 ghost use Rattle.member.specs.declared.content.Content.{Content};
 ghost use Rattle.member.specs.declared.content.Content.TheVariants.{Start, Leave, Bye};
@@ -21,28 +23,43 @@ ghost use Rattle.member.specs.Turn.{Effect, unchanged};
 ghost use Rattle.member.specs.Send.{buddy_of};
 ghost use Rattle.member.specs.Apply.{applied};
 ghost use Rattle.member.specs.Step.{step, plain_step};
-ghost use Rattle.member_laws.specs.Words.{AccusesOneself, WaitsAsOpened, IsWithinCeiling, IsTimely, IsConsistent, IsAmongMembers};
+ghost use Rattle.member_laws.specs.Words.{AccusesOneself, IsRefuted, WaitsAsOpened, IsWithinCeiling, IsTimely, IsConsistent, IsAmongMembers};
 ghost use Rattle.member_laws.specs.Rows.{IsOn};
 ghost use Rattle.member_laws.specs.Runs.{Cluster, IsRunOf, IsPlainRunOf, LeadsTo, IsReached};
 
-/// A member's incarnation number rises by one where it hears itself suspected at its present
-/// number, and stays at whatever else it hears. No step lowers it.
+/// A member's incarnation number becomes the one after that of a claim which it refutes, and stays at
+/// whatever else it hears. By the papers' rules it so rises by one where it hears itself suspected at
+/// its present number, and stays at all else. No step lowers it.
 pub fn an_incarnation_rises_to_refute_alone()
     ensures refuted { (s : Setup) (loud : Bool) (k : Key) (u : Update) (o : Effect)
-        → AccusesOneself k.to o.state u
-        → (applied s loud k u o).state.incarnation ≡ o.state.incarnation + 1 }
+        → IsRefuted (profile_of s) k.to o.state u
+        → (applied s loud k u o).state.incarnation ≡ u.inc + 1 }
     ensures stays { (s : Setup) (loud : Bool) (k : Key) (u : Update) (o : Effect)
-        → ¬ AccusesOneself k.to o.state u
+        → ¬ IsRefuted (profile_of s) k.to o.state u
+        → (applied s loud k u o).state.incarnation ≡ o.state.incarnation }
+    ensures refuted_by_papers { (s : Setup) (loud : Bool) (k : Key) (u : Update) (o : Effect)
+        → profile_of s ≡ Papers → AccusesOneself k.to o.state u
+        → (applied s loud k u o).state.incarnation ≡ o.state.incarnation + 1 }
+    ensures stays_by_papers { (s : Setup) (loud : Bool) (k : Key) (u : Update) (o : Effect)
+        → profile_of s ≡ Papers → ¬ AccusesOneself k.to o.state u
         → (applied s loud k u o).state.incarnation ≡ o.state.incarnation }
     ensures never_falls { (s : Setup) (k : Key) (c : Content) (t : State) → WaitsAsOpened s k.to t
         → t.incarnation ≤ (step s k c t).state.incarnation }
 {}
 
-/// What is confirmed stays confirmed: a step leaves such an entry as it is.
+/// By the papers' rules what is confirmed stays confirmed: a step leaves such an entry as it is.
 pub fn a_confirmed_member_stays_so()
-    ensures { (s : Setup) (k : Key) (c : Content) (t : State) (subject number : ℕ) → WaitsAsOpened s k.to t
+    ensures { (s : Setup) → profile_of s ≡ Papers → (k : Key) (c : Content) (t : State) (subject number : ℕ) → WaitsAsOpened s k.to t
         → get t.table subject ≡ Some (Confirm, number)
         → get (step s k c t).state.table subject ≡ Some (Confirm, number) }
+{}
+
+/// By memberlist's rules a member that is held as confirmed at a number is held as alive again only at
+/// a number over it.
+pub fn a_higher_number_alone_revives()
+    ensures { (s : Setup) → profile_of s ≡ Memberlist → (k : Key) (c : Content) (t : State) (subject number after : ℕ)
+        → WaitsAsOpened s k.to t → get t.table subject ≡ Some (Confirm, number)
+        → get (step s k c t).state.table subject ≡ Some (Alive, after) → number < after }
 {}
 
 /// A member that is down does nothing, and one that waits does nothing before its start: nothing of
@@ -103,13 +120,24 @@ pub fn a_run_lowers_no_incarnation()
         → before.incarnation ≤ after.incarnation }
 {}
 
-/// Through a run a member that holds another as confirmed never holds anything else of it.
+/// Through a run by the papers' rules a member that holds another as confirmed never holds anything else
+/// of it.
 pub fn a_run_revives_nobody()
     ensures { (s : Setup) (w v : Cluster) (m : ℕ) (before after : State) (subject number : ℕ)
-        → IsReached s w → LeadsTo s w v
+        → profile_of s ≡ Papers → IsReached s w → LeadsTo s w v
         → get w.members m ≡ Some before → get v.members m ≡ Some after
         → get before.table subject ≡ Some (Confirm, number)
         → get after.table subject ≡ Some (Confirm, number) }
+{}
+
+/// Through a run by memberlist's rules a member that holds another as confirmed at a number holds it as
+/// alive later only at a number over it.
+pub fn a_run_revives_by_higher_numbers_alone()
+    ensures { (s : Setup) (w v : Cluster) (m : ℕ) (before after : State) (subject number later : ℕ)
+        → profile_of s ≡ Memberlist → IsReached s w → LeadsTo s w v
+        → get w.members m ≡ Some before → get v.members m ≡ Some after
+        → get before.table subject ≡ Some (Confirm, number) → get after.table subject ≡ Some (Alive, later)
+        → number < later }
 {}
 
 /// Wherever a run has come, each member's state is consistent, and each event that pends is among
@@ -147,15 +175,15 @@ pub fn a_run_keeps_moments_in_range()
 {}
 
 /// Where nobody leaves, as in each scenario of the format's first version, no run has a leave or a bye
-/// among its events, and no row tells of one. On all other events the step is that of the first version, and so
-/// the runs are the same.
+/// among its events, and no row tells of one. By the papers' rules the step on all other events is that of
+/// the first version, and so the runs are the same.
 pub fn where_nobody_leaves_runs_are_plain()
-    ensures step { (s : Setup) (k : Key) (c : Content) (t : State) → c ≢ Leave → c ≢ Bye
+    ensures step { (s : Setup) → profile_of s ≡ Papers → (k : Key) (c : Content) (t : State) → c ≢ Leave → c ≢ Bye
         → step s k c t ≡ plain_step s k c t }
     ensures events { (s : Setup) (w : Cluster) (k : Key) (c : Content) → s.leaves ≡ [] → IsReached s w
         → get w.pending k ≡ Some c → (c ≢ Leave) × (c ≢ Bye) }
-    ensures runs { (s : Setup) (rows : List Row) → s.leaves ≡ [] → IsRunOf s rows → IsPlainRunOf s rows }
-    ensures plain_runs { (s : Setup) (rows : List Row) → s.leaves ≡ [] → IsPlainRunOf s rows → IsRunOf s rows }
+    ensures runs { (s : Setup) (rows : List Row) → profile_of s ≡ Papers → s.leaves ≡ [] → IsRunOf s rows → IsPlainRunOf s rows }
+    ensures plain_runs { (s : Setup) (rows : List Row) → profile_of s ≡ Papers → s.leaves ≡ [] → IsPlainRunOf s rows → IsRunOf s rows }
     ensures rows { (s : Setup) (rows : List Row) → s.leaves ≡ [] → IsRunOf s rows
         → All (λ (row : Row). (row.what ≢ what.Leave) × (row.what ≢ what.Bye)) rows }
 {}

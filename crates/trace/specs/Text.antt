@@ -32,6 +32,11 @@ word_of what.Refute = codes "refute"
 word_of what.Dead = codes "dead"
 word_of what.Leave = codes "leave"
 word_of what.Bye = codes "bye"
+word_of what.Gossip = codes "gossip"
+word_of what.Call = codes "call"
+word_of what.Answer = codes "answer"
+word_of what.Push = codes "push"
+word_of what.Pull = codes "pull"
 
 -- the name of the member that a row is about, and nothing where it is about none
 abbrev pub about_text : Setup → Option ℕ → List ℕ

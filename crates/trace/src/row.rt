@@ -44,6 +44,16 @@ pub enum What {
     Leave,
     /// A member that leaves tells another.
     Bye,
+    /// Updates on their way by themselves (memberlist's rules, as what follows).
+    Gossip,
+    /// A stream to a member that didn't answer in time.
+    Call,
+    /// The answer to a call.
+    Answer,
+    /// A member tells another all that it knows.
+    Push,
+    /// And is told all that the other knows.
+    Pull,
 }
 
 impl What {
@@ -71,6 +81,11 @@ impl What {
             What::Dead => "dead",
             What::Leave => "leave",
             What::Bye => "bye",
+            What::Gossip => "gossip",
+            What::Call => "call",
+            What::Answer => "answer",
+            What::Push => "push",
+            What::Pull => "pull",
         }
     }
 }

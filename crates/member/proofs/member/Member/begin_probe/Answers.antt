@@ -1,4 +1,8 @@
+use Rattle.std.proofs.Common.{◌<◌, Some, sym, subst}
+use Rattle.scenario.specs.Setup.{member_count}
+use Rattle.lifeguard.specs.declared.probe.Probe.{Probe}
 use Rattle.member.specs.StateOf.{effect_of}
+use Rattle.member.proofs.Holds.{holds_probe}
 use Rattle.member.proofs.Worn.{worn_probe, worn_out, worn_pinged, refused}
 use Rattle.member.proofs.member.Member.begin_probe.Goals as goal
 
@@ -6,6 +10,12 @@ pub returns-then-self-ge-COUNTER_LIMIT :
     goal.returns-then-self-ge-COUNTER_LIMIT
 returns-then-self-ge-COUNTER_LIMIT c =
     worn_out (worn_probe c.args.here.now.scenario.now c.args.here.now.key c.args.target (effect_of c.args.self.now c.args.turn.now) c.if-self-ge-COUNTER_LIMIT.true)
+
+pub send_ping-requires-clause-known : goal.send_ping-requires-clause-known
+send_ping-requires-clause-known c =
+    let self = c.args.self.now in
+    let n = member_count c.args.here.now.scenario.now in
+    holds_probe _ _ self.table self.rota self.probe (Some c.new.result) (subst (λ (p : Probe). p.target < n) (sym c.new.ensures) c.requires.member) c.requires.known
 
 pub returns-in_err-send_ping : goal.returns-in_err-send_ping
 returns-in_err-send_ping c =

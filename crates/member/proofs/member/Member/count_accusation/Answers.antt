@@ -10,9 +10,10 @@ use Rattle.member.proofs.member.Member.count_accusation.Goals as goal
 
 pub returns-in_err-make_event : goal.returns-in_err-make_event
 returns-in_err-make_event c =
+    let s = c.args.here.now.scenario.now in
     let k = c.args.here.now.key in
     let u = c.args.update.now in
     let due = c.in-Some.accused.due in
-    refused _ _ c.from_residual-in_err-make_event.ensures.1 (λ h. subst (λ (a : Option Accused). IsWorn (accusation_counted c.args.loud k u a (effect_of c.args.self.now c.args.turn.now)).state) (sym c.in-Some.is)
-    (kept_passed_on c.args.loud u _
-    (subst (λ (o : Effect). IsWorn (with_event k due k.to (SuspicionTimer u.subject) o).state) c.in_ok-tell.ensures.ok (c.in_err-make_event.ensures.worn h))))
+    refused _ _ c.from_residual-in_err-make_event.ensures.1 (λ h. subst (λ (a : Option Accused). IsWorn (accusation_counted s c.args.loud k u a (effect_of c.args.self.now c.args.turn.now)).state) (sym c.in-Some.is)
+    (kept_passed_on s k c.args.loud u _
+    (subst (λ (o : Effect). IsWorn (with_event s k due k.to (SuspicionTimer u.subject) o).state) c.in_ok-tell.ensures.ok (c.in_err-make_event.ensures.worn h))))

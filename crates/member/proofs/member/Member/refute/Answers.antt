@@ -2,7 +2,7 @@ use Rattle.member.specs.StateOf.{effect_of}
 use Rattle.member.proofs.Worn.{worn_refuted, worn_out}
 use Rattle.member.proofs.member.Member.refute.Goals as goal
 
-pub returns-then-self-ge-COUNTER_LIMIT :
-    goal.returns-then-self-ge-COUNTER_LIMIT
-returns-then-self-ge-COUNTER_LIMIT c =
-    worn_out (worn_refuted c.args.here.now.key (effect_of c.args.self.now c.args.turn.now) c.if-self-ge-COUNTER_LIMIT.true)
+pub returns-then-claimed-ge-COUNTER_LIMIT :
+    goal.returns-then-claimed-ge-COUNTER_LIMIT
+returns-then-claimed-ge-COUNTER_LIMIT c =
+    worn_out (worn_refuted c.args.here.now.scenario.now c.args.here.now.key c.args.claimed (effect_of c.args.self.now c.args.turn.now) c.if-claimed-ge-COUNTER_LIMIT.true)

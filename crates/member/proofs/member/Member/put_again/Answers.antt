@@ -1,0 +1,14 @@
+use Rattle.std.proofs.Common.{sym, subst}
+use Rattle.membership.specs.Table.{Known}
+use Rattle.member.specs.Here.{HoldsOthers}
+use Rattle.member.proofs.Holds.{holds_put}
+use Rattle.member.proofs.member.Member.put_again.Goals as goal
+
+pub returns-clause-kept : goal.returns-clause-kept
+returns-clause-kept c =
+    let s = c.args.here.now.scenario.now in
+    let m = c.args.here.now.key.to in
+    let self = c.args.self.now in
+    let u = c.args.update.now in
+    subst (λ (t : Known). HoldsOthers s m t self.rota self.probe) (sym c.in_ok-set.ensures.ok)
+    (holds_put s m self.table self.rota self.probe u.subject (u.claim, u.inc) c.requires.member c.requires.other c.requires.up c.requires.known)

@@ -1,0 +1,268 @@
+ghost use Rattle.std.specs.Prelude.{◌≡◌, ◌≤◌, ◌<◌, ◌^◌, true, All};
+ghost use Rattle.links.specs.Trips.{kept_arrival_of};
+ghost use Rattle.membership.specs.Table.{live_count};
+ghost use Rattle.member.specs.Makes.{AreAboutMembers, Draws, IsMember, KnowsMembers, Makes};
+ghost use Rattle.member.specs.Turn.{with_timer};
+ghost use Rattle.member.specs.Send.{sent_to_each, push_sent, pull_sent};
+ghost use Rattle.member.specs.Apply.{applied};
+ghost use Rattle.member.specs.Step.{doublings_to, push_period, push_begun, first_push_set, merged_claim, merged, pushed, push_due, push_heard};
+ghost use Rattle.member.specs.StateOf.{state_of};
+
+use crate::content::Content;
+use crate::event::Effects;
+use crate::here::Here;
+use crate::member::Member;
+use crate::news::is_alive;
+use crate::turn::StepError;
+use base::{MemberId, Moment};
+use incarnation::{Claim, Update};
+use membership::Fitting;
+use trace::What;
+
+/// The exchange of all that two members know, by memberlist's rules.
+impl Member {
+    /// When what a stream carries comes to a member, if it does.
+    fn kept_arrival(&mut self, here: &Here, to: MemberId) -> Option<Moment>
+        requires to { IsMember here.now to }
+        requires known { KnowsMembers here.now self.old }
+        ensures drawn { Draws result self.old self.new (kept_arrival_of here.now.scenario.now here.now.key.to to here.now.key.at (state_of self.old).words) }
+        ensures kept { KnowsMembers here.now self.new }
+    {
+        here.links
+            .kept_arrival(here.key.to, to, here.key.at, &mut self.stream)
+    }
+
+    /// Sends all that is known, and oneself.
+    #[tactic(auto, unfolding(crate::specs::Send::push_sent, crate::specs::Send::posted))]
+    fn send_push(&mut self, turn: &mut Effects, here: &Here, to: MemberId) -> Result<(), StepError>
+        requires to { IsMember here.now to }
+        requires known { KnowsMembers here.now self.old }
+        ensures { Makes here.now result self.old turn.old self.new turn.new (push_sent here.now.scenario.now here.now.key to) }
+    {
+        let entries = self.whole_table(here)?;
+        let arrival = self.kept_arrival(here, to);
+        self.post(
+            turn,
+            here,
+            What::Push,
+            to,
+            0,
+            Content::Push { entries },
+            arrival,
+        )
+    }
+
+    /// Answers a push by the same.
+    #[tactic(auto, unfolding(crate::specs::Send::pull_sent, crate::specs::Send::posted))]
+    fn send_pull(&mut self, turn: &mut Effects, here: &Here, to: MemberId) -> Result<(), StepError>
+        requires to { IsMember here.now to }
+        requires known { KnowsMembers here.now self.old }
+        ensures { Makes here.now result self.old turn.old self.new turn.new (pull_sent here.now.scenario.now here.now.key to) }
+    {
+        let entries = self.whole_table(here)?;
+        let arrival = self.kept_arrival(here, to);
+        self.post(
+            turn,
+            here,
+            What::Pull,
+            to,
+            0,
+            Content::Pull { entries },
+            arrival,
+        )
+    }
+
+    /// Sends all that is known to members, one after another.
+    fn push_to(
+        &mut self,
+        turn: &mut Effects,
+        here: &Here,
+        them: &[MemberId],
+    ) -> Result<(), StepError>
+        requires known { KnowsMembers here.now self.old }
+        requires members { All (IsMember here.now) them.now }
+        ensures { Makes here.now result self.old turn.old self.new turn.new (sent_to_each (push_sent here.now.scenario.now here.now.key) them.now) }
+    {
+        for to in them {
+            self.send_push(turn, here, *to)?;
+        }
+        Ok(())
+    }
+
+    /// How often all that is known is pushed, in ticks: as the setting says, and one period longer for
+    /// each doubling of more than 32 members.
+    pub(crate) fn push_period(&self, here: &Here, push: u64) -> u64
+        requires known { KnowsMembers here.now self.now }
+        requires short { push ≤ 2 ^ 24 }
+        ensures value { result ≡ push_period push (live_count self.now.table) }
+        ensures soon { result ≤ 2 ^ 27 }
+    {
+        push * (1 + doublings_to(self.live_members(here)))
+    }
+
+    /// Sets the first push timer: a push period, and a part of the setting that chance decides, after the
+    /// beat of the periods.
+    #[tactic(auto, unfolding(crate::specs::Step::push_begun))]
+    fn begin_push(
+        &mut self,
+        turn: &mut Effects,
+        here: &Here,
+        beat: Moment,
+        push: u64,
+    ) -> Result<(), StepError>
+        requires early { beat ≤ 2 ^ 41 }
+        requires some { 0 < push }
+        requires short { push ≤ 2 ^ 24 }
+        requires known { KnowsMembers here.now self.old }
+        ensures { Makes here.now result self.old turn.old self.new turn.new (push_begun here.now.scenario.now here.now.key beat push) }
+    {
+        let wait = u64::from(self.stream.below(push as u32));
+        let at = Moment(beat.ticks() + wait + self.push_period(here, push));
+        self.make_event(turn, here, at, here.key.to, Content::PushTimer)
+    }
+
+    /// Sets the first push timer after the beat of the periods, where members push.
+    pub(crate) fn set_first_push(
+        &mut self,
+        turn: &mut Effects,
+        here: &Here,
+        beat: Moment,
+    ) -> Result<(), StepError>
+        requires early { beat ≤ 2 ^ 41 }
+        requires known { KnowsMembers here.now self.old }
+        ensures { Makes here.now result self.old turn.old self.new turn.new (first_push_set here.now.scenario.now here.now.key beat here.now.scenario.now.gossip) }
+    {
+        let settings = here.scenario.gossip();
+        let Some(gossip) = settings else {
+            return Ok(());
+        };
+        if gossip.push == 0 {
+            return Ok(());
+        }
+        self.begin_push(turn, here, beat, gossip.push)
+    }
+
+    /// Tells one who is chosen all that is known, and again after a push period.
+    #[tactic(auto, unfolding(crate::specs::Step::pushed))]
+    fn push(&mut self, turn: &mut Effects, here: &Here, push: u64) -> Result<(), StepError>
+        requires short { push ≤ 2 ^ 24 }
+        requires known { KnowsMembers here.now self.old }
+        ensures { Makes here.now result self.old turn.old self.new turn.new (pushed here.now.scenario.now here.now.key push) }
+    {
+        let period = self.push_period(here, push);
+        let them = self.draw_sample(here, &Fitting::AliveBut(here.key.to), 1)?;
+        self.push_on(turn, here, period, &them)
+    }
+
+    /// Sets the next push timer, and tells members all that is known.
+    fn push_on(
+        &mut self,
+        turn: &mut Effects,
+        here: &Here,
+        period: u64,
+        them: &[MemberId],
+    ) -> Result<(), StepError>
+        requires ticks_within { period ≤ 2 ^ 41 }
+        requires known { KnowsMembers here.now self.old }
+        requires members { All (IsMember here.now) them.now }
+        ensures { Makes here.now result self.old turn.old self.new turn.new (λ o. sent_to_each (push_sent here.now.scenario.now here.now.key) them.now (with_timer here.now.scenario.now here.now.key period Content.PushTimer o)) }
+    {
+        self.set_timer(turn, here, period, Content::PushTimer)?;
+        self.push_to(turn, here, them)
+    }
+
+    /// The push timer is due, where members push.
+    pub(crate) fn end_push(&mut self, turn: &mut Effects, here: &Here) -> Result<(), StepError>
+        requires { KnowsMembers here.now self.old }
+        ensures { Makes here.now result self.old turn.old self.new turn.new (push_due here.now.scenario.now here.now.key here.now.scenario.now.gossip) }
+    {
+        let settings = here.scenario.gossip();
+        let Some(gossip) = settings else {
+            return Ok(());
+        };
+        if gossip.push == 0 {
+            return Ok(());
+        }
+        self.push(turn, here, gossip.push)
+    }
+
+    /// Heeds all that another knows.
+    #[tactic(auto, unfolding(crate::specs::Step::merged))]
+    pub(crate) fn merge(
+        &mut self,
+        turn: &mut Effects,
+        here: &Here,
+        entries: &[Update],
+    ) -> Result<(), StepError>
+        requires known { KnowsMembers here.now self.old }
+        requires members { AreAboutMembers here.now entries.now }
+        ensures { Makes here.now result self.old turn.old self.new turn.new (merged here.now.scenario.now here.now.key entries.now) }
+    {
+        for entry in entries {
+            self.apply_merged(turn, here, entry)?;
+        }
+        Ok(())
+    }
+
+    /// Applies what is made of an entry of another's table.
+    fn apply_merged(
+        &mut self,
+        turn: &mut Effects,
+        here: &Here,
+        entry: &Update,
+    ) -> Result<(), StepError>
+        requires known { KnowsMembers here.now self.old }
+        requires member { IsMember here.now entry.now.subject }
+        ensures { Makes here.now result self.old turn.old self.new turn.new (applied here.now.scenario.now true here.now.key (merged_claim here.now.key.to entry.now)) }
+    {
+        let claim = merged_claim(here.key.to, entry);
+        self.apply(turn, here, true, &claim)
+    }
+
+    /// A push is answered by all that one knows, and then heeded.
+    #[tactic(auto, unfolding(crate::specs::Step::push_heard))]
+    pub(crate) fn hear_push(
+        &mut self,
+        turn: &mut Effects,
+        here: &Here,
+        entries: &[Update],
+    ) -> Result<(), StepError>
+        requires known { KnowsMembers here.now self.old }
+        requires members { AreAboutMembers here.now entries.now }
+        ensures { Makes here.now result self.old turn.old self.new turn.new (push_heard here.now.scenario.now here.now.key entries.now) }
+    {
+        self.send_pull(turn, here, here.key.from)?;
+        self.merge(turn, here, entries)
+    }
+}
+
+// What a member makes of an entry of another's table: a death is not believed, it is suspected.
+fn merged_claim(me: MemberId, entry: &Update) -> Update
+    ensures value { result ≡ merged_claim me entry.now }
+    ensures subject { result.subject ≡ entry.now.subject }
+{
+    if is_alive(entry.claim) {
+        return *entry;
+    }
+    Update {
+        subject: entry.subject,
+        claim: Claim::Suspect,
+        inc: entry.inc,
+        accuser: me,
+    }
+}
+
+// How many doublings bring 32 to a number of members, if it is more.
+fn doublings_to(members: u32) -> u64
+    requires { members ≤ 4096 }
+    ensures value { result ≡ doublings_to members }
+    ensures few { result ≤ 7 }
+{
+    let mut reached = 32u32;
+    let mut doublings = 0u64;
+    while reached < members {
+        reached *= 2;
+        doublings += 1;
+    }
+    doublings
+}
