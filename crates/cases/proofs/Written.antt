@@ -26,7 +26,7 @@ use Rattle.cases.proofs.Words.{Lacks, unlike, decimal_lacks, cut_once, joined_sp
 -- each key that may be set is the one of its name
 named_each : AllByRecursion (λ k. key_named (key_name k) ≡ Some k) settable
 unfolding settable key_named key_rules_of spelling_of
-named_each = (refl, (refl, (refl, (refl, (refl, (refl, (refl, (refl, (refl, (refl, (refl, (refl, (refl, (refl, (refl, (refl, (refl, (refl, (refl, tt)))))))))))))))))))
+named_each = (refl, (refl, (refl, (refl, (refl, (refl, (refl, (refl, (refl, (refl, (refl, (refl, (refl, (refl, (refl, (refl, (refl, (refl, (refl, (refl, (refl, (refl, (refl, (refl, (refl, (refl, tt))))))))))))))))))))))))))
 
 pub named_itself : (k : SettingKey) → Contains settable k → key_named (key_name k) ≡ Some k
 named_itself k known = All-contains (λ j. key_named (key_name j) ≡ Some j) settable k (All-from_recursion (λ j. key_named (key_name j) ≡ Some j) settable named_each) known
@@ -40,7 +40,7 @@ same_key j k known known_too same =
 -- no name has an equals sign
 plain_each : AllByRecursion (λ k. list_any (λ byte. byte == 61) (key_name k) ≡ false) settable
 unfolding settable key_rules_of spelling_of
-plain_each = (refl, (refl, (refl, (refl, (refl, (refl, (refl, (refl, (refl, (refl, (refl, (refl, (refl, (refl, (refl, (refl, (refl, (refl, (refl, tt)))))))))))))))))))
+plain_each = (refl, (refl, (refl, (refl, (refl, (refl, (refl, (refl, (refl, (refl, (refl, (refl, (refl, (refl, (refl, (refl, (refl, (refl, (refl, (refl, (refl, (refl, (refl, (refl, (refl, (refl, tt))))))))))))))))))))))))))
 
 lacks_from_test : (c : ℕ) (xs : List ℕ) → list_any (λ byte. byte == c) xs ≡ false → Lacks c xs
 lacks_from_test c [] none = All-nil (λ x. (x == c) ≡ false)

@@ -9,7 +9,7 @@ use Rattle.schema.specs.declared.schema.KeyRule.{KeyRule}
 use Rattle.schema.specs.declared.schema.Kind.{Kind}
 use Rattle.schema.specs.declared.schema.Kind.TheVariants.{Whole, Switch, Table}
 use Rattle.schema.specs.declared.schema.Section.TheVariants.{Top}
-use Rattle.schema.specs.declared.schema.Version.TheVariants.{Two}
+use Rattle.schema.specs.declared.schema.Version.TheVariants.{Three}
 use Rattle.cases.specs.declared.keys.SettingKey.{SettingKey}
 
 -- a key of the whole text
@@ -42,16 +42,16 @@ keys_of_table t rows = map (λ row. in_table t row.key) (filter (λ row. is_plai
 abbrev pub keys_of_kind : FormatKey → Kind → List SettingKey
 keys_of_kind k (Whole least most) = at_top k ∷ []
 keys_of_kind k Switch = at_top k ∷ []
-keys_of_kind k (Table s) = keys_of_table k (key_rules_of Two s)
+keys_of_kind k (Table s) = keys_of_table k (key_rules_of Three s)
 keys_of_kind k _ = []
 
 -- the same of its row, where it isn't `seed`: seeds are asked for by themselves
 abbrev pub keys_of_row : KeyRule → List SettingKey
 keys_of_row row = if bytes_eq (spelling_of row.key) (spelling_of key.Seed) then [] else keys_of_kind row.key row.kind
 
--- the keys that may be set: those outside lists that stand for whole numbers and switches, in the format's order. Version 2 adds none to version 1.
+-- the keys that may be set: those outside lists that stand for whole numbers and switches, in the order of the newest version, which has those of all before it.
 unfoldable pub settable : List SettingKey
-settable = flat_map keys_of_row (key_rules_of Two Top)
+settable = flat_map keys_of_row (key_rules_of Three Top)
 
 -- the key has this name
 abbrev pub is_named : List ℕ → SettingKey → Bool

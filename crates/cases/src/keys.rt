@@ -23,7 +23,7 @@ impl SettingKey {
     pub fn named(word: &str) -> Option<SettingKey>
         ensures { result ≡ key_named word.now }
     {
-        named_by_rows(Section::Top.rows(Version::Two), word)
+        named_by_rows(Section::Top.rows(Version::Three), word)
     }
 
     /// The key's name, as `end` or `swim.period`.
@@ -61,7 +61,7 @@ fn named_by_row(row: &KeyRule, word: &str) -> Option<SettingKey>
     }
     match row.kind {
         Kind::Whole { .. } | Kind::Switch => top_key(row.key, word),
-        Kind::Table(section) => named_in_table(row.key, section.rows(Version::Two), word),
+        Kind::Table(section) => named_in_table(row.key, section.rows(Version::Three), word),
         Kind::Text | Kind::List(_) => None,
     }
 }

@@ -4,7 +4,29 @@ use Rattle.std.specs.Prelude.{if◌then◌else◌}
 use Rattle.std.specs.List.{flat_map, zip}
 use Rattle.std.proofs.lemmas.Bool.{eqb-true}
 use Rattle.std.proofs.lemmas.List.{take_more, length-take-le, length-map, map-append}
-use Rattle.figures.specs.CaseLines.{padded, cells_aligned}
+use Rattle.figures.specs.declared.summary.CaseSummary.{CaseSummary}
+use Rattle.figures.specs.Lines.{where_told}
+use Rattle.figures.specs.CaseLines.{padded, cells_aligned, figure_texts, figure_widths}
+
+-- the parts of a line, as they were added and as they are told
+pub parts_joined : {A : Type 0} (keys first revived last : List A) → ((keys ++ first) ++ revived) ++ last ≡ keys ++ (first ++ (revived ++ last))
+parts_joined keys first revived last = simp append_assoc
+
+-- the widths of the columns of the figures
+abbrev pub first_widths : List ℕ
+first_widths = 8 ∷ 11 ∷ 11 ∷ 11 ∷ 16 ∷ 8 ∷ 13 ∷ 13 ∷ 10 ∷ []
+
+abbrev pub last_widths : List ℕ
+last_widths = 9 ∷ 9 ∷ 10 ∷ 8 ∷ []
+
+pub widths_told : (revived : Bool) → first_widths ++ (where_told revived (8 ∷ []) ++ last_widths) ≡ figure_widths revived
+widths_told true = refl
+widths_told false = refl
+
+-- there are as many figures as columns
+pub as_many : (revived : Bool) (case : CaseSummary) → length (figure_texts revived case) ≡ length (figure_widths revived)
+as_many true case = refl
+as_many false case = refl
 
 -- what stands before the cell at a place
 abbrev pub gap : ℕ → List ℕ

@@ -1,13 +1,14 @@
 -- Fields of a line, written one after another.
 use Rattle.std.proofs.Common.{◌≡◌, ◌≢◌, ◌+◌, ◌-◌, ◌^◌, ◌≤◌, ◌==◌, ℕ, suc, Bool, true, false, cond, not, ◌&&◌, ◌||◌, List, [], ◌∷◌, ◌++◌, codes, length, min, refl, sym, ap, ◌∙◌, arith, append_assoc, length-append, subst}
-use Rattle.std.specs.Prelude.{Vec, Result, OnOk}
+use Rattle.std.specs.Prelude.{Vec, Option, Result, OnOk, map}
+use Rattle.std.proofs.lemmas.List.{map-append}
 use Rattle.std.specs.declared.alloc.Global.{Global}
 use Rattle.std.proofs.lemmas.Bool.Decides.{nat_tests}
 use Rattle.csv.specs.Writing.{default_writer, field_text, next_sep, tail_text, writer_setup, fields_written, has_written}
 use Rattle.csv.specs.declared.writer.QuoteStyle.TheVariants as style
 use Rattle.csv.specs.declared.writer.Writer.{Writer}
 use Rattle.trace.specs.Lines.{laid_out}
-use Rattle.figures.specs.Lines.{cells_joined, table_line, HasLaidOut}
+use Rattle.figures.specs.Lines.{cells_joined, cell, table_line, HasLaidOut}
 
 -- one field more, after others
 one_more : (first : List ℕ) (rest : List (List ℕ)) (field : List ℕ) → cells_joined (first ∷ rest ++ field ∷ []) ≡ cells_joined (first ∷ rest) ++ 44 ∷ field_text default_writer field
@@ -62,8 +63,17 @@ line_ended old new fields has two ended =
     ∙ ap (λ l. l ++ codes "\n") has.text
 
 -- a line with two fields at least
-pub long : (keys : List (List ℕ)) (seed next : List ℕ) (rest : List (List ℕ)) → 2 ≤ length ((keys ++ seed ∷ []) ++ next ∷ rest)
-long keys seed next rest = omega (arith, length-append (keys ++ seed ∷ []) (next ∷ rest), length-append keys (seed ∷ []))
+pub long : (keys : List (List ℕ)) (seed next : List ℕ) (rest more last : List (List ℕ)) → 2 ≤ length ((((keys ++ seed ∷ []) ++ next ∷ rest) ++ more) ++ last)
+long keys seed next rest more last =
+    omega (arith, length-append (((keys ++ seed ∷ []) ++ next ∷ rest) ++ more) last, length-append ((keys ++ seed ∷ []) ++ next ∷ rest) more, length-append (keys ++ seed ∷ []) (next ∷ rest), length-append keys (seed ∷ []))
+
+-- the parts of a line, as they were written and as they are told
+pub parts_joined : (keys : List (List ℕ)) (seed : List ℕ) (claims revived protocol : List (List ℕ))
+    → (((keys ++ seed ∷ []) ++ claims) ++ revived) ++ protocol ≡ keys ++ seed ∷ (claims ++ (revived ++ protocol))
+parts_joined keys seed claims revived protocol = simp append_assoc
+
+pub cells_of_parts : (claims revived protocol : List (Option ℕ)) → map cell (claims ++ (revived ++ protocol)) ≡ map cell claims ++ (map cell revived ++ map cell protocol)
+cells_of_parts claims revived protocol = map-append cell claims (revived ++ protocol) ∙ ap (λ l. map cell claims ++ l) (map-append cell revived protocol)
 
 pub on_same : {T E : Type 0} (P : Type 0) (r s : Result T E) → r ≡ s → OnOk s P → OnOk r P
 on_same {T} {E} P r s same held = subst (λ (x : Result T E). OnOk x P) (sym same) held

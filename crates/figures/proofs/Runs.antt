@@ -12,6 +12,7 @@ use Rattle.trace.specs.declared.row.What.TheVariants as what
 use Rattle.trace.specs.declared.row.Row.{Row}
 use Rattle.reports.specs.declared.departure.Departure.{Departure}
 use Rattle.reports.specs.Departures.{crashes_of, latency_of}
+use Rattle.reports.specs.Revivals.{revivals}
 use Rattle.reports.specs.FalsePositives.{ways_to_depart, false_positives}
 use Rattle.figures.specs.declared.run.RunFigures.{RunFigures}
 use Rattle.figures.specs.declared.case.CaseFigures.{CaseFigures}
@@ -62,10 +63,10 @@ pub one_run : (old new : CaseFigures) (run : RunFigures) (s : Setup) (rows : Lis
     → new.confirmed.items ≡ old.confirmed.items ++ filter_map latency_of (crashes_of rows)
     → new.last.items ≡ old.last.items ++ filter_map last_after (crashes_of rows)
     → new.runs ≡ old.runs + 1 → new.crashes ≡ old.crashes + run.crashes → new.false_suspect ≡ old.false_suspect + run.false_suspect
-    → new.thrown_out ≡ old.thrown_out + run.thrown_out → new.runs_with ≡ old.runs_with + (if run.thrown_out == 0 then 0 else 1) → new.sent ≡ old.sent + run.sent
+    → new.thrown_out ≡ old.thrown_out + run.thrown_out → new.revived ≡ old.revived + run.revived → new.runs_with ≡ old.runs_with + (if run.thrown_out == 0 then 0 else 1) → new.sent ≡ old.sent + run.sent
     → new.member_ticks ≡ old.member_ticks + member_count s * s.end → AreFiguresOf new (runs ++ traced s rows ∷ [])
 unfolding figures_of
-one_run old new run s rows runs were is suspected confirmed last counted crashed falsely thrown with_thrown sent lasting =
+one_run old new run s rows runs were is suspected confirmed last counted crashed falsely thrown back with_thrown sent lasting =
     let this = traced s rows in
     record {
       all = omega (arith, counted, were.all, length-append runs (this ∷ []));
@@ -75,6 +76,7 @@ one_run old new run s rows runs were is suspected confirmed last counted crashed
       lasts = times_push last_after runs this _ _ were.lasts last;
       false_claims = sum_push (λ those. false_positives ways_to_depart what.Suspect those.rows) runs this _ _ _ were.false_claims falsely (ap (λ (f : RunFigures). f.false_suspect) is);
       thrown = sum_push (λ those. thrown_out those.scenario those.rows) runs this _ _ _ were.thrown thrown (ap (λ (f : RunFigures). f.thrown_out) is);
+      returned = sum_push (λ those. revivals those.rows) runs this _ _ _ were.returned back (ap (λ (f : RunFigures). f.revived) is);
       with_thrown = sum_push (λ those. cond (not (thrown_out those.scenario those.rows == 0)) 1 0) runs this _ _ _ were.with_thrown with_thrown
           (one_or_none run.thrown_out ∙ ap (λ n. cond (not (n == 0)) 1 0) (ap (λ (f : RunFigures). f.thrown_out) is));
       sendings = sum_push (λ those. messages_sent those.scenario.version those.rows) runs this _ _ _ were.sendings sent (ap (λ (f : RunFigures). f.sent) is);

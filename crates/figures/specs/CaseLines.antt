@@ -1,9 +1,10 @@
 -- The lines of cases among aligned columns: the values of the keys, and then the figures.
-use Rattle.std.specs.Prelude.{ℕ, ◌-◌, ◌/◌, ◌%◌, List, [], ◌∷◌, ◌++◌, codes, decimal, length, map, flat_map, max, replicate}
+use Rattle.std.specs.Prelude.{ℕ, Bool, ◌-◌, ◌/◌, ◌%◌, List, [], ◌∷◌, ◌++◌, codes, decimal, length, map, flat_map, max, replicate}
 use Rattle.std.specs.List.{zip}
 use Rattle.std.specs.Option.{option_map_or}
 use Rattle.reports.specs.Text.{figure}
 use Rattle.figures.specs.declared.summary.CaseSummary.{CaseSummary}
+use Rattle.figures.specs.Lines.{where_told}
 
 -- a text, with spaces before it up to a width
 abbrev pub padded : ℕ → List ℕ → List ℕ
@@ -17,22 +18,34 @@ tenths n = decimal (n / 10) ++ codes "." ++ decimal (n % 10)
 abbrev pub hundredths : ℕ → List ℕ
 hundredths n = decimal (n / 100) ++ codes "." ++ decimal (n / 10 % 10) ++ decimal (n % 10)
 
--- the words over the figures, in the order of their columns
-abbrev pub figure_words : List (List ℕ)
-figure_words =
+-- the words over the figures, in the order of their columns; only some tables tell of members that were taken for alive again
+abbrev pub first_words : List (List ℕ)
+first_words =
     codes "runs" ∷ codes "suspect_p50" ∷ codes "confirm_p50" ∷ codes "confirm_p99" ∷ codes "confirm_greatest" ∷ codes "last_p50" ∷ codes "last_greatest"
-    ∷ codes "false_suspect" ∷ codes "thrown_out" ∷ codes "runs_with" ∷ codes "share_low" ∷ codes "share_high" ∷ codes "messages" ∷ []
+    ∷ codes "false_suspect" ∷ codes "thrown_out" ∷ []
+
+abbrev pub last_words : List (List ℕ)
+last_words = codes "runs_with" ∷ codes "share_low" ∷ codes "share_high" ∷ codes "messages" ∷ []
+
+abbrev pub figure_words : Bool → List (List ℕ)
+figure_words revived = first_words ++ (where_told revived (codes "revived" ∷ []) ++ last_words)
 
 -- the figures of a case, in that order
-abbrev pub figure_texts : CaseSummary → List (List ℕ)
-figure_texts case =
+abbrev pub first_texts : CaseSummary → List (List ℕ)
+first_texts case =
     decimal case.runs ∷ figure case.suspect_p50 ∷ figure case.confirm_p50 ∷ figure case.confirm_p99 ∷ figure case.confirm_greatest ∷ figure case.last_p50 ∷ figure case.last_greatest
-    ∷ hundredths case.false_suspect ∷ decimal case.thrown_out ∷ decimal case.runs_with ∷ tenths case.share_low ∷ tenths case.share_high
-    ∷ option_map_or hundredths case.messages (codes "-") ∷ []
+    ∷ hundredths case.false_suspect ∷ decimal case.thrown_out ∷ []
+
+abbrev pub last_texts : CaseSummary → List (List ℕ)
+last_texts case =
+    decimal case.runs_with ∷ tenths case.share_low ∷ tenths case.share_high ∷ option_map_or hundredths case.messages (codes "-") ∷ []
+
+abbrev pub figure_texts : Bool → CaseSummary → List (List ℕ)
+figure_texts revived case = first_texts case ++ (where_told revived (decimal case.revived ∷ []) ++ last_texts case)
 
 -- the widths of the columns of the figures: those of their words, and 8 at least
-abbrev pub figure_widths : List ℕ
-figure_widths = map (λ word. max 8 (length word)) figure_words
+abbrev pub figure_widths : Bool → List ℕ
+figure_widths revived = map (λ word. max 8 (length word)) (figure_words revived)
 
 -- texts in these widths, parted by two spaces
 abbrev pub cells_aligned : List ℕ → List (List ℕ) → List ℕ
@@ -44,9 +57,9 @@ abbrev pub aligned : List ℕ → List (List ℕ) → List ℕ
 aligned widths texts = cells_aligned widths texts ++ codes "\n"
 
 -- the words over the columns: the keys that are set, in widths that their values have too, and then the figures
-abbrev pub case_header : List ℕ → List (List ℕ) → List ℕ
-case_header widths keys = aligned (widths ++ figure_widths) (keys ++ figure_words)
+abbrev pub case_header : Bool → List ℕ → List (List ℕ) → List ℕ
+case_header revived widths keys = aligned (widths ++ figure_widths revived) (keys ++ figure_words revived)
 
 -- the line of a case with these values of the keys
-abbrev pub case_line : List ℕ → List (List ℕ) → CaseSummary → List ℕ
-case_line widths values case = aligned (widths ++ figure_widths) (values ++ figure_texts case)
+abbrev pub case_line : Bool → List ℕ → List (List ℕ) → CaseSummary → List ℕ
+case_line revived widths values case = aligned (widths ++ figure_widths revived) (values ++ figure_texts revived case)

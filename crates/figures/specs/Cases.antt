@@ -6,6 +6,7 @@ use Rattle.trace.specs.declared.row.What.TheVariants as what
 use Rattle.trace.specs.declared.row.Row.{Row}
 use Rattle.reports.specs.declared.departure.Departure.{Departure}
 use Rattle.reports.specs.Departures.{crashes_of, latency_of}
+use Rattle.reports.specs.Revivals.{revivals}
 use Rattle.reports.specs.FalsePositives.{ways_to_depart, false_positives}
 use Rattle.figures.specs.declared.summary.CaseSummary.{CaseSummary}
 use Rattle.figures.specs.Figures.{suspected_after, last_after, thrown_out, messages_sent}
@@ -45,6 +46,10 @@ false_suspicions_in runs = sum_by (λ run. false_positives ways_to_depart what.S
 -- how many members were thrown out, each counted in each run
 abbrev pub thrown_out_in : List TracedRun → ℕ
 thrown_out_in runs = sum_by (λ run. thrown_out run.scenario run.rows) runs
+
+-- how often members were taken for alive again in all runs
+abbrev pub revived_in : List TracedRun → ℕ
+revived_in runs = sum_by (λ run. revivals run.rows) runs
 
 -- in how many runs members were thrown out
 abbrev pub runs_with : List TracedRun → ℕ
@@ -98,6 +103,7 @@ pub record IsSummaryOf (case : CaseSummary) (runs : List TracedRun) : Type 0 whe
   pub latest_last : case.last_greatest ≡ percentile 100 last_after (crashes_of_runs runs)
   pub false_claims : case.false_suspect ≡ false_rate runs
   pub thrown : case.thrown_out ≡ thrown_out_in runs
+  pub returned : case.revived ≡ revived_in runs
   pub with_thrown : case.runs_with ≡ runs_with runs
   pub low : case.share_low ≡ share_low (runs_with runs) (length runs)
   pub high : case.share_high ≡ share_high (runs_with runs) (length runs)

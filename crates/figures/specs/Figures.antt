@@ -12,6 +12,7 @@ use Rattle.reports.specs.Rows.{count_of, losses_of, worst_health}
 use Rattle.reports.specs.Departures.{crashes_of, latencies_of}
 use Rattle.reports.specs.FalsePositives.{ways_to_depart, false_positives, healthy_false_positives}
 use Rattle.reports.specs.Failures.{false_positives_of}
+use Rattle.reports.specs.Revivals.{revivals}
 use Rattle.reports.specs.Text.{message_kinds}
 use Rattle.figures.specs.declared.run.RunFigures.{RunFigures}
 
@@ -62,6 +63,7 @@ figures_of s rows =
       false_confirm = false_positives ways_to_depart what.Confirm rows;
       false_confirm_healthy = healthy_false_positives s ways_to_depart what.Confirm rows;
       thrown_out = thrown_out s rows;
+      revived = revivals rows;
       accuse = count_of what.Accuse rows;
       refute = count_of what.Refute rows;
       fail = count_of what.Fail rows;

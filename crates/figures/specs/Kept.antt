@@ -4,7 +4,7 @@ use Rattle.std.specs.List.{filter_map}
 use Rattle.reports.specs.Departures.{latencies_of}
 use Rattle.figures.specs.declared.case.CaseFigures.{CaseFigures}
 use Rattle.figures.specs.Figures.{suspected_after, last_after}
-use Rattle.figures.specs.Cases.{TracedRun, crashes_of_runs, false_suspicions_in, thrown_out_in, runs_with, sent_in, member_ticks_in}
+use Rattle.figures.specs.Cases.{TracedRun, crashes_of_runs, false_suspicions_in, thrown_out_in, revived_in, runs_with, sent_in, member_ticks_in}
 
 -- what is kept is what these runs tell
 pub record AreFiguresOf (case : CaseFigures) (runs : List TracedRun) : Type 0 where
@@ -15,6 +15,7 @@ pub record AreFiguresOf (case : CaseFigures) (runs : List TracedRun) : Type 0 wh
   pub lasts : case.last.items ≡ filter_map last_after (crashes_of_runs runs)
   pub false_claims : case.false_suspect ≡ false_suspicions_in runs
   pub thrown : case.thrown_out ≡ thrown_out_in runs
+  pub returned : case.revived ≡ revived_in runs
   pub with_thrown : case.runs_with ≡ runs_with runs
   pub sendings : case.sent ≡ sent_in runs
   pub lasting : case.member_ticks ≡ member_ticks_in runs

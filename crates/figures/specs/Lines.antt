@@ -1,5 +1,5 @@
 -- The table of a sweep: a header, and a line for each run.
-use Rattle.std.specs.Prelude.{◌≡◌, ℕ, Option, Some, None, List, [], ◌∷◌, ◌++◌, ◌-◌, ◌^◌, codes, decimal, length, map, min, Vec}
+use Rattle.std.specs.Prelude.{◌≡◌, ℕ, Bool, true, false, Option, Some, None, List, [], ◌∷◌, ◌++◌, ◌-◌, ◌^◌, codes, decimal, length, map, min, Vec}
 use Rattle.std.specs.List.{join_with_byte}
 use Rattle.std.specs.declared.alloc.Global.{Global}
 use Rattle.csv.specs.Writing.{default_writer, field_text, writer_setup, fields_written}
@@ -15,19 +15,35 @@ cells_joined fields = join_with_byte 44 (map (field_text default_writer) fields)
 unfoldable pub table_line : List (List ℕ) → List ℕ
 table_line fields = cells_joined fields ++ codes "\n"
 
--- the names of the figures, in the order of their columns
-abbrev pub figure_names : List (List ℕ)
-figure_names =
+-- what only some tables tell
+abbrev pub where_told : {A : Type 0} → Bool → List A → List A
+where_told true column = column
+where_told false column = []
+
+-- The names of the figures, in the order of their columns: those of crashes and of false claims, in some tables that of the members
+-- that were taken for alive again, and those of the protocol.
+abbrev pub claim_names : List (List ℕ)
+claim_names =
     codes "rows" ∷ codes "crashes" ∷ codes "detected" ∷ codes "suspect_least" ∷ codes "confirm_least" ∷ codes "confirm_greatest" ∷ codes "last_greatest"
-    ∷ codes "false_suspect" ∷ codes "false_suspect_healthy" ∷ codes "false_confirm" ∷ codes "false_confirm_healthy" ∷ codes "thrown_out"
-    ∷ codes "accuse" ∷ codes "refute" ∷ codes "fail" ∷ codes "health" ∷ codes "sent" ∷ codes "lost" ∷ []
+    ∷ codes "false_suspect" ∷ codes "false_suspect_healthy" ∷ codes "false_confirm" ∷ codes "false_confirm_healthy" ∷ codes "thrown_out" ∷ []
+
+abbrev pub protocol_names : List (List ℕ)
+protocol_names = codes "accuse" ∷ codes "refute" ∷ codes "fail" ∷ codes "health" ∷ codes "sent" ∷ codes "lost" ∷ []
+
+abbrev pub figure_names : Bool → List (List ℕ)
+figure_names revived = claim_names ++ (where_told revived (codes "revived" ∷ []) ++ protocol_names)
 
 -- the figures in that order
-abbrev pub figures_in_order : RunFigures → List (Option ℕ)
-figures_in_order run =
+abbrev pub claims_in_order : RunFigures → List (Option ℕ)
+claims_in_order run =
     Some run.rows ∷ Some run.crashes ∷ Some run.detected ∷ run.suspect_least ∷ run.confirm_least ∷ run.confirm_greatest ∷ run.last_greatest
-    ∷ Some run.false_suspect ∷ Some run.false_suspect_healthy ∷ Some run.false_confirm ∷ Some run.false_confirm_healthy ∷ Some run.thrown_out
-    ∷ Some run.accuse ∷ Some run.refute ∷ Some run.fail ∷ Some run.health ∷ Some run.sent ∷ Some run.lost ∷ []
+    ∷ Some run.false_suspect ∷ Some run.false_suspect_healthy ∷ Some run.false_confirm ∷ Some run.false_confirm_healthy ∷ Some run.thrown_out ∷ []
+
+abbrev pub protocol_in_order : RunFigures → List (Option ℕ)
+protocol_in_order run = Some run.accuse ∷ Some run.refute ∷ Some run.fail ∷ Some run.health ∷ Some run.sent ∷ Some run.lost ∷ []
+
+abbrev pub figures_in_order : Bool → RunFigures → List (Option ℕ)
+figures_in_order revived run = claims_in_order run ++ (where_told revived (Some run.revived ∷ []) ++ protocol_in_order run)
 
 -- a figure in decimal, and nothing where there is none
 abbrev pub cell : Option ℕ → List ℕ
@@ -35,12 +51,12 @@ cell (Some n) = decimal n
 cell None = []
 
 -- the first line: the keys that are set, the seed, and the figures
-abbrev pub header_line : List (List ℕ) → List ℕ
-header_line keys = table_line (keys ++ codes "seed" ∷ figure_names)
+abbrev pub header_line : Bool → List (List ℕ) → List ℕ
+header_line revived keys = table_line (keys ++ codes "seed" ∷ figure_names revived)
 
 -- the line of a run: the values of the keys, the seed, and the run's figures
-abbrev pub run_line : List (List ℕ) → ℕ → RunFigures → List ℕ
-run_line values seed run = table_line (values ++ decimal seed ∷ map cell (figures_in_order run))
+abbrev pub run_line : Bool → List (List ℕ) → ℕ → RunFigures → List ℕ
+run_line revived values seed run = table_line (values ++ decimal seed ∷ map cell (figures_in_order revived run))
 
 -- a writer has written these fields of a first line
 pub record HasLaidOut (writer : Writer (Vec ℕ Global)) (fields : List (List ℕ)) : Type 0 where

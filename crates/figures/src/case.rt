@@ -31,6 +31,8 @@ pub struct CaseFigures {
     false_suspect: u128,
     /// How many members were thrown out.
     thrown_out: u128,
+    /// How often members were taken for alive again.
+    revived: u128,
     /// In how many runs members were thrown out.
     runs_with: u64,
     /// How many messages were sent.
@@ -40,6 +42,7 @@ pub struct CaseFigures {
     ghost crashes_fit: { crashes ≤ runs * 2 ^ 64 },
     ghost false_suspect_fit: { false_suspect ≤ runs * 2 ^ 64 },
     ghost thrown_out_fit: { thrown_out ≤ runs * 2 ^ 64 },
+    ghost revived_fit: { revived ≤ runs * 2 ^ 64 },
     ghost sent_fit: { sent ≤ runs * 2 ^ 64 },
     ghost member_ticks_fit: { member_ticks ≤ runs * 2 ^ 52 },
     ghost runs_with_fit: { runs_with ≤ runs },
@@ -63,6 +66,7 @@ impl CaseFigures {
             last: Vec::new(alloc),
             false_suspect: 0,
             thrown_out: 0,
+            revived: 0,
             runs_with: 0,
             sent: 0,
             member_ticks: 0,
@@ -120,6 +124,7 @@ impl CaseFigures {
             last_greatest: percentile(last, case.crashes, 100),
             false_suspect: case.false_suspect * 100 / u128::from(case.runs),
             thrown_out: case.thrown_out,
+            revived: case.revived,
             runs_with: case.runs_with,
             share_low: share_low(case.runs_with, case.runs),
             share_high: share_high(case.runs_with, case.runs),
@@ -137,6 +142,7 @@ impl CaseFigures {
         ensures crashes { self.new.crashes ≡ self.old.crashes + figures.now.crashes }
         ensures false_suspect { self.new.false_suspect ≡ self.old.false_suspect + figures.now.false_suspect }
         ensures thrown_out { self.new.thrown_out ≡ self.old.thrown_out + figures.now.thrown_out }
+        ensures revived { self.new.revived ≡ self.old.revived + figures.now.revived }
         ensures runs_with { self.new.runs_with ≡ self.old.runs_with + (if figures.now.thrown_out == 0 then 0 else 1) }
         ensures sent { self.new.sent ≡ self.old.sent + figures.now.sent }
         ensures member_ticks { self.new.member_ticks ≡ self.old.member_ticks + member_count scenario.now * scenario.now.end }
@@ -145,6 +151,7 @@ impl CaseFigures {
         self.crashes += u128::from(figures.crashes);
         self.false_suspect += u128::from(figures.false_suspect);
         self.thrown_out += u128::from(figures.thrown_out);
+        self.revived += u128::from(figures.revived);
         if figures.thrown_out != 0 {
             self.runs_with += 1;
         }

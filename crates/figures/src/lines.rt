@@ -1,6 +1,6 @@
 //! The lines of the table, in memory.
-ghost use Rattle.std.specs.Prelude.{◌≡◌, ◌≤◌, ◌++◌, ◌∷◌, ℕ, [], List, IfOk, OnOk, length, map};
-ghost use Rattle.figures.specs.Lines.{HasLaidOut, cell, figure_names, figures_in_order, table_line, header_line, run_line};
+ghost use Rattle.std.specs.Prelude.{◌≡◌, ◌≤◌, ◌++◌, ◌∷◌, ℕ, [], Some, codes, List, IfOk, OnOk, length, map};
+ghost use Rattle.figures.specs.Lines.{HasLaidOut, cell, claims_in_order, protocol_in_order, table_line, header_line, run_line, where_told};
 
 use crate::run::RunFigures;
 use base::Memory;
@@ -8,8 +8,8 @@ use csv::Writer;
 use itoa::Buffer;
 use std::alloc::Global;
 
-/// The names of the figures, in the order of their columns.
-const FIGURE_NAMES: [&str; 18] = [
+/// The names of the figures of crashes and of false claims, in the order of their columns.
+const CLAIM_NAMES: [&str; 12] = [
     "rows",
     "crashes",
     "detected",
@@ -22,44 +22,47 @@ const FIGURE_NAMES: [&str; 18] = [
     "false_confirm",
     "false_confirm_healthy",
     "thrown_out",
-    "accuse",
-    "refute",
-    "fail",
-    "health",
-    "sent",
-    "lost",
 ];
 
-/// The first line of a table of runs for which these keys are set.
-pub(crate) fn header_text(alloc: Global, keys: &[&str]) -> Result<Vec<u8>, Memory>
-    ensures { IfOk result (λ text. text.items ≡ header_line (map (λ key. key.now) keys.now)) }
+/// The names of the figures of the protocol, likewise.
+const PROTOCOL_NAMES: [&str; 6] = ["accuse", "refute", "fail", "health", "sent", "lost"];
+
+/// The first line of a table of runs for which these keys are set; whether it tells of members that
+/// were taken for alive again is given.
+pub(crate) fn header_text(alloc: Global, keys: &[&str], revived: bool) -> Result<Vec<u8>, Memory>
+    ensures { IfOk result (λ text. text.items ≡ header_line revived (map (λ key. key.now) keys.now)) }
 {
     let mut writer = new_writer(alloc);
     write_texts(&mut writer, keys)?;
     write_field(&mut writer, b"seed")?;
-    write_texts(&mut writer, &FIGURE_NAMES)?;
+    write_texts(&mut writer, &CLAIM_NAMES)?;
+    write_revived_name(&mut writer, revived)?;
+    write_texts(&mut writer, &PROTOCOL_NAMES)?;
     finish(writer)
 }
 
-/// The line of a run, for which the keys had these values.
+/// The line of a run, for which the keys had these values; the rest as for the first line.
 pub(crate) fn run_text(
     alloc: Global,
     values: &[&str],
     seed: u64,
     figures: &RunFigures,
+    revived: bool,
 ) -> Result<Vec<u8>, Memory>
-    ensures { IfOk result (λ text. text.items ≡ run_line (map (λ value. value.now) values.now) seed figures.now) }
+    ensures { IfOk result (λ text. text.items ≡ run_line revived (map (λ value. value.now) values.now) seed figures.now) }
 {
     let mut writer = new_writer(alloc);
     write_texts(&mut writer, values)?;
     write_cell(&mut writer, Some(seed))?;
-    write_cells(&mut writer, &in_order(figures))?;
+    write_cells(&mut writer, &claims_in_order(figures))?;
+    write_revived(&mut writer, revived, figures.revived)?;
+    write_cells(&mut writer, &protocol_in_order(figures))?;
     finish(writer)
 }
 
-/// The figures in the order of their columns.
-fn in_order(figures: &RunFigures) -> [Option<u64>; 18]
-    ensures { result ≡ figures_in_order figures.now }
+/// The figures of crashes and of false claims, in the order of their columns.
+fn claims_in_order(figures: &RunFigures) -> [Option<u64>; 12]
+    ensures { result ≡ claims_in_order figures.now }
 {
     [
         Some(figures.rows),
@@ -74,6 +77,14 @@ fn in_order(figures: &RunFigures) -> [Option<u64>; 18]
         Some(figures.false_confirm),
         Some(figures.false_confirm_healthy),
         Some(figures.thrown_out),
+    ]
+}
+
+/// The figures of the protocol, likewise.
+fn protocol_in_order(figures: &RunFigures) -> [Option<u64>; 6]
+    ensures { result ≡ protocol_in_order figures.now }
+{
+    [
         Some(figures.accuse),
         Some(figures.refute),
         Some(figures.fail),
@@ -88,6 +99,26 @@ fn new_writer(alloc: Global) -> Writer<Vec<u8>>
     ensures { HasLaidOut result [] }
 {
     Writer::from_writer(Vec::new(alloc))
+}
+
+/// Writes the name of the column of those that were taken for alive again, where it is told.
+fn write_revived_name(writer: &mut Writer<Vec<u8>>, revived: bool) -> Result<(), Memory>
+    ensures { OnOk result ((fields : List (List ℕ)) → HasLaidOut writer.old fields → HasLaidOut writer.new (fields ++ where_told revived (codes "revived" ∷ []))) }
+{
+    if revived {
+        return write_field(writer, b"revived");
+    }
+    Ok(())
+}
+
+/// Writes the figure of that column, where it is told.
+fn write_revived(writer: &mut Writer<Vec<u8>>, revived: bool, figure: u64) -> Result<(), Memory>
+    ensures { OnOk result ((fields : List (List ℕ)) → HasLaidOut writer.old fields → HasLaidOut writer.new (fields ++ map cell (where_told revived (Some figure ∷ [])))) }
+{
+    if revived {
+        return write_cell(writer, Some(figure));
+    }
+    Ok(())
 }
 
 /// Writes texts as fields.

@@ -41,6 +41,8 @@ pub struct RunFigures {
     pub false_confirm_healthy: u64,
     /// How many members were thrown out: confirmed to have failed though they had not departed.
     pub thrown_out: u64,
+    /// How often a member took for alive again one that it held to have failed.
+    pub revived: u64,
     /// How many accusations there were.
     pub accuse: u64,
     /// How many refutations there were.
@@ -87,6 +89,7 @@ impl RunFigures {
                 scenario,
             ) as u64,
             thrown_out: thrown_out(alloc, tallies, scenario)? as u64,
+            revived: tallies.revivals(),
             accuse: tallies.told(What::Accuse),
             refute: tallies.told(What::Refute),
             fail: tallies.told(What::Fail),

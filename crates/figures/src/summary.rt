@@ -24,6 +24,8 @@ pub struct CaseSummary {
     pub false_suspect: u128,
     /// How many members were thrown out, each counted in each run.
     pub thrown_out: u128,
+    /// How often a member took for alive again one that it held to have failed, in all runs.
+    pub revived: u128,
     /// In how many runs members were thrown out.
     pub runs_with: u64,
     /// The lower end of the 95 % interval of the share of such runs, by Wilson, in thousandths.

@@ -11,37 +11,44 @@ use std::alloc::Global;
 use trace::{Sink, Stopped, WriteError, put_all};
 
 /// Puts the first line of a table of runs: the keys that are set for them, the seed, and the names
-/// of the figures. Where memory is refused nothing is put, and where the sink stops it has got a
+/// of the figures, among them `revived` where the table tells of it. Where memory is refused nothing is put, and where the sink stops it has got a
 /// beginning of the line.
-pub fn write_header<S: Sink>(alloc: Global, keys: &[&str], sink: &mut S) -> Result<(), WriteError>
+pub fn write_header<S: Sink>(
+    alloc: Global,
+    keys: &[&str],
+    revived: bool,
+    sink: &mut S,
+) -> Result<(), WriteError>
     requires { S.failed sink.old < 2 ^ 63 }
-    ensures whole { OnOk result (Appends (S.held sink.old) (S.held sink.new) (header_line (map (λ key. key.now) keys.now))) }
-    ensures part { OnErr result (AppendsBeginning (S.held sink.old) (S.held sink.new) (header_line (map (λ key. key.now) keys.now))) }
+    ensures whole { OnOk result (Appends (S.held sink.old) (S.held sink.new) (header_line revived (map (λ key. key.now) keys.now))) }
+    ensures part { OnErr result (AppendsBeginning (S.held sink.old) (S.held sink.new) (header_line revived (map (λ key. key.now) keys.now))) }
     ensures memory { IfErr result (λ error. error ≡ WriteError.Memory → Keeps (S.held sink.old) (S.held sink.new)) }
     ensures failures { S.failed sink.new ≡ S.failed sink.old + failures_of_write result }
 {
-    match header_text(alloc, keys) {
+    match header_text(alloc, keys, revived) {
         Ok(text) => put_text(text.as_slice(), sink),
         Err(Memory) => Err(WriteError::Memory),
     }
 }
 
-/// Puts the line of a run: the values that the keys had, its seed, and its figures. Where memory is
+/// Puts the line of a run: the values that the keys had, its seed, and its figures, among them how
+/// often members were taken for alive again where the table tells of it. Where memory is
 /// refused nothing is put, and where the sink stops it has got a beginning of the line.
 pub fn write_run<S: Sink>(
     alloc: Global,
     values: &[&str],
     seed: u64,
     figures: &RunFigures,
+    revived: bool,
     sink: &mut S,
 ) -> Result<(), WriteError>
     requires { S.failed sink.old < 2 ^ 63 }
-    ensures whole { OnOk result (Appends (S.held sink.old) (S.held sink.new) (run_line (map (λ value. value.now) values.now) seed figures.now)) }
-    ensures part { OnErr result (AppendsBeginning (S.held sink.old) (S.held sink.new) (run_line (map (λ value. value.now) values.now) seed figures.now)) }
+    ensures whole { OnOk result (Appends (S.held sink.old) (S.held sink.new) (run_line revived (map (λ value. value.now) values.now) seed figures.now)) }
+    ensures part { OnErr result (AppendsBeginning (S.held sink.old) (S.held sink.new) (run_line revived (map (λ value. value.now) values.now) seed figures.now)) }
     ensures memory { IfErr result (λ error. error ≡ WriteError.Memory → Keeps (S.held sink.old) (S.held sink.new)) }
     ensures failures { S.failed sink.new ≡ S.failed sink.old + failures_of_write result }
 {
-    match run_text(alloc, values, seed, figures) {
+    match run_text(alloc, values, seed, figures, revived) {
         Ok(text) => put_text(text.as_slice(), sink),
         Err(Memory) => Err(WriteError::Memory),
     }

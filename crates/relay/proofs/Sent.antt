@@ -54,4 +54,4 @@ cut_sync : IsSync cut.the_row
 cut_sync = search (crosses, sendable) depth 60
 
 pub scenario_sync : IsSync scenario.the_row
-scenario_sync = search (group_sync, path_sync, slow_sync, crash_sync, leave_sync, cut_sync, crosses, sendable) depth 60
+scenario_sync = search (group_sync, path_sync, slow_sync, crash_sync, leave_sync, cut_sync, crosses, sendable) depth 60 fits 20000

@@ -31,7 +31,7 @@ first-push : (test : Row → Bool) (rows : List Row) (row : Row) → moment_of (
 first-push test rows row =
     ap moment_of (find-append test rows (row ∷ [])) ∙ first-or (find test rows) (find test (row ∷ [])) ∙ ap (option_or (moment_of (find test rows))) (first-one (test row) row)
 
-last-append : (o : Option Row) (rows : List Row) (row : Row) → last_or o (rows ++ row ∷ []) ≡ Some row
+pub last-append : (o : Option Row) (rows : List Row) (row : Row) → last_or o (rows ++ row ∷ []) ≡ Some row
 last-append o [] row = refl
 last-append o (y ∷ ys) row = last-append (Some y) ys row
 

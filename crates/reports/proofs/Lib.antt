@@ -5,3 +5,4 @@ pub mod Pushes
 pub mod Keeping
 pub mod Makers
 pub mod Versions
+pub mod Returning

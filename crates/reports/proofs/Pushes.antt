@@ -17,11 +17,11 @@ use Rattle.reports.specs.Failures.{departure_with, departure_at, false_positive_
 use Rattle.reports.proofs.Detections.{detection-push}
 
 -- a row in its place, with one row more after it
-abbrev with_later : Row → Placed → Placed
+abbrev pub with_later : Row → Placed → Placed
 with_later row p = record { earlier = p.earlier; row = p.row; later = p.later ++ row ∷ [] }
 
 -- the last row in its place
-abbrev last_placed : List Row → Row → Placed
+abbrev pub last_placed : List Row → Row → Placed
 last_placed earlier row = record { earlier = earlier; row = row; later = [] }
 
 placed_after-push : (earlier rows : List Row) (row : Row)
@@ -45,7 +45,7 @@ kept-later test row same (p ∷ ps) =
     ap (λ b. cond b (with_later row p ∷ filter test (map (with_later row) ps)) (filter test (map (with_later row) ps))) (same p)
     ∙ kept-one (test p) row p (filter test (map (with_later row) ps)) (filter test ps) (kept-later test row same ps)
 
-kept-push : (test : Placed → Bool) (rows : List Row) (row : Row) → ((p : Placed) → test (with_later row p) ≡ test p)
+pub kept-push : (test : Placed → Bool) (rows : List Row) (row : Row) → ((p : Placed) → test (with_later row p) ≡ test p)
     → filter test (rows_in_place (rows ++ row ∷ [])) ≡ map (with_later row) (filter test (rows_in_place rows)) ++ cond (test (last_placed rows row)) (last_placed rows row ∷ []) []
 kept-push test rows row same =
     ap (filter test) (placed_after-push [] rows row)

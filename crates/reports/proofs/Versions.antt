@@ -16,7 +16,7 @@ use Rattle.reports.specs.declared.departure.Departure.{Departure}
 use Rattle.reports.specs.Rows.{Placed, placed_after, rows_in_place, has_kind, tells_lost, count_of, losses_of}
 use Rattle.reports.specs.Departures.{crashes_of, leaves_of}
 use Rattle.reports.specs.FalsePositives.{ways_to_depart, first_ways_to_depart, departed_by, is_false_claim, is_false_positive, is_healthy, is_healthy_false_positive, false_positives, healthy_false_positives}
-use Rattle.reports.specs.Text.{false_line, sent_line, crash_line, leave_line, size_lines, crash_lines, leave_lines, latencies_line, false_claim_line, protocol_lines, message_line, message_kinds, report_lines, report_text, first_report_text}
+use Rattle.reports.specs.Text.{false_line, sent_line, crash_line, leave_line, size_lines, crash_lines, leave_lines, latencies_line, false_claim_line, revived_lines, protocol_lines, message_line, message_kinds, report_lines, report_text, first_report_text}
 use Rattle.reports.proofs.Pushes.{row_member, departed_member, departed_members}
 
 -- where none passes a test, none is kept
@@ -66,7 +66,7 @@ same_line s rows none claim =
 abbrev with_claims : Version → Setup → List Row → List ℕ → List ℕ → List ℕ
 with_claims version s rows suspected confirmed =
     size_lines s rows ++ crash_lines s rows ++ leave_lines version s (leaves_of rows) ++ latencies_line (crashes_of rows)
-    ++ suspected ++ confirmed ++ protocol_lines rows ++ flat_map (message_line rows) (message_kinds version)
+    ++ suspected ++ confirmed ++ revived_lines version rows ++ protocol_lines rows ++ flat_map (message_line rows) (message_kinds version)
 
 pub first_report : (s : Setup) (rows : List Row) → s.version ≡ One → count_of what.Leave rows ≡ 0 → report_text s rows ≡ first_report_text s rows
 unfolding report_text first_report_text
@@ -101,7 +101,7 @@ same_crash_line s = refl
 abbrev told : Setup → List Row → (Departure → List ℕ) → List ℕ → List ℕ
 told s rows crash leaves =
     size_lines s rows ++ flat_map crash (crashes_of rows) ++ leaves ++ latencies_line (crashes_of rows)
-    ++ false_claim_line s ways_to_depart rows what.Suspect ++ false_claim_line s ways_to_depart rows what.Confirm ++ protocol_lines rows
+    ++ false_claim_line s ways_to_depart rows what.Suspect ++ false_claim_line s ways_to_depart rows what.Confirm ++ revived_lines Two rows ++ protocol_lines rows
 
 bye_line : (rows : List Row) → count_of what.Bye rows ≡ 0 → message_line rows what.Bye ≡ sent_line (codes "bye") 0 0
 bye_line rows none = ap (λ n. sent_line (codes "bye") n (losses_of what.Bye rows)) none ∙ ap (sent_line (codes "bye") 0) (none_lost what.Bye rows none)

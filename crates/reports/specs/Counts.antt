@@ -27,6 +27,11 @@ count_place what.Refute = 15
 count_place what.Dead = 16
 count_place what.Leave = 17
 count_place what.Bye = 18
+count_place what.Gossip = 19
+count_place what.Call = 20
+count_place what.Answer = 21
+count_place what.Push = 22
+count_place what.Pull = 23
 
 -- the counts are those of these rows
 pub record AreCountsOf (counts : Counts) (rows : List Row) : Type 0 where

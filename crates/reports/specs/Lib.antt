@@ -5,3 +5,5 @@ pub mod Text
 pub mod Past
 pub mod Counts
 pub mod Failures
+pub mod Revivals
+pub mod Held

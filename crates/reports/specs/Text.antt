@@ -2,7 +2,7 @@
 use Rattle.std.specs.Prelude.{ℕ, Option, Some, None, List, [], ◌∷◌, ◌++◌, codes, decimal, length, flat_map, min, max}
 use Rattle.std.specs.List.{join_with_byte, reduce}
 use Rattle.schema.specs.declared.schema.Version.{Version}
-use Rattle.schema.specs.declared.schema.Version.TheVariants.{One, Two}
+use Rattle.schema.specs.declared.schema.Version.TheVariants.{One, Two, Three}
 use Rattle.scenario.specs.Setup.{Setup, member_count, name_of}
 use Rattle.trace.specs.Text.{word_of}
 use Rattle.trace.specs.declared.row.What.{What}
@@ -11,6 +11,7 @@ use Rattle.trace.specs.declared.row.Row.{Row}
 use Rattle.reports.specs.declared.departure.Departure.{Departure}
 use Rattle.reports.specs.Rows.{count_of, losses_of, worst_health}
 use Rattle.reports.specs.Departures.{crashes_of, leaves_of, latency_of, latencies_of}
+use Rattle.reports.specs.Revivals.{revivals}
 use Rattle.reports.specs.FalsePositives.{ways_to_depart, first_ways_to_depart, false_positives, healthy_false_positives}
 
 -- a line: its fields, parted by one space, and a line feed
@@ -64,6 +65,7 @@ first_message_kinds = what.Join ∷ what.Welcome ∷ what.Ping ∷ what.PingReq 
 abbrev pub message_kinds : Version → List What
 message_kinds One = first_message_kinds
 message_kinds Two = first_message_kinds ++ what.Bye ∷ []
+message_kinds Three = first_message_kinds ++ what.Bye ∷ what.Gossip ∷ what.Call ∷ what.Answer ∷ what.Push ∷ what.Pull ∷ []
 
 -- how large the cluster is, how long it ran, and how much there is to tell
 abbrev pub size_lines : Setup → List Row → List ℕ
@@ -81,10 +83,17 @@ crash_lines s rows = flat_map (crash_line s) (crashes_of rows)
 abbrev pub leave_lines : Version → Setup → List Departure → List ℕ
 leave_lines One s leaves = []
 leave_lines Two s leaves = flat_map (leave_line s) leaves
+leave_lines Three s leaves = flat_map (leave_line s) leaves
 
 -- false suspicions, and members that were falsely confirmed to have failed, where members depart in these ways
 abbrev pub false_claim_line : Setup → List What → List Row → What → List ℕ
 false_claim_line s ways rows claim = false_line (word_of claim) (false_positives ways claim rows) (healthy_false_positives s ways claim rows)
+
+-- how often members were taken for alive again, where a version of the format has that
+abbrev pub revived_lines : Version → List Row → List ℕ
+revived_lines One rows = []
+revived_lines Two rows = []
+revived_lines Three rows = count_line (codes "revived") (revivals rows)
 
 -- how often members accused and refuted, how often probes failed, and how bad a member's health got
 abbrev pub protocol_lines : List Row → List ℕ
@@ -101,7 +110,7 @@ abbrev pub report_lines : Version → List What → Setup → List Row → List 
 report_lines version ways s rows =
     size_lines s rows ++ crash_lines s rows ++ leave_lines version s (leaves_of rows) ++ latencies_line (crashes_of rows)
     ++ false_claim_line s ways rows what.Suspect ++ false_claim_line s ways rows what.Confirm
-    ++ protocol_lines rows ++ flat_map (message_line rows) (message_kinds version)
+    ++ revived_lines version rows ++ protocol_lines rows ++ flat_map (message_line rows) (message_kinds version)
 
 -- the report of a trace
 unfoldable pub report_text : Setup → List Row → List ℕ

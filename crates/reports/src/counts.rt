@@ -8,7 +8,7 @@ use crate::rows::has_kind;
 use trace::{Row, What};
 
 /// How many kinds of row there are.
-const KINDS: usize = 19;
+const KINDS: usize = 24;
 
 /// The counts of the rows so far.
 #[derive(Drop)]
@@ -66,9 +66,9 @@ impl Counts {
 
 /// Raises the count at a place by one, if it counts.
 fn raise(counts: &mut [u64; KINDS], place: usize, does_count: bool)
-    requires place { place < 19 }
+    requires place { place < 24 }
     requires by_one { slice_index counts.old place < 2 ^ 63 }
-    ensures long { length counts.old ≡ 19 }
+    ensures long { length counts.old ≡ 24 }
     ensures raised { counts.new ≡ (if does_count then slice_set counts.old place (slice_index counts.old place + 1) else counts.old) }
 {
     if does_count {
@@ -90,7 +90,7 @@ fn worse(health: u64, row: &Row) -> u64
 /// The place of a kind of row among the counts.
 fn count_place(kind: What) -> usize
     ensures place { result ≡ count_place kind }
-    ensures within { result < 19 }
+    ensures within { result < 24 }
 {
     match kind {
         What::Start => 0,
@@ -112,5 +112,10 @@ fn count_place(kind: What) -> usize
         What::Dead => 16,
         What::Leave => 17,
         What::Bye => 18,
+        What::Gossip => 19,
+        What::Call => 20,
+        What::Answer => 21,
+        What::Push => 22,
+        What::Pull => 23,
     }
 }

@@ -7,7 +7,7 @@ ghost use Rattle.reports.specs.Text.{message_kinds, report_text};
 use crate::tallies::Tallies;
 use crate::text::{
     push_crashes, push_false_positives, push_latencies, push_leaves, push_messages, push_protocol,
-    push_sizes,
+    push_revived, push_sizes,
 };
 use base::Memory;
 use scenario::{Scenario, Version};
@@ -33,6 +33,22 @@ const MESSAGES_2: [What; 7] = [
     What::Ack,
     What::Nack,
     What::Bye,
+];
+
+/// Those of version 3.
+const MESSAGES_3: [What; 12] = [
+    What::Join,
+    What::Welcome,
+    What::Ping,
+    What::PingReq,
+    What::Ack,
+    What::Nack,
+    What::Bye,
+    What::Gossip,
+    What::Call,
+    What::Answer,
+    What::Push,
+    What::Pull,
 ];
 
 /// The text of the report on the rows that were tallied. They must name members of the scenario's
@@ -89,6 +105,7 @@ fn text_of(alloc: Global, tallies: &Tallies, scenario: &Scenario) -> Result<Stri
     push_latencies(&mut text, tallies.crashes())?;
     push_false_positives(&mut text, What::Suspect, tallies, scenario)?;
     push_false_positives(&mut text, What::Confirm, tallies, scenario)?;
+    push_revived(&mut text, tallies, scenario.version())?;
     push_protocol(&mut text, tallies)?;
     push_messages(&mut text, message_kinds(scenario.version()), tallies)?;
     Ok(text)
@@ -101,5 +118,6 @@ pub fn message_kinds(version: Version) -> &'static [What]
     match version {
         Version::One => &MESSAGES_1,
         Version::Two => &MESSAGES_2,
+        Version::Three => &MESSAGES_3,
     }
 }

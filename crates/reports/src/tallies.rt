@@ -4,12 +4,14 @@ ghost use Rattle.trace.specs.Text.{NamesMembers};
 ghost use Rattle.reports.specs.Rows.{count_of, losses_of, worst_health};
 ghost use Rattle.reports.specs.Departures.{crashes_of, leaves_of};
 ghost use Rattle.reports.specs.Failures.{false_positives_of};
+ghost use Rattle.reports.specs.Revivals.{revivals};
 
 use crate::counts::Counts;
 use crate::departure::Departure;
 use crate::failures::Failures;
 use crate::false_positives::FalsePositive;
 use crate::past::Past;
+use crate::revivals::Revivals;
 use base::Memory;
 use base::limits::COUNTER_LIMIT;
 use scenario::Scenario;
@@ -29,12 +31,14 @@ pub enum AddError {
 }
 
 /// The rows of a run so far, in the order in which they came. It keeps of them what a report tells:
-/// counts, for each crash and leave how it was detected, and the false claims.
+/// counts, for each crash and leave how it was detected, the false claims, and who holds whom to have
+/// failed.
 #[derive(Drop)]
 pub struct Tallies {
     past: Past,
     counts: Counts,
     failures: Failures,
+    revivals: Revivals,
 }
 
 impl Model for Tallies {
@@ -42,13 +46,15 @@ impl Model for Tallies {
     ghost use Rattle.trace.specs.declared.row.Row.{Row};
     ghost use Rattle.reports.specs.Counts.{AreCountsOf};
     ghost use Rattle.reports.specs.Failures.{AreFailuresOf};
+    ghost use Rattle.reports.specs.Held.{AreRevivalsOf};
 
     ghost Value = { List Row };
 
     ghost view = { λ tallies. tallies.past };
 
     ghost invariant = { λ tallies. AreCountsOf tallies.counts tallies.past
-        × AreFailuresOf tallies.failures tallies.past };
+        × AreFailuresOf tallies.failures tallies.past
+        × AreRevivalsOf tallies.revivals tallies.past };
 }
 
 impl Tallies {
@@ -60,6 +66,7 @@ impl Tallies {
             past: Past::new(),
             counts: Counts::new(),
             failures: Failures::new(alloc),
+            revivals: Revivals::new(alloc),
         })
     }
 
@@ -73,10 +80,14 @@ impl Tallies {
         if self.counts.rows >= COUNTER_LIMIT {
             return Err(AddError::Worn);
         }
+        if self.revivals.reach(row).is_err() {
+            return Err(AddError::Memory);
+        }
         match self.failures.follow(row) {
             Ok(()) => {}
             Err(_) => return Err(AddError::Memory),
         }
+        self.revivals.follow(row);
         self.counts.count(row);
         self.past.append(row);
         Ok(())
@@ -109,6 +120,13 @@ impl Tallies {
         ensures { result ≡ worst_health self.now }
     {
         self.counts.worst_health
+    }
+
+    /// How many rows tell that a member takes one for alive again whom it held to have failed.
+    pub fn revivals(&self) -> u64
+        ensures { result ≡ revivals self.now }
+    {
+        self.revivals.count
     }
 
     /// The crashes, in the order of the rows, and how each was detected.

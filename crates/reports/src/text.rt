@@ -6,7 +6,7 @@ ghost use Rattle.scenario.specs.Setup.{member_count};
 ghost use Rattle.trace.specs.Text.{NamesMembers};
 ghost use Rattle.reports.specs.Departures.{latencies_of};
 ghost use Rattle.reports.specs.FalsePositives.{ways_to_depart};
-ghost use Rattle.reports.specs.Text.{figure, count_line, size_lines, crash_line, leave_line, leave_lines, latency_line, latencies_line, false_line, false_claim_line, sent_line, message_line, protocol_lines};
+ghost use Rattle.reports.specs.Text.{figure, count_line, size_lines, crash_line, leave_line, leave_lines, latency_line, latencies_line, false_line, false_claim_line, sent_line, message_line, protocol_lines, revived_lines};
 
 use crate::departure::Departure;
 use crate::false_positives::{false_positive_count, healthy_false_positive_count};
@@ -111,7 +111,7 @@ pub(crate) fn push_leaves(
 {
     match scenario.version() {
         Version::One => Ok(()),
-        Version::Two => push_each_leave(text, leaves, scenario),
+        Version::Two | Version::Three => push_each_leave(text, leaves, scenario),
     }
 }
 
@@ -197,6 +197,20 @@ pub(crate) fn push_false_positives(
     let all = false_positive_count(tallies, claim);
     let healthy = healthy_false_positive_count(tallies, claim, scenario);
     writeln!(text, "false {word} {all} healthy {healthy}")
+}
+
+/// Appends how often members were taken for alive again, where the version has that.
+pub(crate) fn push_revived(
+    text: &mut String,
+    tallies: &Tallies,
+    version: Version,
+) -> Result<(), AllocError>
+    ensures { OnOk result (string_bytes text.new ≡ string_bytes text.old ++ revived_lines version tallies.now) }
+{
+    match version {
+        Version::One | Version::Two => Ok(()),
+        Version::Three => push_count(text, "revived", tallies.revivals()),
+    }
 }
 
 /// Appends how often members accused and refuted, how often probes failed, and how bad the health

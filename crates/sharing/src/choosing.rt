@@ -11,7 +11,7 @@ use links::Links;
 use scenario::{Division, Scenario};
 use std::alloc::Global;
 
-/// The parts by which the run takes less time than by those of the division: its sites, or all members as one part where
+/// The parts by which the run is likely to take less time than by those of the division: its sites, or all members as one part where
 /// a turn of neither is worth handing over. None where the division's own are good.
 pub(crate) fn better_parts(
     alloc: Global,

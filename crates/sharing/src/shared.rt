@@ -15,7 +15,7 @@ use std::sync::Wait;
 use std::thread::Threads;
 use trace::Sink;
 
-/// Runs the scenario by so many workers, in the way that takes the least time. One alone simulates and writes. Several
+/// Runs the scenario by so many workers, in the way that is likely to take the least time. One alone simulates and writes. Several
 /// run the parts of the division; where a turn of these is too short to be worth handing over the cluster's sites; and
 /// where a turn of these is too short too, one runs all members while the calling thread writes. What is written is
 /// always the same: the trace, and once that is whole and its sink flushed the report, whose sink is flushed too. After

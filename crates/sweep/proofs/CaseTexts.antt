@@ -1,5 +1,5 @@
 -- How the text of cases grows, and how wide its columns are.
-use Rattle.std.proofs.Common.{◌≡◌, ℕ, suc, ◌+◌, ◌<◌, List, [], ◌∷◌, ◌++◌, Some, refl, sym, ap, subst, ◌∙◌, arith, max, take, drop, get_or, length, map, append-nil, append_assoc}
+use Rattle.std.proofs.Common.{◌≡◌, ℕ, Bool, suc, ◌+◌, ◌<◌, List, [], ◌∷◌, ◌++◌, Some, refl, sym, ap, subst, ◌∙◌, arith, max, take, drop, get_or, length, map, append-nil, append_assoc}
 use Rattle.std.specs.Prelude.{All, slice_get}
 use Rattle.std.specs.List.{flat_map}
 use Rattle.std.proofs.Math.Seq.{drop-cons}
@@ -19,32 +19,32 @@ use Rattle.sweep.proofs.Steps.{taken_more}
 
 -- ---- lines
 
-lines_more : (widths : List ℕ) (cases : List (List Choice)) (summaries : List CaseSummary) (chosen : List Choice) (summary : CaseSummary) → length cases ≡ length summaries
-    → lines_of_cases widths (cases ++ chosen ∷ []) (summaries ++ summary ∷ []) ≡ lines_of_cases widths cases summaries ++ case_line widths (texts_of chosen) summary
-lines_more widths [] [] chosen summary same = append-nil (case_line widths (texts_of chosen) summary)
-lines_more widths [] (t ∷ summaries) chosen summary same = absurd (omega (arith, same))
-lines_more widths (a ∷ cases) [] chosen summary same = absurd (omega (arith, same))
-lines_more widths (a ∷ cases) (t ∷ summaries) chosen summary same =
-    ap (λ l. case_line widths (texts_of a) t ++ l) (lines_more widths cases summaries chosen summary (omega (arith, same)))
-    ∙ sym (append_assoc (case_line widths (texts_of a) t) (lines_of_cases widths cases summaries) (case_line widths (texts_of chosen) summary))
+lines_more : (revived : Bool) (widths : List ℕ) (cases : List (List Choice)) (summaries : List CaseSummary) (chosen : List Choice) (summary : CaseSummary) → length cases ≡ length summaries
+    → lines_of_cases revived widths (cases ++ chosen ∷ []) (summaries ++ summary ∷ []) ≡ lines_of_cases revived widths cases summaries ++ case_line revived widths (texts_of chosen) summary
+lines_more revived widths [] [] chosen summary same = append-nil (case_line revived widths (texts_of chosen) summary)
+lines_more revived widths [] (t ∷ summaries) chosen summary same = absurd (omega (arith, same))
+lines_more revived widths (a ∷ cases) [] chosen summary same = absurd (omega (arith, same))
+lines_more revived widths (a ∷ cases) (t ∷ summaries) chosen summary same =
+    ap (λ l. case_line revived widths (texts_of a) t ++ l) (lines_more revived widths cases summaries chosen summary (omega (arith, same)))
+    ∙ sym (append_assoc (case_line revived widths (texts_of a) t) (lines_of_cases revived widths cases summaries) (case_line revived widths (texts_of chosen) summary))
 
 -- one line more
-pub line_added : (widths used : List ℕ) (cases : List (List Choice)) (summaries : List CaseSummary) (place : ℕ) (chosen : List Choice) (d : CaseSummary) (before text after : List ℕ)
+pub line_added : (revived : Bool) (widths used : List ℕ) (cases : List (List Choice)) (summaries : List CaseSummary) (place : ℕ) (chosen : List Choice) (d : CaseSummary) (before text after : List ℕ)
     → used ≡ widths → length cases ≡ length summaries → slice_get cases place ≡ Some chosen
-    → text ≡ before ++ lines_of_cases widths (take place cases) (take place summaries) → after ≡ text ++ case_line used (texts_of chosen) (get_or summaries place d)
-    → after ≡ before ++ lines_of_cases widths (take (place + 1) cases) (take (place + 1) summaries)
-line_added widths used cases summaries place chosen d before text after wide same there so is =
+    → text ≡ before ++ lines_of_cases revived widths (take place cases) (take place summaries) → after ≡ text ++ case_line revived used (texts_of chosen) (get_or summaries place d)
+    → after ≡ before ++ lines_of_cases revived widths (take (place + 1) cases) (take (place + 1) summaries)
+line_added revived widths used cases summaries place chosen d before text after wide same there so is =
     let cs = take place cases in
     let ts = take place summaries in
     let summary = get_or summaries place d in
     let lt : place < length cases = slice_get_within cases place chosen there in
     let long_c : length cs ≡ place = length-take-le place cases (omega (arith, lt)) in
     let long_t : length ts ≡ place = length-take-le place summaries (omega (arith, same, lt)) in
-    is ∙ ap (λ (w : List ℕ). text ++ case_line w (texts_of chosen) summary) wide ∙ ap (λ l. l ++ case_line widths (texts_of chosen) summary) so
-    ∙ append_assoc before (lines_of_cases widths cs ts) (case_line widths (texts_of chosen) summary)
-    ∙ ap (λ l. before ++ l) (sym (lines_more widths cs ts chosen summary (long_c ∙ sym long_t)))
-    ∙ ap (λ l. before ++ lines_of_cases widths l (ts ++ summary ∷ [])) (sym (taken_more cases place chosen there))
-    ∙ ap (λ l. before ++ lines_of_cases widths (take (place + 1) cases) l) (sym (take_more summaries place d (omega (arith, same, lt))))
+    is ∙ ap (λ (w : List ℕ). text ++ case_line revived w (texts_of chosen) summary) wide ∙ ap (λ l. l ++ case_line revived widths (texts_of chosen) summary) so
+    ∙ append_assoc before (lines_of_cases revived widths cs ts) (case_line revived widths (texts_of chosen) summary)
+    ∙ ap (λ l. before ++ l) (sym (lines_more revived widths cs ts chosen summary (long_c ∙ sym long_t)))
+    ∙ ap (λ l. before ++ lines_of_cases revived widths l (ts ++ summary ∷ [])) (sym (taken_more cases place chosen there))
+    ∙ ap (λ l. before ++ lines_of_cases revived widths (take (place + 1) cases) l) (sym (take_more summaries place d (omega (arith, same, lt))))
 
 -- ---- a case has a value for each key
 

@@ -23,7 +23,7 @@ use Rattle.figures.specs.Cases.{traced}
 use Rattle.cases.specs.Sweep.{Sweep, run_count}
 use Rattle.cases.specs.declared.choice.Choice.{Choice}
 use Rattle.sweep.specs.Runs.{Planned, Made, IsMadeAs, IsRunAt, planned_as, runs_of, verdict_of}
-use Rattle.sweep.specs.Table.{texts_of, names_of, made_line, table_text, HasLines, BeginsLines, BeginsTable, HasCause, IsCauseOf, IsTold, IsReadAt}
+use Rattle.sweep.specs.Table.{texts_of, names_of, tells_revived, made_line, table_text, HasLines, BeginsLines, BeginsTable, HasCause, IsCauseOf, IsTold, IsReadAt}
 use Rattle.sweep.specs.declared.telling.ToldRun.{ToldRun}
 use Rattle.sweep.specs.declared.gathering.Gathering.{Gathering}
 use Rattle.sweep.specs.Summaries.{IsGathered, HasCome, MakesAll, traced_as, summaries_in}
@@ -35,11 +35,12 @@ use Rattle.sweep.proofs.Pushed.{pushed}
 pub taken_more : {X : Type 0} (xs : List X) (n : ℕ) (x : X) → slice_get xs n ≡ Some x → take (n + 1) xs ≡ take n xs ++ x ∷ []
 taken_more xs n x e = take_more xs n x (slice_get_within xs n x e) ∙ ap (λ y. take n xs ++ y ∷ []) (get_or_from_slice_get xs n x x e)
 
-table_more : (sweep : Sweep) (made : List Made) (m : Made) → table_text sweep made ++ made_line m ≡ table_text sweep (made ++ m ∷ [])
-table_more sweep made m =
-    let head = header_line (names_of sweep.settings) in
-    append_assoc head (flat_map made_line made) (made_line m)
-    ∙ ap (λ l. head ++ l) (ap (λ l. flat_map made_line made ++ l) (sym (append-nil (made_line m))) ∙ sym (flat_map-append made_line made (m ∷ [])))
+table_more : (tree : Data) (sweep : Sweep) (made : List Made) (m : Made) → table_text tree sweep made ++ made_line (tells_revived tree) m ≡ table_text tree sweep (made ++ m ∷ [])
+table_more tree sweep made m =
+    let head = header_line (tells_revived tree) (names_of sweep.settings) in
+    let line : Made → List ℕ = made_line (tells_revived tree) in
+    append_assoc head (flat_map line made) (line m)
+    ∙ ap (λ l. head ++ l) (ap (λ l. flat_map line made ++ l) (sym (append-nil (line m))) ∙ sym (flat_map-append line made (m ∷ [])))
 
 -- items of two lists at one place
 zipped_at : {X Y : Type 0} (R : X → Y → Type 0) (xs : List X) (ys : List Y) (place : ℕ) (x : X) (y : Y) → AllZip R xs ys
@@ -110,14 +111,14 @@ module _ (tree : Data) (sweep : Sweep) where
   -- what was written is a beginning
   pub have_begun : (start held : Option (List ℕ)) (number : ℕ) → HasLines tree sweep start held number → BeginsLines tree sweep start held
   have_begun start held number lines =
-      record { count = number; made = lines.made; are = lines.are; written = beginning-whole start held (table_text sweep lines.made) lines.written }
+      record { count = number; made = lines.made; are = lines.are; written = beginning-whole start held (table_text tree sweep lines.made) lines.written }
 
   -- the header alone, and nothing that is gathered
-  pub header_come : (start held : Option (List ℕ)) (gathering : Gathering) → Appends start held (header_line (names_of sweep.settings)) → IsGathered sweep [] gathering
+  pub header_come : (start held : Option (List ℕ)) (gathering : Gathering) → Appends start held (header_line (tells_revived tree) (names_of sweep.settings)) → IsGathered sweep [] gathering
       → HasCome tree sweep start held gathering 0
   header_come start held gathering p fresh =
       record {
-        lines = record { made = []; are = tt; written = subst (Appends start held) (sym (append-nil (header_line (names_of sweep.settings)))) p };
+        lines = record { made = []; are = tt; written = subst (Appends start held) (sym (append-nil (header_line (tells_revived tree) (names_of sweep.settings)))) p };
         gathered = fresh;
       }
 
@@ -126,7 +127,7 @@ module _ (tree : Data) (sweep : Sweep) where
       → HasCome tree sweep start held gathering number
   come_kept start mid held gathering number come kept =
       let lines = come.lines in
-      let text = table_text sweep lines.made in
+      let text = table_text tree sweep lines.made in
       record {
         lines = record {
           made = lines.made;
@@ -139,11 +140,11 @@ module _ (tree : Data) (sweep : Sweep) where
   -- the same of a beginning
   pub begun_kept : (start mid held : Option (List ℕ)) → BeginsLines tree sweep start mid → Keeps mid held → BeginsLines tree sweep start held
   begun_kept start mid held lines kept =
-      record { count = lines.count; made = lines.made; are = lines.are; written = beginning-kept start mid held (table_text sweep lines.made) lines.written kept }
+      record { count = lines.count; made = lines.made; are = lines.are; written = beginning-kept start mid held (table_text tree sweep lines.made) lines.written kept }
 
-  pub header_part : (start held : Option (List ℕ)) → AppendsBeginning start held (header_line (names_of sweep.settings)) → BeginsLines tree sweep start held
+  pub header_part : (start held : Option (List ℕ)) → AppendsBeginning start held (header_line (tells_revived tree) (names_of sweep.settings)) → BeginsLines tree sweep start held
   header_part start held p =
-      record { count = 0; made = []; are = tt; written = beginning-first start held (header_line (names_of sweep.settings)) [] p }
+      record { count = 0; made = []; are = tt; written = beginning-first start held (header_line (tells_revived tree) (names_of sweep.settings)) [] p }
 
   -- a cause of a run that is asked for is one of the sweep
   pub cause_of_run : (number : ℕ) (s : Setup) (f : Fault) → IsReadAt tree sweep number s → IsCauseOf s f → HasCause tree sweep f
@@ -187,14 +188,14 @@ module _ (tree : Data) (sweep : Sweep) where
         let front = take lines.count (runs_of sweep) in
         let back = drop lines.count (runs_of sweep) in
         let left = runs_left back (All-drop (IsAccepted tree) lines.count (runs_of sweep) all) in
-        let head = header_line (names_of sweep.settings) in
-        let text : table_text sweep lines.made ++ flat_map made_line left.0 ≡ table_text sweep (lines.made ++ left.0) =
-        append_assoc head (flat_map made_line lines.made) (flat_map made_line left.0) ∙ ap (λ l. head ++ l) (sym (flat_map-append made_line lines.made left.0)) in
+        let head = header_line (tells_revived tree) (names_of sweep.settings) in
+        let text : table_text tree sweep lines.made ++ flat_map (made_line (tells_revived tree)) left.0 ≡ table_text tree sweep (lines.made ++ left.0) =
+        append_assoc head (flat_map (made_line (tells_revived tree)) lines.made) (flat_map (made_line (tells_revived tree)) left.0) ∙ ap (λ l. head ++ l) (sym (flat_map-append (made_line (tells_revived tree)) lines.made left.0)) in
         record {
           made = lines.made ++ left.0;
           are = subst (λ l. AllZip (IsMadeAs tree) l (lines.made ++ left.0)) (take-append-drop lines.count (runs_of sweep))
               (AllZip-append (IsMadeAs tree) front back lines.made left.0 lines.are left.1);
-          written = beginning-of start held _ _ text (beginning-first start held (table_text sweep lines.made) (flat_map made_line left.0) lines.written);
+          written = beginning-of start held _ _ text (beginning-first start held (table_text tree sweep lines.made) (flat_map (made_line (tells_revived tree)) left.0) lines.written);
         }
 
   module _ (number : ℕ) (s : Setup) (run : ToldRun) (chosen : List Choice) (seed : Option ℕ) (told : ℕ)
@@ -209,11 +210,11 @@ module _ (tree : Data) (sweep : Sweep) where
       run = is_told.run;
     }
 
-    line_same : run_line (texts_of chosen) told run.figures ≡ made_line the_made
-    line_same = (λ i. run_line (texts_of chosen) (e i) (is_told.same i))
+    line_same : run_line (tells_revived tree) (texts_of chosen) told run.figures ≡ made_line (tells_revived tree) the_made
+    line_same = (λ i. run_line (tells_revived tree) (texts_of chosen) (e i) (is_told.same i))
 
     -- its line was written, and it was gathered
-    pub line_whole : (start mid held : Option (List ℕ)) (before after : Gathering) → Appends mid held (run_line (texts_of chosen) told run.figures)
+    pub line_whole : (start mid held : Option (List ℕ)) (before after : Gathering) → Appends mid held (run_line (tells_revived tree) (texts_of chosen) told run.figures)
         → ((sweep : Sweep) (made : List Made) (m : Made) → traced_as m ≡ traced s run.tallies → IsGathered sweep made before → IsGathered sweep (made ++ m ∷ []) after)
         → HasCome tree sweep start mid before number → HasCome tree sweep start held after (number + 1)
     line_whole start mid held before after p gathers come =
@@ -222,19 +223,19 @@ module _ (tree : Data) (sweep : Sweep) where
           lines = record {
             made = lines.made ++ the_made ∷ [];
             are = are_more number read.0 the_made lines.made read.1 is_made lines.are;
-            written = subst (Appends start held) (table_more sweep lines.made the_made)
-                (Appends-then start mid held (table_text sweep lines.made) (made_line the_made) lines.written (subst (Appends mid held) line_same p));
+            written = subst (Appends start held) (table_more tree sweep lines.made the_made)
+                (Appends-then start mid held (table_text tree sweep lines.made) (made_line (tells_revived tree) the_made) lines.written (subst (Appends mid held) line_same p));
           };
           gathered = gathers sweep lines.made the_made refl come.gathered;
         }
 
     -- a beginning of its line was written
-    pub line_part : (start mid held : Option (List ℕ)) → AppendsBeginning mid held (run_line (texts_of chosen) told run.figures)
+    pub line_part : (start mid held : Option (List ℕ)) → AppendsBeginning mid held (run_line (tells_revived tree) (texts_of chosen) told run.figures)
         → HasLines tree sweep start mid number → BeginsLines tree sweep start held
     line_part start mid held p lines = record {
       count = number + 1;
       made = lines.made ++ the_made ∷ [];
       are = are_more number read.0 the_made lines.made read.1 is_made lines.are;
-      written = beginning-of start held _ _ (table_more sweep lines.made the_made)
-          (beginning-then start mid held (table_text sweep lines.made) (made_line the_made) lines.written (beginning-of mid held _ _ line_same p));
+      written = beginning-of start held _ _ (table_more tree sweep lines.made the_made)
+          (beginning-then start mid held (table_text tree sweep lines.made) (made_line (tells_revived tree) the_made) lines.written (beginning-of mid held _ _ line_same p));
     }

@@ -27,7 +27,7 @@ SumUp sweep made cases = (number : ℕ) (summary : CaseSummary) → slice_get ca
 pub record MakesAll (tree : Data) (sweep : Sweep) (old new : Option (List ℕ)) (cases : List CaseSummary) : Type 0 where
   pub made : List Made
   pub are : AreMade tree sweep made
-  pub written : Appends old new (table_text sweep made)
+  pub written : Appends old new (table_text tree sweep made)
   pub all : length cases ≡ case_count sweep.settings
   pub told : SumUp sweep made cases
 

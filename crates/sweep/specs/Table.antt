@@ -1,5 +1,5 @@
 -- The table of a sweep, and how far it has come.
-use Rattle.std.specs.Prelude.{◌≡◌, ℕ, ◌⊎◌, List, ◌++◌, Option, Result, Ok, Err, IfOk, Vec, map, take}
+use Rattle.std.specs.Prelude.{◌≡◌, ℕ, ◌⊎◌, Bool, true, false, List, ◌++◌, Option, Result, Ok, Err, IfOk, Vec, map, take}
 use Rattle.std.specs.List.{AllZip, flat_map}
 use Rattle.std.specs.Io.KnownBytes.{Appends}
 use Rattle.std.specs.declared.alloc.Global.{Global}
@@ -7,7 +7,10 @@ use Rattle.toml.specs.Data.{Data}
 use Rattle.base.specs.declared.fault.Fault.{Fault}
 use Rattle.base.specs.declared.fault.Fault.TheVariants as fault
 use Rattle.base.specs.declared.fault.Memory.{Memory}
+use Rattle.schema.specs.declared.schema.Version.{Version}
+use Rattle.schema.specs.declared.schema.Version.TheVariants.{One, Two, Three}
 use Rattle.scenario.specs.Setup.{Setup}
+use Rattle.scenario_reader.specs.Reading.{version_of}
 use Rattle.trace.specs.Sinks.{AppendsBeginning}
 use Rattle.trace.specs.declared.write.WriteError.{WriteError}
 use Rattle.trace.specs.declared.write.WriteError.TheVariants as error
@@ -30,32 +33,42 @@ texts_of chosen = map (λ c. value_text c.value) chosen
 abbrev pub names_of : List KeyValues → List (List ℕ)
 names_of settings = map (λ s. key_name s.key) settings
 
+-- whether a version has members that are taken for alive again
+abbrev pub has_revivals : Version → Bool
+has_revivals One = false
+has_revivals Two = false
+has_revivals Three = true
+
+-- the sweep of a text of such a version tells of them
+abbrev pub tells_revived : Data → Bool
+tells_revived tree = has_revivals (version_of tree)
+
 -- the line of a run that was made
-abbrev pub made_line : Made → List ℕ
-made_line m = run_line (texts_of m.case) m.scenario.seed (figures_of m.scenario m.rows)
+abbrev pub made_line : Bool → Made → List ℕ
+made_line revived m = run_line revived (texts_of m.case) m.scenario.seed (figures_of m.scenario m.rows)
 
 -- the header, and the line of each run
-abbrev pub table_text : Sweep → List Made → List ℕ
-table_text sweep made = header_line (names_of sweep.settings) ++ flat_map made_line made
+abbrev pub table_text : Data → Sweep → List Made → List ℕ
+table_text tree sweep made = header_line (tells_revived tree) (names_of sweep.settings) ++ flat_map (made_line (tells_revived tree)) made
 
 -- the header and the lines of the first runs, so many, were appended to what was held at the start
 pub record HasLines (tree : Data) (sweep : Sweep) (start held : Option (List ℕ)) (count : ℕ) : Type 0 where
   pub made : List Made
   pub are : AllZip (IsMadeAs tree) (take count (runs_of sweep)) made
-  pub written : Appends start held (table_text sweep made)
+  pub written : Appends start held (table_text tree sweep made)
 
 -- a beginning of such a text was appended
 pub record BeginsLines (tree : Data) (sweep : Sweep) (start held : Option (List ℕ)) : Type 0 where
   pub count : ℕ
   pub made : List Made
   pub are : AllZip (IsMadeAs tree) (take count (runs_of sweep)) made
-  pub written : AppendsBeginning start held (table_text sweep made)
+  pub written : AppendsBeginning start held (table_text tree sweep made)
 
 -- a beginning of the table was appended
 pub record BeginsTable (tree : Data) (sweep : Sweep) (old new : Option (List ℕ)) : Type 0 where
   pub made : List Made
   pub are : AreMade tree sweep made
-  pub written : AppendsBeginning old new (table_text sweep made)
+  pub written : AppendsBeginning old new (table_text tree sweep made)
 
 -- the scenario's run, or the count of its rows, wears a counter out
 abbrev pub IsWearing : Setup → Type 0

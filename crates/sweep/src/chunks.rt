@@ -12,6 +12,7 @@ ghost use Rattle.sweep.specs.Summaries.{MakesAll, HasCome, IsGathered};
 use crate::gathering::Gathering;
 use crate::progress::Progress;
 use crate::reading::{read_run, read_runs};
+use crate::revived::tells_revived;
 use crate::telling::told_side_by_side;
 use crate::values::write_names;
 use crate::writing::{fault_of, write_lines};
@@ -63,7 +64,7 @@ pub fn sweep<S: Sink, P: Progress>(
 {
     let mut gathering = Gathering::new(alloc, plan.runs_of_case() as u64);
     a_run_exists();
-    match write_names(alloc, plan.settings(), table) {
+    match write_names(alloc, plan.settings(), tells_revived(document), table) {
         Ok(()) => {}
         Err(error) => return Err(fault_of(error)),
     }

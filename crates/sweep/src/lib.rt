@@ -8,6 +8,7 @@ mod judging;
 mod planned;
 mod progress;
 mod reading;
+mod revived;
 mod telling;
 mod texts;
 mod values;

@@ -11,15 +11,17 @@ use figures::{RunFigures, write_header, write_run};
 use std::alloc::{AllocError, Global};
 use trace::{Sink, WriteError};
 
-/// Puts the first line of the table, with the names of the keys that are set.
+/// Puts the first line of the table, with the names of the keys that are set. Whether it tells of members
+/// that were taken for alive again is given.
 pub(crate) fn write_names<S: Sink>(
     alloc: Global,
     settings: &[Setting],
+    revived: bool,
     table: &mut S,
 ) -> Result<(), WriteError>
     requires { S.failed table.old < 2 ^ 63 }
-    ensures whole { OnOk result (Appends (S.held table.old) (S.held table.new) (header_line (names_of settings.now))) }
-    ensures part { OnErr result (AppendsBeginning (S.held table.old) (S.held table.new) (header_line (names_of settings.now))) }
+    ensures whole { OnOk result (Appends (S.held table.old) (S.held table.new) (header_line revived (names_of settings.now))) }
+    ensures part { OnErr result (AppendsBeginning (S.held table.old) (S.held table.new) (header_line revived (names_of settings.now))) }
     ensures failures { S.failed table.new ≡ S.failed table.old + failures_of_write result }
 {
     let names = match names(alloc, settings) {
@@ -27,22 +29,23 @@ pub(crate) fn write_names<S: Sink>(
         Err(Memory) => return Err(WriteError::Memory),
     };
     match lent(alloc, &names) {
-        Ok(keys) => write_header(alloc, &keys, table),
+        Ok(keys) => write_header(alloc, &keys, revived, table),
         Err(_) => Err(WriteError::Memory),
     }
 }
 
-/// Puts the line of a run, with the values of its case.
+/// Puts the line of a run, with the values of its case; the rest as for the first line.
 pub(crate) fn write_values<S: Sink>(
     alloc: Global,
     case: &[Choice],
     seed: u64,
     figures: &RunFigures,
+    revived: bool,
     table: &mut S,
 ) -> Result<(), WriteError>
     requires { S.failed table.old < 2 ^ 63 }
-    ensures whole { OnOk result (Appends (S.held table.old) (S.held table.new) (run_line (texts_of case.now) seed figures.now)) }
-    ensures part { OnErr result (AppendsBeginning (S.held table.old) (S.held table.new) (run_line (texts_of case.now) seed figures.now)) }
+    ensures whole { OnOk result (Appends (S.held table.old) (S.held table.new) (run_line revived (texts_of case.now) seed figures.now)) }
+    ensures part { OnErr result (AppendsBeginning (S.held table.old) (S.held table.new) (run_line revived (texts_of case.now) seed figures.now)) }
     ensures failures { S.failed table.new ≡ S.failed table.old + failures_of_write result }
 {
     let texts = match texts(alloc, case) {
@@ -50,7 +53,7 @@ pub(crate) fn write_values<S: Sink>(
         Err(Memory) => return Err(WriteError::Memory),
     };
     match lent(alloc, &texts) {
-        Ok(values) => write_run(alloc, &values, seed, figures, table),
+        Ok(values) => write_run(alloc, &values, seed, figures, revived, table),
         Err(_) => Err(WriteError::Memory),
     }
 }

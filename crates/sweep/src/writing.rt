@@ -11,6 +11,7 @@ ghost use Rattle.sweep.specs.Table.{BeginsLines, HasCause, IsReadAt, AreTold, fa
 
 use crate::gathering::Gathering;
 use crate::planned::planned;
+use crate::revived::tells_revived;
 use crate::telling::ToldRun;
 use crate::values::write_values;
 use base::Fault;
@@ -63,7 +64,7 @@ pub(crate) fn write_lines<S: Sink>(
 fn write_line<S: Sink>(
     alloc: Global,
     plan: &Plan,
-    _document: &Value,
+    document: &Value,
     number: usize,
     scenario: &Scenario,
     told: &Result<ToldRun, Fault>,
@@ -72,14 +73,14 @@ fn write_line<S: Sink>(
 ) -> Result<(), Fault>
     requires asked { IsAskedFor plan.now }
     requires within { number < run_count plan.now }
-    requires read { IsReadAt (view _document.now) plan.now number scenario.now }
+    requires read { IsReadAt (view document.now) plan.now number scenario.now }
     requires told { AreTold scenario.now told.now }
     requires countable { S.failed table.old < 2 ^ 63 }
-    ensures whole { OnOk result ((start : Option (List ℕ)) → HasCome (view _document.now) plan.now start (S.held table.old) gathering.old number
-        → HasCome (view _document.now) plan.now start (S.held table.new) gathering.new (number + 1)) }
-    ensures part { OnErr result ((start : Option (List ℕ)) → HasCome (view _document.now) plan.now start (S.held table.old) gathering.old number
-        → BeginsLines (view _document.now) plan.now start (S.held table.new)) }
-    ensures causes { IfErr result (HasCause (view _document.now) plan.now) }
+    ensures whole { OnOk result ((start : Option (List ℕ)) → HasCome (view document.now) plan.now start (S.held table.old) gathering.old number
+        → HasCome (view document.now) plan.now start (S.held table.new) gathering.new (number + 1)) }
+    ensures part { OnErr result ((start : Option (List ℕ)) → HasCome (view document.now) plan.now start (S.held table.old) gathering.old number
+        → BeginsLines (view document.now) plan.now start (S.held table.new)) }
+    ensures causes { IfErr result (HasCause (view document.now) plan.now) }
     ensures failures { S.failed table.new ≡ S.failed table.old + sink_failures result }
 {
     let told = match told {
@@ -88,7 +89,14 @@ fn write_line<S: Sink>(
     };
     let run = planned(alloc, plan, number)?;
     gathering.add(alloc, told, scenario)?;
-    match write_values(alloc, &run.case, scenario.seed(), &told.figures, table) {
+    match write_values(
+        alloc,
+        &run.case,
+        scenario.seed(),
+        &told.figures,
+        tells_revived(document),
+        table,
+    ) {
         Ok(()) => Ok(()),
         Err(error) => Err(fault_of(error)),
     }

@@ -35,9 +35,9 @@ extra = 20
 /// What figures read of a row: when, whose, what, about whom, the value, whether it was lost.
 pub(crate) type Told = (u64, u16, What, Option<u16>, u64, bool);
 
-/// Each kind of message once, and a ping that is lost as the bye is; false claims about `n-1` and
-/// `n-2`; then all three crash, of which two are detected.
-pub(crate) const RUN: [Told; 32] = [
+/// Each kind of message of version 2 once, and a ping that is lost as the bye is; false claims about
+/// `n-1`, which one member takes back, and `n-2`; then all three crash, of which two are detected.
+pub(crate) const RUN: [Told; 33] = [
     (0, 0, What::Start, None, 0, false),
     (0, 1, What::Start, None, 0, false),
     (0, 2, What::Start, None, 0, false),
@@ -52,6 +52,7 @@ pub(crate) const RUN: [Told; 32] = [
     (100, 2, What::Suspect, Some(1), 0, false),
     (120, 2, What::Confirm, Some(1), 0, false),
     (130, 0, What::Confirm, Some(1), 0, false),
+    (135, 0, What::Alive, Some(1), 1, false),
     (140, 0, What::Suspect, Some(2), 0, false),
     (150, 1, What::Refute, None, 1, false),
     (160, 0, What::Accuse, Some(1), 0, false),
@@ -74,7 +75,7 @@ pub(crate) const RUN: [Told; 32] = [
 
 /// Its figures.
 const FIGURES: RunFigures = RunFigures {
-    rows: 32,
+    rows: 33,
     crashes: 3,
     detected: 2,
     suspect_least: Some(0),
@@ -86,6 +87,7 @@ const FIGURES: RunFigures = RunFigures {
     false_confirm: 2,
     false_confirm_healthy: 1,
     thrown_out: 1,
+    revived: 1,
     accuse: 2,
     refute: 1,
     fail: 1,
@@ -108,6 +110,7 @@ const NOTHING: RunFigures = RunFigures {
     false_confirm: 0,
     false_confirm_healthy: 0,
     thrown_out: 0,
+    revived: 0,
     accuse: 0,
     refute: 0,
     fail: 0,
@@ -192,30 +195,37 @@ fn no_rows_have_figures_too(rt: HostRuntime) -> Result<(), Fail> {
     assert_figures(&rt, &[], &NOTHING)
 }
 
-/// The first line of a table of runs for which two keys are set.
+/// The first line of a table of runs for which two keys are set, and which tells who was revived.
 const HEADER: &str = "link.loss,\"a,b\",seed,rows,crashes,detected,\
 suspect_least,confirm_least,confirm_greatest,last_greatest,\
-false_suspect,false_suspect_healthy,false_confirm,false_confirm_healthy,thrown_out,\
+false_suspect,false_suspect_healthy,false_confirm,false_confirm_healthy,thrown_out,revived,\
 accuse,refute,fail,health,sent,lost
 ";
 
 /// The line of a run.
-const LINE: &str = "0.05,\"say \"\"no\"\"\",41,32,3,2,0,400,500,950,2,1,2,1,1,2,1,1,2,8,2\n";
+const LINE: &str = "0.05,\"say \"\"no\"\"\",41,33,3,2,0,400,500,950,2,1,2,1,1,1,2,1,1,2,8,2\n";
 
-/// The line of a run in which nothing happens, and for which no key is set.
+/// The line of a run in which nothing happens, for which no key is set, in a table that doesn't tell it.
 const EMPTY_LINE: &str = "0,0,0,0,,,,,0,0,0,0,0,0,0,0,0,0,0\n";
 
 /// Keys and values that hold a comma or a quote stand in quotes; what isn't there is empty.
 #[test]
 fn lines_are_parted_by_commas(rt: HostRuntime) -> Result<(), Fail> {
     let mut sink = MemorySink::new(rt.alloc());
-    write_header(rt.alloc(), &["link.loss", "a,b"], &mut sink)?;
+    write_header(rt.alloc(), &["link.loss", "a,b"], true, &mut sink)?;
     assert!(rt; sink.bytes() == HEADER.as_bytes());
     let mut sink = MemorySink::new(rt.alloc());
-    write_run(rt.alloc(), &["0.05", "say \"no\""], 41, &FIGURES, &mut sink)?;
+    write_run(
+        rt.alloc(),
+        &["0.05", "say \"no\""],
+        41,
+        &FIGURES,
+        true,
+        &mut sink,
+    )?;
     assert!(rt; sink.bytes() == LINE.as_bytes());
     let mut sink = MemorySink::new(rt.alloc());
-    write_run(rt.alloc(), &[], 0, &NOTHING, &mut sink)?;
+    write_run(rt.alloc(), &[], 0, &NOTHING, false, &mut sink)?;
     assert!(rt; sink.bytes() == EMPTY_LINE.as_bytes());
     Ok(())
 }

@@ -24,7 +24,8 @@ count = 2
 const TWO_GROUPS: &str = "count = 2\n[[group]]\nname = \"m\"\ncount = 3";
 
 /// Edits of the text with two groups, and the rule and the place of the fault.
-const PLACES: [(&str, &str, u8, u32); 10] = [
+const PLACES: [(&str, &str, u8, u32); 11] = [
+    ("version = 1", "version = 4", 5, 0),
     ("seed = 7", "seed = ?", 1, 19),
     ("seed = 7", "seed = true", 4, 0),
     ("period = 1000", "period = 1", 5, 0),
@@ -102,6 +103,34 @@ const ADDED: [Part; 4] = [
         9,
         1,
     ),
+];
+
+/// The same of what version 3 adds; pauses that follow one another are no fault.
+const THIRD: [Part; 9] = [
+    ("[gossip]\nnodes = 1\n", 2, 0),
+    ("[gossip]\ninterval = 1\nagain = 1\n", 3, 0),
+    ("[gossip]\ninterval = 1\nnodes = 17\n", 5, 0),
+    ("[stream]\nconnect = 0\n", 5, 0),
+    ("[[pause]]\nmember = \"n-2\"\nfrom = 5\nuntil = 9\n", 7, 1),
+    ("[[pause]]\nmember = \"n-0\"\nfrom = 5\nuntil = 5\n", 9, 1),
+    (
+        "[[pause]]\nmember = \"n-0\"\nfrom = 5\nuntil = 9\n[[pause]]\nmember = \"n-0\"\nfrom = 8\nuntil = 12\n",
+        8,
+        2,
+    ),
+    (
+        "[[pause]]\nmember = \"n-0\"\nfrom = 5\nuntil = 9\n[[pause]]\nmember = \"n-0\"\nfrom = 9\nuntil = 12\n",
+        0,
+        0,
+    ),
+    ("[[leave]]\nmember = \"n-0\"\nat = 0\n", 9, 1),
+];
+
+/// What version 3 adds, in version 2.
+const TOO_NEW: [Part; 3] = [
+    ("[gossip]\ninterval = 1\n", 3, 0),
+    ("[stream]\n", 3, 0),
+    ("[[pause]]\n", 3, 0),
 ];
 
 /// Edits with the check that fails and the place.
@@ -188,6 +217,10 @@ fn a_refusal_says_which_item(rt: HostRuntime) {
     assert_items(rt.alloc(), &rt, TEXT, &ITEMS);
     let second = edited(rt.alloc(), &rt, TEXT, "version = 1", "version = 2");
     assert_items(rt.alloc(), &rt, second.as_str(), &ADDED);
+    assert_items(rt.alloc(), &rt, second.as_str(), &TOO_NEW);
+    let third = edited(rt.alloc(), &rt, TEXT, "version = 1", "version = 3");
+    assert_items(rt.alloc(), &rt, third.as_str(), &ADDED);
+    assert_items(rt.alloc(), &rt, third.as_str(), &THIRD);
 }
 
 /// The document of a text.

@@ -1,11 +1,13 @@
-//! What the parts of a member do: the tests of its table, its buffer, its rota, its suspicions, its health and its
-//! stream of draws, through what these make public.
+//! What the parts of a member do: the tests of its table, its buffer, its rota, its suspicions, its health, its
+//! links and its stream of draws, through what these make public.
 #![tactic(auto)]
 
 #[cfg(test)]
 mod draws;
 #[cfg(test)]
 mod lifeguard_tests;
+#[cfg(test)]
+mod links_tests;
 #[cfg(test)]
 mod membership_tests;
 #[cfg(test)]

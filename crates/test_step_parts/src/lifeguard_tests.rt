@@ -1,4 +1,4 @@
-use base::{MemberId, Memory};
+use base::{MemberId, Memory, Moment};
 use lifeguard::{Health, Probe, Relays, nack_delay};
 use std::process::Abort;
 use std::test::Fail;
@@ -135,4 +135,30 @@ fn refused_relay_changes_nothing(rt: HostRuntime) -> Result<(), Fail> {
         assert!(rt; relays.has(MemberId(3), seq));
     }
     Ok(())
+}
+
+/// What a probe that failed adds by memberlist's rules, by how many nacks were expected and how many
+/// came.
+const MISSED: &[(u8, u8, u32)] = &[(3, 3, 0), (3, 1, 2), (3, 0, 3), (0, 0, 1), (1, 2, 0)];
+
+#[test]
+fn memberlist_counts_missing_nacks(rt: HostRuntime) {
+    for (expected, nacks, added) in MISSED {
+        let mut health = Health::new(8);
+        health.deadline_passed(&failed_probe(*expected, *nacks));
+        assert!(rt;
+            health.counter() == *added,
+            "{expected} expected, {nacks} came"
+        );
+    }
+}
+
+#[test]
+fn a_call_that_reached_makes_health_better(rt: HostRuntime) {
+    let mut health = Health::new(8);
+    health.bad();
+    let mut probe = Probe::timed(4, MemberId(2), 5, Moment(900));
+    probe.reach();
+    health.deadline_passed(&probe);
+    assert!(rt; health.counter() == 0 && probe.number == 5 && probe.deadline == Moment(900));
 }

@@ -1,7 +1,7 @@
 use crate::draws::Draws;
-use base::{MemberId, Memory};
+use base::{MemberId, Memory, Moment, Profile};
 use incarnation::{Claim, Update};
-use membership::{Table, does_override, is_confirm, is_suspect};
+use membership::{Candidate, Deaths, Fitting, Table, does_override, is_confirm, is_suspect};
 use std::test::Fail;
 
 // A table in which 1 and 4 are up, 2 is suspected at number 3, and 7 is confirmed at number 5.
@@ -64,8 +64,70 @@ fn claims_are_told_apart(rt: HostRuntime) {
     assert!(rt;
         is_confirm(Claim::Confirm) && !is_confirm(Claim::Alive) && !is_confirm(Claim::Suspect)
     );
-    assert!(rt; does_override((Claim::Suspect, 3), (Claim::Alive, 3)));
-    assert!(rt; !does_override((Claim::Alive, 3), (Claim::Suspect, 3)));
+    assert!(rt; does_override(Profile::Papers, (Claim::Suspect, 3), (Claim::Alive, 3)));
+    assert!(rt; !does_override(Profile::Papers, (Claim::Alive, 3), (Claim::Suspect, 3)));
+    assert!(rt; does_override(Profile::Memberlist, (Claim::Alive, 1), (Claim::Confirm, 0)));
+    assert!(rt;
+        !does_override(
+            Profile::Memberlist,
+            (Claim::Suspect, 2),
+            (Claim::Suspect, 1)
+        )
+    );
+}
+
+// Of the four members that are known and of oneself, 3, by who is reachable at a moment: 7 was confirmed at 100.
+fn expect_reachable(
+    rt: &impl AllocGlobal,
+    now: u64,
+    dead: u64,
+    seventh: bool,
+) -> Result<bool, Memory> {
+    let table = table_of_four(rt)?;
+    let mut deaths = Deaths::new(rt.alloc());
+    deaths.keep(MemberId(7), Moment(100))?;
+    let fitting = Fitting::Reachable {
+        now: Moment(now),
+        dead,
+    };
+    let them = table.candidates(rt.alloc(), MemberId(3), &fitting, &deaths)?;
+    Ok(are_candidates(
+        them.as_slice(),
+        &[(1, true), (2, true), (3, false), (4, true), (7, seventh)],
+    ))
+}
+
+// Whether the candidates are these, in this order.
+fn are_candidates(them: &[Candidate], wanted: &[(u16, bool)]) -> bool {
+    let mut same = them.len() == wanted.len();
+    for (candidate, (member, fits)) in them.iter().zip(wanted.iter()) {
+        same = same && candidate.member == MemberId(*member) && candidate.fits == *fits;
+    }
+    same
+}
+
+#[test]
+fn the_dead_are_reachable_for_a_while(rt: HostRuntime) -> Result<(), Fail> {
+    assert!(rt; expect_reachable(&rt, 150, 50, true)?);
+    assert!(rt; expect_reachable(&rt, 151, 50, false)?);
+    assert!(rt; expect_reachable(&rt, 100, 0, false)?);
+    Ok(())
+}
+
+#[test]
+fn who_is_up_may_help(rt: HostRuntime) -> Result<(), Fail> {
+    let table = table_of_four(&rt)?;
+    let deaths = Deaths::new(rt.alloc());
+    let them = table.candidates(
+        rt.alloc(),
+        MemberId(9),
+        &Fitting::AliveBut(MemberId(4)),
+        &deaths,
+    )?;
+    let wanted = [(1, true), (2, false), (4, false), (7, false), (9, false)];
+    assert!(rt; are_candidates(them.as_slice(), &wanted));
+    assert!(rt; deaths.since(MemberId(7)) == Moment(0));
+    Ok(())
 }
 
 // Changes what is held of one member in both forms.

@@ -2,7 +2,8 @@ ghost use Rattle.std.specs.Prelude.{◌≡◌, IfOk};
 ghost use Rattle.probing.specs.ProbeOrder.{NoRepeats, IsSoundOrder};
 
 use base::{MemberId, Memory};
-use probing::{Rota, helpers};
+use membership::Candidate;
+use probing::{Rota, helpers, sample};
 use std::alloc::AllocError;
 use std::process::Abort;
 use std::test::Fail;
@@ -248,5 +249,41 @@ fn helpers_are_the_first_of_a_new_order(rt: HostRuntime) -> Result<(), Fail> {
     expect_helpers(&rt, 5, &order)?;
     let none = helpers(Vec::new(rt.alloc()), 3, &mut stream(2));
     assert!(rt; none.is_empty());
+    Ok(())
+}
+
+/// One that may be drawn.
+fn candidate(member: u16, fits: bool) -> Candidate {
+    Candidate {
+        member: MemberId(member),
+        fits,
+    }
+}
+
+/// Where nobody fits all draws are made, three for each candidate.
+#[test]
+fn a_sample_in_vain_makes_all_draws(rt: HostRuntime) -> Result<(), Fail> {
+    let mut draws = stream(7);
+    let mut counted = stream(7);
+    let nobody = [candidate(0, false), candidate(1, false)];
+    let taken = sample(rt.alloc(), &nobody, 3, &mut draws)?;
+    assert!(rt; taken.is_empty());
+    for _ in 0..6 {
+        let _ = counted.below(2);
+    }
+    assert!(rt; draws.below(1 << 30) == counted.below(1 << 30));
+    Ok(())
+}
+
+/// Whoever fits is taken once, however often it is drawn.
+#[test]
+fn a_sample_takes_each_once(rt: HostRuntime) -> Result<(), Fail> {
+    let mut draws = stream(7);
+    let some = [candidate(0, false), candidate(4, true), candidate(6, false)];
+    let taken = sample(rt.alloc(), &some, 3, &mut draws)?;
+    assert!(rt; taken.len() <= 1);
+    for member in taken.as_slice() {
+        assert!(rt; *member == MemberId(4));
+    }
     Ok(())
 }

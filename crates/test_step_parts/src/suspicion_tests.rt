@@ -1,4 +1,4 @@
-use base::{MemberId, Memory, Moment};
+use base::{MemberId, Memory, Moment, Profile};
 use scenario::Scenario;
 use std::process::Abort;
 use std::test::Fail;
@@ -10,6 +10,7 @@ const USUAL: Terms = Terms {
     alpha: 5,
     beta: 6,
     shortens: true,
+    profile: Profile::Papers,
     accusers_wanted: 3,
 };
 
@@ -18,6 +19,7 @@ const LARGEST: Terms = Terms {
     alpha: 100,
     beta: 100,
     shortens: true,
+    profile: Profile::Papers,
     accusers_wanted: 9,
 };
 
@@ -55,6 +57,21 @@ fn timeouts_shrink_with_the_logarithm_of_the_accusers(rt: HostRuntime) {
     expect_usual(&rt, 1, 0, 5_000);
     expect_usual(&rt, 3, 0, 30_000);
     expect_usual(&rt, 3, 1, 5_000);
+}
+
+// By memberlist's rules all of K accusers count, or none where there are too few members.
+#[test]
+fn memberlist_counts_all_accusers_or_none(rt: HostRuntime) {
+    let terms = Terms {
+        profile: Profile::Memberlist,
+        ..USUAL
+    };
+    assert!(rt; terms.timeout(4, 0) == 5_000);
+    assert!(rt; terms.timeout(5, 0) == 30_000);
+    assert!(rt; terms.timeout(5, 1) == 17_500);
+    assert!(rt; terms.timeout(5, 3) == 5_000);
+    assert!(rt; terms.timeout(19, 3) == 6_390);
+    assert!(rt; terms.timeout(109, 3) == 10_000);
 }
 
 #[test]

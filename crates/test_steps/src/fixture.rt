@@ -215,7 +215,10 @@ fn names_members(content: &Content, members: usize) -> bool
     ensures { IsTrue result → MentionsMembers members content.now }
 {
     match content {
-        Content::Welcome { entries } => are_about(entries, members),
+        Content::Welcome { entries } | Content::Push { entries } | Content::Pull { entries } => {
+            are_about(entries, members)
+        }
+        Content::Gossip { updates } => are_about(updates, members),
         Content::Ping {
             initiator,
             updates,

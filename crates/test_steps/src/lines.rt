@@ -121,13 +121,25 @@ fn word_of(content: &Content) -> &'static str {
         Content::Ack { .. } => "ack",
         Content::Nack { .. } => "nack",
         Content::Bye => "bye",
+        Content::DeadlineTimer { .. } => "deadline",
+        Content::GossipTimer => "gossip-timer",
+        Content::PushTimer => "push-timer",
+        Content::Call { .. } => "call",
+        Content::Answer { .. } => "answer",
+        Content::Gossip { .. } => "gossip",
+        Content::Push { .. } => "push",
+        Content::Pull { .. } => "pull",
     }
 }
 
 /// The numbers of a content, in the order in which they're told.
 fn numbers_of(content: &Content) -> (Option<u64>, Option<u64>) {
     match content {
-        Content::TimeoutTimer { seq } | Content::Nack { seq } => (Some(*seq), None),
+        Content::TimeoutTimer { seq }
+        | Content::Nack { seq }
+        | Content::DeadlineTimer { seq }
+        | Content::Call { seq }
+        | Content::Answer { seq } => (Some(*seq), None),
         Content::NackTimer { initiator, seq }
         | Content::Ping { initiator, seq, .. }
         | Content::Ack { initiator, seq, .. } => (Some(u64::from(initiator.0)), Some(*seq)),
@@ -140,8 +152,11 @@ fn numbers_of(content: &Content) -> (Option<u64>, Option<u64>) {
 /// The updates that ride on a content.
 fn updates_in(content: &Content) -> Option<&Updates> {
     match content {
-        Content::Welcome { entries } => Some(entries),
-        Content::Ping { updates, .. }
+        Content::Welcome { entries } | Content::Push { entries } | Content::Pull { entries } => {
+            Some(entries)
+        }
+        Content::Gossip { updates }
+        | Content::Ping { updates, .. }
         | Content::PingReq { updates, .. }
         | Content::Ack { updates, .. } => Some(updates),
         _ => None,

@@ -23,7 +23,7 @@ use Rattle.windows.specs.declared.part.Part.{Part}
 use Rattle.windows.specs.declared.part.Done.{Done}
 use Rattle.windows.specs.Parts.{PartWindow, Window, IsWindowOfItsPart, IncludesPart, AreWindowsOfDifferentParts, part_of, is_in, all_rows, all_out}
 use Rattle.windows.specs.WorldOf.{world_of}
-use Rattle.windows.specs.Window.{is_own, IsConsistentPart, RunsWindow}
+use Rattle.windows.specs.Window.{is_own, IsConsistentPart}
 use Rattle.windows.specs.Cluster.{IsWholeCluster}
 use Rattle.windows.proofs.Wholes.{part_consistent, own_here, window_by_number}
 use Rattle.windows.specs.Several.{RanWindow, RanWindows, parts_of, numbers_of}

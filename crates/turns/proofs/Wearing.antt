@@ -1,22 +1,26 @@
 -- A counter past its limit stays so through every step.
-use Rattle.std.proofs.Common.{◌≡◌, ℕ, ◌<◌, Bool, true, false, cond, List, Option, Some, None, subst, refl, arith, inl, inr}
+use Rattle.std.proofs.Common.{◌≡◌, ℕ, nat_eq, nat_lt, ◌<◌, Bool, true, false, cond, List, Option, Some, None, subst, refl, arith, inl, inr}
 use Rattle.std.specs.Option.{option_map_or, option_or}
 use Rattle.base.specs.declared.key.Key.{Key}
 use Rattle.scenario.specs.Setup.{Setup, crash_of, leave_of}
+use Rattle.base.specs.declared.profile.Profile.{Profile}
+use Rattle.base.specs.declared.profile.Profile.TheVariants.{Papers, Memberlist}
+use Rattle.scenario.specs.Profile.{profile_of}
+use Rattle.scenario.specs.declared.settings.Gossip as settings
 use Rattle.incarnation.specs.declared.Claim.{Claim}
 use Rattle.incarnation.specs.declared.Update.{Update}
 use Rattle.lifeguard.specs.declared.probe.Probe.{Probe}
 use Rattle.member.specs.declared.member.Phase.{Phase}
 use Rattle.member.specs.declared.member.Phase.TheVariants.{Waiting, Joining, Running, Down}
 use Rattle.member.specs.declared.content.Content.{Content}
-use Rattle.member.specs.declared.content.Content.TheVariants.{Start, Crash, Leave, JoinTimer, PeriodTimer, TimeoutTimer, NackTimer, SuspicionTimer, Join, Welcome, Ping, PingReq, Ack, Nack, Bye}
+use Rattle.member.specs.declared.content.Content.TheVariants.{Start, Crash, Leave, JoinTimer, PeriodTimer, TimeoutTimer, NackTimer, SuspicionTimer, Join, Welcome, Ping, PingReq, Ack, Nack, Bye, DeadlineTimer, GossipTimer, PushTimer, Call, Answer, Gossip, Push, Pull}
 use Rattle.member.specs.State.{State}
 use Rattle.member.specs.Turn.{Effect, unchanged}
-use Rattle.member.specs.Send.{ping_req_sent, nack_sent, bye_sent}
+use Rattle.member.specs.Send.{ping_req_sent, nack_sent, bye_sent, gossip_sent, answer_sent, push_sent, pull_sent}
 use Rattle.member.specs.Opening.{opening_state}
-use Rattle.member.specs.Step.{crashed, join_asked, join_handled, joined, period_begun, timed_out, help_asked, ping_heard, ping_req_heard, ack_heard, nack_due, nack_heard, confirmed, suspicion_over, withdrawn, byes_said, departed, plain_handled, handled, step}
+use Rattle.member.specs.Step.{period_beaten, is_under_way, deadline_over, timed_ack_heard, sampled_help, timed_out_timed, answer_heard, is_told_out, gossip_spread, gossip_due, pushed, push_due, push_heard, timed_handled, handled_by, crashed, join_asked, join_handled, joined, period_begun, timed_out, help_asked, ping_heard, ping_req_heard, ack_heard, nack_due, nack_heard, confirmed, suspicion_over, withdrawn, byes_said, departed, plain_handled, handled, step}
 use Rattle.member.specs.Worn.{IsWorn}
-use Rattle.member.proofs.Worn.{kept_row, kept_timer, kept_sent, kept_ping, kept_ping_req, kept_ack, kept_join, kept_welcome, kept_bye, kept_each, kept_applied, kept_all, kept_probe_ended, kept_next, kept_owed, kept_taken, kept_first_period}
+use Rattle.member.proofs.Worn.{kept_event, kept_posted, kept_gossip, kept_push, kept_merged, kept_in_turn, kept_waiting, kept_settled, kept_timed_taken, kept_called, kept_gossip_set_again, kept_row, kept_timer, kept_sent, kept_ping, kept_ping_req, kept_ack, kept_join, kept_welcome, kept_bye, kept_each, kept_applied, kept_all, kept_probe_ended, kept_next, kept_owed, kept_taken, kept_first_period}
 use Rattle.member_laws.specs.Words.{WaitsAsOpened}
 
 either_worn : (b : Bool) (o p : Effect) → IsWorn o.state → IsWorn p.state → IsWorn (cond b o p).state
@@ -29,7 +33,7 @@ kept_crashed k o worn = kept_row k _ _ _ _ _ worn
 
 kept_join_asked : (s : Setup) (k : Key) (o : Effect) → IsWorn o.state → IsWorn (join_asked s k o).state
 unfolding join_asked
-kept_join_asked s k o worn = kept_timer k _ _ _ (kept_join s k o worn)
+kept_join_asked s k o worn = kept_timer s k _ _ _ (kept_join s k o worn)
 
 kept_join_handled : (s : Setup) (k : Key) (o : Effect) → IsWorn o.state → IsWorn (join_handled s k o).state
 unfolding join_handled
@@ -41,7 +45,7 @@ kept_joined s k entries o worn = kept_first_period s k _ (kept_all s false k ent
 
 kept_period : (s : Setup) (k : Key) (o : Effect) → IsWorn o.state → IsWorn (period_begun s k o).state
 unfolding period_begun
-kept_period s k o worn = kept_timer k _ _ _ (kept_next s k _ (kept_probe_ended s k _ o worn))
+kept_period s k o worn = kept_timer s k _ _ _ (kept_next s k _ (kept_probe_ended s k _ o worn))
 
 kept_help : (s : Setup) (k : Key) (probe : Probe) (o : Effect) → IsWorn o.state → IsWorn (help_asked s k probe o).state
 unfolding help_asked
@@ -120,6 +124,83 @@ kept_handled s k Leave Running o waits worn = kept_departed s k o worn
 kept_handled s k Bye Running o waits worn = kept_confirmed s k k.from _ o worn
 kept_handled s k c phase o waits worn = kept_plain s k c phase o waits worn
 
+-- ---- by memberlist's rules
+
+kept_beaten : (s : Setup) (k : Key) (o : Effect) → IsWorn o.state → IsWorn (period_beaten s k o).state
+unfolding period_beaten
+kept_beaten s k o worn = kept_in_turn s k _ (kept_event s k _ _ _ o worn)
+
+kept_deadline : (s : Setup) (k : Key) (seq : ℕ) (o : Effect) → IsWorn o.state → IsWorn (deadline_over s k seq o).state
+unfolding deadline_over
+kept_deadline s k seq o worn = either_worn (is_under_way seq o.state.probe) _ _ (kept_waiting s k _ (kept_settled s k o.state.probe o worn)) worn
+
+kept_timed_ack : (s : Setup) (k : Key) (initiator seq : ℕ) (updates : List Update) (o : Effect) → IsWorn o.state → IsWorn (timed_ack_heard s k initiator seq updates o).state
+unfolding timed_ack_heard
+kept_timed_ack s k initiator seq updates o worn = kept_timed_taken s k initiator seq _ (kept_all s true k updates o worn)
+
+kept_sampled : (s : Setup) (k : Key) (probe : Probe) (o : Effect) → IsWorn o.state → IsWorn (sampled_help s k probe o).state
+unfolding sampled_help
+kept_sampled s k probe o worn =
+    either_worn s.lifeguard.probe _ _
+    (kept_each (ping_req_sent s k probe.target probe.seq) (kept_ping_req s k probe.target probe.seq) _ _ worn)
+    (kept_each (ping_req_sent s k probe.target probe.seq) (kept_ping_req s k probe.target probe.seq) _ _ worn)
+
+kept_timed_out_timed : (s : Setup) (k : Key) (seq : ℕ) (probe : Option Probe) (o : Effect) → IsWorn o.state → IsWorn (timed_out_timed s k seq probe o).state
+unfolding timed_out_timed
+kept_timed_out_timed s k seq None o worn = worn
+kept_timed_out_timed s k seq (Some probe) o worn =
+    either_worn (nat_eq probe.seq seq) _ _ (kept_called s k probe _ (either_worn (nat_lt 0 s.swim.helpers) _ _ (kept_sampled s k probe o worn) worn)) worn
+
+kept_answered : (s : Setup) (k : Key) (to seq : ℕ) (o : Effect) → IsWorn o.state → IsWorn (answer_sent s k to seq o).state
+unfolding answer_sent
+kept_answered s k to seq o worn = kept_posted s k _ _ _ _ _ o worn
+
+kept_answer_heard : (seq : ℕ) (o : Effect) → IsWorn o.state → IsWorn (answer_heard seq o).state
+unfolding answer_heard
+kept_answer_heard seq o worn = worn
+
+kept_spread : (s : Setup) (k : Key) (gossip : settings.Gossip) (o : Effect) → IsWorn o.state → IsWorn (gossip_spread s k gossip o).state
+unfolding gossip_spread
+kept_spread s k gossip o worn = kept_each (gossip_sent s k) (kept_gossip s k) _ _ worn
+
+kept_gossip_due : (s : Setup) (k : Key) (gossip : Option settings.Gossip) (o : Effect) → IsWorn o.state → IsWorn (gossip_due s k gossip o).state
+kept_gossip_due s k None o worn = worn
+kept_gossip_due s k (Some gossip) o worn = either_worn (is_told_out o.state) _ _ worn (kept_gossip_set_again s k _ (kept_spread s k gossip _ worn))
+
+kept_pushed : (s : Setup) (k : Key) (push : ℕ) (o : Effect) → IsWorn o.state → IsWorn (pushed s k push o).state
+unfolding pushed
+kept_pushed s k push o worn = kept_each (push_sent s k) (kept_push s k) _ _ (kept_timer s k _ _ _ worn)
+
+kept_push_due : (s : Setup) (k : Key) (gossip : Option settings.Gossip) (o : Effect) → IsWorn o.state → IsWorn (push_due s k gossip o).state
+kept_push_due s k None o worn = worn
+kept_push_due s k (Some gossip) o worn = either_worn (nat_eq gossip.push 0) _ _ worn (kept_pushed s k gossip.push o worn)
+
+kept_push_heard : (s : Setup) (k : Key) (entries : List Update) (o : Effect) → IsWorn o.state → IsWorn (push_heard s k entries o).state
+unfolding push_heard pull_sent
+kept_push_heard s k entries o worn = kept_merged s k entries _ (kept_posted s k _ _ _ _ _ o worn)
+
+kept_timed : (s : Setup) (k : Key) (c : Content) (o : Effect) → IsWorn o.state → IsWorn (timed_handled s k c o).state
+unfolding timed_handled
+kept_timed s k PeriodTimer o worn = kept_beaten s k o worn
+kept_timed s k (TimeoutTimer seq) o worn = kept_timed_out_timed s k seq o.state.probe o worn
+kept_timed s k (DeadlineTimer seq) o worn = kept_deadline s k seq o worn
+kept_timed s k (Ack initiator seq updates) o worn = kept_timed_ack s k initiator seq updates o worn
+kept_timed s k (Call seq) o worn = kept_answered s k k.from seq o worn
+kept_timed s k (Answer seq) o worn = kept_answer_heard seq o worn
+kept_timed s k GossipTimer o worn = kept_gossip_due s k s.gossip o worn
+kept_timed s k (Gossip updates) o worn = kept_all s true k updates o worn
+kept_timed s k PushTimer o worn = kept_push_due s k s.gossip o worn
+kept_timed s k (Push entries) o worn = kept_push_heard s k entries o worn
+kept_timed s k (Pull entries) o worn = kept_merged s k entries o worn
+kept_timed s k c o worn = kept_handled s k c Running o (λ is. absurd (let e = is in cc)) worn
+
+kept_by : (s : Setup) (k : Key) (c : Content) (phase : Phase) (profile : Profile) (o : Effect) → (phase ≡ Waiting → ¬ (IsWorn o.state)) → IsWorn o.state → IsWorn (handled_by phase profile s k c o).state
+kept_by s k c Running Memberlist o waits worn = kept_timed s k c o worn
+kept_by s k c Running Papers o waits worn = kept_handled s k c Running o waits worn
+kept_by s k c Waiting profile o waits worn = kept_handled s k c Waiting o waits worn
+kept_by s k c Joining profile o waits worn = kept_handled s k c Joining o waits worn
+kept_by s k c Down profile o waits worn = kept_handled s k c Down o waits worn
+
 fresh_number : (ending : Option ℕ) → option_map_or (λ at. 2) ending 1 < 3
 fresh_number None = omega arith
 fresh_number (Some at) = omega arith
@@ -130,4 +211,4 @@ opened_unworn s m worn = let few = fresh_number (option_or (crash_of s m) (leave
 
 pub worn_stays : (s : Setup) (k : Key) (c : Content) (t : State) → WaitsAsOpened s k.to t → IsWorn t → IsWorn (step s k c t).state
 unfolding step
-worn_stays s k c t waits worn = kept_handled s k c t.phase (unchanged t) (λ is h. opened_unworn s k.to (subst IsWorn (waits is) h)) worn
+worn_stays s k c t waits worn = kept_by s k c t.phase (profile_of s) (unchanged t) (λ is h. opened_unworn s k.to (subst IsWorn (waits is) h)) worn

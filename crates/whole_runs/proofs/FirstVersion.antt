@@ -6,6 +6,7 @@ use Rattle.std.proofs.lemmas.List.Elements.{All-head, All-tail}
 use Rattle.std.proofs.lemmas.List.Sums.{sum_by-cons}
 use Rattle.schema.specs.declared.schema.Version.TheVariants.{One}
 use Rattle.scenario.specs.Setup.{Setup, IsSound}
+use Rattle.scenario.specs.Profile.{profile_of_version}
 use Rattle.trace.specs.declared.row.What.{What}
 use Rattle.trace.specs.declared.row.What.TheVariants as what
 use Rattle.trace.specs.contracts.row.What.{the_type}
@@ -29,7 +30,7 @@ none_counted (row ∷ rows) none =
 
 module _ (s : Setup) (sound : IsSound s) (first : s.version ≡ One) (rows : List Row) (run : IsRunOf s rows) where
   pub plain : IsPlainRunOf s rows
-  plain = to_plain s (sound.first first).0.leaves rows run
+  plain = to_plain s (sound.first first).0.leaves (ap profile_of_version first) rows run
 
   pub first_told : report_text s rows ≡ first_report_text s rows
   first_told = first_report s rows first (none_counted rows (tells_of_none s (sound.first first).0.leaves rows run))

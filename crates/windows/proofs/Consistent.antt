@@ -1,11 +1,11 @@
 -- A window leaves a part as a run does: its members are the scenario's, and so is all that pends.
 use Rattle.std.proofs.Common.{◌≡◌, ◌≢◌, ℕ, ◌+◌, ◌<◌, ◌≤◌, Bool, true, false, not, cond, List, [], ◌∷◌, Option, Some, None, append-nil, ap, ◌∙◌, sym, subst, refl, arith}
-use Rattle.std.specs.Option.{is_some, option_map, option_map_or}
+use Rattle.std.specs.Option.{option_map, option_map_or, IfSome}
 use Rattle.std.specs.List.{AllByRecursion}
 use Rattle.std.specs.Ordering.{nat_cmp, eq_by_cmp}
 use Rattle.std.specs.Cmp.{nat_cmp_total, unsigned_tied}
 use Rattle.std.specs.FinMap.{FinMap, get, contains_key, remove, get-insert}
-use Rattle.std.proofs.lemmas.Bool.{false≢true, eq-eqb}
+use Rattle.std.proofs.lemmas.Bool.{eq-eqb}
 use Rattle.std.proofs.lemmas.Map.Lookups.{exact_unsigned}
 use Rattle.std.proofs.lemmas.Map.Views.{tells_apart}
 use Rattle.std.proofs.lemmas.Option.{same_Some}
@@ -16,13 +16,14 @@ use Rattle.base.specs.Run.{contains-remove, holds-with_events}
 use Rattle.base.specs.Rising.{IsRising, AreNew}
 use Rattle.base.proofs.Rising.{all_append, all_weaker}
 use Rattle.incarnation.specs.declared.Claim.{Claim}
-use Rattle.scenario.specs.Setup.{Setup, IsSound}
+use Rattle.scenario.specs.Setup.{Setup, IsSound, member_count}
 use Rattle.links.specs.declared.table.Links.{Links}
 use Rattle.links.specs.Arrival.{AreLinksOf}
 use Rattle.trace.specs.declared.row.Row.{Row}
 use Rattle.member.specs.declared.content.Content.{Content}
 use Rattle.member.specs.Here.{IsSoundSetting, HoldsMembers}
-use Rattle.member.specs.State.{State}
+use Rattle.member.specs.State.{State, is_probed}
+use Rattle.lifeguard.specs.declared.probe.Probe.{Probe}
 use Rattle.member.specs.Step.{step}
 use Rattle.member.proofs.Fair.{steps_numbered}
 use Rattle.member_laws.specs.Words.{IsConsistent, IsAmongMembers, is_live}
@@ -33,14 +34,19 @@ use Rattle.windows.specs.Parts.{PartStep, PartRun, for_own, for_others, kept_by}
 use Rattle.windows.specs.Window.{is_own, IsConsistentPart}
 use Rattle.windows.proofs.PartRuns.{Kept, next_of, own_step}
 
--- whom a table does not hold, it does not hold as living
-none_living : (held : Option (Claim × ℕ)) → is_some held ≡ false → ◌≡◌ {A = ℕ} (cond (option_map_or (λ (h : Claim × ℕ). is_live h.0) held false) 1 0) 0
+-- who isn't probed is not held as living
+none_living : (held : Option (Claim × ℕ)) → is_probed held ≡ false → ◌≡◌ {A = ℕ} (cond (option_map_or (λ (h : Claim × ℕ). is_live h.0) held false) 1 0) 0
 none_living None absent = refl
-none_living (Some h) absent = absurd (false≢true (sym absent))
+none_living (Some h) absent = ap (λ b. cond b 1 0) absent
+
+-- the probe, if there is one, is of a member
+aimed : (n : ℕ) (probe : Option Probe) → ((p : Probe) → probe ≡ Some p → p.target < n) → IfSome probe (λ p. p.target < n)
+aimed n None target = tt
+aimed n (Some p) target = target p refl
 
 -- a consistent state holds members of the scenario
 pub holds_members : (s : Setup) (m : ℕ) (t : State) → IsConsistent s m t → HoldsMembers s m t
-holds_members s m t h = record { others = h.others; listed = λ q absent. h.probes q ∙ none_living (get t.table q) absent; sound = h.order }
+holds_members s m t h = record { others = h.others; listed = λ q absent. h.probes q ∙ none_living (get t.table q) absent; sound = h.order; target = aimed (member_count s) t.probe h.target }
 
 -- the event may be handled here
 pub event_here : (s : Setup) (l : Links) (bound : ℕ) (k : Key) (c : Content) → IsSound s → AreLinksOf l s → bound ≤ s.end + 1 → k.at < bound → IsAmongMembers s k c → IsSoundSetting s l k

@@ -19,7 +19,7 @@ use Rattle.suspicion.specs.contracts.terms.Terms as terms
 use Rattle.member.specs.contracts.member.Phase as phase
 use Rattle.member.specs.declared.member.Phase.{Phase}
 use Rattle.member.specs.declared.content.Content.{Content}
-use Rattle.member.specs.declared.content.Content.TheVariants.{Start, Crash, Leave, JoinTimer, PeriodTimer, TimeoutTimer, NackTimer, SuspicionTimer, Join, Welcome, Ping, PingReq, Ack, Nack, Bye}
+use Rattle.member.specs.declared.content.Content.TheVariants.{Start, Crash, Leave, JoinTimer, PeriodTimer, TimeoutTimer, NackTimer, SuspicionTimer, Join, Welcome, Ping, PingReq, Ack, Nack, Bye, DeadlineTimer, GossipTimer, PushTimer, Call, Answer, Gossip, Push, Pull}
 use Rattle.member.specs.Here.{MentionsMembers}
 use Rattle.member.specs.State.{State}
 use Rattle.member_laws.specs.Words.{IsConsistent, IsAmongMembers}
@@ -62,6 +62,14 @@ names-prop n (PingReq target seq updates) = Prim.hlevel props
 names-prop n (Ack initiator seq updates) = Prim.hlevel props
 names-prop n (Nack seq) = Prim.hlevel props
 names-prop n Bye = Prim.hlevel props
+names-prop n (DeadlineTimer seq) = Prim.hlevel props
+names-prop n GossipTimer = Prim.hlevel props
+names-prop n PushTimer = Prim.hlevel props
+names-prop n (Call seq) = Prim.hlevel props
+names-prop n (Answer seq) = Prim.hlevel props
+names-prop n (Gossip updates) = Prim.hlevel props
+names-prop n (Push entries) = Prim.hlevel props
+names-prop n (Pull entries) = Prim.hlevel props
 
 pub consistent-prop : (s : Setup) (p : World State Content) → IsProp (IsConsistentPart s p)
 consistent-prop s p = Prim.hlevel (state-set, names-prop, props)

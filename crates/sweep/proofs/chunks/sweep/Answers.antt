@@ -20,7 +20,7 @@ returns-in-Err-clause-part g c =
     let old = g.S.Sink.held c.args.table.now in
     let begun = g.S.Sink.held c.write_names.new.table in
     begun_table tree plan c.a_run_exists.ensures old begun c.requires.judged
-    (header_part tree plan old begun (subst (λ l. AppendsBeginning old begun (header_line (names_of l))) c.settings.ensures c.in-Err.ensures.part))
+    (header_part tree plan old begun (subst (λ b. AppendsBeginning old begun (header_line b (names_of plan.settings))) c.tells_revived.ensures (subst (λ l. AppendsBeginning old begun (header_line c.tells_revived.result (names_of l))) c.settings.ensures c.in-Err.ensures.part)))
 
 pub returns-in_err-make_runs-clause-part : goal.returns-in_err-make_runs-clause-part
 returns-in_err-make_runs-clause-part g c =
@@ -30,7 +30,7 @@ returns-in_err-make_runs-clause-part g c =
     let begun = g.S.Sink.held c.write_names.new.table in
     let new = g.S.Sink.held c.make_runs.new.table in
     let gathering = c.new-gathering.result in
-    let head = subst (λ l. Appends old begun (header_line (names_of l))) c.settings.ensures c.in-Ok.ensures.whole in
+    let head = subst (λ b. Appends old begun (header_line b (names_of plan.settings))) c.tells_revived.ensures (subst (λ l. Appends old begun (header_line c.tells_revived.result (names_of l))) c.settings.ensures c.in-Ok.ensures.whole) in
     on_err c.from_residual.result
     (begun_table tree plan c.a_run_exists.ensures old new c.requires.judged
     (c.in_err-make_runs.ensures.part old (header_come tree plan old begun gathering head (c.new-gathering.ensures plan c.runs_of_case.ensures))))
@@ -44,7 +44,7 @@ returns-in_err-flush-clause-part g c =
     let full = g.S.Sink.held c.make_runs.new.table in
     let new = g.S.Sink.held c.flush.new.table in
     let gathering = c.new-gathering.result in
-    let head = subst (λ l. Appends old begun (header_line (names_of l))) c.settings.ensures c.in-Ok.ensures.whole in
+    let head = subst (λ b. Appends old begun (header_line b (names_of plan.settings))) c.tells_revived.ensures (subst (λ l. Appends old begun (header_line c.tells_revived.result (names_of l))) c.settings.ensures c.in-Ok.ensures.whole) in
     let come = c.in_ok-make_runs.ensures.whole old (header_come tree plan old begun gathering head (c.new-gathering.ensures plan c.runs_of_case.ensures)) in
     on_err c.from_residual-in_err-flush.result
     (begun_table tree plan c.a_run_exists.ensures old new c.requires.judged (begun_kept tree plan old full new (have_begun tree plan old full _ come.lines) c.flush.ensures.same))
@@ -58,7 +58,7 @@ returns-clause-whole g c =
     let full = g.S.Sink.held c.make_runs.new.table in
     let new = g.S.Sink.held c.flush.new.table in
     let gathering = c.new-gathering.result in
-    let head = subst (λ l. Appends old begun (header_line (names_of l))) c.settings.ensures c.in-Ok.ensures.whole in
+    let head = subst (λ b. Appends old begun (header_line b (names_of plan.settings))) c.tells_revived.ensures (subst (λ l. Appends old begun (header_line c.tells_revived.result (names_of l))) c.settings.ensures c.in-Ok.ensures.whole) in
     let come = c.in_ok-make_runs.ensures.whole old (header_come tree plan old begun gathering head (c.new-gathering.ensures plan c.runs_of_case.ensures)) in
     subst (MakesAll tree plan old new) (sym c.into_summaries.ensures)
     (whole_table tree plan old new c.make_runs.new.gathering (come_kept tree plan old full new c.make_runs.new.gathering _ come c.flush.ensures.same))

@@ -26,4 +26,4 @@ returns c chosen there =
     let values : map (λ value. value.now) c.deref-3.result.now ≡ texts_of case =
     ap (map (λ value. value.now)) c.deref-3.ensures.value ∙ c.in_ok-values.ensures ∙ ap (map string_bytes) c.deref-2.ensures.value ∙ c.in_ok-texts.ensures ∙ ap texts_of c.deref.ensures.value in
     let same : case ≡ chosen = same_Some case chosen (sym c.in_ok-case.ensures.case ∙ there) in
-    c.in_ok-push_case_line.ensures ∙ ap (λ l. string_bytes c.args.text.now ++ case_line c.args.widths.now l c.args.summary.now) (values ∙ ap texts_of same)
+    c.in_ok-push_case_line.ensures ∙ ap (λ l. string_bytes c.args.text.now ++ case_line c.args.revived c.args.widths.now l c.args.summary.now) (values ∙ ap texts_of same)

@@ -10,10 +10,10 @@ pub returns-in-Ok-lent-clause-whole : goal.returns-in-Ok-lent-clause-whole
 returns-in-Ok-lent-clause-whole g c =
     let same : map (λ key. key.now) c.deref-in-Ok-lent.result.now ≡ names_of c.args.settings.now =
     ap (map (λ key. key.now)) c.deref-in-Ok-lent.ensures.value ∙ c.in-Ok-lent.ensures ∙ ap (map string_bytes) c.deref.ensures.value ∙ c.in-Ok.ensures in
-    subst (λ l. OnOk c.write_header.result (Appends (g.S.Sink.held c.args.table.now) (g.S.Sink.held c.write_header.new.sink) (header_line l))) same c.write_header.ensures.whole
+    subst (λ l. OnOk c.write_header.result (Appends (g.S.Sink.held c.args.table.now) (g.S.Sink.held c.write_header.new.sink) (header_line c.args.revived l))) same c.write_header.ensures.whole
 
 pub returns-in-Ok-lent-clause-part : goal.returns-in-Ok-lent-clause-part
 returns-in-Ok-lent-clause-part g c =
     let same : map (λ key. key.now) c.deref-in-Ok-lent.result.now ≡ names_of c.args.settings.now =
     ap (map (λ key. key.now)) c.deref-in-Ok-lent.ensures.value ∙ c.in-Ok-lent.ensures ∙ ap (map string_bytes) c.deref.ensures.value ∙ c.in-Ok.ensures in
-    subst (λ l. OnErr c.write_header.result (AppendsBeginning (g.S.Sink.held c.args.table.now) (g.S.Sink.held c.write_header.new.sink) (header_line l))) same c.write_header.ensures.part
+    subst (λ l. OnErr c.write_header.result (AppendsBeginning (g.S.Sink.held c.args.table.now) (g.S.Sink.held c.write_header.new.sink) (header_line c.args.revived l))) same c.write_header.ensures.part

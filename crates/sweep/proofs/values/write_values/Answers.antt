@@ -10,10 +10,10 @@ pub returns-in-Ok-lent-clause-whole : goal.returns-in-Ok-lent-clause-whole
 returns-in-Ok-lent-clause-whole g c =
     let same : map (λ value. value.now) c.deref-in-Ok-lent.result.now ≡ texts_of c.args.case.now =
     ap (map (λ value. value.now)) c.deref-in-Ok-lent.ensures.value ∙ c.in-Ok-lent.ensures ∙ ap (map string_bytes) c.deref.ensures.value ∙ c.in-Ok.ensures in
-    subst (λ l. OnOk c.write_run.result (Appends (g.S.Sink.held c.args.table.now) (g.S.Sink.held c.write_run.new.sink) (run_line l c.args.seed c.args.figures.now))) same c.write_run.ensures.whole
+    subst (λ l. OnOk c.write_run.result (Appends (g.S.Sink.held c.args.table.now) (g.S.Sink.held c.write_run.new.sink) (run_line c.args.revived l c.args.seed c.args.figures.now))) same c.write_run.ensures.whole
 
 pub returns-in-Ok-lent-clause-part : goal.returns-in-Ok-lent-clause-part
 returns-in-Ok-lent-clause-part g c =
     let same : map (λ value. value.now) c.deref-in-Ok-lent.result.now ≡ texts_of c.args.case.now =
     ap (map (λ value. value.now)) c.deref-in-Ok-lent.ensures.value ∙ c.in-Ok-lent.ensures ∙ ap (map string_bytes) c.deref.ensures.value ∙ c.in-Ok.ensures in
-    subst (λ l. OnErr c.write_run.result (AppendsBeginning (g.S.Sink.held c.args.table.now) (g.S.Sink.held c.write_run.new.sink) (run_line l c.args.seed c.args.figures.now))) same c.write_run.ensures.part
+    subst (λ l. OnErr c.write_run.result (AppendsBeginning (g.S.Sink.held c.args.table.now) (g.S.Sink.held c.write_run.new.sink) (run_line c.args.revived l c.args.seed c.args.figures.now))) same c.write_run.ensures.part

@@ -11,11 +11,11 @@ use Rattle.sweep.proofs.Steps.{have_begun, cause_of_run, line_whole, line_part}
 use Rattle.sweep.proofs.writing.write_line.Goals as goal
 
 pub returns-in-Err-clause-part : goal.returns-in-Err-clause-part
-returns-in-Err-clause-part g c = λ start come. have_begun (view c.args._document.now) c.args.plan.now start _ c.args.number come.lines
+returns-in-Err-clause-part g c = λ start come. have_begun (view c.args.document.now) c.args.plan.now start _ c.args.number come.lines
 
 pub returns-in-Err-clause-causes : goal.returns-in-Err-clause-causes
 returns-in-Err-clause-causes g c =
-    cause_of_run (view c.args._document.now) c.args.plan.now c.args.number c.args.scenario.now c.in-Err.fault c.requires.read
+    cause_of_run (view c.args.document.now) c.args.plan.now c.args.number c.args.scenario.now c.in-Err.fault c.requires.read
     (subst (AreTold c.args.scenario.now) c.in-Err.is c.requires.told)
 
 pub returns-in-Err-clause-failures : goal.returns-in-Err-clause-failures
@@ -24,7 +24,7 @@ returns-in-Err-clause-failures g c =
 
 pub returns-in_err-run-clause-part : goal.returns-in_err-run-clause-part
 returns-in_err-run-clause-part g c =
-    let tree = view c.args._document.now in
+    let tree = view c.args.document.now in
     let plan = c.args.plan.now in
     let held = g.S.Sink.held c.args.table.now in
     let begun : (start : Option (List ℕ)) → HasCome tree plan start held c.args.gathering.now c.args.number → BeginsLines tree plan start held =
@@ -33,7 +33,7 @@ returns-in_err-run-clause-part g c =
 
 pub returns-in_err-run-clause-causes : goal.returns-in_err-run-clause-causes
 returns-in_err-run-clause-causes g c =
-    let P = HasCause (view c.args._document.now) c.args.plan.now in
+    let P = HasCause (view c.args.document.now) c.args.plan.now in
     handed c.from_residual.result _ P c.from_residual.ensures.1 (λ f e. subst P (sym e) tt)
 
 pub returns-in_err-run-clause-failures : goal.returns-in_err-run-clause-failures
@@ -41,7 +41,7 @@ returns-in_err-run-clause-failures g c = memory_fails_none c.from_residual.resul
 
 pub returns-in_err-add-clause-part : goal.returns-in_err-add-clause-part
 returns-in_err-add-clause-part g c =
-    let tree = view c.args._document.now in
+    let tree = view c.args.document.now in
     let plan = c.args.plan.now in
     let held = g.S.Sink.held c.args.table.now in
     let begun : (start : Option (List ℕ)) → HasCome tree plan start held c.args.gathering.now c.args.number → BeginsLines tree plan start held =
@@ -50,7 +50,7 @@ returns-in_err-add-clause-part g c =
 
 pub returns-in_err-add-clause-causes : goal.returns-in_err-add-clause-causes
 returns-in_err-add-clause-causes g c =
-    let P = HasCause (view c.args._document.now) c.args.plan.now in
+    let P = HasCause (view c.args.document.now) c.args.plan.now in
     handed c.from_residual-in_err-add.result _ P c.from_residual-in_err-add.ensures.1 (λ f e. subst P (sym e) tt)
 
 pub returns-in_err-add-clause-failures : goal.returns-in_err-add-clause-failures
@@ -62,9 +62,10 @@ returns-in-Ok-write_values-clause-whole g c = λ start come.
     let told = c.in-Ok.told in
     let seed = c.seed.result in
     let run = c.in_ok-run.run' in
-    line_whole (view c.args._document.now) c.args.plan.now c.args.number s told run.case.items run.seed seed
+    line_whole (view c.args.document.now) c.args.plan.now c.args.number s told run.case.items run.seed seed
     c.requires.read (subst (AreTold s) c.in-Ok.is c.requires.told) c.in_ok-run.ensures.run c.seed.ensures start _ _ c.args.gathering.now c.add.new.self
-    (subst (λ l. Appends (g.S.Sink.held c.args.table.now) (g.S.Sink.held c.write_values.new.table) (run_line (texts_of l) seed told.figures)) c.deref.ensures.value c.in-Ok-write_values.ensures.whole)
+    (subst (λ b. Appends (g.S.Sink.held c.args.table.now) (g.S.Sink.held c.write_values.new.table) (run_line b (texts_of run.case.items) seed told.figures)) c.tells_revived.ensures
+    (subst (λ l. Appends (g.S.Sink.held c.args.table.now) (g.S.Sink.held c.write_values.new.table) (run_line c.tells_revived.result (texts_of l) seed told.figures)) c.deref.ensures.value c.in-Ok-write_values.ensures.whole))
     c.in_ok-add.ensures come
 
 pub returns-clause-part : goal.returns-clause-part
@@ -73,6 +74,7 @@ returns-clause-part g c = λ start come.
     let told = c.in-Ok.told in
     let seed = c.seed.result in
     let run = c.in_ok-run.run' in
-    line_part (view c.args._document.now) c.args.plan.now c.args.number s told run.case.items run.seed seed
+    line_part (view c.args.document.now) c.args.plan.now c.args.number s told run.case.items run.seed seed
     c.requires.read (subst (AreTold s) c.in-Ok.is c.requires.told) c.in_ok-run.ensures.run c.seed.ensures start _ _
-    (subst (λ l. AppendsBeginning (g.S.Sink.held c.args.table.now) (g.S.Sink.held c.write_values.new.table) (run_line (texts_of l) seed told.figures)) c.deref.ensures.value c.in-Err-write_values.ensures.part) come.lines
+    (subst (λ b. AppendsBeginning (g.S.Sink.held c.args.table.now) (g.S.Sink.held c.write_values.new.table) (run_line b (texts_of run.case.items) seed told.figures)) c.tells_revived.ensures
+    (subst (λ l. AppendsBeginning (g.S.Sink.held c.args.table.now) (g.S.Sink.held c.write_values.new.table) (run_line c.tells_revived.result (texts_of l) seed told.figures)) c.deref.ensures.value c.in-Err-write_values.ensures.part)) come.lines

@@ -21,6 +21,7 @@ returns c runs are =
       latest_last = of_rank 100 last_after (crashes_of_runs runs) _ case.last.items case.crashes (c.percentile-6.ensures case.last.items last) are.crashed are.lasts;
       false_claims = false_rate_of runs case.false_suspect case.runs c.from.result are.false_claims c.from.ensures are.all;
       thrown = are.thrown;
+      returned = are.returned;
       with_thrown = are.with_thrown;
       low = low_of (runs_with runs) (length runs) case.runs_with case.runs _ c.share_low.ensures are.with_thrown are.all;
       high = high_of (runs_with runs) (length runs) case.runs_with case.runs _ c.share_high.ensures are.with_thrown are.all;
