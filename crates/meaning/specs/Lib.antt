@@ -1,5 +1,6 @@
 pub mod Times
 pub mod Trips
+pub mod Pushes
 pub mod Quiet
 pub mod Groups
 pub mod News

@@ -1,6 +1,9 @@
 -- The times of a member by its health.
-use Rattle.std.specs.Prelude.{ℕ, if◌then◌else◌}
+use Rattle.std.specs.Prelude.{ℕ, ◌+◌, ◌*◌, if◌then◌else◌}
+use Rattle.base.specs.declared.profile.Profile.{Profile}
+use Rattle.base.specs.declared.profile.Profile.TheVariants.{Papers, Memberlist}
 use Rattle.scenario.specs.Setup.{Setup}
+use Rattle.scenario.specs.Profile.{profile_of}
 use Rattle.lifeguard.specs.Health.{LocalHealth, scaled}
 use Rattle.meaning.specs.declared.times.Pace.{Pace}
 
@@ -12,6 +15,11 @@ worst_health s = if s.lifeguard.probe then s.lifeguard.ceiling else 0
 abbrev pub health_at : Setup → ℕ → LocalHealth
 health_at s counter = record { counter = counter; ceiling = s.lifeguard.ceiling }
 
--- period and timeout, scaled by that health
+-- how many times the timeout is taken of a member whose health counter stands so: by memberlist's rules bad health doesn't lengthen it
+abbrev pub timeouts_at : Profile → ℕ → ℕ
+timeouts_at Papers counter = counter + 1
+timeouts_at Memberlist counter = 1
+
+-- the period scaled by that health, and the timeout as the version has it
 abbrev pub pace_at : Setup → ℕ → Pace
-pace_at s counter = record { period = scaled (health_at s counter) s.swim.period; timeout = scaled (health_at s counter) s.swim.timeout }
+pace_at s counter = record { period = scaled (health_at s counter) s.swim.period; timeout = s.swim.timeout * timeouts_at (profile_of s) counter }

@@ -6,7 +6,7 @@ use Rattle.scenario.specs.declared.settings.Path.{Path}
 use Rattle.links.specs.Least.{AreOrderedPair}
 use Rattle.meaning.specs.declared.ways.Ways.{Ways}
 
--- the longest time of a message on its way, where nobody is slow: the delay, and the most that chance adds to it
+-- the longest time of a message on its way, where nobody is slow or paused: the delay, and the most that chance adds to it
 abbrev pub longest_of : Link → ℕ
 longest_of l = l.delay + l.jitter
 

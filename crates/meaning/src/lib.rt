@@ -6,6 +6,7 @@ mod groups;
 mod list;
 mod news;
 mod paths;
+mod pushes;
 mod quiet;
 mod times;
 mod trips;
@@ -15,6 +16,7 @@ pub use groups::{first_of, group_name, groups_of, member_name, size_of};
 pub use list::item_at;
 pub use news::message_limit;
 pub use paths::is_hidden;
+pub use pushes::push_period;
 pub use quiet::{Quiet, cost_of_quiet};
 pub use times::{
     Pace, least_suspicion, most_accusers, nack_delay, pace_with, suspicion_time, worst_health,

@@ -3,12 +3,15 @@ ghost use Rattle.scenario.specs.Setup.{member_count};
 ghost use Rattle.suspicion.specs.Times.{most_accusers, min_timeout, timeout};
 ghost use Rattle.suspicion.specs.Settings.{terms_of};
 ghost use Rattle.lifeguard.specs.NackDelay.{nack_delay_of};
-ghost use Rattle.meaning.specs.Times.{worst_health, pace_at};
+ghost use Rattle.scenario.specs.Profile.{profile_of};
+ghost use Rattle.meaning.specs.Times.{worst_health, pace_at, timeouts_at};
 
+use base::Profile;
 use scenario::Scenario;
 use suspicion::Terms;
 
-/// How long a member's period and timeout are, in ticks.
+/// How long a member's period and timeout are, in ticks. By memberlist's rules the period is how long a
+/// probe of it lasts that isn't answered.
 #[derive(Clone, Copy, Debug, PartialEq, Eq)]
 pub struct Pace {
     pub period: u64,
@@ -21,7 +24,12 @@ pub fn most_accusers(scenario: &Scenario) -> u64
     ensures at_most_9 { result ≤ 9 }
 {
     let others = scenario.members().saturating_sub(2) as u64;
-    scenario.lifeguard().confirmations.min(others)
+    let wanted = scenario.lifeguard().confirmations;
+    match scenario.profile() {
+        Profile::Papers => wanted.min(others),
+        Profile::Memberlist if wanted <= others => wanted,
+        Profile::Memberlist => 0,
+    }
 }
 
 /// How long a suspicion lasts among all members, in ticks, that has so many further accusers.
@@ -62,7 +70,19 @@ pub fn pace_with(scenario: &Scenario, health: u64) -> Pace
     let swim = scenario.swim();
     Pace {
         period: swim.period * (health + 1),
-        timeout: swim.timeout * (health + 1),
+        timeout: swim.timeout * timeouts(scenario, health),
+    }
+}
+
+/// How many times the timeout of full health one takes whose health counter stands so: by memberlist's
+/// rules once.
+fn timeouts(scenario: &Scenario, health: u64) -> u64
+    requires { health ≤ 16 }
+    ensures { result ≡ timeouts_at (profile_of scenario.now) health }
+{
+    match scenario.profile() {
+        Profile::Papers => health + 1,
+        Profile::Memberlist => 1,
     }
 }
 

@@ -10,7 +10,7 @@ use scenario::{Link, Scenario};
 use std::alloc::Global;
 
 /// The greatest round trip, in ticks, over all pairs of different members: the longest time of a message
-/// from the one to the other and of the answer, where nobody is slow; 0 where there is but one member.
+/// from the one to the other and of the answer, where nobody is slow or paused; 0 where there is but one member.
 pub fn greatest_round_trip(alloc: Global, scenario: &Scenario) -> Result<u64, Memory>
     ensures value { IfOk result (λ g. IsGreatest (round_trip scenario.now) (member_count scenario.now) g) }
     ensures short { IfOk result (λ g. g ≤ 2 ^ 22) }

@@ -5,6 +5,7 @@ use Rattle.std.specs.Option.{option_map_or}
 use Rattle.scenario.specs.Setup.{Setup, member_count, name_of, group_at, start_of, contact_of}
 use Rattle.scenario.specs.declared.settings.Link.{Link}
 use Rattle.scenario.specs.declared.settings.Path.{Path}
+use Rattle.scenario.specs.declared.settings.Gossip.{Gossip}
 use Rattle.serde_json.specs.Data.{Data, null, number, unsigned, string, array, object, put, no_members}
 use Rattle.serde_json.specs.View.{items_of}
 use Rattle.suspicion.specs.Times.{most_accusers, min_timeout, timeout}
@@ -86,8 +87,22 @@ times_data s =
     (put (codes "suspicions") (suspicions_data s) (put (codes "least_suspicion") (whole (min_timeout (terms_of s) (member_count s))) no_members))))
 
 -- on how many messages of a member its news rides at the most, and how many ride on one
-unfoldable pub news_data : Setup → Data
-news_data s = object (put (codes "carry") (whole s.swim.carry) (put (codes "limit") (whole (message_limit s)) no_members))
+unfoldable pub ridden_data : ℕ → ℕ → Data
+ridden_data limit carry = object (put (codes "carry") (whole carry) (put (codes "limit") (whole limit) no_members))
+
+-- how members gossip
+unfoldable pub gossip_data : Gossip → Data
+gossip_data g =
+    object (put (codes "push") (whole g.push) (put (codes "dead") (whole g.dead) (put (codes "nodes") (whole g.nodes) (put (codes "interval") (whole g.interval) no_members))))
+
+-- the same, and how members gossip
+unfoldable pub gossiped_data : ℕ → ℕ → Gossip → Data
+gossiped_data limit carry g =
+    object (put (codes "gossip") (gossip_data g) (put (codes "carry") (whole carry) (put (codes "limit") (whole limit) no_members)))
+
+-- how far an update spreads
+abbrev pub news_data : Setup → Data
+news_data s = option_map_or (gossiped_data (message_limit s) s.swim.carry) s.gossip (ridden_data (message_limit s) s.swim.carry)
 
 -- what a quiet run costs
 unfoldable pub quiet_data : Setup → Data

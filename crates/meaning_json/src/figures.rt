@@ -3,7 +3,7 @@ ghost use Rattle.serde_json.specs.View.{view};
 ghost use Rattle.scenario.specs.Setup.{member_count};
 ghost use Rattle.meaning.specs.Each.{made_at};
 ghost use Rattle.meaning.specs.Groups.{groups_of};
-ghost use Rattle.meaning_json.specs.Figures.{whole_or_null, link_data, contact_data, group_data, group_item, groups_data, path_data, path_item, paths_data, suspicion_item, suspicions_data, pace_data, pace_item, health_data, times_data, news_data, quiet_data};
+ghost use Rattle.meaning_json.specs.Figures.{whole_or_null, link_data, contact_data, group_data, group_item, groups_data, path_data, path_item, paths_data, suspicion_item, suspicions_data, pace_data, pace_item, health_data, times_data, news_data, ridden_data, gossip_data, gossiped_data, quiet_data};
 
 use crate::lists::{list_of, push_value};
 use base::MemberId;
@@ -12,7 +12,7 @@ use meaning::{
     message_limit, most_accusers, nack_delay, pace_with, suspicion_time, worst_health,
 };
 use meaning_text::{name_of_group, size_of_group};
-use scenario::{Link, Path, Scenario};
+use scenario::{Gossip, Link, Path, Scenario};
 use serde_json::{Value, json};
 use std::alloc::{AllocError, Global};
 
@@ -236,13 +236,47 @@ fn pace_value(alloc: Global, scenario: &Scenario, health: u64) -> Result<Value, 
 }
 
 /// How far an update spreads.
-#[tactic(auto, unfolding(crate::specs::Figures::news_data))]
 pub(crate) fn news_value(alloc: Global, scenario: &Scenario) -> Result<Value, AllocError>
     ensures { IfOk result (λ v. view v ≡ news_data scenario.now) }
 {
     let limit = message_limit(scenario);
     let carry = scenario.swim().carry;
+    match scenario.gossip() {
+        Some(gossip) => gossiped_value(alloc, limit, carry, gossip),
+        None => ridden_value(alloc, limit, carry),
+    }
+}
+
+/// On how many messages of a member its news rides at the most, and how many ride on one.
+#[tactic(auto, unfolding(crate::specs::Figures::ridden_data))]
+fn ridden_value(alloc: Global, limit: u64, carry: u64) -> Result<Value, AllocError>
+    ensures { IfOk result (λ v. view v ≡ ridden_data limit carry) }
+{
     json!(in alloc; {"limit": limit, "carry": carry})
+}
+
+/// The same, and how members gossip.
+#[tactic(auto, unfolding(crate::specs::Figures::gossiped_data))]
+fn gossiped_value(
+    alloc: Global,
+    limit: u64,
+    carry: u64,
+    gossip: Gossip,
+) -> Result<Value, AllocError>
+    ensures { IfOk result (λ v. view v ≡ gossiped_data limit carry gossip) }
+{
+    let gossip = gossip_value(alloc, gossip)?;
+    json!(in alloc; {"limit": limit, "carry": carry, "gossip": gossip})
+}
+
+/// How members gossip.
+#[tactic(auto, unfolding(crate::specs::Figures::gossip_data))]
+fn gossip_value(alloc: Global, gossip: Gossip) -> Result<Value, AllocError>
+    ensures { IfOk result (λ v. view v ≡ gossip_data gossip) }
+{
+    json!(in alloc; {
+        "interval": gossip.interval, "nodes": gossip.nodes, "dead": gossip.dead, "push": gossip.push
+    })
 }
 
 /// What a quiet run costs.

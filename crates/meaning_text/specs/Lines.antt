@@ -8,6 +8,7 @@ use Rattle.scenario.specs.declared.settings.Path.{Path}
 use Rattle.scenario.specs.declared.settings.Slow.{Slow}
 use Rattle.scenario.specs.declared.settings.Leave.{Leave}
 use Rattle.scenario.specs.declared.settings.Cut.{Cut}
+use Rattle.scenario.specs.declared.settings.Gossip.{Gossip}
 use Rattle.suspicion.specs.Times.{most_accusers, min_timeout, timeout}
 use Rattle.suspicion.specs.Settings.{terms_of}
 use Rattle.lifeguard.specs.NackDelay.{nack_delay_of}
@@ -99,6 +100,15 @@ news_words limit all carry = line (codes "news" ∷ codes "messages" ∷ decimal
 unfoldable pub news_line : Setup → List ℕ
 news_line s = news_words (message_limit s) (message_limit s * member_count s) s.swim.carry
 
+-- how members gossip
+unfoldable pub gossip_text : Gossip → List ℕ
+gossip_text g =
+    line (codes "gossip" ∷ codes "interval" ∷ decimal g.interval ∷ codes "nodes" ∷ decimal g.nodes ∷ codes "dead" ∷ decimal g.dead ∷ codes "push" ∷ decimal g.push ∷ [])
+
+-- the same, where they do
+abbrev pub gossip_line : Setup → List ℕ
+gossip_line s = option_map_or gossip_text s.gossip []
+
 -- who goes and when
 unfoldable pub departure_text : Setup → List ℕ → ℕ → ℕ → List ℕ
 departure_text s word m at = line (word ∷ name_of s m ∷ decimal at ∷ [])
@@ -150,7 +160,7 @@ cluster_lines s window trip = member_lines s ++ link_line s ++ path_lines s ++ t
 
 -- the times of the protocol among all members
 unfoldable pub time_lines : Setup → List ℕ
-time_lines s = suspicion_line s ++ accusers_lines s ++ health_lines s ++ nack_line s ++ news_line s
+time_lines s = suspicion_line s ++ accusers_lines s ++ health_lines s ++ nack_line s ++ news_line s ++ gossip_line s
 
 -- all of them, but for the warnings
 unfoldable pub figure_lines : Setup → Option ℕ → ℕ → List ℕ

@@ -2,8 +2,6 @@
 use Rattle.std.specs.Prelude.{ℕ, ◌+◌, ◌-◌, ◌*◌, nat_lt, if◌then◌else◌, Option, Some, None, unwrap_or, slice_get}
 use Rattle.std.specs.Option.{option_map_or}
 use Rattle.scenario.specs.Setup.{Setup, member_count, crash_of}
-use Rattle.suspicion.specs.Times.{most_accusers}
-use Rattle.suspicion.specs.Settings.{terms_of}
 use Rattle.warnings.specs.Conditions.{least_suspicion}
 use Rattle.warnings.specs.declared.warning.Warning.{Warning}
 use Rattle.warnings.specs.declared.warning.Warning.TheVariants as warning
@@ -34,7 +32,7 @@ unfoldable pub numbers_of : Setup → ℕ → Warning → Option Pair
 numbers_of s trip warning.LateAnswer = compared trip s.swim.timeout
 numbers_of s trip warning.LateRelay = compared (s.swim.timeout + 2 * trip) s.swim.period
 numbers_of s trip warning.EarlyEnd = compared (1 + s.swim.period + least_suspicion s) s.end
-numbers_of s trip warning.FewAccusers = compared (most_accusers (terms_of s) (member_count s)) s.lifeguard.confirmations
+numbers_of s trip warning.FewAccusers = compared (member_count s - 2) s.lifeguard.confirmations
 numbers_of s trip warning.ManyHelpers = compared s.swim.helpers (member_count s - 2)
 numbers_of s trip warning.LostOnLink = None
 numbers_of s trip warning.PartOfLifeguard = None

@@ -6,7 +6,7 @@ ghost use Rattle.meaning_text.specs.Lines.{figure_lines, cluster_lines, time_lin
 use crate::groups::push_members;
 use crate::paths::{push_link, push_paths, push_trips};
 use crate::script::push_script;
-use crate::times::{push_accusers, push_health, push_nack, push_news, push_suspicion};
+use crate::times::{push_accusers, push_gossip, push_health, push_nack, push_news, push_suspicion};
 use meaning::{Quiet, cost_of_quiet};
 use scenario::Scenario;
 use std::alloc::AllocError;
@@ -56,7 +56,8 @@ fn push_times(text: &mut String, scenario: &Scenario) -> Result<(), AllocError>
     push_accusers(text, scenario)?;
     push_health(text, scenario)?;
     push_nack(text, scenario)?;
-    push_news(text, scenario)
+    push_news(text, scenario)?;
+    push_gossip(text, scenario)
 }
 
 /// Appends what a quiet run costs.

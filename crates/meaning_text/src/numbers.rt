@@ -2,7 +2,7 @@ ghost use Rattle.std.specs.Prelude.{◌≡◌, ◌≤◌, ◌^◌};
 ghost use Rattle.meaning_text.specs.Numbers.{compared, numbers_of, crash_at, slow_from, slow_extra, leave_at, cut_at};
 
 use base::MemberId;
-use meaning::{item_at, least_suspicion, most_accusers};
+use meaning::{item_at, least_suspicion};
 use scenario::Scenario;
 use warnings::Warning;
 
@@ -36,7 +36,7 @@ pub(crate) fn numbers_of(warning: Warning, scenario: &Scenario, trip: u64) -> Op
         Warning::LateRelay => compared(u128::from(swim.timeout) + 2 * trip, swim.period),
         Warning::EarlyEnd => compared(u128::from(1 + swim.period + least_suspicion(scenario)), end),
         Warning::FewAccusers => compared(
-            u128::from(most_accusers(scenario)),
+            (scenario.members() as u128).saturating_sub(2),
             scenario.lifeguard().confirmations,
         ),
         Warning::ManyHelpers => compared(

@@ -2,14 +2,14 @@ ghost use Rattle.std.specs.Prelude.{◌≡◌, ◌++◌, ◌*◌, ◌≤◌, OnO
 ghost use Rattle.std.specs.String.{string_bytes};
 ghost use Rattle.scenario.specs.Setup.{member_count};
 ghost use Rattle.meaning.specs.News.{message_limit};
-ghost use Rattle.meaning_text.specs.Lines.{suspicion_line, bounds_line, accusers_line, accusers_lines, health_line, health_lines, nack_line, news_line, news_words};
+ghost use Rattle.meaning_text.specs.Lines.{suspicion_line, bounds_line, accusers_line, accusers_lines, health_line, health_lines, nack_line, news_line, news_words, gossip_line, gossip_text};
 
 use crate::groups::push_count;
 use meaning::{
     Pace, least_suspicion, message_limit, most_accusers, nack_delay, pace_with, suspicion_time,
     worst_health,
 };
-use scenario::Scenario;
+use scenario::{Gossip, Scenario};
 use std::alloc::AllocError;
 
 /// Appends the least and the greatest time of a suspicion.
@@ -111,4 +111,31 @@ fn messages_of_all(scenario: &Scenario) -> u64
     ensures { result ≡ message_limit scenario.now * member_count scenario.now }
 {
     message_limit(scenario) * scenario.members() as u64
+}
+
+/// Appends how members gossip, where they do.
+pub(crate) fn push_gossip(text: &mut String, scenario: &Scenario) -> Result<(), AllocError>
+    ensures { OnOk result (string_bytes text.new ≡ string_bytes text.old ++ gossip_line scenario.now) }
+{
+    match scenario.gossip() {
+        Some(gossip) => push_gossip_text(text, gossip),
+        None => Ok(()),
+    }
+}
+
+/// Appends how members gossip.
+#[tactic(auto, unfolding(crate::specs::Lines::gossip_text))]
+fn push_gossip_text(text: &mut String, gossip: Gossip) -> Result<(), AllocError>
+    ensures { OnOk result (string_bytes text.new ≡ string_bytes text.old ++ gossip_text gossip) }
+{
+    let Gossip {
+        interval,
+        nodes,
+        dead,
+        push,
+    } = gossip;
+    writeln!(
+        text,
+        "gossip interval {interval} nodes {nodes} dead {dead} push {push}"
+    )
 }

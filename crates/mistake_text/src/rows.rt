@@ -29,7 +29,9 @@ fn is_listed(section: Section) -> bool {
     match section {
         Section::Top | Section::Swim | Section::Suspicion | Section::Lifeguard | Section::Link =>
             false,
+        Section::Gossip | Section::Stream => false,
         Section::Group | Section::Path | Section::Slow | Section::Departure | Section::Cut => true,
+        Section::Pause => true,
     }
 }
 
@@ -90,6 +92,7 @@ pub(crate) fn default_text(alloc: Global, row: KeyRule) -> Result<String, Memory
         Absence::Default(number) => Ok(format!(in alloc; "without `{key}` it is {number}")?),
         Absence::Refused => Ok(format!(in alloc; "`{key}` has no default")?),
         Absence::RefusedOver0(_) => Ok(String::new(alloc)),
+        Absence::Off => Ok(format!(in alloc; "without `{key}` it is false")?),
         Absence::Optional => match row.kind {
             Kind::Switch => Ok(format!(in alloc; "without `{key}` it is true")?),
             Kind::Whole { .. } => Ok(format!(in alloc; "without `{key}` it is that of [link]")?),
@@ -101,4 +104,21 @@ pub(crate) fn default_text(alloc: Global, row: KeyRule) -> Result<String, Memory
 /// The version by which a text is judged.
 pub(crate) fn version_of(context: &Context<'_>) -> Version {
     context.mistakes.version
+}
+
+/// The version whose keys are told of as keys of another table: that of the text, but no less than 2.
+pub(crate) fn told_version(context: &Context<'_>) -> Version {
+    match version_of(context) {
+        Version::One | Version::Two => Version::Two,
+        Version::Three => Version::Three,
+    }
+}
+
+/// The number of a version.
+pub(crate) fn version_number(version: Version) -> u64 {
+    match version {
+        Version::One => 1,
+        Version::Two => 2,
+        Version::Three => 3,
+    }
 }

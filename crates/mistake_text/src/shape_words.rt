@@ -2,7 +2,8 @@
 use crate::context::Context;
 use crate::nearest::nearest_key;
 use crate::rows::{
-    default_text, found_text, header_text, home_text, keys_text, version_of, wanted_text,
+    default_text, found_text, header_text, home_text, keys_text, told_version, version_number,
+    version_of, wanted_text,
 };
 use crate::words::Words;
 use base::Memory;
@@ -149,22 +150,23 @@ fn unknown_label(context: &Context<'_>, home: Home, name: &str) -> Result<String
         let key = key.text();
         return Ok(format!(in alloc; "did you mean `{key}`?")?);
     }
-    for row in Section::Top.rows(Version::Two) {
-        if has_key(row.kind, name) {
+    let version = told_version(context);
+    for row in Section::Top.rows(version) {
+        if has_key(version, row.kind, name) {
             let header = header_text(alloc, is_list(row.kind), row.key)?;
             return Ok(format!(in alloc; "this is a key of {header}")?);
         }
     }
-    if is_named(Section::Top.rows(Version::Two), name) {
+    if is_named(Section::Top.rows(version), name) {
         return Ok(String::from_str(alloc, "this stands before all tables")?);
     }
     Ok(String::from_str(alloc, "take it away")?)
 }
 
 /// Whether what a key of the whole text calls for has a key of this name.
-fn has_key(kind: Kind, name: &str) -> bool {
+fn has_key(version: Version, kind: Kind, name: &str) -> bool {
     match kind {
-        Kind::Table(section) | Kind::List(section) => is_named(section.rows(Version::Two), name),
+        Kind::Table(section) | Kind::List(section) => is_named(section.rows(version), name),
         Kind::Whole { .. } | Kind::Switch | Kind::Text => false,
     }
 }
@@ -182,14 +184,20 @@ fn is_named(rows: &[KeyRule], name: &str) -> bool {
     rows.iter().any(|row| row.key.text() == name)
 }
 
-/// Rule 3: the key is one of version 2.
-pub(crate) fn later_words(context: &Context<'_>, span: Span) -> Result<Words, Memory> {
+/// Rule 3: a later version has the key.
+pub(crate) fn later_words(
+    context: &Context<'_>,
+    version: Version,
+    span: Span,
+) -> Result<Words, Memory> {
     let alloc = context.alloc;
     let name = context.shown_name(span)?;
+    let later = version_number(version);
+    let own = version_number(version_of(context));
     Ok(Words {
-        message: format!(in alloc; "`{name}` is a key of version 2")?,
-        label: String::from_str(alloc, "write `version = 2` to use it")?,
-        note: String::from_str(alloc, "this text is judged by version 1")?,
+        message: format!(in alloc; "`{name}` is a key of version {later}")?,
+        label: format!(in alloc; "write `version = {later}` to use it")?,
+        note: format!(in alloc; "this text is judged by version {own}")?,
     })
 }
 

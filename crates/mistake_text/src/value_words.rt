@@ -40,17 +40,28 @@ pub(crate) fn gone_words(
     })
 }
 
-/// Rule 8: two slow times of a member overlap.
+/// What the times are called of which two overlap.
+fn stretch_words(key: FormatKey) -> &'static str {
+    if key == FormatKey::Pause {
+        "pauses"
+    } else {
+        "slow times"
+    }
+}
+
+/// Rule 8: two slow times, or two pauses, of a member overlap.
 pub(crate) fn overlap_words(
     context: &Context<'_>,
     span: Span,
+    key: FormatKey,
     other: Span,
 ) -> Result<Words, Memory> {
     let alloc = context.alloc;
     let member = context.shown_name(span)?;
+    let times = stretch_words(key);
     let line = context.line(other);
     Ok(Words {
-        message: format!(in alloc; "two slow times of `{member}` overlap")?,
+        message: format!(in alloc; "two {times} of `{member}` overlap")?,
         label: format!(in alloc; "the other is on line {line}")?,
         note: String::from_str(
             alloc,
@@ -139,7 +150,7 @@ pub(crate) fn size_words(context: &Context<'_>, members: u128, most: u64) -> Res
             let more = Version::Two.most_members();
             format!(in alloc; "with `version = 2` there may be {more}")?
         }
-        Version::Two => String::new(alloc),
+        Version::Two | Version::Three => String::new(alloc),
     };
     Ok(Words {
         message: format!(in alloc; "there are {members} members, more than {most}")?,

@@ -1,6 +1,7 @@
 //! The words of a mistake.
 use crate::context::Context;
 use crate::names::{group_name_words, group_words, member_words, repeated_words};
+use crate::rows::version_of;
 use crate::shape_words::{
     contact_words, document_words, empty_words, item_words, kind_words, later_words, missing_words,
     range_words, unknown_words,
@@ -11,6 +12,7 @@ use crate::value_words::{
 };
 use base::Memory;
 use mistakes::{Cause, Mistake};
+use schema::Version;
 use std::alloc::Global;
 
 /// What is said of a mistake.
@@ -49,7 +51,7 @@ pub(crate) fn words_of(context: &Context<'_>, mistake: &Mistake) -> Result<Words
         Cause::EmptyList { row } => empty_words(context, row),
         Cause::MissingContact { start } => contact_words(context, start),
         Cause::UnknownKey { home, found } => unknown_words(context, home, found, span),
-        Cause::LaterKey => later_words(context, span),
+        Cause::LaterKey { version } => later_words(context, version, span),
         Cause::WrongKind { row, found } => kind_words(context, row, found, span),
         Cause::WrongItem { row, found } => item_words(context, row, found),
         Cause::OutOfRange { row, number } => range_words(context, row, number),
@@ -66,7 +68,7 @@ fn later_rule_words(context: &Context<'_>, mistake: &Mistake) -> Result<Words, M
     let span = mistake.span;
     match mistake.cause {
         Cause::GoneTwice { now, before, other } => gone_words(context, span, now, before, other),
-        Cause::Overlap { other } => overlap_words(context, span, other),
+        Cause::Overlap { key, other } => overlap_words(context, span, key, other),
         Cause::LongTimeout {
             timeout,
             period,
@@ -85,6 +87,14 @@ fn later_rule_words(context: &Context<'_>, mistake: &Mistake) -> Result<Words, M
     }
 }
 
+/// The words of rule 8 in a version.
+fn stretches_rule(version: Version) -> &'static str {
+    match version {
+        Version::One | Version::Two => "a member goes twice, or is slow twice at one time",
+        Version::Three => "a member goes twice, or is slow or paused twice at one time",
+    }
+}
+
 /// The words of a rule.
 fn general_words(context: &Context<'_>, rule: u8) -> Result<Words, Memory> {
     let message = match rule {
@@ -95,7 +105,7 @@ fn general_words(context: &Context<'_>, rule: u8) -> Result<Words, Memory> {
         5 => "a whole number is outside its range",
         6 => "a group name is of another form or stands twice",
         7 => "a name is no member's or no group's",
-        8 => "a member goes twice, or is slow twice at one time",
+        8 => stretches_rule(version_of(context)),
         9 => "a moment or a length of time may not be",
         10 => "there are too many members",
         _ => "the text breaks a rule",

@@ -1,4 +1,4 @@
-use schema::{FormatKey, KeyRule, Section};
+use schema::{FormatKey, KeyRule, Section, Version};
 use toml_places::Span;
 
 /// What kind of value stands somewhere.
@@ -53,8 +53,10 @@ pub enum Cause {
         home: Home,
         found: Found,
     },
-    /// Rule 3: the key is one of version 2, and the text is of version 1.
-    LaterKey,
+    /// Rule 3: a later version than the text's has the key, and this is the first that does.
+    LaterKey {
+        version: Version,
+    },
     /// Rule 4: the value of a key is of another kind.
     WrongKind {
         row: KeyRule,
@@ -86,8 +88,10 @@ pub enum Cause {
         before: Departure,
         other: Span,
     },
-    /// Rule 8: the member is slow at the same time, as is told at `other`.
+    /// Rule 8: the member is slow, or paused, at the same time, as is told at `other`; `key` is that of the
+    /// list.
     Overlap {
+        key: FormatKey,
         other: Span,
     },
     /// Rule 9: the timeout isn't below the period, which stands at `other`.

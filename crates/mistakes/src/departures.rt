@@ -1,9 +1,9 @@
-//! Rule 8: members that go twice, and slow times of one member that overlap.
+//! Rule 8: members that go twice, and slow times, or pauses, of one member that overlap.
 use crate::cause::{Cause, Departure};
 use crate::members::{Named, Roster, Seat};
 use crate::walk::Walk;
 use base::Memory;
-use schema::{FormatKey, Section};
+use schema::{FormatKey, Section, Version};
 use toml_places::Span;
 
 /// A crash or a leave of a member.
@@ -15,9 +15,9 @@ struct Gone {
     span: Span,
 }
 
-/// A time in which a member is slow.
+/// A time in which a member is slow, or paused.
 #[derive(Clone, Copy, Debug, PartialEq, Eq)]
-struct Slow {
+struct Stretch {
     seat: Seat,
     from: u64,
     until: u64,
@@ -25,10 +25,14 @@ struct Slow {
     span: Span,
 }
 
-/// Judges crashes, leaves and slow times by pairs.
+/// Judges crashes, leaves, slow times and pauses by pairs.
 pub(crate) fn judge_departures(walk: &mut Walk<'_>, roster: &Roster) -> Result<(), Memory> {
     judge_gone(walk, roster)?;
-    judge_slow(walk, roster)
+    judge_stretches(walk, roster, Section::Slow, FormatKey::Slow)?;
+    if walk.version == Version::Three {
+        judge_stretches(walk, roster, Section::Pause, FormatKey::Pause)?;
+    }
+    Ok(())
 }
 
 /// Judges that no member goes twice.
@@ -84,54 +88,60 @@ fn is_same(a: Seat, b: Seat) -> bool {
     a.group == b.group && a.index == b.index
 }
 
-/// Judges that no two slow times of a member overlap: each is compared with the one that lasts longest
-/// of those that begin before it.
-fn judge_slow(walk: &mut Walk<'_>, roster: &Roster) -> Result<(), Memory> {
+/// Judges that of the items of a list no two of one member overlap: each is compared with the one that
+/// lasts longest of those that begin before it.
+fn judge_stretches(
+    walk: &mut Walk<'_>,
+    roster: &Roster,
+    section: Section,
+    key: FormatKey,
+) -> Result<(), Memory> {
     let mut list = Vec::new(walk.alloc);
-    for item in walk.items(FormatKey::Slow) {
-        add_slow(walk, roster, *item, &mut list)?;
+    for item in walk.items(key) {
+        add_stretch(walk, roster, section, *item, &mut list)?;
     }
-    list.sort_by_key(|slow| (slow.seat.group, slow.seat.index, slow.from))?;
-    let mut longest: Option<Slow> = None;
-    for slow in list.as_slice() {
+    list.sort_by_key(|stretch| (stretch.seat.group, stretch.seat.index, stretch.from))?;
+    let mut longest: Option<Stretch> = None;
+    for stretch in list.as_slice() {
         if let Some(before) = longest
-            && is_same(before.seat, slow.seat)
+            && is_same(before.seat, stretch.seat)
         {
-            if before.from < slow.until && slow.from < before.until {
-                tell_overlap(walk, before.span, slow.span)?;
+            if before.from < stretch.until && stretch.from < before.until {
+                tell_overlap(walk, key, before.span, stretch.span)?;
             }
-            if before.until < slow.until {
-                longest = Some(*slow);
+            if before.until < stretch.until {
+                longest = Some(*stretch);
             }
         } else {
-            longest = Some(*slow);
+            longest = Some(*stretch);
         }
     }
     Ok(())
 }
 
-/// Tells of two slow times that overlap, at the later one in the text.
-fn tell_overlap(walk: &mut Walk<'_>, a: Span, b: Span) -> Result<(), Memory> {
+/// Tells of two items of a list that overlap, at the later one in the text.
+fn tell_overlap(walk: &mut Walk<'_>, key: FormatKey, a: Span, b: Span) -> Result<(), Memory> {
     if a.start < b.start {
-        walk.add(8, Cause::Overlap { other: a }, b)
+        walk.add(8, Cause::Overlap { key, other: a }, b)
     } else {
-        walk.add(8, Cause::Overlap { other: b }, a)
+        walk.add(8, Cause::Overlap { key, other: b }, a)
     }
 }
 
-/// Adds the slow time of an item, where all of it is known.
-fn add_slow(
+/// Adds the time of an item, where all of it is known.
+fn add_stretch(
     walk: &Walk<'_>,
     roster: &Roster,
+    section: Section,
     item: usize,
-    list: &mut Vec<Slow>,
+    list: &mut Vec<Stretch>,
 ) -> Result<(), Memory> {
     if let Some((name, place)) = walk.text(item, FormatKey::Member)
         && let Named::Member(seat) = roster.find(name)
-        && let Some(from) = walk.number(Section::Slow, item, FormatKey::From)
-        && let Some(until) = walk.number(Section::Slow, item, FormatKey::Until)
+        && let Some(from) = walk.number(section, item, FormatKey::From)
+        && let Some(until) = walk.number(section, item, FormatKey::Until)
     {
-        list.push(Slow {
+        list.push(Stretch {
             seat,
             from,
             until,

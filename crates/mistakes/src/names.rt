@@ -13,6 +13,7 @@ pub(crate) fn judge_names(walk: &mut Walk<'_>) -> Result<Roster, Memory> {
     judge_members(walk, &roster, walk.items(FormatKey::Slow))?;
     judge_members(walk, &roster, walk.items(FormatKey::Crash))?;
     judge_members(walk, &roster, walk.added_items(FormatKey::Leave))?;
+    judge_members(walk, &roster, walk.pauses())?;
     judge_ends(walk, &roster, walk.items(FormatKey::Path))?;
     judge_ends(walk, &roster, walk.added_items(FormatKey::Cut))?;
     Ok(roster)
@@ -74,7 +75,7 @@ fn judge_contacts(walk: &mut Walk<'_>, roster: &Roster) -> Result<(), Memory> {
     Ok(())
 }
 
-/// Judges the members of slow times, crashes or leaves.
+/// Judges the members of slow times, crashes, leaves or pauses.
 fn judge_members(walk: &mut Walk<'_>, roster: &Roster, items: &[usize]) -> Result<(), Memory> {
     for item in items {
         judge_member(walk, roster, *item, FormatKey::Member)?;

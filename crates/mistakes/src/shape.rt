@@ -83,7 +83,7 @@ fn judge_absence(
             Some(start) if start > 0 => walk.add(2, Cause::MissingContact { start }, span),
             _ => Ok(()),
         },
-        Absence::Default(_) | Absence::Optional => Ok(()),
+        Absence::Default(_) | Absence::Off | Absence::Optional => Ok(()),
     }
 }
 
@@ -120,7 +120,7 @@ fn judge_value(walk: &mut Walk<'_>, row: &KeyRule, place: usize) -> Result<(), M
 /// The row that is told of a key: of the version, that which knows all of them.
 fn told_row(row: &KeyRule) -> KeyRule {
     if row.key == FormatKey::Version {
-        for other in Section::Top.rows(Version::Two) {
+        for other in Section::Top.rows(Version::Three) {
             if other.key == FormatKey::Version {
                 return *other;
             }
@@ -167,7 +167,13 @@ fn is_named(rows: &[KeyRule], name: &str) -> bool {
 /// Why the format doesn't name a key.
 fn unknown(walk: &Walk<'_>, home: Home, name: &str, place: usize) -> Cause {
     if is_named(home.section.rows(Version::Two), name) {
-        Cause::LaterKey
+        Cause::LaterKey {
+            version: Version::Two,
+        }
+    } else if is_named(home.section.rows(Version::Three), name) {
+        Cause::LaterKey {
+            version: Version::Three,
+        }
     } else {
         Cause::UnknownKey {
             home,

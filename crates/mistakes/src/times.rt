@@ -18,6 +18,9 @@ pub(crate) fn judge_times(walk: &mut Walk<'_>, roster: &Roster) -> Result<(), Me
     for item in walk.added_items(FormatKey::Cut) {
         judge_end(walk, Section::Cut, FormatKey::At, *item)?;
     }
+    for item in walk.pauses() {
+        judge_end(walk, Section::Pause, FormatKey::From, *item)?;
+    }
     for item in walk.items(FormatKey::Crash) {
         judge_departure(walk, roster, Departure::Crash, *item)?;
     }

@@ -41,7 +41,15 @@ impl<'p> Walk<'p> {
     pub(crate) fn added_items(&self, key: FormatKey) -> &'p [usize] {
         match self.version {
             Version::One => &[],
-            Version::Two => self.items(key),
+            Version::Two | Version::Three => self.items(key),
+        }
+    }
+
+    /// The pauses, which version 3 adds.
+    pub(crate) fn pauses(&self) -> &'p [usize] {
+        match self.version {
+            Version::One | Version::Two => &[],
+            Version::Three => self.items(FormatKey::Pause),
         }
     }
 
@@ -67,7 +75,8 @@ impl<'p> Walk<'p> {
             },
             None => match row.absence {
                 Absence::Default(number) => Some(number),
-                Absence::Refused | Absence::RefusedOver0(_) | Absence::Optional => None,
+                Absence::Refused | Absence::RefusedOver0(_) | Absence::Off | Absence::Optional =>
+                    None,
             },
         }
     }
@@ -210,6 +219,7 @@ fn version_of(places: &Places) -> Version {
     match places.child(Places::TOP, FormatKey::Version.text()) {
         Some(place) => match places.content(place) {
             Some(Content::Whole(2)) => Version::Two,
+            Some(Content::Whole(3)) => Version::Three,
             _ => Version::One,
         },
         None => Version::One,

@@ -9,6 +9,7 @@ use Rattle.scenario.specs.declared.settings.Lifeguard.{Lifeguard}
 use Rattle.suspicion.specs.Times.{most_accusers, min_timeout}
 use Rattle.suspicion.specs.Settings.{terms_of}
 use Rattle.meaning.specs.Groups.{size_of}
+use Rattle.meaning.specs.Pushes.{push_period}
 
 -- the greatest round trip is longer than the timeout
 abbrev pub is_answer_late : Setup → ℕ → Bool
@@ -34,9 +35,13 @@ are_accusers_few s = s.lifeguard.suspicion && nat_lt (most_accusers (terms_of s)
 abbrev pub are_helpers_many : Setup → Bool
 are_helpers_many s = nat_lt (member_count s) (s.swim.helpers + 2)
 
--- every message is lost
+-- every message is lost that may be lost
 abbrev pub loses_all : Link → Bool
 loses_all l = nat_eq l.loss 1000000
+
+-- every message is lost: no link loses a push
+abbrev pub is_lost : Setup → Link → Bool
+is_lost s l = loses_all l && nat_eq (push_period s) 0
 
 -- one of the switches is on, and one is off
 abbrev pub is_in_part : Lifeguard → Bool

@@ -11,7 +11,7 @@ use Rattle.meaning.specs.Each.{made_of_each}
 use Rattle.meaning.specs.Groups.{groups_of, is_hidden}
 use Rattle.warnings.specs.declared.warning.Warning.{Warning}
 use Rattle.warnings.specs.declared.warning.Warning.TheVariants as warning
-use Rattle.warnings.specs.Conditions.{is_answer_late, is_relay_late, is_end_early, are_accusers_few, are_helpers_many, loses_all, is_in_part, is_spread_long, is_lonely, is_past, is_down, is_slow_answer_late, is_unconfirmed}
+use Rattle.warnings.specs.Conditions.{is_answer_late, is_relay_late, is_end_early, are_accusers_few, are_helpers_many, is_lost, is_in_part, is_spread_long, is_lonely, is_past, is_down, is_slow_answer_late, is_unconfirmed}
 
 -- a warning where its condition holds
 abbrev pub told_if : Bool → Warning → List Warning
@@ -24,7 +24,7 @@ told_of_settings s trip =
     ++ told_if (is_end_early s) warning.EarlyEnd
     ++ told_if (are_accusers_few s) warning.FewAccusers
     ++ told_if (are_helpers_many s) warning.ManyHelpers
-    ++ told_if (loses_all s.link) warning.LostOnLink
+    ++ told_if (is_lost s s.link) warning.LostOnLink
     ++ told_if (is_in_part s.lifeguard) warning.PartOfLifeguard
     ++ told_if (is_spread_long s) warning.LongSpread
 
@@ -32,7 +32,7 @@ unfoldable pub told_of_path : Setup → ℕ → Path → List Warning
 told_of_path s k p =
     told_if (is_hidden s.paths k p) (warning.HiddenPath k)
     ++ told_if (is_lonely (groups_of s) p) (warning.LonelyPath k)
-    ++ told_if (not (is_hidden s.paths k p) && loses_all p.link) (warning.LostOnPath k)
+    ++ told_if (not (is_hidden s.paths k p) && is_lost s p.link) (warning.LostOnPath k)
 
 unfoldable pub told_of_slow : Setup → ℕ → ℕ → Slow → List Warning
 told_of_slow s trip k e =

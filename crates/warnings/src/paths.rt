@@ -1,11 +1,11 @@
 ghost use Rattle.std.specs.Prelude.{◌≡◌, ◌++◌, OnOk};
-ghost use Rattle.warnings.specs.Conditions.{is_lonely, loses_all};
+ghost use Rattle.warnings.specs.Conditions.{is_lonely, is_lost};
 ghost use Rattle.meaning.specs.Each.{made_at, made_of_each};
 ghost use Rattle.warnings.specs.Told.{told_of_path};
 ghost use Rattle.meaning.specs.Groups.{groups_of, is_hidden};
 
 use crate::list::push_if;
-use crate::settings::loses_all;
+use crate::settings::is_lost;
 use crate::warning::Warning;
 use base::Memory;
 use meaning::{groups_of, is_hidden, item_at, size_of};
@@ -48,7 +48,7 @@ fn push_path(
     push_if(told, is_lonely(groups, &path), Warning::LonelyPath(place))?;
     push_if(
         told,
-        !hidden && loses_all(path.link),
+        !hidden && is_lost(scenario, path.link),
         Warning::LostOnPath(place),
     )
 }

@@ -1,11 +1,11 @@
 ghost use Rattle.std.specs.Prelude.{◌≡◌, ◌++◌, ◌≤◌, ◌^◌, OnOk};
-ghost use Rattle.warnings.specs.Conditions.{is_answer_late, is_relay_late, is_end_early, are_accusers_few, are_helpers_many, loses_all, is_in_part, is_spread_long};
+ghost use Rattle.warnings.specs.Conditions.{is_answer_late, is_relay_late, is_end_early, are_accusers_few, are_helpers_many, loses_all, is_lost, is_in_part, is_spread_long};
 ghost use Rattle.warnings.specs.Told.{told_of_settings};
 
 use crate::list::push_if;
 use crate::warning::Warning;
 use base::Memory;
-use meaning::{least_suspicion, most_accusers};
+use meaning::{least_suspicion, most_accusers, push_period};
 use scenario::{Lifeguard, Link, Scenario};
 
 /// Appends what is told of single settings.
@@ -23,7 +23,11 @@ pub(crate) fn push_settings(
     push_if(told, is_end_early(scenario), Warning::EarlyEnd)?;
     push_if(told, are_accusers_few(scenario), Warning::FewAccusers)?;
     push_if(told, are_helpers_many(scenario), Warning::ManyHelpers)?;
-    push_if(told, loses_all(scenario.link()), Warning::LostOnLink)?;
+    push_if(
+        told,
+        is_lost(scenario, scenario.link()),
+        Warning::LostOnLink,
+    )?;
     push_if(
         told,
         is_in_part(scenario.lifeguard()),
@@ -70,8 +74,15 @@ fn are_helpers_many(scenario: &Scenario) -> bool
     (scenario.members() as u64) < scenario.swim().helpers + 2
 }
 
-/// Whether a link loses every message.
-pub(crate) fn loses_all(link: Link) -> bool
+/// Whether a link loses every message: pushes, where there are any, aren't lost by it.
+pub(crate) fn is_lost(scenario: &Scenario, link: Link) -> bool
+    ensures { result ≡ is_lost scenario.now link }
+{
+    loses_all(link) && push_period(scenario) == 0
+}
+
+/// Whether a link loses every message that may be lost on it.
+fn loses_all(link: Link) -> bool
     ensures { result ≡ loses_all link }
 {
     link.loss == 1_000_000

@@ -12,7 +12,7 @@ pub enum Warning {
     FewAccusers,
     /// Fewer members can help than are asked.
     ManyHelpers,
-    /// The common link loses every message.
+    /// The common link loses every message, and nobody pushes.
     LostOnLink,
     /// A part of Lifeguard is on and a part is off.
     PartOfLifeguard,
@@ -22,7 +22,7 @@ pub enum Warning {
     HiddenPath(usize),
     /// A path from a group to itself that has but one member.
     LonelyPath(usize),
-    /// A path that loses every message.
+    /// A path that loses every message, where nobody pushes.
     LostOnPath(usize),
     /// A slow time that begins after the end.
     SlowPastEnd(usize),

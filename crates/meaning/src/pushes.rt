@@ -1,0 +1,41 @@
+ghost use Rattle.std.specs.Prelude.{◌≡◌, ◌≤◌, ◌^◌, ◌*◌, count_by, nat_lt};
+ghost use Rattle.scenario.specs.Setup.{member_count};
+ghost use Rattle.meaning.specs.Pushes.{push_period, pushes_in, doublings_of};
+
+use scenario::Scenario;
+
+/// How long a member waits from one push to the next while it knows all members and holds none as
+/// confirmed; 0 where nobody pushes.
+pub fn push_period(scenario: &Scenario) -> u64
+    ensures value { result ≡ push_period scenario.now }
+    ensures short { result ≤ 2 ^ 24 * 8 }
+{
+    match scenario.gossip() {
+        Some(gossip) => gossip.push * (1 + doublings_of(scenario.members())),
+        None => 0,
+    }
+}
+
+/// How many pushes begin in so many ticks.
+pub(crate) fn pushes_in(scenario: &Scenario, ticks: u64) -> u64
+    ensures value { result ≡ pushes_in scenario.now ticks }
+    ensures few { result ≤ ticks }
+{
+    let period = push_period(scenario);
+    if period > 0 { ticks / period } else { 0 }
+}
+
+/// How often 32 is doubled until it isn't below a number of members.
+fn doublings_of(members: usize) -> u64
+    ensures value { result ≡ doublings_of members }
+    ensures few { result ≤ 7 }
+{
+    below(&[32, 64, 128, 256, 512, 1024, 2048], members) as u64
+}
+
+/// How many of these sizes are below a number of members.
+fn below(sizes: &[usize], members: usize) -> usize
+    ensures { result ≡ count_by (λ size. nat_lt size members) sizes.now }
+{
+    sizes.iter().filter(|size| **size < members).count()
+}
