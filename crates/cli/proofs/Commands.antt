@@ -7,20 +7,22 @@ use Rattle.clap.specs.Words.{Text}
 use Rattle.scenario_files.specs.Shelves.{Shelf}
 use Rattle.explain_command.specs.Outcomes.{ExplainFails, PrintsMeaning}
 use Rattle.run_command.specs.Outcomes.{RunFails, RunsAll}
-use Rattle.run_command.proofs.Causes.{run_memory, run_mistaken, run_output, run_usage}
+use Rattle.run_command.proofs.Causes.{run_memory, run_mistaken, run_output, run_preset, run_usage}
 use Rattle.sweep_command.specs.Outcomes.{AsksForProgress, SweepFails, SweepsAll}
-use Rattle.sweep_command.proofs.Causes.{sweep_memory, sweep_mistaken, sweep_output, sweep_usage}
+use Rattle.sweep_command.proofs.Causes.{sweep_memory, sweep_mistaken, sweep_output, sweep_preset, sweep_usage}
 use Rattle.cli.specs.Outcomes.{CheckFails, EndsRunBy, HasDone, Fails}
 use Rattle.files.specs.Files.{Making}
-use Rattle.command_line.specs.Printed.{rows_line}
-use Rattle.command_line.specs.Words.{Answers, AsksForRun, AsksForCheck, AsksForExplain, AsksForSweep, IsCommand}
+use Rattle.command_line.specs.Printed.{rows_line, PresetFails, PrintsPreset}
+use Rattle.command_line.specs.Words.{Answers, AsksForRun, AsksForCheck, AsksForExplain, AsksForInit, AsksForSweep, IsCommand}
 use Rattle.command_line.specs.declared.release.Release.{Release}
 use Rattle.command_line.specs.declared.words.Asked.{Asked}
 use Rattle.command_line.specs.declared.words.Asked.TheVariants as asked
+use Rattle.presets.specs.declared.preset.Preset.{Preset}
 use Rattle.command_line.specs.declared.explaining.ExplainWords.{ExplainWords}
 use Rattle.command_line.specs.declared.words.RunWords.{RunWords}
 use Rattle.command_line.specs.declared.words.SweepWords.{SweepWords}
 use Rattle.command_line.specs.declared.failure.Failure.{Failure}
+use Rattle.command_line.specs.declared.failure.Failure.TheVariants as failing
 use Rattle.command_line.specs.declared.failure.Failure.TheVariants.{File, Usage, Rule, Mistaken, Case, Workers, Division, Run, Memory, Output}
 
 -- words with an answer are a command
@@ -29,8 +31,9 @@ is_command words (asked.Run run) h = inl (run, h)
 is_command words (asked.Check file) h = inr (inl (file.now, h))
 is_command words (asked.Explain explain) h = inr (inr (inl (explain, h)))
 is_command words (asked.Sweep sweep) h = inr (inr (inr (inl (sweep, h))))
-is_command words (asked.Help help) h = inr (inr (inr (inr (inl h.1))))
-is_command words asked.Version h = inr (inr (inr (inr (inr h))))
+is_command words (asked.Init preset) h = inr (inr (inr (inr (inl (preset, h)))))
+is_command words (asked.Help help) h = inr (inr (inr (inr (inr (inl h.1)))))
+is_command words asked.Version h = inr (inr (inr (inr (inr (inr h)))))
 
 -- why a run that the words ask for was not done
 pub run_fails : (words : List Text) (before after : Shelf) (making : Making) (old new : Option (List ℕ)) (run : RunWords) (failure : Failure)
@@ -42,6 +45,7 @@ run_fails words before after making old new run (Case rule settings) asks fails 
 run_fails words before after making old new run Workers asks fails = inl (run, asks, fails)
 run_fails words before after making old new run (Division cause) asks fails = inl (run, asks, fails)
 run_fails words before after making old new run (Run cause) asks fails = inl (run, asks, fails)
+run_fails words before after making old new run failing.Preset asks fails = absurd (run_preset before after making run fails)
 run_fails words before after making old new run Usage asks fails = absurd (run_usage before after making run fails)
 run_fails words before after making old new run Output asks fails = absurd (run_output before after making run fails)
 run_fails words before after making old new run Memory asks fails = run_memory before after making run fails
@@ -55,6 +59,7 @@ check_fails words before after making old new file (Mistaken rule) asks fails = 
 check_fails words before after making old new file (Case rule settings) asks fails = absurd fails.cause
 check_fails words before after making old new file Memory asks fails = fails.same
 check_fails words before after making old new file Usage asks fails = absurd fails.cause
+check_fails words before after making old new file failing.Preset asks fails = absurd fails.cause
 check_fails words before after making old new file Workers asks fails = absurd fails.cause
 check_fails words before after making old new file (Division cause) asks fails = absurd fails.cause
 check_fails words before after making old new file (Run cause) asks fails = absurd fails.cause
@@ -69,6 +74,7 @@ explain_fails words before after making old new explain (Mistaken rule) asks sam
 explain_fails words before after making old new explain (Case rule settings) asks same fails = absurd fails
 explain_fails words before after making old new explain Memory asks same fails = same
 explain_fails words before after making old new explain Usage asks same fails = absurd fails
+explain_fails words before after making old new explain failing.Preset asks same fails = absurd fails
 explain_fails words before after making old new explain Workers asks same fails = absurd fails
 explain_fails words before after making old new explain (Division cause) asks same fails = absurd fails
 explain_fails words before after making old new explain (Run cause) asks same fails = absurd fails
@@ -81,6 +87,13 @@ pub asked_explain_fails : (words : List Text) (before after : Shelf) (making : M
 asked_explain_fails words before after making old new answer explain failure is h same fails =
     let asks : Answers words (asked.Explain explain) = subst (Answers words) is h in
     explain_fails words before after making old new explain failure asks same fails
+
+-- the same of whatever came of explaining
+pub asked_explain_failed : (words : List Text) (before after : Shelf) (making : Making) (old new : Option (List ℕ)) (answer : Asked) (explain : ExplainWords)
+    (done : Result (Unit {0}) Failure) → answer ≡ asked.Explain explain → Answers words answer → (after ≡ before)
+    → IfErr done (ExplainFails (before explain.file.now) explain old new) → IfErr done (Fails words before after making old new)
+asked_explain_failed words before after making old new answer explain done is h same failed =
+    IfErr-weaker done _ _ (λ failure fails. asked_explain_fails words before after making old new answer explain failure is h same fails) failed
 
 -- what a scenario means that the words ask to explain was printed
 pub asked_explain_done : {E : Type 0} (release : Release) (words : List Text) (before after : Shelf) (making : Making) (old new : Option (List ℕ)) (answer : Asked) (explain : ExplainWords)
@@ -100,6 +113,7 @@ sweep_fails words before after making old new sweep (Case rule settings) asks fa
 sweep_fails words before after making old new sweep Workers asks fails = inr (inr (inr (sweep, asks, fails)))
 sweep_fails words before after making old new sweep (Division cause) asks fails = inr (inr (inr (sweep, asks, fails)))
 sweep_fails words before after making old new sweep (Run cause) asks fails = inr (inr (inr (sweep, asks, fails)))
+sweep_fails words before after making old new sweep failing.Preset asks fails = absurd (sweep_preset before after making sweep fails)
 sweep_fails words before after making old new sweep Usage asks fails = absurd (sweep_usage before after making sweep fails)
 sweep_fails words before after making old new sweep Output asks fails = absurd (sweep_output before after making sweep fails)
 sweep_fails words before after making old new sweep Memory asks fails = sweep_memory before after making sweep fails
@@ -134,6 +148,14 @@ asked_sweep_unprinted words before after making old new answer sweep lines print
     let asks : Answers words (asked.Sweep sweep) = subst (Answers words) is h in
     IfErr-weaker printed _ _ (λ failure same. subst (Fails words before after making old new) (sym same) (inr (inr (inr (inl (lines, (sweep, asks, swept))))))) told
 
+-- the same, and its lines were printed
+pub asked_sweep_done : {E : Type 0} (release : Release) (words : List Text) (before after : Shelf) (making : Making) (old new : Option (List ℕ)) (answer : Asked) (sweep : SweepWords)
+    (lines shown : List ℕ) (printed : Result (Unit {0}) E) → answer ≡ asked.Sweep sweep → Answers words answer → SweepsAll before after making sweep lines
+    → shown ≡ lines → OnOk printed (Appends old new shown) → OnOk printed (HasDone release words before after making old new)
+asked_sweep_done release words before after making old new answer sweep lines shown printed is h swept same told =
+    let asks : Answers words (asked.Sweep sweep) = subst (Answers words) is h in
+    on_ok_weaker printed (λ appended. inr (inr (inr (inl (lines, (sweep, asks, swept), subst (Appends old new) same appended))))) told
+
 -- where the words ask for no sweep that tells how far it has come, this one doesn't
 pub asked_untold : (words : List Text) (answer : Asked) (sweep : SweepWords) → answer ≡ asked.Sweep sweep → Answers words answer
     → ¬ (AsksForProgress words) → sweep.progress ≡ false
@@ -144,3 +166,31 @@ asked_untold words answer sweep is h none = go sweep.progress refl
     go true e =
         let asks : Answers words (asked.Sweep sweep) = subst (Answers words) is h in
         absurd (none (sweep, asks, e))
+
+-- the scenario of a preset that the words ask for was printed
+pub asked_init_done : {E : Type 0} (release : Release) (words : List Text) (before : Shelf) (making : Making) (old new : Option (List ℕ)) (answer : Asked) (preset : Preset)
+    (printed : Result (Unit {0}) E) → answer ≡ asked.Init preset → Answers words answer
+    → OnOk printed (PrintsPreset preset old new) → OnOk printed (HasDone release words before before making old new)
+asked_init_done release words before making old new answer preset printed is h told =
+    let asks : Answers words (asked.Init preset) = subst (Answers words) is h in
+    on_ok_weaker printed (λ prints. inr (inr (inr (inr (inl (preset, asks, prints, refl)))))) told
+
+-- why it wasn't
+pub asked_init_fails : (words : List Text) (before : Shelf) (making : Making) (old new : Option (List ℕ)) (answer : Asked) (preset : Preset) (unchanged : Type 0) (failure : Failure)
+    → answer ≡ asked.Init preset → Answers words answer → PresetFails preset unchanged failure → Fails words before before making old new failure
+asked_init_fails words before making old new answer preset unchanged failure is h fails =
+    let asks : Answers words (asked.Init preset) = subst (Answers words) is h in
+    by_failure failure asks fails
+  where
+    by_failure : (f : Failure) → AsksForInit words preset → PresetFails preset unchanged f → Fails words before before making old new f
+    by_failure Output asks has = inr (inr (inr (inr (inl (preset, asks, has, refl)))))
+    by_failure Memory asks same = refl
+    by_failure (File name) asks none = absurd none
+    by_failure Usage asks none = absurd none
+    by_failure failing.Preset asks none = absurd none
+    by_failure (Rule rule) asks none = absurd none
+    by_failure (Mistaken rule) asks none = absurd none
+    by_failure (Case rule settings) asks none = absurd none
+    by_failure Workers asks none = absurd none
+    by_failure (Division cause) asks none = absurd none
+    by_failure (Run cause) asks none = absurd none

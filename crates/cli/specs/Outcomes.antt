@@ -8,14 +8,15 @@ use Rattle.member_laws.specs.Runs.{WearsOut}
 use Rattle.outputs.specs.Promise.{WearsOutReport}
 use Rattle.clap.specs.Words.{Text}
 use Rattle.files.specs.Files.{KnownFile, Making}
-use Rattle.command_line.specs.Words.{AsksForRun, AsksForCheck, AsksForExplain, AsksForHelp, AsksForVersion, IsNoCommand}
-use Rattle.command_line.specs.Printed.{rows_line, members_line, release_line}
+use Rattle.command_line.specs.Words.{AsksForRun, AsksForCheck, AsksForExplain, AsksForHelp, AsksForInit, AsksForNoPreset, AsksForVersion, IsNoCommand}
+use Rattle.command_line.specs.Printed.{rows_line, members_line, release_line, HasText, PrintsPreset}
 use Rattle.command_line.specs.Failures.{status_of, IsMistaken}
 use Rattle.command_line.specs.declared.release.Release.{Release}
 use Rattle.command_line.specs.declared.explaining.ExplainWords.{ExplainWords}
 use Rattle.command_line.specs.declared.words.RunWords.{RunWords}
 use Rattle.command_line.specs.declared.failure.Failure.{Failure}
-use Rattle.command_line.specs.declared.failure.Failure.TheVariants.{Usage, Mistaken, Memory, Output}
+use Rattle.command_line.specs.declared.failure.Failure.TheVariants.{Usage, Preset, Mistaken, Memory, Output}
+use Rattle.presets.specs.declared.preset.Preset.{Preset as AnyPreset}
 use Rattle.scenario_files.specs.Shelves.{Shelf, IsRefused}
 use Rattle.scenario_files.specs.Loading.{HasVerdict, LoadFails}
 use Rattle.explain_command.specs.Outcomes.{ExplainFails, IsExplained, PrintsMeaning}
@@ -39,6 +40,14 @@ abbrev pub DoesExplain : List Text → Shelf → Shelf → Option (List ℕ) →
 DoesExplain words before after old new =
     (explain : ExplainWords) × AsksForExplain words explain × PrintsMeaning (before explain.file.now) explain old new × (after ≡ before)
 
+-- the scenario of the preset that the words ask for was printed
+abbrev pub DoesInit : List Text → Shelf → Shelf → Option (List ℕ) → Option (List ℕ) → Type 0
+DoesInit words before after old new = (preset : AnyPreset) × AsksForInit words preset × PrintsPreset preset old new × (after ≡ before)
+
+-- there is such a text
+abbrev pub HasPreset : List Text → Shelf → Shelf → Type 0
+HasPreset words before after = (preset : AnyPreset) × AsksForInit words preset × HasText preset × (after ≡ before)
+
 abbrev pub DoesHelp : List Text → Shelf → Shelf → Type 0
 DoesHelp words before after = AsksForHelp words × (after ≡ before)
 
@@ -46,14 +55,16 @@ abbrev pub DoesVersion : List Text → Shelf → Shelf → Type 0
 DoesVersion words before after = AsksForVersion words × (after ≡ before)
 
 -- what the words ask for was done: a run, and the number of its rows printed; a check, and the number of members
--- printed; what a scenario means printed; a sweep, and the lines of its cases printed; help was printed; or the line that tells of this release
+-- printed; what a scenario means printed; a sweep, and the lines of its cases printed; a preset's scenario printed; help was printed; or the
+-- line that tells of this release
 abbrev pub HasDone : Release → List Text → Shelf → Shelf → Making → Option (List ℕ) → Option (List ℕ) → Type 0
 HasDone release words before after making old new = ((count : ℕ) × DoesRun words before after making count × Appends old new (rows_line count))
     ⊎ (((members : ℕ) × DoesCheck words before after members × Appends old new (members_line members))
     ⊎ (DoesExplain words before after old new
     ⊎ (((lines : List ℕ) × DoesSweep words before after making lines × Appends old new lines)
+    ⊎ (DoesInit words before after old new
     ⊎ (DoesHelp words before after
-    ⊎ (DoesVersion words before after × Appends old new (release_line release))))))
+    ⊎ (DoesVersion words before after × Appends old new (release_line release)))))))
 
 -- a text tells of the scenario of the file that the words ask to explain
 abbrev pub Explains : List Text → Shelf → Shelf → Type 0
@@ -66,7 +77,8 @@ DoneUnprinted words before after making = ((count : ℕ) × DoesRun words before
     ⊎ (((members : ℕ) × DoesCheck words before after members)
     ⊎ (Explains words before after
     ⊎ (((lines : List ℕ) × DoesSweep words before after making lines)
-    ⊎ (DoesHelp words before after ⊎ DoesVersion words before after))))
+    ⊎ (HasPreset words before after
+    ⊎ (DoesHelp words before after ⊎ DoesVersion words before after)))))
 
 -- ---- what was not done
 
@@ -95,6 +107,7 @@ DoesNot words before after making old new failure =
 -- why what the words ask for wasn't done
 abbrev pub Fails : List Text → Shelf → Shelf → Making → Option (List ℕ) → Option (List ℕ) → Failure → Type 0
 Fails words before after making old new Usage = IsNoCommand words × (after ≡ before)
+Fails words before after making old new Preset = AsksForNoPreset words × (after ≡ before)
 Fails words before after making old new Output = DoneUnprinted words before after making
 Fails words before after making old new (Mistaken rule) = DoesNotExplain words before after old new (Mistaken rule)
 Fails words before after making old new Memory = after ≡ before

@@ -7,8 +7,8 @@ ghost use Rattle.cli.specs.Outcomes.{HasDone, Fails, Ends};
 
 use crate::simulation::ByThreads;
 use command_line::{
-    Asked, Failure, Release, parse, print_help, print_members, print_release, print_rows,
-    print_text, refuse,
+    Asked, Failure, Release, parse, print_help, print_members, print_preset, print_release,
+    print_rows, print_text, refuse,
 };
 use explain_command::explain_file;
 use files::Files;
@@ -40,8 +40,8 @@ pub fn command<S: AsStr, F: Files, O: Write, E: Write, P: Write>(
 
     // Status 0: what the words ask for was done. A run has left its trace in the file of that name, and its
     // report where one is asked for, and told standard output the number of its rows; a check, the number
-    // of members; an explanation, what the scenario means; a sweep has left its table, and told the lines of its cases; who asks for the version was told
-    // the line of this release.
+    // of members; an explanation, what the scenario means; a sweep has left its table, and told the lines of its cases; a preset's
+    // scenario was told; who asks for the version was told the line of this release.
     ensures done { result ≡ 0 → HasDone release.now (map S.text words.now) (F.known files.old) (F.known files.new) (F.making files.old)
         (O.contents out.old) (O.contents out.new) }
 
@@ -85,8 +85,9 @@ fn perform<'a, S: AsStr, F: Files, O: Write, P: Write>(
         (O.contents out.old) (O.contents out.new)) }
     ensures command { OnOk result (IsCommand (map S.text words.entry.now)) }
     ensures other { ¬ (IsCommand (map S.text words.entry.now))
-        → IfErr result (λ failure. (failure ≡ Failure.Usage) ⊎ (failure ≡ Failure.Memory)) }
+        → IfErr result (λ failure. (failure ≡ Failure.Usage) ⊎ ((failure ≡ Failure.Preset) ⊎ (failure ≡ Failure.Memory))) }
     ensures usage { IsErrOf result Failure.Usage → IsNoCommand (map S.text words.entry.now) }
+    ensures preset { IsErrOf result Failure.Preset → IsNoCommand (map S.text words.entry.now) }
     ensures silent { IfErr result (λ failure. failure ≢ Failure.Output → ¬ (IsMistaken failure) → out.new ≡ out.old) }
     ensures unasked { ¬ (AsksForProgress (map S.text words.entry.now)) → progress.new ≡ progress.old }
 {
@@ -106,5 +107,6 @@ fn perform<'a, S: AsStr, F: Files, O: Write, P: Write>(
             let lines = sweep_file(rt, alloc, &words, files, progress)?;
             print_text(lines.as_str(), out)
         }
+        Asked::Init(preset) => print_preset(alloc, preset, out),
     }
 }

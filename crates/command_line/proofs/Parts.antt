@@ -91,6 +91,7 @@ pub faultless : (answer : Result Deal DivisionFault) (deal : Deal) â†’ answer â‰
 faultless answer deal is (failure.Division cause) h = cc
 faultless answer deal is (failure.File name) h = h
 faultless answer deal is failure.Usage h = h
+faultless answer deal is failure.Preset h = h
 faultless answer deal is (failure.Rule rule) h = h
 faultless answer deal is (failure.Mistaken rule) h = h
 faultless answer deal is (failure.Case rule settings) h = h

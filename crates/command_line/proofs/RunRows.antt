@@ -1,9 +1,12 @@
 -- The command that the words met, by its name and its rows.
-use Rattle.std.proofs.Common.{◌≡◌, ◌∙◌, List, Option, Some, None, IfSome, IsNone, Bor, option_map, sym, ap, ap₂, codes}
+use Rattle.std.proofs.Common.{◌≡◌, ◌∙◌, ℕ, List, [], length, arith, Option, Some, None, IfSome, IsNone, Bor, option_map, sym, ap, ap₂, codes}
 use Rattle.std.proofs.lemmas.Option.{none-some, same_Some}
 use Rattle.std.specs.Box.{box_value}
 use Rattle.clap.specs.Words.{Row, Text, first_of, found_of, rows_of, subcommand_name_of, subcommand_rows_of}
-use Rattle.command_line.specs.Words.{IsCheckIn, IsSplitIn}
+use Rattle.presets.specs.Presets.{word_of}
+use Rattle.presets.specs.declared.preset.Preset.{Preset}
+use Rattle.command_line.specs.Words.{IsCheckIn, IsInitIn, IsSplitIn, IsSweepIn, NamesNoPreset}
+use Rattle.command_line.specs.declared.words.SweepWords.{SweepWords}
 use Rattle.command_line.specs.declared.words.Split.{Split}
 use Rattle.command_line.specs.declared.words.Split.TheVariants as split
 use Rattle.clap.specs.declared.parser.matches.ArgMatches.{ArgMatches}
@@ -55,3 +58,28 @@ pub not_both : (rows : List Row) (parts list : Text) → first_of (codes "parts"
 not_both rows parts list p l split.Workers h = none-some parts (sym h.0 ∙ p)
 not_both rows parts list p l (split.Parts word) h = none-some list (sym h.1 ∙ l)
 not_both rows parts list p l (split.List word) h = none-some parts (sym h.0 ∙ p)
+
+-- ---- a preset that there isn't
+
+abbrev name_length : Option (Text × List Row) → ℕ
+name_length None = 0
+name_length (Some met) = length met.0
+
+abbrev rows_met : Option (Text × List Row) → List Row
+rows_met None = []
+rows_met (Some met) = met.1
+
+-- `init` is no sweep
+init_no_sweep : (met : Option (Text × List Row)) (rows given : List Row) → met ≡ Some (codes "init", rows) → met ≡ Some (codes "sweep", given) → ⊥
+init_no_sweep met rows given init sweep =
+    let lengths : name_length (Some (codes "init", rows)) ≡ name_length (Some (codes "sweep", given)) = ap name_length (sym init ∙ sweep) in
+    omega (arith, lengths)
+
+-- words that name no preset ask for no sweep, and for no preset's scenario
+pub no_preset_no_sweep : (met : Option (Text × List Row)) → NamesNoPreset met → (sweep : SweepWords) → IsSweepIn met sweep → ⊥
+no_preset_no_sweep met names sweep h = init_no_sweep met names.rows h.rows names.met_init h.met_sweep
+
+pub no_preset_no_init : (met : Option (Text × List Row)) → NamesNoPreset met → (preset : Preset) → IsInitIn met preset → ⊥
+no_preset_no_init met names preset h =
+    let same : h.rows ≡ names.rows = ap rows_met (sym h.met_init ∙ names.met_init) in
+    names.unknown preset (same_Some (word_of preset) names.word (sym h.named ∙ (ap (first_of (codes "PRESET")) same ∙ names.given)))

@@ -10,8 +10,10 @@ use Rattle.clap.specs.declared.error.kind.ErrorKind.{ErrorKind}
 use Rattle.clap.specs.declared.error.kind.ErrorKind.TheVariants.{DisplayHelp, DisplayVersion}
 use Rattle.cases.specs.Sweep.{Sweep as Planned}
 use Rattle.cases.specs.Asked.{IsSweepOf}
+use Rattle.presets.specs.Presets.{word_of}
+use Rattle.presets.specs.declared.preset.Preset.{Preset}
 use Rattle.command_line.specs.declared.words.Asked.{Asked}
-use Rattle.command_line.specs.declared.words.Asked.TheVariants.{Run, Check, Explain, Sweep, Help, Version}
+use Rattle.command_line.specs.declared.words.Asked.TheVariants.{Run, Check, Explain, Sweep, Init, Help, Version}
 use Rattle.command_line.specs.declared.explaining.ExplainWords.{ExplainWords}
 use Rattle.command_line.specs.declared.words.RunWords.{RunWords}
 use Rattle.command_line.specs.declared.words.SweepWords.{SweepWords}
@@ -63,6 +65,13 @@ sweep_app =
     let set = with_rule seeded (repeated_rule (codes "set")) in
     with_rule (with_rule set (option_rule (codes "workers"))) (flag_rule (codes "progress"))
 
+-- the command `init`: the name of a preset
+abbrev pub preset_rule : Rule
+preset_rule = record (new_rule (codes "PRESET")) { required = true }
+
+abbrev pub init_app : App
+init_app = with_rule (new_app (codes "init")) preset_rule
+
 -- the program, whose words come without its name, and which has a version to tell
 abbrev pub bare_app : App
 bare_app = let app = new_app (codes "swimsim") in
@@ -71,7 +80,7 @@ bare_app = let app = new_app (codes "swimsim") in
 abbrev pub swimsim_app : App
 swimsim_app =
     let checked = with_subcommand (with_subcommand bare_app run_app.top) check_app.top in
-    with_subcommand (with_subcommand checked explain_app.top) sweep_app.top
+    with_subcommand (with_subcommand (with_subcommand checked explain_app.top) sweep_app.top) init_app.top
 
 -- what `clap` knows as this, with no argument that holds for what stands below it
 abbrev pub IsLocal : App → Command → Type 0
@@ -126,6 +135,20 @@ pub record IsSweepIn (met : Option (Text × List Row)) (sweep : SweepWords) : Ty
   pub workers : first_of (codes "workers") rows ≡ option_map (λ word. word.now) sweep.workers
   pub progress : is_given (first_of (codes "progress") rows) ≡ sweep.progress
 
+-- the command that was met is `init`, with the name of this preset
+pub record IsInitIn (met : Option (Text × List Row)) (preset : Preset) : Type 0 where
+  pub rows : List Row
+  pub met_init : met ≡ Some (codes "init", rows)
+  pub named : first_of (codes "PRESET") rows ≡ Some (word_of preset)
+
+-- the command that was met is `init`, with a word that is no preset's name
+pub record NamesNoPreset (met : Option (Text × List Row)) : Type 0 where
+  pub rows : List Row
+  pub met_init : met ≡ Some (codes "init", rows)
+  pub word : Text
+  pub given : first_of (codes "PRESET") rows ≡ Some word
+  pub unknown : (preset : Preset) → ¬ (word_of preset ≡ word)
+
 -- the words have no fault, and ask for this run
 abbrev pub AsksForRun : List Text → RunWords → Type 0
 AsksForRun words run = (fault_of swimsim_app words ≡ []) × IsRunIn (subcommand_of swimsim_app words) run
@@ -146,6 +169,10 @@ AsksToExplain words = (explain : ExplainWords) × AsksForExplain words explain
 abbrev pub AsksForSweep : List Text → SweepWords → Type 0
 AsksForSweep words sweep = (fault_of swimsim_app words ≡ []) × IsSweepIn (subcommand_of swimsim_app words) sweep
 
+-- the words have no fault, and ask for the scenario of this preset
+abbrev pub AsksForInit : List Text → Preset → Type 0
+AsksForInit words preset = (fault_of swimsim_app words ≡ []) × IsInitIn (subcommand_of swimsim_app words) preset
+
 -- the words ask for help
 abbrev pub AsksForHelp : List Text → Type 0
 AsksForHelp words = IsAmong DisplayHelp (fault_of swimsim_app words)
@@ -160,21 +187,27 @@ Answers words (Run run) = AsksForRun words run
 Answers words (Check file) = AsksForCheck words file.now
 Answers words (Explain explain) = AsksForExplain words explain
 Answers words (Sweep sweep) = AsksForSweep words sweep
+Answers words (Init preset) = AsksForInit words preset
 Answers words (Help help) = (kind_of help ≡ DisplayHelp) × AsksForHelp words
 Answers words Version = AsksForVersion words
 
--- the words have no fault, but ask for no run, no check, no explanation and no sweep
+-- the words have no fault, but ask for no run, no check, no explanation, no sweep and no preset's scenario
 abbrev pub AsksForNone : List Text → Type 0
 AsksForNone words = (fault_of swimsim_app words ≡ []) × ((run : RunWords) → ¬ (AsksForRun words run))
     × ((file : Text) → ¬ (AsksForCheck words file)) × ((explain : ExplainWords) → ¬ (AsksForExplain words explain))
-    × ((sweep : SweepWords) → ¬ (AsksForSweep words sweep))
+    × ((sweep : SweepWords) → ¬ (AsksForSweep words sweep)) × ((preset : Preset) → ¬ (AsksForInit words preset))
 
--- the words have a fault that is no wish for help or for the version, or none but ask for neither a run nor a check nor an explanation nor a sweep
+-- the words have a fault that is no wish for help or for the version, or none but ask for nothing else that there is
 abbrev pub IsNoCommand : List Text → Type 0
 IsNoCommand words = ((kind : ErrorKind) × (kind ≢ DisplayHelp) × (kind ≢ DisplayVersion) × IsAmong kind (fault_of swimsim_app words)) ⊎ AsksForNone words
 
--- the words ask for a run, a check, an explanation, a sweep, help or the version
+-- the words ask for the scenario of a preset that there isn't, and so for nothing that there is
+abbrev pub AsksForNoPreset : List Text → Type 0
+AsksForNoPreset words = NamesNoPreset (subcommand_of swimsim_app words) × AsksForNone words
+
+-- the words ask for a run, a check, an explanation, a sweep, a preset's scenario, help or the version
 abbrev pub IsCommand : List Text → Type 0
 IsCommand words = ((run : RunWords) × AsksForRun words run) ⊎ (((file : Text) × AsksForCheck words file)
     ⊎ (((explain : ExplainWords) × AsksForExplain words explain)
-    ⊎ (((sweep : SweepWords) × AsksForSweep words sweep) ⊎ (AsksForHelp words ⊎ AsksForVersion words))))
+    ⊎ (((sweep : SweepWords) × AsksForSweep words sweep)
+    ⊎ (((preset : Preset) × AsksForInit words preset) ⊎ (AsksForHelp words ⊎ AsksForVersion words)))))

@@ -4,6 +4,7 @@ ghost use Rattle.clap.specs.Words.{App, app_of, rule_of, with_rule};
 ghost use Rattle.command_line.specs.Words.{check_app, file_rule, flag_rule, option_rule, required_rule, repeated_rule, run_app, sweep_app, swimsim_app, IsLocal};
 
 use crate::explaining::explain_command;
+use crate::initial::init_command;
 use clap::{Arg, ArgAction, Command};
 use std::alloc::{AllocError, Global};
 
@@ -21,7 +22,8 @@ pub(crate) fn program_command<'a>(alloc: Global) -> Result<Command<'a>, AllocErr
         .subcommand(run_command(alloc)?)?
         .subcommand(check_command(alloc)?)?
         .subcommand(explain_command(alloc)?)?
-        .subcommand(sweep_command(alloc)?)
+        .subcommand(sweep_command(alloc)?)?
+        .subcommand(init_command(alloc)?)
 }
 
 /// The command `run`.

@@ -17,6 +17,8 @@ pub enum Failure<'a> {
     File(&'a str),
     /// The words of the command line are no command.
     Usage,
+    /// The words ask for the scenario of a preset that there isn't.
+    Preset,
     /// The scenario breaks this rule.
     Rule(u8),
     /// The scenario that was to be explained breaks this rule; standard output has its mistakes.
@@ -43,7 +45,7 @@ impl Failure<'_> {
     {
         match self {
             Failure::File(_) | Failure::Output => 1,
-            Failure::Usage => 2,
+            Failure::Usage | Failure::Preset => 2,
             Failure::Rule(_) | Failure::Mistaken(_) | Failure::Case { .. } => 3,
             Failure::Workers | Failure::Division(_) => 4,
             Failure::Run(_) | Failure::Memory => 5,
@@ -85,6 +87,7 @@ impl fmt::Display for Failure<'_> {
                 write_name(f, name)
             }
             Failure::Usage => write!(f, "usage"),
+            Failure::Preset => write!(f, "usage: the presets are local, lan, wan and swim"),
             Failure::Rule(rule) | Failure::Mistaken(rule) => write!(f, "scenario rule {rule}"),
             Failure::Case { rule, settings } => {
                 write!(f, "scenario rule {rule}")?;

@@ -5,6 +5,7 @@ mod commands;
 mod division;
 mod explaining;
 mod failure;
+mod initial;
 mod printing;
 mod release;
 mod shown;
@@ -14,6 +15,8 @@ mod words;
 pub use division::{division_asked, workers_asked};
 pub use explaining::ExplainWords;
 pub use failure::{Failure, refuse};
-pub use printing::{print_help, print_members, print_release, print_rows, print_text};
+pub use printing::{
+    print_help, print_members, print_preset, print_release, print_rows, print_text,
+};
 pub use release::Release;
 pub use words::{Asked, RunWords, Split, SweepWords, parse};

@@ -1,11 +1,13 @@
 //! What a command prints on standard output.
 ghost use Rattle.std.specs.Prelude.{◌≡◌, OnOk, IfErr};
 ghost use Rattle.std.specs.Io.KnownBytes.{Appends};
-ghost use Rattle.command_line.specs.Printed.{members_line, release_line, rows_line};
+ghost use Rattle.command_line.specs.Printed.{members_line, release_line, rows_line, PresetFails, PrintsPreset};
 
 use crate::failure::Failure;
 use crate::release::Release;
 use clap::Error;
+use presets::Preset;
+use std::alloc::Global;
 use std::io::Write;
 
 /// Prints how many rows a trace has.
@@ -45,6 +47,24 @@ pub fn print_text<'a, O: Write>(text: &str, out: &mut O) -> Result<(), Failure<'
         return Err(Failure::Output);
     }
     Ok(())
+}
+
+/// Prints the scenario of a preset.
+///
+/// Failures: `Memory`; `Output` where `out` takes less, or its flush fails.
+pub fn print_preset<'a, O: Write>(
+    alloc: Global,
+    preset: Preset,
+    out: &mut O,
+) -> Result<(), Failure<'a>>
+    ensures printed { OnOk result (PrintsPreset preset (O.contents out.old) (O.contents out.new)) }
+    ensures failed { IfErr result (PresetFails preset (out.new ≡ out.old)) }
+{
+    let text = match preset.text(alloc) {
+        Ok(text) => text,
+        Err(_) => return Err(Failure::Memory),
+    };
+    print_text(text.as_str(), out)
 }
 
 /// Prints the help that was asked for.

@@ -5,14 +5,16 @@ ghost use Rattle.cases.specs.Sweep.{Sweep as Planned};
 ghost use Rattle.command_line.specs.declared.words.RunWords.{RunWords as Wish};
 ghost use Rattle.command_line.specs.declared.words.Split.{Split as Wanted};
 ghost use Rattle.command_line.specs.declared.words.SweepWords.{SweepWords as Sought};
-ghost use Rattle.command_line.specs.Words.{is_given, swimsim_app, Answers, IsCheckIn, IsNoCommand, IsPlanIn, IsRunIn, IsSplitIn, IsSweepIn};
+ghost use Rattle.command_line.specs.Words.{is_given, swimsim_app, Answers, AsksForNoPreset, IsCheckIn, IsNoCommand, IsPlanIn, IsRunIn, IsSplitIn, IsSweepIn};
 
 use crate::commands::program_command;
 use crate::explaining::{ExplainWords, explain_asked};
 use crate::failure::Failure;
+use crate::initial::init_asked;
 use cases::{Plan, PlanFault};
 use clap::error::ErrorKind;
 use clap::{ArgMatches, Error};
+use presets::Preset;
 use std::alloc::{AllocError, Global};
 use std::convert::AsStr;
 
@@ -68,6 +70,8 @@ pub enum Asked<'a> {
     Explain(ExplainWords<'a>),
     /// To run a scenario by many seeds and settings, and write a table of the runs.
     Sweep(SweepWords<'a>),
+    /// To be given the scenario of a preset.
+    Init(Preset),
     /// To be shown the help that is this answer's text.
     Help(Error),
     /// To be told which release of the program this is.
@@ -76,11 +80,12 @@ pub enum Asked<'a> {
 
 /// What the words, without the program's name, ask for.
 ///
-/// Failures: `Usage` where they are no command; `Memory`.
+/// Failures: `Usage` where they are no command; `Preset` where they ask for one that there isn't; `Memory`.
 pub fn parse<'a, S: AsStr>(alloc: Global, words: &'a [S]) -> Result<Asked<'a>, Failure<'a>>
     ensures answer { IfOk result (Answers (map S.text words.entry.now)) }
     ensures usage { IsErrOf result Failure.Usage → IsNoCommand (map S.text words.entry.now) }
-    ensures failures { IfErr result (λ f. (f ≡ Failure.Usage) ⊎ (f ≡ Failure.Memory)) }
+    ensures preset { IsErrOf result Failure.Preset → AsksForNoPreset (map S.text words.entry.now) }
+    ensures failures { IfErr result (λ f. (f ≡ Failure.Usage) ⊎ ((f ≡ Failure.Preset) ⊎ (f ≡ Failure.Memory))) }
 {
     match matches_of(alloc, words) {
         Ok(matches) => match run_asked(&matches) {
@@ -89,7 +94,10 @@ pub fn parse<'a, S: AsStr>(alloc: Global, words: &'a [S]) -> Result<Asked<'a>, F
                 Some(file) => Ok(Asked::Check(file)),
                 None => match explain_asked(&matches) {
                     Some(explain) => Ok(Asked::Explain(explain)),
-                    None => Ok(Asked::Sweep(sweep_asked(alloc, &matches)?)),
+                    None => match init_asked(&matches)? {
+                        Some(preset) => Ok(Asked::Init(preset)),
+                        None => Ok(Asked::Sweep(sweep_asked(alloc, &matches)?)),
+                    },
                 },
             },
         },

@@ -7,7 +7,7 @@ use Rattle.files.specs.Files.{Making}
 use Rattle.base.specs.declared.fault.Fault.{Fault}
 use Rattle.scenario.specs.Setup.{Setup}
 use Rattle.command_line.specs.declared.words.RunWords.{RunWords}
-use Rattle.command_line.specs.declared.failure.Failure.TheVariants.{Usage, Mistaken, Memory, Output}
+use Rattle.command_line.specs.declared.failure.Failure.TheVariants.{Usage, Preset, Mistaken, Memory, Output}
 
 -- no check of a run fails by the words, by standard output or by what is explained, and so no run does
 check_usage : (before : Shelf) (run : RunWords) → FailsCheck before run Usage → ⊥
@@ -18,6 +18,15 @@ check_usage before run (inr (inr split)) = split.4
 pub run_usage : {EndsBy : Setup → ℕ → Fault → Type 0} (before after : Shelf) (making : Making) (run : RunWords) → RunFails EndsBy before after making run Usage → ⊥
 run_usage before after making run (inl refused) = check_usage before run refused.cause
 run_usage before after making run (inr store) = store.cause
+
+check_preset : (before : Shelf) (run : RunWords) → FailsCheck before run Preset → ⊥
+check_preset before run (inl count) = count
+check_preset before run (inr (inl file)) = file.2
+check_preset before run (inr (inr split)) = split.4
+
+pub run_preset : {EndsBy : Setup → ℕ → Fault → Type 0} (before after : Shelf) (making : Making) (run : RunWords) → RunFails EndsBy before after making run Preset → ⊥
+run_preset before after making run (inl refused) = check_preset before run refused.cause
+run_preset before after making run (inr store) = store.cause
 
 check_output : (before : Shelf) (run : RunWords) → FailsCheck before run Output → ⊥
 check_output before run (inl count) = count

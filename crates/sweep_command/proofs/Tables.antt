@@ -27,7 +27,7 @@ pub all_begins : (tree : Data) (plan : Sweep) (old new : Option (List ℕ)) (cas
 all_begins tree plan old new cases makes = record {
   made = makes.made;
   are = makes.are;
-  written = record { front = table_text plan makes.made; rest = []; whole = append-nil (table_text plan makes.made); appends = makes.written };
+  written = record { front = table_text tree plan makes.made; rest = []; whole = append-nil (table_text tree plan makes.made); appends = makes.written };
 }
 
 -- after a sweep that was done, and after one that broke off
@@ -45,7 +45,7 @@ module _ (tree : Data) (plan : Sweep) (start made end : Shelf) (table : Text) (o
   table_stored lines tells = record {
     made = tells.makes.made;
     are = tells.makes.are;
-    stored = holds_text (start table) (made table) (end table) old new (table_text plan tells.makes.made) empty fresh tells.makes.written closes;
+    stored = holds_text (start table) (made table) (end table) old new (table_text tree plan tells.makes.made) empty fresh tells.makes.written closes;
     others = others_kept;
     told = record { cases = tells.cases; all = tells.makes.all; told = tells.makes.told; text = tells.text };
   }
@@ -54,7 +54,7 @@ module _ (tree : Data) (plan : Sweep) (start made end : Shelf) (table : Text) (o
   table_begun cause begins caused = record {
     made = begins.made;
     are = begins.are;
-    begun = holds_beginning (start table) (made table) (end table) old new (table_text plan begins.made) empty fresh begins.written closes;
+    begun = holds_beginning (start table) (made table) (end table) old new (table_text tree plan begins.made) empty fresh begins.written closes;
     others = others_kept;
     caused = caused;
   }

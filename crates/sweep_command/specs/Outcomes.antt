@@ -8,7 +8,7 @@ use Rattle.cases.specs.Sweep.{Sweep, case_count}
 use Rattle.cases.specs.Cases.{settings_text}
 use Rattle.sweep.specs.Runs.{Made, Planned, AreMade}
 use Rattle.sweep.specs.Judged.{AreAccepted, IsFirstRefused}
-use Rattle.sweep.specs.Table.{table_text, HasCause}
+use Rattle.sweep.specs.Table.{table_text, tells_revived, HasCause}
 use Rattle.sweep.specs.Summaries.{MakesAll, SumUp}
 use Rattle.sweep.specs.Texts.{cases_text}
 use Rattle.figures.specs.declared.summary.CaseSummary.{CaseSummary}
@@ -35,25 +35,25 @@ pub record PassesSweepChecks (before : Shelf) (sweep : SweepWords) (workers : �
   pub accepted : AreAccepted tree sweep.plan
 
 -- these are the lines of all cases, with the summaries of their runs
-pub record AreLinesOf (plan : Sweep) (made : List Made) (lines : List ℕ) : Type 0 where
+pub record AreLinesOf (tree : Data) (plan : Sweep) (made : List Made) (lines : List ℕ) : Type 0 where
   pub cases : List CaseSummary
   pub all : length cases ≡ case_count plan.settings
   pub told : SumUp plan made cases
-  pub text : lines ≡ cases_text plan cases
+  pub text : lines ≡ cases_text (tells_revived tree) plan cases
 
 -- all runs were made and their table was appended to what was held, and these are the lines of their cases
 pub record MakesLines (tree : Data) (plan : Sweep) (old new : Option (List ℕ)) (lines : List ℕ) : Type 0 where
   pub cases : List CaseSummary
   pub makes : MakesAll tree plan old new cases
-  pub text : lines ≡ cases_text plan cases
+  pub text : lines ≡ cases_text (tells_revived tree) plan cases
 
 -- All runs were made: the file holds their table, no other file has changed, and these are the lines of their cases.
 pub record StoresTable (tree : Data) (plan : Sweep) (before after : Shelf) (table : Text) (lines : List ℕ) : Type 0 where
   pub made : List Made
   pub are : AreMade tree plan made
-  pub stored : HoldsNow (before table) (after table) (table_text plan made)
+  pub stored : HoldsNow (before table) (after table) (table_text tree plan made)
   pub others : KeepsOthers before after table
-  pub told : AreLinesOf plan made lines
+  pub told : AreLinesOf tree plan made lines
 
 -- the sweep passed its checks and was done, and these are the lines of its cases
 pub record SweepsAll (before after : Shelf) (making : Making) (sweep : SweepWords) (lines : List ℕ) : Type 0 where
@@ -87,7 +87,7 @@ FailsSweepCheck before sweep failure =
 pub record BreaksOffTable (tree : Data) (plan : Sweep) (before after : Shelf) (table : Text) (cause : Fault) : Type 0 where
   pub made : List Made
   pub are : AreMade tree plan made
-  pub begun : HoldsBeginning (before table) (after table) (table_text plan made)
+  pub begun : HoldsBeginning (before table) (after table) (table_text tree plan made)
   pub others : KeepsOthers before after table
   pub caused : HasCause tree plan cause
 

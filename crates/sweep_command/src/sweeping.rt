@@ -164,7 +164,7 @@ fn tell_runs<S: Sink, P: Write>(
     ensures unasked { words.now.progress ≡ false → progress.new ≡ progress.old }
 {
     let cases = make_runs(rt, alloc, words, prepared, table, progress)?;
-    Ok(cases_text(alloc, &words.plan, &cases)?)
+    Ok(cases_text(alloc, &words.plan, &prepared.document, &cases)?)
 }
 
 /// Makes the runs, writes their table, and answers what is told of each case.

@@ -1,8 +1,8 @@
 //! Which release of the program this is.
 
 /// The number of the version.
-pub const VERSION: &str = "1.0.0";
+pub const VERSION: &str = "1.1.0";
 /// The digest of the sources.
-pub const SOURCES: &str = "a9b6cea53f8357ae10465c8ffe4147c32aefb00f46f2c56c066278aba161090d";
+pub const SOURCES: &str = "6f4051673de02e29b527afd4cb99ecc5051fbf26078f3fe4f420bd3dca84a4ef";
 /// The kit.
 pub const KIT: &str = "rattle-kit-13f logic dac8208d650f15bf";

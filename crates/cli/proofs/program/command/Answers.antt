@@ -7,7 +7,7 @@ use Rattle.command_line.specs.Failures.{status_of, IsMistaken}
 use Rattle.command_line.specs.Words.{AsksToExplain}
 use Rattle.cli.specs.Outcomes.{Fails}
 use Rattle.command_line.specs.declared.failure.Failure.{Failure}
-use Rattle.command_line.specs.declared.failure.Failure.TheVariants.{File, Usage, Rule, Mistaken, Case, Workers, Division, Run, Memory, Output}
+use Rattle.command_line.specs.declared.failure.Failure.TheVariants.{File, Usage, Preset, Rule, Mistaken, Case, Workers, Division, Run, Memory, Output}
 use Rattle.cli.proofs.program.command.Goals as goal
 
 -- no failure has the status of what was done
@@ -15,6 +15,7 @@ no_failure : (failure : Failure) → status_of failure ≡ 0 → ⊥
 no_failure (File name) e = omega arith
 no_failure Output e = omega arith
 no_failure Usage e = omega arith
+no_failure Preset e = omega arith
 no_failure (Rule number) e = omega arith
 no_failure (Mistaken number) e = omega arith
 no_failure (Case number settings) e = omega arith
@@ -24,10 +25,11 @@ no_failure (Run cause) e = omega arith
 no_failure Memory e = omega arith
 
 -- status 2 is for words that are no command
-is_usage : (failure : Failure) → status_of failure ≡ 2 → failure ≡ Usage
+is_usage : (failure : Failure) → status_of failure ≡ 2 → (failure ≡ Usage) ⊎ (failure ≡ Preset)
 is_usage (File name) e = absurd (omega arith)
 is_usage Output e = absurd (omega arith)
-is_usage Usage e = refl
+is_usage Usage e = inl refl
+is_usage Preset e = inr refl
 is_usage (Rule number) e = absurd (omega arith)
 is_usage (Mistaken number) e = absurd (omega arith)
 is_usage (Case number settings) e = absurd (omega arith)
@@ -48,6 +50,7 @@ has_three (Mistaken number) is = refl
 has_three (File name) is = absurd is
 has_three Output is = absurd is
 has_three Usage is = absurd is
+has_three Preset is = absurd is
 has_three (Rule number) is = absurd is
 has_three (Case number settings) is = absurd is
 has_three Workers is = absurd is
@@ -61,6 +64,7 @@ asks_to_explain words before after making old new (Mistaken number) fails is = (
 asks_to_explain words before after making old new (File name) fails is = absurd is
 asks_to_explain words before after making old new Output fails is = absurd is
 asks_to_explain words before after making old new Usage fails is = absurd is
+asks_to_explain words before after making old new Preset fails is = absurd is
 asks_to_explain words before after making old new (Rule number) fails is = absurd is
 asks_to_explain words before after making old new (Case number settings) fails is = absurd is
 asks_to_explain words before after making old new Workers fails is = absurd is
@@ -81,9 +85,10 @@ untold words before after making old new failure status is fails (inr other) =
     not_mistaken words before after making old new failure fails (inr (λ three. other (is ∙ three)))
 
 -- the status of words that are no command, or of memory
-two_or_five : (failure : Failure) (status : ℕ) → status ≡ status_of failure → (failure ≡ Usage) ⊎ (failure ≡ Memory) → (status ≡ 2) ⊎ (status ≡ 5)
+two_or_five : (failure : Failure) (status : ℕ) → status ≡ status_of failure → (failure ≡ Usage) ⊎ ((failure ≡ Preset) ⊎ (failure ≡ Memory)) → (status ≡ 2) ⊎ (status ≡ 5)
 two_or_five failure status is (inl e) = inl (is ∙ ap status_of e)
-two_or_five failure status is (inr e) = inr (is ∙ ap status_of e)
+two_or_five failure status is (inr (inl e)) = inl (is ∙ ap status_of e)
+two_or_five failure status is (inr (inr e)) = inr (is ∙ ap status_of e)
 
 pub returns-in-Ok-clause-failed : goal.returns-in-Ok-clause-failed
 returns-in-Ok-clause-failed g c differs = absurd (differs refl)
@@ -109,7 +114,11 @@ returns-in-Err-clause-failed g c _ = record {
 }
 
 pub returns-in-Err-clause-usage : goal.returns-in-Err-clause-usage
-returns-in-Err-clause-usage g c e = c.in-Err.ensures.usage (ap Err (is_usage c.in-Err.failure (sym c.refuse.ensures.status ∙ e)))
+returns-in-Err-clause-usage g c e =
+    elim (is_usage c.in-Err.failure (sym c.refuse.ensures.status ∙ e)) [
+      | inl is ↦ c.in-Err.ensures.usage (ap Err is)
+      | inr is ↦ c.in-Err.ensures.preset (ap Err is)
+    ]
 
 pub returns-in-Err-clause-other : goal.returns-in-Err-clause-other
 returns-in-Err-clause-other g c none = two_or_five c.in-Err.failure c.refuse.result c.refuse.ensures.status (c.in-Err.ensures.other none)

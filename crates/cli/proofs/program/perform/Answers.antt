@@ -1,6 +1,6 @@
 -- a run or a sweep that the words ask for, done and told or not done
 use Rattle.std.proofs.lemmas.Result.{IfErr-weaker}
-use Rattle.cli.proofs.Commands.{asked_explain_done, asked_explain_fails, asked_run_done, asked_run_fails, asked_sweep_fails, asked_sweep_unprinted, asked_untold, is_command}
+use Rattle.cli.proofs.Commands.{asked_explain_done, asked_explain_failed, asked_init_done, asked_init_fails, asked_run_done, asked_run_fails, asked_sweep_done, asked_sweep_fails, asked_sweep_unprinted, asked_untold, is_command}
 use Rattle.scenario_files.proofs.Held.{handed_on}
 use Rattle.cli.proofs.program.perform.Goals as goal
 
@@ -19,10 +19,14 @@ returns-in-Explain-clause-done g c =
 
 pub returns-in-Explain-clause-failed : goal.returns-in-Explain-clause-failed
 returns-in-Explain-clause-failed g c =
-    IfErr-weaker c.explain_file.result _ _ (λ failure fails. asked_explain_fails _ _ _ _ _ _ _ _ failure c.in-Explain.is c.in_ok-help.ensures.answer c.explain_file.ensures.same fails) c.explain_file.ensures.failed
+    asked_explain_failed _ _ _ _ _ _ _ _ c.explain_file.result c.in-Explain.is c.in_ok-help.ensures.answer c.explain_file.ensures.same c.explain_file.ensures.failed
 
 pub returns-in-Explain-clause-other : goal.returns-in-Explain-clause-other
 returns-in-Explain-clause-other g c none = absurd (none (is_command _ _ c.in_ok-help.ensures.answer))
+
+pub returns-in_ok-lines-in-Sweep-clause-done : goal.returns-in_ok-lines-in-Sweep-clause-done
+returns-in_ok-lines-in-Sweep-clause-done g c =
+    asked_sweep_done c.args.release.now _ _ _ _ _ _ _ _ _ _ c.print_text.result c.in-Sweep.is c.in_ok-help.ensures.answer c.in_ok-lines-in-Sweep.ensures.done c.as_str.ensures.value c.print_text.ensures.printed
 
 pub returns-in_ok-lines-in-Sweep-clause-failed : goal.returns-in_ok-lines-in-Sweep-clause-failed
 returns-in_ok-lines-in-Sweep-clause-failed g c =
@@ -40,5 +44,20 @@ returns-in_err-lines-in-Sweep-clause-failed g c =
     handed_on _ _ _ c.from_residual-in_err-lines-in-Sweep.ensures.1
     (asked_sweep_fails _ _ _ _ _ _ _ _ _ c.in-Sweep.is c.in_ok-help.ensures.answer c.in_err-lines-in-Sweep.ensures.failed)
 
+pub returns-in_err-lines-in-Sweep-clause-unasked : goal.returns-in_err-lines-in-Sweep-clause-unasked
+returns-in_err-lines-in-Sweep-clause-unasked g c none =
+    c.sweep_file.ensures.unasked (asked_untold _ _ _ c.in-Sweep.is c.in_ok-help.ensures.answer none)
+
 pub returns-in_err-lines-in-Sweep-clause-other : goal.returns-in_err-lines-in-Sweep-clause-other
 returns-in_err-lines-in-Sweep-clause-other g c none = absurd (none (is_command _ _ c.in_ok-help.ensures.answer))
+
+pub returns-in-Init-clause-done : goal.returns-in-Init-clause-done
+returns-in-Init-clause-done g c =
+    asked_init_done c.args.release.now _ _ _ _ _ _ _ c.print_preset.result c.in-Init.is c.in_ok-help.ensures.answer c.print_preset.ensures.printed
+
+pub returns-in-Init-clause-failed : goal.returns-in-Init-clause-failed
+returns-in-Init-clause-failed g c =
+    IfErr-weaker c.print_preset.result _ _ (λ failure fails. asked_init_fails _ _ _ _ _ _ _ _ failure c.in-Init.is c.in_ok-help.ensures.answer fails) c.print_preset.ensures.failed
+
+pub returns-in-Init-clause-other : goal.returns-in-Init-clause-other
+returns-in-Init-clause-other g c none = absurd (none (is_command _ _ c.in_ok-help.ensures.answer))

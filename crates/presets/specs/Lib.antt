@@ -1,0 +1,3 @@
+pub mod Presets
+pub mod Texts
+pub mod Rows

@@ -1,0 +1,33 @@
+//! The presets, and how they are named.
+ghost use Rattle.std.specs.Prelude.{◌≡◌, IfSome, IsNone};
+ghost use Rattle.presets.specs.Presets.{word_of};
+ghost use Rattle.presets.specs.declared.preset.Preset.{Preset as AnyPreset};
+
+/// Whose settings a scenario begins with.
+#[derive(Clone, Copy, Debug, PartialEq, Eq)]
+pub enum Preset {
+    /// Memberlist's on one machine.
+    Local,
+    /// Memberlist's in one data centre, with which Consul, Serf and Nomad begin.
+    Lan,
+    /// Memberlist's between data centres.
+    Wan,
+    /// The format's own, by the rules of the papers on SWIM and Lifeguard.
+    Swim,
+}
+
+impl Preset {
+    /// The preset of this name: `local`, `lan`, `wan` or `swim`.
+    pub fn named(word: &str) -> Option<Preset>
+        ensures some { IfSome result (λ preset. word_of preset ≡ word.now) }
+        ensures none { IsNone result → (preset : AnyPreset) → ¬ (word_of preset ≡ word.now) }
+    {
+        match word {
+            "local" => Some(Preset::Local),
+            "lan" => Some(Preset::Lan),
+            "wan" => Some(Preset::Wan),
+            "swim" => Some(Preset::Swim),
+            _ => None,
+        }
+    }
+}
