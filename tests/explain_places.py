@@ -9,7 +9,7 @@ from pathlib import Path
 TESTS = Path(__file__).resolve().parent
 KEYS = ('version seed end swim suspicion lifeguard link group path slow crash cut leave period timeout helpers carry '
         'lambda spread alpha beta probe buddy ceiling confirmations nack_percent delay jitter loss name count start '
-        'contact from to at until member extra').split()
+        'contact from to at until member extra pause gossip stream fallback interval nodes dead push connect again').split()
 VALUES = ('0', '1', '-1', '3', '10.5', '1e3', 'true', '"x"', "'n-1'", '"n-99"', '[]', '[1, {}]', '{}', '{ a = 1 }',
           '1979-05-27', '07:32:00', '9223372036854775807', '99999999999999999999', '"""a\nb"""', '0x10', '1_000',
           '"10ms"', '\u5b57', 'nan')
@@ -17,7 +17,8 @@ PIECES = ('[', ']', '{', '}', '=', '"', "'", '#', ',', '.', '\n', '\t', '\x01', 
 TABLES = ('[[crash]]\nmember = "n-0"\nat = 10\n', '[[slow]]\nmember = "a-1"\nfrom = 5\nuntil = 2\nextra = 1\n',
           '[[path]]\nfrom = "n"\nto = "north"\n', '[[group]]\nname = "n"\ncount = 2000\n', '[[leave]]\nmember = "n-1"\nat = 0\n',
           '[[cut]]\nfrom = "n-0"\nto = "n"\nat = 9\nuntil = 9\n', '[[group]]\nname = "late"\ncount = 1\nstart = 5\n',
-          '[swim]\nperiod = 5\ntimeout = 7\n', '[other]\na = 1\n', '[[group]]\nname = "Ab"\ncount = 1\ncontact = "n-0"\n')
+          '[[pause]]\nmember = "n-1"\nfrom = 5\nuntil = 5\n', '[[pause]]\nmember = "n-0"\nfrom = 1\nuntil = 3000\n',
+          '[gossip]\nnodes = 17\n', '[stream]\nagain = 0\n', '[swim]\nperiod = 5\ntimeout = 7\n', '[other]\na = 1\n', '[[group]]\nname = "Ab"\ncount = 1\ncontact = "n-0"\n')
 
 
 # ---- texts
@@ -143,7 +144,7 @@ def key_path(piece):
 # what a message names, and whether what stands at the place is that: with the text before it
 NAMED = (
     (r'unknown (?:key|table|list) `(.*)`(?: in .*)?', lambda before, piece, name: shown(key_of(piece) or '') == name),
-    (r'`(.*)` is a key of version 2', lambda before, piece, name: shown(key_of(piece) or '') == name),
+    (r'`(.*)` is a key of version [23]', lambda before, piece, name: shown(key_of(piece) or '') == name),
     (r'`(\w+)` is .*, not .*', is_value_of),
     (r'`(\w+)` is -?\d+, outside its range', is_value_of),
     (r'the list `(\w+)` is empty', is_value_of),
@@ -151,7 +152,7 @@ NAMED = (
     (r'`(.*)` can\'t be the name of a group', lambda before, piece, name: is_string(piece, name)),
     (r'two groups have the name `(.*)`', lambda before, piece, name: is_string(piece, name)),
     (r'`(.*)` (?:leaves|crashes) (?:twice|and .*)', lambda before, piece, name: is_string(piece, name)),
-    (r'two slow times of `(.*)` overlap', lambda before, piece, name: is_string(piece, name)),
+    (r'two (?:slow times|pauses) of `(.*)` overlap', lambda before, piece, name: is_string(piece, name)),
     (r'the contact `(.*)` starts at \d+ itself', lambda before, piece, name: is_string(piece, name)),
     (r'`timeout` (\d+) isn\'t below .*', lambda before, piece, name: value_of(piece) == [int(name)]),
     (r'`until` (\d+) isn\'t after .*', lambda before, piece, name: value_of(piece) == [int(name)]),

@@ -15,11 +15,13 @@ from pathlib import Path
 TOP = Path(__file__).resolve().parent.parent
 ROOM = TOP / 'tests' / 'meaning'
 THOUSANDTHS = (0, 301, 477, 602, 699, 778, 845, 903, 954, 1000)
+GOSSIP = ('interval', 'nodes', 'dead', 'push')
 DEFAULTS = {
     'swim': {'helpers': 3, 'carry': 6, 'lambda': 3, 'spread': 1},
     'suspicion': {'alpha': 5, 'beta': 6},
     'lifeguard': {'probe': True, 'suspicion': True, 'buddy': True, 'ceiling': 8, 'confirmations': 3, 'nack_percent': 80},
     'link': {'jitter': 0, 'loss': 0},
+    'gossip': {'nodes': 3, 'dead': 0, 'push': 0},
 }
 SAID = {
     'late-answer': ('an answer can come after the timeout though nobody is slow',
@@ -55,6 +57,19 @@ SAID = {
 }
 
 
+def fine_logarithm(number):
+    """Version 3's L: by the two leading digits, of which the exact logarithm is taken and rounded down."""
+    leading = int((str(number) + '0')[:2])
+    fraction = max(k for k in range(1000) if 10 ** (1000 + k) <= leading ** 1000)
+    return 1000 * (len(str(number)) - 1) + fraction
+
+
+def coarse_logarithm(number):
+    """L of versions 1 and 2: by the leading digit."""
+    digits = str(number)
+    return 1000 * (len(digits) - 1) + THOUSANDTHS[int(digits[0]) - 1]
+
+
 class Cluster:
     """A scenario as its text says it, with the defaults."""
 
@@ -62,6 +77,9 @@ class Cluster:
         said = tomllib.loads(text)
         self.text = text.splitlines()
         self.end = said['end']
+        self.is_third = said['version'] == 3
+        self.logarithm = fine_logarithm if self.is_third else coarse_logarithm
+        self.gossip = {**DEFAULTS['gossip'], **said['gossip']} if 'gossip' in said else None
         self.swim, self.suspicion, self.lifeguard, self.link = (
             {**DEFAULTS[table], **said.get(table, {})} for table in ('swim', 'suspicion', 'lifeguard', 'link'))
         self.groups = said['group']
@@ -118,11 +136,13 @@ class Cluster:
                     for a in self.groups for b in self.groups if a is not b or a['count'] > 1), default=None)
 
     def further(self):
-        return min(self.lifeguard['confirmations'], max(0, len(self.members) - 2))
+        wanted, others = self.lifeguard['confirmations'], max(0, len(self.members) - 2)
+        if self.is_third:
+            return wanted if others >= wanted else 0
+        return min(wanted, others)
 
     def least(self):
-        digits = str(len(self.members))
-        logarithm = 1000 * (len(digits) - 1) + THOUSANDTHS[int(digits[0]) - 1]
+        logarithm = self.logarithm(len(self.members))
         return max(1, self.suspicion['alpha'] * max(1000, logarithm) * self.swim['period'] // 1000)
 
     def lasts(self, accusers):
@@ -130,11 +150,12 @@ class Cluster:
         least, most = self.least(), self.suspicion['beta'] * self.least()
         if accusers >= self.further() or not self.lifeguard['suspicion']:
             return least
-        return most - (most - least) * THOUSANDTHS[accusers] // THOUSANDTHS[self.further()]
+        return most - (most - least) * self.logarithm(accusers + 1) // self.logarithm(self.further() + 1)
 
     def paces(self):
         worst = self.lifeguard['ceiling'] if self.lifeguard['probe'] else 0
-        return [(self.swim['period'] * times, self.swim['timeout'] * times) for times in range(1, worst + 2)]
+        return [(self.swim['period'] * times, self.swim['timeout'] * (1 if self.is_third else times))
+                for times in range(1, worst + 2)]
 
     def nack(self):
         return max(1, self.lifeguard['nack_percent'] * self.swim['timeout'] // 100)
@@ -142,14 +163,30 @@ class Cluster:
     def limit(self):
         return self.swim['lambda'] * len(str(len(self.members)))
 
+    def pushes(self, ticks):
+        """How many pushes begin in so many ticks."""
+        if not self.gossip or not self.gossip['push']:
+            return 0
+        doublings = 0
+        while 32 * 2 ** doublings < len(self.members):
+            doublings += 1
+        return ticks // (self.gossip['push'] * (1 + doublings))
+
     def quiet(self):
         """Messages a period, in a thousand ticks and up to the end, rows and bytes of a run in which nothing happens."""
-        count = len(self.members)
-        probe = 2 if count > 1 else 0
-        messages = probe * sum(max(0, self.end - group.get('start', 0)) // self.swim['period'] for _, group in self.members)
+        count, period = len(self.members), self.swim['period']
+        each = 2 if count > 1 else 0  # a ping and an ack, or a push and a pull
+        spans = [max(0, self.end - group.get('start', 0)) for _, group in self.members]
+        messages = each * sum(span // period + self.pushes(span) for span in spans)
         rows = count + messages
         average = sum(len(name) for name, _ in self.members) // count
-        return (probe * count, probe * count * 1000 // self.swim['period'], messages, rows, rows * (24 + 3 * average))
+        return (each * count + each * self.pushes(count * period),
+                each * count * 1000 // period + each * self.pushes(count * 1000),
+                messages, rows, rows * (24 + 3 * average))
+
+    def loses_all(self, link):
+        """Whether every message is lost on a link: what is pushed isn't."""
+        return link['loss'] == 1000000 and not (self.gossip and self.gossip['push'])
 
     def deciding(self):
         """The paths that decide, with their numbers from 1."""
@@ -171,10 +208,10 @@ def told_of_settings(c):
     yield c.end < first, 'early-end', (None, None, 'end'), (first, c.end)
     wanted = c.lifeguard['confirmations']
     yield (c.lifeguard['suspicion'] and c.further() < wanted, 'few-accusers', ('lifeguard', None, 'confirmations'),
-           (c.further(), wanted))
+           (max(0, count - 2), wanted))
     others = max(0, count - 2)
     yield swim['helpers'] > count - 2, 'many-helpers', ('swim', None, 'helpers'), (swim['helpers'], others)
-    yield c.link['loss'] == 1000000, 'lost-on-link', ('link', None, 'loss'), None
+    yield c.loses_all(c.link), 'lost-on-link', ('link', None, 'loss'), None
     yield len(switches) == 2, 'part-of-lifeguard', ('lifeguard', None, None), None
     yield swim['spread'] > c.end, 'long-spread', ('swim', None, 'spread'), (swim['spread'], c.end)
 
@@ -186,7 +223,7 @@ def told_of_items(c):
         hidden = any((it['from'], it['to']) == (path['from'], path['to']) for it in c.paths[place + 1:])
         yield hidden, 'hidden-path', about, None
         yield path['from'] == path['to'] and counts[path['from']] == 1, 'lonely-path', about, None
-        yield path['loss'] == 1000000 and not hidden, 'lost-on-path', ('path', place, 'loss'), None
+        yield c.loses_all(path) and not hidden, 'lost-on-path', ('path', place, 'loss'), None
     for place, slow in enumerate(c.slows):
         about, late = ('slow', place, None), c.trip() + 2 * slow['extra']
         yield slow['from'] > c.end, 'slow-past-end', about, (slow['from'], c.end)
@@ -259,6 +296,8 @@ def lines(c, file):
         yield f'nack {c.nack()}'
     limit = c.limit()
     yield f'news messages {limit} all {limit * len(c.members)} carry {c.swim["carry"]}'
+    if c.gossip:
+        yield ' '.join(['gossip', *(f'{key} {c.gossip[key]}' for key in GOSSIP)])
     yield from script(c)
     period, second, messages, rows, size = c.quiet()
     yield f'quiet period {period} second {second}'
@@ -294,7 +333,7 @@ def figures(c):
             'health': [{'period': period, 'timeout': timeout} for period, timeout in c.paces()],
             'nack_delay': c.nack(),
         },
-        'news': {'limit': c.limit(), 'carry': c.swim['carry']},
+        'news': {'limit': c.limit(), 'carry': c.swim['carry'], **({'gossip': some(c.gossip, *GOSSIP)} if c.gossip else {})},
         'script': {
             'crashes': [some(it, 'member', 'at') for it in crashes(c)],
             'leaves': [some(it, 'member', 'at') for it in within(c, c.leaves, 'at')],

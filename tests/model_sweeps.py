@@ -10,7 +10,7 @@ from math import isqrt
 
 import model
 import model_text
-from scenarios import NEWEST, NEWEST_TAKEN, judge
+from scenarios import NEWEST, NEWEST_TAKEN, judge, version_of
 
 RUN_FIGURES = [
     'rows', 'crashes', 'detected', 'suspect_least', 'confirm_least', 'confirm_greatest', 'last_greatest',
@@ -58,7 +58,8 @@ def swept(document, settings, seeds, newest=NEWEST_TAKEN):
             rule, scenario = judge(document_of_run(document, settings, case, seed), newest)
             if rule:
                 return refusal_of(rule, settings, case), []
-            runs.append((seed, figures_of(scenario, model.rows_of(scenario))))
+            figures = figures_of(scenario, model.rows_of(scenario))
+            runs.append((seed, {**figures, 'tells_revived': version_of(document, newest) >= 3}))
         cases.append((case, runs))
     return '', cases
 
@@ -70,7 +71,7 @@ def refusal_of(rule, settings, case):
 
 
 def figures_of(scenario, rows):
-    """What is told of a run, and `times`, `members`, `end` and `version`, which its case needs."""
+    """What is told of a run, and `times`, `members` and `end`, which its case needs."""
     crashes = model_text.ends_of(rows, 'crash')
     times = {name: [None if crash[place] is None else max(0, crash[place] - crash[1]) for crash in crashes]
              for place, name in enumerate(['suspect', 'confirm', 'last'], 2)}
@@ -80,7 +81,7 @@ def figures_of(scenario, rows):
     sent = [row.lost for row in rows if row.what in MESSAGES]
     return {
         'times': times, 'members': len(scenario['members']), 'end': scenario['end'],
-        'version': scenario['version'], 'revived': model_text.revived(rows),
+        'revived': model_text.revived(rows),
         'rows': len(rows), 'crashes': len(crashes), 'detected': len(confirm),
         'suspect_least': min(suspect, default=''), 'confirm_least': min(confirm, default=''),
         'confirm_greatest': max(confirm, default=''), 'last_greatest': max(last, default=''),
@@ -94,8 +95,8 @@ def figures_of(scenario, rows):
 
 
 def without_revived(names, cases):
-    """The names of figures, without `revived` where no run is of version 3."""
-    is_told = any(figures['version'] >= 3 for _, runs in cases for _, figures in runs)
+    """The names of figures, without `revived` where the text that is swept isn't of version 3."""
+    is_told = any(figures['tells_revived'] for _, runs in cases for _, figures in runs)
     return [name for name in names if is_told or name != 'revived']
 
 

@@ -12,7 +12,7 @@ import tomllib
 # the newest version of the format, and the newest that the program takes. Whatever compares the program with
 # these models goes by the second: runs, texts and sweeps of later versions are held against no program.
 NEWEST = 3
-NEWEST_TAKEN = 2
+NEWEST_TAKEN = 3
 
 REQUIRED = object()
 
