@@ -1,5 +1,5 @@
 -- What is left of a run by threads once they have ended.
-use Rattle.std.proofs.Common.{◌≡◌, ◌≢◌, ℕ, ◌<◌, ◌⊎◌, inl, inr, true, List, [], Option, Result, Ok, Err, IsOk, IsErrAnd, append-nil, ap, ◌∙◌, sym, subst, refl, arith}
+use Rattle.std.proofs.Common.{◌≡◌, ◌≢◌, ℕ, ◌≤◌, ◌<◌, ◌^◌, ◌⊎◌, inl, inr, true, List, [], length, Option, Result, Ok, Err, IsOk, IsErrAnd, append-nil, ap, ◌∙◌, sym, subst, refl, arith}
 use Rattle.std.specs.Result.{OnOk, IfErr, IsErrOf}
 use Rattle.std.specs.Io.KnownBytes.{Appends}
 use Rattle.std.proofs.lemmas.Result.{IfErr-at_err, IfErr-weaker}
@@ -19,7 +19,6 @@ use Rattle.turns.specs.Beginning.{BeginsRun}
 use Rattle.turns.proofs.Goes.{begins_with}
 use Rattle.outputs.specs.Promise.{BeginsTrace, WearsOutReport}
 use Rattle.outputs.specs.Written.{sink_failures}
-use Rattle.outputs.specs.declared.tallied.Tallied.{Tallied}
 use Rattle.outputs.proofs.Runs.{begins_nothing}
 use Rattle.outputs.specs.Traced.{KeepsTrace}
 use Rattle.outputs.proofs.Faults.{at_ok, on_came}
@@ -77,7 +76,7 @@ module _ (s : Setup) (sound : IsSound s) (relay : ARelay) (driven : Driven) (all
 -- ---- the trace's sink
 
 -- after a fault before anything was written
-pub unwritten : (s : Setup) (held : Option (List ℕ)) (failed : ℕ) (result : Result Tallied Fault) (fault : Fault) → IsSound s → IsErrAnd result (λ f. f ≡ fault) → IsEarly fault → KeepsTrace s held held failed failed result
+pub unwritten : (s : Setup) (held : Option (List ℕ)) (failed : ℕ) (result : Result (List Row) Fault) (fault : Fault) → IsSound s → IsErrAnd result (λ f. f ≡ fault) → IsEarly fault → KeepsTrace s held held failed failed result
 unwritten s held failed (Ok x) fault sound gives few = absurd gives
 unwritten s held failed (Err f) fault sound gives few = record {
   run = tt;
@@ -91,16 +90,16 @@ unwritten s held failed (Err f) fault sound gives few = record {
   relay = λ is. refl;
 }
 
-pub no_memory : (s : Setup) (held : Option (List ℕ)) (failed : ℕ) (result : Result Tallied Fault) → IsSound s → IsErrAnd result (λ f. f ≡ Memory) → KeepsTrace s held held failed failed result
+pub no_memory : (s : Setup) (held : Option (List ℕ)) (failed : ℕ) (result : Result (List Row) Fault) → IsSound s → IsErrAnd result (λ f. f ≡ Memory) → KeepsTrace s held held failed failed result
 no_memory s held failed result sound gives = unwritten s held failed result Memory sound gives memory_early
 
 module _ (s : Setup) (held_old held_new : Option (List ℕ)) (failed_old failed_new : ℕ) where
-  some_trace : (result : Result Tallied Fault) → KeepsTrace s held_old held_new failed_old failed_new result → BeginsTrace s held_old held_new
-  some_trace (Ok tallied) kept = record { rows = tallied.tallies; run = kept.run; written = beginning-whole held_old held_new (trace_text s tallied.tallies) kept.whole }
+  some_trace : (result : Result (List Row) Fault) → KeepsTrace s held_old held_new failed_old failed_new result → BeginsTrace s held_old held_new
+  some_trace (Ok rows) kept = record { rows = rows; run = kept.run; written = beginning-whole held_old held_new (trace_text s rows) kept.whole }
   some_trace (Err fault) kept = kept.part
 
   -- after all that was kept so far, a fault of another cause
-  pub breaks_off : (result : Result Tallied Fault) (fault : Fault) → KeepsTrace s held_old held_new failed_old failed_new result → IsEarly fault → (fault ≡ Relay → IsOk result)
+  pub breaks_off : (result : Result (List Row) Fault) (fault : Fault) → KeepsTrace s held_old held_new failed_old failed_new result → IsEarly fault → (fault ≡ Relay → IsOk result)
       → KeepsTrace s held_old held_new failed_old failed_new (Err fault)
   breaks_off result fault kept few done = record {
     run = tt;
@@ -123,20 +122,20 @@ module _ (s : Setup) (sound : IsSound s) (relay : ARelay) (held_old held_new : O
   begun = begins_with s sound (rows_in (taken_by ended.written.seat)) (rows_in (sent_by ended.driven.seat)) part is.driven.come.begins
 
   -- both sides came to their end
-  pub ends_whole : IsOk (both_of ended.driven.outcome ended.written.outcome) → KeepsTrace s held_old held_new failed_old failed_new (Ok ended.written.tallied)
+  pub ends_whole : IsOk (both_of ended.driven.outcome ended.written.outcome) → KeepsTrace s held_old held_new failed_old failed_new (Ok ended.written.tallies)
   ends_whole done =
       let drove = (both_ok ended.driven.outcome ended.written.outcome done).0 in
       let wrote = (both_ok ended.driven.outcome ended.written.outcome done).1 in
       let taken : rows_in (taken_by ended.written.seat) ≡ rows_in (sent_by ended.driven.seat) = ap rows_in (whole (at_ok (has_last (taken_by ended.written.seat) ≡ true) ended.written.outcome wrote is.written.last)) in
-      let text = at_ok (Appends held_old held_new (trace_text s (rows_in (taken_by ended.written.seat))) × (ended.written.tallied.tallies ≡ rows_in (taken_by ended.written.seat))) ended.written.outcome wrote is.written.text.whole in
+      let text = at_ok (Appends held_old held_new (trace_text s (rows_in (taken_by ended.written.seat))) × (ended.written.tallies ≡ rows_in (taken_by ended.written.seat))) ended.written.outcome wrote is.written.text.whole in
       let run = subst (IsRunOf s) (sym (text.1 ∙ taken)) (at_ok (IsRunOf s (rows_in (sent_by ended.driven.seat))) ended.driven.outcome drove is.driven.come.whole) in
-      let tallied = ended.written.tallied in
+      let few = at_ok (length (rows_in (taken_by ended.written.seat)) ≤ 2 ^ 63) ended.written.outcome wrote is.written.text.lasts in
       record {
         run = run;
         whole = subst (λ rows. Appends held_old held_new (trace_text s rows)) (sym text.1) text.0;
         part = tt;
         lasts = at_ok (¬ (WearsOut s)) ended.driven.outcome drove is.driven.come.lasts;
-        lasts_report = lasts_in_report s tallied.tallies sound run (omega (arith, tallied.counted, tallied.within));
+        lasts_report = lasts_in_report s ended.written.tallies sound run (subst (λ rows. length rows ≤ 2 ^ 63) (sym text.1) few);
         worn = λ is. cc;
         write = λ is. cc;
         unfailed = let none = no_failure ended.written.outcome wrote in let all = is.written.failures in omega (arith, none, all);
@@ -160,7 +159,7 @@ module _ (s : Setup) (sound : IsSound s) (relay : ARelay) (held_old held_new : O
   ends_broken fault met = record {
     run = tt;
     whole = tt;
-    part = begins_with_these s (rows_in (taken_by ended.written.seat)) ended.written.tallied.tallies held_old held_new ended.written.outcome begun is.written.text;
+    part = begins_with_these s (rows_in (taken_by ended.written.seat)) ended.written.tallies held_old held_new ended.written.outcome begun is.written.text;
     lasts = tt;
     lasts_report = tt;
     worn = λ h. let same : fault ≡ Worn = cc in worn_ended (one_of ended.driven.outcome ended.written.outcome Worn (subst (IsErrOf (both_of ended.driven.outcome ended.written.outcome)) same met));

@@ -54,7 +54,7 @@ pub record MayWrite (writer : Writer) (failed : ℕ) : Type 0 where
   pub taker : IsTaker writer.relay.now writer.seat
   pub one : scenario_of writer.relay.now ≡ writer.scenario.now
   pub none : taken_by writer.seat ≡ []
-  pub none_tallied : writer.tallied.tallies ≡ []
+  pub none_tallied : writer.tallies ≡ []
   pub countable : failed < 2 ^ 63
 
 -- the sender of rows sends over its relay, which is for its scenario; the last batch was not sent yet, and what waits for the next
@@ -88,7 +88,7 @@ pub record IsDriven (s : Setup) (relay : Relay) (driven : Driven) : Type 0 where
 pub record IsWritten (s : Setup) (relay : Relay) (held_old held_new : Option (List ℕ)) (failed_old failed_new : ℕ) (written : Written) : Type 0 where
   pub taker : IsTaker relay written.seat
   pub last : OnOk written.outcome (has_last (taken_by written.seat) ≡ true)
-  pub text : HasWritten s (rows_in (taken_by written.seat)) held_old held_new written.tallied.tallies written.outcome
+  pub text : HasWritten s (rows_in (taken_by written.seat)) held_old held_new written.tallies written.outcome
   pub failures : failed_new ≡ failed_old + sink_failures written.outcome
 
 -- The threads of the scenario's run have ended, and so has the writer.

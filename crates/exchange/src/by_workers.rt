@@ -21,8 +21,9 @@ use base::{Fault, Memory};
 use board::{Site, posts_at, seats_of};
 use links::Links;
 use member::Event;
-use outputs::{Summary, Tallied, end_run};
+use outputs::{Summary, end_run};
 use relay::{Relay, SendSeat, TakeSeat};
+use reports::Tallies;
 use scenario::{Division, Scenario, Workers};
 use std::alloc::Global;
 use std::marker::{Brand, Sync};
@@ -83,7 +84,7 @@ fn run_into<A: Sink, G: Gate, R: Threads + Wait + Sync>(
     workers: Workers,
     gate: &G,
     trace: &mut A,
-) -> Result<Tallied, Fault>
+) -> Result<Tallies, Fault>
     requires divides { length division.now.part_of ≡ member_count scenario.now }
     requires countable { A.failed trace.old < 2 ^ 63 }
     requires known { KnowsAll G.knows workers }
@@ -119,7 +120,7 @@ fn by_pool<
     gate: &G,
     basis: Basis<'a>,
     trace: &mut A,
-) -> Result<Tallied, Fault>
+) -> Result<Tallies, Fault>
     requires ready { CanBegin Q.set basis parts.items }
     requires countable { A.failed trace.old < 2 ^ 63 }
     requires one { K.scenario ≡ Some basis.scenario.now }
@@ -128,7 +129,7 @@ fn by_pool<
     requires windows { AwaitsAll G.awaits basis.division.now.parts }
     ensures { KeepsTrace basis.entry.scenario.now (A.held trace.old) (A.held trace.new) (A.failed trace.old) (A.failed trace.new) result }
 {
-    let tallied = Tallied::new(alloc)?;
+    let tallies = Tallies::new(alloc);
     let (relay, sender, taker) = Relay::new(alloc, basis.scenario)?;
     let (board, seats): (TaskBoard<'a, Q, G, K>, Vec<TaskSeat<'a, Q>>) = open_board(
         alloc,
@@ -136,7 +137,7 @@ fn by_pool<
         basis.division.parts(),
     )?;
     let (outcome, _settled) = over_board(
-        rt, alloc, board, seats, parts, workers, gate, basis, relay, sender, taker, tallied, trace,
+        rt, alloc, board, seats, parts, workers, gate, basis, relay, sender, taker, tallies, trace,
     );
     outcome
 }
@@ -162,9 +163,9 @@ fn over_board<
     relay: Relay,
     sender: SendSeat,
     taker: TakeSeat,
-    tallied: Tallied,
+    tallies: Tallies,
     trace: &mut A,
-) -> (Result<Tallied, Fault>, Snapshot<Vec<TaskSeat<'a, Q>>>)
+) -> (Result<Tallies, Fault>, Snapshot<Vec<TaskSeat<'a, Q>>>)
     requires all { AreAllSeats board seats.items }
     requires count { length seats.items ≡ whole }
     requires ready { CanBegin Q.set basis parts.items }
@@ -174,7 +175,7 @@ fn over_board<
     requires windows { AwaitsAll G.awaits basis.division.now.parts }
     requires sends { MaySend basis.scenario.now relay sender }
     requires takes { MayTake basis.scenario.now relay taker }
-    requires none_tallied { tallied.tallies ≡ [] }
+    requires none_tallied { tallies ≡ [] }
     requires countable { A.failed trace.old < 2 ^ 63 }
     ensures trace { KeepsTrace basis.entry.scenario.now (A.held trace.old) (A.held trace.new) (A.failed trace.old) (A.failed trace.new) result.0 }
     ensures settled { OnOk result.0 (TakesAll board.entry result.1.value.items) }
@@ -183,8 +184,9 @@ fn over_board<
         relay: &relay,
         scenario: basis.scenario,
         seat: taker,
-        tallied,
+        tallies,
     };
+    // a pair is answered, so no `?`
     let (ended, seats) = match at_board::<A, Q, G, Brand, K, R>(
         rt, alloc, &board, seats, parts, workers, gate, basis, sender, writer, trace,
     ) {

@@ -8,8 +8,8 @@ ghost use Rattle.exchange.specs.Traced.{both_of, Settles, StillKeeps};
 use crate::threads::Ended;
 use base::{Fault, Memory};
 use member::Event;
-use outputs::Tallied;
 use relay::{Relay, close};
+use reports::Tallies;
 use std::alloc::Global;
 use std::snapshot::Snapshot;
 use std::sync::Wait;
@@ -17,17 +17,15 @@ use worker_queue::EventQueue;
 use workers::{Gate, OfScenario, TaskBoard, TaskSeat, close_board, first_of};
 
 /// Closes the relay, over which the rows came that were written: what came of both sides of the run.
-pub(crate) fn settled(relay: Relay, ended: Ended) -> Result<Tallied, Fault>
+pub(crate) fn settled(relay: Relay, ended: Ended) -> Result<Tallies, Fault>
     requires sender { IsSender relay ended.driven.seat }
     requires taker { IsTaker relay ended.written.seat }
     ensures { Settles relay ended result }
 {
     let Ended { driven, written } = ended;
     close(relay, driven.seat, written.seat);
-    match both_of(driven.outcome, written.outcome) {
-        Ok(()) => Ok(written.tallied),
-        Err(fault) => Err(fault),
-    }
+    both_of(driven.outcome, written.outcome)?;
+    Ok(written.tallies)
 }
 
 /// Of the faults of the two sides of a run the first in the order in which faults are answered.
@@ -55,8 +53,8 @@ pub(crate) fn closed<'a, Q: EventQueue<Event> + Drop, G: Gate, K: OfScenario>(
     alloc: Global,
     board: TaskBoard<'a, Q, G, K>,
     seats: Result<Vec<TaskSeat<'a, Q>>, Memory>,
-    so_far: Result<Tallied, Fault>,
-) -> (Result<Tallied, Fault>, Snapshot<Vec<TaskSeat<'a, Q>>>)
+    so_far: Result<Tallies, Fault>,
+) -> (Result<Tallies, Fault>, Snapshot<Vec<TaskSeat<'a, Q>>>)
     requires { IfOk seats (λ seats. AreSingleSeats board seats.items) }
     ensures keeps { StillKeeps so_far result.0 }
     ensures settled { OnOk result.0 (TakesAll board.entry result.1.value.items) }
@@ -65,12 +63,13 @@ pub(crate) fn closed<'a, Q: EventQueue<Event> + Drop, G: Gate, K: OfScenario>(
         return (Err(Fault::Memory), no_seats(alloc));
     };
     let ended = Snapshot::of(&seats);
-    let tallied = match so_far {
-        Ok(tallied) => tallied,
+    // a pair is answered, so no `?`
+    let tallies = match so_far {
+        Ok(tallies) => tallies,
         Err(fault) => return (Err(fault), ended),
     };
     match close_board(rt, board, seats) {
-        Ok(()) => (Ok(tallied), ended),
+        Ok(()) => (Ok(tallies), ended),
         Err(_) => (Err(Fault::Relay), ended),
     }
 }

@@ -2,8 +2,8 @@
 ghost use Rattle.exchange.specs.Sending.{MayWrite, IsWritten};
 
 use base::Fault;
-use outputs::Tallied;
 use relay::{Relay, TakeSeat};
+use reports::Tallies;
 use scenario::Scenario;
 use std::alloc::Global;
 use std::sync::Wait;
@@ -17,14 +17,14 @@ pub(crate) struct Writer<'r> {
     pub(crate) scenario: &'r Scenario,
     /// From which the rows come.
     pub(crate) seat: TakeSeat,
-    pub(crate) tallied: Tallied,
+    pub(crate) tallies: Tallies,
 }
 
 /// What the writer leaves.
 #[derive(Drop)]
 pub(crate) struct Written {
     pub(crate) seat: TakeSeat,
-    pub(crate) tallied: Tallied,
+    pub(crate) tallies: Tallies,
     /// Whether all that came was written.
     pub(crate) outcome: Result<(), Fault>,
 }
@@ -43,12 +43,12 @@ pub(crate) fn write_all<A: Sink>(
         relay,
         scenario,
         mut seat,
-        mut tallied,
+        mut tallies,
     } = writer;
-    let outcome = write_stream(rt, alloc, relay, &mut seat, scenario, &mut tallied, trace);
+    let outcome = write_stream(rt, alloc, relay, &mut seat, scenario, &mut tallies, trace);
     Written {
         seat,
-        tallied,
+        tallies,
         outcome,
     }
 }

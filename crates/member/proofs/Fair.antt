@@ -1,5 +1,5 @@
 -- The events and the rows of a step, part by part.
-use Rattle.std.proofs.Common.{◌≡◌, ◌≢◌, ℕ, zero, suc, ◌+◌, ◌-◌, ◌*◌, ◌%◌, ◌^◌, ◌<◌, ◌≤◌, Bool, true, false, cond, not, nat_eq, nat_lt, nat_le, ◌&&◌, List, [], ◌∷◌, ◌++◌, map, length, Option, Some, None, ap, ◌∙◌, sym, subst, refl, arith}
+use Rattle.std.proofs.Common.{◌≡◌, ◌≢◌, ℕ, zero, suc, ◌+◌, ◌-◌, ◌*◌, ◌%◌, ◌^◌, ◌<◌, ◌≤◌, Bool, true, false, cond, not, nat_eq, nat_lt, ◌&&◌, List, [], ◌∷◌, ◌++◌, map, length, Option, Some, None, ap, ◌∙◌, sym, subst, refl, arith}
 use Rattle.std.specs.Option.{option_map, IfSome}
 use Rattle.std.specs.List.{AllByRecursion, range_with_len}
 use Rattle.std.specs.FinMap.{get}
@@ -12,7 +12,7 @@ use Rattle.base.specs.declared.key.Key.{Key}
 use Rattle.base.specs.Run.{MakesLater}
 use Rattle.base.specs.Rising.{CountsRows, UsesNumbers}
 use Rattle.base.proofs.Rising.{all_append, all_weaker, rising_append}
-use Rattle.base.specs.Beats.{IsNextInStep, next_in_step}
+use Rattle.base.specs.Beats.{next_in_step}
 use Rattle.base.specs.declared.profile.Profile.{Profile}
 use Rattle.base.specs.declared.profile.Profile.TheVariants.{Papers, Memberlist}
 use Rattle.scenario.specs.Setup.{Setup, IsSound, IsSoundGossip, link_between, contact_of, extra_of, start_of, is_cut, awake}
@@ -36,7 +36,7 @@ use Rattle.suspicion.specs.Suspicions.{HeldSuspicion, accused_of, answer_of as a
 use Rattle.probing.specs.ProbeOrder.{next_of}
 use Rattle.suspicion.proofs.Timeouts.{min-le-timeout}
 use Rattle.member.specs.declared.member.Phase.{Phase}
-use Rattle.member.specs.declared.member.Phase.TheVariants.{Waiting, Joining, Running, Down}
+use Rattle.member.specs.declared.member.Phase.TheVariants.{Waiting, Joining, Running}
 use Rattle.member.specs.declared.content.Content.{Content}
 use Rattle.member.specs.declared.content.Content.TheVariants.{Start, Crash, Leave, JoinTimer, PeriodTimer, TimeoutTimer, NackTimer, SuspicionTimer, Join, Welcome, Ping, PingReq, Ack, Nack, Bye, DeadlineTimer, GossipTimer, PushTimer, Call, Answer, Gossip, Push, Pull}
 use Rattle.member.specs.State.{State, is_probed}
@@ -44,7 +44,7 @@ use Rattle.incarnation.specs.Refutations.{does_refute}
 use Rattle.membership.specs.Table.{is_confirm, does_override, live_count}
 use Rattle.member.specs.Turn.{Effect, on_state, unchanged, with_row, with_number, with_event, with_timer}
 use Rattle.member.specs.Send.{posted, sent, sent_off, sent_to_each, carried, gossip_sent, call_sent, answer_sent, push_sent, pull_sent, ping_sent, ping_req_sent, ack_sent, nack_sent, join_sent, join_sent_to, welcome_sent, bye_sent}
-use Rattle.member.specs.Apply.{gossip_set, with_put, passed_on, with_health, refuted, heard_dead, is_own_death, own_applied, with_told, with_place, with_turn, with_claim, claim_kept, without_suspicion, alive_heard, suspect_heard, death_kept, confirm_heard, claim_heard, news_heard, accusation_counted, accusation_heard, is_repeated, is_heeded, other_applied, applied, all_applied}
+use Rattle.member.specs.Apply.{gossip_set, with_put, passed_on, with_health, refuted, heard_dead, is_own_death, own_applied, with_told, claim_kept, without_suspicion, alive_heard, suspect_heard, death_kept, confirm_heard, claim_heard, news_heard, accusation_counted, accusation_heard, is_repeated, is_heeded, other_applied, applied, all_applied}
 use Rattle.member.specs.Step.{push_begun, first_push_set, push_period, doublings_to, pushed, first_period_set, suspected_at, timed_probe_failed, probe_settled, timed_probe_begun, timed_target_probed, next_timed_probed, waiting_probed, has_time, period_beaten, is_under_way, probed_in_turn, deadline_over, timed_answered, timed_ack_heard, sampled_help, called, timed_out_timed, answer_heard, is_told_out, gossip_spread, gossip_set_again, gossip_due, merged, push_due, push_heard, timed_handled, handled_by, began, join_asked, joining_begun, started, crashed, join_handled, joined, suspected, probe_failed, probe_ended, probe_begun, target_probed, next_probed, period_begun, help_asked, timed_out, nack_heard, ping_heard, ping_req_heard, ack_taken, ack_heard, nack_due, confirmed, suspicion_over, withdrawn, byes_said, departed, plain_handled, handled, step}
 use Rattle.member.specs.Places.{place_of}
 use Rattle.member.specs.Fair.{IsWellMade}

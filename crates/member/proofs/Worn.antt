@@ -1,7 +1,7 @@
 -- What a counter at its limit makes of the definitions, whose numbers have none.
-use Rattle.std.proofs.Common.{◌≡◌, ℕ, ◌+◌, ◌<◌, ◌≤◌, ◌^◌, Bool, true, false, cond, nat_eq, nat_le, List, [], ◌∷◌, length, Option, Some, None, Result, Ok, Err, IsErrAnd, inl, inr, sym, ap, ◌∙◌, subst, arith}
+use Rattle.std.proofs.Common.{◌≡◌, ℕ, ◌+◌, ◌≤◌, ◌^◌, Bool, true, false, cond, nat_eq, List, [], ◌∷◌, length, Option, Some, None, Result, Ok, Err, IsErrAnd, inl, inr, sym, ap, ◌∙◌, subst, arith}
 use Rattle.std.specs.Result.{IsErrOf}
-use Rattle.std.specs.Option.{is_none, option_map_or}
+use Rattle.std.specs.Option.{option_map_or}
 use Rattle.std.specs.FinMap.{get}
 use Rattle.std.proofs.lemmas.Bool.{false≢true, eqb-true, leb-true}
 use Rattle.base.specs.declared.key.Key.{Key}
@@ -21,7 +21,7 @@ use Rattle.member.specs.declared.turn.StepError.TheVariants.{Worn}
 use Rattle.member.specs.Makes.{Makes}
 use Rattle.member.specs.State.{State, is_probed}
 use Rattle.member.specs.Turn.{Effect, on_state, with_row, with_number, with_event, with_timer}
-use Rattle.member.specs.Send.{posted, told_of, sent, sent_off, sent_to_each, ping_sent, ping_req_sent, ack_sent, join_sent, join_sent_to, welcome_sent, bye_sent, carried, gossip_sent, call_sent, answer_sent, push_sent, pull_sent}
+use Rattle.member.specs.Send.{posted, sent, sent_off, sent_to_each, ping_sent, ping_req_sent, ack_sent, join_sent, join_sent_to, welcome_sent, bye_sent, carried, gossip_sent, call_sent, push_sent}
 use Rattle.incarnation.specs.declared.Claim.{Claim}
 use Rattle.incarnation.specs.declared.Claim.TheVariants.{Alive, Suspect, Confirm}
 use Rattle.incarnation.specs.declared.Update.{Update}
@@ -29,10 +29,10 @@ use Rattle.incarnation.specs.Refutations.{does_refute}
 use Rattle.lifeguard.specs.Health.{LocalHealth, scaled}
 use Rattle.suspicion.specs.declared.suspicions.Accused.{Accused}
 use Rattle.membership.specs.Table.{is_confirm, does_override}
-use Rattle.member.specs.Apply.{gossip_set, with_put, passed_on, with_health, refuted, heard_dead, is_own_death, own_applied, with_told, with_place, with_turn, with_claim, claim_kept, without_suspicion, alive_heard, suspect_heard, death_kept, confirm_heard, claim_heard, news_heard, accusation_counted, accusation_heard, is_repeated, is_heeded, other_applied, applied, all_applied}
+use Rattle.member.specs.Apply.{gossip_set, with_put, passed_on, with_health, refuted, heard_dead, is_own_death, own_applied, with_told, claim_kept, without_suspicion, alive_heard, suspect_heard, death_kept, confirm_heard, claim_heard, news_heard, accusation_counted, accusation_heard, is_repeated, is_heeded, other_applied, applied, all_applied}
 use Rattle.lifeguard.specs.declared.probe.Probe.{Probe}
 use Rattle.lifeguard.specs.Probe.{fresh_probe, timed_probe}
-use Rattle.member.specs.Step.{suspected, probe_failed, probe_ended, probe_begun, target_probed, next_probed, with_relay, ack_taken, push_begun, first_push_set, first_period_set, suspected_at, timed_probe_failed, probe_settled, probe_timers_set, timed_probe_begun, timed_target_probed, next_timed_probed, waiting_probed, has_time, probed_in_turn, timed_answered, timed_ack_taken, called, gossip_set_again, merged_claim, merged}
+use Rattle.member.specs.Step.{suspected, probe_failed, probe_ended, probe_begun, target_probed, next_probed, with_relay, ack_taken, push_begun, first_push_set, first_period_set, suspected_at, timed_probe_failed, probe_settled, probe_timers_set, timed_probe_begun, timed_target_probed, next_timed_probed, waiting_probed, has_time, probed_in_turn, timed_answered, timed_ack_taken, called, gossip_set_again, merged}
 use Rattle.member.specs.StateOf.{state_of, effect_of}
 use Rattle.member.specs.Worn.{IsWorn}
 

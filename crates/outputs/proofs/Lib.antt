@@ -1,3 +1,4 @@
+pub mod Failing
 pub mod Faults
 pub mod Runs
 pub mod Streaming

@@ -4,17 +4,17 @@ use Rattle.std.specs.Io.KnownBytes.{Appends}
 use Rattle.base.specs.declared.fault.Fault.{Fault}
 use Rattle.base.specs.declared.fault.Fault.TheVariants as fault
 use Rattle.scenario.specs.Setup.{Setup}
+use Rattle.trace.specs.declared.row.Row.{Row}
 use Rattle.trace.specs.Text.{trace_text}
 use Rattle.member_laws.specs.Runs.{IsRunOf, WearsOut}
 use Rattle.outputs.specs.Promise.{BeginsTrace, WearsOutReport}
-use Rattle.outputs.specs.declared.tallied.Tallied.{Tallied}
 
 -- What every way to run the scenario keeps of the trace's sink, which isn't flushed yet: what it holds, and how many of its failures
 -- were counted.
-pub record KeepsTrace (s : Setup) (held_old held_new : Option (List ℕ)) (failed_old failed_new : ℕ) (result : Result Tallied Fault) : Type 0 where
+pub record KeepsTrace (s : Setup) (held_old held_new : Option (List ℕ)) (failed_old failed_new : ℕ) (result : Result (List Row) Fault) : Type 0 where
   -- the trace of the scenario's run was written and tallied; after a fault a beginning of that
-  pub run : IfOk result (λ tallied. IsRunOf s tallied.tallies)
-  pub whole : IfOk result (λ tallied. Appends held_old held_new (trace_text s tallied.tallies))
+  pub run : IfOk result (IsRunOf s)
+  pub whole : IfOk result (λ rows. Appends held_old held_new (trace_text s rows))
   pub part : OnErr result (BeginsTrace s held_old held_new)
   -- no counter of a run that succeeds passes 2^63, nor does one of its report, and no fault comes without its cause
   pub lasts : OnOk result (¬ (WearsOut s))

@@ -1,5 +1,5 @@
 -- What was written of a trace as its rows came.
-use Rattle.std.specs.Prelude.{◌≡◌, ℕ, ◌<◌, ◌^◌, List, length, Option, Result, Ok, Err, OnOk, OnErr, IsErrOf}
+use Rattle.std.specs.Prelude.{◌≡◌, ℕ, ◌<◌, ◌≤◌, ◌^◌, List, length, Option, Result, Ok, Err, OnOk, OnErr, IsErrOf}
 use Rattle.std.specs.Io.KnownBytes.{Appends}
 use Rattle.base.specs.declared.fault.Fault.{Fault}
 use Rattle.base.specs.declared.fault.Fault.TheVariants as fault
@@ -21,4 +21,5 @@ sink_failures (Err fault.Relay) = 0
 pub record HasWritten {T : Type 0} (s : Setup) (rows : List Row) (held_old held_new : Option (List ℕ)) (tallied : List Row) (outcome : Result T Fault) : Type 0 where
   pub whole : OnOk outcome (Appends held_old held_new (trace_text s rows) × (tallied ≡ rows))
   pub part : OnErr outcome (AppendsBeginning held_old held_new (trace_text s rows))
+  pub lasts : OnOk outcome (length rows ≤ 2 ^ 63)
   pub worn : IsErrOf outcome fault.Worn → 2 ^ 63 < length rows

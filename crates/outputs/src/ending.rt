@@ -5,9 +5,9 @@ ghost use Rattle.outputs.specs.Promise.{KeepsPromise};
 ghost use Rattle.outputs.specs.Traced.{KeepsTrace};
 
 use crate::summary::Summary;
-use crate::tallied::Tallied;
-use crate::writing::{fault_of, flush, write_tallied};
+use crate::writing::{flush, write_tallied};
 use base::Fault;
+use reports::Tallies;
 use scenario::Scenario;
 use std::alloc::Global;
 use trace::Sink;
@@ -16,12 +16,12 @@ use trace::Sink;
 /// tallied rows, and flushes its sink. After a fault of the run nothing more is written.
 pub fn end_run<A: Sink, B: Sink>(
     alloc: Global,
-    outcome: Result<Tallied, Fault>,
+    outcome: Result<Tallies, Fault>,
     scenario: &Scenario,
     trace: &mut A,
     report: &mut B,
 ) -> Result<Summary, Fault>
-    requires named { IfOk outcome (λ tallied. All (NamesMembers scenario.now) tallied.tallies) }
+    requires named { IfOk outcome (λ tallies. All (NamesMembers scenario.now) tallies) }
     requires countable { OnOk outcome (A.failed trace.old < 2 ^ 63) }
     requires countable_report { B.failed report.old < 2 ^ 63 }
 
@@ -35,18 +35,10 @@ pub fn end_run<A: Sink, B: Sink>(
     ensures relay { IsErrOf result Fault.Relay → IsErrOf outcome Fault.Relay }
     ensures others { IfErr result (λ fault. fault ≢ Fault.Write → A.failed trace.new ≡ A.failed trace.old) }
 {
-    let tallied = match outcome {
-        Ok(tallied) => tallied,
-        Err(fault) => return Err(fault),
-    };
-    match flush(trace) {
-        Ok(()) => {}
-        Err(error) => return Err(fault_of(error)),
-    }
-    match write_tallied(alloc, &tallied, scenario, report) {
-        Ok(()) => Ok(Summary {
-            rows: tallied.count,
-        }),
-        Err(error) => Err(fault_of(error)),
-    }
+    let tallies = outcome?;
+    flush(trace)?;
+    write_tallied(alloc, &tallies, scenario, report)?;
+    Ok(Summary {
+        rows: tallies.rows(),
+    })
 }

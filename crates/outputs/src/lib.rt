@@ -4,11 +4,9 @@
 mod ending;
 mod summary;
 mod taking;
-mod tallied;
 mod writing;
 
 pub use ending::end_run;
 pub use summary::Summary;
 pub use taking::{TakeRows, TalliedAlone, Written};
-pub use tallied::Tallied;
-pub use writing::{begin_trace, fault_of, flush, write_run, write_tallied};
+pub use writing::{begin_trace, flush, write_run, write_tallied};

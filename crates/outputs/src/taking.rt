@@ -5,9 +5,8 @@ ghost use Rattle.trace.specs.Text.{NamesMembers, rows_text};
 ghost use Rattle.trace.specs.Sinks.{AppendsBeginning};
 ghost use Rattle.outputs.specs.Written.{sink_failures};
 
-use crate::tallied::Tallied;
-use crate::writing::fault_of;
 use base::Fault;
+use reports::Tallies;
 use scenario::Scenario;
 use std::alloc::Global;
 use trace::{Row, Sink, write_rows};
@@ -27,16 +26,16 @@ pub trait TakeRows<P> {
         alloc: Global,
         rows: &[Row],
         scenario: &Scenario,
-        tallied: &mut Tallied,
+        tallies: &mut Tallies,
         place: &mut P,
     ) -> Result<(), Fault>
         requires named { All (NamesMembers scenario.now) rows.now }
         requires countable { failed place.old < 2 ^ 63 }
         ensures whole { OnOk result (Appends (held place.old) (held place.new) (rows_text scenario.now rows.now)) }
-        ensures tallied { OnOk result (tallied.new.tallies ≡ tallied.old.tallies ++ rows.now) }
+        ensures tallied { OnOk result (tallies.new ≡ tallies.old ++ rows.now) }
         ensures part { OnErr result (AppendsBeginning (held place.old) (held place.new) (rows_text scenario.now rows.now)) }
-        ensures lasts { OnOk result (length tallied.new.tallies ≤ 2 ^ 63) }
-        ensures worn { IsErrOf result Fault.Worn → 2 ^ 63 < length (tallied.old.tallies ++ rows.now) }
+        ensures lasts { OnOk result (length tallies.new ≤ 2 ^ 63) }
+        ensures worn { IsErrOf result Fault.Worn → 2 ^ 63 < length (tallies.old ++ rows.now) }
         ensures failures { failed place.new ≡ failed place.old + sink_failures result }
         ensures relay { IfErr result (λ fault. fault ≢ Fault.Relay) };
 }
@@ -53,14 +52,11 @@ impl<A: Sink> TakeRows<A> for Written {
         alloc: Global,
         rows: &[Row],
         scenario: &Scenario,
-        tallied: &mut Tallied,
+        tallies: &mut Tallies,
         place: &mut A,
     ) -> Result<(), Fault> {
-        tallied.add_all(rows, scenario)?;
-        match write_rows(alloc, rows, scenario, place) {
-            Ok(()) => Ok(()),
-            Err(error) => Err(fault_of(error)),
-        }
+        tallies.add_all(rows)?;
+        Ok(write_rows(alloc, rows, scenario, place)?)
     }
 }
 
@@ -75,10 +71,10 @@ impl TakeRows<()> for TalliedAlone {
     fn take(
         _alloc: Global,
         rows: &[Row],
-        scenario: &Scenario,
-        tallied: &mut Tallied,
+        _scenario: &Scenario,
+        tallies: &mut Tallies,
         _place: &mut (),
     ) -> Result<(), Fault> {
-        tallied.add_all(rows, scenario)
+        tallies.add_all(rows)
     }
 }

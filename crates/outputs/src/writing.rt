@@ -10,12 +10,11 @@ ghost use Rattle.outputs.specs.Promise.{KeepsPromise};
 ghost use Rattle.outputs.specs.Written.{sink_failures, HasWritten};
 
 use crate::summary::Summary;
-use crate::tallied::Tallied;
-use base::{Fault, Memory};
-use reports::{report, report_on};
+use base::Fault;
+use reports::{Tallies, report, report_on};
 use scenario::Scenario;
 use std::alloc::Global;
-use trace::{Row, Sink, Stopped, WriteError, put_all, write_head, write_rows};
+use trace::{Row, Sink, WriteError, put_all, write_head, write_rows};
 
 /// Writes what came of a run: its trace, and then its report, as `run_one` says.
 pub fn write_run<A: Sink, B: Sink>(
@@ -42,20 +41,12 @@ pub fn write_run<A: Sink, B: Sink>(
     ensures others { IfErr result (λ fault. fault ≢ Fault.Write → A.failed trace.new ≡ A.failed trace.old) }
     ensures relay { IfErr result (λ fault. fault ≢ Fault.Relay) }
 {
-    let rows = match outcome {
-        Ok(rows) => rows,
-        Err(fault) => return Err(fault),
-    };
-    match write_trace(alloc, &rows, scenario, trace) {
-        Ok(()) => {}
-        Err(error) => return Err(fault_of(error)),
-    }
-    match write_report(alloc, &rows, scenario, report) {
-        Ok(()) => Ok(Summary {
-            rows: rows.len() as u64,
-        }),
-        Err(error) => Err(fault_of(error)),
-    }
+    let rows = outcome?;
+    write_trace(alloc, &rows, scenario, trace)?;
+    write_report(alloc, &rows, scenario, report)?;
+    Ok(Summary {
+        rows: rows.len() as u64,
+    })
 }
 
 /// Writes the header of the trace. Faults: `Memory`; `Write` where the sink failed.
@@ -65,21 +56,7 @@ pub fn begin_trace<A: Sink>(trace: &mut A) -> Result<(), Fault>
     ensures failures { A.failed trace.new ≡ A.failed trace.old + sink_failures result }
     ensures relay { IfErr result (λ fault. fault ≢ Fault.Relay) }
 {
-    match write_head(trace) {
-        Ok(()) => Ok(()),
-        Err(error) => Err(fault_of(error)),
-    }
-}
-
-/// The fault of a run whose text was not written whole.
-pub fn fault_of(error: WriteError) -> Fault
-    ensures memory { error ≡ WriteError.Memory → result ≡ Fault.Memory }
-    ensures stopped { error ≡ WriteError.Stopped → result ≡ Fault.Write }
-{
-    match error {
-        WriteError::Memory => Fault::Memory,
-        WriteError::Stopped => Fault::Write,
-    }
+    Ok(write_head(trace)?)
 }
 
 /// Writes the whole trace, and flushes the sink.
@@ -113,30 +90,24 @@ fn write_report<B: Sink>(
     ensures part { OnErr result (AppendsBeginning (B.held report.old) (B.held report.new) (report_text scenario.now rows.now)) }
     ensures failures { B.failed report.new ≡ B.failed report.old + failures_of_write result }
 {
-    let text = match report_on(alloc, rows, scenario) {
-        Ok(text) => text,
-        Err(Memory) => return Err(WriteError::Memory),
-    };
+    let text = report_on(alloc, rows, scenario)?;
     put_whole(text.as_slice(), report)
 }
 
 /// Writes the whole report on the rows that were tallied, and flushes the sink.
 pub fn write_tallied<B: Sink>(
     alloc: Global,
-    tallied: &Tallied,
+    tallies: &Tallies,
     scenario: &Scenario,
     sink: &mut B,
 ) -> Result<(), WriteError>
-    requires named { All (NamesMembers scenario.now) tallied.now.tallies }
+    requires named { All (NamesMembers scenario.now) tallies.now }
     requires countable { B.failed sink.old < 2 ^ 63 }
-    ensures whole { OnOk result (Appends (B.held sink.old) (B.held sink.new) (report_text scenario.now tallied.now.tallies)) }
-    ensures part { OnErr result (AppendsBeginning (B.held sink.old) (B.held sink.new) (report_text scenario.now tallied.now.tallies)) }
+    ensures whole { OnOk result (Appends (B.held sink.old) (B.held sink.new) (report_text scenario.now tallies.now)) }
+    ensures part { OnErr result (AppendsBeginning (B.held sink.old) (B.held sink.new) (report_text scenario.now tallies.now)) }
     ensures failures { B.failed sink.new ≡ B.failed sink.old + failures_of_write result }
 {
-    let text = match report(alloc, &tallied.tallies, scenario) {
-        Ok(text) => text,
-        Err(Memory) => return Err(WriteError::Memory),
-    };
+    let text = report(alloc, tallies, scenario)?;
     put_whole(text.as_slice(), sink)
 }
 
@@ -147,10 +118,7 @@ fn put_whole<S: Sink>(text: &[u8], sink: &mut S) -> Result<(), WriteError>
     ensures part { OnErr result (AppendsBeginning (S.held sink.old) (S.held sink.new) text.now) }
     ensures failures { S.failed sink.new ≡ S.failed sink.old + failures_of_write result }
 {
-    match put_all(text, sink) {
-        Ok(()) => {}
-        Err(Stopped) => return Err(WriteError::Stopped),
-    }
+    put_all(text, sink)?;
     flush(sink)
 }
 
@@ -160,8 +128,5 @@ pub fn flush<S: Sink>(sink: &mut S) -> Result<(), WriteError>
     ensures same { Keeps (S.held sink.old) (S.held sink.new) }
     ensures failures { S.failed sink.new ≡ S.failed sink.old + failures_of_write result }
 {
-    match sink.flush() {
-        Ok(()) => Ok(()),
-        Err(Stopped) => Err(WriteError::Stopped),
-    }
+    Ok(sink.flush()?)
 }

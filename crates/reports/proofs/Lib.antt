@@ -1,3 +1,4 @@
+pub mod Faults
 pub mod Counting
 pub mod Detections
 pub mod Places

@@ -1,6 +1,7 @@
 -- Rows in their places.
-use Rattle.std.proofs.Common.{◌<◌, List, [], ◌∷◌, ◌++◌}
+use Rattle.std.proofs.Common.{ℕ, zero, suc, ◌≤◌, ◌<◌, List, [], ◌∷◌, ◌++◌, length, take, arith}
 use Rattle.std.specs.Prelude.{All, filter}
+use Rattle.std.proofs.lemmas.List.{length-append}
 use Rattle.std.proofs.lemmas.List.Elements.{All-nil, All-cons, All-head, All-tail, All-map, All-filter, All-weaker}
 use Rattle.scenario.specs.Setup.{Setup, member_count}
 use Rattle.trace.specs.declared.row.What.{What}
@@ -22,3 +23,16 @@ departed_are_members s way rows named =
     All-map (λ departure. departure.member < member_count s) departure_told (filter (is_departure way) (rows_in_place rows))
     (All-filter (is_departure way) (λ p. p.row.member < member_count s) (rows_in_place rows)
     (All-placed_after (λ row. row.member < member_count s) [] rows (All-weaker (NamesMembers s) (λ row. row.member < member_count s) (λ row names. names.member) rows named)))
+
+-- where as many are there before one of the items, there are more in all
+pub fewer : {A : Type 0} (xs ys : List A) (k n : ℕ) → k < length ys → n ≤ length (xs ++ take k ys) → n < length (xs ++ ys)
+fewer xs ys k n here many =
+    let some = length-append xs (take k ys) in
+    let all = length-append xs ys in
+    let low = shorter k ys here in
+    omega (arith, some, all, low, many)
+  where
+    shorter : {A : Type 0} (k : ℕ) (ys : List A) → k < length ys → length (take k ys) < length ys
+    shorter k [] here = absurd (omega (arith, here))
+    shorter zero (y ∷ ys) here = omega arith
+    shorter (suc k) (y ∷ ys) here = let low = shorter k ys (omega (arith, here)) in omega (arith, low)

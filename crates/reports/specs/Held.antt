@@ -15,11 +15,11 @@ is_marked marks place = slice_index_or marks.marks.items place false
 
 -- the pairs that are marked
 abbrev pub are_marked : Pairs → ℕ → ℕ → Bool
-are_marked pairs first second = option_map_or (λ marks. is_marked marks second) (slice_get pairs.columns.items first) false
+are_marked pairs first second = option_map_or (λ marks. is_marked marks first) (slice_get pairs.columns.items second) false
 
 -- there is a place for a pair
 abbrev pub HasPlace : Pairs → ℕ → ℕ → Type 0
-HasPlace pairs first second = IsSomeAnd (slice_get pairs.columns.items first) (λ marks. second < length marks.marks.items)
+HasPlace pairs first second = IsSomeAnd (slice_get pairs.columns.items second) (λ marks. first < length marks.marks.items)
 
 -- the same pairs are marked, but this one, which is or isn't
 abbrev pub marked_with : ℕ → ℕ → Bool → (ℕ → ℕ → Bool) → ℕ → ℕ → Bool

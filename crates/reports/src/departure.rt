@@ -6,8 +6,7 @@ ghost use Rattle.reports.specs.Departures.{latency_of};
 ghost use Rattle.reports.specs.Failures.{detection_with, departure_with, departure_at, is_about_departed};
 
 use crate::rows::is_about;
-use base::{MemberId, Moment};
-use std::alloc::AllocError;
+use base::{MemberId, Memory, Moment};
 use trace::{Row, What};
 
 /// What the rows after a member's departure tell of it.
@@ -89,7 +88,7 @@ impl Departure {
 }
 
 /// Adds the departure that a row tells of. Only later rows tell how it was detected.
-pub(crate) fn add_departure(departures: &mut Vec<Departure>, row: &Row) -> Result<(), AllocError>
+pub(crate) fn add_departure(departures: &mut Vec<Departure>, row: &Row) -> Result<(), Memory>
     ensures ok { OnOk result (departures.new.items ≡ departures.old.items ++ departure_at row.now ∷ []) }
     ensures err { OnErr result (departures.new.items ≡ departures.old.items) }
 {

@@ -5,7 +5,8 @@ ghost use Rattle.reports.specs.Failures.{departure_with, false_positive_told, is
 
 use crate::departure::{Departure, add_departure, is_about_departed, see_each};
 use crate::false_positives::FalsePositive;
-use std::alloc::{AllocError, Global};
+use base::Memory;
+use std::alloc::Global;
 use trace::{Row, What};
 
 /// What the rows so far tell of departures, and of claims that a member failed.
@@ -35,7 +36,7 @@ impl Failures {
     }
 
     /// Takes in what the next row tells. A refusal changes nothing.
-    pub(crate) fn follow(&mut self, row: &Row) -> Result<(), AllocError>
+    pub(crate) fn follow(&mut self, row: &Row) -> Result<(), Memory>
         requires { (rows : List AnyRow) × AreFailuresOf self.old rows × (length rows < 2 ^ 63) }
         ensures ok { OnOk result ((rows : List AnyRow) → AreFailuresOf self.old rows → AreFailuresOf self.new (rows ++ row.now ∷ [])) }
         ensures err { OnErr result ((rows : List AnyRow) → AreFailuresOf self.old rows → AreFailuresOf self.new rows) }
@@ -66,7 +67,7 @@ fn add_claim(
     crashes: &mut Vec<Departure>,
     leaves: &mut Vec<Departure>,
     row: &Row,
-) -> Result<(), AllocError>
+) -> Result<(), Memory>
     requires crashes { All (λ departure. departure.detection.confirmers < 2 ^ 63) crashes.old.items }
     requires leaves { All (λ departure. departure.detection.confirmers < 2 ^ 63) leaves.old.items }
     ensures crashes { OnOk result (crashes.new.items ≡ map (departure_with row.now) crashes.old.items) }

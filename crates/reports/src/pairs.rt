@@ -2,8 +2,8 @@
 ghost use Rattle.std.specs.Prelude.{◌≡◌, ◌<◌, ℕ, Bool, true, false, OnOk, ◌==◌, vec_len, if◌then◌else◌};
 ghost use Rattle.reports.specs.Held.{is_marked, are_marked, marked_with, HasPlace};
 
-use base::MemberId;
-use std::alloc::{AllocError, Global};
+use base::{MemberId, Memory};
+use std::alloc::Global;
 
 /// Places that are marked. Those past the end aren't.
 #[derive(Drop)]
@@ -32,7 +32,7 @@ impl Marks {
     }
 
     /// Has room for a mark at a place. The marks stay, also where it is refused.
-    fn reach(&mut self, place: usize) -> Result<(), AllocError>
+    fn reach(&mut self, place: usize) -> Result<(), Memory>
         ensures room { OnOk result (place < vec_len self.new.marks) }
         ensures same { (k : ℕ) → is_marked self.new k ≡ is_marked self.old k }
     {
@@ -53,12 +53,12 @@ impl Marks {
     }
 }
 
-/// Pairs of members that are marked. It takes a byte for each pair, up to the last second of its
-/// first that ever was.
+/// Pairs of members that are marked. For each second member that ever was in a marked pair it takes
+/// a byte for each member up to the last first one.
 #[derive(Drop)]
 pub(crate) struct Pairs {
     alloc: Global,
-    /// The second members that are marked, by the first.
+    /// The first members that are marked, by the second.
     columns: Vec<Marks>,
 }
 
@@ -77,24 +77,24 @@ impl Pairs {
     pub(crate) fn has(&self, first: MemberId, second: MemberId) -> bool
         ensures { result ≡ are_marked self.now first second }
     {
-        match self.columns.get(first.index()) {
-            Some(marks) => marks.has(second.index()),
+        match self.columns.get(second.index()) {
+            Some(marks) => marks.has(first.index()),
             None => false,
         }
     }
 
     /// Has room for the mark of a pair. The marks stay, also where it is refused.
-    pub(crate) fn reach(&mut self, first: MemberId, second: MemberId) -> Result<(), AllocError>
+    pub(crate) fn reach(&mut self, first: MemberId, second: MemberId) -> Result<(), Memory>
         ensures room { OnOk result (HasPlace self.new first second) }
         ensures same { (a b : ℕ) → are_marked self.new a b ≡ are_marked self.old a b }
     {
-        let place = first.index();
+        let place = second.index();
         self.reach_column(place)?;
-        self.columns[place].reach(second.index())
+        self.columns[place].reach(first.index())
     }
 
-    /// Has a column for a first member.
-    fn reach_column(&mut self, place: usize) -> Result<(), AllocError>
+    /// Has a column for a second member.
+    fn reach_column(&mut self, place: usize) -> Result<(), Memory>
         ensures room { OnOk result (place < vec_len self.new.columns) }
         ensures same { (a b : ℕ) → are_marked self.new a b ≡ are_marked self.old a b }
     {
@@ -109,9 +109,9 @@ impl Pairs {
         requires { mark ≡ true → HasPlace self.old first second }
         ensures { (a b : ℕ) → are_marked self.new a b ≡ marked_with first second mark (are_marked self.old) a b }
     {
-        let place = first.index();
+        let place = second.index();
         if place < self.columns.len() {
-            self.columns[place].set(second.index(), mark);
+            self.columns[place].set(first.index(), mark);
         }
     }
 }

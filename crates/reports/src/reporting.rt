@@ -57,10 +57,8 @@ pub fn report(alloc: Global, tallies: &Tallies, scenario: &Scenario) -> Result<V
     requires { All (NamesMembers scenario.now) tallies.now }
     ensures { IfOk result (λ text. text.items ≡ report_text scenario.now tallies.now) }
 {
-    match text_of(alloc, tallies, scenario) {
-        Ok(text) => Ok(text.into_bytes()),
-        Err(_) => Err(Memory),
-    }
+    let text = text_of(alloc, tallies, scenario)?;
+    Ok(text.into_bytes())
 }
 
 /// The text of the report on a run that has these rows. They must name members of the scenario's
@@ -69,28 +67,19 @@ pub fn report_on(alloc: Global, rows: &[Row], scenario: &Scenario) -> Result<Vec
     requires { All (NamesMembers scenario.now) rows.now }
     ensures { IfOk result (λ text. text.items ≡ report_text scenario.now rows.now) }
 {
-    match tallies_of(alloc, rows, scenario) {
-        Ok(tallies) => report(alloc, &tallies, scenario),
-        Err(Memory) => Err(Memory),
-    }
+    let tallies = tallies_of(alloc, rows)?;
+    report(alloc, &tallies, scenario)
 }
 
 /// The tallies of these rows. There is no memory for more rows than can be counted.
-fn tallies_of(alloc: Global, rows: &[Row], scenario: &Scenario) -> Result<Tallies, Memory>
-    requires { All (NamesMembers scenario.now) rows.now }
+fn tallies_of(alloc: Global, rows: &[Row]) -> Result<Tallies, Memory>
     ensures { IfOk result (λ tallies. tallies ≡ rows.now) }
 {
-    let mut tallies = match Tallies::new(alloc) {
-        Ok(tallies) => tallies,
-        Err(Memory) => return Err(Memory),
-    };
-    for row in rows {
-        match tallies.add(row, scenario) {
-            Ok(()) => {}
-            Err(_) => return Err(Memory),
-        }
+    let mut tallies = Tallies::new(alloc);
+    match tallies.add_all(rows) {
+        Ok(()) => Ok(tallies),
+        Err(_) => Err(Memory),
     }
-    Ok(tallies)
 }
 
 #[tactic(auto, unfolding(crate::specs::Text::report_text))]

@@ -8,7 +8,8 @@ ghost use Rattle.reports.specs.Held.{are_marked, HasPlace, failed_of, failed_wit
 
 use crate::pairs::Pairs;
 use crate::rows::has_kind;
-use std::alloc::{AllocError, Global};
+use base::Memory;
+use std::alloc::Global;
 use trace::{Row, What};
 
 /// How often the rows so far tell that a member takes one for alive again, and who holds whom to
@@ -32,7 +33,7 @@ impl Revivals {
     }
 
     /// Has room for what a row tells. What is kept stays, also where it is refused.
-    pub(crate) fn reach(&mut self, row: &Row) -> Result<(), AllocError>
+    pub(crate) fn reach(&mut self, row: &Row) -> Result<(), Memory>
         ensures room { OnOk result (HasPlaceFor self.new row.now) }
         ensures same { (rows : List AnyRow) → AreRevivalsOf self.old rows → AreRevivalsOf self.new rows }
     {

@@ -1,6 +1,5 @@
 //! What is kept of a run for its report.
-ghost use Rattle.std.specs.Prelude.{◌≡◌, ◌≤◌, ◌^◌, [], ◌∷◌, ◌++◌, ◌⊎◌, length, Ok, OnOk, OnErr, IfErr};
-ghost use Rattle.trace.specs.Text.{NamesMembers};
+ghost use Rattle.std.specs.Prelude.{◌≡◌, ◌≢◌, ◌≤◌, ◌<◌, ◌^◌, [], ◌∷◌, ◌++◌, ◌⊎◌, length, OnOk, OnErr, IfErr, IsErrOf};
 ghost use Rattle.reports.specs.Rows.{count_of, losses_of, worst_health};
 ghost use Rattle.reports.specs.Departures.{crashes_of, leaves_of};
 ghost use Rattle.reports.specs.Failures.{false_positives_of};
@@ -12,27 +11,15 @@ use crate::failures::Failures;
 use crate::false_positives::FalsePositive;
 use crate::past::Past;
 use crate::revivals::Revivals;
-use base::Memory;
+use base::Fault;
 use base::limits::COUNTER_LIMIT;
-use scenario::Scenario;
 use std::alloc::Global;
 use std::marker::Model;
 use trace::{Row, What};
 
-/// Why a row was not added.
-#[derive(Clone, Copy, Debug, PartialEq, Eq, thiserror::Error)]
-pub enum AddError {
-    /// Memory was refused.
-    #[error("memory was refused")]
-    Memory,
-    /// A count stands at its limit, 2^63, and would have to rise.
-    #[error("a counter is worn")]
-    Worn,
-}
-
-/// The rows of a run so far, in the order in which they came. It keeps of them what a report tells:
-/// counts, for each crash and leave how it was detected, the false claims, and who holds whom to have
-/// failed.
+/// The rows of a run so far, in the order in which they came: 2^63 of them at most. It keeps of them
+/// what a report tells: counts, for each crash and leave how it was detected, the false claims, and
+/// who holds whom to have failed.
 #[derive(Drop)]
 pub struct Tallies {
     past: Past,
@@ -42,7 +29,7 @@ pub struct Tallies {
 }
 
 impl Model for Tallies {
-    ghost use Rattle.std.specs.Prelude.{List};
+    ghost use Rattle.std.specs.Prelude.{List, ◌≤◌, ◌^◌};
     ghost use Rattle.trace.specs.declared.row.Row.{Row};
     ghost use Rattle.reports.specs.Counts.{AreCountsOf};
     ghost use Rattle.reports.specs.Failures.{AreFailuresOf};
@@ -54,42 +41,58 @@ impl Model for Tallies {
 
     ghost invariant = { λ tallies. AreCountsOf tallies.counts tallies.past
         × AreFailuresOf tallies.failures tallies.past
-        × AreRevivalsOf tallies.revivals tallies.past };
+        × AreRevivalsOf tallies.revivals tallies.past
+        × (tallies.counts.rows ≤ 2 ^ 63) };
 }
 
 impl Tallies {
     /// No rows. It takes no memory.
-    pub fn new(alloc: Global) -> Result<Self, Memory>
-        ensures { result ≡ Ok [] }
+    pub fn new(alloc: Global) -> Self
+        ensures { result ≡ [] }
     {
-        Ok(Tallies {
+        Tallies {
             past: Past::new(),
             counts: Counts::new(),
             failures: Failures::new(alloc),
             revivals: Revivals::new(alloc),
-        })
+        }
     }
 
-    /// Adds the next row of a run of the scenario. A refusal leaves the tallies as they were.
-    pub fn add(&mut self, row: &Row, _scenario: &Scenario) -> Result<(), AddError>
-        requires { NamesMembers _scenario.now row.now }
+    /// Adds the next row of a run. A refusal leaves the tallies as they were.
+    ///
+    /// Faults: `Memory`; `Worn` where 2^63 rows are there already.
+    pub fn add(&mut self, row: &Row) -> Result<(), Fault>
         ensures ok { OnOk result (self.new ≡ self.old ++ row.now ∷ []) }
         ensures err { OnErr result (self.new ≡ self.old) }
-        ensures worn { IfErr result (λ error. error ≡ AddError.Worn → 2 ^ 63 ≤ length self.old) }
+        ensures worn { IsErrOf result Fault.Worn → 2 ^ 63 ≤ length self.old }
+        ensures full { 2 ^ 63 ≤ length self.old → IsErrOf result Fault.Worn }
+        ensures causes { IfErr result (λ fault. (fault ≢ Fault.Write) × (fault ≢ Fault.Relay)) }
     {
         if self.counts.rows >= COUNTER_LIMIT {
-            return Err(AddError::Worn);
+            return Err(Fault::Worn);
         }
-        if self.revivals.reach(row).is_err() {
-            return Err(AddError::Memory);
-        }
-        match self.failures.follow(row) {
-            Ok(()) => {}
-            Err(_) => return Err(AddError::Memory),
-        }
+        self.revivals.reach(row)?;
+        self.failures.follow(row)?;
         self.revivals.follow(row);
         self.counts.count(row);
         self.past.append(row);
+        Ok(())
+    }
+
+    /// Adds the next rows of a run, up to one that is refused.
+    ///
+    /// Faults: `Memory`; `Worn` where there would be more than 2^63 rows.
+    pub fn add_all(&mut self, rows: &[Row]) -> Result<(), Fault>
+        ensures ok { OnOk result (self.new ≡ self.old ++ rows.now) }
+        ensures lasts { OnOk result (length self.new ≤ 2 ^ 63) }
+        ensures worn { IsErrOf result Fault.Worn → 2 ^ 63 < length (self.old ++ rows.now) }
+        ensures causes { IfErr result (λ fault. (fault ≢ Fault.Write) × (fault ≢ Fault.Relay)) }
+    {
+        for row in rows {
+            self.add(row)?;
+        }
+        // what the invariant says of their number
+        let _ = &self.counts;
         Ok(())
     }
 

@@ -1,9 +1,7 @@
 -- A run that was refused memory before anything was written.
 use Rattle.std.proofs.Common.{◌≡◌, ◌≢◌, ℕ, List, Option, Err, refl}
-use Rattle.base.specs.declared.fault.Fault.{Fault}
 use Rattle.base.specs.declared.fault.Fault.TheVariants.{Memory, Worn, Write}
 use Rattle.scenario.specs.Setup.{Setup, IsSound}
-use Rattle.outputs.specs.declared.tallied.Tallied.{Tallied}
 use Rattle.outputs.specs.Traced.{KeepsTrace}
 use Rattle.outputs.proofs.Runs.{begins_nothing}
 

@@ -1,6 +1,6 @@
 //! What is told of cases whose runs no scenario has, worked out by hand.
 use crate::figures_tests::{RUN, THREE, Told, tallies_of};
-use figures::{CaseFigures, CaseSummary, RunFigures};
+use figures::{CaseFigures, CaseSummary, RunFigures, RunNote};
 use scenario::Scenario;
 use std::process::Abort;
 use std::test::Fail;
@@ -51,7 +51,8 @@ fn with_run(
     let tallies = tallies_of(rt, told, scenario)?;
     let figures = RunFigures::of(rt.alloc(), &tallies, scenario)?;
     assert!(rt; case.runs() < 1000);
-    let case = case.with(&tallies, &figures, scenario)?;
+    let note = RunNote::of(rt.alloc(), &tallies, &figures, scenario)?;
+    let case = case.with(&note)?;
     Ok(case)
 }
 

@@ -162,11 +162,11 @@ pub(crate) fn tallies_of(
 ) -> Result<Tallies, Fail>
     ensures { IfOk result (λ tallies. All (NamesMembers scenario.now) tallies) }
 {
-    let mut tallies = Tallies::new(rt.alloc())?;
+    let mut tallies = Tallies::new(rt.alloc());
     for told in told {
         let row = row_of(*told);
         assert_members(rt, &row, scenario);
-        tallies.add(&row, scenario)?;
+        tallies.add(&row)?;
     }
     Ok(tallies)
 }

@@ -3,8 +3,8 @@ ghost use Rattle.std.specs.Prelude.{All, IfOk, ◌<◌};
 ghost use Rattle.scenario.specs.Setup.{member_count};
 ghost use Rattle.trace.specs.Text.{NamesMembers};
 
-use base::{MemberId, Moment};
-use reports::{AddError, Tallies, report};
+use base::{Fault, MemberId, Moment};
+use reports::{Tallies, report};
 use scenario::Scenario;
 use std::process::Abort;
 use std::test::Fail;
@@ -98,11 +98,11 @@ fn tallies_of(
 ) -> Result<Tallies, Fail>
     ensures { IfOk result (λ tallies. All (NamesMembers scenario.now) tallies) }
 {
-    let mut tallies = Tallies::new(rt.alloc())?;
+    let mut tallies = Tallies::new(rt.alloc());
     for line in lines.lines() {
         let row = row_of(line, scenario).expect(rt, "a line of a trace");
         assert_members(rt, &row, scenario);
-        tallies.add(&row, scenario)?;
+        tallies.add(&row)?;
     }
     Ok(tallies)
 }
@@ -525,12 +525,12 @@ fn a_refused_row_changes_nothing(rt: HostRuntime) -> Result<(), Fail> {
         lost: false,
     };
     assert_members(&rt, &row, &scenario);
-    let mut tallies = Tallies::new(rt.alloc())?;
+    let mut tallies = Tallies::new(rt.alloc());
     for added in 0..100u64 {
-        if let Err(refusal) = tallies.add(&row, &scenario) {
-            assert_eq!(rt; refusal, AddError::Memory);
+        if let Err(refusal) = tallies.add(&row) {
+            assert_eq!(rt; refusal, Fault::Memory);
             assert_eq!(rt; tallies.rows(), added);
-            tallies.add(&row, &scenario)?;
+            tallies.add(&row)?;
         }
         assert_eq!(rt; tallies.rows(), added + 1);
     }

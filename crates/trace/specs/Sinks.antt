@@ -1,6 +1,8 @@
 -- What a sink takes, and how its failures are counted.
 use Rattle.std.specs.Prelude.{◌≡◌, ◌==◌, ◌&&◌, ℕ, List, ◌++◌, Option, Result, Ok, Err, not, length, if◌then◌else◌}
 use Rattle.std.specs.Io.KnownBytes.{Appends}
+use Rattle.base.specs.declared.fault.Fault.{Fault}
+use Rattle.base.specs.declared.fault.Fault.TheVariants as fault
 use Rattle.trace.specs.declared.write.WriteError.{WriteError}
 use Rattle.trace.specs.declared.write.WriteError.TheVariants as error
 
@@ -26,3 +28,8 @@ abbrev pub failures_of_write : {T : Type 0} → Result T WriteError → ℕ
 failures_of_write (Ok _) = 0
 failures_of_write (Err error.Memory) = 0
 failures_of_write (Err error.Stopped) = 1
+
+-- the fault of a run whose text was not written whole
+abbrev pub fault_of_write : WriteError → Fault
+fault_of_write error.Memory = fault.Memory
+fault_of_write error.Stopped = fault.Write

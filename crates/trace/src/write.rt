@@ -2,13 +2,14 @@ ghost use Rattle.std.specs.Prelude.{◌≡◌, ◌+◌, ◌++◌, ◌<◌, ◌^�
 ghost use Rattle.scenario.specs.Setup.{Setup};
 ghost use Rattle.std.specs.Io.KnownBytes.{Appends};
 ghost use Rattle.trace.specs.declared.row.Row.{Row};
-ghost use Rattle.trace.specs.Sinks.{AppendsBeginning, failures_of_write};
+ghost use Rattle.trace.specs.Sinks.{AppendsBeginning, failures_of_write, fault_of_write};
+ghost use Rattle.trace.specs.declared.write.WriteError.TheVariants as write_error;
 ghost use Rattle.trace.specs.Text.{header, rows_text, NamesMembers};
 
 use crate::lines::lines;
 use crate::row::Row;
 use crate::sink::{Sink, Stopped, put_all};
-use base::Memory;
+use base::{Fault, Memory};
 use scenario::Scenario;
 use std::alloc::Global;
 
@@ -26,6 +27,34 @@ pub enum WriteError {
     Stopped,
 }
 
+impl From<Memory> for WriteError {
+    ghost from_gives = { λ _ e. e ≡ write_error.Memory };
+
+    fn from(_memory: Memory) -> Self {
+        WriteError::Memory
+    }
+}
+
+impl From<Stopped> for WriteError {
+    ghost from_gives = { λ _ e. e ≡ write_error.Stopped };
+
+    fn from(_stopped: Stopped) -> Self {
+        WriteError::Stopped
+    }
+}
+
+/// A run whose text was not written whole has this fault.
+impl From<WriteError> for Fault {
+    ghost from_gives = { λ e f. f ≡ fault_of_write e };
+
+    fn from(error: WriteError) -> Self {
+        match error {
+            WriteError::Memory => Fault::Memory,
+            WriteError::Stopped => Fault::Write,
+        }
+    }
+}
+
 /// Puts the header line. It takes no memory, and so stops only where the sink stops: the sink then
 /// has got a beginning of the line.
 #[tactic(auto, unfolding(crate::specs::Text::header))]
@@ -36,10 +65,8 @@ pub fn write_head<S: Sink>(sink: &mut S) -> Result<(), WriteError>
     ensures stopped { IfErr result (λ error. error ≡ WriteError.Stopped) }
     ensures failures { S.failed sink.new ≡ S.failed sink.old + failures_of_write result }
 {
-    match put_all(b"moment,member,from,number,what,about,value,lost\n", sink) {
-        Ok(()) => Ok(()),
-        Err(Stopped) => Err(WriteError::Stopped),
-    }
+    put_all(b"moment,member,from,number,what,about,value,lost\n", sink)?;
+    Ok(())
 }
 
 /// Puts the lines of rows. After either refusal the sink has got a beginning of them. Only members

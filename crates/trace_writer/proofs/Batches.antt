@@ -37,6 +37,7 @@ pub stays_written : (s : Setup) (before rows : List Row) (held now : Option (Lis
 stays_written s before rows held now tallied fault wrote = record {
   whole = tt;
   part = beginning-of held now _ _ (text_on s before rows) (beginning-first held now (trace_text s before) (rows_text s rows) wrote.part);
+  lasts = tt;
   worn = λ h. longer before rows (2 ^ 63) (wrote.worn h);
 }
 
@@ -46,6 +47,7 @@ pub cut_short : (s : Setup) (rows : List Row) (held now : Option (List ℕ)) (ta
 cut_short s rows held now tallied (Ok u) outcome wrote relay first = subst (HasWritten s rows held now tallied) (sym relay) (record {
   whole = tt;
   part = beginning-whole held now (trace_text s rows) wrote.whole.0;
+  lasts = tt;
   worn = λ h. absurd (relay≢worn h);
 })
   where

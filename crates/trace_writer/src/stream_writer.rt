@@ -6,8 +6,9 @@ ghost use Rattle.relay.specs.Seats.{scenario_of, taken_by, IsTaker};
 ghost use Rattle.outputs.specs.Written.{sink_failures, HasWritten};
 
 use base::Fault;
-use outputs::{TakeRows, Tallied, Written, begin_trace};
+use outputs::{TakeRows, Written, begin_trace};
 use relay::{Relay, TakeSeat};
+use reports::Tallies;
 use scenario::Scenario;
 use std::alloc::Global;
 use std::sync::Wait;
@@ -24,17 +25,17 @@ pub fn write_stream<A: Sink>(
     relay: &Relay,
     seat: &mut TakeSeat,
     scenario: &Scenario,
-    tallied: &mut Tallied,
+    tallies: &mut Tallies,
     trace: &mut A,
 ) -> Result<(), Fault>
     requires seat { IsTaker relay.now seat.old }
     requires one { scenario_of relay.now ≡ scenario.now }
     requires none_taken { taken_by seat.old ≡ [] }
-    requires none_tallied { tallied.old.tallies ≡ [] }
+    requires none_tallied { tallies.old ≡ [] }
     requires countable { A.failed trace.old < 2 ^ 63 }
     ensures seat { IsTaker relay.now seat.new }
     ensures last { OnOk result (has_last (taken_by seat.new) ≡ true) }
-    ensures written { HasWritten scenario.now (rows_in (taken_by seat.new)) (A.held trace.old) (A.held trace.new) tallied.new.tallies result }
+    ensures written { HasWritten scenario.now (rows_in (taken_by seat.new)) (A.held trace.old) (A.held trace.new) tallies.new result }
     ensures failures { A.failed trace.new ≡ A.failed trace.old + sink_failures result }
 {
     let mut so_far = begin_trace(trace);
@@ -42,7 +43,7 @@ pub fn write_stream<A: Sink>(
         let Some(batch) = relay.receive(rt, seat) else {
             return lost(so_far);
         };
-        so_far = go_on(so_far, alloc, &batch.rows, scenario, tallied, trace);
+        so_far = go_on(so_far, alloc, &batch.rows, scenario, tallies, trace);
         if batch.last {
             return so_far;
         }
@@ -56,19 +57,17 @@ fn go_on<A: Sink>(
     alloc: Global,
     rows: &[Row],
     scenario: &Scenario,
-    tallied: &mut Tallied,
+    tallies: &mut Tallies,
     trace: &mut A,
 ) -> Result<(), Fault>
     requires named { All (NamesMembers scenario.now) rows.now }
     requires countable { OnOk so_far (A.failed trace.old < 2 ^ 63) }
-    ensures written { (before : List ARow) (held : Option (List ℕ)) → HasWritten scenario.now before held (A.held trace.old) tallied.old.tallies so_far
-        → HasWritten scenario.now (before ++ rows.now) held (A.held trace.new) tallied.new.tallies result }
+    ensures written { (before : List ARow) (held : Option (List ℕ)) → HasWritten scenario.now before held (A.held trace.old) tallies.old so_far
+        → HasWritten scenario.now (before ++ rows.now) held (A.held trace.new) tallies.new result }
     ensures failures { A.failed trace.new + sink_failures so_far ≡ A.failed trace.old + sink_failures result }
 {
-    match so_far {
-        Ok(()) => Written::take(alloc, rows, scenario, tallied, trace),
-        Err(fault) => Err(fault),
-    }
+    so_far?;
+    Written::take(alloc, rows, scenario, tallies, trace)
 }
 
 /// What is answered where the last batch came back, or never came.
@@ -77,8 +76,6 @@ pub fn lost(outcome: Result<(), Fault>) -> Result<(), Fault>
     ensures relay { OnOk outcome (IsErrOf result Fault.Relay) }
     ensures first { OnErr outcome (result ≡ outcome) }
 {
-    match outcome {
-        Ok(()) => Err(Fault::Relay),
-        Err(fault) => Err(fault),
-    }
+    outcome?;
+    Err(Fault::Relay)
 }

@@ -13,7 +13,8 @@ ghost use Rattle.outputs.specs.Written.{HasWritten};
 use base::{Fault, Moment};
 use links::Links;
 use member::Event;
-use outputs::{TakeRows, Tallied};
+use outputs::TakeRows;
+use reports::Tallies;
 use scenario::Scenario;
 use std::alloc::Global;
 use turns::Slice;
@@ -28,14 +29,14 @@ pub(crate) fn run_slices<T: TakeRows<P>, P, Q: EventQueue<Event> + Drop>(
     scenario: &Scenario,
     links: &Links,
     place: &mut P,
-) -> Result<Tallied, Fault>
+) -> Result<Tallies, Fault>
     requires sound { IsSound scenario.now }
     requires fits { AreLinksOf links.now scenario.now }
     requires opened { world_of Q.set part ≡ opening scenario.now }
     requires countable { T.failed place.old < 2 ^ 63 }
-    ensures run { IfOk result (λ tallied. IsRunOf scenario.now tallied.tallies) }
+    ensures run { IfOk result (IsRunOf scenario.now) }
     ensures whole { (first : Option (List ℕ)) → HasWritten {T = Unit {0}} scenario.now [] first (T.held place.old) [] (Ok (tt {0}))
-        → IfOk result (λ tallied. Appends first (T.held place.new) (trace_text scenario.now tallied.tallies)) }
+        → IfOk result (λ tallies. Appends first (T.held place.new) (trace_text scenario.now tallies)) }
     ensures part { (first : Option (List ℕ)) → HasWritten {T = Unit {0}} scenario.now [] first (T.held place.old) [] (Ok (tt {0}))
         → OnErr result (BeginsTrace scenario.now first (T.held place.new)) }
     ensures lasts { OnOk result (¬ (WearsOut scenario.now)) }
@@ -45,7 +46,7 @@ pub(crate) fn run_slices<T: TakeRows<P>, P, Q: EventQueue<Event> + Drop>(
     ensures unfailed { OnOk result (T.failed place.new ≡ T.failed place.old) }
     ensures relay { IfErr result (λ fault. fault ≢ Fault.Relay) }
 {
-    let mut tallied = Tallied::new(alloc)?;
+    let mut tallies = Tallies::new(alloc);
     let mut slice = Slice::new();
     let last = scenario.end().ticks();
     let mut from = 0;
@@ -58,9 +59,9 @@ pub(crate) fn run_slices<T: TakeRows<P>, P, Q: EventQueue<Event> + Drop>(
             rows,
         } = done;
         slice.adapt(rows.len());
-        T::take(alloc, &rows, scenario, &mut tallied, place)?;
+        T::take(alloc, &rows, scenario, &mut tallies, place)?;
         part = after;
         from = bound.ticks();
     }
-    Ok(tallied)
+    Ok(tallies)
 }

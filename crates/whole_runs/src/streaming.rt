@@ -8,7 +8,8 @@ use crate::slices::run_slices;
 use base::Fault;
 use links::Links;
 use member::Event;
-use outputs::{Tallied, Written, begin_trace};
+use outputs::{Written, begin_trace};
+use reports::Tallies;
 use scenario::Scenario;
 use std::alloc::Global;
 use trace::Sink;
@@ -25,10 +26,10 @@ pub fn stream_run<A: Sink>(
     alloc: Global,
     scenario: &Scenario,
     trace: &mut A,
-) -> Result<Tallied, Fault>
+) -> Result<Tallies, Fault>
     requires countable { A.failed trace.old < 2 ^ 63 }
-    ensures run { IfOk result (λ tallied. IsRunOf scenario.now tallied.tallies) }
-    ensures whole { IfOk result (λ tallied. Appends (A.held trace.old) (A.held trace.new) (trace_text scenario.now tallied.tallies)) }
+    ensures run { IfOk result (IsRunOf scenario.now) }
+    ensures whole { IfOk result (λ tallies. Appends (A.held trace.old) (A.held trace.new) (trace_text scenario.now tallies)) }
     ensures part { OnErr result (BeginsTrace scenario.now (A.held trace.old) (A.held trace.new)) }
     ensures lasts { OnOk result (¬ (WearsOut scenario.now)) }
     ensures lasts_report { OnOk result (¬ (WearsOutReport scenario.now)) }

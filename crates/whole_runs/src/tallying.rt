@@ -7,7 +7,7 @@ use crate::slices::run_slices;
 use base::Fault;
 use links::Links;
 use member::Event;
-use outputs::{Tallied, TalliedAlone};
+use outputs::TalliedAlone;
 use reports::Tallies;
 use scenario::Scenario;
 use std::alloc::Global;
@@ -33,13 +33,12 @@ pub fn tally_run(alloc: Global, scenario: &Scenario) -> Result<Tallies, Fault>
     let links = Links::of(alloc, scenario)?;
     let wheel = WheelQueue::new(alloc)?;
     let part = Part::whole(alloc, scenario, wheel)?;
-    let tallied = run_slices::<TalliedAlone, (), WheelQueue<Event>>(
+    let tallies = run_slices::<TalliedAlone, (), WheelQueue<Event>>(
         alloc,
         part,
         scenario,
         &links,
         &mut (),
     )?;
-    let Tallied { tallies, count: _ } = tallied;
     Ok(tallies)
 }

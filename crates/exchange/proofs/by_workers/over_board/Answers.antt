@@ -1,5 +1,4 @@
-use Rattle.std.proofs.Common.{Result, Err, refl, sym, subst}
-use Rattle.exchange.specs.Traced.{StillKeeps}
+use Rattle.std.proofs.Common.{Err, refl, sym, subst}
 use Rattle.outputs.specs.Traced.{KeepsTrace}
 use Rattle.exchange.proofs.Endings.{unwritten}
 use Rattle.exchange.proofs.by_workers.over_board.Goals as goal

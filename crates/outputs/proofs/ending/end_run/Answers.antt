@@ -1,89 +1,100 @@
 -- the sinks get the trace and the report of one list of rows
-use Rattle.std.proofs.Common.{◌≡◌, ◌<◌, ◌^◌, inl, inr, Err, OnOk, IfOk, All, ap, subst, refl, rules, arith}
-use Rattle.base.specs.declared.fault.Fault.TheVariants.{Write}
+use Rattle.std.proofs.Common.{◌≢◌, ◌∙◌, ◌<◌, ◌^◌, inl, inr, Err, OnOk, IfOk, All, ap, subst, refl, rules, arith}
+use Rattle.std.proofs.lemmas.Result.{IfErr-at_err}
+use Rattle.base.specs.declared.fault.Fault.TheVariants.{Write, Relay}
 use Rattle.trace.specs.Text.{NamesMembers, trace_text}
 use Rattle.trace.proofs.Beginnings.{beginning-whole, Appends-kept, Keeps-same}
+use Rattle.reports.proofs.Faults.{handed_on}
 use Rattle.outputs.specs.Traced.{KeepsTrace}
+use Rattle.outputs.proofs.Failing.{answered, write_fails, nothing_fails, never_worn, never_relay, breaks_off}
 use Rattle.outputs.proofs.ending.end_run.Goals as goal
 
 pub flush-requires : goal.flush-requires
-flush-requires g c = record { countable = subst (λ o. OnOk o (g.A.Sink.failed c.args.trace.now < 2 ^ 63)) c.in-Ok.is c.requires.countable }
+flush-requires g c = record { countable = subst (λ o. OnOk o (g.A.Sink.failed c.args.trace.now < 2 ^ 63)) c.in_ok-tallies.was c.requires.countable }
 
 pub write_tallied-requires-clause-named : goal.write_tallied-requires-clause-named
-write_tallied-requires-clause-named g c = subst (λ o. IfOk o (λ tallied. All (NamesMembers c.args.scenario.now) tallied.tallies)) c.in-Ok.is c.requires.named
+write_tallied-requires-clause-named g c = subst (λ o. IfOk o (All (NamesMembers c.args.scenario.now))) c.in_ok-tallies.was c.requires.named
 
-pub returns-in-Err-clause-promise : goal.returns-in-Err-clause-promise
-returns-in-Err-clause-promise g c = λ first so_far.
-    let kept = subst (KeepsTrace c.args.scenario.now (g.A.Sink.held first) (g.A.Sink.held c.args.trace.now) (g.A.Sink.failed first) (g.A.Sink.failed c.args.trace.now)) c.in-Err.is so_far in
-    record {
-      written = tt;
-      beginning = record { rows = kept.part.rows; run = kept.part.run; written = inl (kept.part.written, Keeps-same _) };
-      first = λ h. refl;
-      lasts = tt;
-      write = λ is. let same : c.in-Err.fault ≡ Write = cc in inl (kept.write (ap Err same));
-      whole = tt;
-      whole_report = tt;
-      others_report = λ h. refl;
-    }
+pub returns-in_err-tallies-clause-promise : goal.returns-in_err-tallies-clause-promise
+returns-in_err-tallies-clause-promise g c = λ first so_far.
+    let kept = subst (KeepsTrace c.args.scenario.now (g.A.Sink.held first) (g.A.Sink.held c.args.trace.now) (g.A.Sink.failed first) (g.A.Sink.failed c.args.trace.now)) c.in_err-tallies.was so_far in
+    breaks_off g.A.Sink.held g.A.Sink.failed g.B.Sink.held g.B.Sink.failed c.args.scenario.now _ _ _ _ _ _ c.from_residual.ensures.1
+    (record { rows = kept.part.rows; run = kept.part.run; written = inl (kept.part.written, Keeps-same _) })
+    (λ h. refl) (λ is. inl (kept.write (ap Err is))) (λ h. refl)
 
-pub returns-in-Err-flush-clause-promise : goal.returns-in-Err-flush-clause-promise
-returns-in-Err-flush-clause-promise g c = λ first so_far.
-    let kept = subst (KeepsTrace c.args.scenario.now (g.A.Sink.held first) (g.A.Sink.held c.args.trace.now) (g.A.Sink.failed first) (g.A.Sink.failed c.args.trace.now)) c.in-Ok.is so_far in
-    let rows = c.in-Ok.tallied.tallies in
+pub returns-in_err-tallies-clause-worn : goal.returns-in_err-tallies-clause-worn
+returns-in_err-tallies-clause-worn g c = λ h. c.in_err-tallies.was ∙ handed_on _ _ _ c.from_residual.ensures.1 h
+
+pub returns-in_err-tallies-clause-relay : goal.returns-in_err-tallies-clause-relay
+returns-in_err-tallies-clause-relay g c = λ h. c.in_err-tallies.was ∙ handed_on _ _ _ c.from_residual.ensures.1 h
+
+pub returns-in_err-flush-clause-promise : goal.returns-in_err-flush-clause-promise
+returns-in_err-flush-clause-promise g c = λ first so_far.
+    let kept = subst (KeepsTrace c.args.scenario.now (g.A.Sink.held first) (g.A.Sink.held c.args.trace.now) (g.A.Sink.failed first) (g.A.Sink.failed c.args.trace.now)) c.in_ok-tallies.was so_far in
+    let rows = c.in_ok-tallies.tallies in
     let none = kept.unfailed in
-    record {
-      written = tt;
-      beginning = record {
-        rows = rows;
-        run = kept.run;
-        written = inl (beginning-whole _ _ (trace_text c.args.scenario.now rows) (Appends-kept _ _ _ (trace_text c.args.scenario.now rows) kept.whole c.flush.ensures.same), Keeps-same _);
-      };
-      first = λ h. refl;
-      lasts = tt;
-      write = search rules;
-      whole = tt;
-      whole_report = tt;
-      others_report = λ h. refl;
-    }
+    breaks_off g.A.Sink.held g.A.Sink.failed g.B.Sink.held g.B.Sink.failed c.args.scenario.now _ _ _ _ _ _ c.from_residual-in_err-flush.ensures.1
+    (record {
+      rows = rows;
+      run = kept.run;
+      written = inl (beginning-whole _ _ (trace_text c.args.scenario.now rows) (Appends-kept _ _ _ (trace_text c.args.scenario.now rows) kept.whole c.in_err-flush.ensures.same), Keeps-same _);
+    })
+    (λ h. refl) (λ is. let one = write_fails _ is in inl (omega (arith, one, none, c.in_err-flush.ensures.failures))) (λ h. refl)
 
-pub returns-in-Ok-write_tallied-clause-promise : goal.returns-in-Ok-write_tallied-clause-promise
-returns-in-Ok-write_tallied-clause-promise g c = λ first so_far.
-    let kept = subst (KeepsTrace c.args.scenario.now (g.A.Sink.held first) (g.A.Sink.held c.args.trace.now) (g.A.Sink.failed first) (g.A.Sink.failed c.args.trace.now)) c.in-Ok.is so_far in
-    let rows = c.in-Ok.tallied.tallies in
+pub returns-in_err-flush-clause-worn : goal.returns-in_err-flush-clause-worn
+returns-in_err-flush-clause-worn g c = λ h. absurd (never_worn _ _ c.from_residual-in_err-flush.ensures.1 h)
+
+pub returns-in_err-flush-clause-relay : goal.returns-in_err-flush-clause-relay
+returns-in_err-flush-clause-relay g c = λ h. absurd (IfErr-at_err (λ f. f ≢ Relay) h (never_relay _ _ c.from_residual-in_err-flush.ensures.1) refl)
+
+pub returns-in_err-flush-clause-others : goal.returns-in_err-flush-clause-others
+returns-in_err-flush-clause-others g c =
+    answered (λ fault. fault ≢ Write → _) _ _ c.from_residual-in_err-flush.ensures.1
+    (λ differs. let none = nothing_fails _ differs in omega (arith, none, c.in_err-flush.ensures.failures))
+
+pub returns-in_err-write_tallied-clause-promise : goal.returns-in_err-write_tallied-clause-promise
+returns-in_err-write_tallied-clause-promise g c = λ first so_far.
+    let kept = subst (KeepsTrace c.args.scenario.now (g.A.Sink.held first) (g.A.Sink.held c.args.trace.now) (g.A.Sink.failed first) (g.A.Sink.failed c.args.trace.now)) c.in_ok-tallies.was so_far in
+    let rows = c.in_ok-tallies.tallies in
+    let unfailed = kept.unfailed in
+    breaks_off g.A.Sink.held g.A.Sink.failed g.B.Sink.held g.B.Sink.failed c.args.scenario.now _ _ _ _ _ _ c.from_residual-in_err-write_tallied.ensures.1
+    (record {
+      rows = rows;
+      run = kept.run;
+      written = inr (Appends-kept _ _ _ (trace_text c.args.scenario.now rows) kept.whole c.in_ok-flush.ensures.same, c.in_err-write_tallied.ensures.part);
+    })
+    (λ h. absurd (omega (arith, h, unfailed, c.in_ok-flush.ensures.failures)))
+    (λ is. let one = write_fails _ is in inr (omega (arith, one, c.in_err-write_tallied.ensures.failures)))
+    (λ differs. let none = nothing_fails _ differs in omega (arith, none, c.in_err-write_tallied.ensures.failures))
+
+pub returns-in_err-write_tallied-clause-worn : goal.returns-in_err-write_tallied-clause-worn
+returns-in_err-write_tallied-clause-worn g c = λ h. absurd (never_worn _ _ c.from_residual-in_err-write_tallied.ensures.1 h)
+
+pub returns-in_err-write_tallied-clause-relay : goal.returns-in_err-write_tallied-clause-relay
+returns-in_err-write_tallied-clause-relay g c = λ h. absurd (IfErr-at_err (λ f. f ≢ Relay) h (never_relay _ _ c.from_residual-in_err-write_tallied.ensures.1) refl)
+
+pub returns-in_err-write_tallied-clause-others : goal.returns-in_err-write_tallied-clause-others
+returns-in_err-write_tallied-clause-others g c =
+    answered (λ fault. fault ≢ Write → _) _ _ c.from_residual-in_err-write_tallied.ensures.1 (λ differs. omega (arith, c.in_ok-flush.ensures.failures))
+
+pub returns-clause-promise : goal.returns-clause-promise
+returns-clause-promise g c = λ first so_far.
+    let kept = subst (KeepsTrace c.args.scenario.now (g.A.Sink.held first) (g.A.Sink.held c.args.trace.now) (g.A.Sink.failed first) (g.A.Sink.failed c.args.trace.now)) c.in_ok-tallies.was so_far in
+    let rows = c.in_ok-tallies.tallies in
     let none = kept.unfailed in
     record {
       written = record {
         rows = rows;
         run = kept.run;
-        counted = c.in-Ok.tallied.counted;
-        trace = Appends-kept _ _ _ (trace_text c.args.scenario.now rows) kept.whole c.flush.ensures.same;
-        report = c.in-Ok-write_tallied.ensures.whole;
+        counted = c.rows.ensures;
+        trace = Appends-kept _ _ _ (trace_text c.args.scenario.now rows) kept.whole c.in_ok-flush.ensures.same;
+        report = c.in_ok-write_tallied.ensures.whole;
       };
       beginning = tt;
-      first = λ h. absurd (omega (arith, h, none, c.in-Ok-flush.ensures.failures));
+      first = λ h. absurd (omega (arith, h, none, c.in_ok-flush.ensures.failures));
       lasts = kept.lasts;
       write = search rules;
-      whole = omega (arith, none, c.in-Ok-flush.ensures.failures);
-      whole_report = omega (arith, c.in-Ok-write_tallied.ensures.failures);
+      whole = omega (arith, none, c.in_ok-flush.ensures.failures);
+      whole_report = omega (arith, c.in_ok-write_tallied.ensures.failures);
       others_report = tt;
-    }
-
-pub returns-clause-promise : goal.returns-clause-promise
-returns-clause-promise g c = λ first so_far.
-    let kept = subst (KeepsTrace c.args.scenario.now (g.A.Sink.held first) (g.A.Sink.held c.args.trace.now) (g.A.Sink.failed first) (g.A.Sink.failed c.args.trace.now)) c.in-Ok.is so_far in
-    let rows = c.in-Ok.tallied.tallies in
-    let none = kept.unfailed in
-    record {
-      written = tt;
-      beginning = record {
-        rows = rows;
-        run = kept.run;
-        written = inr (Appends-kept _ _ _ (trace_text c.args.scenario.now rows) kept.whole c.flush.ensures.same, c.in-Err-write_tallied.ensures.part);
-      };
-      first = λ h. absurd (omega (arith, h, none, c.in-Ok-flush.ensures.failures));
-      lasts = tt;
-      write = search rules;
-      whole = tt;
-      whole_report = tt;
-      others_report = search rules;
     }

@@ -1,54 +1,79 @@
 -- the sinks get the trace and the report of one list of rows; what is written out here fails at once where a body does something else
-use Rattle.std.proofs.Common.{IfOk, rules, arith, inr, sym, subst, refl}
+use Rattle.std.proofs.Common.{◌≢◌, ◌∙◌, IfOk, IfErr, rules, arith, inl, inr, sym, subst, refl}
+use Rattle.base.specs.declared.fault.Fault.TheVariants.{Write, Relay}
+use Rattle.trace.proofs.Beginnings.{Keeps-same}
 use Rattle.member_laws.specs.Runs.{IsRunOf}
+use Rattle.reports.proofs.Faults.{handed_on}
+use Rattle.outputs.proofs.Failing.{answered, write_fails, nothing_fails, never_worn, never_relay, breaks_off}
 use Rattle.outputs.proofs.Runs.{writes_nothing}
 use Rattle.outputs.proofs.writing.write_run.Goals as goal
 
-pub returns-in-Err-clause-promise : goal.returns-in-Err-clause-promise
-returns-in-Err-clause-promise g c = record {
-  written = tt;
-  beginning = writes_nothing c.args.scenario.now _ _ c.requires.sound;
-  first = λ h. refl;
-  lasts = tt;
-  write = search rules;
-  whole = tt;
-  whole_report = tt;
-  others_report = λ h. refl;
-}
+pub returns-in_err-rows-clause-promise : goal.returns-in_err-rows-clause-promise
+returns-in_err-rows-clause-promise g c =
+    let no_writes = subst (λ o. IfErr o (λ fault. (fault ≢ Write) × (fault ≢ Relay))) c.in_err-rows.was c.requires.no_writes in
+    breaks_off g.A.Sink.held g.A.Sink.failed g.B.Sink.held g.B.Sink.failed c.args.scenario.now _ _ _ _ _ _ c.from_residual.ensures.1
+    (writes_nothing c.args.scenario.now _ _ c.requires.sound) (λ h. refl) (λ is. absurd (no_writes.0 is)) (λ h. refl)
 
-pub returns-in-Ok-write_report-clause-promise : goal.returns-in-Ok-write_report-clause-promise
-returns-in-Ok-write_report-clause-promise g c = record {
-  written = record {
-    rows = c.in-Ok.rows.items;
-    run = subst (λ o. IfOk o (λ rows. IsRunOf c.args.scenario.now rows.items)) c.in-Ok.is c.requires.run;
-    counted = search rules fits 100;
-    trace = rw (sym c.deref.ensures.value) c.in-Ok-write_trace.ensures.whole;
-    report = rw (sym c.deref-2.ensures.value) c.in-Ok-write_report.ensures.whole;
-  };
-  beginning = tt;
-  first = λ h. absurd (omega (arith, h, c.in-Ok-write_trace.ensures.failures));
-  lasts = search rules;
-  write = search rules;
-  whole = omega (arith, c.in-Ok-write_trace.ensures.failures);
-  whole_report = omega (arith, c.in-Ok-write_report.ensures.failures);
-  others_report = tt;
-}
+pub returns-in_err-rows-clause-worn : goal.returns-in_err-rows-clause-worn
+returns-in_err-rows-clause-worn g c = λ h. c.requires.worn (c.in_err-rows.was ∙ handed_on _ _ _ c.from_residual.ensures.1 h)
+
+pub returns-in_err-write_trace-clause-promise : goal.returns-in_err-write_trace-clause-promise
+returns-in_err-write_trace-clause-promise g c =
+    breaks_off g.A.Sink.held g.A.Sink.failed g.B.Sink.held g.B.Sink.failed c.args.scenario.now _ _ _ _ _ _ c.from_residual-in_err-write_trace.ensures.1
+    (record {
+      rows = c.in_ok-rows.rows.items;
+      run = subst (λ o. IfOk o (λ rows. IsRunOf c.args.scenario.now rows.items)) c.in_ok-rows.was c.requires.run;
+      written = inl (rw (sym c.deref.ensures.value) c.in_err-write_trace.ensures.part, Keeps-same _);
+    })
+    (λ h. refl) (λ is. let one = write_fails _ is in inl (omega (arith, one, c.in_err-write_trace.ensures.failures))) (λ h. refl)
+
+pub returns-in_err-write_trace-clause-worn : goal.returns-in_err-write_trace-clause-worn
+returns-in_err-write_trace-clause-worn g c = λ h. absurd (never_worn _ _ c.from_residual-in_err-write_trace.ensures.1 h)
+
+pub returns-in_err-write_trace-clause-others : goal.returns-in_err-write_trace-clause-others
+returns-in_err-write_trace-clause-others g c =
+    answered (λ fault. fault ≢ Write → _) _ _ c.from_residual-in_err-write_trace.ensures.1
+    (λ differs. let none = nothing_fails _ differs in omega (arith, none, c.in_err-write_trace.ensures.failures))
+
+pub returns-in_err-write_trace-clause-relay : goal.returns-in_err-write_trace-clause-relay
+returns-in_err-write_trace-clause-relay g c = never_relay _ _ c.from_residual-in_err-write_trace.ensures.1
+
+pub returns-in_err-write_report-clause-promise : goal.returns-in_err-write_report-clause-promise
+returns-in_err-write_report-clause-promise g c =
+    breaks_off g.A.Sink.held g.A.Sink.failed g.B.Sink.held g.B.Sink.failed c.args.scenario.now _ _ _ _ _ _ c.from_residual-in_err-write_report.ensures.1
+    (record {
+      rows = c.in_ok-rows.rows.items;
+      run = subst (λ o. IfOk o (λ rows. IsRunOf c.args.scenario.now rows.items)) c.in_ok-rows.was c.requires.run;
+      written = inr (rw (sym c.deref.ensures.value) c.in_ok-write_trace.ensures.whole, rw (sym c.deref-2.ensures.value) c.in_err-write_report.ensures.part);
+    })
+    (λ h. absurd (omega (arith, h, c.in_ok-write_trace.ensures.failures)))
+    (λ is. let one = write_fails _ is in inr (omega (arith, one, c.in_err-write_report.ensures.failures)))
+    (λ differs. let none = nothing_fails _ differs in omega (arith, none, c.in_err-write_report.ensures.failures))
+
+pub returns-in_err-write_report-clause-worn : goal.returns-in_err-write_report-clause-worn
+returns-in_err-write_report-clause-worn g c = λ h. absurd (never_worn _ _ c.from_residual-in_err-write_report.ensures.1 h)
+
+pub returns-in_err-write_report-clause-others : goal.returns-in_err-write_report-clause-others
+returns-in_err-write_report-clause-others g c =
+    answered (λ fault. fault ≢ Write → _) _ _ c.from_residual-in_err-write_report.ensures.1 (λ differs. omega (arith, c.in_ok-write_trace.ensures.failures))
+
+pub returns-in_err-write_report-clause-relay : goal.returns-in_err-write_report-clause-relay
+returns-in_err-write_report-clause-relay g c = never_relay _ _ c.from_residual-in_err-write_report.ensures.1
 
 pub returns-clause-promise : goal.returns-clause-promise
 returns-clause-promise g c = record {
-  written = tt;
-  beginning = record {
-    rows = c.in-Ok.rows.items;
-    run = subst (λ o. IfOk o (λ rows. IsRunOf c.args.scenario.now rows.items)) c.in-Ok.is c.requires.run;
-    written = inr (rw (sym c.deref.ensures.value) c.in-Ok-write_trace.ensures.whole, rw (sym c.deref-2.ensures.value) c.in-Err-write_report.ensures.part);
+  written = record {
+    rows = c.in_ok-rows.rows.items;
+    run = subst (λ o. IfOk o (λ rows. IsRunOf c.args.scenario.now rows.items)) c.in_ok-rows.was c.requires.run;
+    counted = search rules fits 100;
+    trace = rw (sym c.deref.ensures.value) c.in_ok-write_trace.ensures.whole;
+    report = rw (sym c.deref-2.ensures.value) c.in_ok-write_report.ensures.whole;
   };
-  first = λ h. absurd (omega (arith, h, c.in-Ok-write_trace.ensures.failures));
-  lasts = tt;
+  beginning = tt;
+  first = λ h. absurd (omega (arith, h, c.in_ok-write_trace.ensures.failures));
+  lasts = search rules;
   write = search rules;
-  whole = tt;
-  whole_report = tt;
-  others_report = search rules;
+  whole = omega (arith, c.in_ok-write_trace.ensures.failures);
+  whole_report = omega (arith, c.in_ok-write_report.ensures.failures);
+  others_report = tt;
 }
-
-pub returns-clause-others : goal.returns-clause-others
-returns-clause-others g c h = omega (arith, c.in-Ok-write_trace.ensures.failures)

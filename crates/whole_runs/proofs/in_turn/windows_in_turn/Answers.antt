@@ -5,7 +5,7 @@ use Rattle.windows.specs.Window.{IsConsistentPart, RunsWindow}
 use Rattle.windows.specs.Wears.{WearsInWindow}
 use Rattle.windows.specs.Several.{RanWindows}
 use Rattle.turns.proofs.Turning.{one_window_more}
-use Rattle.outputs.proofs.Faults.{handed_on}
+use Rattle.reports.proofs.Faults.{handed_on}
 use Rattle.whole_runs.proofs.in_turn.windows_in_turn.Goals as goal
 
 pub run-requires-clause-consistent : goal.run-requires-clause-consistent

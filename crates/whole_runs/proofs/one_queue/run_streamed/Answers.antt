@@ -1,16 +1,16 @@
-use Rattle.std.proofs.Common.{◌≡◌, ◌≢◌, ℕ, ◌<◌, ◌^◌, Result, Ok, Err, ap, refl, arith}
+use Rattle.std.proofs.Common.{◌≡◌, ◌≢◌, ℕ, ◌<◌, ◌^◌, List, Result, Ok, Err, ap, refl, arith}
 use Rattle.std.specs.Result.{OnOk, IfErr, IsErrOf}
 use Rattle.std.proofs.lemmas.Result.{IfOk-weaker, IfErr-at_err}
 use Rattle.base.specs.declared.fault.Fault.{Fault}
 use Rattle.base.specs.declared.fault.Fault.TheVariants.{Relay}
+use Rattle.trace.specs.declared.row.Row.{Row}
 use Rattle.turns.proofs.Goes.{names_run}
 use Rattle.outputs.specs.declared.summary.Summary.{Summary}
-use Rattle.outputs.specs.declared.tallied.Tallied.{Tallied}
 use Rattle.outputs.proofs.Faults.{on_came}
 use Rattle.outputs.specs.Promise.{WearsOutReport}
 use Rattle.whole_runs.proofs.one_queue.run_streamed.Goals as goal
 
-still_countable : (o : Result Tallied Fault) (old new n : ℕ) → OnOk o (new ≡ old) → old < n → OnOk o (new < n)
+still_countable : (o : Result (List Row) Fault) (old new n : ℕ) → OnOk o (new ≡ old) → old < n → OnOk o (new < n)
 still_countable (Ok x) old new n same few = omega (arith, same, few)
 still_countable (Err e) old new n same few = tt
 
@@ -19,7 +19,7 @@ never (Ok x) fault differs = tt
 never (Err e) fault differs = λ is. differs (ap Err is)
 
 pub end_run-requires-clause-named : goal.end_run-requires-clause-named
-end_run-requires-clause-named g c = IfOk-weaker c.stream_run-outcome.result _ _ (λ tallied run. names_run c.args.scenario.now c.end-end.ensures.sound tallied.tallies run) c.stream_run-outcome.ensures.run
+end_run-requires-clause-named g c = IfOk-weaker c.stream_run-outcome.result _ _ (λ rows run. names_run c.args.scenario.now c.end-end.ensures.sound rows run) c.stream_run-outcome.ensures.run
 
 pub end_run-requires-clause-countable : goal.end_run-requires-clause-countable
 end_run-requires-clause-countable g c = still_countable c.stream_run-outcome.result _ _ (2 ^ 63) c.stream_run-outcome.ensures.unfailed c.requires.countable

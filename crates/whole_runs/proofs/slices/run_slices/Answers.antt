@@ -1,4 +1,4 @@
-use Rattle.std.proofs.Common.{◌++◌, [], All, Ok, inl, inr, ap, ◌∙◌, sym, subst, refl, arith, rules}
+use Rattle.std.proofs.Common.{◌≤◌, ◌^◌, ◌++◌, length, All, Ok, inl, inr, ap, ◌∙◌, sym, subst, refl, arith, rules}
 use Rattle.trace.specs.Text.{NamesMembers}
 use Rattle.windows.specs.WorldOf.{world_of}
 use Rattle.windows.specs.Window.{IsConsistentPart}
@@ -7,8 +7,8 @@ use Rattle.windows.proofs.WholeOpening.{opening_consistent}
 use Rattle.turns.specs.Beginning.{BeginsRun}
 use Rattle.turns.proofs.Goes.{names_next}
 use Rattle.outputs.specs.Written.{HasWritten}
-use Rattle.outputs.proofs.Faults.{handed_on, on_err}
-use Rattle.outputs.proofs.Runs.{some_run}
+use Rattle.reports.proofs.Faults.{handed_on}
+use Rattle.outputs.proofs.Faults.{on_err}
 use Rattle.outputs.proofs.Streaming.{written_on}
 use Rattle.whole_runs.proofs.Whole.{HasComeTo, at_opening, comes_on, comes_worn, comes_first, comes_to_end, comes_unworn}
 use Rattle.whole_runs.proofs.Reported.{wears_report, lasts_in_report}
@@ -16,40 +16,35 @@ use Rattle.whole_runs.proofs.Faults.{worn_step}
 use Rattle.whole_runs.proofs.Streamed.{begins_trace}
 use Rattle.whole_runs.proofs.slices.run_slices.Goals as goal
 
-pub returns-in_err-tallied-clause-part : goal.returns-in_err-tallied-clause-part
-returns-in_err-tallied-clause-part g c = λ first wrote.
-    let s = c.args.scenario.now in
-    let run = some_run s c.requires.sound in
-    on_err _ (begins_trace s [] [] _ _ _ (run.0, run.1, (run.0, refl)) wrote)
-
 pub loop-from-init : goal.loop-from-init
 loop-from-init g c =
     let s = c.args.scenario.now in
     let world = world_of g.Q.EventQueue.set c.args.part in
     record {
       consistent = subst (IsConsistentPart s) (sym c.requires.opened) (opening_consistent s c.requires.sound);
-      come = subst (HasComeTo s 0 world) (sym c.in_ok-tallied.ensures) (at_opening s c.requires.sound world c.requires.opened);
-      written = λ first wrote. subst (λ rows. HasWritten {T = Unit {0}} s rows first (g.T.TakeRows.held c.args.place.now) rows (Ok (tt {0}))) (sym c.in_ok-tallied.ensures) wrote;
+      come = subst (HasComeTo s 0 world) (sym c.new-tallies.ensures) (at_opening s c.requires.sound world c.requires.opened);
+      written = λ first wrote. subst (λ rows. HasWritten {T = Unit {0}} s rows first (g.T.TakeRows.held c.args.place.now) rows (Ok (tt {0}))) (sym c.new-tallies.ensures) wrote;
+      few = subst (λ l. length l ≤ 2 ^ 63) (sym c.new-tallies.ensures) (omega arith);
       unfailed = refl;
     }
 
 pub returns-in_err-done-clause-part : goal.returns-in_err-done-clause-part
 returns-in_err-done-clause-part g c = λ first wrote.
     let s = c.args.scenario.now in
-    let before = c.loop-from.tallied.tallies in
+    let before = c.loop-from.tallies in
     on_err _
     (begins_trace s before before _ _ _ (comes_first s c.requires.sound c.loop-from.from (world_of g.Q.EventQueue.set c.loop-from.part) before c.loop-from.invariant.come) (c.loop-from.invariant.written first wrote))
 
 pub returns-in_err-done-clause-worn : goal.returns-in_err-done-clause-worn
 returns-in_err-done-clause-worn g c = λ h.
-    inl (comes_worn c.args.scenario.now c.requires.sound c.loop-from.from (world_of g.Q.EventQueue.set c.loop-from.part) c.loop-from.tallied.tallies c.loop-from.invariant.come c.end-bound.result
-    (c.in_err-done.ensures.worn (worn_step c.from_residual-in_err-done.result _ c.from_residual-in_err-done.ensures.1 h)))
+    inl (comes_worn c.args.scenario.now c.requires.sound c.loop-from.from (world_of g.Q.EventQueue.set c.loop-from.part) c.loop-from.tallies c.loop-from.invariant.come c.end-bound.result
+    (c.in_err-done.ensures.worn (worn_step c.from_residual.result _ c.from_residual.ensures.1 h)))
 
 pub take-requires-clause-named : goal.take-requires-clause-named
 take-requires-clause-named g c =
     let s = c.args.scenario.now in
     let set = g.Q.EventQueue.set in
-    let before = c.loop-from.tallied.tallies in
+    let before = c.loop-from.tallies in
     let after = world_of set c.in_ok-done.done.part in
     let on = comes_on s c.requires.sound c.loop-from.from (world_of set c.loop-from.part) before c.loop-from.invariant.come c.end-bound.result c.in_ok-done.done.out.items c.in_ok-done.done.rows.items after c.in_ok-done.ensures.ok in
     let named : All (NamesMembers s) c.deref.result.now =
@@ -61,20 +56,20 @@ pub returns-in_err-take-clause-part : goal.returns-in_err-take-clause-part
 returns-in_err-take-clause-part g c = λ first wrote.
     let s = c.args.scenario.now in
     let set = g.Q.EventQueue.set in
-    let before = c.loop-from.tallied.tallies in
+    let before = c.loop-from.tallies in
     let rows = c.deref.result.now in
     let after = world_of set c.in_ok-done.done.part in
     let on = comes_on s c.requires.sound c.loop-from.from (world_of set c.loop-from.part) before c.loop-from.invariant.come c.end-bound.result c.in_ok-done.done.out.items c.in_ok-done.done.rows.items after c.in_ok-done.ensures.ok in
     on_err _
     (begins_trace s (before ++ rows) _ _ _ _
     (subst (λ l. BeginsRun s (before ++ l)) (sym c.deref.ensures.value) (comes_first s c.requires.sound c.end-bound.result after (before ++ c.in_ok-done.done.rows.items) on))
-    (written_on s before rows _ _ _ before c.take.new.tallied.tallies _ (c.loop-from.invariant.written first wrote) c.in_err-take.ensures.whole c.in_err-take.ensures.tallied c.in_err-take.ensures.part c.in_err-take.ensures.worn))
+    (written_on s before rows _ _ _ before c.take.new.tallies _ (c.loop-from.invariant.written first wrote) c.in_err-take.ensures.whole c.in_err-take.ensures.tallied c.in_err-take.ensures.part c.in_err-take.ensures.lasts c.in_err-take.ensures.worn))
 
 pub returns-in_err-take-clause-worn : goal.returns-in_err-take-clause-worn
 returns-in_err-take-clause-worn g c = λ h.
     let s = c.args.scenario.now in
     let set = g.Q.EventQueue.set in
-    let before = c.loop-from.tallied.tallies in
+    let before = c.loop-from.tallies in
     let after = world_of set c.in_ok-done.done.part in
     let on = comes_on s c.requires.sound c.loop-from.from (world_of set c.loop-from.part) before c.loop-from.invariant.come c.end-bound.result c.in_ok-done.done.out.items c.in_ok-done.done.rows.items after c.in_ok-done.ensures.ok in
     inr (wears_report s (before ++ c.deref.result.now)
@@ -85,7 +80,7 @@ pub loop-from-preserved : goal.loop-from-preserved
 loop-from-preserved g c =
     let s = c.args.scenario.now in
     let set = g.Q.EventQueue.set in
-    let before = c.loop-from.tallied.tallies in
+    let before = c.loop-from.tallies in
     let rows = c.deref.result.now in
     let after = world_of set c.in_ok-done.done.part in
     let on = comes_on s c.requires.sound c.loop-from.from (world_of set c.loop-from.part) before c.loop-from.invariant.come c.end-bound.result c.in_ok-done.done.out.items c.in_ok-done.done.rows.items after c.in_ok-done.ensures.ok in
@@ -95,11 +90,12 @@ loop-from-preserved g c =
     record {
       consistent = c.in_ok-done.ensures.consistent;
       come =
-          subst (λ t. HasComeTo s t after c.take.new.tallied.tallies) (sym c.ticks-from.ensures)
+          subst (λ t. HasComeTo s t after c.take.new.tallies) (sym c.ticks-from.ensures)
           (subst (HasComeTo s c.end-bound.result after) (sym (same ∙ ap (λ l. before ++ l) c.deref.ensures.value)) on);
       written = λ first wrote.
-          subst (λ l. HasWritten {T = Unit {0}} s l first (g.T.TakeRows.held c.take.new.place) c.take.new.tallied.tallies (Ok (tt {0}))) (sym same)
-          (written_on s before rows _ _ _ before c.take.new.tallied.tallies _ (c.loop-from.invariant.written first wrote) c.in_ok-take.ensures.whole same c.in_ok-take.ensures.part c.in_ok-take.ensures.worn);
+          subst (λ l. HasWritten {T = Unit {0}} s l first (g.T.TakeRows.held c.take.new.place) c.take.new.tallies (Ok (tt {0}))) (sym same)
+          (written_on s before rows _ _ _ before c.take.new.tallies _ (c.loop-from.invariant.written first wrote) c.in_ok-take.ensures.whole same c.in_ok-take.ensures.part c.in_ok-take.ensures.lasts c.in_ok-take.ensures.worn);
+      few = c.in_ok-take.ensures.lasts;
       unfailed = omega (arith, none, so_far);
     }
 
@@ -108,11 +104,11 @@ loop-from-smaller g c = omega (arith, c.ticks-last.ensures, c.ticks-from.ensures
 
 pub returns-clause-run : goal.returns-clause-run
 returns-clause-run g c =
-    comes_to_end c.args.scenario.now c.requires.sound c.loop-from.from (world_of g.Q.EventQueue.set c.loop-from.part) c.loop-from.tallied.tallies c.loop-from.invariant.come (omega arith)
+    comes_to_end c.args.scenario.now c.requires.sound c.loop-from.from (world_of g.Q.EventQueue.set c.loop-from.part) c.loop-from.tallies c.loop-from.invariant.come (omega arith)
 
 pub returns-clause-lasts : goal.returns-clause-lasts
 returns-clause-lasts g c =
-    comes_unworn c.args.scenario.now c.requires.sound c.loop-from.from (world_of g.Q.EventQueue.set c.loop-from.part) c.loop-from.tallied.tallies c.loop-from.invariant.come (omega arith)
+    comes_unworn c.args.scenario.now c.requires.sound c.loop-from.from (world_of g.Q.EventQueue.set c.loop-from.part) c.loop-from.tallies c.loop-from.invariant.come (omega arith)
     (part_unworn g.Q.EventQueue.set c.loop-from.part)
 
 pub returns-clause-whole : goal.returns-clause-whole
@@ -120,6 +116,6 @@ returns-clause-whole g c = λ first wrote. (c.loop-from.invariant.written first 
 
 pub returns-clause-lasts_report : goal.returns-clause-lasts_report
 returns-clause-lasts_report g c =
-    let tallied = c.loop-from.tallied in
-    let run = comes_to_end c.args.scenario.now c.requires.sound c.loop-from.from (world_of g.Q.EventQueue.set c.loop-from.part) tallied.tallies c.loop-from.invariant.come (omega arith) in
-    lasts_in_report c.args.scenario.now tallied.tallies c.requires.sound run (omega (arith, tallied.counted, tallied.within))
+    let rows = c.loop-from.tallies in
+    let run = comes_to_end c.args.scenario.now c.requires.sound c.loop-from.from (world_of g.Q.EventQueue.set c.loop-from.part) rows c.loop-from.invariant.come (omega arith) in
+    lasts_in_report c.args.scenario.now rows c.requires.sound run c.loop-from.invariant.few

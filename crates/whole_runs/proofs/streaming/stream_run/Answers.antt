@@ -1,5 +1,6 @@
 use Rattle.std.proofs.Common.{[], refl, arith}
-use Rattle.outputs.proofs.Faults.{handed_on, on_err}
+use Rattle.reports.proofs.Faults.{handed_on}
+use Rattle.outputs.proofs.Faults.{on_err}
 use Rattle.outputs.proofs.Runs.{begins_nothing, some_run}
 use Rattle.whole_runs.proofs.Streamed.{begins_trace}
 use Rattle.whole_runs.proofs.streaming.stream_run.Goals as goal
