@@ -54,6 +54,9 @@ SAID = {
                           'raise end, or let the member crash earlier'),
     'leave-past-end': ('the leave is after the end', 'move it before the end, or raise end'),
     'cut-past-end': ('the cut begins after the end', 'move it before the end, or raise end'),
+    'pause-past-end': ('the pause begins after the end', 'move it before the end, or raise end'),
+    'pause-while-down': ('the member is down as its pause begins',
+                         'move it before the crash or leave, or remove it'),
 }
 
 
@@ -84,8 +87,8 @@ class Cluster:
             {**DEFAULTS[table], **said.get(table, {})} for table in ('swim', 'suspicion', 'lifeguard', 'link'))
         self.groups = said['group']
         self.paths = [{**self.link, **path} for path in said.get('path', [])]
-        self.slows, self.crashes, self.leaves, self.cuts = (
-            said.get(table, []) for table in ('slow', 'crash', 'leave', 'cut'))
+        self.slows, self.crashes, self.leaves, self.cuts, self.pauses = (
+            said.get(table, []) for table in ('slow', 'crash', 'leave', 'cut', 'pause'))
         self.members = [(f'{group["name"]}-{index}', group) for group in self.groups for index in range(group['count'])]
         self.gone = {it['member']: it['at'] for it in self.crashes + self.leaves}
 
@@ -239,6 +242,10 @@ def told_of_items(c):
     for table, items in (('leave', c.leaves), ('cut', c.cuts)):
         for place, item in enumerate(items):
             yield item['at'] > c.end, f'{table}-past-end', (table, place, None), (item['at'], c.end)
+    for place, pause in enumerate(c.pauses):
+        about, begins = ('pause', place, None), pause['from']
+        yield begins > c.end, 'pause-past-end', about, (begins, c.end)
+        yield c.gone.get(pause['member'], begins + 1) <= begins, 'pause-while-down', about, None
 
 
 def warnings(c):
@@ -274,6 +281,8 @@ def script(c):
         yield f'slow {slow["member"]} from {slow["from"]} until {slow["until"]} extra {slow["extra"]}'
     for cut in within(c, c.cuts, 'at'):
         yield f'cut {cut["from"]} {cut["to"]} from {cut["at"]} until {cut["until"]}'
+    for pause in within(c, c.pauses, 'from'):
+        yield f'pause {pause["member"]} from {pause["from"]} until {pause["until"]}'
 
 
 def lines(c, file):
@@ -339,6 +348,7 @@ def figures(c):
             'leaves': [some(it, 'member', 'at') for it in within(c, c.leaves, 'at')],
             'slows': [some(it, 'member', 'from', 'until', 'extra') for it in within(c, c.slows, 'from')],
             'cuts': [some(it, 'from', 'to', 'at', 'until') for it in within(c, c.cuts, 'at')],
+            **({'pauses': [some(it, 'member', 'from', 'until') for it in within(c, c.pauses, 'from')]} if c.is_third else {}),
         },
         'quiet': {'messages_a_period': period, 'messages_a_second': second, 'messages': messages, 'rows': rows, 'bytes': size},
     }

@@ -1,5 +1,5 @@
 -- How often members exchange their whole tables.
-use Rattle.std.specs.Prelude.{ℕ, ◌+◌, ◌*◌, ◌/◌, nat_lt, if◌then◌else◌, List, [], ◌∷◌, count_by}
+use Rattle.std.specs.Prelude.{ℕ, ◌+◌, ◌*◌, ◌/◌, nat_lt, if◌then◌else◌, [], ◌∷◌, count_by}
 use Rattle.std.specs.Option.{option_map_or}
 use Rattle.scenario.specs.Setup.{Setup, member_count}
 

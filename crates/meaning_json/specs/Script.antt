@@ -6,6 +6,10 @@ use Rattle.scenario.specs.Setup.{Setup, member_count, name_of, crash_of}
 use Rattle.scenario.specs.declared.settings.Slow.{Slow}
 use Rattle.scenario.specs.declared.settings.Leave.{Leave}
 use Rattle.scenario.specs.declared.settings.Cut.{Cut}
+use Rattle.scenario.specs.declared.settings.Pause.{Pause}
+use Rattle.scenario.specs.Profile.{profile_of}
+use Rattle.base.specs.declared.profile.Profile.{Profile}
+use Rattle.base.specs.declared.profile.Profile.TheVariants.{Papers, Memberlist}
 use Rattle.serde_json.specs.Data.{Data, string, object, put, no_members}
 use Rattle.meaning.specs.Groups.{group_name}
 use Rattle.meaning_json.specs.Figures.{whole, list_of}
@@ -52,6 +56,30 @@ cut_item s c = if nat_le c.at s.end then cut_data s c ∷ [] else []
 abbrev pub cuts_data : Setup → Data
 cuts_data s = list_of (flat_map (cut_item s) s.cuts)
 
-unfoldable pub script_data : Setup → Data
-script_data s =
-    object (put (codes "cuts") (cuts_data s) (put (codes "slows") (slows_data s) (put (codes "leaves") (leaves_data s) (put (codes "crashes") (crashes_data s) no_members))))
+-- who is paused when
+unfoldable pub pause_data : Setup → Pause → Data
+pause_data s p = object (put (codes "until") (whole p.until) (put (codes "from") (whole p.from) (put (codes "member") (string (name_of s p.member)) no_members)))
+
+abbrev pub pause_item : Setup → Pause → List Data
+pause_item s p = if nat_le p.from s.end then pause_data s p ∷ [] else []
+
+abbrev pub pauses_data : Setup → Data
+pauses_data s = list_of (flat_map (pause_item s) s.pauses)
+
+-- crashes, leaves, slow times and cuts
+unfoldable pub script_with : Data → Data → Data → Data → Data
+script_with crashes leaves slows cuts =
+    object (put (codes "cuts") cuts (put (codes "slows") slows (put (codes "leaves") leaves (put (codes "crashes") crashes no_members))))
+
+-- the same, and pauses
+unfoldable pub paused_with : Data → Data → Data → Data → Data → Data
+paused_with crashes leaves slows cuts pauses =
+    object (put (codes "pauses") pauses (put (codes "cuts") cuts (put (codes "slows") slows (put (codes "leaves") leaves (put (codes "crashes") crashes no_members)))))
+
+-- pauses are told of where there may be some
+abbrev pub script_by : Profile → Setup → Data
+script_by Papers s = script_with (crashes_data s) (leaves_data s) (slows_data s) (cuts_data s)
+script_by Memberlist s = paused_with (crashes_data s) (leaves_data s) (slows_data s) (cuts_data s) (pauses_data s)
+
+abbrev pub script_data : Setup → Data
+script_data s = script_by (profile_of s) s

@@ -3,18 +3,17 @@ ghost use Rattle.serde_json.specs.View.{view};
 ghost use Rattle.scenario.specs.Setup.{member_count};
 ghost use Rattle.meaning.specs.Groups.{groups_of};
 ghost use Rattle.meaning_json.specs.Figures.{list_of};
-ghost use Rattle.meaning_json.specs.Script.{departure_data, departure_item, crash_item, crashes_data, leave_item, slow_data, slow_item, cut_data, cut_item, script_data};
+ghost use Rattle.meaning_json.specs.Script.{departure_data, departure_item, crash_item, crashes_data, leave_item, slow_data, slow_item, cut_data, cut_item, pause_data, pause_item, script_with, paused_with, script_data};
 
 use crate::lists::{list_of, push_value};
-use base::{MemberId, Moment};
+use base::{MemberId, Moment, Profile};
 use meaning::{group_name, member_name};
-use scenario::{Cut, Leave, Scenario, Slow};
+use scenario::{Cut, Leave, Pause, Scenario, Slow};
 use serde_json::{Value, json};
 use std::alloc::{AllocError, Global};
 
 /// What of the script happens up to the end: crashes by the members' numbers, the rest in the order of
 /// the text.
-#[tactic(auto, unfolding(crate::specs::Script::script_data))]
 pub(crate) fn script_value(
     alloc: Global,
     scenario: &Scenario,
@@ -27,7 +26,44 @@ pub(crate) fn script_value(
     let leaves = leaves_value(alloc, scenario, scenario.leaves())?;
     let slows = slows_value(alloc, scenario, scenario.slows())?;
     let cuts = cuts_value(alloc, scenario, groups, scenario.cuts())?;
+    match scenario.profile() {
+        Profile::Papers => script_with(alloc, crashes, leaves, slows, cuts),
+        Profile::Memberlist => {
+            let pauses = pauses_value(alloc, scenario, scenario.pauses())?;
+            paused_with(alloc, crashes, leaves, slows, cuts, pauses)
+        }
+    }
+}
+
+/// Crashes, leaves, slow times and cuts.
+#[tactic(auto, unfolding(crate::specs::Script::script_with))]
+fn script_with(
+    alloc: Global,
+    crashes: Value,
+    leaves: Value,
+    slows: Value,
+    cuts: Value,
+) -> Result<Value, AllocError>
+    ensures { IfOk result (λ v. view v ≡ script_with (view crashes) (view leaves) (view slows) (view cuts)) }
+{
     json!(in alloc; {"crashes": crashes, "leaves": leaves, "slows": slows, "cuts": cuts})
+}
+
+/// The same, and pauses.
+#[tactic(auto, unfolding(crate::specs::Script::paused_with))]
+fn paused_with(
+    alloc: Global,
+    crashes: Value,
+    leaves: Value,
+    slows: Value,
+    cuts: Value,
+    pauses: Value,
+) -> Result<Value, AllocError>
+    ensures { IfOk result (λ v. view v ≡ paused_with (view crashes) (view leaves) (view slows) (view cuts) (view pauses)) }
+{
+    json!(in alloc; {
+        "crashes": crashes, "leaves": leaves, "slows": slows, "cuts": cuts, "pauses": pauses
+    })
 }
 
 /// The crashes.
@@ -189,4 +225,42 @@ fn cut_value(
     let at = cut.at.ticks();
     let until = cut.until.ticks();
     json!(in alloc; {"from": from, "to": to, "at": at, "until": until})
+}
+
+/// The pauses.
+fn pauses_value(alloc: Global, scenario: &Scenario, pauses: &[Pause]) -> Result<Value, AllocError>
+    ensures { IfOk result (λ v. view v ≡ list_of (flat_map (pause_item scenario.now) pauses.now)) }
+{
+    let mut values = Vec::new(alloc);
+    for pause in pauses {
+        push_pause(alloc, &mut values, scenario, pause)?;
+    }
+    Ok(list_of(values))
+}
+
+/// Appends a pause, if it begins by the end.
+fn push_pause(
+    alloc: Global,
+    values: &mut Vec<Value>,
+    scenario: &Scenario,
+    pause: &Pause,
+) -> Result<(), AllocError>
+    ensures { OnOk result (map view values.new.items ≡ map view values.old.items ++ pause_item scenario.now pause.now) }
+{
+    if pause.from.ticks() <= scenario.end().ticks() {
+        push_value(values, pause_value(alloc, scenario, pause)?)
+    } else {
+        Ok(())
+    }
+}
+
+/// Who is paused when.
+#[tactic(auto, unfolding(crate::specs::Script::pause_data))]
+fn pause_value(alloc: Global, scenario: &Scenario, pause: &Pause) -> Result<Value, AllocError>
+    ensures { IfOk result (λ v. view v ≡ pause_data scenario.now pause.now) }
+{
+    let name = member_name(scenario, pause.member.index());
+    let from = pause.from.ticks();
+    let until = pause.until.ticks();
+    json!(in alloc; {"member": name, "from": from, "until": until})
 }

@@ -1,5 +1,5 @@
 -- What a scenario means, in lines.
-use Rattle.std.specs.Prelude.{ℕ, ◌+◌, ◌-◌, ◌*◌, nat_eq, nat_le, if◌then◌else◌, List, [], ◌∷◌, ◌++◌, codes, decimal, flat_map, length, Option, Some, None}
+use Rattle.std.specs.Prelude.{ℕ, ◌+◌, ◌*◌, nat_eq, nat_le, if◌then◌else◌, List, [], ◌∷◌, ◌++◌, codes, decimal, flat_map, Option, Some, None}
 use Rattle.std.specs.List.{range_with_len}
 use Rattle.std.specs.Option.{option_map_or}
 use Rattle.scenario.specs.Setup.{Setup, member_count, name_of, group_at, start_of, contact_of, crash_of}
@@ -9,6 +9,7 @@ use Rattle.scenario.specs.declared.settings.Slow.{Slow}
 use Rattle.scenario.specs.declared.settings.Leave.{Leave}
 use Rattle.scenario.specs.declared.settings.Cut.{Cut}
 use Rattle.scenario.specs.declared.settings.Gossip.{Gossip}
+use Rattle.scenario.specs.declared.settings.Pause.{Pause}
 use Rattle.suspicion.specs.Times.{most_accusers, min_timeout, timeout}
 use Rattle.suspicion.specs.Settings.{terms_of}
 use Rattle.lifeguard.specs.NackDelay.{nack_delay_of}
@@ -138,10 +139,18 @@ cut_text s c = line (codes "cut" ∷ group_name s c.from ∷ group_name s c.to �
 abbrev pub cut_line : Setup → Cut → List ℕ
 cut_line s c = if nat_le c.at s.end then cut_text s c else []
 
+-- who is paused when
+unfoldable pub pause_text : Setup → Pause → List ℕ
+pause_text s p = line (codes "pause" ∷ name_of s p.member ∷ codes "from" ∷ decimal p.from ∷ codes "until" ∷ decimal p.until ∷ [])
+
+abbrev pub pause_line : Setup → Pause → List ℕ
+pause_line s p = if nat_le p.from s.end then pause_text s p else []
+
 -- what of the script happens up to the end
 unfoldable pub script_lines : Setup → List ℕ
 script_lines s =
     flat_map (crash_line s) (range_with_len 0 (member_count s)) ++ flat_map (leave_line s) s.leaves ++ flat_map (slow_line s) s.slows ++ flat_map (cut_line s) s.cuts
+    ++ flat_map (pause_line s) s.pauses
 
 -- how many messages a quiet cluster sends in a period, and in a thousand ticks
 unfoldable pub rate_line : Quiet → List ℕ

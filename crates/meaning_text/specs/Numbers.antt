@@ -28,6 +28,10 @@ leave_at s k = option_map_or (λ l. l.at) (slice_get s.leaves k) 0
 abbrev pub cut_at : Setup → ℕ → ℕ
 cut_at s k = option_map_or (λ c. c.at) (slice_get s.cuts k) 0
 
+-- when the pause at a place begins
+abbrev pub pause_from : Setup → ℕ → ℕ
+pause_from s k = option_map_or (λ p. p.from) (slice_get s.pauses k) 0
+
 unfoldable pub numbers_of : Setup → ℕ → Warning → Option Pair
 numbers_of s trip warning.LateAnswer = compared trip s.swim.timeout
 numbers_of s trip warning.LateRelay = compared (s.swim.timeout + 2 * trip) s.swim.period
@@ -47,3 +51,5 @@ numbers_of s trip (warning.CrashPastEnd m) = compared (crash_at s m) s.end
 numbers_of s trip (warning.CrashUnconfirmed m) = compared (crash_at s m + least_suspicion s) s.end
 numbers_of s trip (warning.LeavePastEnd k) = compared (leave_at s k) s.end
 numbers_of s trip (warning.CutPastEnd k) = compared (cut_at s k) s.end
+numbers_of s trip (warning.PausePastEnd k) = compared (pause_from s k) s.end
+numbers_of s trip (warning.PauseWhileDown k) = None

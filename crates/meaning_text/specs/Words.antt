@@ -23,6 +23,8 @@ kind_of (warning.CrashPastEnd k) = codes "crash-past-end"
 kind_of (warning.CrashUnconfirmed k) = codes "crash-unconfirmed"
 kind_of (warning.LeavePastEnd k) = codes "leave-past-end"
 kind_of (warning.CutPastEnd k) = codes "cut-past-end"
+kind_of (warning.PausePastEnd k) = codes "pause-past-end"
+kind_of (warning.PauseWhileDown k) = codes "pause-while-down"
 
 -- what a warning says, without its numbers
 unfoldable pub reason_of : Warning → List ℕ
@@ -44,6 +46,8 @@ reason_of (warning.CrashPastEnd k) = codes "the crash is after the end"
 reason_of (warning.CrashUnconfirmed k) = codes "no suspicion that the crash causes can run out in time"
 reason_of (warning.LeavePastEnd k) = codes "the leave is after the end"
 reason_of (warning.CutPastEnd k) = codes "the cut begins after the end"
+reason_of (warning.PausePastEnd k) = codes "the pause begins after the end"
+reason_of (warning.PauseWhileDown k) = codes "the member is down as its pause begins"
 
 -- what mends what a warning tells of
 unfoldable pub remedy_of : Warning → List ℕ
@@ -65,3 +69,5 @@ remedy_of (warning.CrashPastEnd k) = codes "move it before the end, or raise end
 remedy_of (warning.CrashUnconfirmed k) = codes "raise end, or let the member crash earlier"
 remedy_of (warning.LeavePastEnd k) = codes "move it before the end, or raise end"
 remedy_of (warning.CutPastEnd k) = codes "move it before the end, or raise end"
+remedy_of (warning.PausePastEnd k) = codes "move it before the end, or raise end"
+remedy_of (warning.PauseWhileDown k) = codes "move it before the crash or leave, or remove it"

@@ -1,5 +1,5 @@
 ghost use Rattle.std.specs.Prelude.{◌≡◌, ◌≤◌, ◌^◌};
-ghost use Rattle.meaning_text.specs.Numbers.{compared, numbers_of, crash_at, slow_from, slow_extra, leave_at, cut_at};
+ghost use Rattle.meaning_text.specs.Numbers.{compared, numbers_of, crash_at, slow_from, slow_extra, leave_at, cut_at, pause_from};
 
 use base::MemberId;
 use meaning::{item_at, least_suspicion};
@@ -56,12 +56,14 @@ pub(crate) fn numbers_of(warning: Warning, scenario: &Scenario, trip: u64) -> Op
         ),
         Warning::LeavePastEnd(place) => compared(u128::from(leave_at(scenario, place)), end),
         Warning::CutPastEnd(place) => compared(u128::from(cut_at(scenario, place)), end),
+        Warning::PausePastEnd(place) => compared(u128::from(pause_from(scenario, place)), end),
         Warning::LostOnLink => None,
         Warning::PartOfLifeguard => None,
         Warning::HiddenPath(_) => None,
         Warning::LonelyPath(_) => None,
         Warning::LostOnPath(_) => None,
         Warning::SlowWhileDown(_) => None,
+        Warning::PauseWhileDown(_) => None,
     }
 }
 
@@ -116,6 +118,16 @@ fn cut_at(scenario: &Scenario, place: usize) -> u64
 {
     match item_at(scenario.cuts(), place) {
         Some(cut) => cut.at.ticks(),
+        None => 0,
+    }
+}
+
+/// When the pause at this place begins.
+fn pause_from(scenario: &Scenario, place: usize) -> u64
+    ensures { result ≡ pause_from scenario.now place }
+{
+    match item_at(scenario.pauses(), place) {
+        Some(pause) => pause.from.ticks(),
         None => 0,
     }
 }

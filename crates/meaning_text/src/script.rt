@@ -3,11 +3,11 @@ ghost use Rattle.std.specs.List.{range_with_len};
 ghost use Rattle.std.specs.String.{string_bytes};
 ghost use Rattle.scenario.specs.Setup.{member_count};
 ghost use Rattle.meaning.specs.Groups.{groups_of};
-ghost use Rattle.meaning_text.specs.Lines.{departure_text, departure_line, crash_line, leave_line, slow_text, slow_line, cut_text, cut_line, script_lines};
+ghost use Rattle.meaning_text.specs.Lines.{departure_text, departure_line, crash_line, leave_line, slow_text, slow_line, cut_text, cut_line, pause_text, pause_line, script_lines};
 
 use base::{MemberId, Moment};
 use meaning::{group_name, member_name};
-use scenario::{Cut, Leave, Scenario, Slow};
+use scenario::{Cut, Leave, Pause, Scenario, Slow};
 use std::alloc::AllocError;
 
 /// Appends what of the script happens up to the end: crashes by the members' numbers, the rest in the
@@ -24,7 +24,8 @@ pub(crate) fn push_script(
     push_crashes(text, scenario)?;
     push_leaves(text, scenario, scenario.leaves())?;
     push_slows(text, scenario, scenario.slows())?;
-    push_cuts(text, scenario, groups, scenario.cuts())
+    push_cuts(text, scenario, groups, scenario.cuts())?;
+    push_pauses(text, scenario, scenario.pauses())
 }
 
 /// Appends the crashes.
@@ -182,4 +183,36 @@ fn push_cut_text(
     let at = cut.at.ticks();
     let until = cut.until.ticks();
     writeln!(text, "cut {from} {to} from {at} until {until}")
+}
+
+/// Appends the pauses.
+fn push_pauses(text: &mut String, scenario: &Scenario, pauses: &[Pause]) -> Result<(), AllocError>
+    ensures { OnOk result (string_bytes text.new ≡ string_bytes text.old ++ flat_map (pause_line scenario.now) pauses.now) }
+{
+    for pause in pauses {
+        push_pause(text, scenario, pause)?;
+    }
+    Ok(())
+}
+
+/// Appends a pause, if it begins by the end.
+fn push_pause(text: &mut String, scenario: &Scenario, pause: &Pause) -> Result<(), AllocError>
+    ensures { OnOk result (string_bytes text.new ≡ string_bytes text.old ++ pause_line scenario.now pause.now) }
+{
+    if pause.from.ticks() <= scenario.end().ticks() {
+        push_pause_text(text, scenario, pause)
+    } else {
+        Ok(())
+    }
+}
+
+/// Appends who is paused when.
+#[tactic(auto, unfolding(crate::specs::Lines::pause_text))]
+fn push_pause_text(text: &mut String, scenario: &Scenario, pause: &Pause) -> Result<(), AllocError>
+    ensures { OnOk result (string_bytes text.new ≡ string_bytes text.old ++ pause_text scenario.now pause.now) }
+{
+    let name = member_name(scenario, pause.member.index());
+    let from = pause.from.ticks();
+    let until = pause.until.ticks();
+    writeln!(text, "pause {name} from {from} until {until}")
 }

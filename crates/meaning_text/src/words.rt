@@ -27,6 +27,8 @@ pub fn kind_of(warning: Warning) -> &'static str
         Warning::CrashUnconfirmed(_) => "crash-unconfirmed",
         Warning::LeavePastEnd(_) => "leave-past-end",
         Warning::CutPastEnd(_) => "cut-past-end",
+        Warning::PausePastEnd(_) => "pause-past-end",
+        Warning::PauseWhileDown(_) => "pause-while-down",
     }
 }
 
@@ -54,6 +56,8 @@ pub(crate) fn reason_of(warning: Warning) -> &'static str
         Warning::CrashUnconfirmed(_) => "no suspicion that the crash causes can run out in time",
         Warning::LeavePastEnd(_) => "the leave is after the end",
         Warning::CutPastEnd(_) => "the cut begins after the end",
+        Warning::PausePastEnd(_) => "the pause begins after the end",
+        Warning::PauseWhileDown(_) => "the member is down as its pause begins",
     }
 }
 
@@ -83,5 +87,7 @@ pub fn remedy_of(warning: Warning) -> &'static str
         Warning::CrashUnconfirmed(_) => "raise end, or let the member crash earlier",
         Warning::LeavePastEnd(_) => "move it before the end, or raise end",
         Warning::CutPastEnd(_) => "move it before the end, or raise end",
+        Warning::PausePastEnd(_) => "move it before the end, or raise end",
+        Warning::PauseWhileDown(_) => "move it before the crash or leave, or remove it",
     }
 }

@@ -259,6 +259,14 @@ impl Scenario {
         self.contents.cuts.as_slice()
     }
 
+    /// The pauses, in the order of the text; none in versions 1 and 2.
+    pub fn pauses(&self) -> &[Pause]
+        ensures value { result.now ≡ self.now.pauses }
+        ensures sound { IsSound self.now }
+    {
+        self.contents.pauses.as_slice()
+    }
+
     /// How members gossip between their probes; none where they don't, as in versions 1 and 2.
     pub fn gossip(&self) -> Option<Gossip>
         ensures value { result ≡ self.now.gossip }

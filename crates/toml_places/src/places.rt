@@ -1,6 +1,7 @@
 //! The places of a document.
-ghost use Rattle.std.specs.Prelude.{◌≡◌};
+ghost use Rattle.std.specs.Prelude.{◌≡◌, option_copied, option_and_then};
 ghost use Rattle.toml_places.specs.Places.{IsWithin};
+ghost use Rattle.toml_places.specs.Found.{content_at, value_of, item_of, step_of, path_end};
 
 use crate::nodes::{Content, Node};
 use crate::span::Span;
@@ -32,7 +33,9 @@ impl Places {
     }
 
     /// What stands at a place.
-    pub fn content(&self, place: usize) -> Option<&Content> {
+    pub fn content(&self, place: usize) -> Option<&Content>
+        ensures { option_copied result ≡ content_at self.now place }
+    {
         match self.nodes.get(place) {
             Some(node) => Some(&node.content),
             None => None,
@@ -40,7 +43,9 @@ impl Places {
     }
 
     /// The place of the value of a key of a table.
-    pub fn child(&self, table: usize, key: &str) -> Option<usize> {
+    pub fn child(&self, table: usize, key: &str) -> Option<usize>
+        ensures { result ≡ option_and_then (value_of key.now) (content_at self.now table) }
+    {
         match self.content(table) {
             Some(Content::Table(keys)) => keys.get(key).copied(),
             _ => None,
@@ -48,7 +53,9 @@ impl Places {
     }
 
     /// The place of the item of a number in a list.
-    pub fn item(&self, list: usize, number: usize) -> Option<usize> {
+    pub fn item(&self, list: usize, number: usize) -> Option<usize>
+        ensures { result ≡ option_and_then (item_of number) (content_at self.now list) }
+    {
         match self.content(list) {
             Some(Content::List(items)) => items.get(number).copied(),
             _ => None,
@@ -56,16 +63,27 @@ impl Places {
     }
 
     /// The place at the end of a path from the whole text.
-    pub fn find(&self, path: &[Step<'_>]) -> Option<usize> {
+    pub fn find(&self, path: &[Step<'_>]) -> Option<usize>
+        ensures { result ≡ path_end self.now 0 path.now }
+    {
         let mut place = Places::TOP;
         for step in path {
-            let next = match step {
-                Step::Key(key) => self.child(place, *key),
-                Step::Item(number) => self.item(place, *number),
+            let Some(next) = self.next(place, step) else {
+                return None;
             };
-            place = next?;
+            place = next;
         }
         Some(place)
+    }
+
+    /// Where a step leads from a place.
+    fn next(&self, place: usize, step: &Step<'_>) -> Option<usize>
+        ensures { result ≡ option_and_then (step_of step.now) (content_at self.now place) }
+    {
+        match step {
+            Step::Key(key) => self.child(place, *key),
+            Step::Item(number) => self.item(place, *number),
+        }
     }
 
     /// Where the key of a place stands; of an item, where its value does.

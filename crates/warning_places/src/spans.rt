@@ -62,6 +62,7 @@ pub(crate) fn span_of(
         About::Crash(member) => crash_of(places, crashes, scenario, member),
         About::Leave(number) => item_of(places, "leave", number),
         About::Cut(number) => item_of(places, "cut", number),
+        About::Pause(number) => item_of(places, "pause", number),
     }
 }
 

@@ -24,3 +24,5 @@ about_of (warning.CrashPastEnd k) = about.Crash k
 about_of (warning.CrashUnconfirmed k) = about.Crash k
 about_of (warning.LeavePastEnd k) = about.Leave k
 about_of (warning.CutPastEnd k) = about.Cut k
+about_of (warning.PausePastEnd k) = about.Pause k
+about_of (warning.PauseWhileDown k) = about.Pause k

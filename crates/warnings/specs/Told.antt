@@ -7,6 +7,7 @@ use Rattle.scenario.specs.declared.settings.Path.{Path}
 use Rattle.scenario.specs.declared.settings.Slow.{Slow}
 use Rattle.scenario.specs.declared.settings.Leave.{Leave}
 use Rattle.scenario.specs.declared.settings.Cut.{Cut}
+use Rattle.scenario.specs.declared.settings.Pause.{Pause}
 use Rattle.meaning.specs.Each.{made_of_each}
 use Rattle.meaning.specs.Groups.{groups_of, is_hidden}
 use Rattle.warnings.specs.declared.warning.Warning.{Warning}
@@ -51,6 +52,9 @@ told_of_leave s k l = told_if (is_past s l.at) (warning.LeavePastEnd k)
 unfoldable pub told_of_cut : Setup → ℕ → Cut → List Warning
 told_of_cut s k c = told_if (is_past s c.at) (warning.CutPastEnd k)
 
+unfoldable pub told_of_pause : Setup → ℕ → Pause → List Warning
+told_of_pause s k p = told_if (is_past s p.from) (warning.PausePastEnd k) ++ told_if (is_down s p.member p.from) (warning.PauseWhileDown k)
+
 -- what is told of the crashes of the first n members
 abbrev pub crashes_below : Setup → ℕ → List Warning
 crashes_below s n = flat_map (λ m. told_of_crash s m (crash_of s m)) (range_with_len 0 n)
@@ -58,8 +62,9 @@ crashes_below s n = flat_map (λ m. told_of_crash s m (crash_of s m)) (range_wit
 abbrev pub told_of_crashes : Setup → List Warning
 told_of_crashes s = crashes_below s (member_count s)
 
--- First those of single settings, then those of the items of lists: paths, slow times, crashes, leaves and cuts, each in the order of the text, crashes in that of the members.
+-- First those of single settings, then those of the items of lists: paths, slow times, crashes, leaves, cuts and pauses, each in the order of the text, crashes in that of the members.
 abbrev pub warnings_of : Setup → ℕ → List Warning
 warnings_of s trip =
     told_of_settings s trip ++ made_of_each (told_of_path s) s.paths ++ made_of_each (told_of_slow s trip) s.slows
     ++ told_of_crashes s ++ made_of_each (told_of_leave s) s.leaves ++ made_of_each (told_of_cut s) s.cuts
+    ++ made_of_each (told_of_pause s) s.pauses

@@ -22,6 +22,7 @@ pub enum About {
     Crash(usize),
     Leave(usize),
     Cut(usize),
+    Pause(usize),
 }
 
 /// What a warning is about.
@@ -47,6 +48,8 @@ pub fn about_of(warning: Warning) -> About
         Warning::CrashUnconfirmed(member) => About::Crash(member),
         Warning::LeavePastEnd(place) => About::Leave(place),
         Warning::CutPastEnd(place) => About::Cut(place),
+        Warning::PausePastEnd(place) => About::Pause(place),
+        Warning::PauseWhileDown(place) => About::Pause(place),
     }
 }
 

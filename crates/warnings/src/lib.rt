@@ -7,6 +7,7 @@ mod findings;
 mod list;
 mod members;
 mod paths;
+mod pauses;
 mod settings;
 mod slows;
 mod warning;

@@ -3,6 +3,7 @@ ghost use Rattle.warnings.specs.Told.{warnings_of, told_if};
 
 use crate::events::{push_crashes, push_cuts, push_leaves};
 use crate::paths::push_paths;
+use crate::pauses::push_pauses;
 use crate::settings::push_settings;
 use crate::slows::push_slows;
 use crate::warning::Warning;
@@ -11,7 +12,7 @@ use scenario::Scenario;
 use std::alloc::Global;
 
 /// What the scenario is warned of, in the order of `Warning`'s cases for its single settings, and
-/// then of the items of its lists: paths, slow times, crashes, leaves, cuts. `trip` is the greatest
+/// then of the items of its lists: paths, slow times, crashes, leaves, cuts, pauses. `trip` is the greatest
 /// round trip of a pair of its members.
 pub(crate) fn warnings_of(
     alloc: Global,
@@ -28,6 +29,7 @@ pub(crate) fn warnings_of(
     push_crashes(&mut told, scenario)?;
     push_leaves(&mut told, scenario)?;
     push_cuts(&mut told, scenario)?;
+    push_pauses(&mut told, scenario)?;
     Ok(told)
 }
 

@@ -38,4 +38,8 @@ pub enum Warning {
     LeavePastEnd(usize),
     /// A cut that begins after the end.
     CutPastEnd(usize),
+    /// A pause that begins after the end.
+    PausePastEnd(usize),
+    /// A pause of a member that is down as it begins.
+    PauseWhileDown(usize),
 }
