@@ -17,6 +17,7 @@ from pathlib import Path
 
 import commands
 import draws
+import pieces
 import presets
 import sweeps
 import texts
@@ -25,7 +26,7 @@ import writes
 from program import Program, Wrong
 
 BUILT = Path(__file__).resolve().parent.parent / 'crates' / 'swimsim' / 'out' / 'swimsim'
-KINDS = (worked, draws, texts, commands, presets, sweeps, writes)
+KINDS = (worked, draws, texts, commands, presets, sweeps, pieces, writes)
 
 
 def failure_of(path, room, case):

@@ -4,9 +4,10 @@ Written from docs/FORMAT.md ("A sweep") alone.
 """
 
 import copy
+import hashlib
 import itertools
 from fractions import Fraction
-from math import isqrt
+from math import inf, isqrt
 
 import model
 import model_text
@@ -116,6 +117,25 @@ def table_of(settings, cases):
     return ''.join(','.join(map(str, line)) + '\n' for line in lines)
 
 
+# ---- Pieces ----
+
+def note_of(figures):
+    """What a case keeps of a run, as it is written."""
+    told = [figures['false_suspect'], figures['thrown_out'], figures['revived'], figures['sent'],
+            figures['members'] * figures['end']]
+    times = zip(*(figures['times'][name] for name in ('suspect', 'confirm', 'last')))
+    return ' '.join(map(str, [*told, *('-' if time is None else time for crash in times for time in crash)]))
+
+
+def piece_of(text, settings, words, cases, number, pieces):
+    """The table of a piece of a sweep over the bytes of a text; `words` are those of its seeds and settings."""
+    header, *lines = table_of(settings, cases).splitlines(keepends=True)
+    notes = [note_of(figures) for _, runs in cases for _, figures in runs]
+    name = f'{number}/{pieces} {hashlib.sha256(text).hexdigest()} {" ".join(words)}'
+    first, past = ((number - 1) * len(lines) // pieces, number * len(lines) // pieces)
+    return f'"{name}",{header}' + ''.join(f'{note},{line}' for note, line in zip(notes[first:past], lines[first:past]))
+
+
 # ---- Standard output ----
 
 def percentile(times, percent):
@@ -165,10 +185,89 @@ def cases_text(settings, cases):
     """The lines of standard output."""
     names = without_revived(CASE_FIGURES, cases)
     widths = [max(map(len, [key, *map(word, values)])) for key, values in settings]
-    widths += [max(8, len(name)) for name in names]
-    lines = [[*(key for key, _ in settings), *names]]
-    for case, runs in cases:
-        told = case_figures([figures for _, figures in runs])
-        lines.append([*map(word, case), *(told[name] for name in names)])
+    widths += [*(max(8, len(name)) for name in names), len('front')]
+    lines = [[*(key for key, _ in settings), *names, 'front']]
+    all_told = told_of_cases(cases)
+    for (case, _), told in zip(cases, all_told):
+        mark = '-' if any(beats(other, told) for other in all_told) else '*'
+        lines.append([*map(word, case), *(told[name] for name in names), mark])
     return ''.join('  '.join(str(item).rjust(width) for item, width in zip(line, widths)) + '\n'
                    for line in lines)
+
+
+def told_of_cases(cases):
+    """What is told of each case."""
+    return [case_figures([figures for _, figures in runs]) for _, runs in cases]
+
+
+def figure(told, name):
+    """A figure of a case as a number; one that isn't there is greater than any."""
+    return inf if told[name] == '-' else Fraction(told[name])
+
+
+def place_of(told):
+    """By what a case is compared with others: the median time to confirm, and the share of runs with members thrown out."""
+    return figure(told, 'confirm_p50'), Fraction(told['runs_with'], told['runs'])
+
+
+def beats(one, other):
+    """Whether the one case is at most as great in both, and less in one."""
+    return place_of(one) != place_of(other) and all(mine <= its for mine, its in zip(place_of(one), place_of(other)))
+
+
+# ---- What cases answer ----
+
+def is_inside(bound, told):
+    """Whether a share is in Wilson's 95 % interval of the runs in which members were thrown out."""
+    runs = told['runs']
+    distance = Fraction(told['runs_with'], runs) - bound
+    return runs * distance**2 <= Fraction(196, 100)**2 * bound * (1 - bound)
+
+
+def answer_to(want, told):
+    """Whether a case shows what is wanted, shows that it isn't so, or neither: 'shown', 'refuted' or 'open'."""
+    name, _, bound = want.partition('<=')
+    bound = Fraction(bound)
+    if name != 'out':
+        return 'shown' if figure(told, name) <= bound else 'refuted'
+    if bound >= 1:
+        return 'shown'
+    share = Fraction(told['runs_with'], told['runs'])
+    runs = told['runs']
+    at_end = runs * (share - bound)**2 == Fraction(196, 100)**2 * bound * (1 - bound)
+    if share < bound and (at_end or not is_inside(bound, told)):
+        return 'shown'
+    return 'refuted' if share > bound and not is_inside(bound, told) else 'open'
+
+
+def more_runs(wants, told):
+    """How many more runs would tell, if the share stays."""
+    bound = next(Fraction(want.partition('<=')[2]) for want in wants if answer_to(want, told) != 'shown')
+    share = Fraction(told['runs_with'], told['runs'])
+    if bound >= 1 or share == bound:
+        return '-'
+    enough = Fraction(196, 100)**2 * bound * (1 - bound) / (share - bound)**2
+    return max(0, int(enough) + 1 - told['runs'])
+
+
+def answer_text(wants, settings, cases):
+    """What standard output ends with where something is wanted of the cases."""
+    if not wants:
+        return ''
+    all_told = told_of_cases(cases)
+    answers = {want: [answer_to(want, told) for told in all_told] for want in wants}
+    lines = []
+    for want in wants:
+        counts = ' '.join(f'{it}={answers[want].count(it)}' for it in ('shown', 'open', 'refuted'))
+        lines.append(f'wanted: {want} {counts}')
+    meeting = []
+    for number, (case, _) in enumerate(cases):
+        name = ' '.join(f'{key}={word(value)}' for (key, _), value in zip(settings, case)) or 'the scenario as it is'
+        found = {answers[want][number] for want in wants}
+        if found == {'shown'}:
+            lines.append(f'meets: {name}')
+            meeting.append((figure(all_told[number], 'confirm_p50'), figure(all_told[number], 'messages'), number, name))
+        elif 'refuted' not in found:
+            lines.append(f'may: {name} more_runs={more_runs(wants, all_told[number])}')
+    lines.append(f'best: {min(meeting)[3] if meeting else "none"}')
+    return ''.join(f'{line}\n' for line in lines)

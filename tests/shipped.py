@@ -74,8 +74,8 @@ def a_bare_machine_has_its_first_report(room):
     copy = clone(room)
     ran = run_bare(copy, 'swimsim', *CRASH)
     assert (ran.returncode, ran.stdout, ran.stderr) == (0, 'rows 9679\n', ''), ran
-    told = re.findall(r'^```\n(members 100\n.*?)^```$', (TOP / 'README.md').read_text(), re.M | re.S)
-    assert (copy / 'r.txt').read_text() in told, 'README shows this report'
+    told = re.search(r'^```\n(crash node-42 .*?)^```$', (TOP / 'README.md').read_text(), re.M | re.S)[1]
+    assert set(told.splitlines()) <= set((copy / 'r.txt').read_text().splitlines()), 'README shows lines of this report'
 
 
 def a_changed_byte_is_not_run(room):

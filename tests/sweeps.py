@@ -4,7 +4,7 @@ import itertools
 import json
 
 import texts
-from model_sweeps import cases_text, swept, table_of
+from model_sweeps import answer_text, cases_text, swept, table_of
 from program import Case, DATA, Wrong, expect, expect_ran
 from scenarios import document_of
 from worked import text_of
@@ -36,7 +36,8 @@ def expected_of(text, sweep):
     """The table and the lines of a sweep, as the model gives them."""
     settings = settings_of(sweep['set'])
     _, cases = swept(document_of(text.encode()), settings, seeds_of(sweep.get('seeds')))
-    return table_of(settings, cases).encode(), cases_text(settings, cases).encode()
+    lines = cases_text(settings, cases) + answer_text(sweep.get('want', []), settings, cases)
+    return table_of(settings, cases).encode(), lines.encode()
 
 
 def expect_progress(lines, runs, wanted):
@@ -57,6 +58,8 @@ def check(program, sweep):
         words += ['--seeds', sweep['seeds']]
     for setting in sweep['set']:
         words += ['--set', setting]
+    for want in sweep.get('want', []):
+        words += ['--want', want]
     by_model = expected_of(text, sweep)
     table, lines = ((FOLDER / sweep[key]).read_bytes() if key in sweep else modelled
                     for key, modelled in zip(('table', 'lines'), by_model))

@@ -1,29 +1,41 @@
 -- What an answer to the words says of them, and of what was not done.
-use Rattle.std.proofs.Common.{◌≡◌, List, ℕ, Bool, true, false, Option, Result, Ok, Err, sym, subst, refl, inl, inr}
+use Rattle.std.proofs.Common.{◌≡◌, List, [], ◌∷◌, ℕ, Bool, true, false, Option, Some, None, Result, Ok, Err, codes, sym, subst, refl, inl, inr}
+use Rattle.std.proofs.lemmas.Option.{none-some, same_Some}
 use Rattle.std.proofs.lemmas.Result.{on_ok_weaker, IfErr-weaker}
+use Rattle.std.proofs.lemmas.List.Elements.{All-cons, All-nil}
+use Rattle.std.specs.Prelude.{All, unwrap_or}
 use Rattle.std.specs.Result.{OnOk, IfErr}
+use Rattle.std.specs.Option.{ForSome}
 use Rattle.std.specs.Io.KnownBytes.{Appends}
-use Rattle.clap.specs.Words.{Text}
+use Rattle.clap.specs.Words.{Text, all_of, first_of}
 use Rattle.scenario_files.specs.Shelves.{Shelf}
+use Rattle.join_command.specs.Outcomes.{JoinFails, JoinsAll}
+use Rattle.join_command.proofs.Causes.{join_memory, join_mistaken, join_output, join_preset, join_usage}
 use Rattle.explain_command.specs.Outcomes.{ExplainFails, PrintsMeaning}
 use Rattle.run_command.specs.Outcomes.{RunFails, RunsAll}
 use Rattle.run_command.proofs.Causes.{run_memory, run_mistaken, run_output, run_preset, run_usage}
 use Rattle.sweep_command.specs.Outcomes.{AsksForProgress, SweepFails, SweepsAll}
 use Rattle.sweep_command.proofs.Causes.{sweep_memory, sweep_mistaken, sweep_output, sweep_preset, sweep_usage}
+use Rattle.pieces.specs.declared.piece.Piece.{Piece}
+use Rattle.pieces.specs.Pieces.{IsPiece}
+use Rattle.answers.specs.Wants.{IsBounded}
+use Rattle.answers.specs.Words.{AreWants}
+use Rattle.answers.specs.declared.want.Want.{Want}
 use Rattle.cli.specs.Outcomes.{CheckFails, EndsRunBy, HasDone, Fails}
 use Rattle.files.specs.Files.{Making}
 use Rattle.command_line.specs.Printed.{rows_line, PresetFails, PrintsPreset}
-use Rattle.command_line.specs.Words.{Answers, AsksForRun, AsksForCheck, AsksForExplain, AsksForInit, AsksForSweep, IsCommand}
+use Rattle.command_line.specs.Words.{Answers, AsksForRun, AsksForCheck, AsksForExplain, AsksForInit, AsksForJoin, AsksForPiece, AsksForSweep, IsCommand}
 use Rattle.command_line.specs.declared.release.Release.{Release}
 use Rattle.command_line.specs.declared.words.Asked.{Asked}
 use Rattle.command_line.specs.declared.words.Asked.TheVariants as asked
 use Rattle.presets.specs.declared.preset.Preset.{Preset}
 use Rattle.command_line.specs.declared.explaining.ExplainWords.{ExplainWords}
+use Rattle.command_line.specs.declared.joining.JoinWords.{JoinWords}
 use Rattle.command_line.specs.declared.words.RunWords.{RunWords}
 use Rattle.command_line.specs.declared.words.SweepWords.{SweepWords}
 use Rattle.command_line.specs.declared.failure.Failure.{Failure}
 use Rattle.command_line.specs.declared.failure.Failure.TheVariants as failing
-use Rattle.command_line.specs.declared.failure.Failure.TheVariants.{File, Usage, Rule, Mistaken, Case, Workers, Division, Run, Memory, Output}
+use Rattle.command_line.specs.declared.failure.Failure.TheVariants.{File, Usage, Rule, Mistaken, Case, Pieces, Workers, Division, Run, Memory, Output}
 
 -- words with an answer are a command
 pub is_command : (words : List Text) (answer : Asked) → Answers words answer → IsCommand words
@@ -32,8 +44,9 @@ is_command words (asked.Check file) h = inr (inl (file.now, h))
 is_command words (asked.Explain explain) h = inr (inr (inl (explain, h)))
 is_command words (asked.Sweep sweep) h = inr (inr (inr (inl (sweep, h))))
 is_command words (asked.Init preset) h = inr (inr (inr (inr (inl (preset, h)))))
-is_command words (asked.Help help) h = inr (inr (inr (inr (inr (inl h.1)))))
-is_command words asked.Version h = inr (inr (inr (inr (inr (inr h)))))
+is_command words (asked.Join join) h = inr (inr (inr (inr (inr (inl (join, h))))))
+is_command words (asked.Help help) h = inr (inr (inr (inr (inr (inr (inl h.1))))))
+is_command words asked.Version h = inr (inr (inr (inr (inr (inr (inr h))))))
 
 -- why a run that the words ask for was not done
 pub run_fails : (words : List Text) (before after : Shelf) (making : Making) (old new : Option (List ℕ)) (run : RunWords) (failure : Failure)
@@ -42,6 +55,7 @@ run_fails words before after making old new run (File name) asks fails = inl (ru
 run_fails words before after making old new run (Rule rule) asks fails = inl (run, asks, fails)
 run_fails words before after making old new run (Mistaken rule) asks fails = absurd (run_mistaken before after making run rule fails)
 run_fails words before after making old new run (Case rule settings) asks fails = inl (run, asks, fails)
+run_fails words before after making old new run (Pieces cause) asks fails = inl (run, asks, fails)
 run_fails words before after making old new run Workers asks fails = inl (run, asks, fails)
 run_fails words before after making old new run (Division cause) asks fails = inl (run, asks, fails)
 run_fails words before after making old new run (Run cause) asks fails = inl (run, asks, fails)
@@ -57,6 +71,7 @@ check_fails words before after making old new file (File name) asks fails = inr 
 check_fails words before after making old new file (Rule rule) asks fails = inr (inl (file, asks, fails))
 check_fails words before after making old new file (Mistaken rule) asks fails = absurd fails.cause
 check_fails words before after making old new file (Case rule settings) asks fails = absurd fails.cause
+check_fails words before after making old new file (Pieces cause) asks fails = absurd fails.cause
 check_fails words before after making old new file Memory asks fails = fails.same
 check_fails words before after making old new file Usage asks fails = absurd fails.cause
 check_fails words before after making old new file failing.Preset asks fails = absurd fails.cause
@@ -72,6 +87,7 @@ explain_fails words before after making old new explain (File name) asks same fa
 explain_fails words before after making old new explain (Rule rule) asks same fails = absurd fails
 explain_fails words before after making old new explain (Mistaken rule) asks same fails = (explain, asks, record { cause = fails; same = same })
 explain_fails words before after making old new explain (Case rule settings) asks same fails = absurd fails
+explain_fails words before after making old new explain (Pieces cause) asks same fails = absurd fails
 explain_fails words before after making old new explain Memory asks same fails = same
 explain_fails words before after making old new explain Usage asks same fails = absurd fails
 explain_fails words before after making old new explain failing.Preset asks same fails = absurd fails
@@ -106,13 +122,14 @@ asked_explain_done release words before after making old new answer explain prin
 -- why a sweep that the words ask for was not done
 pub sweep_fails : (words : List Text) (before after : Shelf) (making : Making) (old new : Option (List ℕ)) (sweep : SweepWords) (failure : Failure)
     → AsksForSweep words sweep → SweepFails before after making sweep failure → Fails words before after making old new failure
-sweep_fails words before after making old new sweep (File name) asks fails = inr (inr (inr (sweep, asks, fails)))
-sweep_fails words before after making old new sweep (Rule rule) asks fails = inr (inr (inr (sweep, asks, fails)))
+sweep_fails words before after making old new sweep (File name) asks fails = inr (inr (inr (inl (sweep, asks, fails))))
+sweep_fails words before after making old new sweep (Rule rule) asks fails = inr (inr (inr (inl (sweep, asks, fails))))
 sweep_fails words before after making old new sweep (Mistaken rule) asks fails = absurd (sweep_mistaken before after making sweep rule fails)
-sweep_fails words before after making old new sweep (Case rule settings) asks fails = inr (inr (inr (sweep, asks, fails)))
-sweep_fails words before after making old new sweep Workers asks fails = inr (inr (inr (sweep, asks, fails)))
-sweep_fails words before after making old new sweep (Division cause) asks fails = inr (inr (inr (sweep, asks, fails)))
-sweep_fails words before after making old new sweep (Run cause) asks fails = inr (inr (inr (sweep, asks, fails)))
+sweep_fails words before after making old new sweep (Case rule settings) asks fails = inr (inr (inr (inl (sweep, asks, fails))))
+sweep_fails words before after making old new sweep (Pieces cause) asks fails = inr (inr (inr (inl (sweep, asks, fails))))
+sweep_fails words before after making old new sweep Workers asks fails = inr (inr (inr (inl (sweep, asks, fails))))
+sweep_fails words before after making old new sweep (Division cause) asks fails = inr (inr (inr (inl (sweep, asks, fails))))
+sweep_fails words before after making old new sweep (Run cause) asks fails = inr (inr (inr (inl (sweep, asks, fails))))
 sweep_fails words before after making old new sweep failing.Preset asks fails = absurd (sweep_preset before after making sweep fails)
 sweep_fails words before after making old new sweep Usage asks fails = absurd (sweep_usage before after making sweep fails)
 sweep_fails words before after making old new sweep Output asks fails = absurd (sweep_output before after making sweep fails)
@@ -167,6 +184,69 @@ asked_untold words answer sweep is h none = go sweep.progress refl
         let asks : Answers words (asked.Sweep sweep) = subst (Answers words) is h in
         absurd (none (sweep, asks, e))
 
+-- the piece that a sweep names is sound
+piece_sound : (word : Option Text) (piece : Option Piece) → AsksForPiece word piece → (p : Piece) → piece ≡ Some p → IsPiece p
+piece_sound None None h p is = absurd (none-some p is)
+piece_sound None (Some q) h p is = absurd h
+piece_sound (Some word) None h p is = absurd h
+piece_sound (Some word) (Some q) h p is = subst IsPiece (same_Some q p is) h.sound
+
+pub asked_piece : (words : List Text) (answer : Asked) (sweep : SweepWords) → answer ≡ asked.Sweep sweep → Answers words answer → ForSome sweep.piece IsPiece
+asked_piece words answer sweep is h =
+    let asks : Answers words (asked.Sweep sweep) = subst (Answers words) is h in
+    piece_sound (first_of (codes "shard") asks.1.rows) sweep.piece asks.1.piece
+
+-- what a sweep wants is bounded
+wants_bounded : (words : List Text) (wants : List Want) → AreWants words wants → All IsBounded wants
+wants_bounded [] [] are = All-nil IsBounded
+wants_bounded [] (want ∷ wants) are = absurd are
+wants_bounded (word ∷ words) [] are = absurd are
+wants_bounded (word ∷ words) (want ∷ wants) are = All-cons IsBounded want wants are.0.low (wants_bounded words wants are.1)
+
+pub asked_wants : (words : List Text) (answer : Asked) (sweep : SweepWords) → answer ≡ asked.Sweep sweep → Answers words answer → All IsBounded sweep.wants.items
+asked_wants words answer sweep is h =
+    let asks : Answers words (asked.Sweep sweep) = subst (Answers words) is h in
+    wants_bounded (unwrap_or (all_of (codes "want") asks.1.rows) []) sweep.wants.items asks.1.wants
+
+-- why pieces that the words ask to join were not put together
+join_fails : (words : List Text) (before after : Shelf) (making : Making) (old new : Option (List ℕ)) (join : JoinWords) (failure : Failure)
+    → AsksForJoin words join → JoinFails before after making join failure → Fails words before after making old new failure
+join_fails words before after making old new join (File name) asks fails = inr (inr (inr (inr (join, asks, fails))))
+join_fails words before after making old new join (Rule rule) asks fails = inr (inr (inr (inr (join, asks, fails))))
+join_fails words before after making old new join (Mistaken rule) asks fails = absurd (join_mistaken before after making join rule fails)
+join_fails words before after making old new join (Case rule settings) asks fails = inr (inr (inr (inr (join, asks, fails))))
+join_fails words before after making old new join (Pieces cause) asks fails = inr (inr (inr (inr (join, asks, fails))))
+join_fails words before after making old new join Workers asks fails = inr (inr (inr (inr (join, asks, fails))))
+join_fails words before after making old new join (Division cause) asks fails = inr (inr (inr (inr (join, asks, fails))))
+join_fails words before after making old new join (Run cause) asks fails = inr (inr (inr (inr (join, asks, fails))))
+join_fails words before after making old new join failing.Preset asks fails = absurd (join_preset before after making join fails)
+join_fails words before after making old new join Usage asks fails = absurd (join_usage before after making join fails)
+join_fails words before after making old new join Output asks fails = absurd (join_output before after making join fails)
+join_fails words before after making old new join Memory asks fails = join_memory before after making join fails
+
+-- the same of an answer that asks to join
+pub asked_join_fails : (words : List Text) (before after : Shelf) (making : Making) (old new : Option (List ℕ)) (answer : Asked) (join : JoinWords) (failure : Failure)
+    → answer ≡ asked.Join join → Answers words answer → JoinFails before after making join failure → Fails words before after making old new failure
+asked_join_fails words before after making old new answer join failure is h fails =
+    let asks : Answers words (asked.Join join) = subst (Answers words) is h in
+    join_fails words before after making old new join failure asks fails
+
+-- pieces that the words ask to join were put together, and the lines of the cases printed
+pub asked_join_done : {E : Type 0} (release : Release) (words : List Text) (before after : Shelf) (making : Making) (old new : Option (List ℕ)) (answer : Asked) (join : JoinWords)
+    (lines shown : List ℕ) (printed : Result (Unit {0}) E) → answer ≡ asked.Join join → Answers words answer → JoinsAll before after making join lines
+    → shown ≡ lines → OnOk printed (Appends old new shown) → OnOk printed (HasDone release words before after making old new)
+asked_join_done release words before after making old new answer join lines shown printed is h joined same told =
+    let asks : Answers words (asked.Join join) = subst (Answers words) is h in
+    on_ok_weaker printed (λ appended. inr (inr (inr (inr (inr (inl (lines, (join, asks, joined), subst (Appends old new) same appended))))))) told
+
+-- or not printed
+pub asked_join_unprinted : (words : List Text) (before after : Shelf) (making : Making) (old new : Option (List ℕ)) (answer : Asked) (join : JoinWords) (lines : List ℕ)
+    (printed : Result (Unit {0}) Failure) → answer ≡ asked.Join join → Answers words answer → JoinsAll before after making join lines
+    → IfErr printed (λ failure. failure ≡ Output) → IfErr printed (Fails words before after making old new)
+asked_join_unprinted words before after making old new answer join lines printed is h joined told =
+    let asks : Answers words (asked.Join join) = subst (Answers words) is h in
+    IfErr-weaker printed _ _ (λ failure same. subst (Fails words before after making old new) (sym same) (inr (inr (inr (inr (inr (inl (lines, (join, asks, joined))))))))) told
+
 -- the scenario of a preset that the words ask for was printed
 pub asked_init_done : {E : Type 0} (release : Release) (words : List Text) (before : Shelf) (making : Making) (old new : Option (List ℕ)) (answer : Asked) (preset : Preset)
     (printed : Result (Unit {0}) E) → answer ≡ asked.Init preset → Answers words answer
@@ -191,6 +271,7 @@ asked_init_fails words before making old new answer preset unchanged failure is 
     by_failure (Rule rule) asks none = absurd none
     by_failure (Mistaken rule) asks none = absurd none
     by_failure (Case rule settings) asks none = absurd none
+    by_failure (Pieces cause) asks none = absurd none
     by_failure Workers asks none = absurd none
     by_failure (Division cause) asks none = absurd none
     by_failure (Run cause) asks none = absurd none

@@ -19,6 +19,7 @@ use Rattle.command_line.specs.declared.failure.Failure.TheVariants.{Usage, Prese
 use Rattle.presets.specs.declared.preset.Preset.{Preset as AnyPreset}
 use Rattle.scenario_files.specs.Shelves.{Shelf, IsRefused}
 use Rattle.scenario_files.specs.Loading.{HasVerdict, LoadFails}
+use Rattle.join_command.specs.Outcomes.{DoesJoin, DoesNotJoin}
 use Rattle.explain_command.specs.Outcomes.{ExplainFails, IsExplained, PrintsMeaning}
 use Rattle.run_command.specs.Outcomes.{DoesRun, RunFails}
 use Rattle.sweep_command.specs.Outcomes.{DoesSweep, DoesNotSweep}
@@ -55,16 +56,17 @@ abbrev pub DoesVersion : List Text → Shelf → Shelf → Type 0
 DoesVersion words before after = AsksForVersion words × (after ≡ before)
 
 -- what the words ask for was done: a run, and the number of its rows printed; a check, and the number of members
--- printed; what a scenario means printed; a sweep, and the lines of its cases printed; a preset's scenario printed; help was printed; or the
--- line that tells of this release
+-- printed; what a scenario means printed; a sweep, and the lines of its cases printed; a preset's scenario printed; pieces joined, and the lines of
+-- the cases printed; help was printed; or the line that tells of this release
 abbrev pub HasDone : Release → List Text → Shelf → Shelf → Making → Option (List ℕ) → Option (List ℕ) → Type 0
 HasDone release words before after making old new = ((count : ℕ) × DoesRun words before after making count × Appends old new (rows_line count))
     ⊎ (((members : ℕ) × DoesCheck words before after members × Appends old new (members_line members))
     ⊎ (DoesExplain words before after old new
     ⊎ (((lines : List ℕ) × DoesSweep words before after making lines × Appends old new lines)
     ⊎ (DoesInit words before after old new
+    ⊎ (((lines : List ℕ) × DoesJoin words before after making lines × Appends old new lines)
     ⊎ (DoesHelp words before after
-    ⊎ (DoesVersion words before after × Appends old new (release_line release)))))))
+    ⊎ (DoesVersion words before after × Appends old new (release_line release))))))))
 
 -- a text tells of the scenario of the file that the words ask to explain
 abbrev pub Explains : List Text → Shelf → Shelf → Type 0
@@ -78,7 +80,8 @@ DoneUnprinted words before after making = ((count : ℕ) × DoesRun words before
     ⊎ (Explains words before after
     ⊎ (((lines : List ℕ) × DoesSweep words before after making lines)
     ⊎ (HasPreset words before after
-    ⊎ (DoesHelp words before after ⊎ DoesVersion words before after)))))
+    ⊎ (((lines : List ℕ) × DoesJoin words before after making lines)
+    ⊎ (DoesHelp words before after ⊎ DoesVersion words before after))))))
 
 -- ---- what was not done
 
@@ -96,13 +99,14 @@ abbrev pub DoesNotExplain : List Text → Shelf → Shelf → Option (List ℕ) 
 DoesNotExplain words before after old new failure = (explain : ExplainWords) × AsksForExplain words explain
     × IsRefused before after (ExplainFails (before explain.file.now) explain old new failure)
 
--- why a run, a check, an explanation or a sweep that the words ask for was not done
+-- why a run, a check, an explanation, a sweep or a joining that the words ask for was not done
 abbrev pub DoesNot : List Text → Shelf → Shelf → Making → Option (List ℕ) → Option (List ℕ) → Failure → Type 0
 DoesNot words before after making old new failure =
     ((run : RunWords) × AsksForRun words run × RunFails EndsRunBy before after making run failure)
     ⊎ (((file : Text) × AsksForCheck words file × CheckFails before after file failure)
     ⊎ (DoesNotExplain words before after old new failure
-    ⊎ DoesNotSweep words before after making failure))
+    ⊎ (DoesNotSweep words before after making failure
+    ⊎ DoesNotJoin words before after making failure)))
 
 -- why what the words ask for wasn't done
 abbrev pub Fails : List Text → Shelf → Shelf → Making → Option (List ℕ) → Option (List ℕ) → Failure → Type 0

@@ -95,6 +95,7 @@ faultless answer deal is failure.Preset h = h
 faultless answer deal is (failure.Rule rule) h = h
 faultless answer deal is (failure.Mistaken rule) h = h
 faultless answer deal is (failure.Case rule settings) h = h
+faultless answer deal is (failure.Pieces cause) h = h
 faultless answer deal is failure.Workers h = h
 faultless answer deal is (failure.Run cause) h = h
 faultless answer deal is failure.Memory h = h

@@ -1,11 +1,12 @@
 -- The command that the words met, by its name and its rows.
-use Rattle.std.proofs.Common.{◌≡◌, ◌∙◌, ℕ, List, [], length, arith, Option, Some, None, IfSome, IsNone, Bor, option_map, sym, ap, ap₂, codes}
+use Rattle.std.proofs.Common.{◌≡◌, ◌∙◌, ℕ, List, [], length, get_or, arith, Option, Some, None, IfSome, IsNone, Bor, option_map, sym, ap, ap₂, codes}
 use Rattle.std.proofs.lemmas.Option.{none-some, same_Some}
 use Rattle.std.specs.Box.{box_value}
 use Rattle.clap.specs.Words.{Row, Text, first_of, found_of, rows_of, subcommand_name_of, subcommand_rows_of}
 use Rattle.presets.specs.Presets.{word_of}
 use Rattle.presets.specs.declared.preset.Preset.{Preset}
-use Rattle.command_line.specs.Words.{IsCheckIn, IsInitIn, IsSplitIn, IsSweepIn, NamesNoPreset}
+use Rattle.command_line.specs.Words.{IsCheckIn, IsInitIn, IsJoinIn, IsSplitIn, IsSweepIn, NamesNoPreset}
+use Rattle.command_line.specs.declared.joining.JoinWords.{JoinWords}
 use Rattle.command_line.specs.declared.words.SweepWords.{SweepWords}
 use Rattle.command_line.specs.declared.words.Split.{Split}
 use Rattle.command_line.specs.declared.words.Split.TheVariants as split
@@ -78,6 +79,16 @@ init_no_sweep met rows given init sweep =
 -- words that name no preset ask for no sweep, and for no preset's scenario
 pub no_preset_no_sweep : (met : Option (Text × List Row)) → NamesNoPreset met → (sweep : SweepWords) → IsSweepIn met sweep → ⊥
 no_preset_no_sweep met names sweep h = init_no_sweep met names.rows h.rows names.met_init h.met_sweep
+
+-- nor for pieces to be joined
+abbrev name_first : Option (Text × List Row) → ℕ
+name_first None = 0
+name_first (Some met) = get_or met.0 0 0
+
+pub no_preset_no_join : (met : Option (Text × List Row)) → NamesNoPreset met → (join : JoinWords) → IsJoinIn met join → ⊥
+no_preset_no_join met names join h =
+    let letter : name_first (Some (codes "init", names.rows)) ≡ name_first (Some (codes "join", h.rows)) = ap name_first (sym names.met_init ∙ h.met_join) in
+    omega (arith, letter)
 
 pub no_preset_no_init : (met : Option (Text × List Row)) → NamesNoPreset met → (preset : Preset) → IsInitIn met preset → ⊥
 no_preset_no_init met names preset h =

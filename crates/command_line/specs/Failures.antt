@@ -12,7 +12,9 @@ use Rattle.command_line.specs.Shown.{shown_name}
 use Rattle.command_line.specs.Division.{AreParts, AsksForWorkers, DivisionFails, ListFails}
 use Rattle.command_line.specs.declared.words.Split.{Split}
 use Rattle.command_line.specs.declared.failure.Failure.{Failure}
-use Rattle.command_line.specs.declared.failure.Failure.TheVariants.{File, Usage, Preset, Rule, Mistaken, Case, Workers, Division, Run, Memory, Output}
+use Rattle.command_line.specs.declared.failure.Failure.TheVariants.{File, Usage, Preset, Rule, Mistaken, Case, Pieces, Workers, Division, Run, Memory, Output}
+use Rattle.command_line.specs.declared.failure.PieceFault.{PieceFault}
+use Rattle.command_line.specs.declared.failure.PieceFault.TheVariants as piece
 
 -- the exit status
 abbrev pub status_of : Failure → ℕ
@@ -23,6 +25,7 @@ status_of Preset = 2
 status_of (Rule number) = 3
 status_of (Mistaken number) = 3
 status_of (Case number settings) = 3
+status_of (Pieces cause) = 3
 status_of Workers = 4
 status_of (Division cause) = 4
 status_of (Run cause) = 5
@@ -51,6 +54,18 @@ abbrev pub case_settings : List ℕ → List ℕ
 case_settings [] = []
 case_settings settings = codes " with " ++ settings
 
+-- what is told of the piece in a file
+abbrev pub piece_told : Text → List ℕ → List ℕ
+piece_told name what = codes "piece " ++ shown_name name ++ what
+
+-- why files aren't the pieces of one sweep, in words
+abbrev pub piece_message : PieceFault → List ℕ
+piece_message (piece.NoPiece name) = codes "no piece " ++ shown_name name.now
+piece_message (piece.Other name) = piece_told name.now (codes " of another sweep")
+piece_message (piece.Doubled name) = piece_told name.now (codes " twice")
+piece_message (piece.Torn name) = piece_told name.now (codes " torn")
+piece_message (piece.Missing number) = codes "piece " ++ decimal number ++ codes " missing"
+
 -- what failed, in words
 abbrev pub message_of : Failure → List ℕ
 message_of (File name) = codes "file " ++ shown_name name.now
@@ -59,6 +74,7 @@ message_of Preset = codes "usage: the presets are local, lan, wan and swim"
 message_of (Rule number) = codes "scenario rule " ++ decimal number
 message_of (Mistaken number) = codes "scenario rule " ++ decimal number
 message_of (Case number settings) = codes "scenario rule " ++ decimal number ++ case_settings (string_bytes settings)
+message_of (Pieces cause) = piece_message cause
 message_of Workers = codes "workers"
 message_of (Division cause) = codes "division V" ++ decimal (division_number cause)
 message_of (Run cause) = codes "run F" ++ decimal (fault_number cause)

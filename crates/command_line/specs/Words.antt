@@ -1,6 +1,7 @@
 -- What words ask for, as `clap` reads them by the commands below.
-use Rattle.std.specs.Prelude.{◌≡◌, ◌≢◌, ◌⊎◌, List, Option, Some, None, [], Bool, true, false, codes, option_map, unwrap_or}
+use Rattle.std.specs.Prelude.{◌≡◌, ◌≢◌, ◌⊎◌, List, Option, Some, None, [], Bool, true, false, codes, map, option_map, unwrap_or}
 use Rattle.std.specs.Str.{bytes_eq}
+use Rattle.clap.specs.Lexer.{usize_max}
 use Rattle.clap.specs.Words.{App, Row, Rule, Text, app_of, new_app, new_rule, with_rule, with_subcommand}
 use Rattle.clap.specs.Words.{all_of, first_of, fault_of, subcommand_of, kind_of, IsAmong}
 use Rattle.clap.specs.declared.builder.command.Command.{Command}
@@ -10,11 +11,16 @@ use Rattle.clap.specs.declared.error.kind.ErrorKind.{ErrorKind}
 use Rattle.clap.specs.declared.error.kind.ErrorKind.TheVariants.{DisplayHelp, DisplayVersion}
 use Rattle.cases.specs.Sweep.{Sweep as Planned}
 use Rattle.cases.specs.Asked.{IsSweepOf}
+use Rattle.answers.specs.Words.{AreWants}
+use Rattle.answers.specs.declared.want.Want.{Want}
+use Rattle.pieces.specs.Pieces.{IsPieceWord}
+use Rattle.pieces.specs.declared.piece.Piece.{Piece}
 use Rattle.presets.specs.Presets.{word_of}
 use Rattle.presets.specs.declared.preset.Preset.{Preset}
 use Rattle.command_line.specs.declared.words.Asked.{Asked}
-use Rattle.command_line.specs.declared.words.Asked.TheVariants.{Run, Check, Explain, Sweep, Init, Help, Version}
+use Rattle.command_line.specs.declared.words.Asked.TheVariants.{Run, Check, Explain, Sweep, Init, Join, Help, Version}
 use Rattle.command_line.specs.declared.explaining.ExplainWords.{ExplainWords}
+use Rattle.command_line.specs.declared.joining.JoinWords.{JoinWords}
 use Rattle.command_line.specs.declared.words.RunWords.{RunWords}
 use Rattle.command_line.specs.declared.words.SweepWords.{SweepWords}
 use Rattle.command_line.specs.declared.words.Split.{Split}
@@ -56,14 +62,24 @@ flag_rule name = record (new_rule name) { long = Some name; action = Some SetTru
 abbrev pub explain_app : App
 explain_app = with_rule (with_rule (new_app (codes "explain")) file_rule) (flag_rule (codes "json"))
 
--- the command `sweep`: a file and the option --table, both required; --seeds and --workers; --set, which may stand more than once;
--- and the flag --progress
+-- the command `sweep`: a file and the option --table, both required; --seeds, --shard and --workers; --set and --want, which may stand
+-- more than once; and the flag --progress
 abbrev pub sweep_app : App
 sweep_app =
     let tabled = with_rule (with_rule (new_app (codes "sweep")) file_rule) (required_rule (codes "table")) in
     let seeded = with_rule tabled (option_rule (codes "seeds")) in
     let set = with_rule seeded (repeated_rule (codes "set")) in
-    with_rule (with_rule set (option_rule (codes "workers"))) (flag_rule (codes "progress"))
+    let sharded = with_rule set (option_rule (codes "shard")) in
+    let wanted = with_rule sharded (repeated_rule (codes "want")) in
+    with_rule (with_rule wanted (option_rule (codes "workers"))) (flag_rule (codes "progress"))
+
+-- the files of pieces: one or more
+abbrev pub pieces_rule : Rule
+pieces_rule = record (new_rule (codes "PIECE")) { required = true; range = Some (record { start_inclusive = 1; end_inclusive = usize_max }) }
+
+-- the command `join`: files of pieces and the option --table, both required
+abbrev pub join_app : App
+join_app = with_rule (with_rule (new_app (codes "join")) pieces_rule) (required_rule (codes "table"))
 
 -- the command `init`: the name of a preset
 abbrev pub preset_rule : Rule
@@ -80,7 +96,8 @@ bare_app = let app = new_app (codes "swimsim") in
 abbrev pub swimsim_app : App
 swimsim_app =
     let checked = with_subcommand (with_subcommand bare_app run_app.top) check_app.top in
-    with_subcommand (with_subcommand (with_subcommand checked explain_app.top) sweep_app.top) init_app.top
+    let swept = with_subcommand (with_subcommand checked explain_app.top) sweep_app.top in
+    with_subcommand (with_subcommand swept init_app.top) join_app.top
 
 -- what `clap` knows as this, with no argument that holds for what stands below it
 abbrev pub IsLocal : App → Command → Type 0
@@ -125,6 +142,17 @@ pub record IsExplainIn (met : Option (Text × List Row)) (explain : ExplainWords
 abbrev pub IsPlanIn : List Row → Planned → Type 0
 IsPlanIn rows plan = IsSweepOf (unwrap_or (all_of (codes "set") rows) []) (first_of (codes "seeds") rows) plan
 
+-- this piece is asked for; none, and so the whole, where there is no word
+abbrev pub AsksForPiece : Option Text → Option Piece → Type 0
+AsksForPiece None None = Unit {0}
+AsksForPiece None (Some p) = ⊥
+AsksForPiece (Some word) None = ⊥
+AsksForPiece (Some word) (Some p) = IsPieceWord word p
+
+-- the words of all that is wanted of cases, in their order, want these
+abbrev pub AreWantsIn : List Row → List Want → Type 0
+AreWantsIn rows wants = AreWants (unwrap_or (all_of (codes "want") rows) []) wants
+
 -- the command that was met is `sweep`, with these words
 pub record IsSweepIn (met : Option (Text × List Row)) (sweep : SweepWords) : Type 0 where
   pub rows : List Row
@@ -132,6 +160,8 @@ pub record IsSweepIn (met : Option (Text × List Row)) (sweep : SweepWords) : Ty
   pub file : first_of (codes "FILE") rows ≡ Some sweep.file.now
   pub table : first_of (codes "table") rows ≡ Some sweep.table.now
   pub plan : IsPlanIn rows sweep.plan
+  pub piece : AsksForPiece (first_of (codes "shard") rows) sweep.piece
+  pub wants : AreWantsIn rows sweep.wants.items
   pub workers : first_of (codes "workers") rows ≡ option_map (λ word. word.now) sweep.workers
   pub progress : is_given (first_of (codes "progress") rows) ≡ sweep.progress
 
@@ -148,6 +178,13 @@ pub record NamesNoPreset (met : Option (Text × List Row)) : Type 0 where
   pub word : Text
   pub given : first_of (codes "PRESET") rows ≡ Some word
   pub unknown : (preset : Preset) → ¬ (word_of preset ≡ word)
+
+-- the command that was met is `join`, with these words
+pub record IsJoinIn (met : Option (Text × List Row)) (join : JoinWords) : Type 0 where
+  pub rows : List Row
+  pub met_join : met ≡ Some (codes "join", rows)
+  pub files : map (λ word. word.now) join.files.items ≡ unwrap_or (all_of (codes "PIECE") rows) []
+  pub table : first_of (codes "table") rows ≡ Some join.table.now
 
 -- the words have no fault, and ask for this run
 abbrev pub AsksForRun : List Text → RunWords → Type 0
@@ -173,6 +210,10 @@ AsksForSweep words sweep = (fault_of swimsim_app words ≡ []) × IsSweepIn (sub
 abbrev pub AsksForInit : List Text → Preset → Type 0
 AsksForInit words preset = (fault_of swimsim_app words ≡ []) × IsInitIn (subcommand_of swimsim_app words) preset
 
+-- the words have no fault, and ask to join so
+abbrev pub AsksForJoin : List Text → JoinWords → Type 0
+AsksForJoin words join = (fault_of swimsim_app words ≡ []) × IsJoinIn (subcommand_of swimsim_app words) join
+
 -- the words ask for help
 abbrev pub AsksForHelp : List Text → Type 0
 AsksForHelp words = IsAmong DisplayHelp (fault_of swimsim_app words)
@@ -188,14 +229,16 @@ Answers words (Check file) = AsksForCheck words file.now
 Answers words (Explain explain) = AsksForExplain words explain
 Answers words (Sweep sweep) = AsksForSweep words sweep
 Answers words (Init preset) = AsksForInit words preset
+Answers words (Join join) = AsksForJoin words join
 Answers words (Help help) = (kind_of help ≡ DisplayHelp) × AsksForHelp words
 Answers words Version = AsksForVersion words
 
--- the words have no fault, but ask for no run, no check, no explanation, no sweep and no preset's scenario
+-- the words have no fault, but ask for no run, no check, no explanation, no sweep, no preset's scenario and no joining
 abbrev pub AsksForNone : List Text → Type 0
 AsksForNone words = (fault_of swimsim_app words ≡ []) × ((run : RunWords) → ¬ (AsksForRun words run))
     × ((file : Text) → ¬ (AsksForCheck words file)) × ((explain : ExplainWords) → ¬ (AsksForExplain words explain))
     × ((sweep : SweepWords) → ¬ (AsksForSweep words sweep)) × ((preset : Preset) → ¬ (AsksForInit words preset))
+    × ((join : JoinWords) → ¬ (AsksForJoin words join))
 
 -- the words have a fault that is no wish for help or for the version, or none but ask for nothing else that there is
 abbrev pub IsNoCommand : List Text → Type 0
@@ -205,9 +248,10 @@ IsNoCommand words = ((kind : ErrorKind) × (kind ≢ DisplayHelp) × (kind ≢ D
 abbrev pub AsksForNoPreset : List Text → Type 0
 AsksForNoPreset words = NamesNoPreset (subcommand_of swimsim_app words) × AsksForNone words
 
--- the words ask for a run, a check, an explanation, a sweep, a preset's scenario, help or the version
+-- the words ask for a run, a check, an explanation, a sweep, a preset's scenario, a joining, help or the version
 abbrev pub IsCommand : List Text → Type 0
 IsCommand words = ((run : RunWords) × AsksForRun words run) ⊎ (((file : Text) × AsksForCheck words file)
     ⊎ (((explain : ExplainWords) × AsksForExplain words explain)
     ⊎ (((sweep : SweepWords) × AsksForSweep words sweep)
-    ⊎ (((preset : Preset) × AsksForInit words preset) ⊎ (AsksForHelp words ⊎ AsksForVersion words)))))
+    ⊎ (((preset : Preset) × AsksForInit words preset) ⊎ (((join : JoinWords) × AsksForJoin words join)
+    ⊎ (AsksForHelp words ⊎ AsksForVersion words))))))

@@ -5,6 +5,7 @@ ghost use Rattle.command_line.specs.Words.{check_app, file_rule, flag_rule, opti
 
 use crate::explaining::explain_command;
 use crate::initial::init_command;
+use crate::joining::join_command;
 use clap::{Arg, ArgAction, Command};
 use std::alloc::{AllocError, Global};
 
@@ -23,7 +24,8 @@ pub(crate) fn program_command<'a>(alloc: Global) -> Result<Command<'a>, AllocErr
         .subcommand(check_command(alloc)?)?
         .subcommand(explain_command(alloc)?)?
         .subcommand(sweep_command(alloc)?)?
-        .subcommand(init_command(alloc)?)
+        .subcommand(init_command(alloc)?)?
+        .subcommand(join_command(alloc)?)
 }
 
 /// The command `run`.
@@ -112,9 +114,23 @@ fn sweep_command<'a>(alloc: Global) -> Result<Command<'a>, AllocError>
         "KEY=V1,V2,..",
         "A key of the scenario and its values, each of which makes cases; for any number of keys",
     )?;
-    let worked = with_option(
+    let sharded = with_option(
         alloc,
         set,
+        "shard",
+        "I/N",
+        "Makes the I-th of N pieces of the runs, for the command join; N is at most 10000",
+    )?;
+    let wanted = with_repeated(
+        alloc,
+        sharded,
+        "want",
+        "STATISTIC<=N",
+        "What cases are to meet, as out<=0.01 or confirm_p99<=20000; for any number of statistics",
+    )?;
+    let worked = with_option(
+        alloc,
+        wanted,
         "workers",
         "N",
         "How many workers make the runs, 1 to 64 [default: 1]",
@@ -148,7 +164,7 @@ fn with_option<'a>(
 }
 
 /// A command with an option more, which has one value and must be given.
-fn with_required<'a>(
+pub(crate) fn with_required<'a>(
     alloc: Global,
     command: Command<'a>,
     name: &'a str,

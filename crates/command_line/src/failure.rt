@@ -1,14 +1,30 @@
 //! Why a command ends without doing what it was asked for, and what the user then sees.
-ghost use Rattle.std.specs.Prelude.{◌≡◌, ◌≤◌, Some, OnOk};
+ghost use Rattle.std.specs.Prelude.{◌≡◌, ◌≤◌, ◌++◌, Some, OnOk, codes};
 ghost use Rattle.std.specs.Io.KnownBytes.{Appends};
 ghost use Rattle.std.specs.Fmt.{WritesOnOk};
-ghost use Rattle.command_line.specs.Failures.{status_of, message_of, failure_line, fault_number, division_number, case_settings};
+ghost use Rattle.command_line.specs.Shown.{shown_name};
+ghost use Rattle.command_line.specs.Failures.{status_of, message_of, failure_line, fault_number, division_number, case_settings, piece_message};
 
 use crate::shown::write_name;
 use base::Fault;
 use scenario::DivisionFault;
 use std::io::Write;
 use std::{fmt, io};
+
+/// Why files aren't the pieces of one sweep.
+#[derive(Clone, Copy, Debug, PartialEq, Eq)]
+pub enum PieceFault<'a> {
+    /// The file of this name is no piece.
+    NoPiece(&'a str),
+    /// It is a piece of another sweep than the first.
+    Other(&'a str),
+    /// It is a piece that another file is.
+    Doubled(&'a str),
+    /// It is a piece that isn't whole.
+    Torn(&'a str),
+    /// No file is the piece of this number.
+    Missing(u64),
+}
 
 /// Why a command ends without doing what it was asked for.
 #[derive(Debug, Drop, PartialEq, Eq)]
@@ -26,6 +42,8 @@ pub enum Failure<'a> {
     /// A case of a sweep breaks this rule: the scenario with these settings, each `KEY=V`, with spaces between
     /// them. There are none where the sweep sets nothing.
     Case { rule: u8, settings: String },
+    /// The files that were to be joined aren't the pieces of one sweep.
+    Pieces(PieceFault<'a>),
     /// What was said of workers is no number of them.
     Workers,
     /// There is no such division of the members.
@@ -46,7 +64,8 @@ impl Failure<'_> {
         match self {
             Failure::File(_) | Failure::Output => 1,
             Failure::Usage | Failure::Preset => 2,
-            Failure::Rule(_) | Failure::Mistaken(_) | Failure::Case { .. } => 3,
+            Failure::Rule(_) | Failure::Mistaken(_) | Failure::Case { .. } | Failure::Pieces(_) =>
+                3,
             Failure::Workers | Failure::Division(_) => 4,
             Failure::Run(_) | Failure::Memory => 5,
         }
@@ -93,6 +112,7 @@ impl fmt::Display for Failure<'_> {
                 write!(f, "scenario rule {rule}")?;
                 write_settings(f, settings)
             }
+            Failure::Pieces(fault) => write_piece_fault(f, *fault),
             Failure::Workers => write!(f, "workers"),
             Failure::Division(fault) => {
                 let number = division_number(*fault);
@@ -116,6 +136,31 @@ fn write_settings<W: fmt::Write>(f: &mut fmt::Formatter<W>, settings: &str) -> f
         return Ok(());
     }
     write!(f, " with {settings}")
+}
+
+/// Writes why files aren't the pieces of one sweep.
+fn write_piece_fault<W: fmt::Write>(f: &mut fmt::Formatter<W>, fault: PieceFault<'_>) -> fmt::Result
+    ensures { WritesOnOk W.write_str_gives f.old result (piece_message fault.entry) f.new }
+{
+    match fault {
+        PieceFault::NoPiece(name) => {
+            write!(f, "no piece ")?;
+            write_name(f, name)
+        }
+        PieceFault::Other(name) => write_piece(f, name, " of another sweep"),
+        PieceFault::Doubled(name) => write_piece(f, name, " twice"),
+        PieceFault::Torn(name) => write_piece(f, name, " torn"),
+        PieceFault::Missing(number) => write!(f, "piece {number} missing"),
+    }
+}
+
+/// Writes what is told of the piece in a file.
+fn write_piece<W: fmt::Write>(f: &mut fmt::Formatter<W>, name: &str, what: &str) -> fmt::Result
+    ensures { WritesOnOk W.write_str_gives f.old result (codes "piece " ++ shown_name name.now ++ what.now) f.new }
+{
+    write!(f, "piece ")?;
+    write_name(f, name)?;
+    f.write_str(what)
 }
 
 /// Writes the line that tells users of a failure, a name in it as `write_name` does. There is none for standard

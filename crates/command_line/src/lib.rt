@@ -6,6 +6,7 @@ mod division;
 mod explaining;
 mod failure;
 mod initial;
+mod joining;
 mod printing;
 mod release;
 mod shown;
@@ -14,7 +15,8 @@ mod words;
 
 pub use division::{division_asked, workers_asked};
 pub use explaining::ExplainWords;
-pub use failure::{Failure, refuse};
+pub use failure::{Failure, PieceFault, refuse};
+pub use joining::JoinWords;
 pub use printing::{
     print_help, print_members, print_preset, print_release, print_rows, print_text,
 };

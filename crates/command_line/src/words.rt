@@ -1,19 +1,24 @@
 //! What the words of a command line ask for.
-ghost use Rattle.std.specs.Prelude.{◌≡◌, ◌⊎◌, map, option_map, unwrap_or, IfOk, IfErr, IfSome, IsNone, IsErrOf, List, [], ℕ, false};
+ghost use Rattle.std.specs.Prelude.{◌≡◌, ◌⊎◌, map, option_map, unwrap_or, IfOk, IfErr, IfSome, IsNone, IsErrOf, List, [], ℕ, false, Option, codes};
 ghost use Rattle.clap.specs.Words.{FailsBy, all_of, fault_of, first_of, found_of, rows_of, subcommand_of, subcommand_rows_of};
 ghost use Rattle.cases.specs.Sweep.{Sweep as Planned};
 ghost use Rattle.command_line.specs.declared.words.RunWords.{RunWords as Wish};
 ghost use Rattle.command_line.specs.declared.words.Split.{Split as Wanted};
 ghost use Rattle.command_line.specs.declared.words.SweepWords.{SweepWords as Sought};
-ghost use Rattle.command_line.specs.Words.{is_given, swimsim_app, Answers, AsksForNoPreset, IsCheckIn, IsNoCommand, IsPlanIn, IsRunIn, IsSplitIn, IsSweepIn};
+ghost use Rattle.pieces.specs.declared.piece.Piece.{Piece as Part};
+ghost use Rattle.answers.specs.declared.want.Want.{Want as Wanting};
+ghost use Rattle.command_line.specs.Words.{is_given, swimsim_app, Answers, AreWantsIn, AsksForNoPreset, AsksForPiece, IsCheckIn, IsNoCommand, IsPlanIn, IsRunIn, IsSplitIn, IsSweepIn};
 
 use crate::commands::program_command;
 use crate::explaining::{ExplainWords, explain_asked};
 use crate::failure::Failure;
 use crate::initial::init_asked;
+use crate::joining::{JoinWords, join_asked};
+use answers::{Want, WantFault, read_wants};
 use cases::{Plan, PlanFault};
 use clap::error::ErrorKind;
 use clap::{ArgMatches, Error};
+use pieces::Piece;
 use presets::Preset;
 use std::alloc::{AllocError, Global};
 use std::convert::AsStr;
@@ -53,6 +58,10 @@ pub struct SweepWords<'a> {
     pub table: &'a str,
     /// Which keys of the scenario are set to which values, and by which seeds each case is run.
     pub plan: Plan,
+    /// Which piece of the sweep is made; all of it where none is named.
+    pub piece: Option<Piece>,
+    /// What is wanted of the cases.
+    pub wants: Vec<Want<'a>>,
     /// How many workers make the runs; one where that isn't said.
     pub workers: Option<&'a str>,
     /// Whether to tell how far the sweep has come.
@@ -70,6 +79,8 @@ pub enum Asked<'a> {
     Explain(ExplainWords<'a>),
     /// To run a scenario by many seeds and settings, and write a table of the runs.
     Sweep(SweepWords<'a>),
+    /// To put the pieces of a sweep together.
+    Join(JoinWords<'a>),
     /// To be given the scenario of a preset.
     Init(Preset),
     /// To be shown the help that is this answer's text.
@@ -96,7 +107,10 @@ pub fn parse<'a, S: AsStr>(alloc: Global, words: &'a [S]) -> Result<Asked<'a>, F
                     Some(explain) => Ok(Asked::Explain(explain)),
                     None => match init_asked(&matches)? {
                         Some(preset) => Ok(Asked::Init(preset)),
-                        None => Ok(Asked::Sweep(sweep_asked(alloc, &matches)?)),
+                        None => match join_asked(alloc, &matches)? {
+                            Some(join) => Ok(Asked::Join(join)),
+                            None => Ok(Asked::Sweep(sweep_asked(alloc, &matches)?)),
+                        },
                     },
                 },
             },
@@ -183,12 +197,16 @@ fn sweep_asked<'a>(alloc: Global, matches: &ArgMatches<'a>) -> Result<SweepWords
         return Err(Failure::Usage);
     };
     let plan = plan_asked(alloc, sweep)?;
+    let piece = piece_asked(sweep)?;
+    let wants = wants_asked(alloc, sweep)?;
     let workers = value_of(sweep, "workers");
     let progress = is_given(sweep, "progress");
     Ok(SweepWords {
         file,
         table,
         plan,
+        piece,
+        wants,
         workers,
         progress,
     })
@@ -213,6 +231,42 @@ fn plan_asked<'a>(alloc: Global, sweep: &ArgMatches<'a>) -> Result<Plan, Failure
     }
 }
 
+/// The piece that is asked for by the words of a sweep, if any is.
+///
+/// Failure: `Usage` where the word is no piece, as `3/8`.
+fn piece_asked<'a>(sweep: &ArgMatches<'a>) -> Result<Option<Piece>, Failure<'a>>
+    ensures piece { IfOk result (AsksForPiece (first_of (codes "shard") (rows_of (found_of sweep.now)))) }
+    ensures usage { IsErrOf result Failure.Usage → (piece : Option Part) → ¬ (AsksForPiece (first_of (codes "shard") (rows_of (found_of sweep.now))) piece) }
+    ensures failures { IfErr result (λ f. f ≡ Failure.Usage) }
+{
+    let Some(word) = value_of(sweep, "shard") else {
+        return Ok(None);
+    };
+    match Piece::read(word) {
+        Some(piece) => Ok(Some(piece)),
+        None => Err(Failure::Usage),
+    }
+}
+
+/// What is wanted of the cases by the words of a sweep.
+///
+/// Failures: `Usage` where one of them wants nothing; `Memory`.
+fn wants_asked<'a>(alloc: Global, sweep: &ArgMatches<'a>) -> Result<Vec<Want<'a>>, Failure<'a>>
+    ensures wants { IfOk result (λ wants. AreWantsIn (rows_of (found_of sweep.now)) wants.items) }
+    ensures usage { IsErrOf result Failure.Usage → (wants : List Wanting) → ¬ (AreWantsIn (rows_of (found_of sweep.now)) wants) }
+    ensures failures { IfErr result (λ f. (f ≡ Failure.Usage) ⊎ (f ≡ Failure.Memory)) }
+{
+    let words = match values_of(alloc, sweep, "want") {
+        Ok(words) => words,
+        Err(_) => return Err(Failure::Memory),
+    };
+    match read_wants(alloc, &words) {
+        Ok(wants) => Ok(wants),
+        Err(WantFault::Words) => Err(Failure::Usage),
+        Err(WantFault::Memory) => Err(Failure::Memory),
+    }
+}
+
 /// Whether a flag is given.
 pub(crate) fn is_given(matches: &ArgMatches<'_>, id: &str) -> bool
     ensures { result ≡ is_given (first_of id.now (rows_of (found_of matches.now))) }
@@ -224,7 +278,7 @@ pub(crate) fn is_given(matches: &ArgMatches<'_>, id: &str) -> bool
 }
 
 /// All values of an argument, in the order of the words.
-fn values_of<'a>(
+pub(crate) fn values_of<'a>(
     alloc: Global,
     matches: &ArgMatches<'a>,
     id: &str,

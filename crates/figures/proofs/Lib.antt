@@ -6,3 +6,7 @@ pub mod RanksOfTimes
 pub mod Roots
 pub mod Summaries
 mod Cells
+pub mod NoteTexts
+pub mod NoteWords
+pub mod SameFigures
+pub mod NoNotes

@@ -1,27 +1,23 @@
--- The figures of a case: of runs that belong together, each of its own scenario. In a sweep these differ in their seed alone.
+-- The figures of a case: of runs that belong together, by what is kept of each. In a sweep these differ in their seed alone.
 use Rattle.std.specs.Prelude.{◌≡◌, ℕ, ◌+◌, ◌-◌, ◌*◌, ◌/◌, ◌==◌, nat_le, not, Option, Some, None, List, length, filter, flat_map, count_by, sum_by, min, max, if◌then◌else◌}
 use Rattle.std.specs.List.{filter_map, range_with_len, reduce}
-use Rattle.scenario.specs.Setup.{Setup, member_count}
-use Rattle.trace.specs.declared.row.What.TheVariants as what
-use Rattle.trace.specs.declared.row.Row.{Row}
-use Rattle.reports.specs.declared.departure.Departure.{Departure}
-use Rattle.reports.specs.Departures.{crashes_of, latency_of}
-use Rattle.reports.specs.Revivals.{revivals}
-use Rattle.reports.specs.FalsePositives.{ways_to_depart, false_positives}
+use Rattle.figures.specs.declared.crashes.CrashTimes.{CrashTimes}
 use Rattle.figures.specs.declared.summary.CaseSummary.{CaseSummary}
-use Rattle.figures.specs.Figures.{suspected_after, last_after, thrown_out, messages_sent}
+use Rattle.figures.specs.Notes.{Note}
 
--- a run: its scenario, and the rows of its trace
-pub record TracedRun : Type 0 where
-  pub scenario : Setup
-  pub rows : List Row
+-- how the crashes of all runs were detected
+abbrev pub crashes_in : List Note → List CrashTimes
+crashes_in runs = flat_map (λ run. run.crashes) runs
 
-abbrev pub traced : Setup → List Row → TracedRun
-traced s rows = record { scenario = s; rows = rows }
+-- the times until a crash was first suspected, first confirmed and last confirmed
+abbrev pub suspected_in : CrashTimes → Option ℕ
+suspected_in crash = crash.suspected
 
--- the crashes of all runs
-abbrev pub crashes_of_runs : List TracedRun → List Departure
-crashes_of_runs runs = flat_map (λ run. crashes_of run.rows) runs
+abbrev pub confirmed_in : CrashTimes → Option ℕ
+confirmed_in crash = crash.confirmed
+
+abbrev pub last_in : CrashTimes → Option ℕ
+last_in crash = crash.last
 
 -- how many of these times are no later
 abbrev pub up_to : ℕ → List ℕ → ℕ
@@ -36,39 +32,39 @@ abbrev pub at_rank : ℕ → List ℕ → Option ℕ
 at_rank place times = reduce min (filter (λ time. nat_le place (up_to time times)) times)
 
 -- A percentile of the times of these crashes. A crash that has no time counts as later than any, so the percentile may have none.
-abbrev pub percentile : ℕ → (Departure → Option ℕ) → List Departure → Option ℕ
+abbrev pub percentile : ℕ → (CrashTimes → Option ℕ) → List CrashTimes → Option ℕ
 percentile percent time crashes = at_rank (rank percent (length crashes)) (filter_map time crashes)
 
 -- how many suspicions in all runs were false positives
-abbrev pub false_suspicions_in : List TracedRun → ℕ
-false_suspicions_in runs = sum_by (λ run. false_positives ways_to_depart what.Suspect run.rows) runs
+abbrev pub false_suspicions_in : List Note → ℕ
+false_suspicions_in runs = sum_by (λ run. run.false_suspect) runs
 
 -- how many members were thrown out, each counted in each run
-abbrev pub thrown_out_in : List TracedRun → ℕ
-thrown_out_in runs = sum_by (λ run. thrown_out run.scenario run.rows) runs
+abbrev pub thrown_out_in : List Note → ℕ
+thrown_out_in runs = sum_by (λ run. run.thrown_out) runs
 
 -- how often members were taken for alive again in all runs
-abbrev pub revived_in : List TracedRun → ℕ
-revived_in runs = sum_by (λ run. revivals run.rows) runs
+abbrev pub revived_in : List Note → ℕ
+revived_in runs = sum_by (λ run. run.revived) runs
 
 -- in how many runs members were thrown out
-abbrev pub runs_with : List TracedRun → ℕ
-runs_with runs = count_by (λ run. not (thrown_out run.scenario run.rows == 0)) runs
+abbrev pub runs_with : List Note → ℕ
+runs_with runs = count_by (λ run. not (run.thrown_out == 0)) runs
 
 -- how many messages were sent in all runs
-abbrev pub sent_in : List TracedRun → ℕ
-sent_in runs = sum_by (λ run. messages_sent run.scenario.version run.rows) runs
+abbrev pub sent_in : List Note → ℕ
+sent_in runs = sum_by (λ run. run.sent) runs
 
--- how long the members of all runs lasted together, in ticks: each from moment 0 to the end of its run
-abbrev pub member_ticks_in : List TracedRun → ℕ
-member_ticks_in runs = sum_by (λ run. member_count run.scenario * run.scenario.end) runs
+-- how long the members of all runs lasted together, in ticks
+abbrev pub member_ticks_in : List Note → ℕ
+member_ticks_in runs = sum_by (λ run. run.member_ticks) runs
 
 -- messages a member and 1,000 ticks, in hundredths and rounded down, where the runs last at all
-abbrev pub message_rate : List TracedRun → Option ℕ
+abbrev pub message_rate : List Note → Option ℕ
 message_rate runs = if member_ticks_in runs == 0 then None else Some (sent_in runs * 100000 / member_ticks_in runs)
 
 -- false suspicions a run, in hundredths and rounded down
-abbrev pub false_rate : List TracedRun → ℕ
+abbrev pub false_rate : List Note → ℕ
 false_rate runs = false_suspicions_in runs * 100 / length runs
 
 -- the greatest number whose square is no greater: the numbers from 1 on whose squares are none are that many
@@ -93,14 +89,14 @@ abbrev pub share_high : ℕ → ℕ → ℕ
 share_high k n = nearest_thousandth (200000 * k + 384160 + 49 * spread k n) n
 
 -- these are the figures of a case with these runs
-pub record IsSummaryOf (case : CaseSummary) (runs : List TracedRun) : Type 0 where
+pub record IsSummaryOf (case : CaseSummary) (runs : List Note) : Type 0 where
   pub all : case.runs ≡ length runs
-  pub suspicion : case.suspect_p50 ≡ percentile 50 suspected_after (crashes_of_runs runs)
-  pub confirmation : case.confirm_p50 ≡ percentile 50 latency_of (crashes_of_runs runs)
-  pub late_confirmation : case.confirm_p99 ≡ percentile 99 latency_of (crashes_of_runs runs)
-  pub latest_confirmation : case.confirm_greatest ≡ percentile 100 latency_of (crashes_of_runs runs)
-  pub last : case.last_p50 ≡ percentile 50 last_after (crashes_of_runs runs)
-  pub latest_last : case.last_greatest ≡ percentile 100 last_after (crashes_of_runs runs)
+  pub suspicion : case.suspect_p50 ≡ percentile 50 suspected_in (crashes_in runs)
+  pub confirmation : case.confirm_p50 ≡ percentile 50 confirmed_in (crashes_in runs)
+  pub late_confirmation : case.confirm_p99 ≡ percentile 99 confirmed_in (crashes_in runs)
+  pub latest_confirmation : case.confirm_greatest ≡ percentile 100 confirmed_in (crashes_in runs)
+  pub last : case.last_p50 ≡ percentile 50 last_in (crashes_in runs)
+  pub latest_last : case.last_greatest ≡ percentile 100 last_in (crashes_in runs)
   pub false_claims : case.false_suspect ≡ false_rate runs
   pub thrown : case.thrown_out ≡ thrown_out_in runs
   pub returned : case.revived ≡ revived_in runs

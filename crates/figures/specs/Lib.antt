@@ -1,5 +1,6 @@
 pub mod Figures
 pub mod Lines
+pub mod Notes
 pub mod Cases
 pub mod Kept
 pub mod CaseLines

@@ -1,16 +1,13 @@
 //! The figures of a case: of runs that belong together.
-ghost use Rattle.std.specs.Prelude.{◌≡◌, ◌+◌, ◌<◌, ◌≤◌, ◌*◌, ◌/◌, ◌^◌, ◌==◌, ◌++◌, ◌∷◌, [], List, IfOk, if◌then◌else◌};
-ghost use Rattle.scenario.specs.Setup.{member_count};
-ghost use Rattle.figures.specs.Cases.{TracedRun, traced};
+ghost use Rattle.std.specs.Prelude.{◌≡◌, ◌+◌, ◌<◌, ◌≤◌, ◌*◌, ◌/◌, ◌^◌, ◌==◌, ◌++◌, ◌∷◌, [], List, IfOk, if◌then◌else◌, length};
+ghost use Rattle.figures.specs.Notes.{Note};
 
+use crate::notes::RunNote;
 use crate::ranks::percentile;
-use crate::run::RunFigures;
 use crate::shares::{share_high, share_low};
 use crate::summary::CaseSummary;
 use crate::times::{push_confirmed, push_last, push_suspected};
 use base::Memory;
-use reports::Tallies;
-use scenario::Scenario;
 use std::alloc::Global;
 
 /// The figures of a case: of runs that belong together, such as those of one scenario with many
@@ -44,13 +41,12 @@ pub struct CaseFigures {
     ghost thrown_out_fit: { thrown_out ≤ runs * 2 ^ 64 },
     ghost revived_fit: { revived ≤ runs * 2 ^ 64 },
     ghost sent_fit: { sent ≤ runs * 2 ^ 64 },
-    ghost member_ticks_fit: { member_ticks ≤ runs * 2 ^ 52 },
+    ghost member_ticks_fit: { member_ticks ≤ runs * 2 ^ 64 },
     ghost runs_with_fit: { runs_with ≤ runs },
     ghost few: { runs ≤ 1000000 },
 }
 
 impl CaseFigures {
-    ghost use Rattle.figures.specs.Figures.{figures_of};
     ghost use Rattle.figures.specs.Cases.{IsSummaryOf};
     ghost use Rattle.figures.specs.Kept.{runs_kept, AreFiguresOf};
 
@@ -80,24 +76,17 @@ impl CaseFigures {
         self.runs
     }
 
-    /// The figures with one run more: its rows as they were tallied, its figures, and its scenario.
-    /// Where memory is refused nothing is left of them.
-    pub fn with(
-        self,
-        tallies: &Tallies,
-        figures: &RunFigures,
-        scenario: &Scenario,
-    ) -> Result<CaseFigures, Memory>
+    /// The figures with one run more, of which this is kept. Where memory is refused nothing is left of them.
+    pub fn with(self, note: &RunNote) -> Result<CaseFigures, Memory>
         requires { runs_kept self < 1000000 }
-        ensures { IfOk result (λ case. (runs : List TracedRun) → figures.now ≡ figures_of scenario.now tallies.now
-            → AreFiguresOf self runs → AreFiguresOf case (runs ++ traced scenario.now tallies.now ∷ [])) }
+        ensures { IfOk result (λ case. (runs : List Note) → AreFiguresOf self runs → AreFiguresOf case (runs ++ note.now ∷ [])) }
     {
         let mut case = self;
-        let crashes = tallies.crashes();
+        let crashes = note.crashes();
         push_suspected(&mut case.suspected, crashes)?;
         push_confirmed(&mut case.confirmed, crashes)?;
         push_last(&mut case.last, crashes)?;
-        case.count(figures, scenario);
+        case.count(note);
         Ok(case)
     }
 
@@ -105,7 +94,7 @@ impl CaseFigures {
     /// fails where that is refused.
     pub fn summary(self) -> Result<CaseSummary, Memory>
         requires { 0 < runs_kept self }
-        ensures { IfOk result (λ summary. (runs : List TracedRun) → AreFiguresOf self runs → IsSummaryOf summary runs) }
+        ensures { IfOk result (λ summary. (runs : List Note) → AreFiguresOf self runs → IsSummaryOf summary runs) }
     {
         let mut case = self;
         case.suspected.sort()?;
@@ -133,39 +122,31 @@ impl CaseFigures {
     }
 
     /// Counts a run.
-    fn count(&mut self, figures: &RunFigures, scenario: &Scenario)
+    fn count(&mut self, note: &RunNote)
         requires { self.old.runs < 1000000 }
         ensures suspected { self.new.suspected.items ≡ self.old.suspected.items }
         ensures confirmed { self.new.confirmed.items ≡ self.old.confirmed.items }
         ensures last { self.new.last.items ≡ self.old.last.items }
         ensures runs { self.new.runs ≡ self.old.runs + 1 }
-        ensures crashes { self.new.crashes ≡ self.old.crashes + figures.now.crashes }
-        ensures false_suspect { self.new.false_suspect ≡ self.old.false_suspect + figures.now.false_suspect }
-        ensures thrown_out { self.new.thrown_out ≡ self.old.thrown_out + figures.now.thrown_out }
-        ensures revived { self.new.revived ≡ self.old.revived + figures.now.revived }
-        ensures runs_with { self.new.runs_with ≡ self.old.runs_with + (if figures.now.thrown_out == 0 then 0 else 1) }
-        ensures sent { self.new.sent ≡ self.old.sent + figures.now.sent }
-        ensures member_ticks { self.new.member_ticks ≡ self.old.member_ticks + member_count scenario.now * scenario.now.end }
+        ensures crashes { self.new.crashes ≡ self.old.crashes + length note.now.crashes }
+        ensures false_suspect { self.new.false_suspect ≡ self.old.false_suspect + note.now.false_suspect }
+        ensures thrown_out { self.new.thrown_out ≡ self.old.thrown_out + note.now.thrown_out }
+        ensures revived { self.new.revived ≡ self.old.revived + note.now.revived }
+        ensures runs_with { self.new.runs_with ≡ self.old.runs_with + (if note.now.thrown_out == 0 then 0 else 1) }
+        ensures sent { self.new.sent ≡ self.old.sent + note.now.sent }
+        ensures member_ticks { self.new.member_ticks ≡ self.old.member_ticks + note.now.member_ticks }
     {
         self.runs += 1;
-        self.crashes += u128::from(figures.crashes);
-        self.false_suspect += u128::from(figures.false_suspect);
-        self.thrown_out += u128::from(figures.thrown_out);
-        self.revived += u128::from(figures.revived);
-        if figures.thrown_out != 0 {
+        self.crashes += note.crashes().len() as u128;
+        self.false_suspect += u128::from(note.false_suspect());
+        self.thrown_out += u128::from(note.thrown_out());
+        self.revived += u128::from(note.revived());
+        if note.thrown_out() != 0 {
             self.runs_with += 1;
         }
-        self.sent += u128::from(figures.sent);
-        self.member_ticks += member_ticks(scenario);
+        self.sent += u128::from(note.sent());
+        self.member_ticks += u128::from(note.member_ticks());
     }
-}
-
-/// How long the members of a scenario last together, in ticks.
-fn member_ticks(scenario: &Scenario) -> u128
-    ensures ticks { result ≡ member_count scenario.now * scenario.now.end }
-    ensures fits { result ≤ 2 ^ 52 }
-{
-    scenario.members() as u128 * u128::from(scenario.end().ticks())
 }
 
 /// Messages a member and 1,000 ticks, in hundredths, where the runs last at all.

@@ -3,8 +3,53 @@ ghost use Rattle.std.specs.Prelude.{◌≡◌, count_by, min, max};
 ghost use Rattle.std.specs.List.{filter_map, reduce};
 ghost use Rattle.reports.specs.Departures.{latencies_of};
 ghost use Rattle.figures.specs.Figures.{suspected_after, last_after, is_detected};
+ghost use Rattle.figures.specs.Notes.{times_of};
+ghost use Rattle.figures.specs.Cases.{suspected_in, confirmed_in, last_in};
 
 use reports::Departure;
+
+/// How a crash was detected, in ticks since the crash.
+#[derive(Clone, Copy, Debug, PartialEq, Eq)]
+pub struct CrashTimes {
+    /// Until the member was first suspected, where it was.
+    pub suspected: Option<u64>,
+    /// Until it was first confirmed to have failed, likewise.
+    pub confirmed: Option<u64>,
+    /// Until it was last confirmed, likewise.
+    pub last: Option<u64>,
+}
+
+/// Until the member was first suspected.
+pub(crate) fn suspected_in(crash: &CrashTimes) -> Option<u64>
+    ensures { result ≡ suspected_in crash.now }
+{
+    crash.suspected
+}
+
+/// Until it was first confirmed to have failed.
+pub(crate) fn confirmed_in(crash: &CrashTimes) -> Option<u64>
+    ensures { result ≡ confirmed_in crash.now }
+{
+    crash.confirmed
+}
+
+/// Until it was last confirmed.
+pub(crate) fn last_in(crash: &CrashTimes) -> Option<u64>
+    ensures { result ≡ last_in crash.now }
+{
+    crash.last
+}
+
+/// How a crash was detected.
+pub(crate) fn times_of(crash: &Departure) -> CrashTimes
+    ensures { result ≡ times_of crash.now }
+{
+    CrashTimes {
+        suspected: suspected_after(crash),
+        confirmed: crash.latency(),
+        last: last_after(crash),
+    }
+}
 
 /// How many ticks after a crash the member was first suspected, where it was.
 pub(crate) fn suspected_after(crash: &Departure) -> Option<u64>

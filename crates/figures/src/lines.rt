@@ -152,7 +152,7 @@ fn write_cell(writer: &mut Writer<Vec<u8>>, figure: Option<u64>) -> Result<(), M
     }
 }
 
-/// Writes a field. The writer goes into memory alone, so an error of it is want of memory.
+/// Writes a field. The writer goes into memory alone, so an error of it, of which `?` makes none of ours, is want of memory.
 fn write_field(writer: &mut Writer<Vec<u8>>, field: &[u8]) -> Result<(), Memory>
     ensures { OnOk result ((fields : List (List ℕ)) → HasLaidOut writer.old fields → HasLaidOut writer.new (fields ++ field.now ∷ [])) }
 {
@@ -162,7 +162,7 @@ fn write_field(writer: &mut Writer<Vec<u8>>, field: &[u8]) -> Result<(), Memory>
     }
 }
 
-/// Ends the line, and gives its text.
+/// Ends the line, and gives its text; errors are as for a field.
 fn finish(writer: Writer<Vec<u8>>) -> Result<Vec<u8>, Memory>
     ensures { (fields : List (List ℕ)) → HasLaidOut writer fields → 2 ≤ length fields → IfOk result (λ text. text.items ≡ table_line fields) }
 {

@@ -1,18 +1,20 @@
 //! The table of runs, as it is put into a sink.
-ghost use Rattle.std.specs.Prelude.{◌≡◌, ◌+◌, ◌<◌, ◌^◌, OnOk, OnErr, IfErr, map};
+ghost use Rattle.std.specs.Prelude.{◌≡◌, ◌+◌, ◌<◌, ◌^◌, ◌++◌, ◌∷◌, [], OnOk, OnErr, IfErr, IfOk, map, string_bytes};
 ghost use Rattle.std.specs.Io.KnownBytes.{Appends, Keeps};
 ghost use Rattle.trace.specs.Sinks.{AppendsBeginning, failures_of_write};
 ghost use Rattle.figures.specs.Lines.{header_line, run_line};
+ghost use Rattle.figures.specs.Notes.{note_cell};
 
 use crate::lines::{header_text, run_text};
+use crate::notes::RunNote;
 use crate::run::RunFigures;
 use base::Memory;
 use std::alloc::Global;
-use trace::{Sink, Stopped, WriteError, put_all};
+use trace::{Sink, WriteError, put_all};
 
 /// Puts the first line of a table of runs: the keys that are set for them, the seed, and the names
-/// of the figures, among them `revived` where the table tells of it. Where memory is refused nothing is put, and where the sink stops it has got a
-/// beginning of the line.
+/// of the figures, among them `revived` where the table tells of it. Where memory is refused nothing is put, and where
+/// the sink stops it has got a beginning of the line.
 pub fn write_header<S: Sink>(
     alloc: Global,
     keys: &[&str],
@@ -25,10 +27,8 @@ pub fn write_header<S: Sink>(
     ensures memory { IfErr result (λ error. error ≡ WriteError.Memory → Keeps (S.held sink.old) (S.held sink.new)) }
     ensures failures { S.failed sink.new ≡ S.failed sink.old + failures_of_write result }
 {
-    match header_text(alloc, keys, revived) {
-        Ok(text) => put_text(text.as_slice(), sink),
-        Err(Memory) => Err(WriteError::Memory),
-    }
+    let text = header_text(alloc, keys, revived)?;
+    put_text(text.as_slice(), sink)
 }
 
 /// Puts the line of a run: the values that the keys had, its seed, and its figures, among them how
@@ -48,10 +48,30 @@ pub fn write_run<S: Sink>(
     ensures memory { IfErr result (λ error. error ≡ WriteError.Memory → Keeps (S.held sink.old) (S.held sink.new)) }
     ensures failures { S.failed sink.new ≡ S.failed sink.old + failures_of_write result }
 {
-    match run_text(alloc, values, seed, figures, revived) {
-        Ok(text) => put_text(text.as_slice(), sink),
-        Err(Memory) => Err(WriteError::Memory),
-    }
+    let text = run_text(alloc, values, seed, figures, revived)?;
+    put_text(text.as_slice(), sink)
+}
+
+/// Puts what is kept of a run, and a comma, before the run's line. Where memory is refused nothing is put, and where
+/// the sink stops it has got a beginning of that.
+pub fn write_note<S: Sink>(alloc: Global, note: &RunNote, sink: &mut S) -> Result<(), WriteError>
+    requires { S.failed sink.old < 2 ^ 63 }
+    ensures whole { OnOk result (Appends (S.held sink.old) (S.held sink.new) (note_cell note.now)) }
+    ensures part { OnErr result (AppendsBeginning (S.held sink.old) (S.held sink.new) (note_cell note.now)) }
+    ensures memory { IfErr result (λ error. error ≡ WriteError.Memory → Keeps (S.held sink.old) (S.held sink.new)) }
+    ensures failures { S.failed sink.new ≡ S.failed sink.old + failures_of_write result }
+{
+    let text = cell_text(alloc, note)?;
+    put_text(text.as_bytes(), sink)
+}
+
+/// The text of a note, and a comma.
+fn cell_text(alloc: Global, note: &RunNote) -> Result<String, Memory>
+    ensures { IfOk result (λ text. string_bytes text ≡ note_cell note.now) }
+{
+    let mut text = note.text(alloc)?;
+    text.push_str(",")?;
+    Ok(text)
 }
 
 /// Puts a text that was laid into memory.
@@ -62,8 +82,6 @@ fn put_text<S: Sink>(text: &[u8], sink: &mut S) -> Result<(), WriteError>
     ensures stopped { IfErr result (λ error. error ≡ WriteError.Stopped) }
     ensures failures { S.failed sink.new ≡ S.failed sink.old + failures_of_write result }
 {
-    match put_all(text, sink) {
-        Ok(()) => Ok(()),
-        Err(Stopped) => Err(WriteError::Stopped),
-    }
+    put_all(text, sink)?;
+    Ok(())
 }

@@ -2,39 +2,37 @@
 ghost use Rattle.std.specs.Prelude.{◌≡◌, ◌++◌, OnOk};
 ghost use Rattle.std.specs.List.{filter_map};
 ghost use Rattle.std.specs.Option.{option_to_list};
-ghost use Rattle.reports.specs.Departures.{latencies_of};
-ghost use Rattle.figures.specs.Figures.{suspected_after, last_after};
+ghost use Rattle.figures.specs.Cases.{suspected_in, confirmed_in, last_in};
 
-use crate::crashes::{last_after, suspected_after};
+use crate::crashes::{CrashTimes, confirmed_in, last_in, suspected_in};
 use base::Memory;
-use reports::Departure;
 
 /// Adds the time until each of these crashes was first suspected, where it was.
-pub(crate) fn push_suspected(times: &mut Vec<u64>, crashes: &[Departure]) -> Result<(), Memory>
-    ensures { OnOk result (times.new.items ≡ times.old.items ++ filter_map suspected_after crashes.now) }
+pub(crate) fn push_suspected(times: &mut Vec<u64>, crashes: &[CrashTimes]) -> Result<(), Memory>
+    ensures { OnOk result (times.new.items ≡ times.old.items ++ filter_map suspected_in crashes.now) }
 {
     for crash in crashes {
-        push_time(times, suspected_after(crash))?;
+        push_time(times, suspected_in(crash))?;
     }
     Ok(())
 }
 
 /// Adds the time until each of these crashes was first confirmed, where it was.
-pub(crate) fn push_confirmed(times: &mut Vec<u64>, crashes: &[Departure]) -> Result<(), Memory>
-    ensures { OnOk result (times.new.items ≡ times.old.items ++ latencies_of crashes.now) }
+pub(crate) fn push_confirmed(times: &mut Vec<u64>, crashes: &[CrashTimes]) -> Result<(), Memory>
+    ensures { OnOk result (times.new.items ≡ times.old.items ++ filter_map confirmed_in crashes.now) }
 {
     for crash in crashes {
-        push_time(times, crash.latency())?;
+        push_time(times, confirmed_in(crash))?;
     }
     Ok(())
 }
 
 /// Adds the time until each of these crashes was last confirmed, where it was.
-pub(crate) fn push_last(times: &mut Vec<u64>, crashes: &[Departure]) -> Result<(), Memory>
-    ensures { OnOk result (times.new.items ≡ times.old.items ++ filter_map last_after crashes.now) }
+pub(crate) fn push_last(times: &mut Vec<u64>, crashes: &[CrashTimes]) -> Result<(), Memory>
+    ensures { OnOk result (times.new.items ≡ times.old.items ++ filter_map last_in crashes.now) }
 {
     for crash in crashes {
-        push_time(times, last_after(crash))?;
+        push_time(times, last_in(crash))?;
     }
     Ok(())
 }

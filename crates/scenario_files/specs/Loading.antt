@@ -1,6 +1,8 @@
 -- What the file of a scenario holds, and why nothing was read from it.
-use Rattle.std.specs.Prelude.{◌≡◌, ℕ, List, Option, None, Result, Err}
+use Rattle.std.specs.Prelude.{◌≡◌, ℕ, List, Option, None, Some, Result, Err}
 use Rattle.toml.specs.Data.{Data}
+use Rattle.hex.specs.Hex.{encode_lower}
+use Rattle.sha2.specs.Sha256.{sha256}
 use Rattle.clap.specs.Words.{Text}
 use Rattle.scenario.specs.Setup.{Setup}
 use Rattle.scenario_reader.specs.Rules.{tree_of, verdict}
@@ -21,6 +23,14 @@ LoadFails known file failure = IsUnread known file failure
 -- the bytes that the file holds are this document, or none
 abbrev pub HasDocument : KnownFile → Option Data → Type 0
 HasDocument known tree = (bytes : List ℕ) × Holds known bytes × (tree_of bytes ≡ tree)
+
+-- the mark of a text: its SHA-256 in lower-case hex
+abbrev pub mark_of : List ℕ → List ℕ
+mark_of bytes = encode_lower (sha256 bytes)
+
+-- the bytes that the file holds are this document, and have this mark
+abbrev pub HasMarkedDocument : KnownFile → Data → List ℕ → Type 0
+HasMarkedDocument known tree mark = (bytes : List ℕ) × Holds known bytes × (tree_of bytes ≡ Some tree) × (mark ≡ mark_of bytes)
 
 -- no document was read from the file of this name: it can't be read, its bytes are none, which is rule 1, or memory was refused
 abbrev pub HasNoDocument : KnownFile → Text → Failure → Type 0

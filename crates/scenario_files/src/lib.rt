@@ -6,5 +6,5 @@ mod loading;
 mod texts;
 
 pub use checks::{PreparedRun, prepare};
-pub use loading::{file_failure, load, load_bytes, load_document};
+pub use loading::{MarkedDocument, file_failure, load, load_bytes, load_document};
 pub use texts::{check, run_told};

@@ -11,40 +11,39 @@ use Rattle.cases.specs.Cases.{cases_of, choice_of}
 use Rattle.cases.specs.Values.{value_text}
 use Rattle.cases.specs.declared.choice.Choice.{Choice}
 use Rattle.cases.specs.declared.values.SettingValue.{SettingValue}
-use Rattle.figures.specs.CaseLines.{case_line}
 use Rattle.figures.specs.declared.summary.CaseSummary.{CaseSummary}
-use Rattle.sweep.specs.Table.{texts_of}
-use Rattle.sweep.specs.Texts.{longest, lines_of_cases}
+use Rattle.sweep.specs.Texts.{longest, lines_of_cases, marked_line}
 use Rattle.sweep.proofs.Steps.{taken_more}
 
 -- ---- lines
 
-lines_more : (revived : Bool) (widths : List ℕ) (cases : List (List Choice)) (summaries : List CaseSummary) (chosen : List Choice) (summary : CaseSummary) → length cases ≡ length summaries
-    → lines_of_cases revived widths (cases ++ chosen ∷ []) (summaries ++ summary ∷ []) ≡ lines_of_cases revived widths cases summaries ++ case_line revived widths (texts_of chosen) summary
-lines_more revived widths [] [] chosen summary same = append-nil (case_line revived widths (texts_of chosen) summary)
-lines_more revived widths [] (t ∷ summaries) chosen summary same = absurd (omega (arith, same))
-lines_more revived widths (a ∷ cases) [] chosen summary same = absurd (omega (arith, same))
-lines_more revived widths (a ∷ cases) (t ∷ summaries) chosen summary same =
-    ap (λ l. case_line revived widths (texts_of a) t ++ l) (lines_more revived widths cases summaries chosen summary (omega (arith, same)))
-    ∙ sym (append_assoc (case_line revived widths (texts_of a) t) (lines_of_cases revived widths cases summaries) (case_line revived widths (texts_of chosen) summary))
+module _ (revived : Bool) (widths : List ℕ) (all : List CaseSummary) where
+  lines_more : (cases : List (List Choice)) (summaries : List CaseSummary) (chosen : List Choice) (summary : CaseSummary) → length cases ≡ length summaries
+      → lines_of_cases revived widths all (cases ++ chosen ∷ []) (summaries ++ summary ∷ []) ≡ lines_of_cases revived widths all cases summaries ++ marked_line revived widths all chosen summary
+  lines_more [] [] chosen summary same = append-nil (marked_line revived widths all chosen summary)
+  lines_more [] (t ∷ summaries) chosen summary same = absurd (omega (arith, same))
+  lines_more (a ∷ cases) [] chosen summary same = absurd (omega (arith, same))
+  lines_more (a ∷ cases) (t ∷ summaries) chosen summary same =
+      ap (λ l. marked_line revived widths all a t ++ l) (lines_more cases summaries chosen summary (omega (arith, same)))
+      ∙ sym (append_assoc (marked_line revived widths all a t) (lines_of_cases revived widths all cases summaries) (marked_line revived widths all chosen summary))
 
--- one line more
-pub line_added : (revived : Bool) (widths used : List ℕ) (cases : List (List Choice)) (summaries : List CaseSummary) (place : ℕ) (chosen : List Choice) (d : CaseSummary) (before text after : List ℕ)
-    → used ≡ widths → length cases ≡ length summaries → slice_get cases place ≡ Some chosen
-    → text ≡ before ++ lines_of_cases revived widths (take place cases) (take place summaries) → after ≡ text ++ case_line revived used (texts_of chosen) (get_or summaries place d)
-    → after ≡ before ++ lines_of_cases revived widths (take (place + 1) cases) (take (place + 1) summaries)
-line_added revived widths used cases summaries place chosen d before text after wide same there so is =
-    let cs = take place cases in
-    let ts = take place summaries in
-    let summary = get_or summaries place d in
-    let lt : place < length cases = slice_get_within cases place chosen there in
-    let long_c : length cs ≡ place = length-take-le place cases (omega (arith, lt)) in
-    let long_t : length ts ≡ place = length-take-le place summaries (omega (arith, same, lt)) in
-    is ∙ ap (λ (w : List ℕ). text ++ case_line revived w (texts_of chosen) summary) wide ∙ ap (λ l. l ++ case_line revived widths (texts_of chosen) summary) so
-    ∙ append_assoc before (lines_of_cases revived widths cs ts) (case_line revived widths (texts_of chosen) summary)
-    ∙ ap (λ l. before ++ l) (sym (lines_more revived widths cs ts chosen summary (long_c ∙ sym long_t)))
-    ∙ ap (λ l. before ++ lines_of_cases revived widths l (ts ++ summary ∷ [])) (sym (taken_more cases place chosen there))
-    ∙ ap (λ l. before ++ lines_of_cases revived widths (take (place + 1) cases) l) (sym (take_more summaries place d (omega (arith, same, lt))))
+  -- one line more
+  pub line_added : (used : List ℕ) (cases : List (List Choice)) (summaries : List CaseSummary) (place : ℕ) (chosen : List Choice) (d : CaseSummary) (before text after : List ℕ)
+      → used ≡ widths → length cases ≡ length summaries → slice_get cases place ≡ Some chosen
+      → text ≡ before ++ lines_of_cases revived widths all (take place cases) (take place summaries) → after ≡ text ++ marked_line revived used all chosen (get_or summaries place d)
+      → after ≡ before ++ lines_of_cases revived widths all (take (place + 1) cases) (take (place + 1) summaries)
+  line_added used cases summaries place chosen d before text after wide same there so is =
+      let cs = take place cases in
+      let ts = take place summaries in
+      let summary = get_or summaries place d in
+      let lt : place < length cases = slice_get_within cases place chosen there in
+      let long_c : length cs ≡ place = length-take-le place cases (omega (arith, lt)) in
+      let long_t : length ts ≡ place = length-take-le place summaries (omega (arith, same, lt)) in
+      is ∙ ap (λ (w : List ℕ). text ++ marked_line revived w all chosen summary) wide ∙ ap (λ l. l ++ marked_line revived widths all chosen summary) so
+      ∙ append_assoc before (lines_of_cases revived widths all cs ts) (marked_line revived widths all chosen summary)
+      ∙ ap (λ l. before ++ l) (sym (lines_more cs ts chosen summary (long_c ∙ sym long_t)))
+      ∙ ap (λ l. before ++ lines_of_cases revived widths all l (ts ++ summary ∷ [])) (sym (taken_more cases place chosen there))
+      ∙ ap (λ l. before ++ lines_of_cases revived widths all (take (place + 1) cases) l) (sym (take_more summaries place d (omega (arith, same, lt))))
 
 -- ---- a case has a value for each key
 

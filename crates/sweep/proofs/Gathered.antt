@@ -1,19 +1,19 @@
 -- How runs are gathered by their cases.
-use Rattle.std.proofs.Common.{◌≡◌, ℕ, ◌+◌, ◌-◌, ◌*◌, ◌<◌, ◌≤◌, Bool, true, false, List, [], ◌∷◌, ◌++◌, refl, sym, ap, subst, ◌∙◌, arith, take, drop, length, map, length-append, length-drop, ⊎_elim}
+use Rattle.std.proofs.Common.{◌≡◌, ℕ, ◌+◌, ◌-◌, ◌*◌, ◌<◌, ◌≤◌, Bool, true, false, List, [], ◌∷◌, ◌++◌, refl, sym, ap, subst, ◌∙◌, arith, take, drop, length, length-append, length-drop, ⊎_elim}
 use Rattle.std.specs.Prelude.{nat_le}
 use Rattle.std.proofs.Math.Seq.{drop-nil}
 use Rattle.std.proofs.lemmas.Nat.{mul-le}
 use Rattle.std.proofs.lemmas.Bool.Decides.{nat_tests}
-use Rattle.std.proofs.lemmas.List.{take_all, drop_all, take-append-le, drop-append-le, length-map, map-append}
+use Rattle.std.proofs.lemmas.List.{take_all, drop_all, take-append-le, drop-append-le}
 use Rattle.std.proofs.lemmas.Option.{none-some, slice_get_within}
 use Rattle.figures.specs.declared.summary.CaseSummary.{CaseSummary}
 use Rattle.figures.specs.declared.case.CaseFigures.{CaseFigures}
-use Rattle.figures.specs.Cases.{TracedRun, IsSummaryOf}
+use Rattle.figures.specs.Notes.{Note}
+use Rattle.figures.specs.Cases.{IsSummaryOf}
 use Rattle.figures.specs.Kept.{AreFiguresOf, runs_kept}
 use Rattle.cases.specs.Sweep.{Sweep, case_count, seed_count, run_count}
 use Rattle.sweep.specs.declared.gathering.Gathering.{Gathering}
-use Rattle.sweep.specs.Runs.{Made}
-use Rattle.sweep.specs.Summaries.{traced_as, runs_of_case, SumUp, IsGathered}
+use Rattle.sweep.specs.Summaries.{runs_of_case, SumUp, IsGathered}
 use Rattle.sweep.proofs.Pushed.{pushed}
 
 le_from : (a b : ℕ) → nat_le a b ≡ true → a ≤ b
@@ -38,109 +38,104 @@ same_multiple k n m low high = by (nat_le k n) (nat_le n k) refl refl
         absurd (omega (arith, low, high, more, mul-le (n + 1) m k m lt (omega arith)))
 
 -- nothing is gathered
-pub none_gathered : (sweep : Sweep) (gathering : Gathering) → gathering.each ≡ seed_count sweep.seeds → gathering.summaries.items ≡ [] → AreFiguresOf gathering.figures []
-    → IsGathered sweep [] gathering
-none_gathered sweep gathering size none kept =
-    let each = seed_count sweep.seeds in
+pub none_gathered : (each : ℕ) (gathering : Gathering) → gathering.each ≡ each → gathering.summaries.items ≡ [] → AreFiguresOf gathering.figures []
+    → IsGathered each [] gathering
+none_gathered each gathering size none kept =
     record {
       size = size;
       through = subst (λ (l : List CaseSummary). length l * each ≤ 0) (sym none) (omega arith);
-      told = subst (SumUp sweep []) (sym none) (λ number summary e. absurd (none-some summary e));
-      kept = subst (AreFiguresOf gathering.figures) (sym (ap (map traced_as) (drop-nil (length gathering.summaries.items * each)))) kept;
+      told = subst (SumUp each []) (sym none) (λ number summary e. absurd (none-some summary e));
+      kept = subst (AreFiguresOf gathering.figures) (sym (drop-nil (length gathering.summaries.items * each))) kept;
     }
 
-module _ (sweep : Sweep) (made : List Made) (run : Made) where
-  abbrev each : ℕ
-  each = seed_count sweep.seeds
+module _ (each : ℕ) (notes : List Note) (run : Note) where
+  abbrev all : List Note
+  all = notes ++ run ∷ []
 
-  abbrev all : List Made
-  all = made ++ run ∷ []
-
-  all_long : length all ≡ length made + 1
-  all_long = length-append made (run ∷ [])
+  all_long : length all ≡ length notes + 1
+  all_long = length-append notes (run ∷ [])
 
   -- the runs of a case that is through stay the same
-  same_runs : (number count : ℕ) → number < count → count * each ≤ length made → runs_of_case sweep all number ≡ runs_of_case sweep made number
+  same_runs : (number count : ℕ) → number < count → count * each ≤ length notes → runs_of_case each all number ≡ runs_of_case each notes number
   same_runs number count lt through =
       let next : (number + 1) * each ≡ number * each + each = omega arith in
-      let within : number * each + each ≤ length made = omega (arith, next, through, mul-le (number + 1) each count each (omega (arith, lt)) (omega arith)) in
-      let low : number * each ≤ length made = omega (arith, within) in
-      let left : each ≤ length (drop (number * each) made) = omega (arith, within, length-drop (number * each) made) in
-      ap (λ (l : List Made). map traced_as (take each l)) (drop-append-le (number * each) made (run ∷ []) low)
-      ∙ ap (map traced_as) (take-append-le each (drop (number * each) made) (run ∷ []) left)
+      let within : number * each + each ≤ length notes = omega (arith, next, through, mul-le (number + 1) each count each (omega (arith, lt)) (omega arith)) in
+      let low : number * each ≤ length notes = omega (arith, within) in
+      let left : each ≤ length (drop (number * each) notes) = omega (arith, within, length-drop (number * each) notes) in
+      ap (take each) (drop-append-le (number * each) notes (run ∷ []) low)
+      ∙ take-append-le each (drop (number * each) notes) (run ∷ []) left
 
-  still_told : (cases : List CaseSummary) → length cases * each ≤ length made → SumUp sweep made cases → SumUp sweep all cases
+  still_told : (cases : List CaseSummary) → length cases * each ≤ length notes → SumUp each notes cases → SumUp each all cases
   still_told cases through told number summary e =
       subst (IsSummaryOf summary) (sym (same_runs number (length cases) (slice_get_within cases number summary e) through)) (told number summary e)
 
   -- the runs of the case that isn't through, with one more
-  runs_more : (count : ℕ) → count * each ≤ length made → map traced_as (drop (count * each) made) ++ traced_as run ∷ [] ≡ map traced_as (drop (count * each) all)
-  runs_more count through =
-      sym (ap (map traced_as) (drop-append-le (count * each) made (run ∷ []) through) ∙ map-append traced_as (drop (count * each) made) (run ∷ []))
+  runs_more : (count : ℕ) → count * each ≤ length notes → drop (count * each) notes ++ run ∷ [] ≡ drop (count * each) all
+  runs_more count through = sym (drop-append-le (count * each) notes (run ∷ []) through)
 
-  module _ (old new : Gathering) (figures : CaseFigures) (were : IsGathered sweep made old) (size : new.each ≡ old.each)
-      (kept : AreFiguresOf figures (map traced_as (drop (length old.summaries.items * each) made) ++ traced_as run ∷ [])) where
+  module _ (old new : Gathering) (figures : CaseFigures) (were : IsGathered each notes old) (size : new.each ≡ old.each)
+      (kept : AreFiguresOf figures (drop (length old.summaries.items * each) notes ++ run ∷ [])) where
     abbrev count : ℕ
     count = length old.summaries.items
 
-    kept_more : AreFiguresOf figures (map traced_as (drop (count * each) all))
+    kept_more : AreFiguresOf figures (drop (count * each) all)
     kept_more = subst (AreFiguresOf figures) (runs_more count were.through) kept
 
     -- one run more of a case that isn't through
-    pub one_gathered : new.summaries.items ≡ old.summaries.items → new.figures ≡ figures → IsGathered sweep all new
+    pub one_gathered : new.summaries.items ≡ old.summaries.items → new.figures ≡ figures → IsGathered each all new
     one_gathered same is =
         record {
           size = size ∙ were.size;
           through = subst (λ (l : List CaseSummary). length l * each ≤ length all) (sym same) (omega (arith, were.through, all_long));
-          told = subst (SumUp sweep all) (sym same) (still_told old.summaries.items were.through were.told);
-          kept = subst (λ f. AreFiguresOf f (map traced_as (drop (length new.summaries.items * each) all))) (sym is)
-              (subst (λ (l : List CaseSummary). AreFiguresOf figures (map traced_as (drop (length l * each) all))) (sym same) kept_more);
+          told = subst (SumUp each all) (sym same) (still_told old.summaries.items were.through were.told);
+          kept = subst (λ f. AreFiguresOf f (drop (length new.summaries.items * each) all)) (sym is)
+              (subst (λ (l : List CaseSummary). AreFiguresOf figures (drop (length l * each) all)) (sym same) kept_more);
         }
 
     kept_long : runs_kept figures ≡ length all - count * each
-    kept_long = kept_more.all ∙ length-map (drop (count * each) all) traced_as ∙ length-drop (count * each) all
+    kept_long = kept_more.all ∙ length-drop (count * each) all
 
     -- the last run of a case
     module _ (enough : old.each ≤ runs_kept figures) where
       just_through : length all ≡ (count + 1) * each
       just_through =
           let open_runs : runs_kept old.figures < old.each = old.unfinished in
-          let before : runs_kept old.figures ≡ length made - count * each =
-          were.kept.all ∙ length-map (drop (count * each) made) traced_as ∙ length-drop (count * each) made in
+          let before : runs_kept old.figures ≡ length notes - count * each =
+          were.kept.all ∙ length-drop (count * each) notes in
           let next : (count + 1) * each ≡ count * each + each = omega arith in
           omega (arith, open_runs, before, next, enough, kept_long, all_long, were.size, were.through)
 
-      last_case : map traced_as (drop (count * each) all) ≡ runs_of_case sweep all count
+      last_case : drop (count * each) all ≡ runs_of_case each all count
       last_case =
           let next : (count + 1) * each ≡ count * each + each = omega arith in
           let long : length (drop (count * each) all) ≤ each = omega (arith, length-drop (count * each) all, just_through, next) in
-          ap (map traced_as) (sym (take_all each (drop (count * each) all) long))
+          sym (take_all each (drop (count * each) all) long)
 
       pub case_gathered : (summary : CaseSummary) → new.summaries.items ≡ old.summaries.items ++ summary ∷ []
-          → ((runs : List TracedRun) → AreFiguresOf figures runs → IsSummaryOf summary runs) → AreFiguresOf new.figures [] → IsGathered sweep all new
+          → ((runs : List Note) → AreFiguresOf figures runs → IsSummaryOf summary runs) → AreFiguresOf new.figures [] → IsGathered each all new
       case_gathered summary more sums fresh =
-          let here : IsSummaryOf summary (runs_of_case sweep all count) = subst (IsSummaryOf summary) last_case (sums _ kept_more) in
+          let here : IsSummaryOf summary (runs_of_case each all count) = subst (IsSummaryOf summary) last_case (sums _ kept_more) in
           let counted : length new.summaries.items ≡ count + 1 = ap length more ∙ length-append old.summaries.items (summary ∷ []) in
           let before = still_told old.summaries.items were.through were.told in
-          let none : [] ≡ map traced_as (drop ((count + 1) * each) all) =
-          sym (ap (map traced_as) (drop_all ((count + 1) * each) all (omega (arith, just_through)))) in
+          let none : [] ≡ drop ((count + 1) * each) all =
+          sym (drop_all ((count + 1) * each) all (omega (arith, just_through))) in
           record {
             size = size ∙ were.size;
             through = subst (λ n. n * each ≤ length all) (sym counted) (omega (arith, just_through));
-            told = subst (SumUp sweep all) (sym more) (λ number told e.
+            told = subst (SumUp each all) (sym more) (λ number told e.
                 ⊎_elim (before number told)
-                (λ p. subst (λ n. IsSummaryOf told (runs_of_case sweep all n)) (sym p.0) (subst (λ t. IsSummaryOf t (runs_of_case sweep all count)) p.1 here))
+                (λ p. subst (λ n. IsSummaryOf told (runs_of_case each all n)) (sym p.0) (subst (λ t. IsSummaryOf t (runs_of_case each all count)) p.1 here))
                 (pushed old.summaries.items summary told number e));
-            kept = subst (λ n. AreFiguresOf new.figures (map traced_as (drop (n * each) all))) (sym counted) (subst (AreFiguresOf new.figures) none fresh);
+            kept = subst (λ n. AreFiguresOf new.figures (drop (n * each) all)) (sym counted) (subst (AreFiguresOf new.figures) none fresh);
           }
 
 -- where all runs were made, all cases are through
-pub all_through : (sweep : Sweep) (made : List Made) (gathering : Gathering) → length made ≡ run_count sweep → IsGathered sweep made gathering
+pub all_through : (sweep : Sweep) (notes : List Note) (gathering : Gathering) → length notes ≡ run_count sweep → IsGathered (seed_count sweep.seeds) notes gathering
     → length gathering.summaries.items ≡ case_count sweep.settings
-all_through sweep made gathering long gathered =
+all_through sweep notes gathering long gathered =
     let each = seed_count sweep.seeds in
     let count = length gathering.summaries.items in
     let open_runs : runs_kept gathering.figures < gathering.each = gathering.unfinished in
-    let kept : runs_kept gathering.figures ≡ length made - count * each =
-    gathered.kept.all ∙ length-map (drop (count * each) made) traced_as ∙ length-drop (count * each) made in
+    let kept : runs_kept gathering.figures ≡ length notes - count * each =
+    gathered.kept.all ∙ length-drop (count * each) notes in
     same_multiple count (case_count sweep.settings) each (omega (arith, gathered.through, long)) (omega (arith, open_runs, kept, gathered.size, gathered.through, long))

@@ -1,10 +1,15 @@
 -- What is said of an error that is handed on.
-use Rattle.std.proofs.Common.{◌≡◌, ℕ, ◌+◌, ap, arith, Result, Ok, Err, IsErrAnd}
+use Rattle.std.proofs.Common.{◌≡◌, ℕ, ◌+◌, ap, sym, subst, arith, Result, Ok, Err, IsErrAnd}
 use Rattle.std.specs.Prelude.{IfErr, OnErr, OnOk}
 use Rattle.base.specs.declared.fault.Fault.{Fault}
 use Rattle.base.specs.declared.fault.Fault.TheVariants as fault
 use Rattle.scenario.specs.Setup.{Setup}
-use Rattle.sweep.specs.Table.{IsCauseOf}
+use Rattle.toml.specs.Data.{Data}
+use Rattle.trace.specs.Sinks.{fault_of_write}
+use Rattle.trace.specs.declared.write.WriteError.{WriteError}
+use Rattle.trace.specs.declared.write.WriteError.TheVariants as error
+use Rattle.cases.specs.Sweep.{Sweep}
+use Rattle.sweep.specs.Table.{HasCause, IsCauseOf}
 use Rattle.outputs.specs.Written.{sink_failures}
 
 -- what holds holds at an error too
@@ -22,6 +27,11 @@ pub on_ok_then : {T E : Type 0} (A B : Type 0) (r : Result T E) → OnOk r A →
 on_ok_then A B (Ok x) a turn = turn a
 on_ok_then A B (Err e) a turn = tt
 
+-- and the same of an error
+pub on_err_then : {T E : Type 0} (A B : Type 0) (r : Result T E) → OnErr r A → (A → B) → OnErr r B
+on_err_then A B (Ok x) a turn = tt
+on_err_then A B (Err e) a turn = turn a
+
 -- what is said of an error, and what follows from that
 pub if_err_then : {T E : Type 0} (r : Result T E) (G Q : E → Type 0) → IfErr r G → ((e : E) → G e → Q e) → IfErr r Q
 if_err_then (Ok x) G Q gives turn = tt
@@ -38,6 +48,13 @@ memory_fails_none (Ok x) n gives = omega arith
 memory_fails_none {T} (Err f) n gives =
     let none : sink_failures {T = T} (Err f) ≡ 0 = ap (λ g. sink_failures {T = T} (Err g)) gives in
     omega (arith, none)
+
+-- that a text was not put whole is a cause of the sweep's end
+pub write_caused : {T : Type 0} (tree : Data) (sweep : Sweep) (r : Result T Fault) (e : WriteError) → IsErrAnd r (λ f. f ≡ fault_of_write e)
+    → IfErr r (HasCause tree sweep)
+write_caused tree sweep (Ok x) e gives = tt
+write_caused tree sweep (Err f) error.Memory gives = subst (HasCause tree sweep) (sym gives) tt
+write_caused tree sweep (Err f) error.Stopped gives = subst (HasCause tree sweep) (sym gives) tt
 
 -- what keeps a run from having figures is no failure of a sink
 pub told_fails_none : (T : Type 0) (s : Setup) (f : Fault) (n : ℕ) → IsCauseOf s f → n ≡ n + sink_failures {T = T} (Err f)

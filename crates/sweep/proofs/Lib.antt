@@ -1,8 +1,12 @@
 mod Flat
-mod Handing
+pub mod Handing
 mod Lots
-mod Steps
-mod Gathered
+pub mod Steps
+pub mod Gathered
 mod Pushed
 mod CaseTexts
-mod Sizes
+pub mod Sizes
+pub mod PieceCourse
+mod WholeLines
+mod Begins
+pub mod Fronts

@@ -1,9 +1,10 @@
 -- How the table grows by a line, and why it ends.
-use Rattle.std.proofs.Common.{◌≡◌, ℕ, zero, suc, ◌+◌, ◌<◌, ◌≤◌, List, [], ◌∷◌, ◌++◌, Option, Some, refl, sym, ap, subst, ◌∙◌, arith, take, drop, get_or, length, append_assoc, append-nil, ⊎_elim, ◌≢◌, Bool, true, false, eqb, true≢false}
+use Rattle.std.proofs.Common.{◌≡◌, ℕ, zero, suc, ◌+◌, ◌-◌, ◌<◌, ◌≤◌, List, [], ◌∷◌, ◌++◌, Option, Some, refl, sym, ap, subst, ◌∙◌, arith, take, drop, get_or, length, map, append_assoc, append-nil, ⊎_elim, ◌≢◌, Bool, true, false, eqb, true≢false}
 use Rattle.std.proofs.lemmas.Bool.{eqb-true, eq-eqb}
-use Rattle.std.proofs.lemmas.List.{take_all, take-append-drop, take_more}
+use Rattle.std.proofs.lemmas.List.{take_all, take-append-drop, take_more, map-append, length-map}
+use Rattle.std.proofs.Math.Seq.{take-take}
 use Rattle.std.proofs.lemmas.List.Concat.{flat_map-append}
-use Rattle.std.proofs.lemmas.List.Elements.{All-drop, All-head, All-push, All-tail}
+use Rattle.std.proofs.lemmas.List.Elements.{All-drop, All-head, All-push, All-tail, All-take}
 use Rattle.std.proofs.lemmas.Option.{none-some, same_Some, slice_get-get_or, slice_get_within, get_or_from_slice_get}
 use Rattle.std.proofs.lemmas.Slice.Zip.{all_zipped_more}
 use Rattle.std.specs.Prelude.{slice_get, All, Result, Ok, Err}
@@ -16,17 +17,17 @@ use Rattle.base.specs.declared.fault.Fault.TheVariants as fault
 use Rattle.scenario.specs.Setup.{Setup, IsSound}
 use Rattle.trace.specs.declared.row.Row.{Row}
 use Rattle.trace.specs.Sinks.{AppendsBeginning}
-use Rattle.trace.proofs.Beginnings.{Appends-then, Appends-kept, beginning-kept, beginning-first, beginning-then, beginning-whole, beginning-of}
+use Rattle.trace.proofs.Beginnings.{Appends-none, Appends-then, Keeps-same, Appends-kept, beginning-kept, beginning-first, beginning-then, beginning-whole, beginning-of}
 use Rattle.member_laws.specs.Runs.{IsRunOf}
 use Rattle.figures.specs.Lines.{header_line, run_line}
-use Rattle.figures.specs.Cases.{traced}
-use Rattle.cases.specs.Sweep.{Sweep, run_count}
+use Rattle.figures.specs.Notes.{Note, note_of}
+use Rattle.cases.specs.Sweep.{Sweep, run_count, seed_count}
 use Rattle.cases.specs.declared.choice.Choice.{Choice}
-use Rattle.sweep.specs.Runs.{Planned, Made, IsMadeAs, IsRunAt, planned_as, runs_of, verdict_of}
-use Rattle.sweep.specs.Table.{texts_of, names_of, tells_revived, made_line, table_text, HasLines, BeginsLines, BeginsTable, HasCause, IsCauseOf, IsTold, IsReadAt}
+use Rattle.sweep.specs.Runs.{Planned, Made, IsMadeAs, AreMadeBetween, IsRunAt, noted, planned_as, runs_of, runs_between, verdict_of}
+use Rattle.sweep.specs.Table.{texts_of, names_of, tells_revived, made_line, note_before, line_with, lines_text, table_text, Course, HasLines, BeginsLines, BeginsTable, HasCause, IsCauseOf, IsTold, IsReadAt}
 use Rattle.sweep.specs.declared.telling.ToldRun.{ToldRun}
 use Rattle.sweep.specs.declared.gathering.Gathering.{Gathering}
-use Rattle.sweep.specs.Summaries.{IsGathered, HasCome, MakesAll, traced_as, summaries_in}
+use Rattle.sweep.specs.Summaries.{IsGathered, HasCome, MakesAll, summaries_in}
 use Rattle.sweep.specs.Judged.{IsAccepted, IsAcceptedAt, AreAccepted}
 use Rattle.sweep.proofs.Flat.{runs_counted}
 use Rattle.sweep.proofs.Gathered.{all_through}
@@ -35,12 +36,32 @@ use Rattle.sweep.proofs.Pushed.{pushed}
 pub taken_more : {X : Type 0} (xs : List X) (n : ℕ) (x : X) → slice_get xs n ≡ Some x → take (n + 1) xs ≡ take n xs ++ x ∷ []
 taken_more xs n x e = take_more xs n x (slice_get_within xs n x e) ∙ ap (λ y. take n xs ++ y ∷ []) (get_or_from_slice_get xs n x x e)
 
-table_more : (tree : Data) (sweep : Sweep) (made : List Made) (m : Made) → table_text tree sweep made ++ made_line (tells_revived tree) m ≡ table_text tree sweep (made ++ m ∷ [])
-table_more tree sweep made m =
-    let head = header_line (tells_revived tree) (names_of sweep.settings) in
-    let line : Made → List ℕ = made_line (tells_revived tree) in
-    append_assoc head (flat_map line made) (line m)
-    ∙ ap (λ l. head ++ l) (ap (λ l. flat_map line made ++ l) (sym (append-nil (line m))) ∙ sym (flat_map-append line made (m ∷ [])))
+-- where lines have no notes, nothing is put before one
+pub none_before : (notes : Bool) (note : Note) (held : Option (List ℕ)) → notes ≡ false → Appends held held (note_before notes note)
+none_before true note held is = absurd (true≢false is)
+none_before false note held is = Appends-none held held (Keeps-same held)
+
+-- the runs between two numbers, one more
+past : {X : Type 0} (xs : List X) (from n : ℕ) → from ≤ n → slice_get (drop from xs) (n - from) ≡ slice_get xs n
+past xs zero n le = let same : n - zero ≡ n = omega arith in ap (slice_get xs) same
+past [] (suc from) n le = refl
+past (x ∷ xs) (suc from) zero le = absurd (omega (arith, le))
+past (x ∷ xs) (suc from) (suc n) le =
+    let less : suc n - suc from ≡ n - from = omega arith in
+    ap (slice_get (drop from xs)) less ∙ past xs from n (omega (arith, le))
+
+pub between_more : {X : Type 0} (xs : List X) (from n : ℕ) (x : X) → from ≤ n → slice_get xs n ≡ Some x
+    → take (n + 1 - from) (drop from xs) ≡ take (n - from) (drop from xs) ++ x ∷ []
+between_more xs from n x le e =
+    let more : n + 1 - from ≡ (n - from) + 1 = omega (arith, le) in
+    ap (λ k. take k (drop from xs)) more ∙ taken_more (drop from xs) (n - from) x (past xs from n le ∙ e)
+
+text_more : (tree : Data) (course : Course) (made : List Made) (m : Made)
+    → lines_text tree course made ++ line_with (tells_revived tree) course.notes m ≡ lines_text tree course (made ++ m ∷ [])
+text_more tree course made m =
+    let line : Made → List ℕ = line_with (tells_revived tree) course.notes in
+    append_assoc course.front (flat_map line made) (line m)
+    ∙ ap (λ l. course.front ++ l) (ap (λ l. flat_map line made ++ l) (sym (append-nil (line m))) ∙ sym (flat_map-append line made (m ∷ [])))
 
 -- items of two lists at one place
 zipped_at : {X Y : Type 0} (R : X → Y → Type 0) (xs : List X) (ys : List Y) (place : ℕ) (x : X) (y : Y) → AllZip R xs ys
@@ -102,49 +123,77 @@ module _ (tree : Data) (sweep : Sweep) where
       let long : length (runs_of sweep) ≤ number = omega (arith, le, runs_counted sweep) in
       subst (All (IsAccepted tree)) (take_all number (runs_of sweep) long) before
 
-  are_more : (number : ℕ) (p : Planned) (m : Made) (made : List Made) → IsRunAt sweep number p → IsMadeAs tree p m
-      → AllZip (IsMadeAs tree) (take number (runs_of sweep)) made → AllZip (IsMadeAs tree) (take (number + 1) (runs_of sweep)) (made ++ m ∷ [])
-  are_more number p m made at so are =
-      subst (λ l. AllZip (IsMadeAs tree) l (made ++ m ∷ [])) (sym (taken_more (runs_of sweep) number p at))
-      (all_zipped_more (IsMadeAs tree) (take number (runs_of sweep)) made p m are so)
+  are_more : (from number : ℕ) (p : Planned) (m : Made) (made : List Made) → from ≤ number → IsRunAt sweep number p → IsMadeAs tree p m
+      → AreMadeBetween tree sweep from number made → AreMadeBetween tree sweep from (number + 1) (made ++ m ∷ [])
+  are_more from number p m made low at so are =
+      subst (λ l. AllZip (IsMadeAs tree) l (made ++ m ∷ [])) (sym (between_more (runs_of sweep) from number p low at))
+      (all_zipped_more (IsMadeAs tree) (runs_between sweep from number) made p m are so)
 
-  -- what was written is a beginning
-  pub have_begun : (start held : Option (List ℕ)) (number : ℕ) → HasLines tree sweep start held number → BeginsLines tree sweep start held
-  have_begun start held number lines =
-      record { count = number; made = lines.made; are = lines.are; written = beginning-whole start held (table_text tree sweep lines.made) lines.written }
+  module _ (course : Course) where
+    none_between : AreMadeBetween tree sweep course.from course.from []
+    none_between =
+        let none : 0 ≡ course.from - course.from = omega arith in
+        subst (λ n. AllZip (IsMadeAs tree) (take n (drop course.from (runs_of sweep))) []) none tt
 
-  -- the header alone, and nothing that is gathered
-  pub header_come : (start held : Option (List ℕ)) (gathering : Gathering) → Appends start held (header_line (tells_revived tree) (names_of sweep.settings)) → IsGathered sweep [] gathering
-      → HasCome tree sweep start held gathering 0
-  header_come start held gathering p fresh =
-      record {
-        lines = record { made = []; are = tt; written = subst (Appends start held) (sym (append-nil (header_line (tells_revived tree) (names_of sweep.settings)))) p };
-        gathered = fresh;
-      }
+    -- what was written is a beginning
+    pub have_begun : (held : Option (List ℕ)) (number : ℕ) → number ≤ course.till → HasLines tree sweep course held number → BeginsLines tree sweep course held
+    have_begun held number high lines = record {
+      number = number;
+      made = lines.made;
+      low = lines.low;
+      high = high;
+      are = lines.are;
+      written = beginning-whole course.start held (lines_text tree course lines.made) lines.written;
+    }
 
-  -- what is held stays as it is
-  pub come_kept : (start mid held : Option (List ℕ)) (gathering : Gathering) (number : ℕ) → HasCome tree sweep start mid gathering number → Keeps mid held
-      → HasCome tree sweep start held gathering number
-  come_kept start mid held gathering number come kept =
-      let lines = come.lines in
-      let text = table_text tree sweep lines.made in
-      record {
-        lines = record {
-          made = lines.made;
-          are = lines.are;
-          written = Appends-kept start mid held text lines.written kept;
-        };
-        gathered = come.gathered;
-      }
+    -- no line yet, and nothing that is gathered
+    pub front_come : (held : Option (List ℕ)) (HasGathered : List Note → Type 0) → Appends course.start held course.front → HasGathered []
+        → HasCome tree sweep course held HasGathered course.from
+    front_come held HasGathered p fresh = record {
+      lines = record {
+        made = [];
+        low = omega arith;
+        are = none_between;
+        written = subst (Appends course.start held) (sym (append-nil course.front)) p;
+      };
+      gathered = fresh;
+    }
 
-  -- the same of a beginning
-  pub begun_kept : (start mid held : Option (List ℕ)) → BeginsLines tree sweep start mid → Keeps mid held → BeginsLines tree sweep start held
-  begun_kept start mid held lines kept =
-      record { count = lines.count; made = lines.made; are = lines.are; written = beginning-kept start mid held (table_text tree sweep lines.made) lines.written kept }
+    -- what is held stays as it is
+    pub come_kept : (mid held : Option (List ℕ)) (HasGathered : List Note → Type 0) (number : ℕ) → HasCome tree sweep course mid HasGathered number → Keeps mid held
+        → HasCome tree sweep course held HasGathered number
+    come_kept mid held HasGathered number come kept =
+        let lines = come.lines in
+        record {
+          lines = record {
+            made = lines.made;
+            low = lines.low;
+            are = lines.are;
+            written = Appends-kept course.start mid held (lines_text tree course lines.made) lines.written kept;
+          };
+          gathered = come.gathered;
+        }
 
-  pub header_part : (start held : Option (List ℕ)) → AppendsBeginning start held (header_line (tells_revived tree) (names_of sweep.settings)) → BeginsLines tree sweep start held
-  header_part start held p =
-      record { count = 0; made = []; are = tt; written = beginning-first start held (header_line (tells_revived tree) (names_of sweep.settings)) [] p }
+    -- the same of a beginning
+    pub begun_kept : (mid held : Option (List ℕ)) → BeginsLines tree sweep course mid → Keeps mid held → BeginsLines tree sweep course held
+    begun_kept mid held lines kept = record {
+      number = lines.number;
+      made = lines.made;
+      low = lines.low;
+      high = lines.high;
+      are = lines.are;
+      written = beginning-kept course.start mid held (lines_text tree course lines.made) lines.written kept;
+    }
+
+    pub front_part : (held : Option (List ℕ)) → course.from ≤ course.till → AppendsBeginning course.start held course.front → BeginsLines tree sweep course held
+    front_part held ordered p = record {
+      number = course.from;
+      made = [];
+      low = omega arith;
+      high = ordered;
+      are = none_between;
+      written = beginning-first course.start held course.front [] p;
+    }
 
   -- a cause of a run that is asked for is one of the sweep
   pub cause_of_run : (number : ℕ) (s : Setup) (f : Fault) → IsReadAt tree sweep number s → IsCauseOf s f → HasCause tree sweep f
@@ -154,19 +203,31 @@ module _ (tree : Data) (sweep : Sweep) where
   cause_of_run number s fault.Write read h = absurd h
   cause_of_run number s fault.Relay read h = absurd h
 
+  -- the runs from the first to past the last are all
+  all_made : (made : List Made) → AreMadeBetween tree sweep 0 (run_count sweep) made → AllZip (IsMadeAs tree) (runs_of sweep) made
+  all_made made are =
+      let whole : run_count sweep - 0 ≡ run_count sweep = omega arith in
+      let long : length (runs_of sweep) ≤ run_count sweep = omega (arith, runs_counted sweep) in
+      subst (λ l. AllZip (IsMadeAs tree) l made) (ap (λ n. take n (runs_of sweep)) whole ∙ take_all (run_count sweep) (runs_of sweep) long) are
+
+  -- the course of a whole table
+  abbrev pub whole_course : Option (List ℕ) → Course
+  whole_course start = record { start = start; front = header_line (tells_revived tree) (names_of sweep.settings); notes = false; from = 0; till = run_count sweep }
+
   -- all lines are the table, and all cases are summed up
-  pub whole_table : (start held : Option (List ℕ)) (gathering : Gathering) → HasCome tree sweep start held gathering (run_count sweep)
+  pub whole_table : (start held : Option (List ℕ)) (gathering : Gathering)
+      → HasCome tree sweep (whole_course start) held (λ notes. IsGathered (seed_count sweep.seeds) notes gathering) (run_count sweep)
       → MakesAll tree sweep start held (summaries_in gathering)
   whole_table start held gathering come =
       let lines = come.lines in
-      let long : length (runs_of sweep) ≤ run_count sweep = omega (arith, runs_counted sweep) in
-      let are : AllZip (IsMadeAs tree) (runs_of sweep) lines.made =
-      subst (λ l. AllZip (IsMadeAs tree) l lines.made) (take_all (run_count sweep) (runs_of sweep) long) lines.are in
+      let are = all_made lines.made lines.are in
+      let long : length (map noted lines.made) ≡ run_count sweep =
+      length-map lines.made noted ∙ sym (zipped_long (IsMadeAs tree) (runs_of sweep) lines.made are) ∙ runs_counted sweep in
       record {
         made = lines.made;
         are = are;
         written = lines.written;
-        all = all_through sweep lines.made gathering (sym (zipped_long (IsMadeAs tree) (runs_of sweep) lines.made are) ∙ runs_counted sweep) come.gathered;
+        all = all_through sweep (map noted lines.made) gathering long come.gathered;
         told = come.gathered.told;
       }
 
@@ -182,26 +243,40 @@ module _ (tree : Data) (sweep : Sweep) where
         let so : IsMadeAs tree p m = record { same = refl; accepted = here.1; run = run.1 } in
         (m ∷ rest.0, (so, rest.1))
 
-    -- so a beginning of the first lines is one of the whole table
-    pub begun_table : (start held : Option (List ℕ)) → AreAccepted tree sweep → BeginsLines tree sweep start held → BeginsTable tree sweep start held
+    -- so a beginning of the first lines is one of all lines of a course
+    pub begun_lines : (course : Course) (held : Option (List ℕ)) → AreAccepted tree sweep → BeginsLines tree sweep course held
+        → (made : List Made) × AreMadeBetween tree sweep course.from course.till made × AppendsBeginning course.start held (lines_text tree course made)
+    begun_lines course held all lines =
+        let planned = runs_between sweep course.from course.till in
+        let count = lines.number - course.from in
+        let few : count ≤ course.till - course.from = omega (arith, lines.high) in
+        let front : take count planned ≡ runs_between sweep course.from lines.number =
+        take-take count (course.till - course.from) (drop course.from (runs_of sweep)) few in
+        let accepted = All-take (IsAccepted tree) (course.till - course.from) (drop course.from (runs_of sweep)) (All-drop (IsAccepted tree) course.from (runs_of sweep) all) in
+        let left = runs_left (drop count planned) (All-drop (IsAccepted tree) count planned accepted) in
+        let line : Made → List ℕ = line_with (tells_revived tree) course.notes in
+        let text : lines_text tree course lines.made ++ flat_map line left.0 ≡ lines_text tree course (lines.made ++ left.0) =
+        append_assoc course.front (flat_map line lines.made) (flat_map line left.0) ∙ ap (λ l. course.front ++ l) (sym (flat_map-append line lines.made left.0)) in (
+          lines.made ++ left.0,
+          subst (λ l. AllZip (IsMadeAs tree) l (lines.made ++ left.0)) (take-append-drop count planned)
+              (AllZip-append (IsMadeAs tree) (take count planned) (drop count planned) lines.made left.0
+              (subst (λ l. AllZip (IsMadeAs tree) l lines.made) (sym front) lines.are) left.1),
+          beginning-of course.start held _ _ text (beginning-first course.start held (lines_text tree course lines.made) (flat_map line left.0) lines.written),
+        )
+
+    -- and one of the whole table
+    pub begun_table : (start held : Option (List ℕ)) → AreAccepted tree sweep → BeginsLines tree sweep (whole_course start) held → BeginsTable tree sweep start held
     begun_table start held all lines =
-        let front = take lines.count (runs_of sweep) in
-        let back = drop lines.count (runs_of sweep) in
-        let left = runs_left back (All-drop (IsAccepted tree) lines.count (runs_of sweep) all) in
-        let head = header_line (tells_revived tree) (names_of sweep.settings) in
-        let text : table_text tree sweep lines.made ++ flat_map (made_line (tells_revived tree)) left.0 ≡ table_text tree sweep (lines.made ++ left.0) =
-        append_assoc head (flat_map (made_line (tells_revived tree)) lines.made) (flat_map (made_line (tells_revived tree)) left.0) ∙ ap (λ l. head ++ l) (sym (flat_map-append (made_line (tells_revived tree)) lines.made left.0)) in
-        record {
-          made = lines.made ++ left.0;
-          are = subst (λ l. AllZip (IsMadeAs tree) l (lines.made ++ left.0)) (take-append-drop lines.count (runs_of sweep))
-              (AllZip-append (IsMadeAs tree) front back lines.made left.0 lines.are left.1);
-          written = beginning-of start held _ _ text (beginning-first start held (table_text tree sweep lines.made) (flat_map (made_line (tells_revived tree)) left.0) lines.written);
-        }
+        let begun = begun_lines (whole_course start) held all lines in
+        record { made = begun.0; are = all_made begun.0 begun.1; written = begun.2 }
 
   module _ (number : ℕ) (s : Setup) (run : ToldRun) (chosen : List Choice) (seed : Option ℕ) (told : ℕ)
-      (read : IsReadAt tree sweep number s) (is_told : IsTold s run) (at : IsRunAt sweep number (planned_as chosen seed)) (e : told ≡ s.seed) where
+      (read : IsReadAt tree sweep number s) (is_told : IsTold s run) (at : IsRunAt sweep number (planned_as chosen seed)) (e : told ≡ s.seed) (notes : Bool) where
     abbrev the_made : Made
     the_made = record { case = chosen; scenario = s; rows = run.tallies }
+
+    abbrev the_line : List ℕ
+    the_line = note_before notes run.note ++ run_line (tells_revived tree) (texts_of chosen) told run.figures
 
     is_made : IsMadeAs tree read.0 the_made
     is_made = record {
@@ -210,32 +285,40 @@ module _ (tree : Data) (sweep : Sweep) where
       run = is_told.run;
     }
 
-    line_same : run_line (tells_revived tree) (texts_of chosen) told run.figures ≡ made_line (tells_revived tree) the_made
-    line_same = (λ i. run_line (tells_revived tree) (texts_of chosen) (e i) (is_told.same i))
+    line_same : the_line ≡ line_with (tells_revived tree) notes the_made
+    line_same = (λ i. note_before notes (is_told.kept i) ++ run_line (tells_revived tree) (texts_of chosen) (e i) (is_told.same i))
 
     -- its line was written, and it was gathered
-    pub line_whole : (start mid held : Option (List ℕ)) (before after : Gathering) → Appends mid held (run_line (tells_revived tree) (texts_of chosen) told run.figures)
-        → ((sweep : Sweep) (made : List Made) (m : Made) → traced_as m ≡ traced s run.tallies → IsGathered sweep made before → IsGathered sweep (made ++ m ∷ []) after)
-        → HasCome tree sweep start mid before number → HasCome tree sweep start held after (number + 1)
-    line_whole start mid held before after p gathers come =
+    pub line_whole : (course : Course) (mid held : Option (List ℕ)) (Before After : List Note → Type 0) → course.notes ≡ notes → Appends mid held the_line
+        → ((made : List Note) → Before made → After (made ++ run.note ∷ []))
+        → HasCome tree sweep course mid Before number → HasCome tree sweep course held After (number + 1)
+    line_whole course mid held Before After with_notes p gathers come =
         let lines = come.lines in
+        let line : the_line ≡ line_with (tells_revived tree) course.notes the_made = line_same ∙ ap (λ b. line_with (tells_revived tree) b the_made) (sym with_notes) in
+        let added : map noted lines.made ++ run.note ∷ [] ≡ map noted (lines.made ++ the_made ∷ []) =
+        ap (λ n. map noted lines.made ++ n ∷ []) is_told.kept ∙ sym (map-append noted lines.made (the_made ∷ [])) in
         record {
           lines = record {
             made = lines.made ++ the_made ∷ [];
-            are = are_more number read.0 the_made lines.made read.1 is_made lines.are;
-            written = subst (Appends start held) (table_more tree sweep lines.made the_made)
-                (Appends-then start mid held (table_text tree sweep lines.made) (made_line (tells_revived tree) the_made) lines.written (subst (Appends mid held) line_same p));
+            low = omega (arith, lines.low);
+            are = are_more course.from number read.0 the_made lines.made lines.low read.1 is_made lines.are;
+            written = subst (Appends course.start held) (text_more tree course lines.made the_made)
+                (Appends-then course.start mid held (lines_text tree course lines.made) (line_with (tells_revived tree) course.notes the_made) lines.written (subst (Appends mid held) line p));
           };
-          gathered = gathers sweep lines.made the_made refl come.gathered;
+          gathered = subst After added (gathers (map noted lines.made) come.gathered);
         }
 
     -- a beginning of its line was written
-    pub line_part : (start mid held : Option (List ℕ)) → AppendsBeginning mid held (run_line (tells_revived tree) (texts_of chosen) told run.figures)
-        → HasLines tree sweep start mid number → BeginsLines tree sweep start held
-    line_part start mid held p lines = record {
-      count = number + 1;
-      made = lines.made ++ the_made ∷ [];
-      are = are_more number read.0 the_made lines.made read.1 is_made lines.are;
-      written = beginning-of start held _ _ (table_more tree sweep lines.made the_made)
-          (beginning-then start mid held (table_text tree sweep lines.made) (made_line (tells_revived tree) the_made) lines.written (beginning-of mid held _ _ line_same p));
-    }
+    pub line_part : (course : Course) (mid held : Option (List ℕ)) → course.notes ≡ notes → number + 1 ≤ course.till → AppendsBeginning mid held the_line
+        → HasLines tree sweep course mid number → BeginsLines tree sweep course held
+    line_part course mid held with_notes high p lines =
+        let line : the_line ≡ line_with (tells_revived tree) course.notes the_made = line_same ∙ ap (λ b. line_with (tells_revived tree) b the_made) (sym with_notes) in
+        record {
+          number = number + 1;
+          made = lines.made ++ the_made ∷ [];
+          low = omega (arith, lines.low);
+          high = high;
+          are = are_more course.from number read.0 the_made lines.made lines.low read.1 is_made lines.are;
+          written = beginning-of course.start held _ _ (text_more tree course lines.made the_made)
+              (beginning-then course.start mid held (lines_text tree course lines.made) (line_with (tells_revived tree) course.notes the_made) lines.written (beginning-of mid held _ _ line p));
+        }

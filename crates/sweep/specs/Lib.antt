@@ -3,3 +3,5 @@ pub mod Table
 pub mod Summaries
 pub mod Texts
 pub mod Judged
+pub mod Pieces
+pub mod Resumed

@@ -1,11 +1,12 @@
 -- The runs of a sweep: each case with each seed, in order.
-use Rattle.std.specs.Prelude.{◌≡◌, ℕ, List, [], ◌∷◌, Option, Some, None, Result, Ok, map, slice_get}
+use Rattle.std.specs.Prelude.{◌≡◌, ℕ, ◌-◌, List, [], ◌∷◌, Option, Some, None, Result, Ok, map, slice_get, take, drop}
 use Rattle.std.specs.List.{AllZip, flat_map, range_with_len}
 use Rattle.toml.specs.Data.{Data}
 use Rattle.scenario.specs.Setup.{Setup}
 use Rattle.scenario_reader.specs.Rules.{document_verdict}
 use Rattle.trace.specs.declared.row.Row.{Row}
 use Rattle.member_laws.specs.Runs.{IsRunOf}
+use Rattle.figures.specs.Notes.{Note, note_of}
 use Rattle.cases.specs.Sweep.{Sweep, seed_count}
 use Rattle.cases.specs.Cases.{cases_of}
 use Rattle.cases.specs.Document.{with_values}
@@ -36,6 +37,10 @@ seeds_of (Some r) = map Some (range_with_len r.first (seed_count (Some r)))
 unfoldable pub runs_of : Sweep → List Planned
 runs_of sweep = flat_map (λ chosen. map (planned_as chosen) (seeds_of sweep.seeds)) (cases_of sweep.settings)
 
+-- the runs from one number, counted from 0, to before another
+abbrev pub runs_between : Sweep → ℕ → ℕ → List Planned
+runs_between sweep from till = take (till - from) (drop from (runs_of sweep))
+
 -- the run of this number, counted from 0
 abbrev pub IsRunAt : Sweep → ℕ → Planned → Type 0
 IsRunAt sweep number p = slice_get (runs_of sweep) number ≡ Some p
@@ -56,6 +61,14 @@ pub record IsMadeAs (tree : Data) (p : Planned) (m : Made) : Type 0 where
   pub accepted : verdict_of tree p ≡ Ok m.scenario
   pub run : IsRunOf m.scenario m.rows
 
+-- what its case keeps of it
+abbrev pub noted : Made → Note
+noted m = note_of m.scenario m.rows
+
 -- these are all runs that the sweep asks for, in order
 abbrev pub AreMade : Data → Sweep → List Made → Type 0
 AreMade tree sweep made = AllZip (IsMadeAs tree) (runs_of sweep) made
+
+-- these are the runs from one number to before another
+abbrev pub AreMadeBetween : Data → Sweep → ℕ → ℕ → List Made → Type 0
+AreMadeBetween tree sweep from till made = AllZip (IsMadeAs tree) (runs_between sweep from till) made

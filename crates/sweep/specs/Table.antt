@@ -1,5 +1,5 @@
 -- The table of a sweep, and how far it has come.
-use Rattle.std.specs.Prelude.{◌≡◌, ℕ, ◌⊎◌, Bool, true, false, List, ◌++◌, Option, Result, Ok, Err, IfOk, Vec, map, take}
+use Rattle.std.specs.Prelude.{◌≡◌, ◌≤◌, ℕ, ◌⊎◌, List, [], ◌++◌, Bool, true, false, Option, Result, Ok, Err, IfOk, Vec, map}
 use Rattle.std.specs.List.{AllZip, flat_map}
 use Rattle.std.specs.Io.KnownBytes.{Appends}
 use Rattle.std.specs.declared.alloc.Global.{Global}
@@ -12,18 +12,17 @@ use Rattle.schema.specs.declared.schema.Version.TheVariants.{One, Two, Three}
 use Rattle.scenario.specs.Setup.{Setup}
 use Rattle.scenario_reader.specs.Reading.{version_of}
 use Rattle.trace.specs.Sinks.{AppendsBeginning}
-use Rattle.trace.specs.declared.write.WriteError.{WriteError}
-use Rattle.trace.specs.declared.write.WriteError.TheVariants as error
 use Rattle.member_laws.specs.Runs.{IsRunOf, WearsOut}
 use Rattle.outputs.specs.Promise.{WearsOutReport}
 use Rattle.figures.specs.Figures.{figures_of}
 use Rattle.figures.specs.Lines.{header_line, run_line}
+use Rattle.figures.specs.Notes.{Note, note_of, note_cell}
 use Rattle.cases.specs.Keys.{key_name}
 use Rattle.cases.specs.Values.{value_text}
 use Rattle.cases.specs.Sweep.{KeyValues, Sweep}
 use Rattle.cases.specs.declared.choice.Choice.{Choice}
 use Rattle.sweep.specs.declared.telling.ToldRun.{ToldRun}
-use Rattle.sweep.specs.Runs.{Planned, Made, IsMadeAs, AreMade, IsRunAt, runs_of, verdict_of}
+use Rattle.sweep.specs.Runs.{Planned, Made, AreMade, AreMadeBetween, IsRunAt, noted, verdict_of}
 
 -- the values of a case, as words say them
 abbrev pub texts_of : List Choice → List (List ℕ)
@@ -51,18 +50,43 @@ made_line revived m = run_line revived (texts_of m.case) m.scenario.seed (figure
 abbrev pub table_text : Data → Sweep → List Made → List ℕ
 table_text tree sweep made = header_line (tells_revived tree) (names_of sweep.settings) ++ flat_map (made_line (tells_revived tree)) made
 
--- the header and the lines of the first runs, so many, were appended to what was held at the start
-pub record HasLines (tree : Data) (sweep : Sweep) (start held : Option (List ℕ)) (count : ℕ) : Type 0 where
+-- what stands before the line of a run: its note, where lines have notes
+abbrev pub note_before : Bool → Note → List ℕ
+note_before false n = []
+note_before true n = note_cell n
+
+-- the line of a run that was made, with its note where lines have notes
+abbrev pub line_with : Bool → Bool → Made → List ℕ
+line_with revived notes m = note_before notes (noted m) ++ made_line revived m
+
+-- What lines are put one after the other: what was held before, and what is put ahead of them; whether they have notes; and the numbers of
+-- the first run and of the one past the last.
+pub record Course : Type 0 where
+  pub start : Option (List ℕ)
+  pub front : List ℕ
+  pub notes : Bool
+  pub from : ℕ
+  pub till : ℕ
+
+-- what is put, with the lines of these runs
+abbrev pub lines_text : Data → Course → List Made → List ℕ
+lines_text tree course made = course.front ++ flat_map (line_with (tells_revived tree) course.notes) made
+
+-- what is put ahead, and the lines of the runs to before this number, were appended
+pub record HasLines (tree : Data) (sweep : Sweep) (course : Course) (held : Option (List ℕ)) (number : ℕ) : Type 0 where
   pub made : List Made
-  pub are : AllZip (IsMadeAs tree) (take count (runs_of sweep)) made
-  pub written : Appends start held (table_text tree sweep made)
+  pub low : course.from ≤ number
+  pub are : AreMadeBetween tree sweep course.from number made
+  pub written : Appends course.start held (lines_text tree course made)
 
 -- a beginning of such a text was appended
-pub record BeginsLines (tree : Data) (sweep : Sweep) (start held : Option (List ℕ)) : Type 0 where
-  pub count : ℕ
+pub record BeginsLines (tree : Data) (sweep : Sweep) (course : Course) (held : Option (List ℕ)) : Type 0 where
+  pub number : ℕ
   pub made : List Made
-  pub are : AllZip (IsMadeAs tree) (take count (runs_of sweep)) made
-  pub written : AppendsBeginning start held (table_text tree sweep made)
+  pub low : course.from ≤ number
+  pub high : number ≤ course.till
+  pub are : AreMadeBetween tree sweep course.from number made
+  pub written : AppendsBeginning course.start held (lines_text tree course made)
 
 -- a beginning of the table was appended
 pub record BeginsTable (tree : Data) (sweep : Sweep) (old new : Option (List ℕ)) : Type 0 where
@@ -97,10 +121,11 @@ IsCauseOf s fault.Worn = IsWearing s
 IsCauseOf s fault.Write = ⊥
 IsCauseOf s fault.Relay = ⊥
 
--- the rows of the scenario's run, as they were tallied, and its figures
+-- the rows of the scenario's run, as they were tallied, its figures, and its note
 pub record IsTold (s : Setup) (told : ToldRun) : Type 0 where
   pub run : IsRunOf s told.tallies
   pub same : told.figures ≡ figures_of s told.tallies
+  pub kept : told.note ≡ note_of s told.tallies
 
 -- the scenario's run was told, or there is a cause for there being nothing to tell
 abbrev pub AreTold : Setup → Result ToldRun Fault → Type 0
@@ -114,8 +139,3 @@ IsToldLot scenarios lot = IfOk lot (λ told. AllZip AreTold scenarios told.items
 -- the scenario is that of the run of this number
 abbrev pub IsReadAt : Data → Sweep → ℕ → Setup → Type 0
 IsReadAt tree sweep number s = (p : Planned) × IsRunAt sweep number p × (verdict_of tree p ≡ Ok s)
-
--- why a sweep ends where a line was not put
-abbrev pub fault_as : WriteError → Fault
-fault_as error.Memory = fault.Memory
-fault_as error.Stopped = fault.Write

@@ -6,8 +6,9 @@ use Rattle.cases.specs.Values.{value_text}
 use Rattle.cases.specs.Sweep.{KeyValues, Sweep}
 use Rattle.cases.specs.Cases.{cases_of}
 use Rattle.cases.specs.declared.choice.Choice.{Choice}
-use Rattle.figures.specs.CaseLines.{case_header, case_line}
+use Rattle.figures.specs.CaseLines.{cells_aligned, figure_texts, figure_widths, figure_words}
 use Rattle.figures.specs.declared.summary.CaseSummary.{CaseSummary}
+use Rattle.answers.specs.Front.{is_on_front, mark_text, mark_word}
 use Rattle.sweep.specs.Table.{names_of, texts_of}
 
 -- how long the longest of some texts is
@@ -22,11 +23,20 @@ column_width s = longest (key_name s.key ∷ map value_text s.values)
 abbrev pub widths_of : List KeyValues → List ℕ
 widths_of settings = map column_width settings
 
--- the lines of cases with these summaries
-abbrev pub lines_of_cases : Bool → List ℕ → List (List Choice) → List CaseSummary → List ℕ
-lines_of_cases revived widths cases summaries = flat_map (λ told. case_line revived widths (texts_of told.0) told.1) (zip cases summaries)
+-- the line of a case among all, with its mark
+abbrev pub marked_line : Bool → List ℕ → List CaseSummary → List Choice → CaseSummary → List ℕ
+marked_line revived widths all chosen summary = cells_aligned (widths ++ figure_widths revived) (texts_of chosen ++ figure_texts revived summary) ++ mark_text (is_on_front summary all)
 
--- the header, and the line of each case, in order; whether they tell of members that were taken for alive again is given
+-- the lines of cases with these summaries, among all
+abbrev pub lines_of_cases : Bool → List ℕ → List CaseSummary → List (List Choice) → List CaseSummary → List ℕ
+lines_of_cases revived widths all cases summaries = flat_map (λ told. marked_line revived widths all told.0 told.1) (zip cases summaries)
+
+-- the words over the columns, with that over the marks
+abbrev pub marked_header : Bool → List KeyValues → List ℕ
+marked_header revived settings = cells_aligned (widths_of settings ++ figure_widths revived) (names_of settings ++ figure_words revived) ++ mark_word
+
+-- The header, and the line of each case, in order. A case that no other beats is marked. Whether they tell of members that were taken for alive again
+-- is given.
 abbrev pub cases_text : Bool → Sweep → List CaseSummary → List ℕ
 cases_text revived sweep summaries =
-    case_header revived (widths_of sweep.settings) (names_of sweep.settings) ++ lines_of_cases revived (widths_of sweep.settings) (cases_of sweep.settings) summaries
+    marked_header revived sweep.settings ++ lines_of_cases revived (widths_of sweep.settings) summaries (cases_of sweep.settings) summaries

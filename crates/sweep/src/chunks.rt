@@ -1,30 +1,30 @@
 //! The runs of a sweep, some at a time.
-ghost use Rattle.std.specs.Prelude.{◌≡◌, ◌<◌, ◌≤◌, ◌^◌, ◌+◌, List, [], ℕ, Option, OnOk, OnErr, IfOk, IfErr};
-ghost use Rattle.std.specs.Io.KnownBytes.{Keeps};
+ghost use Rattle.std.specs.Prelude.{◌≡◌, ◌<◌, ◌≤◌, ◌^◌, ◌+◌, OnOk, OnErr, IfOk, IfErr};
 ghost use Rattle.toml.specs.View.{view};
-ghost use Rattle.cases.specs.Sweep.{run_count};
+ghost use Rattle.cases.specs.Sweep.{run_count, seed_count};
 ghost use Rattle.outputs.specs.Written.{sink_failures};
 ghost use Rattle.sweep.specs.Judged.{AreAccepted};
 ghost use Rattle.sweep.specs.Runs.{IsAskedFor};
-ghost use Rattle.sweep.specs.Table.{BeginsTable, BeginsLines, HasCause};
-ghost use Rattle.sweep.specs.Summaries.{MakesAll, HasCome, IsGathered};
+ghost use Rattle.sweep.specs.Table.{BeginsTable, BeginsLines, Course, HasCause};
+ghost use Rattle.sweep.specs.Summaries.{MakesAll, HasCome};
 
-use crate::gathering::Gathering;
+use crate::gathering::{Gather, Gathering};
 use crate::progress::Progress;
 use crate::reading::{read_run, read_runs};
 use crate::revived::tells_revived;
 use crate::telling::told_side_by_side;
 use crate::values::write_names;
-use crate::writing::{fault_of, write_lines};
+use crate::writing::write_lines;
 use base::Fault;
 use cases::Plan;
 use figures::CaseSummary;
+use outputs::flush;
 use scenario::{Scenario, Workers};
 use std::alloc::Global;
 use std::marker::Sync;
 use std::thread::Threads;
 use toml::Value;
-use trace::{Sink, Stopped};
+use trace::Sink;
 use whole_runs::a_run_exists;
 
 /// The most runs that each worker makes before their lines are written.
@@ -64,16 +64,16 @@ pub fn sweep<S: Sink, P: Progress>(
 {
     let mut gathering = Gathering::new(alloc, plan.runs_of_case() as u64);
     a_run_exists();
-    match write_names(alloc, plan.settings(), tells_revived(document), table) {
-        Ok(()) => {}
-        Err(error) => return Err(fault_of(error)),
-    }
+    write_names(alloc, plan.settings(), tells_revived(document), table)?;
     make_runs(
         rt,
         alloc,
         plan,
         document,
         workers,
+        false,
+        0,
+        plan.runs(),
         progress,
         &mut gathering,
         table,
@@ -82,50 +82,43 @@ pub fn sweep<S: Sink, P: Progress>(
     Ok(gathering.into_summaries())
 }
 
-/// Has the table hand on what it took.
-fn flush<S: Sink>(table: &mut S) -> Result<(), Fault>
-    requires { S.failed table.old < 2 ^ 63 }
-    ensures same { Keeps (S.held table.old) (S.held table.new) }
-    ensures written { IfErr result (λ fault. fault ≡ Fault.Write) }
-    ensures failures { S.failed table.new ≡ S.failed table.old + sink_failures result }
-{
-    match table.flush() {
-        Ok(()) => Ok(()),
-        Err(Stopped) => Err(Fault::Write),
-    }
-}
-
-/// Makes the runs, writes their lines, and gathers what is told of them.
-fn make_runs<S: Sink, P: Progress>(
+/// Makes the runs from one number to before another, writes their lines, with notes or without, and gathers what is
+/// told of them.
+pub(crate) fn make_runs<S: Sink, P: Progress, G: Gather>(
     rt: &(impl Threads + Sync),
     alloc: Global,
     plan: &Plan,
     document: &Value,
     workers: Workers,
+    notes: bool,
+    from: usize,
+    till: usize,
     progress: &mut P,
-    gathering: &mut Gathering,
+    gathering: &mut G,
     table: &mut S,
 ) -> Result<(), Fault>
     requires asked { IsAskedFor plan.now }
     requires judged { AreAccepted (view document.now) plan.now }
+    requires ordered { from ≤ till }
+    requires within { till ≤ run_count plan.now }
     requires countable { S.failed table.old < 2 ^ 63 }
-    ensures whole { OnOk result ((start : Option (List ℕ)) → HasCome (view document.now) plan.now start (S.held table.old) gathering.old 0
-        → HasCome (view document.now) plan.now start (S.held table.new) gathering.new (run_count plan.now)) }
-    ensures part { OnErr result ((start : Option (List ℕ)) → HasCome (view document.now) plan.now start (S.held table.old) gathering.old 0
-        → BeginsLines (view document.now) plan.now start (S.held table.new)) }
+    ensures whole { OnOk result ((course : Course) → course.notes ≡ notes → HasCome (view document.now) plan.now course (S.held table.old) (G.has gathering.old (seed_count plan.now.seeds)) from
+        → HasCome (view document.now) plan.now course (S.held table.new) (G.has gathering.new (seed_count plan.now.seeds)) till) }
+    ensures part { OnErr result ((course : Course) → course.notes ≡ notes → till ≤ course.till
+        → HasCome (view document.now) plan.now course (S.held table.old) (G.has gathering.old (seed_count plan.now.seeds)) from
+        → BeginsLines (view document.now) plan.now course (S.held table.new)) }
     ensures causes { IfErr result (HasCause (view document.now) plan.now) }
     ensures failures { S.failed table.new ≡ S.failed table.old + sink_failures result }
 {
-    let runs = plan.runs();
-    let mut from = 0;
-    while from < runs {
-        let next = read_run(alloc, plan, document, from)?;
-        let till = runs.min(from + workers.count() * runs_of_a_worker(&next));
+    let mut next = from;
+    while next < till {
+        let scenario = read_run(alloc, plan, document, next)?;
+        let end = till.min(next + workers.count() * runs_of_a_worker(&scenario));
         make_some(
-            rt, alloc, plan, document, workers, from, till, gathering, table,
+            rt, alloc, plan, document, workers, notes, next, end, gathering, table,
         )?;
-        from = till;
-        progress.runs_made(from, runs);
+        next = end;
+        progress.runs_made(next - from, till - from);
     }
     Ok(())
 }
@@ -143,15 +136,16 @@ fn runs_of_a_worker(scenario: &Scenario) -> usize
 
 /// Makes the runs from one number to before another, as many side by side as there are workers, writes their
 /// lines, and gathers what is told of them.
-fn make_some<S: Sink>(
+fn make_some<S: Sink, G: Gather>(
     rt: &(impl Threads + Sync),
     alloc: Global,
     plan: &Plan,
     document: &Value,
     workers: Workers,
+    notes: bool,
     from: usize,
     till: usize,
-    gathering: &mut Gathering,
+    gathering: &mut G,
     table: &mut S,
 ) -> Result<(), Fault>
     requires asked { IsAskedFor plan.now }
@@ -159,10 +153,11 @@ fn make_some<S: Sink>(
     requires ordered { from ≤ till }
     requires within { till ≤ run_count plan.now }
     requires countable { S.failed table.old < 2 ^ 63 }
-    ensures whole { OnOk result ((start : Option (List ℕ)) → HasCome (view document.now) plan.now start (S.held table.old) gathering.old from
-        → HasCome (view document.now) plan.now start (S.held table.new) gathering.new till) }
-    ensures part { OnErr result ((start : Option (List ℕ)) → HasCome (view document.now) plan.now start (S.held table.old) gathering.old from
-        → BeginsLines (view document.now) plan.now start (S.held table.new)) }
+    ensures whole { OnOk result ((course : Course) → course.notes ≡ notes → HasCome (view document.now) plan.now course (S.held table.old) (G.has gathering.old (seed_count plan.now.seeds)) from
+        → HasCome (view document.now) plan.now course (S.held table.new) (G.has gathering.new (seed_count plan.now.seeds)) till) }
+    ensures part { OnErr result ((course : Course) → course.notes ≡ notes → till ≤ course.till
+        → HasCome (view document.now) plan.now course (S.held table.old) (G.has gathering.old (seed_count plan.now.seeds)) from
+        → BeginsLines (view document.now) plan.now course (S.held table.new)) }
     ensures causes { IfErr result (HasCause (view document.now) plan.now) }
     ensures failures { S.failed table.new ≡ S.failed table.old + sink_failures result }
 {
@@ -170,6 +165,6 @@ fn make_some<S: Sink>(
     let each = (till - from).div_ceil(workers.count()).max(1);
     let told = told_side_by_side(rt, alloc, &scenarios, each)?;
     write_lines(
-        alloc, plan, document, from, &scenarios, &told, gathering, table,
+        alloc, plan, document, notes, from, &scenarios, &told, gathering, table,
     )
 }

@@ -1,17 +1,38 @@
 //! What is kept of the runs of a sweep while they are made.
-ghost use Rattle.std.specs.Prelude.{◌≡◌, ◌<◌, ◌≤◌, ◌++◌, ◌∷◌, [], List, OnOk, OnErr};
+ghost use Rattle.std.specs.Prelude.{◌≡◌, ◌<◌, ◌≤◌, ◌++◌, ◌∷◌, ℕ, [], List, OnOk, OnErr};
 ghost use Rattle.figures.specs.Kept.{runs_kept};
+ghost use Rattle.figures.specs.Notes.{Note};
 
-use crate::telling::ToldRun;
 use base::Memory;
-use figures::{CaseFigures, CaseSummary};
-use scenario::Scenario;
+use figures::{CaseFigures, CaseSummary, RunNote};
 use std::alloc::Global;
 use std::mem::replace;
 
+/// Gathers the notes of runs that are made one after the other.
+pub trait Gather {
+    // these notes are gathered, by cases of so many runs
+    ghost has: { Self → ℕ → List Note → Type 0 };
+
+    /// Adds the note of the next run.
+    fn add(&mut self, alloc: Global, note: &RunNote) -> Result<(), Memory>
+        ensures { OnOk result ((each : ℕ) (notes : List Note) → has self.old each notes → has self.new each (notes ++ note.now ∷ [])) };
+}
+
+/// Nothing is kept.
+#[derive(Drop)]
+pub struct NothingGathered;
+
+impl Gather for NothingGathered {
+    ghost has = { λ _ _ _. Unit {0} };
+
+    fn add(&mut self, _alloc: Global, _note: &RunNote) -> Result<(), Memory> {
+        Ok(())
+    }
+}
+
 /// What is kept of the runs of a sweep while they are made, one after the other.
 #[derive(Drop)]
-pub(crate) struct Gathering {
+pub struct Gathering {
     /// How many runs each case has.
     each: u64,
     /// What is told of the cases whose runs are all made.
@@ -23,17 +44,13 @@ pub(crate) struct Gathering {
 }
 
 impl Gathering {
-    ghost use Rattle.cases.specs.Sweep.{Sweep, seed_count};
-    ghost use Rattle.sweep.specs.Runs.{Made};
-    ghost use Rattle.sweep.specs.Table.{IsTold};
-    ghost use Rattle.sweep.specs.Summaries.{IsGathered, traced_as, summaries_in};
-    ghost use Rattle.figures.specs.Cases.{traced};
+    ghost use Rattle.sweep.specs.Summaries.{IsGathered, summaries_in};
 
     /// Nothing of a sweep whose cases have so many runs each. It takes no memory.
-    pub(crate) fn new(alloc: Global, each: u64) -> Gathering
+    pub fn new(alloc: Global, each: u64) -> Gathering
         requires some { 0 < each }
         requires few { each ≤ 1000000 }
-        ensures { (sweep : Sweep) → each ≡ seed_count sweep.seeds → IsGathered sweep [] result }
+        ensures { IsGathered each [] result }
     {
         Gathering {
             each,
@@ -42,19 +59,23 @@ impl Gathering {
         }
     }
 
-    /// Adds what was told of the next run. With its last run a case is summed up.
-    pub(crate) fn add(
-        &mut self,
-        alloc: Global,
-        told: &ToldRun,
-        scenario: &Scenario,
-    ) -> Result<(), Memory>
-        requires { IsTold scenario.now told.now }
-        ensures { OnOk result ((sweep : Sweep) (made : List Made) (run : Made) → traced_as run ≡ traced scenario.now told.now.tallies
-            → IsGathered sweep made self.old → IsGathered sweep (made ++ run ∷ []) self.new) }
+    /// What is told of the cases, in their order.
+    pub fn into_summaries(self) -> Vec<CaseSummary>
+        ensures { result.items ≡ summaries_in self }
     {
+        self.summaries
+    }
+}
+
+impl Gather for Gathering {
+    ghost use Rattle.sweep.specs.Summaries.{IsGathered};
+
+    ghost has = { λ gathering each notes. IsGathered each notes gathering };
+
+    // with its last run a case is summed up
+    fn add(&mut self, alloc: Global, note: &RunNote) -> Result<(), Memory> {
         let figures = replace(&mut self.figures, CaseFigures::new(alloc));
-        let figures = figures.with(&told.tallies, &told.figures, scenario)?;
+        let figures = figures.with(note)?;
         if figures.runs() < self.each {
             self.figures = figures;
             return Ok(());
@@ -62,12 +83,5 @@ impl Gathering {
         let summary = figures.summary()?;
         self.summaries.push(summary)?;
         Ok(())
-    }
-
-    /// What is told of the cases, in their order.
-    pub(crate) fn into_summaries(self) -> Vec<CaseSummary>
-        ensures { result.items ≡ summaries_in self }
-    {
-        self.summaries
     }
 }

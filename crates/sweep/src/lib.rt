@@ -2,9 +2,11 @@
 //! in a line, and a text that tells of each case in one.
 #![tactic(auto)]
 
+mod begun;
 mod chunks;
 mod gathering;
 mod judging;
+mod piece_tables;
 mod planned;
 mod progress;
 mod reading;
@@ -14,7 +16,11 @@ mod texts;
 mod values;
 mod writing;
 
+pub use begun::{Begun, BegunFault, begun_of};
 pub use chunks::sweep;
+pub use gathering::{Gather, Gathering, NothingGathered};
 pub use judging::{Refused, judge};
+pub use piece_tables::{write_front, write_piece, write_rest};
 pub use progress::{NoProgress, Progress};
-pub use texts::cases_text;
+pub use texts::{cases_text, lines_of_cases};
+pub use values::write_names;

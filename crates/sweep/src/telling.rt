@@ -5,7 +5,7 @@ ghost use Rattle.scenario.specs.Setup.{Setup};
 ghost use Rattle.sweep.specs.Table.{AreTold, IsToldLot};
 
 use base::{Fault, Memory};
-use figures::RunFigures;
+use figures::{RunFigures, RunNote};
 use rayon::prelude::*;
 use reports::Tallies;
 use scenario::Scenario;
@@ -21,6 +21,8 @@ pub(crate) struct ToldRun {
     pub(crate) tallies: Tallies,
     /// Its figures.
     pub(crate) figures: RunFigures,
+    /// What its case keeps of it.
+    pub(crate) note: RunNote,
 }
 
 /// What is told of the run of each scenario, or why there is nothing, in their order. The scenarios are dealt
@@ -80,5 +82,10 @@ fn told(alloc: Global, scenario: &Scenario) -> Result<ToldRun, Fault>
 {
     let tallies = tally_run(alloc, scenario)?;
     let figures = RunFigures::of(alloc, &tallies, scenario)?;
-    Ok(ToldRun { tallies, figures })
+    let note = RunNote::of(alloc, &tallies, &figures, scenario)?;
+    Ok(ToldRun {
+        tallies,
+        figures,
+        note,
+    })
 }

@@ -3,13 +3,13 @@ ghost use Rattle.std.specs.Prelude.{◌≡◌, ◌<◌, ◌++◌, length, slice_
 ghost use Rattle.cases.specs.Sweep.{case_count};
 ghost use Rattle.cases.specs.Cases.{cases_of};
 ghost use Rattle.cases.specs.declared.choice.Choice.{Choice as AnyChoice};
-ghost use Rattle.figures.specs.CaseLines.{case_header, case_line};
 ghost use Rattle.toml.specs.View.{view};
-ghost use Rattle.sweep.specs.Table.{names_of, tells_revived, texts_of};
-ghost use Rattle.sweep.specs.Texts.{column_width, widths_of, cases_text};
+ghost use Rattle.sweep.specs.Table.{tells_revived};
+ghost use Rattle.sweep.specs.Texts.{column_width, widths_of, cases_text, marked_header, marked_line};
 
 use crate::revived::tells_revived;
 use crate::values::{lent, names, texts};
+use answers::{is_on_front, push_header, push_marked};
 use base::Memory;
 use cases::{Plan, Setting};
 use figures::{CaseSummary, push_case_header, push_case_line};
@@ -17,7 +17,7 @@ use std::alloc::Global;
 use toml::Value;
 
 /// The text of the cases of a sweep of this document: a header, and for each case a line with the values of the
-/// keys that are set and with its figures, in aligned columns. There must be a summary for each case, in their order.
+/// keys that are set, its figures and a mark, `*` where no other case beats it, in aligned columns. There must be a summary for each case, in their order.
 pub fn cases_text(
     alloc: Global,
     plan: &Plan,
@@ -31,7 +31,7 @@ pub fn cases_text(
 }
 
 /// The same text; whether it tells of members that were taken for alive again is given.
-fn lines_of_cases(
+pub fn lines_of_cases(
     alloc: Global,
     plan: &Plan,
     revived: bool,
@@ -43,7 +43,9 @@ fn lines_of_cases(
     let widths = widths(alloc, plan.settings())?;
     let mut text = header(alloc, plan.settings(), &widths, revived)?;
     for (number, summary) in cases.iter().enumerate() {
-        push_case(alloc, &mut text, plan, &widths, number, summary, revived)?;
+        push_case(
+            alloc, &mut text, plan, &widths, number, summary, cases, revived,
+        )?;
     }
     Ok(text)
 }
@@ -56,16 +58,18 @@ fn header(
     revived: bool,
 ) -> Result<String, Memory>
     requires { widths.now ≡ widths_of settings.now }
-    ensures { IfOk result (λ text. string_bytes text ≡ case_header revived widths.now (names_of settings.now)) }
+    ensures { IfOk result (λ text. string_bytes text ≡ marked_header revived settings.now) }
 {
     let names = names(alloc, settings)?;
     let keys = lent(alloc, &names)?;
+    let mut line = String::new(alloc);
+    push_case_header(alloc, &mut line, widths, &keys, revived)?;
     let mut text = String::new(alloc);
-    push_case_header(alloc, &mut text, widths, &keys, revived)?;
+    push_header(&mut text, line.as_str())?;
     Ok(text)
 }
 
-/// Adds the line of the case of this number.
+/// Adds the line of the case of this number, with its mark among all.
 fn push_case(
     alloc: Global,
     text: &mut String,
@@ -73,17 +77,20 @@ fn push_case(
     widths: &[usize],
     number: usize,
     summary: &CaseSummary,
+    all: &[CaseSummary],
     revived: bool,
 ) -> Result<(), Memory>
     requires within { number < case_count plan.now.settings }
     requires wide { widths.now ≡ widths_of plan.now.settings }
     ensures { OnOk result ((chosen : List AnyChoice) → slice_get (cases_of plan.now.settings) number ≡ Some chosen
-        → string_bytes text.new ≡ string_bytes text.old ++ case_line revived widths.now (texts_of chosen) summary.now) }
+        → string_bytes text.new ≡ string_bytes text.old ++ marked_line revived widths.now all.now chosen summary.now) }
 {
     let case = plan.case_at(alloc, number)?;
     let texts = texts(alloc, &case)?;
     let values = lent(alloc, &texts)?;
-    push_case_line(alloc, text, widths, &values, summary, revived)?;
+    let mut line = String::new(alloc);
+    push_case_line(alloc, &mut line, widths, &values, summary, revived)?;
+    push_marked(text, line.as_str(), is_on_front(summary, all))?;
     Ok(())
 }
 

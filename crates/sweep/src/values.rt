@@ -1,19 +1,20 @@
 //! What a table says of keys and of the values that they had.
-ghost use Rattle.std.specs.Prelude.{◌≡◌, ◌<◌, ◌^◌, ◌+◌, List, ℕ, map, string_bytes, IfOk, OnOk, OnErr};
+ghost use Rattle.std.specs.Prelude.{◌≡◌, ◌<◌, ◌^◌, ◌+◌, ◌++◌, List, ℕ, map, string_bytes, IfOk, OnOk, OnErr};
 ghost use Rattle.std.specs.Io.KnownBytes.{Appends, Keeps};
 ghost use Rattle.trace.specs.Sinks.{AppendsBeginning, failures_of_write};
 ghost use Rattle.figures.specs.Lines.{header_line, run_line};
-ghost use Rattle.sweep.specs.Table.{names_of, texts_of};
+ghost use Rattle.sweep.specs.Table.{names_of, note_before, texts_of};
 
+use crate::telling::ToldRun;
 use base::Memory;
 use cases::{Choice, Setting};
-use figures::{RunFigures, write_header, write_run};
-use std::alloc::{AllocError, Global};
+use figures::{RunFigures, RunNote, write_header, write_note, write_run};
+use std::alloc::Global;
 use trace::{Sink, WriteError};
 
 /// Puts the first line of the table, with the names of the keys that are set. Whether it tells of members
 /// that were taken for alive again is given.
-pub(crate) fn write_names<S: Sink>(
+pub fn write_names<S: Sink>(
     alloc: Global,
     settings: &[Setting],
     revived: bool,
@@ -24,18 +25,51 @@ pub(crate) fn write_names<S: Sink>(
     ensures part { OnErr result (AppendsBeginning (S.held table.old) (S.held table.new) (header_line revived (names_of settings.now))) }
     ensures failures { S.failed table.new ≡ S.failed table.old + failures_of_write result }
 {
-    let names = match names(alloc, settings) {
-        Ok(names) => names,
-        Err(Memory) => return Err(WriteError::Memory),
-    };
-    match lent(alloc, &names) {
-        Ok(keys) => write_header(alloc, &keys, revived, table),
-        Err(_) => Err(WriteError::Memory),
+    let names = names(alloc, settings)?;
+    let keys = lent(alloc, &names)?;
+    write_header(alloc, &keys, revived, table)
+}
+
+/// Puts the line of a run, with the values of its case, and with its note where lines have notes; whether it tells of
+/// members that were taken for alive again is given.
+pub(crate) fn write_told<S: Sink>(
+    alloc: Global,
+    notes: bool,
+    case: &[Choice],
+    seed: u64,
+    told: &ToldRun,
+    revived: bool,
+    table: &mut S,
+) -> Result<(), WriteError>
+    requires { S.failed table.old < 2 ^ 63 }
+    ensures whole { OnOk result (Appends (S.held table.old) (S.held table.new) (note_before notes told.now.note ++ run_line revived (texts_of case.now) seed told.now.figures)) }
+    ensures part { OnErr result (AppendsBeginning (S.held table.old) (S.held table.new) (note_before notes told.now.note ++ run_line revived (texts_of case.now) seed told.now.figures)) }
+    ensures failures { S.failed table.new ≡ S.failed table.old + failures_of_write result }
+{
+    write_note_before(alloc, notes, &told.note, table)?;
+    write_values(alloc, case, seed, &told.figures, revived, table)
+}
+
+/// Puts the note of a run, where lines have notes.
+fn write_note_before<S: Sink>(
+    alloc: Global,
+    notes: bool,
+    note: &RunNote,
+    table: &mut S,
+) -> Result<(), WriteError>
+    requires { S.failed table.old < 2 ^ 63 }
+    ensures whole { OnOk result (Appends (S.held table.old) (S.held table.new) (note_before notes note.now)) }
+    ensures part { OnErr result (AppendsBeginning (S.held table.old) (S.held table.new) (note_before notes note.now)) }
+    ensures failures { S.failed table.new ≡ S.failed table.old + failures_of_write result }
+{
+    if notes {
+        return write_note(alloc, note, table);
     }
+    Ok(())
 }
 
 /// Puts the line of a run, with the values of its case; the rest as for the first line.
-pub(crate) fn write_values<S: Sink>(
+fn write_values<S: Sink>(
     alloc: Global,
     case: &[Choice],
     seed: u64,
@@ -48,14 +82,9 @@ pub(crate) fn write_values<S: Sink>(
     ensures part { OnErr result (AppendsBeginning (S.held table.old) (S.held table.new) (run_line revived (texts_of case.now) seed figures.now)) }
     ensures failures { S.failed table.new ≡ S.failed table.old + failures_of_write result }
 {
-    let texts = match texts(alloc, case) {
-        Ok(texts) => texts,
-        Err(Memory) => return Err(WriteError::Memory),
-    };
-    match lent(alloc, &texts) {
-        Ok(values) => write_run(alloc, &values, seed, figures, revived, table),
-        Err(_) => Err(WriteError::Memory),
-    }
+    let texts = texts(alloc, case)?;
+    let values = lent(alloc, &texts)?;
+    write_run(alloc, &values, seed, figures, revived, table)
 }
 
 /// The names of the keys that are set.
@@ -81,7 +110,7 @@ pub(crate) fn texts(alloc: Global, case: &[Choice]) -> Result<Vec<String>, Memor
 }
 
 /// The texts, lent.
-pub(crate) fn lent<'a>(alloc: Global, texts: &'a [String]) -> Result<Vec<&'a str>, AllocError>
+pub(crate) fn lent<'a>(alloc: Global, texts: &'a [String]) -> Result<Vec<&'a str>, Memory>
     ensures { IfOk result (λ lent. map (λ text. text.now) lent.items ≡ map string_bytes texts.now) }
 {
     let mut lent = Vec::new(alloc);

@@ -1,34 +1,39 @@
 //! Many runs of the scenario of a file, and the file that takes their table.
-ghost use Rattle.std.specs.Prelude.{◌≡◌, ◌≢◌, ◌<◌, ◌^◌, false, Some, IfOk, IfErr, OnOk, OnErr, string_bytes};
+ghost use Rattle.std.specs.Prelude.{◌≡◌, ◌≢◌, ◌<◌, ◌^◌, All, false, [], IfOk, IfErr, OnOk, OnErr, string_bytes};
+ghost use Rattle.std.specs.Option.{ForSome};
 ghost use Rattle.toml.specs.Data.{Data};
 ghost use Rattle.toml.specs.View.{view};
 ghost use Rattle.cases.specs.Sweep.{Sweep};
+ghost use Rattle.pieces.specs.Pieces.{IsPiece};
+ghost use Rattle.answers.specs.Wants.{IsBounded};
 ghost use Rattle.trace.specs.Writers.{writer_under};
 ghost use Rattle.sweep.specs.Runs.{IsAskedFor, planned_as};
 ghost use Rattle.sweep.specs.Judged.{AreAccepted, IsFirstRefused};
 ghost use Rattle.sweep.specs.Table.{BeginsTable, HasCause};
+ghost use Rattle.sweep.specs.Pieces.{BeginsPiece, WritesPiece};
 ghost use Rattle.sweep.specs.Summaries.{MakesAll};
-ghost use Rattle.sweep_command.specs.Outcomes.{FailsSweepCheck, MakesLines, PassesSweepChecks, RefusesCase, StoresTable, SweepFails, SweepsAll, TableFails};
+ghost use Rattle.sweep_command.specs.Outcomes.{BeginsAsked, FailsSweepCheck, MakesAsked, MakesLines, PassesSweepChecks, RefusesCase, StoresAsked, SweepFails, SweepsAll, TableFails};
 
+use answers::push_answer;
 use base::{Fault, Memory};
 use cases::{Plan, settings_text};
 use command_line::{Failure, SweepWords, workers_asked};
-use figures::CaseSummary;
 use files::Files;
+use pieces::Piece;
 use scenario::Workers;
-use scenario_files::{file_failure, load_document, run_told};
+use scenario_files::{MarkedDocument, file_failure, load_document, run_told};
 use std::alloc::Global;
 use std::io::Write;
 use std::thread::Threads;
-use sweep::{NoProgress, Progress, Refused, cases_text, judge, sweep};
+use sweep::{NoProgress, Progress, Refused, cases_text, judge, sweep, write_piece};
 use toml::Value;
 use trace::{Put, Sink};
 
 /// The number of the rule that stands for want of memory.
 const MEMORY_RULE: u8 = 11;
 
-/// Makes the runs that the words of a sweep ask for, and writes their table to a file, which is made once all
-/// checks have passed. Answers the lines of its cases. How far it has come goes to `progress`, where the words
+/// Makes the runs that the words of a sweep ask for, all of them or those of a piece, and writes their table to a file,
+/// which is made once all checks have passed. Answers the lines of its cases, and what they answer to what is wanted; none for a piece. How far it has come goes to `progress`, where the words
 /// ask for that.
 pub fn sweep_file<'a, F: Files, P: Write>(
     rt: &(impl Threads + Sync),
@@ -37,7 +42,9 @@ pub fn sweep_file<'a, F: Files, P: Write>(
     files: &mut F,
     progress: &mut P,
 ) -> Result<String, Failure<'a>>
-    requires { IsAskedFor words.now.plan }
+    requires asked { IsAskedFor words.now.plan }
+    requires piece { ForSome words.now.piece IsPiece }
+    requires wants { All IsBounded words.now.wants.items }
     ensures done { IfOk result
         (λ lines. SweepsAll (F.known files.old) (F.known files.new) (F.making files.old) words.now (string_bytes lines)) }
     ensures failed { IfErr result (SweepFails (F.known files.old) (F.known files.new) (F.making files.old) words.now) }
@@ -51,7 +58,7 @@ pub fn sweep_file<'a, F: Files, P: Write>(
 #[derive(Drop)]
 struct PreparedSweep {
     workers: Workers,
-    document: Value,
+    marked: MarkedDocument,
 }
 
 /// The checks of a sweep, in their order: how many workers, which document, whether that of each run is accepted.
@@ -61,15 +68,15 @@ fn prepare_sweep<'a, F: Files>(
     files: &mut F,
 ) -> Result<PreparedSweep, Failure<'a>>
     requires { IsAskedFor words.now.plan }
-    ensures passed { IfOk result (λ p. PassesSweepChecks (F.known files.old) words.now p.workers (view p.document)) }
+    ensures passed { IfOk result (λ p. PassesSweepChecks (F.known files.old) words.now p.workers (view p.marked.document) (string_bytes p.marked.mark)) }
     ensures failed { IfErr result (FailsSweepCheck (F.known files.old) words.now) }
     ensures same { F.known files.new ≡ F.known files.old }
     ensures making { F.making files.new ≡ F.making files.old }
 {
     let workers = workers_asked(words.workers)?;
-    let document = load_document(alloc, words.file, files)?;
-    judge_cases(alloc, &words.plan, &document)?;
-    Ok(PreparedSweep { workers, document })
+    let marked = load_document(alloc, words.file, files)?;
+    judge_cases(alloc, &words.plan, &marked.document)?;
+    Ok(PreparedSweep { workers, marked })
 }
 
 /// Whether the document of each run is accepted.
@@ -109,11 +116,14 @@ fn store_table<'a, F: Files, P: Write>(
     progress: &mut P,
 ) -> Result<String, Failure<'a>>
     requires asked { IsAskedFor words.now.plan }
-    requires judged { AreAccepted (view prepared.now.document) words.now.plan }
-    ensures done { IfOk result (λ lines. StoresTable (view prepared.now.document) words.now.plan (F.known files.old) (F.known files.new)
-        words.now.table.now (string_bytes lines)) }
+    requires piece { ForSome words.now.piece IsPiece }
+    requires wants { All IsBounded words.now.wants.items }
+    requires judged { AreAccepted (view prepared.now.marked.document) words.now.plan }
+    ensures done { IfOk result (λ lines. StoresAsked words.now.piece (view prepared.now.marked.document) words.now.plan words.now.wants.items (string_bytes prepared.now.marked.mark)
+        (F.known files.old) (F.known files.new) words.now.table.now (string_bytes lines)) }
     ensures apart { OnOk result ((F.making files.old).are_one words.now.file.now words.now.table.now ≡ false) }
-    ensures failed { IfErr result (TableFails (view prepared.now.document) (F.known files.old) (F.known files.new) (F.making files.old) words.now) }
+    ensures failed { IfErr result (TableFails (view prepared.now.marked.document) (string_bytes prepared.now.marked.mark) (F.known files.old) (F.known files.new)
+        (F.making files.old) words.now) }
     ensures unasked { words.now.progress ≡ false → progress.new ≡ progress.old }
 {
     let made = match files.make(words.file, words.table) {
@@ -135,63 +145,117 @@ fn fill_table<T: Write, P: Write>(
     progress: &mut P,
 ) -> (Put<T>, Result<String, Fault>)
     requires asked { IsAskedFor words.now.plan }
-    requires judged { AreAccepted (view prepared.now.document) words.now.plan }
-    ensures whole { IfOk result.1 (λ lines. MakesLines (view prepared.now.document) words.now.plan (T.contents table) (T.contents (writer_under result.0)) (string_bytes lines)) }
-    ensures part { OnErr result.1 (BeginsTable (view prepared.now.document) words.now.plan (T.contents table) (T.contents (writer_under result.0))) }
-    ensures causes { IfErr result.1 (HasCause (view prepared.now.document) words.now.plan) }
+    requires piece { ForSome words.now.piece IsPiece }
+    requires wants { All IsBounded words.now.wants.items }
+    requires judged { AreAccepted (view prepared.now.marked.document) words.now.plan }
+    ensures whole { IfOk result.1 (λ lines. MakesAsked words.now.piece (view prepared.now.marked.document) words.now.plan words.now.wants.items (string_bytes prepared.now.marked.mark)
+        (T.contents table) (T.contents (writer_under result.0)) (string_bytes lines)) }
+    ensures part { OnErr result.1 (BeginsAsked words.now.piece (view prepared.now.marked.document) words.now.plan (string_bytes prepared.now.marked.mark)
+        (T.contents table) (T.contents (writer_under result.0))) }
+    ensures causes { IfErr result.1 (HasCause (view prepared.now.marked.document) words.now.plan) }
     ensures unasked { words.now.progress ≡ false → progress.new ≡ progress.old }
 {
     let mut table = Put::new(table);
-    let outcome = tell_runs(rt, alloc, words, prepared, &mut table, progress);
+    if words.progress {
+        let mut lines = RunLines { out: progress };
+        let outcome = tell_asked(rt, alloc, words, prepared, &mut lines, &mut table);
+        return (table, outcome);
+    }
+    let outcome = tell_asked(rt, alloc, words, prepared, &mut NoProgress, &mut table);
     (table, outcome)
 }
 
-/// Makes the runs, writes their table, and answers the lines of the cases.
-fn tell_runs<S: Sink, P: Write>(
+/// Makes the runs that are asked for, writes their table, and answers the lines of the cases; none for a piece.
+fn tell_asked<S: Sink, P: Progress>(
     rt: &(impl Threads + Sync),
     alloc: Global,
     words: &SweepWords<'_>,
     prepared: &PreparedSweep,
-    table: &mut S,
     progress: &mut P,
+    table: &mut S,
 ) -> Result<String, Fault>
     requires asked { IsAskedFor words.now.plan }
-    requires judged { AreAccepted (view prepared.now.document) words.now.plan }
+    requires piece { ForSome words.now.piece IsPiece }
+    requires wants { All IsBounded words.now.wants.items }
+    requires judged { AreAccepted (view prepared.now.marked.document) words.now.plan }
     requires countable { S.failed table.old < 2 ^ 63 }
-    ensures whole { IfOk result (λ lines. MakesLines (view prepared.now.document) words.now.plan (S.held table.old) (S.held table.new) (string_bytes lines)) }
-    ensures part { OnErr result (BeginsTable (view prepared.now.document) words.now.plan (S.held table.old) (S.held table.new)) }
-    ensures causes { IfErr result (HasCause (view prepared.now.document) words.now.plan) }
-    ensures unasked { words.now.progress ≡ false → progress.new ≡ progress.old }
+    ensures whole { IfOk result (λ lines. MakesAsked words.now.piece (view prepared.now.marked.document) words.now.plan words.now.wants.items (string_bytes prepared.now.marked.mark)
+        (S.held table.old) (S.held table.new) (string_bytes lines)) }
+    ensures part { OnErr result (BeginsAsked words.now.piece (view prepared.now.marked.document) words.now.plan (string_bytes prepared.now.marked.mark)
+        (S.held table.old) (S.held table.new)) }
+    ensures causes { IfErr result (HasCause (view prepared.now.marked.document) words.now.plan) }
 {
-    let cases = make_runs(rt, alloc, words, prepared, table, progress)?;
-    Ok(cases_text(alloc, &words.plan, &prepared.document, &cases)?)
+    match words.piece {
+        Some(piece) => tell_piece(rt, alloc, words, prepared, piece, progress, table),
+        None => tell_runs(rt, alloc, words, prepared, progress, table),
+    }
 }
 
-/// Makes the runs, writes their table, and answers what is told of each case.
-fn make_runs<S: Sink, P: Write>(
+/// Makes the runs of a piece, and writes their table; there is nothing to tell of it.
+fn tell_piece<S: Sink, P: Progress>(
     rt: &(impl Threads + Sync),
     alloc: Global,
     words: &SweepWords<'_>,
     prepared: &PreparedSweep,
-    table: &mut S,
+    piece: Piece,
     progress: &mut P,
-) -> Result<Vec<CaseSummary>, Fault>
+    table: &mut S,
+) -> Result<String, Fault>
     requires asked { IsAskedFor words.now.plan }
-    requires judged { AreAccepted (view prepared.now.document) words.now.plan }
+    requires piece { IsPiece piece }
+    requires judged { AreAccepted (view prepared.now.marked.document) words.now.plan }
     requires countable { S.failed table.old < 2 ^ 63 }
-    ensures whole { IfOk result (λ cases. MakesAll (view prepared.now.document) words.now.plan (S.held table.old) (S.held table.new) cases.items) }
-    ensures part { OnErr result (BeginsTable (view prepared.now.document) words.now.plan (S.held table.old) (S.held table.new)) }
-    ensures causes { IfErr result (HasCause (view prepared.now.document) words.now.plan) }
-    ensures unasked { words.now.progress ≡ false → progress.new ≡ progress.old }
+    ensures whole { OnOk result (WritesPiece (view prepared.now.marked.document) words.now.plan (string_bytes prepared.now.marked.mark) piece
+        (S.held table.old) (S.held table.new)) }
+    ensures untold { IfOk result (λ lines. string_bytes lines ≡ []) }
+    ensures part { OnErr result (BeginsPiece (view prepared.now.marked.document) words.now.plan (string_bytes prepared.now.marked.mark) piece
+        (S.held table.old) (S.held table.new)) }
+    ensures causes { IfErr result (HasCause (view prepared.now.marked.document) words.now.plan) }
 {
-    let plan = &words.plan;
-    let document = &prepared.document;
-    let workers = prepared.workers;
-    if words.progress {
-        let mut lines = RunLines { out: progress };
-        return sweep(rt, alloc, plan, document, workers, &mut lines, table);
-    }
-    sweep(rt, alloc, plan, document, workers, &mut NoProgress, table)
+    let marked = &prepared.marked;
+    write_piece(
+        rt,
+        alloc,
+        &words.plan,
+        piece,
+        marked.mark.as_str(),
+        &marked.document,
+        prepared.workers,
+        progress,
+        table,
+    )?;
+    Ok(String::new(alloc))
+}
+
+/// Makes all runs, writes their table, and answers the lines of the cases, and what they answer to what is wanted.
+fn tell_runs<S: Sink, P: Progress>(
+    rt: &(impl Threads + Sync),
+    alloc: Global,
+    words: &SweepWords<'_>,
+    prepared: &PreparedSweep,
+    progress: &mut P,
+    table: &mut S,
+) -> Result<String, Fault>
+    requires wants { All IsBounded words.now.wants.items }
+    requires asked { IsAskedFor words.now.plan }
+    requires judged { AreAccepted (view prepared.now.marked.document) words.now.plan }
+    requires countable { S.failed table.old < 2 ^ 63 }
+    ensures whole { IfOk result (λ lines. MakesLines (view prepared.now.marked.document) words.now.plan words.now.wants.items (S.held table.old) (S.held table.new) (string_bytes lines)) }
+    ensures part { OnErr result (BeginsTable (view prepared.now.marked.document) words.now.plan (S.held table.old) (S.held table.new)) }
+    ensures causes { IfErr result (HasCause (view prepared.now.marked.document) words.now.plan) }
+{
+    let cases = sweep(
+        rt,
+        alloc,
+        &words.plan,
+        &prepared.marked.document,
+        prepared.workers,
+        progress,
+        table,
+    )?;
+    let mut lines = cases_text(alloc, &words.plan, &prepared.marked.document, &cases)?;
+    push_answer(alloc, &mut lines, &words.plan, &words.wants, &cases)?;
+    Ok(lines)
 }
 
 /// Tells on a writer how many runs were made, a line each time, as far as the writer takes it.

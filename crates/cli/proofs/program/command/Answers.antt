@@ -7,7 +7,7 @@ use Rattle.command_line.specs.Failures.{status_of, IsMistaken}
 use Rattle.command_line.specs.Words.{AsksToExplain}
 use Rattle.cli.specs.Outcomes.{Fails}
 use Rattle.command_line.specs.declared.failure.Failure.{Failure}
-use Rattle.command_line.specs.declared.failure.Failure.TheVariants.{File, Usage, Preset, Rule, Mistaken, Case, Workers, Division, Run, Memory, Output}
+use Rattle.command_line.specs.declared.failure.Failure.TheVariants.{File, Usage, Preset, Rule, Mistaken, Case, Pieces, Workers, Division, Run, Memory, Output}
 use Rattle.cli.proofs.program.command.Goals as goal
 
 -- no failure has the status of what was done
@@ -19,6 +19,7 @@ no_failure Preset e = omega arith
 no_failure (Rule number) e = omega arith
 no_failure (Mistaken number) e = omega arith
 no_failure (Case number settings) e = omega arith
+no_failure (Pieces cause) e = omega arith
 no_failure Workers e = omega arith
 no_failure (Division cause) e = omega arith
 no_failure (Run cause) e = omega arith
@@ -33,6 +34,7 @@ is_usage Preset e = inr refl
 is_usage (Rule number) e = absurd (omega arith)
 is_usage (Mistaken number) e = absurd (omega arith)
 is_usage (Case number settings) e = absurd (omega arith)
+is_usage (Pieces cause) e = absurd (omega arith)
 is_usage Workers e = absurd (omega arith)
 is_usage (Division cause) e = absurd (omega arith)
 is_usage (Run cause) e = absurd (omega arith)
@@ -53,6 +55,7 @@ has_three Usage is = absurd is
 has_three Preset is = absurd is
 has_three (Rule number) is = absurd is
 has_three (Case number settings) is = absurd is
+has_three (Pieces cause) is = absurd is
 has_three Workers is = absurd is
 has_three (Division cause) is = absurd is
 has_three (Run cause) is = absurd is
@@ -67,6 +70,7 @@ asks_to_explain words before after making old new Usage fails is = absurd is
 asks_to_explain words before after making old new Preset fails is = absurd is
 asks_to_explain words before after making old new (Rule number) fails is = absurd is
 asks_to_explain words before after making old new (Case number settings) fails is = absurd is
+asks_to_explain words before after making old new (Pieces cause) fails is = absurd is
 asks_to_explain words before after making old new Workers fails is = absurd is
 asks_to_explain words before after making old new (Division cause) fails is = absurd is
 asks_to_explain words before after making old new (Run cause) fails is = absurd is

@@ -1,6 +1,6 @@
 -- a run or a sweep that the words ask for, done and told or not done
-use Rattle.std.proofs.lemmas.Result.{IfErr-weaker}
-use Rattle.cli.proofs.Commands.{asked_explain_done, asked_explain_failed, asked_init_done, asked_init_fails, asked_run_done, asked_run_fails, asked_sweep_done, asked_sweep_fails, asked_sweep_unprinted, asked_untold, is_command}
+use Rattle.std.proofs.lemmas.Result.{IfErr-weaker, on_ok_weaker}
+use Rattle.cli.proofs.Commands.{asked_explain_done, asked_explain_failed, asked_init_done, asked_init_fails, asked_join_done, asked_join_fails, asked_join_unprinted, asked_piece, asked_run_done, asked_run_fails, asked_sweep_done, asked_sweep_fails, asked_sweep_unprinted, asked_untold, asked_wants, is_command}
 use Rattle.scenario_files.proofs.Held.{handed_on}
 use Rattle.cli.proofs.program.perform.Goals as goal
 
@@ -32,6 +32,10 @@ pub returns-in_ok-lines-in-Sweep-clause-failed : goal.returns-in_ok-lines-in-Swe
 returns-in_ok-lines-in-Sweep-clause-failed g c =
     asked_sweep_unprinted _ _ _ _ _ _ _ _ _ c.print_text.result c.in-Sweep.is c.in_ok-help.ensures.answer c.in_ok-lines-in-Sweep.ensures.done c.print_text.ensures.failure
 
+pub returns-in_ok-lines-in-Sweep-clause-command : goal.returns-in_ok-lines-in-Sweep-clause-command
+returns-in_ok-lines-in-Sweep-clause-command g c =
+    on_ok_weaker c.print_text.result (λ _. is_command _ _ c.in_ok-help.ensures.answer) c.print_text.ensures.printed
+
 pub returns-in_ok-lines-in-Sweep-clause-other : goal.returns-in_ok-lines-in-Sweep-clause-other
 returns-in_ok-lines-in-Sweep-clause-other g c none = absurd (none (is_command _ _ c.in_ok-help.ensures.answer))
 
@@ -50,6 +54,35 @@ returns-in_err-lines-in-Sweep-clause-unasked g c none =
 
 pub returns-in_err-lines-in-Sweep-clause-other : goal.returns-in_err-lines-in-Sweep-clause-other
 returns-in_err-lines-in-Sweep-clause-other g c none = absurd (none (is_command _ _ c.in_ok-help.ensures.answer))
+
+pub sweep_file-requires-clause-piece : goal.sweep_file-requires-clause-piece
+sweep_file-requires-clause-piece g c _ _ = asked_piece _ _ _ c.in-Sweep.is c.in_ok-help.ensures.answer
+
+pub sweep_file-requires-clause-wants : goal.sweep_file-requires-clause-wants
+sweep_file-requires-clause-wants g c _ _ = asked_wants _ _ _ c.in-Sweep.is c.in_ok-help.ensures.answer
+
+pub returns-in_ok-joined-in-Join-clause-done : goal.returns-in_ok-joined-in-Join-clause-done
+returns-in_ok-joined-in-Join-clause-done g c =
+    asked_join_done c.args.release.now _ _ _ _ _ _ _ _ _ _ c.print_text-in-Join.result c.in-Join.is c.in_ok-help.ensures.answer c.in_ok-joined-in-Join.ensures.done c.as_str-in-Join.ensures.value c.print_text-in-Join.ensures.printed
+
+pub returns-in_ok-joined-in-Join-clause-failed : goal.returns-in_ok-joined-in-Join-clause-failed
+returns-in_ok-joined-in-Join-clause-failed g c =
+    asked_join_unprinted _ _ _ _ _ _ _ _ _ c.print_text-in-Join.result c.in-Join.is c.in_ok-help.ensures.answer c.in_ok-joined-in-Join.ensures.done c.print_text-in-Join.ensures.failure
+
+pub returns-in_ok-joined-in-Join-clause-command : goal.returns-in_ok-joined-in-Join-clause-command
+returns-in_ok-joined-in-Join-clause-command g c =
+    on_ok_weaker c.print_text-in-Join.result (λ _. is_command _ _ c.in_ok-help.ensures.answer) c.print_text-in-Join.ensures.printed
+
+pub returns-in_ok-joined-in-Join-clause-other : goal.returns-in_ok-joined-in-Join-clause-other
+returns-in_ok-joined-in-Join-clause-other g c none = absurd (none (is_command _ _ c.in_ok-help.ensures.answer))
+
+pub returns-in_err-joined-in-Join-clause-failed : goal.returns-in_err-joined-in-Join-clause-failed
+returns-in_err-joined-in-Join-clause-failed g c =
+    handed_on _ _ _ c.from_residual-in_err-joined-in-Join.ensures.1
+    (asked_join_fails _ _ _ _ _ _ _ _ _ c.in-Join.is c.in_ok-help.ensures.answer c.in_err-joined-in-Join.ensures.failed)
+
+pub returns-in_err-joined-in-Join-clause-other : goal.returns-in_err-joined-in-Join-clause-other
+returns-in_err-joined-in-Join-clause-other g c none = absurd (none (is_command _ _ c.in_ok-help.ensures.answer))
 
 pub returns-in-Init-clause-done : goal.returns-in-Init-clause-done
 returns-in-Init-clause-done g c =

@@ -17,5 +17,7 @@ returns c =
     let tabled = c.in_ok-tabled.ensures _ filed in
     let seeded = c.in_ok-seeded.ensures _ tabled in
     let set = c.in_ok-set.ensures _ seeded in
-    let worked = c.in_ok-worked.ensures _ set in
+    let sharded = c.in_ok-sharded.ensures _ set in
+    let wanted = c.in_ok-wanted.ensures _ sharded in
+    let worked = c.in_ok-worked.ensures _ wanted in
     c.with_flag.ensures _ worked

@@ -1,11 +1,12 @@
 use Rattle.std.proofs.Common.{rules, refl, subst, inr}
 use Rattle.clap.specs.Words.{Text}
 use Rattle.presets.specs.declared.preset.Preset.{Preset}
-use Rattle.command_line.specs.Words.{IsRunIn, IsCheckIn, IsExplainIn, IsSweepIn, IsInitIn, NamesNoPreset}
+use Rattle.command_line.specs.Words.{IsRunIn, IsCheckIn, IsExplainIn, IsSweepIn, IsInitIn, IsJoinIn, NamesNoPreset}
 use Rattle.command_line.specs.declared.words.RunWords.{RunWords}
 use Rattle.command_line.specs.declared.explaining.ExplainWords.{ExplainWords}
+use Rattle.command_line.specs.declared.joining.JoinWords.{JoinWords}
 use Rattle.command_line.specs.declared.words.SweepWords.{SweepWords}
-use Rattle.command_line.proofs.RunRows.{no_preset_no_sweep, no_preset_no_init}
+use Rattle.command_line.proofs.RunRows.{no_preset_no_sweep, no_preset_no_init, no_preset_no_join}
 use Rattle.command_line.proofs.words.parse.Goals as goal
 
 pub returns-in_err-preset-in-None-explain_asked-clause-preset : goal.returns-in_err-preset-in-None-explain_asked-clause-preset
@@ -23,17 +24,19 @@ returns-in_err-preset-in-None-explain_asked-clause-preset g c h =
         (λ explain asks. no_explain explain asks.1),
         (λ sweep asks. no_preset_no_sweep _ names sweep asks.1),
         (λ preset asks. no_preset_no_init _ names preset asks.1),
+        (λ join asks. no_preset_no_join _ names join asks.1),
       ),
     )
 
-pub returns-in_err-sweep_asked-in-None-2-clause-usage : goal.returns-in_err-sweep_asked-in-None-2-clause-usage
-returns-in_err-sweep_asked-in-None-2-clause-usage g c h =
+pub returns-in_err-sweep_asked-in-None-3-clause-usage : goal.returns-in_err-sweep_asked-in-None-3-clause-usage
+returns-in_err-sweep_asked-in-None-3-clause-usage g c h =
     let met = c.in-Ok.ensures.run in
     let no_run = subst (λ met. (run : RunWords) → ¬ (IsRunIn met run)) met (c.in-None.ensures.none refl) in
     let no_check = subst (λ met. (file : Text) → ¬ (IsCheckIn met file)) met (c.in-None-check_asked.ensures.none refl) in
     let no_explain = subst (λ met. (explain : ExplainWords) → ¬ (IsExplainIn met explain)) met (c.in-None-explain_asked.ensures.none refl) in
     let no_init = subst (λ met. (preset : Preset) → ¬ (IsInitIn met preset)) met (c.in_ok-preset-in-None-explain_asked.ensures.none (search rules)) in
-    let no_sweep = subst (λ met. (sweep : SweepWords) → ¬ (IsSweepIn met sweep)) met (c.in_err-sweep_asked-in-None-2.ensures.usage (search rules)) in
+    let no_join = subst (λ met. (join : JoinWords) → ¬ (IsJoinIn met join)) met (c.in_ok-join-in-None-2.ensures.none (search rules)) in
+    let no_sweep = subst (λ met. (sweep : SweepWords) → ¬ (IsSweepIn met sweep)) met (c.in_err-sweep_asked-in-None-3.ensures.usage (search rules)) in
     inr (
       c.in-Ok.ensures.kinds,
       (λ run asks. no_run run asks.1),
@@ -41,6 +44,7 @@ returns-in_err-sweep_asked-in-None-2-clause-usage g c h =
       (λ explain asks. no_explain explain asks.1),
       (λ sweep asks. no_sweep sweep asks.1),
       (λ preset asks. no_init preset asks.1),
+      (λ join asks. no_join join asks.1),
     )
 
 pub returns-in-OutOfMemory-clause-usage : goal.returns-in-OutOfMemory-clause-usage

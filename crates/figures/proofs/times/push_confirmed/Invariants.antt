@@ -1,8 +1,8 @@
 use Rattle.std.proofs.Common.{◌≡◌, ◌++◌, take}
 use Rattle.std.specs.List.{filter_map}
-use Rattle.reports.specs.Departures.{latency_of}
+use Rattle.figures.specs.Cases.{confirmed_in}
 use Rattle.figures.proofs.times.push_confirmed.Given as goal
 
 -- the times of the crashes so far are added
 abbrev pub invariant-loop-crash : goal.invariant-loop-crash
-invariant-loop-crash l = l.times.items ≡ l.fn.times.items ++ filter_map latency_of (take l.crash-index l.crashes)
+invariant-loop-crash l = l.times.items ≡ l.fn.times.items ++ filter_map confirmed_in (take l.crash-index l.crashes)

@@ -1,11 +1,10 @@
 use Rattle.std.proofs.Common.{◌++◌, ◌∙◌, ap}
 use Rattle.std.specs.Option.{option_to_list}
-use Rattle.figures.specs.Figures.{suspected_after}
+use Rattle.figures.specs.Cases.{suspected_in}
 use Rattle.figures.proofs.Runs.{time_more}
 use Rattle.figures.proofs.times.push_suspected.Goals as goal
 
 pub loop-crash-preserved : goal.loop-crash-preserved
 loop-crash-preserved c =
-    time_more suspected_after c.args.crashes.now c.loop-crash.crash-index c.crash-item.result c.args.times.now.items c.loop-crash.times.items _ c.loop-crash-test.true c.loop-crash.invariant
-    (c.in_ok-push_time.ensures ∙ ap (λ time. c.loop-crash.times.items ++ option_to_list time) c.suspected_after.ensures
-    ∙ ap (λ crash. c.loop-crash.times.items ++ option_to_list (suspected_after crash)) c.crash-item.is)
+    time_more suspected_in c.args.crashes.now c.loop-crash.crash-index _ c.args.times.now.items c.loop-crash.times.items _ c.loop-crash-test.true c.loop-crash.invariant
+    (c.in_ok-push_time.ensures ∙ ap (λ time. c.loop-crash.times.items ++ option_to_list time) c.suspected_in.ensures)

@@ -1,30 +1,33 @@
-use Rattle.std.proofs.Common.{◌≡◌, arith, rules, subst}
+use Rattle.std.proofs.Common.{◌≡◌, arith, rules, refl, subst}
 use Rattle.toml.specs.View.{view}
-use Rattle.cases.specs.Sweep.{run_count}
+use Rattle.cases.specs.Sweep.{seed_count}
 use Rattle.sweep.specs.Summaries.{HasCome}
 use Rattle.sweep.proofs.Handing.{on_err}
 use Rattle.sweep.proofs.Steps.{have_begun}
 use Rattle.sweep.proofs.chunks.make_runs.Goals as goal
 
-pub loop-from-preserved : goal.loop-from-preserved
-loop-from-preserved g c = record {
-  within = omega (arith, c.min-till.ensures);
-  come = λ start come. c.in_ok-make_some.ensures.whole start (c.loop-from.invariant.come start come);
+pub loop-next-preserved : goal.loop-next-preserved
+loop-next-preserved g c = record {
+  low = omega (arith, c.loop-next.invariant.low, c.min-end.ensures, c.loop-next-test.true);
+  within = omega (arith, c.min-end.ensures);
+  come = λ course same come. c.in_ok-make_some.ensures.whole course same (c.loop-next.invariant.come course same come);
   same = search rules;
 }
 
 pub returns-clause-whole : goal.returns-clause-whole
-returns-clause-whole g c = λ start come.
+returns-clause-whole g c = λ course same come.
     let plan = c.args.plan.now in
-    let all : c.loop-from.from ≡ run_count plan = omega (arith, c.loop-from-test.false, c.loop-from.invariant.within, c.runs-runs.ensures.count) in
-    subst (HasCome (view c.args.document.now) plan start (g.S.Sink.held c.loop-from.table) c.loop-from.gathering) all (c.loop-from.invariant.come start come)
+    let all : c.loop-next.next ≡ c.args.till = omega (arith, c.loop-next-test.false, c.loop-next.invariant.within) in
+    subst (HasCome (view c.args.document.now) plan course (g.S.Sink.held c.loop-next.table) (g.G.Gather.has c.loop-next.gathering (seed_count plan.seeds))) all
+    (c.loop-next.invariant.come course same come)
 
-pub returns-in_err-next-clause-part : goal.returns-in_err-next-clause-part
-returns-in_err-next-clause-part g c =
+pub returns-in_err-scenario-clause-part : goal.returns-in_err-scenario-clause-part
+returns-in_err-scenario-clause-part g c =
     on_err c.from_residual.result
-    (λ start come. have_begun (view c.args.document.now) c.args.plan.now start (g.S.Sink.held c.loop-from.table) c.loop-from.from (c.loop-from.invariant.come start come).lines)
+    (λ course same high come. have_begun (view c.args.document.now) c.args.plan.now course (g.S.Sink.held c.loop-next.table) c.loop-next.next
+    (omega (arith, high, c.loop-next.invariant.within)) (c.loop-next.invariant.come course same come).lines)
 
 pub returns-in_err-make_some-clause-part : goal.returns-in_err-make_some-clause-part
 returns-in_err-make_some-clause-part g c =
     on_err c.from_residual-in_err-make_some.result
-    (λ start come. c.in_err-make_some.ensures.part start (c.loop-from.invariant.come start come))
+    (λ course same high come. c.in_err-make_some.ensures.part course same (omega (arith, high, c.min-end.ensures)) (c.loop-next.invariant.come course same come))

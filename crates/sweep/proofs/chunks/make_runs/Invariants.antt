@@ -1,17 +1,20 @@
-use Rattle.std.proofs.Common.{◌≡◌, ◌-◌, ◌≤◌, List, ℕ}
-use Rattle.std.specs.Prelude.{Option}
+use Rattle.std.proofs.Common.{◌≡◌, ◌-◌, ◌≤◌}
 use Rattle.toml.specs.View.{view}
+use Rattle.cases.specs.Sweep.{seed_count}
+use Rattle.sweep.specs.Table.{Course}
 use Rattle.sweep.specs.Summaries.{HasCome}
 use Rattle.sweep.proofs.chunks.make_runs.Given as goal
 
 -- the lines of the first runs are written, what is told of them is gathered, and the table has not failed
-abbrev pub invariant-loop-from : goal.invariant-loop-from
-invariant-loop-from g l = record {
-  within : l.from ≤ l.runs;
-  come : (start : Option (List ℕ)) → HasCome (view l.document) l.plan start (g.S.Sink.held l.fn.table) l.fn.gathering 0
-      → HasCome (view l.document) l.plan start (g.S.Sink.held l.table) l.gathering l.from;
+abbrev pub invariant-loop-next : goal.invariant-loop-next
+invariant-loop-next g l = record {
+  low : l.from ≤ l.next;
+  within : l.next ≤ l.till;
+  come : (course : Course) → course.notes ≡ l.notes
+      → HasCome (view l.document) l.plan course (g.S.Sink.held l.fn.table) (g.G.Gather.has l.fn.gathering (seed_count l.plan.seeds)) l.from
+      → HasCome (view l.document) l.plan course (g.S.Sink.held l.table) (g.G.Gather.has l.gathering (seed_count l.plan.seeds)) l.next;
   same : g.S.Sink.failed l.table ≡ g.S.Sink.failed l.fn.table;
 }
 
-abbrev pub decreases-loop-from : goal.decreases-loop-from
-decreases-loop-from g l = l.runs - l.from
+abbrev pub decreases-loop-next : goal.decreases-loop-next
+decreases-loop-next g l = l.till - l.next

@@ -3,7 +3,8 @@ use Rattle.std.specs.Prelude.{string_bytes}
 use Rattle.std.proofs.lemmas.List.{length-map}
 use Rattle.std.proofs.lemmas.Option.{same_Some}
 use Rattle.cases.specs.Values.{value_text}
-use Rattle.figures.specs.CaseLines.{case_line}
+use Rattle.figures.specs.CaseLines.{case_line, cells_aligned, figure_texts, figure_widths}
+use Rattle.answers.specs.Front.{mark_text}
 use Rattle.sweep.specs.Table.{texts_of}
 use Rattle.sweep.specs.Texts.{column_width}
 use Rattle.sweep.proofs.CaseTexts.{case_long}
@@ -26,4 +27,9 @@ returns c chosen there =
     let values : map (λ value. value.now) c.deref-3.result.now ≡ texts_of case =
     ap (map (λ value. value.now)) c.deref-3.ensures.value ∙ c.in_ok-values.ensures ∙ ap (map string_bytes) c.deref-2.ensures.value ∙ c.in_ok-texts.ensures ∙ ap texts_of c.deref.ensures.value in
     let same : case ≡ chosen = same_Some case chosen (sym c.in_ok-case.ensures.case ∙ there) in
-    c.in_ok-push_case_line.ensures ∙ ap (λ l. string_bytes c.args.text.now ++ case_line c.args.revived c.args.widths.now l c.args.summary.now) (values ∙ ap texts_of same)
+    let widths = c.args.widths.now in
+    let line : string_bytes c.push_case_line.new.text ≡ case_line c.args.revived widths (texts_of chosen) c.args.summary.now =
+    c.in_ok-push_case_line.ensures ∙ ap (λ l. l ++ case_line c.args.revived widths (map (λ value. value.now) c.deref-3.result.now) c.args.summary.now) c.new-line.ensures.bytes
+    ∙ ap (λ l. case_line c.args.revived widths l c.args.summary.now) (values ∙ ap texts_of same) in
+    c.in_ok-push_marked.ensures (cells_aligned (widths ++ figure_widths c.args.revived) (texts_of chosen ++ figure_texts c.args.revived c.args.summary.now)) (c.as_str.ensures.value ∙ line)
+    ∙ ap (λ front. string_bytes c.args.text.now ++ (cells_aligned (widths ++ figure_widths c.args.revived) (texts_of chosen ++ figure_texts c.args.revived c.args.summary.now) ++ mark_text front)) c.is_on_front.ensures

@@ -10,8 +10,8 @@ returns-clause-done g c =
     let filled = c.fill_table-made in
     let holds = g.F.Made.Write.contents in
     told_done _ filled.result.1 c.run_told.result c.run_told.ensures (each_ok filled.result.1 filled.ensures.whole (λ lines tells.
-    table_stored _ _ (known c.args.files.now) (known c.make.new.self) (known c.close.new.self) c.args.words.now.table.now _ _ _
-    c.in-Ok.ensures.others c.close.ensures.others c.in-Ok.ensures.empty c.in-Ok.ensures.made c.close.ensures.closed (ap holds c.into_inner.ensures) _ tells))
+    table_stored _ _ _ _ (known c.args.files.now) (known c.make.new.self) (known c.close.new.self) c.args.words.now.table.now _ _ _
+    c.in-Ok.ensures.others c.close.ensures.others c.in-Ok.ensures.empty c.in-Ok.ensures.made c.close.ensures.closed (ap holds c.into_inner.ensures) c.args.words.now.piece _ tells))
 
 pub returns-clause-failed : goal.returns-clause-failed
 returns-clause-failed g c =
@@ -21,7 +21,7 @@ returns-clause-failed g c =
     told_failed _ filled.result.1 c.run_told.result c.run_told.ensures
     (each_err_with filled.result.1 filled.ensures.part filled.ensures.causes (λ cause begins caused. (
       c.in-Ok.ensures.apart,
-      table_begun _ _ (known c.args.files.now) (known c.make.new.self) (known c.close.new.self) c.args.words.now.table.now _ _ _
+      table_begun _ _ c.args.words.now.wants.items _ (known c.args.files.now) (known c.make.new.self) (known c.close.new.self) c.args.words.now.table.now _ _ _
           c.in-Ok.ensures.others c.close.ensures.others c.in-Ok.ensures.empty c.in-Ok.ensures.made c.close.ensures.closed (ap holds c.into_inner.ensures)
-          cause begins caused,
+          c.args.words.now.piece cause begins caused,
     )))

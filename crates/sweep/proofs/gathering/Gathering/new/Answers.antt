@@ -1,5 +1,6 @@
+use Rattle.std.proofs.Common.{refl}
 use Rattle.sweep.proofs.Gathered.{none_gathered}
 use Rattle.sweep.proofs.gathering.Gathering.new.Goals as goal
 
 pub returns : goal.returns
-returns c sweep size = none_gathered sweep _ size c.new.ensures.items c.new-2.ensures
+returns c = none_gathered c.args.each _ refl c.new.ensures.items c.new-2.ensures

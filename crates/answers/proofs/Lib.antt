@@ -1,0 +1,6 @@
+mod Feeds
+mod Lines
+mod Pairs
+mod Parts
+mod Places
+mod Signs

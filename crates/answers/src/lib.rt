@@ -1,0 +1,20 @@
+//! What the cases of a sweep answer: which of them no other beats, which meet what is wanted, and which of these is best.
+#![tactic(auto)]
+
+mod bounds;
+mod choice;
+mod front;
+mod marks;
+mod numbers;
+mod reading;
+mod statistic;
+mod telling;
+mod want;
+
+pub use choice::{best_of, may_meet, meets};
+pub use front::is_on_front;
+pub use marks::{push_header, push_marked};
+pub use reading::{WantFault, read_wants};
+pub use statistic::Statistic;
+pub use telling::push_answer;
+pub use want::Want;

@@ -1,0 +1,95 @@
+-- What is kept of a run for its case, and how it is written.
+use Rattle.std.specs.Prelude.{◌≡◌, ◌≢◌, ℕ, ◌<◌, ◌^◌, ◌*◌, List, [], ◌∷◌, ◌++◌, Option, Some, All, map}
+use Rattle.std.specs.List.{flat_map, join_with_byte}
+use Rattle.std.specs.Option.{ForSome}
+use Rattle.scenario.specs.Setup.{Setup, member_count}
+use Rattle.trace.specs.declared.row.What.TheVariants as what
+use Rattle.trace.specs.declared.row.Row.{Row}
+use Rattle.reports.specs.declared.departure.Departure.{Departure}
+use Rattle.reports.specs.Departures.{crashes_of, latency_of}
+use Rattle.reports.specs.FalsePositives.{ways_to_depart, false_positives}
+use Rattle.reports.specs.Revivals.{revivals}
+use Rattle.reports.specs.Text.{figure}
+use Rattle.figures.specs.declared.crashes.CrashTimes.{CrashTimes}
+use Rattle.figures.specs.declared.note_words.NoteFault.{NoteFault}
+use Rattle.figures.specs.declared.note_words.NoteFault.TheVariants.{Word, Memory}
+use Rattle.figures.specs.Figures.{suspected_after, last_after, thrown_out, messages_sent}
+
+-- How the crashes of a run were detected, in their order; how many suspicions were false positives, how many members were thrown out, how often
+-- members were taken for alive again and how many messages were sent; and how long the members last together, in ticks.
+pub record Note : Type 0 where
+  pub crashes : List CrashTimes
+  pub false_suspect : ℕ
+  pub thrown_out : ℕ
+  pub revived : ℕ
+  pub sent : ℕ
+  pub member_ticks : ℕ
+
+-- the times until a crash was first suspected, first confirmed and last confirmed, where it was
+abbrev pub times_of : Departure → CrashTimes
+times_of crash = record { suspected = suspected_after crash; confirmed = latency_of crash; last = last_after crash }
+
+-- what is kept of a run of a scenario that has these rows; each member lasts from moment 0 to the end
+unfoldable pub note_of : Setup → List Row → Note
+note_of s rows =
+    record {
+      crashes = map times_of (crashes_of rows);
+      false_suspect = false_positives ways_to_depart what.Suspect rows;
+      thrown_out = thrown_out s rows;
+      revived = revivals rows;
+      sent = messages_sent s.version rows;
+      member_ticks = member_count s * s.end;
+    }
+
+-- the times of a crash, in the order in which they are written
+abbrev pub times_in_order : CrashTimes → List (Option ℕ)
+times_in_order t = t.suspected ∷ t.confirmed ∷ t.last ∷ []
+
+-- what a note says, in the order in which it is written: five numbers, and three times for each crash
+abbrev pub note_figures : Note → List (Option ℕ)
+note_figures n = Some n.false_suspect ∷ Some n.thrown_out ∷ Some n.revived ∷ Some n.sent ∷ Some n.member_ticks ∷ flat_map times_in_order n.crashes
+
+-- a note is written as its figures with spaces between them, and a dash for a time that isn't there
+abbrev pub note_text : Note → List ℕ
+note_text n = join_with_byte 32 (map figure (note_figures n))
+
+-- before a run's line stand its note and a comma
+abbrev pub note_cell : Note → List ℕ
+note_cell n = note_text n ++ 44 ∷ []
+
+-- each of its figures is at most 2^63 - 1
+abbrev pub IsSmall : Note → Type 0
+IsSmall n = All (λ f. ForSome f (λ m. m < 2 ^ 63)) (note_figures n)
+
+-- the word says the note, whose figures are small
+pub record IsNoteWord (word : List ℕ) (n : Note) : Type 0 where
+  pub written : note_text n ≡ word
+  pub small : IsSmall n
+
+-- the same of one figure, and of several
+pub record IsFigureWord (word : List ℕ) (f : Option ℕ) : Type 0 where
+  pub written : figure f ≡ word
+  pub small : ForSome f (λ m. m < 2 ^ 63)
+
+pub record AreFigureWords (words : List (List ℕ)) (fs : List (Option ℕ)) : Type 0 where
+  pub written : map figure fs ≡ words
+  pub small : All (λ f. ForSome f (λ m. m < 2 ^ 63)) fs
+
+-- the word says no note, or memory was refused
+abbrev pub RefusesNote : List ℕ → NoteFault → Type 0
+RefusesNote word Word = (n : Note) → ¬ (IsNoteWord word n)
+RefusesNote word Memory = Unit {0}
+
+-- the same of words that say no figures, and of figures that no note has
+abbrev pub RefusesFigures : List (List ℕ) → NoteFault → Type 0
+RefusesFigures words Word = (fs : List (Option ℕ)) → ¬ (AreFigureWords words fs)
+RefusesFigures words Memory = Unit {0}
+
+abbrev pub RefusesNoteOf : List (Option ℕ) → NoteFault → Type 0
+RefusesNoteOf fs Word = (n : Note) → note_figures n ≢ fs
+RefusesNoteOf fs Memory = Unit {0}
+
+-- and of figures that are no times of crashes
+abbrev pub RefusesTimes : List (Option ℕ) → NoteFault → Type 0
+RefusesTimes fs Word = (times : List CrashTimes) → flat_map times_in_order times ≢ fs
+RefusesTimes fs Memory = Unit {0}

@@ -1,0 +1,118 @@
+//! What is kept of a run for its case.
+ghost use Rattle.std.specs.Prelude.{◌≡◌, ◌<◌, ◌≤◌, ◌^◌, ◌*◌, IfOk, map};
+ghost use Rattle.scenario.specs.Setup.{member_count};
+ghost use Rattle.figures.specs.Figures.{figures_of};
+ghost use Rattle.figures.specs.Notes.{note_of, times_of};
+
+use crate::crashes::{CrashTimes, times_of};
+use crate::run::RunFigures;
+use base::Memory;
+use reports::{Departure, Tallies};
+use scenario::Scenario;
+use std::alloc::Global;
+use std::marker::Model;
+
+/// What is kept of a run for its case: how its crashes were detected, and what its case counts.
+#[derive(Debug, Drop)]
+pub struct RunNote {
+    pub(crate) crashes: Vec<CrashTimes>,
+    pub(crate) false_suspect: u64,
+    pub(crate) thrown_out: u64,
+    pub(crate) revived: u64,
+    pub(crate) sent: u64,
+    pub(crate) member_ticks: u64,
+}
+
+impl Model for RunNote {
+    ghost use Rattle.figures.specs.Notes.{Note};
+
+    ghost Value = { Note };
+
+    ghost view = { λ n. record { crashes = n.crashes.items; false_suspect = n.false_suspect; thrown_out = n.thrown_out; revived = n.revived; sent = n.sent; member_ticks = n.member_ticks } };
+}
+
+impl RunNote {
+    /// The note of a run of the scenario whose rows were tallied, and which has these figures.
+    #[tactic(auto, unfolding(crate::specs::Figures::figures_of, crate::specs::Notes::note_of))]
+    pub fn of(
+        alloc: Global,
+        tallies: &Tallies,
+        figures: &RunFigures,
+        scenario: &Scenario,
+    ) -> Result<RunNote, Memory>
+        requires { figures.now ≡ figures_of scenario.now tallies.now }
+        ensures { IfOk result (λ note. note ≡ note_of scenario.now tallies.now) }
+    {
+        let crashes = times_of_each(alloc, tallies.crashes())?;
+        Ok(RunNote {
+            crashes,
+            false_suspect: figures.false_suspect,
+            thrown_out: figures.thrown_out,
+            revived: figures.revived,
+            sent: figures.sent,
+            member_ticks: member_ticks(scenario),
+        })
+    }
+}
+
+impl RunNote {
+    /// How the crashes were detected, in their order.
+    pub(crate) fn crashes(&self) -> &[CrashTimes]
+        ensures { result.now ≡ self.now.crashes }
+    {
+        self.crashes.as_slice()
+    }
+
+    /// How many suspicions were false positives.
+    pub(crate) fn false_suspect(&self) -> u64
+        ensures { result ≡ self.now.false_suspect }
+    {
+        self.false_suspect
+    }
+
+    /// How many members were thrown out.
+    pub(crate) fn thrown_out(&self) -> u64
+        ensures { result ≡ self.now.thrown_out }
+    {
+        self.thrown_out
+    }
+
+    /// How often members were taken for alive again.
+    pub(crate) fn revived(&self) -> u64
+        ensures { result ≡ self.now.revived }
+    {
+        self.revived
+    }
+
+    /// How many messages were sent.
+    pub(crate) fn sent(&self) -> u64
+        ensures { result ≡ self.now.sent }
+    {
+        self.sent
+    }
+
+    /// How long the members last together, in ticks.
+    pub(crate) fn member_ticks(&self) -> u64
+        ensures { result ≡ self.now.member_ticks }
+    {
+        self.member_ticks
+    }
+}
+
+/// How each of these crashes was detected.
+fn times_of_each(alloc: Global, crashes: &[Departure]) -> Result<Vec<CrashTimes>, Memory>
+    ensures { IfOk result (λ times. times.items ≡ map times_of crashes.now) }
+{
+    let mut times = Vec::new(alloc);
+    for crash in crashes {
+        times.push(times_of(crash))?;
+    }
+    Ok(times)
+}
+
+/// How long the members of a scenario last together, in ticks.
+fn member_ticks(scenario: &Scenario) -> u64
+    ensures { result ≡ member_count scenario.now * scenario.now.end }
+{
+    scenario.members() as u64 * scenario.end().ticks()
+}

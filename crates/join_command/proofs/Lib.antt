@@ -1,0 +1,3 @@
+pub mod Causes
+mod Stored
+mod Told

@@ -1,0 +1,60 @@
+-- Headers with which one text begins tell of the same columns.
+use Rattle.std.proofs.Common.{◌≡◌, ◌<◌, ℕ, Bool, true, false, List, [], ◌∷◌, ◌++◌, map, length, get_or, codes, arith, refl, sym, ap, ◌∙◌, append_assoc}
+use Rattle.std.specs.List.{join_with_byte}
+use Rattle.std.proofs.lemmas.List.{append_cancel_left, map-append}
+use Rattle.csv.specs.Writing.{default_writer, field_text}
+use Rattle.figures.specs.Lines.{claim_names, header_line, protocol_names, table_line}
+
+-- a list whose items are joined, with a first part that has some
+joined_parts : (c : ℕ) (xs : List (List ℕ)) (y : List ℕ) (ys : List (List ℕ)) → 0 < length xs
+    → join_with_byte c (xs ++ y ∷ ys) ≡ join_with_byte c xs ++ c ∷ join_with_byte c (y ∷ ys)
+joined_parts c [] y ys some = absurd (omega (arith, some))
+joined_parts c (x ∷ []) y ys some = refl
+joined_parts c (x ∷ z ∷ xs) y ys some =
+    ap (λ l. x ++ c ∷ l) (joined_parts c (z ∷ xs) y ys (omega arith))
+    ∙ sym (append_assoc x (c ∷ join_with_byte c (z ∷ xs)) (c ∷ join_with_byte c (y ∷ ys)))
+
+-- what stands before the column that only some tables have
+abbrev before : List (List ℕ) → List (List ℕ)
+before names = names ++ codes "seed" ∷ claim_names
+
+abbrev cells : List (List ℕ) → List ℕ
+cells names = join_with_byte 44 (map (field_text default_writer) (before names))
+
+-- a header, and what comes behind it, with a column and those behind it
+laid : (names : List (List ℕ)) (column : List ℕ) (columns : List (List ℕ)) (rest : List ℕ)
+    → table_line (names ++ codes "seed" ∷ (claim_names ++ column ∷ columns)) ++ rest
+    ≡ cells names ++ 44 ∷ (join_with_byte 44 (map (field_text default_writer) (column ∷ columns)) ++ (10 ∷ rest))
+unfolding table_line
+laid names column columns rest =
+    let text = field_text default_writer in
+    let behind = join_with_byte 44 (map text (column ∷ columns)) in
+    let parted : map text (names ++ codes "seed" ∷ (claim_names ++ column ∷ columns)) ≡ map text (before names) ++ map text (column ∷ columns) =
+    ap (map text) (sym (append_assoc names (codes "seed" ∷ claim_names) (column ∷ columns))) ∙ map-append text (before names) (column ∷ columns) in
+    ap (λ l. (l ++ codes "\n") ++ rest) (ap (join_with_byte 44) parted ∙ joined_parts 44 (map text (before names)) (text column) (map text columns) (some names))
+    ∙ append_assoc (cells names ++ 44 ∷ behind) (10 ∷ []) rest ∙ append_assoc (cells names) (44 ∷ behind) (10 ∷ rest)
+  where
+    some : (names : List (List ℕ)) → 0 < length (map (field_text default_writer) (before names))
+    some [] = omega arith
+    some (name ∷ names) = omega arith
+
+-- the column differs from the one that follows it in its first letter
+differ : (names : List (List ℕ)) (x y : List ℕ) → header_line true names ++ x ≡ header_line false names ++ y → ⊥
+differ names x y same =
+    let told = laid names (codes "revived") protocol_names x in
+    let untold = laid names (codes "accuse") (codes "refute" ∷ codes "fail" ∷ codes "health" ∷ codes "sent" ∷ codes "lost" ∷ []) y in
+    let behind = append_cancel_left (cells names) _ _ (sym told ∙ same ∙ untold) in
+    let letter : 114 ≡ 97 = ap (λ l. get_or l 1 0) behind in
+    omega (arith, letter)
+
+pub same_revived : (r b : Bool) (names : List (List ℕ)) (x y : List ℕ) → header_line r names ++ x ≡ header_line b names ++ y → r ≡ b
+same_revived true true names x y same = refl
+same_revived true false names x y same = absurd (differ names x y same)
+same_revived false true names x y same = absurd (differ names y x (sym same))
+same_revived false false names x y same = refl
+
+-- and so the same comes behind them
+pub behind_header : (r b : Bool) (names : List (List ℕ)) (x y : List ℕ) → header_line r names ++ x ≡ header_line b names ++ y → x ≡ y
+behind_header r b names x y same =
+    let one = same_revived r b names x y same in
+    append_cancel_left (header_line b names) x y (ap (λ q. header_line q names ++ x) (sym one) ∙ same)

@@ -1,0 +1,168 @@
+-- What the name of a piece tells is that piece, of that sweep.
+use Rattle.std.proofs.Common.{◌≡◌, ◌<◌, ◌==◌, ℕ, Bool, true, false, suc, List, [], ◌∷◌, ◌++◌, map, length, length-drop, get_or, take, drop, ◌-◌, codes, decimal, lit<, arith, refl, sym, ap, subst, ◌∙◌}
+use Rattle.std.specs.Prelude.{Option, Some, None, All, Result, Ok, Err, IfOk, IfErr, bytes_eq, option_map, if◌then◌else◌}
+use Rattle.std.specs.Borrow.{Bor}
+use Rattle.std.specs.List.{flat_map, slice_split, join_with_byte}
+use Rattle.std.proofs.lemmas.Fmt.{decimal_injective}
+use Rattle.std.proofs.lemmas.List.{length-map, take_all}
+use Rattle.cases.specs.Sweep.{KeyValues, Sweep}
+use Rattle.cases.specs.Asked.{AreSettings, AsksForSeeds, IsSweepOf, RefusesSweep, seeds_text, setting_text}
+use Rattle.cases.specs.declared.fault.PlanFault.{PlanFault}
+use Rattle.cases.specs.declared.fault.PlanFault.TheVariants as unread
+use Rattle.cases.specs.declared.seeds.Seeds.{Seeds}
+use Rattle.cases.proofs.Names.{bytes_eq_false}
+use Rattle.cases.proofs.Words.{Lacks, cut_once, decimal_lacks, joined_split}
+use Rattle.pieces.specs.declared.piece.Piece.{Piece}
+use Rattle.pieces.specs.Pieces.{IsPiece, IsPieceWord, piece_text}
+use Rattle.pieces.specs.Names.{plan_text, seeds_word}
+use Rattle.sweep.specs.Runs.{IsAskedFor}
+use Rattle.sweep.specs.Pieces.{piece_header}
+use Rattle.joins.specs.Joined.{IsMark}
+use Rattle.joins.specs.Reasons.{BeginsAs, BeginsAsNone, RefusesName}
+use Rattle.joins.proofs.SameSweep.{joined_is, no_dash, same_seeds, same_settings, words_lack, words_of}
+
+-- the piece of a word is one
+pub same_piece : (word : List ℕ) (q p : Piece) → IsPieceWord word q → word ≡ piece_text p → IsPiece p → q ≡ p
+same_piece word q p is same sound =
+    let one = is.sound.most in
+    let two = is.sound.few in
+    let three = sound.most in
+    let four = sound.few in
+    let parts = cut_once 47 (decimal q.number) (decimal p.number) (decimal q.of) (decimal p.of)
+    (decimal_lacks q.number 47 (omega arith) (lit< tt)) (decimal_lacks p.number 47 (omega arith) (lit< tt)) (is.written ∙ same) in
+    let number = decimal_injective q.number p.number (omega arith) (omega arith) parts.0 in
+    let of = decimal_injective q.of p.of (omega arith) (omega arith) parts.1 in
+    (λ i. record { number = number i; of = of i })
+
+-- a name that tells of nothing, unless memory was refused
+pub name_refused : (text : List ℕ) (e : PlanFault) → (e ≡ unread.Words → BeginsAsNone text) → RefusesName text e
+name_refused text unread.Words none = none refl
+name_refused text unread.Memory none = tt
+
+-- a text that begins with the first line that its name tells of, and one that doesn't
+pub begun : (text mark : List ℕ) (revived : Bool) (sweep : Sweep) (p : Piece) → IsAskedFor sweep → IsMark mark → IsPiece p
+    → (rest : List ℕ) × (text ≡ piece_header revived mark sweep p ++ rest) → BeginsAs text mark revived sweep p
+begun text mark revived sweep p asked marked sound front = record { asked = asked; marked = marked; sound = sound; rest = front.0; written = front.1 }
+
+pub not_begun : (text m : List ℕ) (r revived : Bool) (s : Sweep) (q : Piece) → r ≡ revived
+    → ((mark : List ℕ) (told : Bool) (sweep : Sweep) (p : Piece) → BeginsAs text mark told sweep p → (m ≡ mark) × (s ≡ sweep) × (q ≡ p))
+    → ((rest : List ℕ) → ¬ (text ≡ piece_header r m s q ++ rest)) → (mark : List ℕ) (sweep : Sweep) (p : Piece) → ¬ (BeginsAs text mark revived sweep p)
+not_begun text m r revived s q same only none mark sweep p begins =
+    let its = only mark revived sweep p begins in
+    none begins.rest (begins.written ∙ (λ i. piece_header (sym same i) (sym its.0 i) (sym its.1 i) (sym its.2 i) ++ begins.rest))
+
+-- one that begins so with neither table begins as none
+pub neither : (text : List ℕ) → ((mark : List ℕ) (sweep : Sweep) (p : Piece) → ¬ (BeginsAs text mark false sweep p))
+    → ((mark : List ℕ) (sweep : Sweep) (p : Piece) → ¬ (BeginsAs text mark true sweep p)) → BeginsAsNone text
+neither text untold told mark false sweep p = untold mark sweep p
+neither text untold told mark true sweep p = told mark sweep p
+
+-- ---- the words of a sweep, cut at their spaces
+
+pub words_are : (words : List ℕ) (sweep : Sweep) → IsAskedFor sweep → words ≡ plan_text sweep → slice_split (λ byte. byte == 32) words ≡ words_of sweep
+words_are words sweep asked is =
+    ap (slice_split (λ byte. byte == 32)) (is ∙ sym (joined_is (seeds_word sweep.seeds) sweep.settings)) ∙ joined_split 32 (words_of sweep) (omega arith) (words_lack sweep asked)
+
+-- the word of seeds, where it is no dash
+abbrev pub seeds_given : List ℕ → Option (List ℕ)
+seeds_given word = if bytes_eq word (codes "-") then None else Some word
+
+-- that word asks for the seeds again
+pub seeds_again : (word : Option (List ℕ)) (seeds : Option Seeds) → AsksForSeeds word seeds → AsksForSeeds (seeds_given (seeds_word seeds)) seeds
+seeds_again None None asks = tt
+seeds_again None (Some r) asks = absurd asks
+seeds_again (Some word) None asks = absurd asks
+seeds_again (Some word) (Some r) asks =
+    let other : bytes_eq (seeds_text r) (codes "-") ≡ false = bytes_eq_false (seeds_text r) (codes "-") (no_dash r word asks) in
+    let given : seeds_given (seeds_text r) ≡ Some (seeds_text r) = ap (λ b. if b then None else Some (seeds_text r)) other in
+    subst (λ o. AsksForSeeds o (Some r)) (sym given) (record { written = refl; ordered = asks.ordered; low = asks.low })
+
+-- seeds of one word are one
+one_seeds : (word : Option (List ℕ)) (r s : Option Seeds) → AsksForSeeds word r → AsksForSeeds word s → r ≡ s
+one_seeds None None None asks also = refl
+one_seeds None None (Some s) asks also = absurd also
+one_seeds None (Some r) s asks also = absurd asks
+one_seeds (Some word) None s asks also = absurd asks
+one_seeds (Some word) (Some r) None asks also = absurd also
+one_seeds (Some word) (Some r) (Some s) asks also = same_seeds (Some word) (Some word) (Some r) (Some s) asks also (asks.written ∙ sym also.written)
+
+-- the plan that was read of the words of a sweep is that sweep
+module _ (words : List ℕ) (sweep : Sweep) (asked : IsAskedFor sweep) (is : words ≡ plan_text sweep) (first : List ℕ) (rest : List (List ℕ)) (seeds : Option (List ℕ))
+    (cut : slice_split (λ byte. byte == 32) words ≡ first ∷ rest) (given : seeds ≡ seeds_given first) where
+  parts : first ∷ rest ≡ seeds_word sweep.seeds ∷ map setting_text sweep.settings
+  parts = sym cut ∙ words_are words sweep asked is
+
+  seeds_asked : AsksForSeeds seeds sweep.seeds
+  seeds_asked =
+      let same : first ≡ seeds_word sweep.seeds = (let all = parts in cc) in
+      subst (λ o. AsksForSeeds o sweep.seeds) (sym (given ∙ ap seeds_given same)) (seeds_again asked.seeds sweep.seeds asked.asked.seeded)
+
+  settings_are : map setting_text sweep.settings ≡ rest
+  settings_are = let all = parts in cc
+
+  pub plan_is : (plan : Sweep) → IsSweepOf rest seeds plan → plan ≡ sweep
+  plan_is plan read =
+      let settings = same_settings plan.settings sweep.settings read.settings.sound asked.asked.settings.sound (read.settings.written ∙ sym settings_are) in
+      let one = one_seeds seeds plan.seeds sweep.seeds read.seeded seeds_asked in
+      (λ i. record { settings = settings i; seeds = one i })
+
+  pub plan_there : (e : PlanFault) → RefusesSweep rest seeds e → e ≡ unread.Words → ⊥
+  plan_there unread.Memory refused same = cc
+  plan_there unread.Words refused same =
+      refused sweep (record {
+        settings = record { written = settings_are; sound = asked.asked.settings.sound; once = asked.asked.settings.once };
+        seeded = seeds_asked;
+        few = asked.asked.few;
+      })
+
+-- the same of what reading the words gave, where these are the first and the rest of them
+pub plans_are : {E : Type 0} (words first : List ℕ) (rest : List (List ℕ)) (seeds : Option (List ℕ)) (r : Result Sweep E) → seeds ≡ seeds_given first
+    → ((sweep : Sweep) → IsAskedFor sweep → words ≡ plan_text sweep → slice_split (λ byte. byte == 32) words ≡ first ∷ rest) → IfOk r (IsSweepOf rest seeds)
+    → IfOk r (λ plan. (sweep : Sweep) → IsAskedFor sweep → words ≡ plan_text sweep → plan ≡ sweep)
+plans_are words first rest seeds (Ok plan) given cut read = λ sweep asked is. plan_is words sweep asked is first rest seeds (cut sweep asked is) given plan read
+plans_are words first rest seeds (Err e) given cut read = tt
+
+pub no_plans_are : {T : Type 0} (words first : List ℕ) (rest : List (List ℕ)) (seeds : Option (List ℕ)) (r : Result T PlanFault) → seeds ≡ seeds_given first
+    → ((sweep : Sweep) → IsAskedFor sweep → words ≡ plan_text sweep → slice_split (λ byte. byte == 32) words ≡ first ∷ rest) → IfErr r (RefusesSweep rest seeds)
+    → IfErr r (λ fault. fault ≡ unread.Words → (sweep : Sweep) → IsAskedFor sweep → ¬ (words ≡ plan_text sweep))
+no_plans_are words first rest seeds (Ok x) given cut refused = tt
+no_plans_are words first rest seeds (Err e) given cut refused = λ word sweep asked is. plan_there words sweep asked is first rest seeds (cut sweep asked is) given e refused word
+
+-- the first of the words, and those behind it
+pub split_first : (items : List (Bor (List ℕ))) (d : Bor (List ℕ)) (words : List ℕ) → 0 < length items
+    → map (λ (word : Bor (List ℕ)). word.now) items ≡ slice_split (λ byte. byte == 32) words
+    → slice_split (λ byte. byte == 32) words ≡ (get_or items 0 d).now ∷ map (λ (word : Bor (List ℕ)). word.now) (drop 1 items)
+split_first [] d words some same = absurd (omega (arith, some))
+split_first (x ∷ xs) d words some same = sym same
+
+-- all that is behind the first
+pub behind_first : (items : List (Bor (List ℕ))) → take (length items - 1) (drop 1 items) ≡ drop 1 items
+behind_first items = take_all (length items - 1) (drop 1 items) (omega (arith, length-drop 1 items))
+
+-- words that ask for a sweep
+pub asked_by : (words : List (List ℕ)) (seeds : Option (List ℕ)) (plan : Sweep) → IsSweepOf words seeds plan → IsAskedFor plan
+asked_by words seeds plan is = record { settings = words; seeds = seeds; asked = is }
+
+-- no words at all are those of no sweep
+pub none_split : (items : List (Bor (List ℕ))) (words : List ℕ) (sweep : Sweep) → IsAskedFor sweep → words ≡ plan_text sweep → length items ≡ 0
+    → map (λ (word : Bor (List ℕ)). word.now) items ≡ slice_split (λ byte. byte == 32) words → ⊥
+none_split items words sweep asked is none same =
+    let all = same ∙ words_are words sweep asked is in
+    let long : length (map (λ (word : Bor (List ℕ)). word.now) items) ≡ suc (length (map setting_text sweep.settings)) = ap length all in
+    omega (arith, long, length-map items (λ (word : Bor (List ℕ)). word.now), none)
+
+pub some_split : (items : List (Bor (List ℕ))) (words : List ℕ) (sweep : Sweep) → IsAskedFor sweep → words ≡ plan_text sweep
+    → map (λ (word : Bor (List ℕ)). word.now) items ≡ slice_split (λ byte. byte == 32) words → 0 < length items
+some_split [] words sweep asked is same = absurd (none_split [] words sweep asked is refl same)
+some_split (x ∷ xs) words sweep asked is same = omega arith
+
+-- the words of a plan, cut at the first
+pub words_cut : (items listed : List (Bor (List ℕ))) (first d : Bor (List ℕ)) (words : List ℕ) → listed ≡ items → first ≡ get_or listed 0 d
+    → map (λ (word : Bor (List ℕ)). word.now) items ≡ slice_split (λ byte. byte == 32) words
+    → (sweep : Sweep) → IsAskedFor sweep → words ≡ plan_text sweep
+    → slice_split (λ byte. byte == 32) words ≡ first.now ∷ map (λ (word : Bor (List ℕ)). word.now) (take (length listed - 1) (drop 1 listed))
+words_cut items listed first d words same is all sweep asked text =
+    let head : first.now ≡ (get_or items 0 d).now = ap (λ (w : Bor (List ℕ)). w.now) (is ∙ ap (λ (l : List (Bor (List ℕ))). get_or l 0 d) same) in
+    let behind : map (λ (word : Bor (List ℕ)). word.now) (take (length listed - 1) (drop 1 listed)) ≡ map (λ (word : Bor (List ℕ)). word.now) (drop 1 items) =
+    ap (map (λ (word : Bor (List ℕ)). word.now)) (behind_first listed ∙ ap (drop 1) same) in
+    split_first items d words (some_split items words sweep asked text all) all ∙ (λ i. sym head i ∷ sym behind i)

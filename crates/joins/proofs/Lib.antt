@@ -1,0 +1,14 @@
+pub mod LinesMore
+pub mod PiecesMore
+pub mod Wholes
+pub mod Bytes
+pub mod SameLines
+pub mod SameSweep
+pub mod GenuineWhole
+pub mod Names
+pub mod PlacesMore
+pub mod Heads
+pub mod LinesLeft
+pub mod Numbered
+pub mod Columns
+pub mod CutPieces

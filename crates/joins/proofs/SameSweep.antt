@@ -1,0 +1,179 @@
+-- First lines of pieces that are one text name the same piece of the same sweep.
+use Rattle.std.proofs.Common.{◌≡◌, ◌<◌, ◌≤◌, ◌^◌, ◌==◌, ℕ, suc, true, false, List, [], ◌∷◌, ◌++◌, map, length, get_or, codes, decimal, lit<, arith, refl, sym, ap, subst, ◌∙◌, append_assoc, append-nil}
+use Rattle.std.specs.Prelude.{Option, Some, None, All, Contains}
+use Rattle.std.specs.List.{AllByRecursion, flat_map, join_with_byte, list_any, slice_split}
+use Rattle.std.proofs.lemmas.Fmt.{decimal_injective, decimal_is_IsNumeral}
+use Rattle.std.proofs.lemmas.Str.Parse.{digit_at}
+use Rattle.std.proofs.lemmas.List.Elements.{All-cons, All-head, All-map, All-nil, All-tail, All-weaker, All-from_recursion, All-contains}
+use Rattle.schema.specs.Schema.{spelling_of, key_rules_of}
+use Rattle.cases.specs.Keys.{key_name, settable}
+use Rattle.cases.specs.Values.{value_text, FitsToml}
+use Rattle.cases.specs.Sweep.{KeyValues, Sweep}
+use Rattle.cases.specs.Asked.{AsksForSeeds, IsRange, IsSetting, seeds_text, setting_text}
+use Rattle.cases.specs.declared.keys.SettingKey.{SettingKey}
+use Rattle.cases.specs.declared.seeds.Seeds.{Seeds}
+use Rattle.cases.proofs.Words.{Lacks, cut_once, decimal_lacks, joined_split}
+use Rattle.cases.proofs.Written.{same_setting}
+use Rattle.pieces.specs.declared.piece.Piece.{Piece}
+use Rattle.pieces.specs.Pieces.{IsPiece, piece_text}
+use Rattle.pieces.specs.Names.{head_cell, piece_name, plan_text, seeds_word}
+use Rattle.sweep.specs.Runs.{IsAskedFor}
+use Rattle.joins.specs.Joined.{IsMark}
+use Rattle.joins.proofs.Bytes.{lacks_both, lacks_cons, lacks_from_test, lacks_joined, value_lacks}
+
+-- ---- which bytes the words of a sweep don't have
+
+spaceless : AllByRecursion (λ k. list_any (λ byte. byte == 32) (key_name k) ≡ false) settable
+unfolding settable key_rules_of spelling_of
+spaceless = (refl, (refl, (refl, (refl, (refl, (refl, (refl, (refl, (refl, (refl, (refl, (refl, (refl, (refl, (refl, (refl, (refl, (refl, (refl, (refl, (refl, (refl, (refl, (refl, (refl, (refl, tt))))))))))))))))))))))))))
+
+quoteless : AllByRecursion (λ k. list_any (λ byte. byte == 34) (key_name k) ≡ false) settable
+unfolding settable key_rules_of spelling_of
+quoteless = (refl, (refl, (refl, (refl, (refl, (refl, (refl, (refl, (refl, (refl, (refl, (refl, (refl, (refl, (refl, (refl, (refl, (refl, (refl, (refl, (refl, (refl, (refl, (refl, (refl, (refl, tt))))))))))))))))))))))))))
+
+name_lacks : (c : ℕ) → AllByRecursion (λ k. list_any (λ byte. byte == c) (key_name k) ≡ false) settable → (k : SettingKey) → Contains settable k → Lacks c (key_name k)
+name_lacks c each k known =
+    lacks_from_test c (key_name k) (All-contains (λ j. list_any (λ byte. byte == c) (key_name j) ≡ false) settable k
+    (All-from_recursion (λ j. list_any (λ byte. byte == c) (key_name j) ≡ false) settable each) known)
+
+setting_lacks : (c : ℕ) → AllByRecursion (λ k. list_any (λ byte. byte == c) (key_name k) ≡ false) settable → (61 == c) ≡ false → (44 == c) ≡ false → c < 48
+    → (s : KeyValues) → IsSetting s → Lacks c (setting_text s)
+setting_lacks c each equals comma small s sound =
+    let values : All (Lacks c) (map value_text s.values) =
+    All-map (Lacks c) value_text s.values (All-weaker FitsToml (λ v. Lacks c (value_text v)) (λ v fits. value_lacks c v fits small) s.values sound.fit) in
+    lacks_both c (key_name s.key) (61 ∷ join_with_byte 44 (map value_text s.values)) (name_lacks c each s.key sound.key)
+    (lacks_cons c 61 (join_with_byte 44 (map value_text s.values)) equals (lacks_joined c 44 (map value_text s.values) comma values))
+
+seeds_lack : (c : ℕ) → (45 == c) ≡ false → (46 == c) ≡ false → c < 48 → (word : Option (List ℕ)) (seeds : Option Seeds) → AsksForSeeds word seeds → Lacks c (seeds_word seeds)
+seeds_lack c dash dot small None None asks = lacks_cons c 45 [] dash (All-nil (λ y. (y == c) ≡ false))
+seeds_lack c dash dot small None (Some r) asks = absurd asks
+seeds_lack c dash dot small (Some word) None asks = absurd asks
+seeds_lack c dash dot small (Some word) (Some r) asks =
+    let ordered = asks.ordered in
+    let low = asks.low in
+    lacks_both c (decimal r.first) (46 ∷ 46 ∷ decimal r.last) (decimal_lacks r.first c (omega (arith, ordered, low)) small)
+    (lacks_cons c 46 (46 ∷ decimal r.last) dot (lacks_cons c 46 (decimal r.last) dot (decimal_lacks r.last c (omega (arith, low)) small)))
+
+-- ---- the words of a sweep, with spaces between them
+
+pub joined_is : (first : List ℕ) (settings : List KeyValues) → join_with_byte 32 (first ∷ map setting_text settings) ≡ first ++ flat_map (λ s. 32 ∷ setting_text s) settings
+joined_is first [] = sym (append-nil first)
+joined_is first (s ∷ settings) = ap (λ l. first ++ 32 ∷ l) (joined_is (setting_text s) settings)
+
+abbrev pub words_of : Sweep → List (List ℕ)
+words_of sweep = seeds_word sweep.seeds ∷ map setting_text sweep.settings
+
+pub words_lack : (sweep : Sweep) → IsAskedFor sweep → All (Lacks 32) (words_of sweep)
+words_lack sweep asked =
+    All-cons (Lacks 32) (seeds_word sweep.seeds) (map setting_text sweep.settings) (seeds_lack 32 refl refl (lit< tt) asked.seeds sweep.seeds asked.asked.seeded)
+    (All-map (Lacks 32) setting_text sweep.settings (All-weaker IsSetting (λ s. Lacks 32 (setting_text s)) (setting_lacks 32 spaceless refl refl (lit< tt)) sweep.settings asked.asked.settings.sound))
+
+pub plan_lacks : (sweep : Sweep) → IsAskedFor sweep → Lacks 34 (plan_text sweep)
+plan_lacks sweep asked =
+    let words : All (Lacks 34) (words_of sweep) =
+    All-cons (Lacks 34) (seeds_word sweep.seeds) (map setting_text sweep.settings) (seeds_lack 34 refl refl (lit< tt) asked.seeds sweep.seeds asked.asked.seeded)
+    (All-map (Lacks 34) setting_text sweep.settings (All-weaker IsSetting (λ s. Lacks 34 (setting_text s)) (setting_lacks 34 quoteless refl refl (lit< tt)) sweep.settings asked.asked.settings.sound)) in
+    subst (Lacks 34) (joined_is (seeds_word sweep.seeds) sweep.settings) (lacks_joined 34 32 (words_of sweep) refl words)
+
+pub no_dash : (r : Seeds) (word : List ℕ) → IsRange word r → seeds_text r ≡ 45 ∷ [] → ⊥
+no_dash r word range same =
+    let ordered = range.ordered in
+    let low = range.low in
+    let digits = decimal_is_IsNumeral r.first (omega (arith, ordered, low)) in
+    let digit = digit_at (decimal r.first) 0 digits.0.1 digits.0.0 in
+    let first : get_or (seeds_text r) 0 0 ≡ 45 = ap (λ bytes. get_or bytes 0 0) same in
+    let same_first : get_or (seeds_text r) 0 0 ≡ get_or (decimal r.first) 0 0 = front (decimal r.first) (46 ∷ 46 ∷ decimal r.last) digits.0.0 in
+    omega (arith, digit.0, first, same_first)
+  where
+    front : (xs ys : List ℕ) → 0 < length xs → get_or (xs ++ ys) 0 0 ≡ get_or xs 0 0
+    front [] ys some = absurd (omega (arith, some))
+    front (x ∷ xs) ys some = refl
+
+pub same_seeds : (a b : Option (List ℕ)) (r s : Option Seeds) → AsksForSeeds a r → AsksForSeeds b s → seeds_word r ≡ seeds_word s → r ≡ s
+same_seeds None None None None asks also same = refl
+same_seeds None b (Some r) s asks also same = absurd asks
+same_seeds (Some a) b None s asks also same = absurd asks
+same_seeds None None None (Some s) asks also same = absurd also
+same_seeds None (Some b) None None asks also same = absurd also
+same_seeds (Some a) None (Some r) (Some s) asks also same = absurd also
+same_seeds (Some a) (Some b) (Some r) None asks also same = absurd also
+same_seeds None (Some b) None (Some s) asks also same = absurd (no_dash s b also (sym same))
+same_seeds (Some a) None (Some r) None asks also same = absurd (no_dash r a asks same)
+same_seeds (Some a) (Some b) (Some r) (Some s) asks also same =
+    let one = asks.ordered in
+    let two = asks.low in
+    let three = also.ordered in
+    let four = also.low in
+    let parts = cut_once 46 (decimal r.first) (decimal s.first) (46 ∷ decimal r.last) (46 ∷ decimal s.last)
+    (decimal_lacks r.first 46 (omega arith) (lit< tt)) (decimal_lacks s.first 46 (omega arith) (lit< tt)) same in
+    let lasts : decimal r.last ≡ decimal s.last = cc in
+    let first = decimal_injective r.first s.first (omega arith) (omega arith) parts.0 in
+    let last = decimal_injective r.last s.last (omega arith) (omega arith) lasts in
+    ap Some (λ i. record { first = first i; last = last i })
+
+pub same_settings : (ss ts : List KeyValues) → All IsSetting ss → All IsSetting ts → map setting_text ss ≡ map setting_text ts → ss ≡ ts
+same_settings [] [] sound also same = refl
+same_settings [] (t ∷ ts) sound also same = let none : 0 ≡ suc (length (map setting_text ts)) = ap length same in absurd (omega arith)
+same_settings (s ∷ ss) [] sound also same = let none : suc (length (map setting_text ss)) ≡ 0 = ap length same in absurd (omega arith)
+same_settings (s ∷ ss) (t ∷ ts) sound also same =
+    let first : setting_text s ≡ setting_text t = cc in
+    let rest : map setting_text ss ≡ map setting_text ts = cc in
+    let one = same_setting s t (All-head IsSetting s ss sound) (All-head IsSetting t ts also) first in
+    let more = same_settings ss ts (All-tail IsSetting s ss sound) (All-tail IsSetting t ts also) rest in
+    (λ i. one i ∷ more i)
+
+-- sweeps of the same words are one
+pub same_sweep : (s t : Sweep) → IsAskedFor s → IsAskedFor t → plan_text s ≡ plan_text t → s ≡ t
+same_sweep s t asked also same =
+    let words : words_of s ≡ words_of t =
+    sym (joined_split 32 (words_of s) (omega arith) (words_lack s asked))
+    ∙ ap (slice_split (λ byte. byte == 32)) (joined_is (seeds_word s.seeds) s.settings ∙ same ∙ sym (joined_is (seeds_word t.seeds) t.settings))
+    ∙ joined_split 32 (words_of t) (omega arith) (words_lack t also) in
+    let first : seeds_word s.seeds ≡ seeds_word t.seeds = cc in
+    let rest : map setting_text s.settings ≡ map setting_text t.settings = cc in
+    let seeds = same_seeds asked.seeds also.seeds s.seeds t.seeds asked.asked.seeded also.asked.seeded first in
+    let settings = same_settings s.settings t.settings asked.asked.settings.sound also.asked.settings.sound rest in
+    (λ i. record { settings = settings i; seeds = seeds i })
+
+-- what two texts name that begin with the first lines of pieces
+pub record AreSameHeads (s t : Sweep) (p q : Piece) (x y : List ℕ) : Type 0 where
+  pub sweep : s ≡ t
+  pub piece : p ≡ q
+  pub rest : x ≡ y
+
+pub same_heads : (mark other : List ℕ) (s t : Sweep) (p q : Piece) (x y : List ℕ) → IsMark mark → IsMark other → IsAskedFor s → IsAskedFor t → IsPiece p → IsPiece q
+    → head_cell mark s p ++ x ≡ head_cell other t q ++ y → AreSameHeads s t p q x y
+same_heads mark other s t p q x y marks marks_too asked also sound sound_too same =
+    let one = sound.most in
+    let two = sound.few in
+    let three = sound_too.most in
+    let four = sound_too.few in
+    let whole : laid mark s p x ≡ laid other t q y = sym (laid_is mark s p x) ∙ same ∙ laid_is other t q y in
+    let inside : decimal p.number ++ 47 ∷ behind_number mark s p x ≡ decimal q.number ++ 47 ∷ behind_number other t q y = cc in
+    let slash = cut_once 47 (decimal p.number) (decimal q.number) (behind_number mark s p x) (behind_number other t q y)
+    (decimal_lacks p.number 47 (omega arith) (lit< tt)) (decimal_lacks q.number 47 (omega arith) (lit< tt)) inside in
+    let space = cut_once 32 (decimal p.of) (decimal q.of) (mark ++ 32 ∷ behind_mark s x) (other ++ 32 ∷ behind_mark t y)
+    (decimal_lacks p.of 32 (omega arith) (lit< tt)) (decimal_lacks q.of 32 (omega arith) (lit< tt)) slash.1 in
+    let after = cut_once 32 mark other (behind_mark s x) (behind_mark t y) marks.spaceless marks_too.spaceless space.1 in
+    let quote = cut_once 34 (plan_text s) (plan_text t) (44 ∷ x) (44 ∷ y) (plan_lacks s asked) (plan_lacks t also) after.1 in
+    let number = decimal_injective p.number q.number (omega arith) (omega arith) slash.0 in
+    let of = decimal_injective p.of q.of (omega arith) (omega arith) space.0 in
+    let rest : x ≡ y = cc in
+    record { sweep = same_sweep s t asked also quote.0; piece = (λ i. record { number = number i; of = of i }); rest = rest }
+  where
+    behind_mark : Sweep → List ℕ → List ℕ
+    behind_mark s x = plan_text s ++ 34 ∷ 44 ∷ x
+
+    behind_number : List ℕ → Sweep → Piece → List ℕ → List ℕ
+    behind_number mark s p x = decimal p.of ++ 32 ∷ (mark ++ 32 ∷ behind_mark s x)
+
+    laid : List ℕ → Sweep → Piece → List ℕ → List ℕ
+    laid mark s p x = 34 ∷ (decimal p.number ++ 47 ∷ behind_number mark s p x)
+
+    laid_is : (mark : List ℕ) (s : Sweep) (p : Piece) (x : List ℕ) → head_cell mark s p ++ x ≡ laid mark s p x
+    laid_is mark s p x =
+        ap (λ l. 34 ∷ l)
+        (append_assoc (piece_name mark s p) (34 ∷ 44 ∷ []) x
+        ∙ append_assoc (piece_text p ++ 32 ∷ mark) (32 ∷ plan_text s) (34 ∷ 44 ∷ x)
+        ∙ append_assoc (piece_text p) (32 ∷ mark) (32 ∷ behind_mark s x)
+        ∙ append_assoc (decimal p.number) (47 ∷ decimal p.of) (32 ∷ (mark ++ 32 ∷ behind_mark s x)))

@@ -1,0 +1,79 @@
+-- What pieces put together are.
+use Rattle.std.specs.Prelude.{◌≡◌, ◌==◌, ◌-◌, ◌+◌, ◌*◌, ◌/◌, ◌≤◌, ℕ, Bool, false, List, ◌++◌, Option, Some, All, Vec, length, map, take, drop, slice_get}
+use Rattle.std.specs.List.{flat_map}
+use Rattle.std.specs.Io.KnownBytes.{Appends}
+use Rattle.std.specs.declared.alloc.Global.{Global}
+use Rattle.cases.specs.Sweep.{Sweep, case_count, run_count, seed_count}
+use Rattle.figures.specs.Lines.{header_line}
+use Rattle.figures.specs.Notes.{Note}
+use Rattle.figures.specs.declared.summary.CaseSummary.{CaseSummary}
+use Rattle.pieces.specs.declared.piece.Piece.{Piece}
+use Rattle.pieces.specs.Pieces.{IsPiece, first_run, past_run}
+use Rattle.sweep.specs.Runs.{IsAskedFor}
+use Rattle.sweep.specs.Table.{names_of}
+use Rattle.sweep.specs.Summaries.{SumUp, IsGathered}
+use Rattle.sweep.specs.Texts.{cases_text}
+use Rattle.sweep.specs.Pieces.{piece_header}
+use Rattle.sweep.specs.declared.gathering.Gathering.{Gathering}
+use Rattle.joins.specs.Lines.{Line, IsLine, piece_line, plain_line, notes_of}
+
+-- the text is one of these
+abbrev pub IsAmongTexts : List (Vec ℕ Global) → List ℕ → Type 0
+IsAmongTexts texts text = (place : ℕ) × (held : Vec ℕ Global) × (slice_get texts place ≡ Some held) × (text ≡ held.items)
+
+-- the mark of a scenario's text has no space and no quote
+pub record IsMark (mark : List ℕ) : Type 0 where
+  pub spaceless : All (λ byte. (byte == 32) ≡ false) mark
+  pub quoteless : All (λ byte. (byte == 34) ≡ false) mark
+
+-- the lines from one number to before another
+abbrev pub lines_between : List Line → ℕ → ℕ → List Line
+lines_between lines from till = take (till - from) (drop from lines)
+
+-- the text of a piece with its lines among these of the whole
+abbrev pub piece_of : List ℕ → Bool → Sweep → Piece → List Line → List ℕ
+piece_of mark revived sweep p lines =
+    piece_header revived mark sweep p ++ flat_map piece_line (lines_between lines (first_run p (run_count sweep)) (past_run p (run_count sweep)))
+
+-- the piece of this number, counted from 0, of so many
+abbrev pub piece_at : ℕ → ℕ → Piece
+piece_at number of = record { number = number + 1; of = of }
+
+-- the piece of this number is one of the texts: its lines were put into the table, and their notes were gathered
+pub record JoinsPiece (texts : List (Vec ℕ Global)) (mark : List ℕ) (revived : Bool) (sweep : Sweep) (of number : ℕ) (old new : Option (List ℕ)) (before after : Gathering) : Type 0 where
+  pub lines : List Line
+  pub all : length lines ≡ past_run (piece_at number of) (run_count sweep) - first_run (piece_at number of) (run_count sweep)
+  pub sound : All IsLine lines
+  pub there : IsAmongTexts texts (piece_header revived mark sweep (piece_at number of) ++ flat_map piece_line lines)
+  pub put : Appends old new (flat_map plain_line lines)
+  pub gathered : (each : ℕ) (notes : List Note) → IsGathered each notes before → IsGathered each (notes ++ notes_of lines) after
+
+-- the same of the first pieces, so many
+pub record JoinsPieces (texts : List (Vec ℕ Global)) (mark : List ℕ) (revived : Bool) (sweep : Sweep) (of count : ℕ) (old new : Option (List ℕ)) (before after : Gathering) : Type 0 where
+  pub lines : List Line
+  pub all : length lines ≡ count * run_count sweep / of
+  pub sound : All IsLine lines
+  pub there : (p : Piece) → IsPiece p → p.of ≡ of → p.number ≤ count → IsAmongTexts texts (piece_of mark revived sweep p lines)
+  pub put : Appends old new (flat_map plain_line lines)
+  pub gathered : (each : ℕ) (notes : List Note) → IsGathered each notes before → IsGathered each (notes ++ notes_of lines) after
+
+-- The texts have all pieces of a sweep: each is one of them, and its lines are those of the whole from its first run to its last. Their lines
+-- without notes are the table that was appended, and the text is that of the cases that the notes tell.
+pub record Joins (texts : List (Vec ℕ Global)) (old new : Option (List ℕ)) (text : List ℕ) : Type 0 where
+  pub sweep : Sweep
+  pub asked : IsAskedFor sweep
+  pub mark : List ℕ
+  pub marked : IsMark mark
+  pub revived : Bool
+  pub of : ℕ
+  pub some : 1 ≤ of
+  pub few : of ≤ 10000
+  pub lines : List Line
+  pub all : length lines ≡ run_count sweep
+  pub sound : All IsLine lines
+  pub there : (p : Piece) → IsPiece p → p.of ≡ of → IsAmongTexts texts (piece_of mark revived sweep p lines)
+  pub written : Appends old new (header_line revived (names_of sweep.settings) ++ flat_map plain_line lines)
+  pub cases : List CaseSummary
+  pub each : length cases ≡ case_count sweep.settings
+  pub summed : SumUp (seed_count sweep.seeds) (notes_of lines) cases
+  pub told : text ≡ cases_text revived sweep cases

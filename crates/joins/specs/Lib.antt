@@ -1,0 +1,4 @@
+pub mod Lines
+pub mod Joined
+pub mod Reasons
+pub mod Genuine

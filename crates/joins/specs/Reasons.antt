@@ -1,0 +1,158 @@
+-- Why texts aren't the pieces of one sweep.
+use Rattle.std.specs.Prelude.{◌≡◌, ◌⊎◌, ◌-◌, ◌<◌, ◌≤◌, ℕ, Bool, List, [], ◌++◌, Option, Some, None, All, Vec, length, slice_get, get_or}
+use Rattle.std.specs.List.{flat_map}
+use Rattle.std.specs.Str.{IsUtf8}
+use Rattle.std.specs.declared.alloc.Global.{Global}
+use Rattle.cases.specs.Sweep.{Sweep, run_count}
+use Rattle.cases.specs.declared.fault.PlanFault.{PlanFault}
+use Rattle.cases.specs.declared.fault.PlanFault.TheVariants as unread
+use Rattle.pieces.specs.declared.piece.Piece.{Piece}
+use Rattle.pieces.specs.Pieces.{IsPiece, first_run, past_run}
+use Rattle.sweep.specs.Pieces.{piece_header}
+use Rattle.sweep.specs.Runs.{IsAskedFor}
+use Rattle.joins.specs.Lines.{Line, IsLine, piece_line}
+use Rattle.joins.specs.Joined.{IsMark, piece_at}
+use Rattle.joins.specs.declared.fault.JoinFault.{JoinFault}
+use Rattle.joins.specs.declared.fault.JoinFault.TheVariants as fault
+
+-- the text at a place
+abbrev pub IsTextAt : List (Vec ℕ Global) → ℕ → List ℕ → Type 0
+IsTextAt texts place text = (held : Vec ℕ Global) × (slice_get texts place ≡ Some held) × (text ≡ held.items)
+
+-- the text begins with the first line of this piece of a sweep
+pub record BeginsAs (text mark : List ℕ) (revived : Bool) (sweep : Sweep) (p : Piece) : Type 0 where
+  pub asked : IsAskedFor sweep
+  pub marked : IsMark mark
+  pub sound : IsPiece p
+  pub rest : List ℕ
+  pub written : text ≡ piece_header revived mark sweep p ++ rest
+
+-- it begins with that of none
+abbrev pub BeginsAsNone : List ℕ → Type 0
+BeginsAsNone text = (mark : List ℕ) (revived : Bool) (sweep : Sweep) (p : Piece) → ¬ (BeginsAs text mark revived sweep p)
+
+-- a text that is so many lines of a piece, in UTF-8
+pub record AreLines (text : List ℕ) (count : ℕ) : Type 0 where
+  pub lines : List Line
+  pub all : length lines ≡ count
+  pub sound : All IsLine lines
+  pub encoded : IsUtf8 text
+  pub written : text ≡ flat_map piece_line lines
+
+-- how many runs the piece has
+abbrev pub runs_in : Sweep → Piece → ℕ
+runs_in sweep p = past_run p (run_count sweep) - first_run p (run_count sweep)
+
+-- there is no text, or the one at this place isn't UTF-8, or begins as no piece
+abbrev pub IsNoPiece : List (Vec ℕ Global) → ℕ → Type 0
+IsNoPiece texts place = (texts ≡ []) ⊎ ((text : List ℕ) × IsTextAt texts place text × ((¬ (IsUtf8 text)) ⊎ BeginsAsNone text))
+
+-- the first text begins as a piece of this sweep, of so many
+pub record IsFirst (texts : List (Vec ℕ Global)) (mark : List ℕ) (revived : Bool) (sweep : Sweep) (p : Piece) : Type 0 where
+  pub text : List ℕ
+  pub there : IsTextAt texts 0 text
+  pub begins : BeginsAs text mark revived sweep p
+
+-- the text at this place begins as no piece of the sweep of the first, of as many
+pub record IsOther (texts : List (Vec ℕ Global)) (place : ℕ) : Type 0 where
+  pub mark : List ℕ
+  pub revived : Bool
+  pub sweep : Sweep
+  pub p : Piece
+  pub first : IsFirst texts mark revived sweep p
+  pub text : List ℕ
+  pub there : IsTextAt texts place text
+  pub none : (q : Piece) → q.of ≡ p.of → ¬ (BeginsAs text mark revived sweep q)
+
+-- the text at this place begins as the same piece as one before it
+pub record IsDoubled (texts : List (Vec ℕ Global)) (place : ℕ) : Type 0 where
+  pub mark : List ℕ
+  pub revived : Bool
+  pub sweep : Sweep
+  pub p : Piece
+  pub earlier : ℕ
+  pub before : earlier < place
+  pub text : List ℕ
+  pub there : IsTextAt texts place text
+  pub begins : BeginsAs text mark revived sweep p
+  pub other : List ℕ
+  pub there_too : IsTextAt texts earlier other
+  pub begins_too : BeginsAs other mark revived sweep p
+
+-- the text at this place begins as a piece, but what comes after its first line isn't a line for each of its runs
+pub record IsTorn (texts : List (Vec ℕ Global)) (place : ℕ) : Type 0 where
+  pub mark : List ℕ
+  pub revived : Bool
+  pub sweep : Sweep
+  pub p : Piece
+  pub text : List ℕ
+  pub there : IsTextAt texts place text
+  pub begins : BeginsAs text mark revived sweep p
+  pub torn : ¬ (AreLines begins.rest (runs_in sweep p))
+
+-- no text begins as the piece of this number of the sweep of the first, which has it
+pub record IsMissing (texts : List (Vec ℕ Global)) (number : ℕ) : Type 0 where
+  pub mark : List ℕ
+  pub revived : Bool
+  pub sweep : Sweep
+  pub p : Piece
+  pub first : IsFirst texts mark revived sweep p
+  pub low : 1 ≤ number
+  pub high : number ≤ p.of
+  pub none : (place : ℕ) (text : List ℕ) (q : Piece) → IsTextAt texts place text → q.number ≡ number → q.of ≡ p.of → ¬ (BeginsAs text mark revived sweep q)
+
+-- why texts weren't put together; nothing is said of want of memory, nor of a table that fails
+abbrev pub IsReason : List (Vec ℕ Global) → JoinFault → Type 0
+IsReason texts (fault.NoPiece place) = IsNoPiece texts place
+IsReason texts (fault.Other place) = IsOther texts place
+IsReason texts (fault.Doubled place) = IsDoubled texts place
+IsReason texts (fault.Torn place) = IsTorn texts place
+IsReason texts (fault.Missing number) = IsMissing texts number
+IsReason texts fault.Write = Unit {0}
+IsReason texts fault.Memory = Unit {0}
+
+-- the name of a text tells of no piece, or memory was refused
+abbrev pub RefusesName : List ℕ → PlanFault → Type 0
+RefusesName text unread.Words = BeginsAsNone text
+RefusesName text unread.Memory = Unit {0}
+
+-- The text of this place isn't a piece of the sweep, of so many: it isn't UTF-8 or begins as no piece, or it begins as none of these.
+abbrev pub RefusesText : List ℕ → List ℕ → Bool → Sweep → ℕ → ℕ → JoinFault → Type 0
+RefusesText text mark revived sweep of place (fault.NoPiece at) = (at ≡ place) × ((¬ (IsUtf8 text)) ⊎ BeginsAsNone text)
+RefusesText text mark revived sweep of place (fault.Other at) = (at ≡ place) × ((q : Piece) → q.of ≡ of → ¬ (BeginsAs text mark revived sweep q))
+RefusesText text mark revived sweep of place fault.Memory = Unit {0}
+RefusesText text mark revived sweep of place _ = ⊥
+
+-- the piece of this number has a place already
+abbrev pub RefusesPlace : List (Option ℕ) → ℕ → ℕ → JoinFault → Type 0
+RefusesPlace places number place (fault.Doubled at) = (at ≡ place) × ((earlier : ℕ) × (get_or places number None ≡ Some earlier))
+RefusesPlace places number place _ = ⊥
+
+-- memory was refused, or the table failed
+abbrev pub IsOfSink : JoinFault → Type 0
+IsOfSink fault.Write = Unit {0}
+IsOfSink fault.Memory = Unit {0}
+IsOfSink _ = ⊥
+
+-- a text isn't so many lines; the fault names this place
+abbrev pub RefusesLines : List ℕ → ℕ → ℕ → JoinFault → Type 0
+RefusesLines text count place (fault.Torn at) = (at ≡ place) × ¬ (AreLines text count)
+RefusesLines text count place fault.Write = Unit {0}
+RefusesLines text count place fault.Memory = Unit {0}
+RefusesLines text count place _ = ⊥
+
+-- a text doesn't begin with a line of a piece; the fault names this place
+abbrev pub RefusesLine : List ℕ → ℕ → JoinFault → Type 0
+RefusesLine text place (fault.Torn at) = (at ≡ place) × ((line : Line) (left : List ℕ) → IsLine line → ¬ (text ≡ piece_line line ++ left))
+RefusesLine text place fault.Write = Unit {0}
+RefusesLine text place fault.Memory = Unit {0}
+RefusesLine text place _ = ⊥
+
+-- what the texts before a place are: each of the places that are kept by the numbers of pieces is that of a text that begins as that piece,
+-- and each text before has its place
+pub record ArePlaces (texts : List (Vec ℕ Global)) (mark : List ℕ) (revived : Bool) (sweep : Sweep) (of : ℕ) (places : List (Option ℕ)) (till : ℕ) : Type 0 where
+  pub size : length places ≡ of
+  pub held : (number place : ℕ) → get_or places number None ≡ Some place
+      → (place < till) × ((text : List ℕ) × IsTextAt texts place text × BeginsAs text mark revived sweep (piece_at number of))
+  pub kept : (place : ℕ) (text : List ℕ) → place < till → IsTextAt texts place text
+      → (number : ℕ) × (get_or places number None ≡ Some place) × BeginsAs text mark revived sweep (piece_at number of)

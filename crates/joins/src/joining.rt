@@ -1,0 +1,157 @@
+//! The pieces of a sweep put together.
+ghost use Rattle.std.specs.Prelude.{◌≡◌, ◌<◌, ◌-◌, ◌^◌, ◌++◌, IfOk, IfErr, OnOk, length, string_bytes};
+ghost use Rattle.std.specs.Io.KnownBytes.{Appends, Keeps};
+ghost use Rattle.figures.specs.Lines.{header_line};
+ghost use Rattle.sweep.specs.Table.{names_of};
+ghost use Rattle.joins.specs.Joined.{Joins, JoinsPiece, JoinsPieces};
+ghost use Rattle.joins.specs.Reasons.{ArePlaces, IsFirst, IsOfSink, IsReason};
+
+use crate::fault::JoinFault;
+use crate::head::{Head, head_of, header_of};
+use crate::lines::join_lines;
+use crate::places::{place_of, places_of, text_at};
+use base::Memory;
+use cases::Plan;
+use pieces::Piece;
+use std::alloc::Global;
+use std::str::from_utf8;
+use sweep::{Gathering, lines_of_cases, write_names};
+use trace::{Sink, Stopped, WriteError};
+
+/// Puts the pieces of a sweep together, whose texts come in any order: the table of the whole sweep goes to the sink,
+/// and the text of its cases is given. After a fault the sink may have got lines.
+///
+/// Faults: `NoPiece`, `Other`, `Doubled` or `Torn` with the place of a text that isn't a piece, is one of another sweep
+/// than the first, is there already, or isn't whole; `Missing` with the number of a piece that isn't there; `Write` where
+/// the sink failed; `Memory`.
+pub fn join<S: Sink>(alloc: Global, texts: &[Vec<u8>], table: &mut S) -> Result<String, JoinFault>
+    requires { S.failed table.old < 2 ^ 63 }
+    ensures joined { IfOk result (λ text. Joins texts.now (S.held table.old) (S.held table.new) (string_bytes text)) }
+    ensures refused { IfErr result (IsReason texts.now) }
+{
+    let head = first_head(alloc, texts)?;
+    let places = places_of(alloc, texts, &head)?;
+    let mut gathering = Gathering::new(alloc, head.plan.runs_of_case() as u64);
+    put_names(alloc, &head.plan, head.revived, table)?;
+    join_pieces(alloc, texts, &head, &places, &mut gathering, table)?;
+    flush(table)?;
+    let cases = gathering.into_summaries();
+    match lines_of_cases(alloc, &head.plan, head.revived, &cases) {
+        Ok(text) => Ok(text),
+        Err(Memory) => Err(JoinFault::Memory),
+    }
+}
+
+/// What the first text tells; there must be one.
+fn first_head<'a>(alloc: Global, texts: &'a [Vec<u8>]) -> Result<Head<'a>, JoinFault>
+    ensures first { IfOk result (λ head. IsFirst texts.entry.now head.mark.now head.revived head.plan head.piece) }
+    ensures refused { IfErr result (IsReason texts.entry.now) }
+{
+    if texts.is_empty() {
+        return Err(JoinFault::NoPiece(0));
+    }
+    let bytes = text_at(texts, 0);
+    let Ok(text) = from_utf8(bytes) else {
+        return Err(JoinFault::NoPiece(0));
+    };
+    if let Some(head) = head_of(alloc, text, false)? {
+        return Ok(head);
+    }
+    match head_of(alloc, text, true)? {
+        Some(head) => Ok(head),
+        None => Err(JoinFault::NoPiece(0)),
+    }
+}
+
+/// Puts the header of the table, which tells, or doesn't, of members that were taken for alive again.
+fn put_names<S: Sink>(
+    alloc: Global,
+    plan: &Plan,
+    revived: bool,
+    table: &mut S,
+) -> Result<(), JoinFault>
+    requires { S.failed table.old < 2 ^ 63 }
+    ensures whole { OnOk result (Appends (S.held table.old) (S.held table.new) (header_line revived (names_of plan.now.settings))) }
+    ensures same { OnOk result (S.failed table.new ≡ S.failed table.old) }
+    ensures refused { IfErr result IsOfSink }
+{
+    match write_names(alloc, plan.settings(), revived, table) {
+        Ok(()) => Ok(()),
+        Err(WriteError::Memory) => Err(JoinFault::Memory),
+        Err(WriteError::Stopped) => Err(JoinFault::Write),
+    }
+}
+
+/// Has the table hand on what it took.
+fn flush<S: Sink>(table: &mut S) -> Result<(), JoinFault>
+    requires { S.failed table.old < 2 ^ 63 }
+    ensures same { Keeps (S.held table.old) (S.held table.new) }
+    ensures refused { IfErr result IsOfSink }
+{
+    match table.flush() {
+        Ok(()) => Ok(()),
+        Err(Stopped) => Err(JoinFault::Write),
+    }
+}
+
+/// Puts the lines of all pieces, one after the other, and gathers their notes.
+fn join_pieces<S: Sink>(
+    alloc: Global,
+    texts: &[Vec<u8>],
+    head: &Head<'_>,
+    places: &[Option<usize>],
+    gathering: &mut Gathering,
+    table: &mut S,
+) -> Result<(), JoinFault>
+    requires first { IsFirst texts.now head.now.mark.now head.now.revived head.now.plan head.now.piece }
+    requires places { ArePlaces texts.now head.now.mark.now head.now.revived head.now.plan head.now.piece.of places.now (length texts.now) }
+    requires countable { S.failed table.old < 2 ^ 63 }
+    ensures whole { OnOk result (JoinsPieces texts.now head.now.mark.now head.now.revived head.now.plan head.now.piece.of head.now.piece.of
+        (S.held table.old) (S.held table.new) gathering.old gathering.new) }
+    ensures same { OnOk result (S.failed table.new ≡ S.failed table.old) }
+    ensures refused { IfErr result (IsReason texts.now) }
+{
+    let of = head.piece.of as usize;
+    for number in 0..of {
+        join_piece(alloc, texts, head, places, number, gathering, table)?;
+    }
+    Ok(())
+}
+
+/// Puts the lines of the piece of this number, counted from 0, and gathers their notes.
+fn join_piece<S: Sink>(
+    alloc: Global,
+    texts: &[Vec<u8>],
+    head: &Head<'_>,
+    places: &[Option<usize>],
+    number: usize,
+    gathering: &mut Gathering,
+    table: &mut S,
+) -> Result<(), JoinFault>
+    requires first { IsFirst texts.now head.now.mark.now head.now.revived head.now.plan head.now.piece }
+    requires places { ArePlaces texts.now head.now.mark.now head.now.revived head.now.plan head.now.piece.of places.now (length texts.now) }
+    requires within { number < head.now.piece.of }
+    requires countable { S.failed table.old < 2 ^ 63 }
+    ensures whole { OnOk result (JoinsPiece texts.now head.now.mark.now head.now.revived head.now.plan head.now.piece.of number
+        (S.held table.old) (S.held table.new) gathering.old gathering.new) }
+    ensures same { OnOk result (S.failed table.new ≡ S.failed table.old) }
+    ensures refused { IfErr result (IsReason texts.now) }
+{
+    let Some(place) = place_of(places, number) else {
+        return Err(JoinFault::Missing(number as u64 + 1));
+    };
+    let piece = Piece {
+        number: number as u64 + 1,
+        of: head.piece.of,
+    };
+    let header = header_of(alloc, head, piece)?;
+    let Some(rest) = text_at(texts, place).strip_prefix(header.as_slice()) else {
+        return Err(JoinFault::Other(place));
+    };
+    let Ok(lines) = from_utf8(rest) else {
+        return Err(JoinFault::Torn(place));
+    };
+    let runs = head.plan.runs();
+    let count = piece.past(runs) - piece.first(runs);
+    join_lines(alloc, lines, count, place, gathering, table)
+}

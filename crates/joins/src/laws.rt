@@ -1,0 +1,31 @@
+//! What holds of pieces that are put together.
+ghost use Rattle.std.specs.Prelude.{◌≡◌, ℕ, List, Option, All, Vec, length};
+ghost use Rattle.std.specs.declared.alloc.Global.{Global};
+ghost use Rattle.toml.specs.Data.{Data};
+ghost use Rattle.cases.specs.Sweep.{Sweep, run_count};
+ghost use Rattle.sweep.specs.Runs.{Made, IsAskedFor};
+ghost use Rattle.joins.specs.Joined.{IsMark, Joins};
+ghost use Rattle.pieces.specs.declared.piece.Piece.{Piece};
+ghost use Rattle.sweep.specs.Pieces.{WritesPiece};
+ghost use Rattle.sweep.specs.Resumed.{IsBegun, RefusesBegun, WritesRest};
+ghost use Rattle.sweep.specs.Table.{tells_revived};
+ghost use Rattle.sweep.specs.declared.begun.BegunFault.TheVariants as begun_fault;
+ghost use Rattle.joins.specs.Genuine.{ArePieces, IsCutPiece, IsTellable, IsWhole};
+
+/// Where each of the texts is some piece of a sweep that was made, in whatever order they come and into however many pieces
+/// it was cut, what they are put together to is the table of the whole sweep, and the text of its cases.
+pub fn all_pieces_are_the_whole()
+    ensures { (texts : List (Vec ℕ Global)) (old new : Option (List ℕ)) (text mark : List ℕ) (tree : Data) (sweep : Sweep) (of : ℕ) (made : List Made)
+        → Joins texts old new text → IsMark mark → IsAskedFor sweep → length made ≡ run_count sweep → All IsTellable made
+        → ArePieces tree texts mark sweep of made → IsWhole tree sweep made old new text }
+{}
+
+/// Where a text is a beginning of a piece that was made, it is taken for one, and the table that goes on behind its whole
+/// lines is that piece.
+pub fn a_cut_piece_goes_on()
+    ensures goes_on { (tree : Data) (mark : List ℕ) (sweep : Sweep) (p : Piece) (made : List Made) (text lines : List ℕ) (runs : ℕ) (old new : Option (List ℕ))
+        → IsCutPiece tree mark sweep p made text → IsBegun (tells_revived tree) mark sweep p text lines runs → WritesRest tree sweep mark p lines runs old new
+        → WritesPiece tree sweep mark p old new }
+    ensures taken { (tree : Data) (mark : List ℕ) (sweep : Sweep) (p : Piece) (made : List Made) (text : List ℕ)
+        → IsCutPiece tree mark sweep p made text → ¬ (RefusesBegun (tells_revived tree) mark sweep p text begun_fault.Other) }
+{}

@@ -1,0 +1,12 @@
+//! The pieces of a sweep put together: the table of the whole, and the text of its cases.
+#![tactic(auto)]
+
+mod fault;
+mod head;
+mod joining;
+pub mod laws;
+mod lines;
+mod places;
+
+pub use fault::JoinFault;
+pub use joining::join;

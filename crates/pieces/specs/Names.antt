@@ -1,0 +1,24 @@
+-- By which name a piece tells which it is of which sweep.
+use Rattle.std.specs.Prelude.{ℕ, List, [], ◌∷◌, ◌++◌, Option, Some, None, codes, flat_map}
+use Rattle.cases.specs.Sweep.{Sweep}
+use Rattle.cases.specs.Asked.{seeds_text, setting_text}
+use Rattle.cases.specs.declared.seeds.Seeds.{Seeds}
+use Rattle.pieces.specs.declared.piece.Piece.{Piece}
+use Rattle.pieces.specs.Pieces.{piece_text}
+
+-- the word of the seeds; a dash where each case runs with the text's own
+abbrev pub seeds_word : Option Seeds → List ℕ
+seeds_word None = codes "-"
+seeds_word (Some r) = seeds_text r
+
+-- the words that ask for a sweep: that of its seeds, and a space before that of each setting
+abbrev pub plan_text : Sweep → List ℕ
+plan_text sweep = seeds_word sweep.seeds ++ flat_map (λ s. 32 ∷ setting_text s) sweep.settings
+
+-- The name of a piece: which it is, the mark of the scenario's text, and the words that ask for the sweep, with spaces between them
+abbrev pub piece_name : List ℕ → Sweep → Piece → List ℕ
+piece_name mark sweep p = piece_text p ++ 32 ∷ mark ++ 32 ∷ plan_text sweep
+
+-- Ahead of a piece's header stands its name, which is that of the column of notes: in quotes, since it may have commas, and a comma.
+abbrev pub head_cell : List ℕ → Sweep → Piece → List ℕ
+head_cell mark sweep p = 34 ∷ piece_name mark sweep p ++ 34 ∷ 44 ∷ []

@@ -1,0 +1,88 @@
+-- The table of a piece that was cut off, and how it goes on.
+use Rattle.std.specs.Prelude.{◌≡◌, ◌≢◌, ◌==◌, ◌⊎◌, ◌<◌, ◌≤◌, ◌+◌, ◌-◌, ℕ, Bool, List, [], ◌∷◌, ◌++◌, true, false, Option, All, length}
+use Rattle.std.specs.List.{flat_map}
+use Rattle.std.specs.Io.KnownBytes.{Appends}
+use Rattle.toml.specs.Data.{Data}
+use Rattle.trace.specs.Sinks.{AppendsBeginning}
+use Rattle.cases.specs.Sweep.{Sweep, run_count}
+use Rattle.pieces.specs.declared.piece.Piece.{Piece}
+use Rattle.pieces.specs.Pieces.{first_run, past_run}
+use Rattle.sweep.specs.Runs.{Made, AreMadeBetween}
+use Rattle.sweep.specs.Table.{line_with, tells_revived}
+use Rattle.sweep.specs.Pieces.{piece_header}
+use Rattle.sweep.specs.declared.begun.BegunFault.{BegunFault}
+use Rattle.sweep.specs.declared.begun.BegunFault.TheVariants.{Other, Memory}
+
+-- it has no line feed
+abbrev pub IsOneLine : List ℕ → Type 0
+IsOneLine text = All (λ byte. (byte == 10) ≡ false) text
+
+-- each of these texts with a line feed behind it
+abbrev pub fed : List (List ℕ) → List ℕ
+fed bodies = flat_map (λ body. body ++ 10 ∷ []) bodies
+
+-- the whole lines of a text are these, so many; behind them comes no line feed
+pub record AreWholeLines (text lines : List ℕ) (count : ℕ) : Type 0 where
+  pub bodies : List (List ℕ)
+  pub all : length bodies ≡ count
+  pub one : All IsOneLine bodies
+  pub are : lines ≡ fed bodies
+  pub torn : List ℕ
+  pub cut : IsOneLine torn
+  pub written : text ≡ lines ++ torn
+
+-- what stands of a table that begins with this line: a beginning of it, or it and these whole lines behind it
+pub record IsShort (header text lines : List ℕ) (runs : ℕ) : Type 0 where
+  pub rest : List ℕ
+  pub written : header ≡ text ++ rest
+  pub none : lines ≡ []
+  pub no_run : runs ≡ 0
+
+pub record IsLong (header text lines : List ℕ) (runs : ℕ) : Type 0 where
+  pub rest : List ℕ
+  pub written : text ≡ header ++ rest
+  pub are : AreWholeLines rest lines runs
+
+-- So much of the table of a piece stands in the text: no more lines than the piece has runs.
+pub record IsBegun (revived : Bool) (mark : List ℕ) (sweep : Sweep) (p : Piece) (text lines : List ℕ) (runs : ℕ) : Type 0 where
+  pub begun : IsShort (piece_header revived mark sweep p) text lines runs ⊎ IsLong (piece_header revived mark sweep p) text lines runs
+  pub few : first_run p (run_count sweep) + runs ≤ past_run p (run_count sweep)
+
+-- of the text and the first line neither begins with the other
+pub record IsApart (header text : List ℕ) : Type 0 where
+  pub no_more : (rest : List ℕ) → text ≢ header ++ rest
+  pub no_less : (rest : List ℕ) → header ≢ text ++ rest
+
+-- behind the first line come more than so many
+pub record HasMore (header text : List ℕ) (runs : ℕ) : Type 0 where
+  pub lines : List ℕ
+  pub count : ℕ
+  pub more : runs < count
+  pub there : IsLong header text lines count
+
+-- why the text isn't so, unless memory was refused
+abbrev pub RefusesBegun : Bool → List ℕ → Sweep → Piece → List ℕ → BegunFault → Type 0
+RefusesBegun revived mark sweep p text Other =
+    IsApart (piece_header revived mark sweep p) text
+    ⊎ HasMore (piece_header revived mark sweep p) text (past_run p (run_count sweep) - first_run p (run_count sweep))
+RefusesBegun revived mark sweep p text Memory = Unit {0}
+
+-- the first line of a piece, lines that were made before, and those of the runs that were left
+abbrev pub rest_text : Bool → List ℕ → Sweep → Piece → List ℕ → List Made → List ℕ
+rest_text revived mark sweep p lines made = (piece_header revived mark sweep p ++ lines) ++ flat_map (line_with revived true) made
+
+-- the runs of a piece but for so many, the first
+abbrev pub AreMadeBehind : Data → Sweep → Piece → ℕ → List Made → Type 0
+AreMadeBehind tree sweep p runs made = AreMadeBetween tree sweep (first_run p (run_count sweep) + runs) (past_run p (run_count sweep)) made
+
+-- that was appended
+pub record WritesRest (tree : Data) (sweep : Sweep) (mark : List ℕ) (p : Piece) (lines : List ℕ) (runs : ℕ) (old new : Option (List ℕ)) : Type 0 where
+  pub made : List Made
+  pub are : AreMadeBehind tree sweep p runs made
+  pub written : Appends old new (rest_text (tells_revived tree) mark sweep p lines made)
+
+-- a beginning of it was
+pub record BeginsRest (tree : Data) (sweep : Sweep) (mark : List ℕ) (p : Piece) (lines : List ℕ) (runs : ℕ) (old new : Option (List ℕ)) : Type 0 where
+  pub made : List Made
+  pub are : AreMadeBehind tree sweep p runs made
+  pub written : AppendsBeginning old new (rest_text (tells_revived tree) mark sweep p lines made)

@@ -1,0 +1,176 @@
+//! The runs of a piece of a sweep, and the table of one that was cut off.
+ghost use Rattle.std.specs.Prelude.{◌≡◌, ◌≤◌, ◌<◌, ◌^◌, ◌+◌, ◌++◌, OnOk, OnErr, IfErr};
+ghost use Rattle.std.specs.Io.KnownBytes.{Appends};
+ghost use Rattle.toml.specs.View.{view};
+ghost use Rattle.cases.specs.Sweep.{run_count};
+ghost use Rattle.trace.specs.Sinks.{AppendsBeginning, failures_of_write};
+ghost use Rattle.outputs.specs.Written.{sink_failures};
+ghost use Rattle.pieces.specs.Pieces.{IsPiece, first_run, past_run};
+ghost use Rattle.pieces.specs.Names.{head_cell};
+ghost use Rattle.sweep.specs.Judged.{AreAccepted};
+ghost use Rattle.sweep.specs.Runs.{IsAskedFor};
+ghost use Rattle.sweep.specs.Table.{HasCause, tells_revived};
+ghost use Rattle.sweep.specs.Pieces.{piece_header, BeginsPiece, WritesPiece};
+ghost use Rattle.sweep.specs.Resumed.{BeginsRest, WritesRest};
+
+use crate::begun::Begun;
+use crate::chunks::make_runs;
+use crate::gathering::NothingGathered;
+use crate::progress::Progress;
+use crate::revived::tells_revived;
+use crate::values::write_names;
+use base::Fault;
+use cases::Plan;
+use outputs::flush;
+use pieces::{Piece, head_cell};
+use scenario::Workers;
+use std::alloc::Global;
+use std::marker::Sync;
+use std::thread::Threads;
+use toml::Value;
+use trace::{Sink, WriteError, put_all};
+use whole_runs::a_run_exists;
+
+/// Makes the runs of a piece of a sweep, and writes its table: a header, ahead of which stands the piece's name, and a
+/// line for each run, each with what its case keeps of it before it; at the end the table is flushed. `mark` tells which
+/// scenario's text is meant. All else is as in `sweep`.
+pub fn write_piece<S: Sink, P: Progress>(
+    rt: &(impl Threads + Sync),
+    alloc: Global,
+    plan: &Plan,
+    piece: Piece,
+    mark: &str,
+    document: &Value,
+    workers: Workers,
+    progress: &mut P,
+    table: &mut S,
+) -> Result<(), Fault>
+    requires asked { IsAskedFor plan.now }
+    requires judged { AreAccepted (view document.now) plan.now }
+    requires piece { IsPiece piece }
+    requires countable { S.failed table.old < 2 ^ 63 }
+    ensures whole { OnOk result (WritesPiece (view document.now) plan.now mark.now piece (S.held table.old) (S.held table.new)) }
+    ensures part { OnErr result (BeginsPiece (view document.now) plan.now mark.now piece (S.held table.old) (S.held table.new)) }
+
+    // No fault comes without its cause.
+    ensures causes { IfErr result (HasCause (view document.now) plan.now) }
+    ensures failures { S.failed table.new ≡ S.failed table.old + sink_failures result }
+{
+    let nothing = Begun {
+        lines: b"",
+        runs: 0,
+    };
+    write_rest(
+        rt, alloc, plan, piece, mark, nothing, document, workers, progress, table,
+    )
+}
+
+/// Makes the runs of a piece that aren't made yet, and writes its table: the first line, the lines that were made before,
+/// and those of the runs that are left; at the end the table is flushed. All else is as in `write_piece`.
+pub fn write_rest<S: Sink, P: Progress>(
+    rt: &(impl Threads + Sync),
+    alloc: Global,
+    plan: &Plan,
+    piece: Piece,
+    mark: &str,
+    begun: Begun<'_>,
+    document: &Value,
+    workers: Workers,
+    progress: &mut P,
+    table: &mut S,
+) -> Result<(), Fault>
+    requires asked { IsAskedFor plan.now }
+    requires judged { AreAccepted (view document.now) plan.now }
+    requires piece { IsPiece piece }
+    requires few { first_run piece (run_count plan.now) + begun.runs ≤ past_run piece (run_count plan.now) }
+    requires countable { S.failed table.old < 2 ^ 63 }
+    ensures whole { OnOk result (WritesRest (view document.now) plan.now mark.now piece begun.entry.lines.now begun.entry.runs (S.held table.old) (S.held table.new)) }
+    ensures part { OnErr result (BeginsRest (view document.now) plan.now mark.now piece begun.entry.lines.now begun.entry.runs (S.held table.old) (S.held table.new)) }
+    ensures causes { IfErr result (HasCause (view document.now) plan.now) }
+    ensures failures { S.failed table.new ≡ S.failed table.old + sink_failures result }
+{
+    let runs = plan.runs();
+    let from = piece.first(runs) + begun.runs;
+    a_run_exists();
+    write_begun(
+        alloc,
+        plan,
+        piece,
+        mark,
+        begun.lines,
+        tells_revived(document),
+        table,
+    )?;
+    make_runs(
+        rt,
+        alloc,
+        plan,
+        document,
+        workers,
+        true,
+        from,
+        piece.past(runs),
+        progress,
+        &mut NothingGathered,
+        table,
+    )?;
+    flush(table)?;
+    Ok(())
+}
+
+/// Puts the first line of a piece, and lines that were made before.
+fn write_begun<S: Sink>(
+    alloc: Global,
+    plan: &Plan,
+    piece: Piece,
+    mark: &str,
+    lines: &[u8],
+    revived: bool,
+    table: &mut S,
+) -> Result<(), WriteError>
+    requires { S.failed table.old < 2 ^ 63 }
+    ensures whole { OnOk result (Appends (S.held table.old) (S.held table.new) (piece_header revived mark.now plan.now piece ++ lines.now)) }
+    ensures part { OnErr result (AppendsBeginning (S.held table.old) (S.held table.new) (piece_header revived mark.now plan.now piece ++ lines.now)) }
+    ensures failures { S.failed table.new ≡ S.failed table.old + failures_of_write result }
+{
+    write_front(alloc, plan, piece, mark, revived, table)?;
+    put_all(lines, table)?;
+    Ok(())
+}
+
+/// Puts the first line of a piece: its name, and the header of the sweep's table. Whether that tells of members that
+/// were taken for alive again is given.
+pub fn write_front<S: Sink>(
+    alloc: Global,
+    plan: &Plan,
+    piece: Piece,
+    mark: &str,
+    revived: bool,
+    table: &mut S,
+) -> Result<(), WriteError>
+    requires { S.failed table.old < 2 ^ 63 }
+    ensures whole { OnOk result (Appends (S.held table.old) (S.held table.new) (piece_header revived mark.now plan.now piece)) }
+    ensures part { OnErr result (AppendsBeginning (S.held table.old) (S.held table.new) (piece_header revived mark.now plan.now piece)) }
+    ensures failures { S.failed table.new ≡ S.failed table.old + failures_of_write result }
+{
+    write_head(alloc, plan, piece, mark, table)?;
+    write_names(alloc, plan.settings(), revived, table)
+}
+
+/// Puts what stands ahead of a piece's header.
+fn write_head<S: Sink>(
+    alloc: Global,
+    plan: &Plan,
+    piece: Piece,
+    mark: &str,
+    table: &mut S,
+) -> Result<(), WriteError>
+    requires { S.failed table.old < 2 ^ 63 }
+    ensures whole { OnOk result (Appends (S.held table.old) (S.held table.new) (head_cell mark.now plan.now piece)) }
+    ensures part { OnErr result (AppendsBeginning (S.held table.old) (S.held table.new) (head_cell mark.now plan.now piece)) }
+    ensures failures { S.failed table.new ≡ S.failed table.old + failures_of_write result }
+{
+    let head = head_cell(alloc, mark, plan, piece)?;
+    put_all(head.as_bytes(), table)?;
+    Ok(())
+}

@@ -1,0 +1,153 @@
+#!/usr/bin/env python3
+"""Runs the commands that README.md, docs/GUIDE.md and docs/MEMBERLIST.md show, and compares the outputs shown with them.
+
+    tests/documents.py [--program FILE]
+
+The program is the one that ./swimsim has built, or FILE. Each document has a folder of its own with the examples, in which
+its blocks of commands run from the first to the last, each to status 0. A block without a language is lines, in their
+order, of what was last printed or written: by the command in the text right before it, else by the run of the example that
+the section's heading names, else by the block of commands above. One that begins with `error[` is all that `explain` tells
+of the text of tests/explain/refused that it names. Blocks of other commands, as ./test, are left out; those that want a
+command which isn't there are skipped, and told. The last line is `N passed, M failed`, and the status is 1 where M is over
+0. It takes seconds.
+"""
+
+import argparse
+import os
+import re
+import shutil
+import subprocess
+import sys
+import tempfile
+from collections import namedtuple
+from pathlib import Path
+
+TOP = Path(__file__).resolve().parent.parent
+BUILT = TOP / 'crates' / 'swimsim' / 'out' / 'swimsim'
+DOCUMENTS = ('README.md', 'docs/GUIDE.md', 'docs/MEMBERLIST.md')
+REFUSED = TOP / 'tests' / 'explain' / 'refused'
+# commands that build, test or install are no business of this script
+OTHERS = re.compile(r'^\s*(?:\./test|tools/|\./swimsim --from-source)', re.M)
+
+# a block of a document: the line at which it begins, its language, its text, the lines right before it, and the example
+# that the heading of its section names, if it does
+Block = namedtuple('Block', 'line language text before example')
+
+
+class Wrong(Exception):
+    """What is wrong with a block."""
+
+
+class Skipped(Exception):
+    """Why a block can't be run here."""
+
+
+def blocks_of(document):
+    """The fenced blocks of a document, in their order."""
+    lines = document.read_text().splitlines()
+    fences = [number for number, line in enumerate(lines) if line.startswith('```')]
+    for begin, end in zip(fences[::2], fences[1::2]):
+        before = ' '.join(lines[max(0, begin - 4):begin])
+        headings = [line for line in lines[:begin] if line.startswith('##')]
+        example = re.search(r'`(examples/[\w-]+\.toml)`', headings[-1]) if headings else None
+        yield Block(begin + 1, lines[begin][3:], '\n'.join(lines[begin + 1:end]) + '\n', before, example and example[1])
+
+
+class Reader:
+    """Somebody who runs a document's blocks, one after the other, in a folder."""
+
+    def __init__(self, program, folder):
+        self.folder = Path(folder)
+        shutil.copytree(TOP / 'examples', self.folder / 'examples')
+        (self.folder / 'swimsim').symlink_to(program)
+        self.commands = subprocess.run([program, '--help'], capture_output=True, text=True).stdout
+        # what the last command printed, and each text that is there; of which example the run in t.csv and r.txt is
+        self.told, self.example = [''], None
+
+    def run(self, words):
+        """Runs a text of commands, and keeps what they print and leave."""
+        self.told = ['']
+        for command in re.findall(r'swimsim (\w+)', words):
+            if not re.search(rf'^  {command} ', self.commands, re.M):
+                raise Skipped(f'the program has no command {command}')
+        for tool in ('sqlite3',):
+            if re.search(rf'^{tool} ', words, re.M) and not shutil.which(tool):
+                raise Skipped(f'no {tool} here')
+        environment = os.environ | {'PATH': f'{self.folder}:{os.environ["PATH"]}'}
+        ran = subprocess.run(['bash', '-ec', words], cwd=self.folder, env=environment, capture_output=True, text=True)
+        if ran.returncode != 0:
+            raise Wrong(f'ends with status {ran.returncode}: {ran.stderr.strip()}')
+        reports = [path.read_text() for path in sorted(self.folder.glob('*.txt'))]
+        self.told = [ran.stdout, *reports]
+
+    def explain(self, text):
+        """What is told of a refused text of tests/."""
+        name = re.search(r'--> ([\w./-]+):\d', text)[1]
+        shutil.copy(REFUSED / name, self.folder)
+        ran = subprocess.run(['./swimsim', 'explain', name], cwd=self.folder, capture_output=True, text=True)
+        if ran.stdout != text:
+            raise Wrong(f'`explain {name}` tells\n{ran.stdout}')
+
+    def compare(self, block):
+        """Whether what is shown is what was told."""
+        if command := re.search(r'`(\./swimsim [^`]+)`[^`]*$', block.before):
+            self.run(command[1])
+        strangers = [stranger_in(block.text, told) for told in self.told]
+        if None not in strangers:
+            raise Wrong(f'not told, or not there: {max(strangers, key=block.text.index)}')
+
+    def read(self, block):
+        """Runs a block of commands, or compares one of an output."""
+        if block.example not in (None, self.example):
+            self.run(f'./swimsim run {block.example} --trace t.csv --report r.txt')
+            self.example = block.example
+        if block.language == 'sh':
+            self.run(block.text)
+        elif block.text.startswith('error['):
+            self.explain(block.text)
+        else:
+            self.compare(block)
+
+
+def stranger_in(shown, told):
+    """The first line that is shown and doesn't stand in what was told, behind the one before it; None without one."""
+    lines = iter(told.splitlines())
+    return next((line for line in shown.splitlines() if line not in lines), None)
+
+
+def read_document(name, program):
+    """How many blocks of a document are right, what is wrong, and what was skipped."""
+    passed, failures, skipped = 0, [], []
+    with tempfile.TemporaryDirectory() as folder:
+        reader = Reader(program, folder)
+        for block in blocks_of(TOP / name):
+            if OTHERS.search(block.text):
+                continue
+            try:
+                reader.read(block)
+                passed += 1
+            except Wrong as wrong:
+                failures.append(f'{name}:{block.line}: {wrong}')
+            except Skipped as why:
+                skipped.append(f'{name}:{block.line}: skipped: {why}')
+    return passed, failures, skipped
+
+
+def main():
+    """Reads the documents, and tells what is wrong in them."""
+    parser = argparse.ArgumentParser(description=__doc__, formatter_class=argparse.RawDescriptionHelpFormatter)
+    parser.add_argument('--program', default=str(BUILT), help='default: the one that ./swimsim builds')
+    program = Path(parser.parse_args().program).resolve()
+    if not program.exists():
+        sys.exit(f'documents: no program {program}')
+    results = [read_document(name, program) for name in DOCUMENTS]
+    failures = [line for _, lines, _ in results for line in lines]
+    skipped = [line for _, _, lines in results for line in lines]
+    print(*failures, *skipped, sep='\n', end='\n' if failures or skipped else '')
+    told = f'{sum(passed for passed, _, _ in results)} passed, {len(failures)} failed'
+    print(told + (f', {len(skipped)} skipped' if skipped else ''))
+    return 1 if failures else 0
+
+
+if __name__ == '__main__':
+    sys.exit(main())

@@ -1,0 +1,71 @@
+"""Sweeps of tests/sweeps in pieces: each piece as the model gives it, and all of them joined as the whole."""
+
+import json
+import random
+
+from model_sweeps import cases_text, piece_of, swept, table_of
+from program import Case, DATA, expect, expect_ran
+from scenarios import document_of
+from sweeps import FOLDER, seeds_of, settings_of
+from worked import text_of
+
+# into how many pieces each sweep is cut; of some there are more than runs
+COUNTS = (1, 2, 3, 7, 61)
+
+
+def words_of(sweep):
+    """The options of a sweep, and the words by which a piece names it."""
+    seeds = ['--seeds', sweep['seeds']] if 'seeds' in sweep else []
+    settings = [word for setting in sweep['set'] for word in ('--set', setting)]
+    return [*seeds, *settings], [sweep.get('seeds', '-'), *sweep['set']]
+
+
+def check(program, sweep, count):
+    """Makes all pieces of a sweep, joins them in some order, and compares both."""
+    text = text_of(DATA / sweep['base']).encode()
+    options, words = words_of(sweep)
+    settings = settings_of(sweep['set'])
+    _, cases = swept(document_of(text), settings, seeds_of(sweep.get('seeds')))
+    program.keep('s.toml', text)
+    names = [f'piece-{number}.csv' for number in range(1, count + 1)]
+    for number, name in enumerate(names, 1):
+        ran = program.call(['sweep', 's.toml', '--table', name, '--shard', f'{number}/{count}', *options])
+        expect_ran(ran, 0, b'', b'', f'piece {number}')
+        expect(name, program.held(name), piece_of(text, settings, words, cases, number, count).encode())
+    random.Random(count).shuffle(names)
+    ran = program.call(['join', *names, '--table', 't.csv'])
+    expect_ran(ran, 0, cases_text(settings, cases).encode(), b'', 'join')
+    expect('table', program.held('t.csv'), table_of(settings, cases).encode())
+
+
+def check_refused(program, sweep):
+    """Joins what isn't the pieces of one sweep: each is told by its line, and the table stays as it was."""
+    text = text_of(DATA / sweep['base'])
+    options, _ = words_of(sweep)
+    program.keep('s.toml', text)
+    program.keep('t.csv', 'an older table\n')
+    for number in (1, 2):
+        program.call(['sweep', 's.toml', '--table', f'{number}.csv', '--shard', f'{number}/2', *options])
+    program.call(['sweep', 's.toml', '--table', 'other.csv', '--shard', '2/2', '--set', 'end=77', *options])
+    program.keep('torn.csv', program.held('2.csv')[:-1])
+    program.keep('short.csv', b''.join(program.held('2.csv').splitlines(keepends=True)[:-1]))
+    for names, line in [
+        (['1.csv'], 'piece 2 missing'),
+        (['2.csv', '2.csv'], 'piece 2.csv twice'),
+        (['1.csv', 'torn.csv'], 'piece torn.csv torn'),
+        (['1.csv', 'short.csv'], 'piece short.csv torn'),
+        (['1.csv', 'other.csv'], 'piece other.csv of another sweep'),
+        (['1.csv', 's.toml'], 'no piece s.toml'),
+    ]:
+        ran = program.call(['join', *names, '--table', 't.csv'])
+        expect_ran(ran, 3, b'', f'swimsim: {line}\n'.encode(), ' '.join(names))
+        expect('table', program.held('t.csv'), b'an older table\n')
+
+
+def cases():
+    """Each sweep of the list, in each number of pieces."""
+    listed = json.loads((FOLDER / 'sweeps.json').read_text())
+    for sweep in listed:
+        for count in COUNTS:
+            yield Case(f'pieces: {sweep["about"]}, {count}', check, (sweep, count))
+    yield Case('pieces: what join refuses', check_refused, (listed[0],))
