@@ -1,5 +1,5 @@
 #!/usr/bin/env python3
-"""Works out from the rules of docs/FORMAT.md and docs/PROTOCOL.md what `swimsim explain` tells of accepted scenarios.
+"""Works out from the rules of docs/EXPLAIN.md and docs/PROTOCOL.md what `swimsim explain` tells of accepted scenarios.
 
     tests/meaning_expected.py
 
@@ -17,11 +17,12 @@ ROOM = TOP / 'tests' / 'meaning'
 THOUSANDTHS = (0, 301, 477, 602, 699, 778, 845, 903, 954, 1000)
 GOSSIP = ('interval', 'nodes', 'dead', 'push')
 DEFAULTS = {
-    'swim': {'helpers': 3, 'carry': 6, 'lambda': 3, 'spread': 1},
+    'swim': {'helpers': 3, 'carry': 6, 'lambda': 3, 'spread': 1, 'fallback': False},
     'suspicion': {'alpha': 5, 'beta': 6},
     'lifeguard': {'probe': True, 'suspicion': True, 'buddy': True, 'ceiling': 8, 'confirmations': 3, 'nack_percent': 80},
     'link': {'jitter': 0, 'loss': 0},
     'gossip': {'nodes': 3, 'dead': 0, 'push': 0},
+    'stream': {'connect': 1000, 'again': 200},
 }
 SAID = {
     'late-answer': ('an answer can come after the timeout though nobody is slow',
@@ -83,8 +84,8 @@ class Cluster:
         self.is_third = said['version'] == 3
         self.logarithm = fine_logarithm if self.is_third else coarse_logarithm
         self.gossip = {**DEFAULTS['gossip'], **said['gossip']} if 'gossip' in said else None
-        self.swim, self.suspicion, self.lifeguard, self.link = (
-            {**DEFAULTS[table], **said.get(table, {})} for table in ('swim', 'suspicion', 'lifeguard', 'link'))
+        self.swim, self.suspicion, self.lifeguard, self.link, self.stream = (
+            {**DEFAULTS[table], **said.get(table, {})} for table in ('swim', 'suspicion', 'lifeguard', 'link', 'stream'))
         self.groups = said['group']
         self.paths = [{**self.link, **path} for path in said.get('path', [])]
         self.slows, self.crashes, self.leaves, self.cuts, self.pauses = (
@@ -307,6 +308,9 @@ def lines(c, file):
     yield f'news messages {limit} all {limit * len(c.members)} carry {c.swim["carry"]}'
     if c.gossip:
         yield ' '.join(['gossip', *(f'{key} {c.gossip[key]}' for key in GOSSIP)])
+    if c.is_third:
+        yield f'fallback {"on" if c.swim["fallback"] else "off"}'
+        yield f'stream connect {c.stream["connect"]} again {c.stream["again"]}'
     yield from script(c)
     period, second, messages, rows, size = c.quiet()
     yield f'quiet period {period} second {second}'
@@ -341,6 +345,7 @@ def figures(c):
             'suspicions': [c.lasts(accusers) for accusers in range(c.further() + 1)],
             'health': [{'period': period, 'timeout': timeout} for period, timeout in c.paces()],
             'nack_delay': c.nack(),
+            **({'fallback': c.swim['fallback'], 'stream': some(c.stream, 'connect', 'again')} if c.is_third else {}),
         },
         'news': {'limit': c.limit(), 'carry': c.swim['carry'], **({'gossip': some(c.gossip, *GOSSIP)} if c.gossip else {})},
         'script': {

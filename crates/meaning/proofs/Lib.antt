@@ -4,3 +4,4 @@ pub mod LinksBy
 pub mod More
 pub mod Names
 pub mod Grouped
+pub mod Doublings

@@ -1,6 +1,7 @@
 ghost use Rattle.std.specs.Prelude.{◌≡◌, ◌≤◌, ◌^◌, ◌*◌, count_by, nat_lt};
 ghost use Rattle.scenario.specs.Setup.{member_count};
-ghost use Rattle.meaning.specs.Pushes.{push_period, pushes_in, doublings_of};
+ghost use Rattle.member.specs.Step.{doublings_to};
+ghost use Rattle.meaning.specs.Pushes.{push_period, pushes_in};
 
 use scenario::Scenario;
 
@@ -11,7 +12,7 @@ pub fn push_period(scenario: &Scenario) -> u64
     ensures short { result ≤ 2 ^ 24 * 8 }
 {
     match scenario.gossip() {
-        Some(gossip) => gossip.push * (1 + doublings_of(scenario.members())),
+        Some(gossip) => gossip.push * (1 + doublings_to(scenario.members())),
         None => 0,
     }
 }
@@ -26,8 +27,10 @@ pub(crate) fn pushes_in(scenario: &Scenario, ticks: u64) -> u64
 }
 
 /// How often 32 is doubled until it isn't below a number of members.
-fn doublings_of(members: usize) -> u64
-    ensures value { result ≡ doublings_of members }
+#[tactic(auto, using(crate::proofs::Doublings::sizes_below))]
+fn doublings_to(members: usize) -> u64
+    requires { members ≤ 4096 }
+    ensures value { result ≡ doublings_to members }
     ensures few { result ≤ 7 }
 {
     below(&[32, 64, 128, 256, 512, 1024, 2048], members) as u64

@@ -1,12 +1,16 @@
 -- What a scenario means, as JSON. A member of an object stands behind those that were put before it; where it is in the text goes by its key.
-use Rattle.std.specs.Prelude.{ℕ, ◌+◌, nat_eq, if◌then◌else◌, List, [], ◌∷◌, codes, flat_map, Option}
+use Rattle.std.specs.Prelude.{ℕ, Bool, ◌+◌, nat_eq, if◌then◌else◌, List, [], ◌∷◌, codes, flat_map, Option}
 use Rattle.std.specs.List.{range_with_len}
 use Rattle.std.specs.Option.{option_map_or}
+use Rattle.base.specs.declared.profile.Profile.{Profile}
+use Rattle.base.specs.declared.profile.Profile.TheVariants.{Papers, Memberlist}
+use Rattle.scenario.specs.Profile.{profile_of}
 use Rattle.scenario.specs.Setup.{Setup, member_count, name_of, group_at, start_of, contact_of}
 use Rattle.scenario.specs.declared.settings.Link.{Link}
 use Rattle.scenario.specs.declared.settings.Path.{Path}
 use Rattle.scenario.specs.declared.settings.Gossip.{Gossip}
-use Rattle.serde_json.specs.Data.{Data, null, number, unsigned, string, array, object, put, no_members}
+use Rattle.scenario.specs.declared.settings.Stream.{Stream}
+use Rattle.serde_json.specs.Data.{Data, null, boolean, number, unsigned, string, array, object, put, no_members}
 use Rattle.serde_json.specs.View.{items_of}
 use Rattle.suspicion.specs.Times.{most_accusers, min_timeout, timeout}
 use Rattle.suspicion.specs.Settings.{terms_of}
@@ -80,11 +84,29 @@ pace_item s h = pace_data s h ∷ []
 abbrev pub health_data : Setup → Data
 health_data s = list_of (flat_map (pace_item s) (range_with_len 0 (worst_health s + 1)))
 
+-- how a stream sends again what was lost
+unfoldable pub stream_data : Stream → Data
+stream_data t = object (put (codes "again") (whole t.again) (put (codes "connect") (whole t.connect) no_members))
+
+-- these times
+unfoldable pub times_with : ℕ → Data → Data → ℕ → Data
+times_with least suspicions health nack =
+    object (put (codes "nack_delay") (whole nack) (put (codes "health") health (put (codes "suspicions") suspicions (put (codes "least_suspicion") (whole least) no_members))))
+
+-- the same, whether members call, and how a stream sends again
+unfoldable pub called_with : ℕ → Data → Data → ℕ → Bool → Data → Data
+called_with least suspicions health nack fallback stream =
+    object (put (codes "stream") stream (put (codes "fallback") (boolean fallback) (put (codes "nack_delay") (whole nack) (put (codes "health") health
+    (put (codes "suspicions") suspicions (put (codes "least_suspicion") (whole least) no_members))))))
+
+-- members call by memberlist's rules alone
+abbrev pub times_by : Profile → ℕ → ℕ → Setup → Data
+times_by Papers least nack s = times_with least (suspicions_data s) (health_data s) nack
+times_by Memberlist least nack s = called_with least (suspicions_data s) (health_data s) nack s.swim.fallback (stream_data s.stream)
+
 -- the times of the protocol among all members
-unfoldable pub times_data : Setup → Data
-times_data s =
-    object (put (codes "nack_delay") (whole (nack_delay_of s.lifeguard.nack_percent s.swim.timeout)) (put (codes "health") (health_data s)
-    (put (codes "suspicions") (suspicions_data s) (put (codes "least_suspicion") (whole (min_timeout (terms_of s) (member_count s))) no_members))))
+abbrev pub times_data : Setup → Data
+times_data s = times_by (profile_of s) (min_timeout (terms_of s) (member_count s)) (nack_delay_of s.lifeguard.nack_percent s.swim.timeout) s
 
 -- on how many messages of a member its news rides at the most, and how many ride on one
 unfoldable pub ridden_data : ℕ → ℕ → Data

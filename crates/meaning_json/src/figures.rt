@@ -3,16 +3,16 @@ ghost use Rattle.serde_json.specs.View.{view};
 ghost use Rattle.scenario.specs.Setup.{member_count};
 ghost use Rattle.meaning.specs.Each.{made_at};
 ghost use Rattle.meaning.specs.Groups.{groups_of};
-ghost use Rattle.meaning_json.specs.Figures.{whole_or_null, link_data, contact_data, group_data, group_item, groups_data, path_data, path_item, paths_data, suspicion_item, suspicions_data, pace_data, pace_item, health_data, times_data, news_data, ridden_data, gossip_data, gossiped_data, quiet_data};
+ghost use Rattle.meaning_json.specs.Figures.{whole_or_null, link_data, contact_data, group_data, group_item, groups_data, path_data, path_item, paths_data, suspicion_item, suspicions_data, pace_data, pace_item, health_data, times_data, times_with, called_with, stream_data, news_data, ridden_data, gossip_data, gossiped_data, quiet_data};
 
 use crate::lists::{list_of, push_value};
-use base::MemberId;
+use base::{MemberId, Profile};
 use meaning::{
     cost_of_quiet, first_of, group_name, is_hidden, item_at, least_suspicion, member_name,
     message_limit, most_accusers, nack_delay, pace_with, suspicion_time, worst_health,
 };
 use meaning_text::{name_of_group, size_of_group};
-use scenario::{Gossip, Link, Path, Scenario};
+use scenario::{Gossip, Link, Path, Scenario, Stream};
 use serde_json::{Value, json};
 use std::alloc::{AllocError, Global};
 
@@ -166,7 +166,6 @@ fn path_value(
 }
 
 /// The times of the protocol among all members.
-#[tactic(auto, unfolding(crate::specs::Figures::times_data))]
 pub(crate) fn times_value(alloc: Global, scenario: &Scenario) -> Result<Value, AllocError>
     ensures { IfOk result (λ v. view v ≡ times_data scenario.now) }
 {
@@ -174,9 +173,57 @@ pub(crate) fn times_value(alloc: Global, scenario: &Scenario) -> Result<Value, A
     let suspicions = suspicions_value(alloc, scenario)?;
     let health = health_value(alloc, scenario)?;
     let nack = nack_delay(scenario);
+    match scenario.profile() {
+        Profile::Papers => times_with(alloc, least, suspicions, health, nack),
+        Profile::Memberlist => {
+            let fallback = scenario.swim().fallback;
+            let stream = stream_value(alloc, scenario.stream())?;
+            called_with(alloc, least, suspicions, health, nack, fallback, stream)
+        }
+    }
+}
+
+/// These times.
+#[tactic(auto, unfolding(crate::specs::Figures::times_with))]
+fn times_with(
+    alloc: Global,
+    least: u64,
+    suspicions: Value,
+    health: Value,
+    nack: u64,
+) -> Result<Value, AllocError>
+    ensures { IfOk result (λ v. view v ≡ times_with least (view suspicions) (view health) nack) }
+{
     json!(in alloc; {
         "least_suspicion": least, "suspicions": suspicions, "health": health, "nack_delay": nack
     })
+}
+
+/// The same, whether members call, and how a stream sends again.
+#[tactic(auto, unfolding(crate::specs::Figures::called_with))]
+fn called_with(
+    alloc: Global,
+    least: u64,
+    suspicions: Value,
+    health: Value,
+    nack: u64,
+    fallback: bool,
+    stream: Value,
+) -> Result<Value, AllocError>
+    ensures { IfOk result (λ v. view v ≡ called_with least (view suspicions) (view health) nack fallback (view stream)) }
+{
+    json!(in alloc; {
+        "least_suspicion": least, "suspicions": suspicions, "health": health, "nack_delay": nack,
+        "fallback": fallback, "stream": stream
+    })
+}
+
+/// How a stream sends again what was lost.
+#[tactic(auto, unfolding(crate::specs::Figures::stream_data))]
+fn stream_value(alloc: Global, stream: Stream) -> Result<Value, AllocError>
+    ensures { IfOk result (λ v. view v ≡ stream_data stream) }
+{
+    json!(in alloc; {"connect": stream.connect, "again": stream.again})
 }
 
 /// How long a suspicion lasts, by the number of further accusers.

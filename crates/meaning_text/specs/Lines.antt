@@ -1,7 +1,10 @@
 -- What a scenario means, in lines.
-use Rattle.std.specs.Prelude.{ℕ, ◌+◌, ◌*◌, nat_eq, nat_le, if◌then◌else◌, List, [], ◌∷◌, ◌++◌, codes, decimal, flat_map, Option, Some, None}
+use Rattle.std.specs.Prelude.{ℕ, Bool, ◌+◌, ◌*◌, nat_eq, nat_le, if◌then◌else◌, List, [], ◌∷◌, ◌++◌, codes, decimal, flat_map, Option, Some, None}
 use Rattle.std.specs.List.{range_with_len}
 use Rattle.std.specs.Option.{option_map_or}
+use Rattle.base.specs.declared.profile.Profile.{Profile}
+use Rattle.base.specs.declared.profile.Profile.TheVariants.{Papers, Memberlist}
+use Rattle.scenario.specs.Profile.{profile_of}
 use Rattle.scenario.specs.Setup.{Setup, member_count, name_of, group_at, start_of, contact_of, crash_of}
 use Rattle.scenario.specs.declared.settings.Link.{Link}
 use Rattle.scenario.specs.declared.settings.Path.{Path}
@@ -9,6 +12,7 @@ use Rattle.scenario.specs.declared.settings.Slow.{Slow}
 use Rattle.scenario.specs.declared.settings.Leave.{Leave}
 use Rattle.scenario.specs.declared.settings.Cut.{Cut}
 use Rattle.scenario.specs.declared.settings.Gossip.{Gossip}
+use Rattle.scenario.specs.declared.settings.Stream.{Stream}
 use Rattle.scenario.specs.declared.settings.Pause.{Pause}
 use Rattle.suspicion.specs.Times.{most_accusers, min_timeout, timeout}
 use Rattle.suspicion.specs.Settings.{terms_of}
@@ -110,6 +114,22 @@ gossip_text g =
 abbrev pub gossip_line : Setup → List ℕ
 gossip_line s = option_map_or gossip_text s.gossip []
 
+-- whether a ping that goes unanswered is followed by a call
+unfoldable pub fallback_line : Bool → List ℕ
+fallback_line is_on = line (codes "fallback" ∷ (if is_on then codes "on" else codes "off") ∷ [])
+
+-- how a stream sends again what was lost
+unfoldable pub stream_line : Stream → List ℕ
+stream_line t = line (codes "stream" ∷ codes "connect" ∷ decimal t.connect ∷ codes "again" ∷ decimal t.again ∷ [])
+
+-- members call by memberlist's rules alone
+abbrev pub call_lines_by : Profile → Setup → List ℕ
+call_lines_by Papers s = []
+call_lines_by Memberlist s = fallback_line s.swim.fallback ++ stream_line s.stream
+
+abbrev pub call_lines : Setup → List ℕ
+call_lines s = call_lines_by (profile_of s) s
+
 -- who goes and when
 unfoldable pub departure_text : Setup → List ℕ → ℕ → ℕ → List ℕ
 departure_text s word m at = line (word ∷ name_of s m ∷ decimal at ∷ [])
@@ -169,7 +189,7 @@ cluster_lines s window trip = member_lines s ++ link_line s ++ path_lines s ++ t
 
 -- the times of the protocol among all members
 unfoldable pub time_lines : Setup → List ℕ
-time_lines s = suspicion_line s ++ accusers_lines s ++ health_lines s ++ nack_line s ++ news_line s ++ gossip_line s
+time_lines s = suspicion_line s ++ accusers_lines s ++ health_lines s ++ nack_line s ++ news_line s ++ gossip_line s ++ call_lines s
 
 -- all of them, but for the warnings
 unfoldable pub figure_lines : Setup → Option ℕ → ℕ → List ℕ

@@ -3,6 +3,7 @@ ghost use Rattle.std.specs.String.{string_bytes};
 ghost use Rattle.meaning.specs.Groups.{groups_of};
 ghost use Rattle.meaning_text.specs.Lines.{figure_lines, cluster_lines, time_lines, quiet_lines, rate_line, cost_line};
 
+use crate::calls::push_calls;
 use crate::groups::push_members;
 use crate::paths::{push_link, push_paths, push_trips};
 use crate::script::push_script;
@@ -57,7 +58,8 @@ fn push_times(text: &mut String, scenario: &Scenario) -> Result<(), AllocError>
     push_health(text, scenario)?;
     push_nack(text, scenario)?;
     push_news(text, scenario)?;
-    push_gossip(text, scenario)
+    push_gossip(text, scenario)?;
+    push_calls(text, scenario)
 }
 
 /// Appends what a quiet run costs.

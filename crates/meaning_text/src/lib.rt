@@ -1,6 +1,7 @@
 //! What a scenario means, in lines: its figures, what of its script happens, and what it is warned of.
 #![tactic(auto)]
 
+mod calls;
 mod figures;
 mod groups;
 mod numbers;
