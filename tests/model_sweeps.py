@@ -1,6 +1,6 @@
 """Sweeps, for tests/model.py: the table of the runs and the lines of the cases.
 
-Written from docs/FORMAT.md ("A sweep") alone.
+Written from docs/SWEEPS.md alone.
 """
 
 import copy
@@ -32,6 +32,12 @@ MESSAGES = model_text.messages_of(NEWEST)
 def with_value(document, key, value):
     """The document with this value in the place of the key's, or added; a table that isn't there is made."""
     document = copy.deepcopy(document)
+    *place, name = key.split('.')
+    if len(place) > 1:
+        for one in document[place[0]]:
+            if [one[part] for part in ('name', 'member', 'from', 'to') if isinstance(one.get(part), str)] == place[1:]:
+                one[name] = value
+        return document
     table, _, name = key.rpartition('.')
     (document.setdefault(table, {}) if table else document)[name] = value
     return document

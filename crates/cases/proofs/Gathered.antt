@@ -1,5 +1,5 @@
 -- Settings that are read one after the other, and why words ask for no others.
-use Rattle.std.proofs.Common.{◌≡◌, ◌≢◌, ◌<◌, ◌+◌, ℕ, zero, suc, Bool, true, false, ◌&&◌, List, [], ◌∷◌, ◌++◌, Option, Some, None, Bor, All, map, take, length, get_or, bytes_eq, sym, ap, subst, refl, ◌∙◌, arith}
+use Rattle.std.proofs.Common.{◌≡◌, ◌≢◌, ◌<◌, ◌+◌, ℕ, zero, suc, Bool, true, false, ◌&&◌, List, [], ◌∷◌, ◌++◌, Option, Some, None, Bor, All, filter, map, take, length, get_or, bytes_eq, sym, ap, subst, refl, ◌∙◌, arith}
 use Rattle.std.specs.List.{list_any}
 use Rattle.std.proofs.lemmas.Bool.{false≢true, false_from_ne_true, or_parts, and_parts}
 use Rattle.std.proofs.lemmas.List.{length-map, length-take, length-append, take-map, map_more, get_or-take, get_or-map, get_or_append_left, get_or_at}
@@ -8,14 +8,17 @@ use Rattle.std.proofs.lemmas.List.Folds.{list_any_none}
 use Rattle.std.proofs.lemmas.List.Quantifiers.{all_pairs_push}
 use Rattle.schema.specs.Schema.{spelling_of}
 use Rattle.schema.specs.declared.schema.FormatKey.{FormatKey}
-use Rattle.cases.specs.Keys.{key_name, is_same, are_same_tables}
+use Rattle.cases.specs.Items.{is_letter}
+use Rattle.cases.specs.Keys.{item_part, key_name, is_same, are_same_items, are_same_tables}
+use Rattle.cases.specs.declared.items.ItemName.{ItemName}
 use Rattle.cases.specs.Sweep.{KeyValues}
 use Rattle.cases.specs.Asked.{setting_text, IsSetting, IsSettingOf, AreSettings, RefusesSetting, RefusesSettings}
 use Rattle.cases.specs.declared.keys.SettingKey.{SettingKey}
 use Rattle.cases.specs.declared.fault.PlanFault.{PlanFault}
 use Rattle.cases.specs.declared.fault.PlanFault.TheVariants.{Words, Memory}
 use Rattle.cases.proofs.Names.{bytes_eq_true, bytes_eq_same}
-use Rattle.cases.proofs.Written.{same_key, same_setting}
+use Rattle.cases.proofs.Apart.{same_key}
+use Rattle.cases.proofs.Written.{same_setting}
 
 -- ---- keys that are spelt alike
 
@@ -23,20 +26,37 @@ tables_itself : (o : Option FormatKey) → are_same_tables o o ≡ true
 tables_itself None = refl
 tables_itself (Some t) = bytes_eq_same (spelling_of t) (spelling_of t) refl
 
+items_itself : (o : Option ItemName) → are_same_items o o ≡ true
+items_itself None = refl
+items_itself (Some item) = bytes_eq_same item.bytes item.bytes refl
+
 same_itself : (a b : SettingKey) → a ≡ b → is_same a b ≡ true
 same_itself a b same =
-    subst (λ k. is_same a k ≡ true) same (ap (λ v. v && are_same_tables a.table a.table) (bytes_eq_same (spelling_of a.key) (spelling_of a.key) refl) ∙ tables_itself a.table)
+    subst (λ k. is_same a k ≡ true) same
+    (ap (λ v. (v && are_same_tables a.table a.table) && are_same_items a.item a.item) (bytes_eq_same (spelling_of a.key) (spelling_of a.key) refl)
+    ∙ ap (λ v. v && are_same_items a.item a.item) (tables_itself a.table) ∙ items_itself a.item)
 
-names_by : (s t : Option FormatKey) (x y : FormatKey) → are_same_tables s t ≡ true → spelling_of x ≡ spelling_of y → key_name (record { table = s; key = x }) ≡ key_name (record { table = t; key = y })
-names_by None None x y alike same = same
-names_by None (Some t) x y alike same = absurd (false≢true alike)
-names_by (Some s) None x y alike same = absurd (false≢true alike)
-names_by (Some s) (Some t) x y alike same = ap (λ table. table ++ 46 ∷ spelling_of x) (bytes_eq_true (spelling_of s) (spelling_of t) alike) ∙ ap (λ key. spelling_of t ++ 46 ∷ key) same
+-- items of one name
+items_by : (a b : Option ItemName) → are_same_items a b ≡ true → item_part a ≡ item_part b
+items_by None None alike = refl
+items_by None (Some b) alike = absurd (false≢true alike)
+items_by (Some a) None alike = absurd (false≢true alike)
+items_by (Some a) (Some b) alike = ap (filter is_letter) (bytes_eq_true a.bytes b.bytes alike)
+
+names_by : (s t : Option FormatKey) (a b : Option ItemName) (x y : FormatKey) → are_same_tables s t ≡ true → item_part a ≡ item_part b → spelling_of x ≡ spelling_of y
+    → key_name (record { table = s; item = a; key = x }) ≡ key_name (record { table = t; item = b; key = y })
+names_by None None a b x y alike items same = same
+names_by None (Some t) a b x y alike items same = absurd (false≢true alike)
+names_by (Some s) None a b x y alike items same = absurd (false≢true alike)
+names_by (Some s) (Some t) a b x y alike items same =
+    let tables : spelling_of s ≡ spelling_of t = bytes_eq_true (spelling_of s) (spelling_of t) alike in
+    (λ i. tables i ++ (items i ++ 46 ∷ same i))
 
 same_names : (a b : SettingKey) → is_same a b ≡ true → key_name a ≡ key_name b
 same_names a b alike =
-    let parts = and_parts (bytes_eq (spelling_of a.key) (spelling_of b.key)) (are_same_tables a.table b.table) alike in
-    names_by a.table b.table a.key b.key parts.1 (bytes_eq_true (spelling_of a.key) (spelling_of b.key) parts.0)
+    let both = and_parts (bytes_eq (spelling_of a.key) (spelling_of b.key) && are_same_tables a.table b.table) (are_same_items a.item b.item) alike in
+    let parts = and_parts (bytes_eq (spelling_of a.key) (spelling_of b.key)) (are_same_tables a.table b.table) both.0 in
+    names_by a.table b.table a.item b.item a.key b.key parts.1 (items_by a.item b.item both.1) (bytes_eq_true (spelling_of a.key) (spelling_of b.key) parts.0)
 
 -- ---- settings of words
 

@@ -1,5 +1,9 @@
 pub mod Names
 pub mod Words
+pub mod Letters
+pub mod Kept
+pub mod Apart
+pub mod Parted
 pub mod Ranges
 pub mod Members
 pub mod Counts
@@ -8,3 +12,5 @@ pub mod Gathered
 pub mod Planning
 pub mod Choices
 pub mod Told
+pub mod Counted
+pub mod Puts

@@ -1,46 +1,28 @@
 -- Settings and the words that they are written as.
 use Rattle.std.proofs.Common.{◌≡◌, ◌<◌, ◌^◌, ◌==◌, ℕ, zero, suc, Bool, true, false, List, [], ◌∷◌, ◌++◌, Option, Some, None, Bor, All, Contains, cond, map, find, length, get_or, decimal, codes, bytes_eq, sym, ap, subst, refl, ◌∙◌, lit<, inl, inr, arith}
-use Rattle.std.specs.List.{join_with_byte, list_any, AllByRecursion}
+use Rattle.std.specs.List.{join_with_byte, list_any}
 use Rattle.std.specs.Option.{MatchOption}
 use Rattle.std.proofs.lemmas.Bool.{cases_Bool, false≢true, or_parts}
 use Rattle.std.proofs.lemmas.List.{length-map}
-use Rattle.std.proofs.lemmas.List.Elements.{All-head, All-tail, All-nil, All-cons, All-map, All-weaker, All-from_recursion, All-contains}
+use Rattle.std.proofs.lemmas.List.Elements.{All-head, All-tail, All-nil, All-cons, All-map, All-weaker}
 use Rattle.std.proofs.lemmas.List.Splits.{join_with_byte-slice_split, length-slice_split}
 use Rattle.std.proofs.lemmas.Str.Pattern.{IsSplitOnceResult, split_after, split_parts}
 use Rattle.std.proofs.lemmas.Fmt.{decimal_injective, decimal_is_IsNumeral}
 use Rattle.std.proofs.lemmas.Str.Parse.{digit_at}
-use Rattle.schema.specs.Schema.{spelling_of, key_rules_of}
 use Rattle.decimals.specs.Items.{list_items}
-use Rattle.cases.specs.Keys.{key_name, settable, key_named, is_named}
+use Rattle.cases.specs.Keys.{key_name, IsKeyNamed}
+use Rattle.cases.proofs.Apart.{same_key}
+use Rattle.cases.proofs.Letters.{name_lacks}
 use Rattle.cases.specs.Values.{value_text, FitsToml, IsValue}
 use Rattle.cases.specs.Sweep.{KeyValues}
 use Rattle.cases.specs.Asked.{setting_text, IsSetting, IsSettingOf, AreValues}
 use Rattle.cases.specs.declared.keys.SettingKey.{SettingKey}
 use Rattle.cases.specs.declared.values.SettingValue.{SettingValue}
 use Rattle.cases.specs.declared.values.SettingValue.TheVariants.{Whole, Switch}
-use Rattle.cases.proofs.Names.{bytes_eq_true, bytes_eq_same}
+use Rattle.cases.proofs.Names.{bytes_eq_same}
 use Rattle.cases.proofs.Words.{Lacks, unlike, decimal_lacks, cut_once, joined_split}
 
 -- ---- keys
-
--- each key that may be set is the one of its name
-named_each : AllByRecursion (λ k. key_named (key_name k) ≡ Some k) settable
-unfolding settable key_named key_rules_of spelling_of
-named_each = (refl, (refl, (refl, (refl, (refl, (refl, (refl, (refl, (refl, (refl, (refl, (refl, (refl, (refl, (refl, (refl, (refl, (refl, (refl, (refl, (refl, (refl, (refl, (refl, (refl, (refl, tt))))))))))))))))))))))))))
-
-pub named_itself : (k : SettingKey) → Contains settable k → key_named (key_name k) ≡ Some k
-named_itself k known = All-contains (λ j. key_named (key_name j) ≡ Some j) settable k (All-from_recursion (λ j. key_named (key_name j) ≡ Some j) settable named_each) known
-
--- keys of one name are one
-pub same_key : (j k : SettingKey) → Contains settable j → Contains settable k → key_name j ≡ key_name k → j ≡ k
-same_key j k known known_too same =
-    let one : Some j ≡ Some k = sym (named_itself j known) ∙ ap key_named same ∙ named_itself k known_too in
-    cc
-
--- no name has an equals sign
-plain_each : AllByRecursion (λ k. list_any (λ byte. byte == 61) (key_name k) ≡ false) settable
-unfolding settable key_rules_of spelling_of
-plain_each = (refl, (refl, (refl, (refl, (refl, (refl, (refl, (refl, (refl, (refl, (refl, (refl, (refl, (refl, (refl, (refl, (refl, (refl, (refl, (refl, (refl, (refl, (refl, (refl, (refl, (refl, tt))))))))))))))))))))))))))
 
 lacks_from_test : (c : ℕ) (xs : List ℕ) → list_any (λ byte. byte == c) xs ≡ false → Lacks c xs
 lacks_from_test c [] none = All-nil (λ x. (x == c) ≡ false)
@@ -48,10 +30,9 @@ lacks_from_test c (x ∷ xs) none =
     let parts = or_parts (x == c) (list_any (λ byte. byte == c) xs) none in
     All-cons (λ y. (y == c) ≡ false) x xs parts.0 (lacks_from_test c xs parts.1)
 
-pub name_lacks : (k : SettingKey) → Contains settable k → Lacks 61 (key_name k)
-name_lacks k known =
-    lacks_from_test 61 (key_name k) (All-contains (λ j. list_any (λ byte. byte == 61) (key_name j) ≡ false) settable k
-    (All-from_recursion (λ j. list_any (λ byte. byte == 61) (key_name j) ≡ false) settable plain_each) known)
+-- no name has an equals sign
+unsigned : (k : SettingKey) → Lacks 61 (key_name k)
+unsigned k = name_lacks 61 refl refl k
 
 -- what is found is there, and passes the test
 pub found : {A : Type 0} (p : A → Bool) (xs : List A) (x : A) → find p xs ≡ Some x → Contains xs x × (p x ≡ true)
@@ -140,7 +121,7 @@ listed s list sound joined =
 pub same_setting : (s t : KeyValues) → IsSetting s → IsSetting t → setting_text s ≡ setting_text t → s ≡ t
 same_setting s t sound sound_too same =
     let parts = cut_once 61 (key_name s.key) (key_name t.key) (join_with_byte 44 (map value_text s.values)) (join_with_byte 44 (map value_text t.values))
-    (name_lacks s.key sound.key) (name_lacks t.key sound_too.key) same in
+    (unsigned s.key) (unsigned t.key) same in
     let one = listed s (join_with_byte 44 (map value_text t.values)) sound parts.1 in
     let other = listed t (join_with_byte 44 (map value_text t.values)) sound_too refl in
     let keys = same_key s.key t.key sound.key sound_too.key parts.0 in
@@ -153,7 +134,7 @@ module _ (word : List ℕ) (s : KeyValues) (is : IsSettingOf word s) where
       → MatchOption parted ⊥ (λ x. (x.0.now ≡ key_name s.key) × (x.1.now ≡ join_with_byte 44 (map value_text s.values)))
   at_sign parted cut =
       split_after 61 word (key_name s.key) (join_with_byte 44 (map value_text s.values)) parted cut (lit< tt) (sym is.written)
-      (unlike 61 (key_name s.key) (name_lacks s.key is.sound.key))
+      (unlike 61 (key_name s.key) (unsigned s.key))
 
   pub unparted : (parted : Option (Bor (List ℕ) × Bor (List ℕ))) → parted ≡ None → IsSplitOnceResult 61 word parted → ⊥
   unparted parted none cut = rw none at (at_sign parted cut)
@@ -162,27 +143,23 @@ module _ (word : List ℕ) (s : KeyValues) (is : IsSettingOf word s) where
     parts : (name.now ≡ key_name s.key) × (list.now ≡ join_with_byte 44 (map value_text s.values))
     parts = rw some at (at_sign parted cut)
 
-    pub unnamed : (r : Option SettingKey) → r ≡ key_named name.now → r ≡ None → ⊥
-    unnamed r is_named none =
-        let one : None ≡ Some s.key = sym none ∙ is_named ∙ ap key_named parts.0 ∙ named_itself s.key is.sound.key in
-        cc
+    pub named_there : IsKeyNamed name.now s.key
+    named_there = record { named = sym parts.0; known = is.sound.key }
 
     pub valued : AreValues (list_items list.now) s.values
     valued = listed s list.now is.sound (sym parts.1)
 
 -- what was read of a word is its setting
 pub read_setting : (word : List ℕ) (name list : Bor (List ℕ)) (parted : Option (Bor (List ℕ) × Bor (List ℕ))) (k : SettingKey) (values : List SettingValue)
-    → parted ≡ Some (name, list) → IsSplitOnceResult 61 word parted → key_named name.now ≡ Some k → AreValues (list_items list.now) values
+    → parted ≡ Some (name, list) → IsSplitOnceResult 61 word parted → IsKeyNamed name.now k → AreValues (list_items list.now) values
     → IsSettingOf word (record { key = k; values = values })
-unfolding key_named
 read_setting word name list parted k values some cut known are =
     let told = rw some at (split_parts 61 word parted cut (lit< tt)) in
-    let there = found (is_named name.now) settable k known in
-    let named : key_name k ≡ name.now = bytes_eq_true (key_name k) name.now there.1 in
+    let named : key_name k ≡ name.now = known.named in
     let joined : join_with_byte 44 (map value_text values) ≡ list.now = ap (join_with_byte 44) are.written ∙ join_with_byte-slice_split 44 list.now in
     let many : length (list_items list.now) ≡ length values = sym (ap length are.written) ∙ length-map values value_text in
     let count = length-slice_split (λ byte. byte == 44) list.now in
     record {
       written = ap (λ front. front ++ 61 ∷ join_with_byte 44 (map value_text values)) named ∙ ap (λ rest. name.now ++ 61 ∷ rest) joined ∙ sym told.0;
-      sound = record { key = there.0; some = omega (arith, many, count); fit = are.fit };
+      sound = record { key = known.known; some = omega (arith, many, count); fit = are.fit };
     }

@@ -1,8 +1,8 @@
 -- By which words a sweep is asked for.
-use Rattle.std.specs.Prelude.{◌≡◌, ◌≢◌, ℕ, ◌<◌, ◌≤◌, ◌^◌, List, ◌∷◌, ◌++◌, Option, Some, None, All, AllPairs, Contains, map, length}
+use Rattle.std.specs.Prelude.{◌≡◌, ◌≢◌, ℕ, ◌<◌, ◌≤◌, ◌^◌, List, ◌∷◌, ◌++◌, Option, Some, None, All, AllPairs, map, length}
 use Rattle.std.specs.Fmt.{decimal}
 use Rattle.std.specs.List.{join_with_byte}
-use Rattle.cases.specs.Keys.{key_name, settable}
+use Rattle.cases.specs.Keys.{key_name, MaySet}
 use Rattle.cases.specs.Values.{value_text, FitsToml}
 use Rattle.cases.specs.Sweep.{KeyValues, Sweep, run_count}
 use Rattle.cases.specs.declared.values.SettingValue.{SettingValue}
@@ -16,7 +16,7 @@ setting_text s = key_name s.key ++ 61 ∷ join_with_byte 44 (map value_text s.va
 
 -- the key may be set, and there are values, each of which fits
 pub record IsSetting (s : KeyValues) : Type 0 where
-  pub key : Contains settable s.key
+  pub key : MaySet s.key
   pub some : 0 < length s.values
   pub fit : All FitsToml s.values
 

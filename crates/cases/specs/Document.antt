@@ -1,12 +1,16 @@
 -- The document of a case: that of a text, with the case's values and seed in it.
-use Rattle.std.specs.Prelude.{ℕ, pos, List, Option, Some, None, unwrap_or, fold}
+use Rattle.std.specs.Prelude.{ℕ, pos, List, Option, Some, None, bytes_eq, fold, if◌then◌else◌, map, unwrap_or}
 use Rattle.std.specs.Ordering.{nat_cmp, match_ordering}
 use Rattle.std.specs.Cmp.Lexicographic.{slice_cmp}
-use Rattle.toml.specs.Data.{Data, integer, boolean, table, Members, no_members, member}
+use Rattle.std.specs.Option.{option_map_or}
+use Rattle.toml.specs.Data.{Data, integer, boolean, array, table, Members, no_members, member}
+use Rattle.toml.specs.View.{items_of as as_items}
 use Rattle.schema.specs.Schema.{spelling_of}
-use Rattle.schema.specs.Tree.{value_at}
+use Rattle.schema.specs.Tree.{list_of, value_at}
 use Rattle.schema.specs.declared.schema.FormatKey.{FormatKey}
 use Rattle.schema.specs.declared.schema.FormatKey.TheVariants as key
+use Rattle.cases.specs.Items.{item_text, name_of_item}
+use Rattle.cases.specs.declared.items.ItemName.{ItemName}
 use Rattle.cases.specs.declared.values.SettingValue.{SettingValue}
 use Rattle.cases.specs.declared.values.SettingValue.TheVariants.{Whole, Switch}
 use Rattle.cases.specs.declared.choice.Choice.{Choice}
@@ -30,14 +34,28 @@ with_entry k d other = other
 abbrev pub table_at : FormatKey → Data → Data
 table_at t tree = unwrap_or (value_at t tree) (table no_members)
 
--- the value is put at a key of the whole text, or of the table that stands in it, which is made where it isn't there. What stands in a table's
--- place and is none stays, so that the document is refused as without the value.
-abbrev pub with_value_in : Option FormatKey → FormatKey → Data → Data → Data
-with_value_in None k d tree = with_entry k d tree
-with_value_in (Some t) k d tree = with_entry t (with_entry k d (table_at t tree)) tree
+-- an item of this name, with the value at this key; any other stays
+abbrev pub with_item : List ℕ → FormatKey → Data → Data → Data
+with_item name k d one = if bytes_eq (name_of_item one) name then with_entry k d one else one
+
+-- a list with the value in its items of this name; what is no list stays as it is
+abbrev pub with_items : List ℕ → FormatKey → Data → Data → Data
+with_items name k d (array items) = array (as_items (map (with_item name k d) (list_of items)))
+with_items name k d other = other
+
+-- the list that stands at a key, with the value in its items of this name; where nothing stands there, all stays
+abbrev pub with_listed : FormatKey → List ℕ → FormatKey → Data → Data → Data
+with_listed t name k d tree = option_map_or (λ list. with_entry t (with_items name k d list) tree) (value_at t tree) tree
+
+-- The value is put at a key of the whole text, of the table that stands in it, which is made where it isn't there, or of an item of a list. What
+-- stands in a table's place and is none stays, so that the document is refused as without the value.
+abbrev pub with_value_in : Option FormatKey → Option ItemName → FormatKey → Data → Data → Data
+with_value_in None item k d tree = with_entry k d tree
+with_value_in (Some t) None k d tree = with_entry t (with_entry k d (table_at t tree)) tree
+with_value_in (Some t) (Some item) k d tree = with_listed t (item_text item) k d tree
 
 abbrev pub with_choice : Data → Choice → Data
-with_choice tree c = with_value_in c.key.table c.key.key (data_of c.value) tree
+with_choice tree c = with_value_in c.key.table c.key.item c.key.key (data_of c.value) tree
 
 -- the seed takes the place of the text's, where one is given
 abbrev pub with_seed : Option ℕ → Data → Data

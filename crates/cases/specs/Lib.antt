@@ -1,7 +1,10 @@
+pub mod Items
 pub mod Keys
+pub mod Listed
 pub mod Values
 pub mod Sweep
 pub mod Asked
 pub mod Planned
 pub mod Cases
 pub mod Document
+pub mod Missing

@@ -1,12 +1,14 @@
 //! The scenario of a case: the document of a text, with the case's values in it.
-ghost use Rattle.std.specs.Prelude.{◌≡◌, ◌≢◌, ◌≤◌, ◌<◌, ◌^◌, All, fold, Ok, Err, IfOk, IfErr};
+ghost use Rattle.std.specs.Prelude.{◌≡◌, ◌≢◌, ◌≤◌, ◌<◌, ◌^◌, All, fold, Ok, Err, Some, IfOk, IfErr};
 ghost use Rattle.std.specs.Option.{ForSome};
 ghost use Rattle.toml.specs.View.{view};
 ghost use Rattle.scenario_reader.specs.Rules.{document_verdict};
 ghost use Rattle.cases.specs.Values.{FitsToml};
-ghost use Rattle.cases.specs.Document.{data_of, table_at, with_entry, with_choice, with_values};
+ghost use Rattle.cases.specs.Document.{data_of, table_at, with_entry, with_choice, with_value_in, with_values};
 
 use crate::choice::Choice;
+use crate::items::ItemName;
+use crate::listed_values::with_listed;
 use crate::values::SettingValue;
 use base::Memory;
 use scenario::Scenario;
@@ -17,7 +19,7 @@ use toml::{Table, Value};
 
 /// The document with the values of a case set at their keys, and the seed at its own, where one is
 /// given. A table that isn't there is made. Where something else than a table stands in a table's place,
-/// it stays.
+/// it stays. The value of an item's key is set in each item of its list that has the name, and all else stays.
 #[tactic(auto, unfolding(crate::specs::Document::with_values))]
 pub fn with_values(
     alloc: Global,
@@ -74,13 +76,30 @@ fn with_choice(alloc: Global, tree: Value, choice: &Choice) -> Result<Value, Mem
     ensures { IfOk result (λ v. view v ≡ with_choice (view tree) choice.now) }
 {
     let key = choice.key.key;
-    let value = data(choice.value);
     match choice.key.table {
-        Some(table) => {
-            let members = with_entry(alloc, table_at(alloc, &tree, table)?, key, value)?;
+        Some(table) => with_value_in(alloc, tree, table, choice.key.item, key, choice.value),
+        None => with_entry(alloc, tree, key, data(choice.value)),
+    }
+}
+
+/// The document with one value at the key of a table, or of the items of this name of a list.
+fn with_value_in(
+    alloc: Global,
+    tree: Value,
+    table: FormatKey,
+    item: Option<ItemName>,
+    key: FormatKey,
+    value: SettingValue,
+) -> Result<Value, Memory>
+    requires { FitsToml value }
+    ensures { IfOk result (λ v. view v ≡ with_value_in (Some table) item key (data_of value) (view tree)) }
+{
+    match item {
+        Some(item) => with_listed(alloc, tree, table, item, key, value),
+        None => {
+            let members = with_entry(alloc, table_at(alloc, &tree, table)?, key, data(value))?;
             with_entry(alloc, tree, table, members)
         }
-        None => with_entry(alloc, tree, key, value),
     }
 }
 
@@ -95,7 +114,12 @@ fn table_at(alloc: Global, tree: &Value, table: FormatKey) -> Result<Value, Memo
 }
 
 /// A table with this value at this key; any other value as it is.
-fn with_entry(alloc: Global, tree: Value, key: FormatKey, value: Value) -> Result<Value, Memory>
+pub(crate) fn with_entry(
+    alloc: Global,
+    tree: Value,
+    key: FormatKey,
+    value: Value,
+) -> Result<Value, Memory>
     ensures { IfOk result (λ v. view v ≡ with_entry key (view value) (view tree)) }
 {
     match tree {
@@ -109,7 +133,7 @@ fn with_entry(alloc: Global, tree: Value, key: FormatKey, value: Value) -> Resul
 }
 
 /// The value as it stands in a document.
-fn data(value: SettingValue) -> Value
+pub(crate) fn data(value: SettingValue) -> Value
     requires { FitsToml value }
     ensures { view result ≡ data_of value }
 {

@@ -1,43 +1,70 @@
 //! The keys of a scenario that a sweep may set.
-ghost use Rattle.std.specs.Prelude.{◌≡◌, ◌∷◌, ◌&&◌, [], find, bytes_eq, string_bytes, IfOk};
+ghost use Rattle.std.specs.Prelude.{◌≡◌, ◌++◌, ◌∷◌, ◌&&◌, [], find, bytes_eq, string_bytes, IfOk, IfSome, IsNone, OnOk};
 ghost use Rattle.std.specs.List.{flat_map};
-ghost use Rattle.cases.specs.Keys.{dotted, key_name, is_plain, keys_of_table, keys_of_row, at_top, in_table, is_named, key_named, is_same, are_same_tables};
+ghost use Rattle.cases.specs.Keys.{dotted, key_name, is_plain, item_part, keys_of_table, keys_of_row, at_top, in_table, is_named, key_named, is_same, are_same_items, are_same_tables, IsKeyNamed};
+ghost use Rattle.cases.specs.declared.keys.SettingKey.{SettingKey as Wanted};
 
+use crate::items::{ItemName, push_letters};
+use crate::listed::listed_key;
 use base::Memory;
 use schema::{FormatKey, KeyRule, Kind, Section, Version};
 use std::alloc::Global;
 
-/// A key of the format that stands outside lists.
+/// A key of the format that a sweep may set.
 #[derive(Clone, Copy, Debug, PartialEq, Eq)]
 pub struct SettingKey {
-    /// The key of the table in which it stands; none for a key of the whole text.
+    /// The key of the table or of the list in which it stands; none for a key of the whole text.
     pub table: Option<FormatKey>,
+    /// The name of the list's item that has it; none for a key outside lists.
+    pub item: Option<ItemName>,
     /// The key itself.
     pub key: FormatKey,
 }
 
 impl SettingKey {
-    /// The key of this name, as `end` or `swim.period`, among those that may be set: all outside lists
-    /// that stand for whole numbers and switches, but `seed`.
-    #[tactic(auto, unfolding(crate::specs::Keys::key_named, crate::specs::Keys::settable))]
+    /// The key of this name, as `end`, `swim.period`, `group.n.count` or `path.a.b.loss`, among those that may be set: all
+    /// outside lists that stand for whole numbers and switches, but `seed`, and all such keys of the items of lists.
     pub fn named(word: &str) -> Option<SettingKey>
-        ensures { result ≡ key_named word.now }
+        ensures some { IfSome result (IsKeyNamed word.now) }
+        ensures none { IsNone result → (k : Wanted) → ¬ (IsKeyNamed word.now k) }
     {
-        named_by_rows(Section::Top.rows(Version::Three), word)
+        match outside_lists(word) {
+            Some(key) => Some(key),
+            None => listed_key(word.as_bytes()),
+        }
     }
 
-    /// The key's name, as `end` or `swim.period`.
+    /// The key's name, as `end`, `swim.period` or `group.n.count`.
     pub fn name(self, alloc: Global) -> Result<String, Memory>
         ensures { IfOk result (λ name. string_bytes name ≡ key_name self) }
     {
         let mut name = String::new(alloc);
         if let Some(table) = self.table {
             name.push_str(table.text())?;
+            push_item(&mut name, self.item)?;
             name.push_str(".")?;
         }
         name.push_str(self.key.text())?;
         Ok(name)
     }
+}
+
+/// Appends the name of an item, where there is one.
+fn push_item(text: &mut String, item: Option<ItemName>) -> Result<(), Memory>
+    ensures { OnOk result (string_bytes text.new ≡ string_bytes text.old ++ item_part item) }
+{
+    match item {
+        Some(item) => push_letters(text, &item.bytes),
+        None => Ok(()),
+    }
+}
+
+/// The key of this name among those outside lists.
+#[tactic(auto, unfolding(crate::specs::Keys::key_named, crate::specs::Keys::settable))]
+fn outside_lists(word: &str) -> Option<SettingKey>
+    ensures { result ≡ key_named word.now }
+{
+    named_by_rows(Section::Top.rows(Version::Three), word)
 }
 
 /// The key of this name among those that rows of the whole text give.
@@ -71,7 +98,11 @@ fn top_key(key: FormatKey, word: &str) -> Option<SettingKey>
     ensures { result ≡ find (is_named word.now) (at_top key ∷ []) }
 {
     if key.text() == word {
-        Some(SettingKey { table: None, key })
+        Some(SettingKey {
+            table: None,
+            item: None,
+            key,
+        })
     } else {
         None
     }
@@ -85,6 +116,7 @@ fn named_in_table(table: FormatKey, rows: &[KeyRule], word: &str) -> Option<Sett
         if is_row_named(table, row, word) {
             return Some(SettingKey {
                 table: Some(table),
+                item: None,
                 key: row.key,
             });
         }
@@ -105,7 +137,7 @@ fn is_row_named(table: FormatKey, row: &KeyRule, word: &str) -> bool
 }
 
 /// Whether a value of this kind is a whole number or a switch.
-fn is_plain(kind: Kind) -> bool
+pub(crate) fn is_plain(kind: Kind) -> bool
     ensures { result ≡ is_plain kind }
 {
     match kind {
@@ -134,11 +166,13 @@ fn is_after_dot(key: &[u8], bytes: &[u8]) -> bool
     }
 }
 
-/// Whether two keys are spelt alike, and so are their tables.
+/// Whether two keys are spelt alike, and so are their tables and items.
 pub(crate) fn is_same(key: SettingKey, other: SettingKey) -> bool
     ensures { result ≡ is_same key other }
 {
-    key.key.text() == other.key.text() && are_same_tables(key.table, other.table)
+    key.key.text() == other.key.text()
+        && are_same_tables(key.table, other.table)
+        && are_same_items(key.item, other.item)
 }
 
 /// Whether two tables are spelt alike, or neither is there.
@@ -148,6 +182,19 @@ fn are_same_tables(table: Option<FormatKey>, other: Option<FormatKey>) -> bool
     match table {
         Some(table) => match other {
             Some(other) => table.text() == other.text(),
+            None => false,
+        },
+        None => other.is_none(),
+    }
+}
+
+/// Whether two items have one name, or neither is there.
+fn are_same_items(item: Option<ItemName>, other: Option<ItemName>) -> bool
+    ensures { result ≡ are_same_items item other }
+{
+    match item {
+        Some(item) => match other {
+            Some(other) => item.bytes.as_slice() == other.bytes.as_slice(),
             None => false,
         },
         None => other.is_none(),

@@ -42,7 +42,8 @@ impl Model for Plan {
 
 impl Plan {
     /// The plan that words ask for: settings such as `swim.period=200,300`, each a key that may be set, an
-    /// equals sign and values with commas between them, and a range of seeds such as `1..200`.
+    /// equals sign and values with commas between them, and a range of seeds such as `1..200`. Whether a document has the
+    /// items of lists that keys name is asked by `missing_item`.
     ///
     /// Failures: `Words` where a word is none of these, a key stands twice, or there are more than
     /// 1,000,000 runs; `Memory`.

@@ -228,6 +228,13 @@ impl Scenario {
         group_at(self.contents.groups.as_slice(), member.index())
     }
 
+    /// The groups, in the order of the text: members are numbered in this order.
+    pub fn groups(&self) -> &[Group]
+        ensures { map group_of result.now ≡ self.now.groups }
+    {
+        self.contents.groups.as_slice()
+    }
+
     /// The links between the members of groups, in the order of the text: the last one of two groups
     /// holds.
     pub fn paths(&self) -> &[Path]
