@@ -38,6 +38,28 @@ def check(program, sweep, count):
     expect('table', program.held('t.csv'), table_of(settings, cases).encode())
 
 
+def check_resumed(program, sweep):
+    """Cuts a piece off at some of its bytes, and goes on with it: at the end it is the piece that was made in one go."""
+    text = text_of(DATA / sweep['base'])
+    options, _ = words_of(sweep)
+    program.keep('s.toml', text)
+    words = ['sweep', 's.toml', '--table', 't.csv', '--shard', '2/3', *options]
+    expect_ran(program.call(words), 0, b'', b'', 'piece')
+    whole = program.held('t.csv')
+    first = whole.index(b'\n') + 1
+    for cut in sorted({0, 1, first - 1, first, first + 1, *range(first, len(whole), 97), len(whole) - 1, len(whole)}):
+        program.keep('t.csv', whole[:cut])
+        expect_ran(program.call([*words, '--resume']), 0, b'', b'', f'cut at {cut}')
+        expect(f'cut at {cut}', program.held('t.csv'), whole)
+    (program.folder / 't.csv').unlink()
+    expect_ran(program.call([*words, '--resume']), 0, b'', b'', 'no table')
+    expect('no table', program.held('t.csv'), whole)
+    for held in (b'another table\n', whole.replace(b'2/3', b'1/3', 1), whole + whole[first:]):
+        program.keep('t.csv', held)
+        expect_ran(program.call([*words, '--resume']), 3, b'', b'swimsim: piece t.csv of another sweep\n', 'another')
+        expect('another', program.held('t.csv'), held)
+
+
 def check_refused(program, sweep):
     """Joins what isn't the pieces of one sweep: each is told by its line, and the table stays as it was."""
     text = text_of(DATA / sweep['base'])
@@ -69,3 +91,4 @@ def cases():
         for count in COUNTS:
             yield Case(f'pieces: {sweep["about"]}, {count}', check, (sweep, count))
     yield Case('pieces: what join refuses', check_refused, (listed[0],))
+    yield Case('pieces: one that was cut off', check_resumed, (listed[0],))

@@ -4,6 +4,7 @@ import itertools
 import json
 
 import texts
+from model_sweep_page import page_of
 from model_sweeps import answer_text, cases_text, swept, table_of
 from program import Case, DATA, Wrong, expect, expect_ran
 from scenarios import document_of
@@ -50,6 +51,24 @@ def expect_progress(lines, runs, wanted):
         raise Wrong(f'progress: {lines}')
 
 
+def objects_of(text, keys):
+    """What `--jsonl` prints, by the columns and the answers that are printed without it."""
+    told = [line.partition(': ') for line in text.decode().splitlines()]
+    (names, *rows), answers = [line.split() for line, mark, _ in told if not mark], [it for it in told if it[1]]
+    meets, best = {rest for word, _, rest in answers if word == 'meets'}, [rest for word, _, rest in answers if word == 'best']
+    may = {rest.rpartition(' more_runs=')[0] for word, _, rest in answers if word == 'may'}
+    objects = []
+    for row in rows:
+        settings = ' '.join(f'{key}={value}' for key, value in zip(keys, row)) or 'the scenario as it is'
+        members = dict(zip(names, ['null' if it == '-' else it for it in row]), front='true' if row[-1] == '*' else 'false')
+        if answers:
+            members['meets'] = '"yes"' if settings in meets else '"may"' if settings in may else '"no"'
+            members['best'] = 'true' if best == [settings] else 'false'
+            best = [] if best == [settings] else best
+        objects.append('{' + ','.join(f'"{name}":{value}' for name, value in members.items()) + '}\n')
+    return ''.join(objects).encode()
+
+
 def check(program, sweep):
     """Makes a sweep by each number of workers, and compares its table and its lines."""
     text = text_of(DATA / sweep['base'])
@@ -74,6 +93,22 @@ def check(program, sweep):
             ran = ran._replace(err=b'')
         expect_ran(ran, 0, lines, b'', ' '.join([*workers, *progress, '']))
         expect(f'{workers} table', program.held('t.csv'), table)
+    keys = [setting.partition('=')[0] for setting in sweep['set']]
+    objects = objects_of(lines, keys)
+    expect_ran(program.call([*words, '--jsonl']), 0, objects, b'', 'objects ')
+    expect('table beside objects', program.held('t.csv'), table)
+    check_page(program, [*words, '--page', 'p.html'], sweep, lines, objects)
+    expect('table beside the page', program.held('t.csv'), table)
+
+
+def check_page(program, words, sweep, lines, objects):
+    """Compares the page of a sweep with the model's, over these objects of its cases; its style is taken as it stands."""
+    expect_ran(program.call(words), 0, lines, b'', 'page ')
+    page = program.held('p.html')
+    style = page.partition(b'<style>')[2].partition(b'</style>')[0].decode()
+    release = program.call(['--version']).out.split()[1].decode()
+    told = [json.loads(line) for line in objects.splitlines()]
+    expect('page', page, page_of('s.toml', release, style, settings_of(sweep['set']), told).encode())
 
 
 def cases():

@@ -1,5 +1,6 @@
 -- What an answer to the words says of them, and of what was not done.
-use Rattle.std.proofs.Common.{◌≡◌, List, [], ◌∷◌, ℕ, Bool, true, false, Option, Some, None, Result, Ok, Err, codes, sym, subst, refl, inl, inr}
+use Rattle.std.proofs.Common.{◌≡◌, ◌∙◌, List, [], ◌∷◌, ℕ, Bool, true, false, Bor, Option, Some, None, Result, Ok, Err, ap, codes, option_map, sym, subst, refl, inl, inr}
+use Rattle.std.proofs.lemmas.Bool.{false≢true}
 use Rattle.std.proofs.lemmas.Option.{none-some, same_Some}
 use Rattle.std.proofs.lemmas.Result.{on_ok_weaker, IfErr-weaker}
 use Rattle.std.proofs.lemmas.List.Elements.{All-cons, All-nil}
@@ -10,10 +11,10 @@ use Rattle.std.specs.Io.KnownBytes.{Appends}
 use Rattle.clap.specs.Words.{Text, all_of, first_of}
 use Rattle.scenario_files.specs.Shelves.{Shelf}
 use Rattle.join_command.specs.Outcomes.{JoinFails, JoinsAll}
-use Rattle.join_command.proofs.Causes.{join_memory, join_mistaken, join_output, join_preset, join_usage}
+use Rattle.join_command.proofs.Causes.{join_item, join_memory, join_mistaken, join_output, join_preset, join_usage}
 use Rattle.explain_command.specs.Outcomes.{ExplainFails, PrintsMeaning}
 use Rattle.run_command.specs.Outcomes.{RunFails, RunsAll}
-use Rattle.run_command.proofs.Causes.{run_memory, run_mistaken, run_output, run_preset, run_usage}
+use Rattle.run_command.proofs.Causes.{run_item, run_memory, run_mistaken, run_output, run_preset, run_usage}
 use Rattle.sweep_command.specs.Outcomes.{AsksForProgress, SweepFails, SweepsAll}
 use Rattle.sweep_command.proofs.Causes.{sweep_memory, sweep_mistaken, sweep_output, sweep_preset, sweep_usage}
 use Rattle.pieces.specs.declared.piece.Piece.{Piece}
@@ -24,7 +25,7 @@ use Rattle.answers.specs.declared.want.Want.{Want}
 use Rattle.cli.specs.Outcomes.{CheckFails, EndsRunBy, HasDone, Fails}
 use Rattle.files.specs.Files.{Making}
 use Rattle.command_line.specs.Printed.{rows_line, PresetFails, PrintsPreset}
-use Rattle.command_line.specs.Words.{Answers, AsksForRun, AsksForCheck, AsksForExplain, AsksForInit, AsksForJoin, AsksForPiece, AsksForSweep, IsCommand}
+use Rattle.command_line.specs.Words.{Answers, AsksForRun, AsksForCheck, AsksForExplain, AsksForInit, AsksForJoin, AsksForPiece, AsksForSweep, IsCommand, go_together}
 use Rattle.command_line.specs.declared.release.Release.{Release}
 use Rattle.command_line.specs.declared.words.Asked.{Asked}
 use Rattle.command_line.specs.declared.words.Asked.TheVariants as asked
@@ -35,7 +36,7 @@ use Rattle.command_line.specs.declared.words.RunWords.{RunWords}
 use Rattle.command_line.specs.declared.words.SweepWords.{SweepWords}
 use Rattle.command_line.specs.declared.failure.Failure.{Failure}
 use Rattle.command_line.specs.declared.failure.Failure.TheVariants as failing
-use Rattle.command_line.specs.declared.failure.Failure.TheVariants.{File, Usage, Rule, Mistaken, Case, Pieces, Workers, Division, Run, Memory, Output}
+use Rattle.command_line.specs.declared.failure.Failure.TheVariants.{File, Usage, NoItem, Rule, Mistaken, Case, Pieces, Workers, Division, Run, Memory, Output}
 
 -- words with an answer are a command
 pub is_command : (words : List Text) (answer : Asked) → Answers words answer → IsCommand words
@@ -61,6 +62,7 @@ run_fails words before after making old new run (Division cause) asks fails = in
 run_fails words before after making old new run (Run cause) asks fails = inl (run, asks, fails)
 run_fails words before after making old new run failing.Preset asks fails = absurd (run_preset before after making run fails)
 run_fails words before after making old new run Usage asks fails = absurd (run_usage before after making run fails)
+run_fails words before after making old new run (NoItem key) asks fails = absurd (run_item before after making run key fails)
 run_fails words before after making old new run Output asks fails = absurd (run_output before after making run fails)
 run_fails words before after making old new run Memory asks fails = run_memory before after making run fails
 
@@ -74,6 +76,7 @@ check_fails words before after making old new file (Case rule settings) asks fai
 check_fails words before after making old new file (Pieces cause) asks fails = absurd fails.cause
 check_fails words before after making old new file Memory asks fails = fails.same
 check_fails words before after making old new file Usage asks fails = absurd fails.cause
+check_fails words before after making old new file (NoItem key) asks fails = absurd fails.cause
 check_fails words before after making old new file failing.Preset asks fails = absurd fails.cause
 check_fails words before after making old new file Workers asks fails = absurd fails.cause
 check_fails words before after making old new file (Division cause) asks fails = absurd fails.cause
@@ -90,6 +93,7 @@ explain_fails words before after making old new explain (Case rule settings) ask
 explain_fails words before after making old new explain (Pieces cause) asks same fails = absurd fails
 explain_fails words before after making old new explain Memory asks same fails = same
 explain_fails words before after making old new explain Usage asks same fails = absurd fails
+explain_fails words before after making old new explain (NoItem key) asks same fails = absurd fails
 explain_fails words before after making old new explain failing.Preset asks same fails = absurd fails
 explain_fails words before after making old new explain Workers asks same fails = absurd fails
 explain_fails words before after making old new explain (Division cause) asks same fails = absurd fails
@@ -132,6 +136,7 @@ sweep_fails words before after making old new sweep (Division cause) asks fails 
 sweep_fails words before after making old new sweep (Run cause) asks fails = inr (inr (inr (inl (sweep, asks, fails))))
 sweep_fails words before after making old new sweep failing.Preset asks fails = absurd (sweep_preset before after making sweep fails)
 sweep_fails words before after making old new sweep Usage asks fails = absurd (sweep_usage before after making sweep fails)
+sweep_fails words before after making old new sweep (NoItem key) asks fails = (sweep, asks, fails)
 sweep_fails words before after making old new sweep Output asks fails = absurd (sweep_output before after making sweep fails)
 sweep_fails words before after making old new sweep Memory asks fails = sweep_memory before after making sweep fails
 
@@ -158,16 +163,16 @@ asked_sweep_fails words before after making old new answer sweep failure is h fa
     sweep_fails words before after making old new sweep failure asks fails
 
 -- a sweep that the words ask for was done, and its lines were not printed
-pub asked_sweep_unprinted : (words : List Text) (before after : Shelf) (making : Making) (old new : Option (List ℕ)) (answer : Asked) (sweep : SweepWords) (lines : List ℕ)
-    (printed : Result (Unit {0}) Failure) → answer ≡ asked.Sweep sweep → Answers words answer → SweepsAll before after making sweep lines
+pub asked_sweep_unprinted : (version : List ℕ) (words : List Text) (before after : Shelf) (making : Making) (old new : Option (List ℕ)) (answer : Asked) (sweep : SweepWords) (lines : List ℕ)
+    (printed : Result (Unit {0}) Failure) → answer ≡ asked.Sweep sweep → Answers words answer → SweepsAll version before after making sweep lines
     → IfErr printed (λ failure. failure ≡ Output) → IfErr printed (Fails words before after making old new)
-asked_sweep_unprinted words before after making old new answer sweep lines printed is h swept told =
+asked_sweep_unprinted version words before after making old new answer sweep lines printed is h swept told =
     let asks : Answers words (asked.Sweep sweep) = subst (Answers words) is h in
-    IfErr-weaker printed _ _ (λ failure same. subst (Fails words before after making old new) (sym same) (inr (inr (inr (inl (lines, (sweep, asks, swept))))))) told
+    IfErr-weaker printed _ _ (λ failure same. subst (Fails words before after making old new) (sym same) (inr (inr (inr (inl (version, lines, (sweep, asks, swept))))))) told
 
 -- the same, and its lines were printed
 pub asked_sweep_done : {E : Type 0} (release : Release) (words : List Text) (before after : Shelf) (making : Making) (old new : Option (List ℕ)) (answer : Asked) (sweep : SweepWords)
-    (lines shown : List ℕ) (printed : Result (Unit {0}) E) → answer ≡ asked.Sweep sweep → Answers words answer → SweepsAll before after making sweep lines
+    (lines shown : List ℕ) (printed : Result (Unit {0}) E) → answer ≡ asked.Sweep sweep → Answers words answer → SweepsAll release.version.now before after making sweep lines
     → shown ≡ lines → OnOk printed (Appends old new shown) → OnOk printed (HasDone release words before after making old new)
 asked_sweep_done release words before after making old new answer sweep lines shown printed is h swept same told =
     let asks : Answers words (asked.Sweep sweep) = subst (Answers words) is h in
@@ -196,6 +201,19 @@ asked_piece words answer sweep is h =
     let asks : Answers words (asked.Sweep sweep) = subst (Answers words) is h in
     piece_sound (first_of (codes "shard") asks.1.rows) sweep.piece asks.1.piece
 
+-- a page is asked of no piece
+alone : (shard page : Option Text) (resume jsonl : Bool) (piece : Option Piece) → go_together shard page resume jsonl ≡ true → (name : Text) → page ≡ Some name → AsksForPiece shard piece → piece ≡ None
+alone None page resume jsonl None sense name is asks = refl
+alone None page resume jsonl (Some p) sense name is asks = absurd asks
+alone (Some word) None resume jsonl piece sense name is asks = absurd (none-some name is)
+alone (Some word) (Some page) resume jsonl piece sense name is asks = absurd (false≢true sense)
+
+pub asked_alone : (words : List Text) (answer : Asked) (sweep : SweepWords) → answer ≡ asked.Sweep sweep → Answers words answer → ForSome sweep.page (λ _. sweep.piece ≡ None)
+asked_alone words answer sweep is h page named =
+    let asks : Answers words (asked.Sweep sweep) = subst (Answers words) is h in
+    alone (first_of (codes "shard") asks.1.rows) (first_of (codes "page") asks.1.rows) _ _ sweep.piece asks.1.sense page.now
+    (asks.1.page ∙ ap (option_map (λ (word : Bor Text). word.now)) named) asks.1.piece
+
 -- what a sweep wants is bounded
 wants_bounded : (words : List Text) (wants : List Want) → AreWants words wants → All IsBounded wants
 wants_bounded [] [] are = All-nil IsBounded
@@ -221,6 +239,7 @@ join_fails words before after making old new join (Division cause) asks fails = 
 join_fails words before after making old new join (Run cause) asks fails = inr (inr (inr (inr (join, asks, fails))))
 join_fails words before after making old new join failing.Preset asks fails = absurd (join_preset before after making join fails)
 join_fails words before after making old new join Usage asks fails = absurd (join_usage before after making join fails)
+join_fails words before after making old new join (NoItem key) asks fails = absurd (join_item before after making join key fails)
 join_fails words before after making old new join Output asks fails = absurd (join_output before after making join fails)
 join_fails words before after making old new join Memory asks fails = join_memory before after making join fails
 
@@ -267,6 +286,7 @@ asked_init_fails words before making old new answer preset unchanged failure is 
     by_failure Memory asks same = refl
     by_failure (File name) asks none = absurd none
     by_failure Usage asks none = absurd none
+    by_failure (NoItem key) asks none = absurd none
     by_failure failing.Preset asks none = absurd none
     by_failure (Rule rule) asks none = absurd none
     by_failure (Mistaken rule) asks none = absurd none

@@ -15,7 +15,7 @@ use Rattle.command_line.specs.declared.release.Release.{Release}
 use Rattle.command_line.specs.declared.explaining.ExplainWords.{ExplainWords}
 use Rattle.command_line.specs.declared.words.RunWords.{RunWords}
 use Rattle.command_line.specs.declared.failure.Failure.{Failure}
-use Rattle.command_line.specs.declared.failure.Failure.TheVariants.{Usage, Preset, Mistaken, Memory, Output}
+use Rattle.command_line.specs.declared.failure.Failure.TheVariants.{Usage, Preset, NoItem, Mistaken, Memory, Output}
 use Rattle.presets.specs.declared.preset.Preset.{Preset as AnyPreset}
 use Rattle.scenario_files.specs.Shelves.{Shelf, IsRefused}
 use Rattle.scenario_files.specs.Loading.{HasVerdict, LoadFails}
@@ -62,7 +62,7 @@ abbrev pub HasDone : Release → List Text → Shelf → Shelf → Making → Op
 HasDone release words before after making old new = ((count : ℕ) × DoesRun words before after making count × Appends old new (rows_line count))
     ⊎ (((members : ℕ) × DoesCheck words before after members × Appends old new (members_line members))
     ⊎ (DoesExplain words before after old new
-    ⊎ (((lines : List ℕ) × DoesSweep words before after making lines × Appends old new lines)
+    ⊎ (((lines : List ℕ) × DoesSweep release.version.now words before after making lines × Appends old new lines)
     ⊎ (DoesInit words before after old new
     ⊎ (((lines : List ℕ) × DoesJoin words before after making lines × Appends old new lines)
     ⊎ (DoesHelp words before after
@@ -78,7 +78,7 @@ abbrev pub DoneUnprinted : List Text → Shelf → Shelf → Making → Type 0
 DoneUnprinted words before after making = ((count : ℕ) × DoesRun words before after making count)
     ⊎ (((members : ℕ) × DoesCheck words before after members)
     ⊎ (Explains words before after
-    ⊎ (((lines : List ℕ) × DoesSweep words before after making lines)
+    ⊎ (((version : List ℕ) × (lines : List ℕ) × DoesSweep version words before after making lines)
     ⊎ (HasPreset words before after
     ⊎ (((lines : List ℕ) × DoesJoin words before after making lines)
     ⊎ (DoesHelp words before after ⊎ DoesVersion words before after))))))
@@ -112,6 +112,7 @@ DoesNot words before after making old new failure =
 abbrev pub Fails : List Text → Shelf → Shelf → Making → Option (List ℕ) → Option (List ℕ) → Failure → Type 0
 Fails words before after making old new Usage = IsNoCommand words × (after ≡ before)
 Fails words before after making old new Preset = AsksForNoPreset words × (after ≡ before)
+Fails words before after making old new (NoItem key) = DoesNotSweep words before after making (NoItem key)
 Fails words before after making old new Output = DoneUnprinted words before after making
 Fails words before after making old new (Mistaken rule) = DoesNotExplain words before after old new (Mistaken rule)
 Fails words before after making old new Memory = after ≡ before

@@ -10,7 +10,7 @@ pub use command_line::{
     Asked, ExplainWords, Failure, JoinWords, PieceFault, Release, RunWords, Split, SweepWords,
     division_asked, parse, refuse, workers_asked,
 };
-pub use files::{FileFault, Files, PairFault, testing};
+pub use files::{FileFault, Files, PairFault, ReadFault, testing};
 pub use program::command;
 pub use scenario_files::check;
 pub use simulation::simulate;

@@ -2,7 +2,7 @@
 ghost use Rattle.std.specs.Prelude.{◌≡◌, ◌≢◌, ◌⊎◌, ◌≤◌, map, IfErr, OnOk, IsErrOf};
 ghost use Rattle.command_line.specs.Failures.{IsMistaken};
 ghost use Rattle.command_line.specs.Words.{AsksToExplain, IsCommand, IsNoCommand};
-ghost use Rattle.sweep_command.specs.Outcomes.{AsksForProgress};
+ghost use Rattle.sweep_command.specs.Outcomes.{AsksForProgress, SetsNoItem};
 ghost use Rattle.cli.specs.Outcomes.{HasDone, Fails, Ends};
 
 use crate::simulation::ByThreads;
@@ -41,7 +41,7 @@ pub fn command<S: AsStr, F: Files, O: Write, E: Write, P: Write>(
 
     // Status 0: what the words ask for was done. A run has left its trace in the file of that name, and its
     // report where one is asked for, and told standard output the number of its rows; a check, the number
-    // of members; an explanation, what the scenario means; a sweep has left its table, and told the lines of its cases, unless it
+    // of members; an explanation, what the scenario means; a sweep has left its table and its page, and told the lines of its cases, unless it
     // is a piece; a preset's scenario was told; pieces that were joined have left the table of the whole, and told those lines; who
     // asks for the version was told the line of this release.
     ensures done { result ≡ 0 → HasDone release.now (map S.text words.now) (F.known files.old) (F.known files.new) (F.making files.old)
@@ -52,8 +52,9 @@ pub fn command<S: AsStr, F: Files, O: Write, E: Write, P: Write>(
         → Ends (map S.text words.now) (F.known files.old) (F.known files.new) (F.making files.old)
         O.contents out.old out.new result }
 
-    // Status 2 is for words that are no command. They get it, unless memory is refused.
-    ensures usage { result ≡ 2 → IsNoCommand (map S.text words.now) }
+    // Status 2 is for words that are no command, and for the key of an item that the text hasn't. The former get it, unless
+    // memory is refused.
+    ensures usage { result ≡ 2 → IsNoCommand (map S.text words.now) ⊎ SetsNoItem (map S.text words.now) (F.known files.old) }
     ensures other { ¬ (IsCommand (map S.text words.now)) → (result ≡ 2) ⊎ (result ≡ 5) }
 
     // What failed says nothing on standard output, but for the mistakes of a scenario that was to be explained and is
@@ -106,7 +107,7 @@ fn perform<'a, S: AsStr, F: Files, O: Write, P: Write>(
         }
         Asked::Explain(words) => explain_file(alloc, words, files, out),
         Asked::Sweep(words) => {
-            let lines = sweep_file(rt, alloc, &words, files, progress)?;
+            let lines = sweep_file(rt, alloc, release, &words, files, progress)?;
             print_text(lines.as_str(), out)
         }
         Asked::Init(preset) => print_preset(alloc, preset, out),

@@ -92,6 +92,7 @@ faultless answer deal is (failure.Division cause) h = cc
 faultless answer deal is (failure.File name) h = h
 faultless answer deal is failure.Usage h = h
 faultless answer deal is failure.Preset h = h
+faultless answer deal is (failure.NoItem key) h = h
 faultless answer deal is (failure.Rule rule) h = h
 faultless answer deal is (failure.Mistaken rule) h = h
 faultless answer deal is (failure.Case rule settings) h = h

@@ -12,7 +12,7 @@ use Rattle.command_line.specs.Shown.{shown_name}
 use Rattle.command_line.specs.Division.{AreParts, AsksForWorkers, DivisionFails, ListFails}
 use Rattle.command_line.specs.declared.words.Split.{Split}
 use Rattle.command_line.specs.declared.failure.Failure.{Failure}
-use Rattle.command_line.specs.declared.failure.Failure.TheVariants.{File, Usage, Preset, Rule, Mistaken, Case, Pieces, Workers, Division, Run, Memory, Output}
+use Rattle.command_line.specs.declared.failure.Failure.TheVariants.{File, Usage, Preset, NoItem, Rule, Mistaken, Case, Pieces, Workers, Division, Run, Memory, Output}
 use Rattle.command_line.specs.declared.failure.PieceFault.{PieceFault}
 use Rattle.command_line.specs.declared.failure.PieceFault.TheVariants as piece
 
@@ -22,6 +22,7 @@ status_of (File name) = 1
 status_of Output = 1
 status_of Usage = 2
 status_of Preset = 2
+status_of (NoItem key) = 2
 status_of (Rule number) = 3
 status_of (Mistaken number) = 3
 status_of (Case number settings) = 3
@@ -71,6 +72,7 @@ abbrev pub message_of : Failure → List ℕ
 message_of (File name) = codes "file " ++ shown_name name.now
 message_of Usage = codes "usage"
 message_of Preset = codes "usage: the presets are local, lan, wan and swim"
+message_of (NoItem key) = codes "usage: no item of " ++ string_bytes key
 message_of (Rule number) = codes "scenario rule " ++ decimal number
 message_of (Mistaken number) = codes "scenario rule " ++ decimal number
 message_of (Case number settings) = codes "scenario rule " ++ decimal number ++ case_settings (string_bytes settings)

@@ -1,5 +1,5 @@
 -- What words ask for, as `clap` reads them by the commands below.
-use Rattle.std.specs.Prelude.{◌≡◌, ◌≢◌, ◌⊎◌, List, Option, Some, None, [], Bool, true, false, codes, map, option_map, unwrap_or}
+use Rattle.std.specs.Prelude.{◌≡◌, ◌≢◌, ◌⊎◌, List, Option, Some, None, [], Bool, true, false, not, codes, map, option_map, unwrap_or}
 use Rattle.std.specs.Str.{bytes_eq}
 use Rattle.clap.specs.Lexer.{usize_max}
 use Rattle.clap.specs.Words.{App, Row, Rule, Text, app_of, new_app, new_rule, with_rule, with_subcommand}
@@ -62,16 +62,27 @@ flag_rule name = record (new_rule name) { long = Some name; action = Some SetTru
 abbrev pub explain_app : App
 explain_app = with_rule (with_rule (new_app (codes "explain")) file_rule) (flag_rule (codes "json"))
 
--- the command `sweep`: a file and the option --table, both required; --seeds, --shard and --workers; --set and --want, which may stand
--- more than once; and the flag --progress
+-- a command, and what says which cases a sweep has: the option --seeds; and --set, which may stand more than once
+abbrev pub with_cases : App → App
+with_cases app = with_rule (with_rule app (option_rule (codes "seeds"))) (repeated_rule (codes "set"))
+
+-- and what says which runs are made and where their table goes: the option --table, which is required; the cases; --shard and --workers; and the
+-- flag --resume
+abbrev pub with_runs : App → App
+with_runs app =
+    let cased = with_cases (with_rule app (required_rule (codes "table"))) in
+    let sharded = with_rule cased (option_rule (codes "shard")) in
+    with_rule (with_rule sharded (flag_rule (codes "resume"))) (option_rule (codes "workers"))
+
+-- and what says what is told of them: the option --want, which may stand more than once; the flags --progress and --jsonl; and the option --page
+abbrev pub with_telling : App → App
+with_telling app =
+    let wanted = with_rule app (repeated_rule (codes "want")) in
+    with_rule (with_rule (with_rule wanted (flag_rule (codes "progress"))) (flag_rule (codes "jsonl"))) (option_rule (codes "page"))
+
+-- the command `sweep`: a file, which is required, the options of its runs and those of what is told of them
 abbrev pub sweep_app : App
-sweep_app =
-    let tabled = with_rule (with_rule (new_app (codes "sweep")) file_rule) (required_rule (codes "table")) in
-    let seeded = with_rule tabled (option_rule (codes "seeds")) in
-    let set = with_rule seeded (repeated_rule (codes "set")) in
-    let sharded = with_rule set (option_rule (codes "shard")) in
-    let wanted = with_rule sharded (repeated_rule (codes "want")) in
-    with_rule (with_rule wanted (option_rule (codes "workers"))) (flag_rule (codes "progress"))
+sweep_app = with_telling (with_runs (with_rule (new_app (codes "sweep")) file_rule))
 
 -- the files of pieces: one or more
 abbrev pub pieces_rule : Rule
@@ -149,6 +160,17 @@ AsksForPiece None (Some p) = ⊥
 AsksForPiece (Some word) None = ⊥
 AsksForPiece (Some word) (Some p) = IsPieceWord word p
 
+-- only a piece goes on where it was cut off, and only a whole sweep tells its cases and has a page
+abbrev pub go_together : Option Text → Option Text → Bool → Bool → Bool
+go_together None page resume jsonl = not resume
+go_together (Some word) None resume jsonl = not jsonl
+go_together (Some word) (Some page) resume jsonl = false
+
+-- the words go together
+abbrev pub have_sense : List Row → Bool
+have_sense rows =
+    go_together (first_of (codes "shard") rows) (first_of (codes "page") rows) (is_given (first_of (codes "resume") rows)) (is_given (first_of (codes "jsonl") rows))
+
 -- the words of all that is wanted of cases, in their order, want these
 abbrev pub AreWantsIn : List Row → List Want → Type 0
 AreWantsIn rows wants = AreWants (unwrap_or (all_of (codes "want") rows) []) wants
@@ -164,6 +186,10 @@ pub record IsSweepIn (met : Option (Text × List Row)) (sweep : SweepWords) : Ty
   pub wants : AreWantsIn rows sweep.wants.items
   pub workers : first_of (codes "workers") rows ≡ option_map (λ word. word.now) sweep.workers
   pub progress : is_given (first_of (codes "progress") rows) ≡ sweep.progress
+  pub resume : is_given (first_of (codes "resume") rows) ≡ sweep.resume
+  pub jsonl : is_given (first_of (codes "jsonl") rows) ≡ sweep.jsonl
+  pub page : first_of (codes "page") rows ≡ option_map (λ word. word.now) sweep.page
+  pub sense : have_sense rows ≡ true
 
 -- the command that was met is `init`, with the name of this preset
 pub record IsInitIn (met : Option (Text × List Row)) (preset : Preset) : Type 0 where

@@ -1,7 +1,7 @@
 //! The program's commands, as `clap` knows them.
 ghost use Rattle.std.specs.Prelude.{◌≡◌, IfOk, false};
 ghost use Rattle.clap.specs.Words.{App, app_of, rule_of, with_rule};
-ghost use Rattle.command_line.specs.Words.{check_app, file_rule, flag_rule, option_rule, required_rule, repeated_rule, run_app, sweep_app, swimsim_app, IsLocal};
+ghost use Rattle.command_line.specs.Words.{check_app, file_rule, flag_rule, option_rule, required_rule, repeated_rule, run_app, sweep_app, swimsim_app, with_cases, with_runs, with_telling, IsLocal};
 
 use crate::explaining::explain_command;
 use crate::initial::init_command;
@@ -93,27 +93,22 @@ fn sweep_command<'a>(alloc: Global) -> Result<Command<'a>, AllocError>
             "Runs a scenario by many seeds and settings, and writes a table of the runs",
         ),
     )?;
+    let made = with_runs(alloc, filed)?;
+    with_telling(alloc, made)
+}
+
+/// A command with the options more that say which runs of a sweep are made, and where their table goes.
+fn with_runs<'a>(alloc: Global, command: Command<'a>) -> Result<Command<'a>, AllocError>
+    ensures { (app : App) → IsLocal app command.entry → IfOk result (IsLocal (with_runs app)) }
+{
     let tabled = with_required(
         alloc,
-        filed,
+        command,
         "table",
         "T",
         "The file that takes the table, a line for each run; one that is there is replaced",
     )?;
-    let seeded = with_option(
-        alloc,
-        tabled,
-        "seeds",
-        "A..B",
-        "The seeds of each case, from A to B, both included [default: the scenario's seed]",
-    )?;
-    let set = with_repeated(
-        alloc,
-        seeded,
-        "set",
-        "KEY=V1,V2,..",
-        "A key of the scenario and its values, each of which makes cases; for any number of keys",
-    )?;
+    let set = with_cases(alloc, tabled)?;
     let sharded = with_option(
         alloc,
         set,
@@ -121,25 +116,70 @@ fn sweep_command<'a>(alloc: Global) -> Result<Command<'a>, AllocError>
         "I/N",
         "Makes the I-th of N pieces of the runs, for the command join; N is at most 10000",
     )?;
-    let wanted = with_repeated(
+    let resumed = with_flag(
         alloc,
         sharded,
+        "resume",
+        "Goes on with a piece whose table T was cut off, after T's last whole line",
+    )?;
+    with_option(
+        alloc,
+        resumed,
+        "workers",
+        "N",
+        "How many workers make the runs, 1 to 64 [default: 1]",
+    )
+}
+
+/// A command with the options more that say which cases a sweep has, and their seeds.
+fn with_cases<'a>(alloc: Global, command: Command<'a>) -> Result<Command<'a>, AllocError>
+    ensures { (app : App) → IsLocal app command.entry → IfOk result (IsLocal (with_cases app)) }
+{
+    let seeded = with_option(
+        alloc,
+        command,
+        "seeds",
+        "A..B",
+        "The seeds of each case, from A to B, both included [default: the scenario's seed]",
+    )?;
+    with_repeated(
+        alloc,
+        seeded,
+        "set",
+        "KEY=V1,V2,..",
+        "A key of the scenario, as swim.period or group.NAME.count, and its values, each of which makes cases; for any number of keys",
+    )
+}
+
+/// A command with the options more that say what is told of a sweep.
+fn with_telling<'a>(alloc: Global, command: Command<'a>) -> Result<Command<'a>, AllocError>
+    ensures { (app : App) → IsLocal app command.entry → IfOk result (IsLocal (with_telling app)) }
+{
+    let wanted = with_repeated(
+        alloc,
+        command,
         "want",
         "STATISTIC<=N",
         "What cases are to meet, as out<=0.01 or confirm_p99<=20000; for any number of statistics",
     )?;
-    let worked = with_option(
+    let watched = with_flag(
         alloc,
         wanted,
-        "workers",
-        "N",
-        "How many workers make the runs, 1 to 64 [default: 1]",
-    )?;
-    with_flag(
-        alloc,
-        worked,
         "progress",
         "Tells on standard error how far the sweep has come",
+    )?;
+    let objects = with_flag(
+        alloc,
+        watched,
+        "jsonl",
+        "Prints a JSON object for each case, a line each, in place of columns",
+    )?;
+    with_option(
+        alloc,
+        objects,
+        "page",
+        "P",
+        "The file that takes a page of the cases, in HTML; one that is there is replaced",
     )
 }
 

@@ -35,6 +35,8 @@ pub enum Failure<'a> {
     Usage,
     /// The words ask for the scenario of a preset that there isn't.
     Preset,
+    /// A sweep sets a key of an item of a list that the scenario's text hasn't, or has more than once: the key's name.
+    NoItem { key: String },
     /// The scenario breaks this rule.
     Rule(u8),
     /// The scenario that was to be explained breaks this rule; standard output has its mistakes.
@@ -63,7 +65,7 @@ impl Failure<'_> {
     {
         match self {
             Failure::File(_) | Failure::Output => 1,
-            Failure::Usage | Failure::Preset => 2,
+            Failure::Usage | Failure::Preset | Failure::NoItem { .. } => 2,
             Failure::Rule(_) | Failure::Mistaken(_) | Failure::Case { .. } | Failure::Pieces(_) =>
                 3,
             Failure::Workers | Failure::Division(_) => 4,
@@ -107,6 +109,7 @@ impl fmt::Display for Failure<'_> {
             }
             Failure::Usage => write!(f, "usage"),
             Failure::Preset => write!(f, "usage: the presets are local, lan, wan and swim"),
+            Failure::NoItem { key } => write!(f, "usage: no item of {key}"),
             Failure::Rule(rule) | Failure::Mistaken(rule) => write!(f, "scenario rule {rule}"),
             Failure::Case { rule, settings } => {
                 write!(f, "scenario rule {rule}")?;

@@ -7,7 +7,7 @@ ghost use Rattle.command_line.specs.declared.words.Split.{Split as Wanted};
 ghost use Rattle.command_line.specs.declared.words.SweepWords.{SweepWords as Sought};
 ghost use Rattle.pieces.specs.declared.piece.Piece.{Piece as Part};
 ghost use Rattle.answers.specs.declared.want.Want.{Want as Wanting};
-ghost use Rattle.command_line.specs.Words.{is_given, swimsim_app, Answers, AreWantsIn, AsksForNoPreset, AsksForPiece, IsCheckIn, IsNoCommand, IsPlanIn, IsRunIn, IsSplitIn, IsSweepIn};
+ghost use Rattle.command_line.specs.Words.{have_sense, is_given, swimsim_app, Answers, AreWantsIn, AsksForNoPreset, AsksForPiece, IsCheckIn, IsNoCommand, IsPlanIn, IsRunIn, IsSplitIn, IsSweepIn};
 
 use crate::commands::program_command;
 use crate::explaining::{ExplainWords, explain_asked};
@@ -60,12 +60,18 @@ pub struct SweepWords<'a> {
     pub plan: Plan,
     /// Which piece of the sweep is made; all of it where none is named.
     pub piece: Option<Piece>,
+    /// Whether a piece goes on where its table was cut off. Never without a piece.
+    pub resume: bool,
     /// What is wanted of the cases.
     pub wants: Vec<Want<'a>>,
     /// How many workers make the runs; one where that isn't said.
     pub workers: Option<&'a str>,
     /// Whether to tell how far the sweep has come.
     pub progress: bool,
+    /// Whether the cases are told as JSON, an object a line, in place of aligned columns. Never with a piece.
+    pub jsonl: bool,
+    /// The name of the file that takes the page, where one is asked for. Never with a piece.
+    pub page: Option<&'a str>,
 }
 
 /// What the words ask for.
@@ -181,7 +187,7 @@ fn check_asked<'a>(matches: &ArgMatches<'a>) -> Option<&'a str>
 
 /// The sweep that is asked for by words that `clap` took.
 ///
-/// Failures: `Usage` where they ask for none; `Memory`.
+/// Failures: `Usage` where they ask for none, as where a whole sweep is to go on; `Memory`.
 fn sweep_asked<'a>(alloc: Global, matches: &ArgMatches<'a>) -> Result<SweepWords<'a>, Failure<'a>>
     ensures sweep { IfOk result (IsSweepIn (subcommand_rows_of matches.now)) }
     ensures usage { IsErrOf result Failure.Usage → (sweep : Sought) → ¬ (IsSweepIn (subcommand_rows_of matches.now) sweep) }
@@ -196,20 +202,38 @@ fn sweep_asked<'a>(alloc: Global, matches: &ArgMatches<'a>) -> Result<SweepWords
     let Some(table) = value_of(sweep, "table") else {
         return Err(Failure::Usage);
     };
+    if !have_sense(sweep) {
+        return Err(Failure::Usage);
+    }
     let plan = plan_asked(alloc, sweep)?;
     let piece = piece_asked(sweep)?;
     let wants = wants_asked(alloc, sweep)?;
-    let workers = value_of(sweep, "workers");
-    let progress = is_given(sweep, "progress");
     Ok(SweepWords {
         file,
         table,
         plan,
         piece,
+        resume: is_given(sweep, "resume"),
         wants,
-        workers,
-        progress,
+        workers: value_of(sweep, "workers"),
+        progress: is_given(sweep, "progress"),
+        jsonl: is_given(sweep, "jsonl"),
+        page: value_of(sweep, "page"),
     })
+}
+
+/// Whether the words of a sweep go together: only a piece goes on where it was cut off, and only a whole sweep tells
+/// its cases and has a page.
+fn have_sense(sweep: &ArgMatches<'_>) -> bool
+    ensures { result ≡ have_sense (rows_of (found_of sweep.now)) }
+{
+    match value_of(sweep, "shard") {
+        None => !is_given(sweep, "resume"),
+        Some(_) => match value_of(sweep, "page") {
+            None => !is_given(sweep, "jsonl"),
+            Some(_) => false,
+        },
+    }
 }
 
 /// The plan that is asked for by the words of a sweep.

@@ -14,10 +14,21 @@ pub use reading::read_whole;
 use std::alloc::Global;
 use std::io::Write;
 
-/// Why a file was not read or made.
+/// Why a file was not read.
+#[derive(Clone, Copy, Debug, PartialEq, Eq)]
+pub enum ReadFault {
+    /// No file has the name.
+    Absent,
+    /// One has it, but can't be read.
+    Refused,
+    /// Memory was refused.
+    Memory,
+}
+
+/// Why a file was not made.
 #[derive(Clone, Copy, Debug, PartialEq, Eq)]
 pub enum FileFault {
-    /// The file can't be read or made.
+    /// The file can't be made.
     Refused,
     /// Memory was refused.
     Memory,
@@ -47,10 +58,11 @@ pub trait Files {
     // what is known of the making of files
     ghost making: { Self → Making };
 
-    /// All bytes of a file. `Refused` where it can't be read; `Memory`.
-    fn read(&mut self, alloc: Global, name: &str) -> Result<Vec<u8>, FileFault>
+    /// All bytes of a file. `Absent` where no file has the name, `Refused` where one can't be read; `Memory`.
+    fn read(&mut self, alloc: Global, name: &str) -> Result<Vec<u8>, ReadFault>
         ensures bytes { IfOk result (λ bytes. Holds (known self.old name.now) bytes.items) }
-        ensures refused { IsErrOf result FileFault.Refused → IsAbsent (known self.old name.now) }
+        ensures absent { IsErrOf result ReadFault.Absent → IsAbsent (known self.old name.now) }
+        ensures refused { IsErrOf result ReadFault.Refused → IsAbsent (known self.old name.now) }
         ensures same { known self.new ≡ known self.old }
         ensures making { making self.new ≡ making self.old };
 

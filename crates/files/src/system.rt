@@ -3,8 +3,8 @@ ghost use Rattle.std.specs.Prelude.{◌≡◌, None};
 ghost use Rattle.files.specs.System.{runtime_of, unknown};
 
 use crate::identity::Identity;
-use crate::reading::{fault_of, read_whole};
-use crate::{FileFault, Files, PairFault};
+use crate::reading::{fault_of, read_fault, read_whole};
+use crate::{FileFault, Files, PairFault, ReadFault};
 use std::alloc::Global;
 use std::fs::{OpenFile, OpenOptions};
 use std::io::{ErrorKind, Write};
@@ -151,10 +151,10 @@ impl<R: std::rt::Files + AllocGlobal> Files for SystemFiles<'_, R> {
 
     ghost making = { λ files. unknown };
 
-    fn read(&mut self, alloc: Global, name: &str) -> Result<Vec<u8>, FileFault> {
+    fn read(&mut self, alloc: Global, name: &str) -> Result<Vec<u8>, ReadFault> {
         match fs::open(self.runtime, name) {
             Ok(mut file) => read_whole(alloc, &mut file),
-            Err(error) => Err(fault_of(&error)),
+            Err(error) => Err(read_fault(&error)),
         }
     }
 

@@ -3,7 +3,7 @@ ghost use Rattle.std.specs.Prelude.{◌≡◌, ◌≢◌, ◌≤◌, ℕ, List, 
 ghost use Rattle.files.specs.Files.{KeepsOthers, KeepsAllOthers, CannotMake};
 ghost use Rattle.files.specs.Memory.{written_by, writer_fails, has_name, has_place, kept_bytes, can_make, making_of, made_fail, with_locked, with_fails, KeepsPlaces};
 
-use crate::{FileFault, Files, PairFault};
+use crate::{FileFault, Files, PairFault, ReadFault};
 use std::alloc::{AllocError, Global};
 use std::io;
 use std::io::Write;
@@ -249,13 +249,13 @@ impl Files for MemoryFiles {
 
     ghost making = { making_of };
 
-    fn read(&mut self, alloc: Global, name: &str) -> Result<Vec<u8>, FileFault> {
+    fn read(&mut self, alloc: Global, name: &str) -> Result<Vec<u8>, ReadFault> {
         match self.bytes(name) {
             Some(bytes) => match Vec::from_slice(alloc, bytes) {
                 Ok(bytes) => Ok(bytes),
-                Err(_) => Err(FileFault::Memory),
+                Err(_) => Err(ReadFault::Memory),
             },
-            None => Err(FileFault::Refused),
+            None => Err(ReadFault::Absent),
         }
     }
 

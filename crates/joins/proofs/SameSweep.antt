@@ -1,17 +1,17 @@
 -- First lines of pieces that are one text name the same piece of the same sweep.
 use Rattle.std.proofs.Common.{◌≡◌, ◌<◌, ◌≤◌, ◌^◌, ◌==◌, ℕ, suc, true, false, List, [], ◌∷◌, ◌++◌, map, length, get_or, codes, decimal, lit<, arith, refl, sym, ap, subst, ◌∙◌, append_assoc, append-nil}
-use Rattle.std.specs.Prelude.{Option, Some, None, All, Contains}
-use Rattle.std.specs.List.{AllByRecursion, flat_map, join_with_byte, list_any, slice_split}
+use Rattle.std.specs.Prelude.{Option, Some, None, All}
+use Rattle.std.specs.List.{flat_map, join_with_byte, slice_split}
 use Rattle.std.proofs.lemmas.Fmt.{decimal_injective, decimal_is_IsNumeral}
 use Rattle.std.proofs.lemmas.Str.Parse.{digit_at}
-use Rattle.std.proofs.lemmas.List.Elements.{All-cons, All-head, All-map, All-nil, All-tail, All-weaker, All-from_recursion, All-contains}
-use Rattle.schema.specs.Schema.{spelling_of, key_rules_of}
-use Rattle.cases.specs.Keys.{key_name, settable}
+use Rattle.std.proofs.lemmas.List.Elements.{All-cons, All-head, All-map, All-nil, All-tail, All-weaker}
+use Rattle.cases.specs.Items.{is_letter}
+use Rattle.cases.specs.Keys.{key_name}
 use Rattle.cases.specs.Values.{value_text, FitsToml}
 use Rattle.cases.specs.Sweep.{KeyValues, Sweep}
 use Rattle.cases.specs.Asked.{AsksForSeeds, IsRange, IsSetting, seeds_text, setting_text}
-use Rattle.cases.specs.declared.keys.SettingKey.{SettingKey}
 use Rattle.cases.specs.declared.seeds.Seeds.{Seeds}
+use Rattle.cases.proofs.Letters.{is_key_byte, name_lacks}
 use Rattle.cases.proofs.Words.{Lacks, cut_once, decimal_lacks, joined_split}
 use Rattle.cases.proofs.Written.{same_setting}
 use Rattle.pieces.specs.declared.piece.Piece.{Piece}
@@ -19,29 +19,16 @@ use Rattle.pieces.specs.Pieces.{IsPiece, piece_text}
 use Rattle.pieces.specs.Names.{head_cell, piece_name, plan_text, seeds_word}
 use Rattle.sweep.specs.Runs.{IsAskedFor}
 use Rattle.joins.specs.Joined.{IsMark}
-use Rattle.joins.proofs.Bytes.{lacks_both, lacks_cons, lacks_from_test, lacks_joined, value_lacks}
+use Rattle.joins.proofs.Bytes.{lacks_both, lacks_cons, lacks_joined, value_lacks}
 
 -- ---- which bytes the words of a sweep don't have
 
-spaceless : AllByRecursion (λ k. list_any (λ byte. byte == 32) (key_name k) ≡ false) settable
-unfolding settable key_rules_of spelling_of
-spaceless = (refl, (refl, (refl, (refl, (refl, (refl, (refl, (refl, (refl, (refl, (refl, (refl, (refl, (refl, (refl, (refl, (refl, (refl, (refl, (refl, (refl, (refl, (refl, (refl, (refl, (refl, tt))))))))))))))))))))))))))
-
-quoteless : AllByRecursion (λ k. list_any (λ byte. byte == 34) (key_name k) ≡ false) settable
-unfolding settable key_rules_of spelling_of
-quoteless = (refl, (refl, (refl, (refl, (refl, (refl, (refl, (refl, (refl, (refl, (refl, (refl, (refl, (refl, (refl, (refl, (refl, (refl, (refl, (refl, (refl, (refl, (refl, (refl, (refl, (refl, tt))))))))))))))))))))))))))
-
-name_lacks : (c : ℕ) → AllByRecursion (λ k. list_any (λ byte. byte == c) (key_name k) ≡ false) settable → (k : SettingKey) → Contains settable k → Lacks c (key_name k)
-name_lacks c each k known =
-    lacks_from_test c (key_name k) (All-contains (λ j. list_any (λ byte. byte == c) (key_name j) ≡ false) settable k
-    (All-from_recursion (λ j. list_any (λ byte. byte == c) (key_name j) ≡ false) settable each) known)
-
-setting_lacks : (c : ℕ) → AllByRecursion (λ k. list_any (λ byte. byte == c) (key_name k) ≡ false) settable → (61 == c) ≡ false → (44 == c) ≡ false → c < 48
+setting_lacks : (c : ℕ) → is_key_byte c ≡ false → is_letter c ≡ false → (61 == c) ≡ false → (44 == c) ≡ false → c < 48
     → (s : KeyValues) → IsSetting s → Lacks c (setting_text s)
-setting_lacks c each equals comma small s sound =
+setting_lacks c out also equals comma small s sound =
     let values : All (Lacks c) (map value_text s.values) =
     All-map (Lacks c) value_text s.values (All-weaker FitsToml (λ v. Lacks c (value_text v)) (λ v fits. value_lacks c v fits small) s.values sound.fit) in
-    lacks_both c (key_name s.key) (61 ∷ join_with_byte 44 (map value_text s.values)) (name_lacks c each s.key sound.key)
+    lacks_both c (key_name s.key) (61 ∷ join_with_byte 44 (map value_text s.values)) (name_lacks c out also s.key)
     (lacks_cons c 61 (join_with_byte 44 (map value_text s.values)) equals (lacks_joined c 44 (map value_text s.values) comma values))
 
 seeds_lack : (c : ℕ) → (45 == c) ≡ false → (46 == c) ≡ false → c < 48 → (word : Option (List ℕ)) (seeds : Option Seeds) → AsksForSeeds word seeds → Lacks c (seeds_word seeds)
@@ -66,13 +53,13 @@ words_of sweep = seeds_word sweep.seeds ∷ map setting_text sweep.settings
 pub words_lack : (sweep : Sweep) → IsAskedFor sweep → All (Lacks 32) (words_of sweep)
 words_lack sweep asked =
     All-cons (Lacks 32) (seeds_word sweep.seeds) (map setting_text sweep.settings) (seeds_lack 32 refl refl (lit< tt) asked.seeds sweep.seeds asked.asked.seeded)
-    (All-map (Lacks 32) setting_text sweep.settings (All-weaker IsSetting (λ s. Lacks 32 (setting_text s)) (setting_lacks 32 spaceless refl refl (lit< tt)) sweep.settings asked.asked.settings.sound))
+    (All-map (Lacks 32) setting_text sweep.settings (All-weaker IsSetting (λ s. Lacks 32 (setting_text s)) (setting_lacks 32 refl refl refl refl (lit< tt)) sweep.settings asked.asked.settings.sound))
 
 pub plan_lacks : (sweep : Sweep) → IsAskedFor sweep → Lacks 34 (plan_text sweep)
 plan_lacks sweep asked =
     let words : All (Lacks 34) (words_of sweep) =
     All-cons (Lacks 34) (seeds_word sweep.seeds) (map setting_text sweep.settings) (seeds_lack 34 refl refl (lit< tt) asked.seeds sweep.seeds asked.asked.seeded)
-    (All-map (Lacks 34) setting_text sweep.settings (All-weaker IsSetting (λ s. Lacks 34 (setting_text s)) (setting_lacks 34 quoteless refl refl (lit< tt)) sweep.settings asked.asked.settings.sound)) in
+    (All-map (Lacks 34) setting_text sweep.settings (All-weaker IsSetting (λ s. Lacks 34 (setting_text s)) (setting_lacks 34 refl refl refl refl (lit< tt)) sweep.settings asked.asked.settings.sound)) in
     subst (Lacks 34) (joined_is (seeds_word sweep.seeds) sweep.settings) (lacks_joined 34 32 (words_of sweep) refl words)
 
 pub no_dash : (r : Seeds) (word : List ℕ) → IsRange word r → seeds_text r ≡ 45 ∷ [] → ⊥

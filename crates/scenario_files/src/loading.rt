@@ -7,7 +7,7 @@ ghost use Rattle.scenario_files.specs.Loading.{HasMarkedDocument, HasNoDocument,
 
 use crate::texts::{check, text_failure};
 use command_line::Failure;
-use files::{FileFault, Files};
+use files::{FileFault, Files, ReadFault};
 use scenario::Scenario;
 use scenario_reader::document;
 use sha2::{Digest, Sha256};
@@ -82,11 +82,12 @@ pub fn load_bytes<'a, F: Files>(
 {
     match files.read(alloc, name) {
         Ok(bytes) => Ok(bytes),
-        Err(fault) => Err(file_failure(fault, name)),
+        Err(ReadFault::Absent) | Err(ReadFault::Refused) => Err(Failure::File(name)),
+        Err(ReadFault::Memory) => Err(Failure::Memory),
     }
 }
 
-/// The failure that a file's fault is.
+/// The failure that the fault of a file is which was to be made.
 pub fn file_failure(fault: FileFault, name: &str) -> Failure<'_>
     ensures refused { fault ≡ FileFault.Refused → result ≡ Failure.File name.entry }
     ensures memory { fault ≡ FileFault.Memory → result ≡ Failure.Memory }

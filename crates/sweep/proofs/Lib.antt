@@ -1,4 +1,4 @@
-mod Flat
+pub mod Flat
 pub mod Handing
 mod Lots
 pub mod Steps

@@ -56,7 +56,7 @@ between_more xs from n x le e =
     let more : n + 1 - from ≡ (n - from) + 1 = omega (arith, le) in
     ap (λ k. take k (drop from xs)) more ∙ taken_more (drop from xs) (n - from) x (past xs from n le ∙ e)
 
-text_more : (tree : Data) (course : Course) (made : List Made) (m : Made)
+pub text_more : (tree : Data) (course : Course) (made : List Made) (m : Made)
     → lines_text tree course made ++ line_with (tells_revived tree) course.notes m ≡ lines_text tree course (made ++ m ∷ [])
 text_more tree course made m =
     let line : Made → List ℕ = line_with (tells_revived tree) course.notes in
@@ -123,14 +123,14 @@ module _ (tree : Data) (sweep : Sweep) where
       let long : length (runs_of sweep) ≤ number = omega (arith, le, runs_counted sweep) in
       subst (All (IsAccepted tree)) (take_all number (runs_of sweep) long) before
 
-  are_more : (from number : ℕ) (p : Planned) (m : Made) (made : List Made) → from ≤ number → IsRunAt sweep number p → IsMadeAs tree p m
+  pub are_more : (from number : ℕ) (p : Planned) (m : Made) (made : List Made) → from ≤ number → IsRunAt sweep number p → IsMadeAs tree p m
       → AreMadeBetween tree sweep from number made → AreMadeBetween tree sweep from (number + 1) (made ++ m ∷ [])
   are_more from number p m made low at so are =
       subst (λ l. AllZip (IsMadeAs tree) l (made ++ m ∷ [])) (sym (between_more (runs_of sweep) from number p low at))
       (all_zipped_more (IsMadeAs tree) (runs_between sweep from number) made p m are so)
 
   module _ (course : Course) where
-    none_between : AreMadeBetween tree sweep course.from course.from []
+    pub none_between : AreMadeBetween tree sweep course.from course.from []
     none_between =
         let none : 0 ≡ course.from - course.from = omega arith in
         subst (λ n. AllZip (IsMadeAs tree) (take n (drop course.from (runs_of sweep))) []) none tt
@@ -233,7 +233,7 @@ module _ (tree : Data) (sweep : Sweep) where
 
   module _ (exists : (s : Setup) → IsSound s → (rows : List Row) × IsRunOf s rows) where
     -- each run that is accepted can be made
-    runs_left : (xs : List Planned) → All (IsAccepted tree) xs → (made : List Made) × AllZip (IsMadeAs tree) xs made
+    pub runs_left : (xs : List Planned) → All (IsAccepted tree) xs → (made : List Made) × AllZip (IsMadeAs tree) xs made
     runs_left [] all = ([], tt)
     runs_left (p ∷ xs) all =
         let here = All-head (IsAccepted tree) p xs all in
@@ -272,20 +272,20 @@ module _ (tree : Data) (sweep : Sweep) where
 
   module _ (number : ℕ) (s : Setup) (run : ToldRun) (chosen : List Choice) (seed : Option ℕ) (told : ℕ)
       (read : IsReadAt tree sweep number s) (is_told : IsTold s run) (at : IsRunAt sweep number (planned_as chosen seed)) (e : told ≡ s.seed) (notes : Bool) where
-    abbrev the_made : Made
+    abbrev pub the_made : Made
     the_made = record { case = chosen; scenario = s; rows = run.tallies }
 
-    abbrev the_line : List ℕ
+    abbrev pub the_line : List ℕ
     the_line = note_before notes run.note ++ run_line (tells_revived tree) (texts_of chosen) told run.figures
 
-    is_made : IsMadeAs tree read.0 the_made
+    pub is_made : IsMadeAs tree read.0 the_made
     is_made = record {
       same = ap (λ p. p.case) (same_Some (planned_as chosen seed) read.0 (sym at ∙ read.1));
       accepted = read.2;
       run = is_told.run;
     }
 
-    line_same : the_line ≡ line_with (tells_revived tree) notes the_made
+    pub line_same : the_line ≡ line_with (tells_revived tree) notes the_made
     line_same = (λ i. note_before notes (is_told.kept i) ++ run_line (tells_revived tree) (texts_of chosen) (e i) (is_told.same i))
 
     -- its line was written, and it was gathered

@@ -125,7 +125,7 @@ pub(crate) fn make_runs<S: Sink, P: Progress, G: Gather>(
 
 /// How many runs like that of this scenario each worker makes before their lines are written: several short ones,
 /// so that one which is through waits for the others seldom, and few long ones, so that progress is told often.
-fn runs_of_a_worker(scenario: &Scenario) -> usize
+pub fn runs_of_a_worker(scenario: &Scenario) -> usize
     ensures least { 1 ≤ result }
     ensures most { result ≤ 16 }
 {

@@ -17,10 +17,14 @@ mod values;
 mod writing;
 
 pub use begun::{Begun, BegunFault, begun_of};
-pub use chunks::sweep;
+pub use chunks::{runs_of_a_worker, sweep};
 pub use gathering::{Gather, Gathering, NothingGathered};
 pub use judging::{Refused, judge};
 pub use piece_tables::{write_front, write_piece, write_rest};
 pub use progress::{NoProgress, Progress};
+pub use reading::{read_run, read_runs};
+pub use revived::tells_revived;
+pub use telling::{ToldRun, told_side_by_side};
 pub use texts::{cases_text, lines_of_cases};
 pub use values::write_names;
+pub use writing::write_line;

@@ -17,7 +17,7 @@ use toml::Value;
 
 /// The scenarios of the runs from one number to before another. All documents were judged, so an error is
 /// want of memory.
-pub(crate) fn read_runs(
+pub fn read_runs(
     alloc: Global,
     plan: &Plan,
     document: &Value,
@@ -41,7 +41,7 @@ pub(crate) fn read_runs(
 }
 
 /// The scenario of the run of this number. Its document was judged, so an error is want of memory.
-pub(crate) fn read_run(
+pub fn read_run(
     alloc: Global,
     plan: &Plan,
     document: &Value,

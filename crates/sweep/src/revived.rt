@@ -9,7 +9,7 @@ use toml::Value;
 
 /// Whether the sweep of a text tells of members that were taken for alive again: where the text is of
 /// version 3 of the format.
-pub(crate) fn tells_revived(document: &Value) -> bool
+pub fn tells_revived(document: &Value) -> bool
     ensures { result ≡ tells_revived (view document.now) }
 {
     has_revivals(version_of(document))

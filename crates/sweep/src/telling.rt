@@ -16,19 +16,19 @@ use whole_runs::tally_run;
 
 /// What is told of a run.
 #[derive(Drop)]
-pub(crate) struct ToldRun {
+pub struct ToldRun {
     /// Its rows, as they were tallied.
-    pub(crate) tallies: Tallies,
+    pub tallies: Tallies,
     /// Its figures.
-    pub(crate) figures: RunFigures,
+    pub figures: RunFigures,
     /// What its case keeps of it.
-    pub(crate) note: RunNote,
+    pub note: RunNote,
 }
 
 /// What is told of the run of each scenario, or why there is nothing, in their order. The scenarios are dealt
 /// out in lots of so many; as many threads as there are processors, and no more than there are lots, make the
 /// runs of the lots, side by side.
-pub(crate) fn told_side_by_side(
+pub fn told_side_by_side(
     rt: &(impl Threads + Sync),
     alloc: Global,
     scenarios: &[Scenario],

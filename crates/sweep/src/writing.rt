@@ -64,7 +64,7 @@ pub(crate) fn write_lines<S: Sink, G: Gather>(
 }
 
 /// Writes the line of the run of this number, and gathers what is told of it, where anything is.
-fn write_line<S: Sink, G: Gather>(
+pub fn write_line<S: Sink, G: Gather>(
     alloc: Global,
     plan: &Plan,
     document: &Value,

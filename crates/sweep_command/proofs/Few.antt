@@ -1,17 +1,15 @@
 -- How many runs the cases of a sweep have.
-use Rattle.std.proofs.Common.{◌≡◌, ◌∙◌, ◌+◌, ◌*◌, ◌<◌, ◌≤◌, ◌==◌, ℕ, List, Option, not, arith, drop, get_or, length, map, subst, sym, take, min}
-use Rattle.std.specs.Prelude.{All, Some, slice_get}
+use Rattle.std.proofs.Common.{◌*◌, ◌≤◌, ◌==◌, ℕ, List, Option, not, arith, drop, get_or, length, map}
+use Rattle.std.specs.Prelude.{All}
 use Rattle.std.proofs.lemmas.List.{length-take}
 use Rattle.std.proofs.lemmas.List.Sums.{count_by-le-length}
 use Rattle.std.proofs.lemmas.Option.{slice_get-get_or}
 use Rattle.toml.specs.Data.{Data}
-use Rattle.cases.specs.Sweep.{KeyValues, Sweep, seed_count}
+use Rattle.cases.specs.Sweep.{Sweep, seed_count}
 use Rattle.figures.specs.declared.summary.CaseSummary.{CaseSummary}
 use Rattle.figures.specs.Notes.{Note}
 use Rattle.figures.specs.Cases.{IsSummaryOf}
-use Rattle.answers.specs.Answers.{AddsAnswer}
 use Rattle.answers.specs.Wants.{HasFewRuns}
-use Rattle.answers.specs.declared.want.Want.{Want}
 use Rattle.sweep.specs.Runs.{IsAskedFor, noted}
 use Rattle.sweep.specs.Summaries.{MakesAll, runs_of_case}
 use Rattle.sweep.proofs.Sizes.{few_runs}
@@ -28,10 +26,3 @@ few_runs_each tree plan old new cases asked makes i d inside =
     let runs = runs_of_case each (map noted makes.made) i in
     let size = length-take each (drop (i * each) (map noted makes.made)) in
     few_of (get_or cases i d) runs (omega (arith, size, few_runs plan asked)) (makes.told i (get_or cases i d) (slice_get-get_or cases i d inside))
-
--- the same answer, of the same wants, cases and lines
-pub answer_of : (settings : List KeyValues) (w wants : List Want) (cs cases : List CaseSummary) (o old new : List ℕ) → w ≡ wants → cs ≡ cases → o ≡ old
-    → AddsAnswer settings w cs o new → AddsAnswer settings wants cases old new
-answer_of settings w wants cs cases o old new same_wants same_cases same_lines answer =
-    subst (λ l. AddsAnswer settings wants cases l new) same_lines
-    (subst (λ (l : List CaseSummary). AddsAnswer settings wants l o new) same_cases (subst (λ (l : List Want). AddsAnswer settings l cs o new) same_wants answer))

@@ -1,3 +1,5 @@
 pub mod Causes
 mod Few
+mod Paged
+mod Pairs
 mod Tables

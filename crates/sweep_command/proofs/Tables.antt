@@ -1,18 +1,21 @@
 -- What the file holds that the table of a sweep was written to.
-use Rattle.std.proofs.Common.{◌≡◌, ◌∙◌, ℕ, List, [], Option, Some, None, Result, Ok, Err, IfSome, IfOk, IfErr, OnOk, OnErr, append-nil, sym, subst}
+use Rattle.std.proofs.Common.{◌≡◌, ◌∙◌, ℕ, Bool, false, true, List, [], Option, Some, None, Result, Ok, Err, IfSome, IfOk, IfErr, OnOk, OnErr, append-nil, refl, sym, subst}
+use Rattle.std.specs.Option.{ForSome}
+use Rattle.std.specs.Io.KnownBytes.{Appends}
 use Rattle.toml.specs.Data.{Data}
-use Rattle.clap.specs.Words.{Text}
 use Rattle.base.specs.declared.fault.Fault.{Fault}
-use Rattle.files.specs.Files.{HoldsNow, ClosesAs, KeepsOthers}
+use Rattle.files.specs.Files.{KnownFile, HoldsNow, ClosesAs, KeepsOthers}
+use Rattle.trace.specs.Sinks.{AppendsBeginning}
 use Rattle.cases.specs.Sweep.{Sweep}
 use Rattle.pieces.specs.declared.piece.Piece.{Piece}
-use Rattle.sweep.specs.Pieces.{BeginsPiece, WritesPiece, piece_table}
+use Rattle.sweep.specs.Pieces.{piece_table}
+use Rattle.sweep.specs.Resumed.{rest_text}
 use Rattle.sweep.specs.Table.{BeginsTable, HasCause, table_text, tells_revived}
 use Rattle.sweep.specs.Summaries.{MakesAll}
 use Rattle.figures.specs.declared.summary.CaseSummary.{CaseSummary}
-use Rattle.answers.specs.declared.want.Want.{Want}
-use Rattle.scenario_files.specs.Shelves.{Shelf}
-use Rattle.sweep_command.specs.Outcomes.{BeginsAsked, BreaksOff, MakesAsked, MakesLines, StoresAsked}
+use Rattle.command_line.specs.declared.words.SweepWords.{SweepWords}
+use Rattle.scenario_files.specs.Shelves.{Shelf, HoldsBeginning}
+use Rattle.sweep_command.specs.Outcomes.{BeginsAsked, BeginsPart, BreaksOff, BreaksOffPart, FitPiece, GoesOn, MakesAsked, MakesLines, MakesPart, StoresPlain, StoresPart, Stood, piece_resumed}
 use Rattle.scenario_files.proofs.Held.{holds_beginning, holds_text}
 
 -- what holds of an error, by what holds where there is one and what holds of it
@@ -31,21 +34,26 @@ both_ok P Q (Ok x) p q = (p, q)
 both_ok P Q (Err e) p q = tt
 
 -- what is asked for is the piece, where one is named, and else the whole
-module _ {T E : Type 0} (bytes : T → List ℕ) (tree : Data) (plan : Sweep) (wants : List Want) (mark : List ℕ) (old new : Option (List ℕ)) (told : Result T E) (asked : Option Piece) where
-  pub piece_told : (p : Piece) → asked ≡ Some p → OnOk told (WritesPiece tree plan mark p old new) → IfOk told (λ lines. bytes lines ≡ [])
-      → IfOk told (λ lines. MakesAsked asked tree plan wants mark old new (bytes lines))
+module _ {T E : Type 0} (bytes : T → List ℕ) (tree : Data) (sweep : SweepWords) (mark stood : List ℕ) (runs : ℕ) (old new : Option (List ℕ)) (told : Result T E) (asked : Option Piece) where
+  pub piece_told : (p : Piece) → asked ≡ Some p → OnOk told (MakesPart sweep.resume tree sweep mark p stood runs old new) → IfOk told (λ lines. bytes lines ≡ [])
+      → IfOk told (λ lines. MakesAsked asked tree sweep mark stood runs old new (bytes lines))
   piece_told p is written untold =
-      subst (λ (o : Option Piece). IfOk told (λ lines. MakesAsked o tree plan wants mark old new (bytes lines))) (sym is)
-      (both_ok (WritesPiece tree plan mark p old new) (λ lines. bytes lines ≡ []) told written untold)
+      subst (λ (o : Option Piece). IfOk told (λ lines. MakesAsked o tree sweep mark stood runs old new (bytes lines))) (sym is)
+      (both_ok (MakesPart sweep.resume tree sweep mark p stood runs old new) (λ lines. bytes lines ≡ []) told written untold)
 
-  pub whole_told : asked ≡ None → IfOk told (λ lines. MakesLines tree plan wants old new (bytes lines)) → IfOk told (λ lines. MakesAsked asked tree plan wants mark old new (bytes lines))
-  whole_told is tells = subst (λ (o : Option Piece). IfOk told (λ lines. MakesAsked o tree plan wants mark old new (bytes lines))) (sym is) tells
+  pub whole_told : asked ≡ None → IfOk told (λ lines. MakesLines tree sweep old new (bytes lines)) → IfOk told (λ lines. MakesAsked asked tree sweep mark stood runs old new (bytes lines))
+  whole_told is tells = subst (λ (o : Option Piece). IfOk told (λ lines. MakesAsked o tree sweep mark stood runs old new (bytes lines))) (sym is) tells
 
-  pub piece_begun : (p : Piece) → asked ≡ Some p → OnErr told (BeginsPiece tree plan mark p old new) → OnErr told (BeginsAsked asked tree plan mark old new)
-  piece_begun p is begun = subst (λ (o : Option Piece). OnErr told (BeginsAsked o tree plan mark old new)) (sym is) begun
+  pub piece_begun : (p : Piece) → asked ≡ Some p → OnErr told (BeginsPart sweep.resume tree sweep mark p stood runs old new) → OnErr told (BeginsAsked asked tree sweep mark stood runs old new)
+  piece_begun p is begun = subst (λ (o : Option Piece). OnErr told (BeginsAsked o tree sweep mark stood runs old new)) (sym is) begun
 
-  pub whole_begun : asked ≡ None → OnErr told (BeginsTable tree plan old new) → OnErr told (BeginsAsked asked tree plan mark old new)
-  whole_begun is begun = subst (λ (o : Option Piece). OnErr told (BeginsAsked o tree plan mark old new)) (sym is) begun
+  pub whole_begun : asked ≡ None → OnErr told (BeginsTable tree sweep.plan old new) → OnErr told (BeginsAsked asked tree sweep mark stood runs old new)
+  whole_begun is begun = subst (λ (o : Option Piece). OnErr told (BeginsAsked o tree sweep mark stood runs old new)) (sym is) begun
+
+-- a piece that goes on has no fewer runs than are made
+pub stood_few : (tree : Data) (sweep : SweepWords) (mark : List ℕ) (known : KnownFile) (stood : List ℕ) (runs : ℕ) → GoesOn tree sweep mark known stood runs
+    → FitPiece sweep sweep.piece runs
+stood_few tree sweep mark known stood runs goes p is = (goes p is).begun.few
 
 -- the whole table is a beginning of itself
 pub all_begins : (tree : Data) (plan : Sweep) (old new : Option (List ℕ)) (cases : List CaseSummary) → MakesAll tree plan old new cases → BeginsTable tree plan old new
@@ -56,47 +64,78 @@ all_begins tree plan old new cases makes = record {
 }
 
 -- after a sweep that was done, and after one that broke off
-module _ (tree : Data) (plan : Sweep) (wants : List Want) (mark : List ℕ) (start made end : Shelf) (table : Text) (old new held : Option (List ℕ))
-    (table_made : KeepsOthers start made table) (table_closed : KeepsOthers made end table)
-    (empty : HoldsNow (start table) (made table) []) (fresh : IfSome (start table) (λ _. old ≡ Some []))
-    (closed : ClosesAs (made table) (end table) held) (same : held ≡ new) where
-  others_kept : KeepsOthers start end table
+module _ (tree : Data) (sweep : SweepWords) (mark : List ℕ) (start made end : Shelf) (old new held : Option (List ℕ)) (stood : List ℕ) (runs : ℕ)
+    (table_made : KeepsOthers start made sweep.table.now) (table_closed : KeepsOthers made end sweep.table.now)
+    (empty : HoldsNow (start sweep.table.now) (made sweep.table.now) []) (fresh : IfSome (start sweep.table.now) (λ _. old ≡ Some []))
+    (closed : ClosesAs (made sweep.table.now) (end sweep.table.now) held) (same : held ≡ new) where
+  others_kept : KeepsOthers start end sweep.table.now
   others_kept other differs = table_closed other differs ∙ table_made other differs
 
-  closes : ClosesAs (made table) (end table) new
-  closes = subst (λ h. ClosesAs (made table) (end table) h) same closed
+  closes : ClosesAs (made sweep.table.now) (end sweep.table.now) new
+  closes = subst (λ h. ClosesAs (made sweep.table.now) (end sweep.table.now) h) same closed
 
-  pub table_stored : (piece : Option Piece) (lines : List ℕ) → MakesAsked piece tree plan wants mark old new lines → StoresAsked piece tree plan wants mark start end table lines
-  table_stored (Some p) lines tells = (
-    record {
-      made = tells.0.made;
-      are = tells.0.are;
-      stored = holds_text (start table) (made table) (end table) old new (piece_table (tells_revived tree) mark plan p tells.0.made) empty fresh tells.0.written closes;
-      others = others_kept;
-    },
-    tells.1,
-  )
-  table_stored None lines tells = record {
+  text_held : (text : List ℕ) → Appends old new text → HoldsNow (start sweep.table.now) (end sweep.table.now) text
+  text_held text written = holds_text (start sweep.table.now) (made sweep.table.now) (end sweep.table.now) old new text empty fresh written closes
+
+  beginning_held : (text : List ℕ) → AppendsBeginning old new text → HoldsBeginning (start sweep.table.now) (end sweep.table.now) text
+  beginning_held text written = holds_beginning (start sweep.table.now) (made sweep.table.now) (end sweep.table.now) old new text empty fresh written closes
+
+  part_stored : (resume : Bool) (p : Piece) → ForSome (piece_resumed resume (Some p)) (λ q. Stood tree sweep mark q (start sweep.table.now) stood runs)
+      → MakesPart resume tree sweep mark p stood runs old new → StoresPart resume tree sweep mark p start end
+  part_stored false p goes makes = record {
+    made = makes.made;
+    are = makes.are;
+    stored = text_held (piece_table (tells_revived tree) mark sweep.plan p makes.made) makes.written;
+    others = others_kept;
+  }
+  part_stored true p goes makes = record {
+    lines = stood;
+    runs = runs;
+    stood = goes p refl;
+    made = makes.made;
+    are = makes.are;
+    stored = text_held (rest_text (tells_revived tree) mark sweep.plan p stood makes.made) makes.written;
+    others = others_kept;
+  }
+
+  pub table_stored : (piece : Option Piece) (lines : List ℕ) → ForSome (piece_resumed sweep.resume piece) (λ q. Stood tree sweep mark q (start sweep.table.now) stood runs)
+      → MakesAsked piece tree sweep mark stood runs old new lines → StoresPlain piece tree sweep mark start end lines
+  table_stored (Some p) lines goes tells = (part_stored sweep.resume p goes tells.0, tells.1)
+  table_stored None lines goes tells = record {
     made = tells.makes.made;
     are = tells.makes.are;
-    stored = holds_text (start table) (made table) (end table) old new (table_text tree plan tells.makes.made) empty fresh tells.makes.written closes;
+    stored = text_held (table_text tree sweep.plan tells.makes.made) tells.makes.written;
     others = others_kept;
     told = record { cases = tells.cases; all = tells.makes.all; told = tells.makes.told; text = tells.text };
   }
 
-  pub table_begun : (piece : Option Piece) (cause : Fault) → BeginsAsked piece tree plan mark old new → HasCause tree plan cause
-      → BreaksOff piece tree plan mark start end table cause
-  table_begun (Some p) cause begins caused = record {
+  part_begun : (resume : Bool) (p : Piece) (cause : Fault) → ForSome (piece_resumed resume (Some p)) (λ q. Stood tree sweep mark q (start sweep.table.now) stood runs)
+      → BeginsPart resume tree sweep mark p stood runs old new → HasCause tree sweep.plan cause → BreaksOffPart resume tree sweep mark p start end cause
+  part_begun false p cause goes begins caused = record {
     made = begins.made;
     are = begins.are;
-    begun = holds_beginning (start table) (made table) (end table) old new (piece_table (tells_revived tree) mark plan p begins.made) empty fresh begins.written closes;
+    begun = beginning_held (piece_table (tells_revived tree) mark sweep.plan p begins.made) begins.written;
     others = others_kept;
     caused = caused;
   }
-  table_begun None cause begins caused = record {
+  part_begun true p cause goes begins caused = record {
+    lines = stood;
+    runs = runs;
+    stood = goes p refl;
     made = begins.made;
     are = begins.are;
-    begun = holds_beginning (start table) (made table) (end table) old new (table_text tree plan begins.made) empty fresh begins.written closes;
+    begun = beginning_held (rest_text (tells_revived tree) mark sweep.plan p stood begins.made) begins.written;
+    others = others_kept;
+    caused = caused;
+  }
+
+  pub table_begun : (piece : Option Piece) (cause : Fault) → ForSome (piece_resumed sweep.resume piece) (λ q. Stood tree sweep mark q (start sweep.table.now) stood runs)
+      → BeginsAsked piece tree sweep mark stood runs old new → HasCause tree sweep.plan cause → BreaksOff piece tree sweep mark start end cause
+  table_begun (Some p) cause goes begins caused = part_begun sweep.resume p cause goes begins caused
+  table_begun None cause goes begins caused = record {
+    made = begins.made;
+    are = begins.are;
+    begun = beginning_held (table_text tree sweep.plan begins.made) begins.written;
     others = others_kept;
     caused = caused;
   }

@@ -1,19 +1,33 @@
 -- What a sweep has done once it ends, and why one was not done.
-use Rattle.std.specs.Prelude.{◌≡◌, ◌⊎◌, ℕ, List, [], false, true, Option, Some, None, length, map, string_bytes}
+use Rattle.std.specs.Prelude.{◌≡◌, ◌≤◌, ◌+◌, ◌⊎◌, ℕ, Bool, List, [], false, true, Option, Some, None, length, map, string_bytes}
+use Rattle.std.specs.declared.cmp.Ordering.{Ordering}
+use Rattle.std.specs.Option.{ForSome}
+use Rattle.std.specs.Borrow.{Bor}
+use Rattle.std.specs.Io.KnownBytes.{Appends, Keeps}
 use Rattle.toml.specs.Data.{Data}
 use Rattle.clap.specs.Words.{Text}
 use Rattle.base.specs.declared.fault.Fault.{Fault}
-use Rattle.files.specs.Files.{Making, HoldsNow, KeepsOthers, CannotMake}
-use Rattle.cases.specs.Sweep.{Sweep, case_count, seed_count}
+use Rattle.files.specs.Files.{KnownFile, Making, Holds, HoldsNow, IsAbsent, KeepsOthers, KeepsAllOthers, CannotMake, CannotMakeSecond, AreThreeFiles}
+use Rattle.cases.specs.Keys.{key_name}
+use Rattle.cases.specs.Missing.{missing_of}
+use Rattle.cases.specs.Sweep.{Sweep, case_count, run_count, seed_count}
 use Rattle.cases.specs.Cases.{settings_text}
+use Rattle.cases.specs.declared.keys.SettingKey.{SettingKey}
+use Rattle.trace.specs.Sinks.{AppendsBeginning}
 use Rattle.answers.specs.Answers.{AddsAnswer}
-use Rattle.answers.specs.declared.want.Want.{Want}
+use Rattle.answers.specs.Front.{is_on_front}
+use Rattle.sweep_page.specs.Page.{IsPage, Styles}
+use Rattle.sweep_page.specs.declared.front_points.FrontPoint.{FrontPoint}
+use Rattle.case_json.specs.Objects.{TellsObjects}
+use Rattle.pieces.specs.Pieces.{first_run, past_run}
 use Rattle.pieces.specs.declared.piece.Piece.{Piece}
 use Rattle.sweep.specs.Runs.{Made, Planned, AreMade, noted}
 use Rattle.sweep.specs.Judged.{AreAccepted, IsFirstRefused}
 use Rattle.sweep.specs.Table.{table_text, tells_revived, HasCause, BeginsTable}
 use Rattle.sweep.specs.Summaries.{MakesAll, SumUp}
 use Rattle.sweep.specs.Pieces.{AreMadeIn, BeginsPiece, WritesPiece, piece_table}
+use Rattle.sweep.specs.Resumed.{AreMadeBehind, BeginsRest, IsBegun, RefusesBegun, WritesRest, rest_text}
+use Rattle.sweep.specs.declared.begun.BegunFault.TheVariants as begun_fault
 use Rattle.sweep.specs.Texts.{cases_text}
 use Rattle.figures.specs.declared.summary.CaseSummary.{CaseSummary}
 use Rattle.command_line.specs.Words.{AsksForSweep}
@@ -21,8 +35,10 @@ use Rattle.command_line.specs.Division.{AsksForWorkers}
 use Rattle.command_line.specs.Failures.{RefusesWorkers}
 use Rattle.command_line.specs.declared.words.SweepWords.{SweepWords}
 use Rattle.command_line.specs.declared.failure.Failure.{Failure}
-use Rattle.command_line.specs.declared.failure.Failure.TheVariants.{File, Case, Run, Memory}
-use Rattle.scenario_files.specs.Shelves.{Shelf, word_given, IsRefused, HoldsBeginning}
+use Rattle.command_line.specs.declared.failure.Failure.TheVariants.{File, NoItem, Case, Pieces, Run, Memory}
+use Rattle.command_line.specs.declared.failure.PieceFault.{PieceFault}
+use Rattle.command_line.specs.declared.failure.PieceFault.TheVariants as piece
+use Rattle.scenario_files.specs.Shelves.{Shelf, word_given, IsRefused, IsUnread, HoldsBeginning}
 use Rattle.scenario_files.specs.Loading.{HasDocument, HasMarkedDocument, HasNoDocument}
 
 -- the words ask for a sweep that tells how far it has come
@@ -31,70 +47,194 @@ AsksForProgress words = (sweep : SweepWords) × AsksForSweep words sweep × (swe
 
 -- ---- what was done
 
--- The checks of a sweep, before its table is made: the words name so many workers, the file holds this document, whose text has
--- this mark, and the document of each run is accepted.
+-- The checks of a sweep, before its table is looked at: the words name so many workers, the file holds this document, whose text has
+-- this mark, the document has the items whose keys are set, each once, and that of each run is accepted.
 pub record PassesSweepChecks (before : Shelf) (sweep : SweepWords) (workers : ℕ) (tree : Data) (mark : List ℕ) : Type 0 where
   pub asked : AsksForWorkers (word_given sweep.workers) workers
   pub read : HasMarkedDocument (before sweep.file.now) tree mark
+  pub there : missing_of tree sweep.plan.settings ≡ None
   pub accepted : AreAccepted tree sweep.plan
 
--- these are the lines of all cases, with the summaries of their runs, and what they answer
-pub record AreLinesOf (tree : Data) (plan : Sweep) (wants : List Want) (made : List Made) (lines : List ℕ) : Type 0 where
+-- how cases are told: as JSON, an object a line, or in aligned columns, with what they answer
+abbrev pub TellsCases : Bool → Data → SweepWords → List CaseSummary → List ℕ → Type 0
+TellsCases true tree sweep cases text = TellsObjects (tells_revived tree) sweep.plan.settings sweep.wants.items cases text
+TellsCases false tree sweep cases text = AddsAnswer sweep.plan.settings sweep.wants.items cases (cases_text (tells_revived tree) sweep.plan cases) text
+
+-- this is what is told of all cases, by the summaries of their runs
+pub record AreLinesOf (tree : Data) (sweep : SweepWords) (made : List Made) (lines : List ℕ) : Type 0 where
   pub cases : List CaseSummary
-  pub all : length cases ≡ case_count plan.settings
-  pub told : SumUp (seed_count plan.seeds) (map noted made) cases
-  pub text : AddsAnswer plan.settings wants cases (cases_text (tells_revived tree) plan cases) lines
+  pub all : length cases ≡ case_count sweep.plan.settings
+  pub told : SumUp (seed_count sweep.plan.seeds) (map noted made) cases
+  pub text : TellsCases sweep.jsonl tree sweep cases lines
 
--- all runs were made and their table was appended to what was held, and these are the lines of their cases and what they answer
-pub record MakesLines (tree : Data) (plan : Sweep) (wants : List Want) (old new : Option (List ℕ)) (lines : List ℕ) : Type 0 where
+-- all runs were made and their table was appended to what was held, and this is what is told of their cases
+pub record MakesLines (tree : Data) (sweep : SweepWords) (old new : Option (List ℕ)) (lines : List ℕ) : Type 0 where
   pub cases : List CaseSummary
-  pub makes : MakesAll tree plan old new cases
-  pub text : AddsAnswer plan.settings wants cases (cases_text (tells_revived tree) plan cases) lines
+  pub makes : MakesAll tree sweep.plan old new cases
+  pub text : TellsCases sweep.jsonl tree sweep cases lines
 
--- All runs were made: the file holds their table, no other file has changed, and these are the lines of their cases.
-pub record StoresTable (tree : Data) (plan : Sweep) (wants : List Want) (before after : Shelf) (table : Text) (lines : List ℕ) : Type 0 where
+-- All runs were made: the file holds their table, no other file has changed, and this is what is told of their cases.
+pub record StoresTable (tree : Data) (sweep : SweepWords) (before after : Shelf) (lines : List ℕ) : Type 0 where
   pub made : List Made
-  pub are : AreMade tree plan made
-  pub stored : HoldsNow (before table) (after table) (table_text tree plan made)
-  pub others : KeepsOthers before after table
-  pub told : AreLinesOf tree plan wants made lines
+  pub are : AreMade tree sweep.plan made
+  pub stored : HoldsNow (before sweep.table.now) (after sweep.table.now) (table_text tree sweep.plan made)
+  pub others : KeepsOthers before after sweep.table.now
+  pub told : AreLinesOf tree sweep made lines
 
--- The runs of a piece were made: the file holds its table, and no other file has changed.
-pub record StoresPiece (tree : Data) (plan : Sweep) (mark : List ℕ) (p : Piece) (before after : Shelf) (table : Text) : Type 0 where
+-- which cases no other beats
+abbrev pub front_of : List CaseSummary → List Bool
+front_of cases = map (λ case. is_on_front case cases) cases
+
+-- the text is a page of these cases, made by a release; in some styles, and with the cases on the front in some order
+abbrev pub IsSweepPage : SweepWords → List ℕ → List CaseSummary → List ℕ → Type 0
+IsSweepPage sweep release cases text =
+    (order : FrontPoint → FrontPoint → Ordering) × (s : Styles) × IsPage order s sweep.file.now release sweep.plan cases (front_of cases) text
+
+-- All runs were made, and this is what is told of their cases: the file of the table holds that, the file of this name a page of the cases, and no
+-- other file has changed.
+pub record StoresPaged (tree : Data) (sweep : SweepWords) (release : List ℕ) (page : Text) (before after : Shelf) (lines : List ℕ) : Type 0 where
   pub made : List Made
-  pub are : AreMadeIn tree plan p made
-  pub stored : HoldsNow (before table) (after table) (piece_table (tells_revived tree) mark plan p made)
-  pub others : KeepsOthers before after table
+  pub are : AreMade tree sweep.plan made
+  pub stored : HoldsNow (before sweep.table.now) (after sweep.table.now) (table_text tree sweep.plan made)
+  pub cases : List CaseSummary
+  pub all : length cases ≡ case_count sweep.plan.settings
+  pub told : SumUp (seed_count sweep.plan.seeds) (map noted made) cases
+  pub text : TellsCases sweep.jsonl tree sweep cases lines
+  pub shown : List ℕ
+  pub is : IsSweepPage sweep release cases shown
+  pub paged : HoldsNow (before page) (after page) shown
+  pub others : KeepsAllOthers before after sweep.table.now page
 
--- what is asked for was stored: the whole table, and these are the lines of its cases; or that of a piece, of which no line is told
-abbrev pub StoresAsked : Option Piece → Data → Sweep → List Want → List ℕ → Shelf → Shelf → Text → List ℕ → Type 0
-StoresAsked None tree plan wants mark before after table lines = StoresTable tree plan wants before after table lines
-StoresAsked (Some p) tree plan wants mark before after table lines = StoresPiece tree plan mark p before after table × (lines ≡ [])
+-- the whole was stored, with a page where one is asked for
+abbrev pub StoresWhole : Option (Bor Text) → Data → SweepWords → List ℕ → Shelf → Shelf → List ℕ → Type 0
+StoresWhole None tree sweep release before after lines = StoresTable tree sweep before after lines
+StoresWhole (Some page) tree sweep release before after lines = StoresPaged tree sweep release page.now before after lines
+
+-- a page of the cases was appended; or a beginning of one, or nothing
+abbrev pub WritesPage : SweepWords → List ℕ → List CaseSummary → Option (List ℕ) → Option (List ℕ) → Type 0
+WritesPage sweep release cases old new = (text : List ℕ) × IsSweepPage sweep release cases text × Appends old new text
+
+abbrev pub BeginsPage : SweepWords → List ℕ → List CaseSummary → Option (List ℕ) → Option (List ℕ) → Type 0
+BeginsPage sweep release cases old new = Keeps old new ⊎ ((text : List ℕ) × IsSweepPage sweep release cases text × AppendsBeginning old new text)
 
 -- the same of what was appended to what was held
-abbrev pub MakesAsked : Option Piece → Data → Sweep → List Want → List ℕ → Option (List ℕ) → Option (List ℕ) → List ℕ → Type 0
-MakesAsked None tree plan wants mark old new lines = MakesLines tree plan wants old new lines
-MakesAsked (Some p) tree plan wants mark old new lines = WritesPiece tree plan mark p old new × (lines ≡ [])
+pub record MakesPaged (tree : Data) (sweep : SweepWords) (release : List ℕ) (old new page_old page_new : Option (List ℕ)) (lines : List ℕ) : Type 0 where
+  pub cases : List CaseSummary
+  pub makes : MakesAll tree sweep.plan old new cases
+  pub text : TellsCases sweep.jsonl tree sweep cases lines
+  pub paged : WritesPage sweep release cases page_old page_new
+
+-- a text is a page of the cases of these runs
+abbrev pub IsPageOfRuns : SweepWords → List Made → List ℕ → Type 0
+IsPageOfRuns sweep made text = (release : List ℕ) × (cases : List CaseSummary) × SumUp (seed_count sweep.plan.seeds) (map noted made) cases × IsSweepPage sweep release cases text
+
+-- a beginning was appended: of the table, and nothing of a page; or the whole table, and a beginning of a page
+pub record BeginsPaged (tree : Data) (sweep : SweepWords) (old new page_old page_new : Option (List ℕ)) : Type 0 where
+  pub made : List Made
+  pub are : AreMade tree sweep.plan made
+  pub written : (AppendsBeginning old new (table_text tree sweep.plan made) × Keeps page_old page_new)
+      ⊎ (Appends old new (table_text tree sweep.plan made) × ((text : List ℕ) × IsPageOfRuns sweep made text × AppendsBeginning page_old page_new text))
+
+-- The runs of a piece were made: the file holds its table, and no other file has changed.
+pub record StoresPiece (tree : Data) (sweep : SweepWords) (mark : List ℕ) (p : Piece) (before after : Shelf) : Type 0 where
+  pub made : List Made
+  pub are : AreMadeIn tree sweep.plan p made
+  pub stored : HoldsNow (before sweep.table.now) (after sweep.table.now) (piece_table (tells_revived tree) mark sweep.plan p made)
+  pub others : KeepsOthers before after sweep.table.now
+
+-- what the file held of a table that was cut off; where there is no file, nothing
+abbrev pub HeldSoFar : KnownFile → List ℕ → Type 0
+HeldSoFar known text = Holds known text ⊎ (IsAbsent known × (text ≡ []))
+
+-- of a piece's table so much stood in the file: behind the first line these whole lines, so many
+pub record Stood (tree : Data) (sweep : SweepWords) (mark : List ℕ) (p : Piece) (known : KnownFile) (lines : List ℕ) (runs : ℕ) : Type 0 where
+  pub text : List ℕ
+  pub held : HeldSoFar known text
+  pub begun : IsBegun (tells_revived tree) mark sweep.plan p text lines runs
+
+-- The runs of a piece that were left were made: the file holds the table's first line, the lines that stood there, and those of these
+-- runs; and no other file has changed.
+pub record StoresRest (tree : Data) (sweep : SweepWords) (mark : List ℕ) (p : Piece) (before after : Shelf) : Type 0 where
+  pub lines : List ℕ
+  pub runs : ℕ
+  pub stood : Stood tree sweep mark p (before sweep.table.now) lines runs
+  pub made : List Made
+  pub are : AreMadeBehind tree sweep.plan p runs made
+  pub stored : HoldsNow (before sweep.table.now) (after sweep.table.now) (rest_text (tells_revived tree) mark sweep.plan p lines made)
+  pub others : KeepsOthers before after sweep.table.now
+
+-- the piece was made anew, or went on where it was cut off
+abbrev pub StoresPart : Bool → Data → SweepWords → List ℕ → Piece → Shelf → Shelf → Type 0
+StoresPart false tree sweep mark p before after = StoresPiece tree sweep mark p before after
+StoresPart true tree sweep mark p before after = StoresRest tree sweep mark p before after
+
+-- what is asked for was stored, where no page is: the whole table, and this is what is told of its cases; or that of a piece, of which nothing is told
+abbrev pub StoresPlain : Option Piece → Data → SweepWords → List ℕ → Shelf → Shelf → List ℕ → Type 0
+StoresPlain None tree sweep mark before after lines = StoresTable tree sweep before after lines
+StoresPlain (Some p) tree sweep mark before after lines = StoresPart sweep.resume tree sweep mark p before after × (lines ≡ [])
+
+-- the same, with a page where one is asked for
+abbrev pub StoresAsked : Option Piece → Data → SweepWords → List ℕ → List ℕ → Shelf → Shelf → List ℕ → Type 0
+StoresAsked None tree sweep release mark before after lines = StoresWhole sweep.page tree sweep release before after lines
+StoresAsked (Some p) tree sweep release mark before after lines = StoresPart sweep.resume tree sweep mark p before after × (lines ≡ [])
+
+-- the scenario's file, the table's and the page's, where one is asked for, are different files
+abbrev pub AreApart : Option (Bor Text) → Making → Text → Text → Type 0
+AreApart None making file table = making.are_one file table ≡ false
+AreApart (Some page) making file table = AreThreeFiles making file table page.now
+
+-- the same of what was appended to what was held; of a piece that went on, behind these lines, so many
+abbrev pub MakesPart : Bool → Data → SweepWords → List ℕ → Piece → List ℕ → ℕ → Option (List ℕ) → Option (List ℕ) → Type 0
+MakesPart false tree sweep mark p stood runs old new = WritesPiece tree sweep.plan mark p old new
+MakesPart true tree sweep mark p stood runs old new = WritesRest tree sweep.plan mark p stood runs old new
+
+abbrev pub MakesAsked : Option Piece → Data → SweepWords → List ℕ → List ℕ → ℕ → Option (List ℕ) → Option (List ℕ) → List ℕ → Type 0
+MakesAsked None tree sweep mark stood runs old new lines = MakesLines tree sweep old new lines
+MakesAsked (Some p) tree sweep mark stood runs old new lines = MakesPart sweep.resume tree sweep mark p stood runs old new × (lines ≡ [])
 
 -- a beginning of it was appended
-abbrev pub BeginsAsked : Option Piece → Data → Sweep → List ℕ → Option (List ℕ) → Option (List ℕ) → Type 0
-BeginsAsked None tree plan mark old new = BeginsTable tree plan old new
-BeginsAsked (Some p) tree plan mark old new = BeginsPiece tree plan mark p old new
+abbrev pub BeginsPart : Bool → Data → SweepWords → List ℕ → Piece → List ℕ → ℕ → Option (List ℕ) → Option (List ℕ) → Type 0
+BeginsPart false tree sweep mark p stood runs old new = BeginsPiece tree sweep.plan mark p old new
+BeginsPart true tree sweep mark p stood runs old new = BeginsRest tree sweep.plan mark p stood runs old new
 
--- the sweep passed its checks and was done, and these are the lines of its cases, where it is a whole one
-pub record SweepsAll (before after : Shelf) (making : Making) (sweep : SweepWords) (lines : List ℕ) : Type 0 where
+abbrev pub BeginsAsked : Option Piece → Data → SweepWords → List ℕ → List ℕ → ℕ → Option (List ℕ) → Option (List ℕ) → Type 0
+BeginsAsked None tree sweep mark stood runs old new = BeginsTable tree sweep.plan old new
+BeginsAsked (Some p) tree sweep mark stood runs old new = BeginsPart sweep.resume tree sweep mark p stood runs old new
+
+-- the piece that goes on, if one does
+abbrev pub piece_resumed : Bool → Option Piece → Option Piece
+piece_resumed false asked = None
+piece_resumed true asked = asked
+
+-- where a piece goes on, so much of its table stood in the file
+abbrev pub GoesOn : Data → SweepWords → List ℕ → KnownFile → List ℕ → ℕ → Type 0
+GoesOn tree sweep mark known stood runs = ForSome (piece_resumed sweep.resume sweep.piece) (λ p. Stood tree sweep mark p known stood runs)
+
+-- so many runs of it are no more than it has
+abbrev pub FitPiece : SweepWords → Option Piece → ℕ → Type 0
+FitPiece sweep asked runs =
+    ForSome (piece_resumed sweep.resume asked) (λ p. first_run p (run_count sweep.plan) + runs ≤ past_run p (run_count sweep.plan))
+
+-- the sweep passed its checks and was done, and this is what is told of its cases, where it is a whole one
+pub record SweepsAll (release : List ℕ) (before after : Shelf) (making : Making) (sweep : SweepWords) (lines : List ℕ) : Type 0 where
   pub workers : ℕ
   pub tree : Data
   pub mark : List ℕ
   pub checks : PassesSweepChecks before sweep workers tree mark
-  pub apart : making.are_one sweep.file.now sweep.table.now ≡ false
-  pub stored : StoresAsked sweep.piece tree sweep.plan sweep.wants.items mark before after sweep.table.now lines
+  pub apart : AreApart sweep.page making sweep.file.now sweep.table.now
+  pub stored : StoresAsked sweep.piece tree sweep release mark before after lines
 
 -- a sweep that the words ask for was done
-abbrev pub DoesSweep : List Text → Shelf → Shelf → Making → List ℕ → Type 0
-DoesSweep words before after making lines = (sweep : SweepWords) × AsksForSweep words sweep × SweepsAll before after making sweep lines
+abbrev pub DoesSweep : List ℕ → List Text → Shelf → Shelf → Making → List ℕ → Type 0
+DoesSweep release words before after making lines = (sweep : SweepWords) × AsksForSweep words sweep × SweepsAll release before after making sweep lines
 
 -- ---- what was not done
+
+-- a key is set of an item that isn't there, or is there more than once; or memory was refused
+abbrev pub LacksItem : Data → Sweep → Failure → Type 0
+LacksItem tree plan (NoItem key) = (k : SettingKey) × (missing_of tree plan.settings ≡ Some k) × (string_bytes key ≡ key_name k)
+LacksItem tree plan Memory = Unit {0}
+LacksItem tree plan _ = ⊥
 
 -- a case is refused, the first whose document breaks a rule, and told with its settings; or memory was refused
 abbrev pub RefusesCase : Data → Sweep → Failure → Type 0
@@ -102,34 +242,71 @@ RefusesCase tree plan (Case rule settings) = (p : Planned) × IsFirstRefused tre
 RefusesCase tree plan Memory = Unit {0}
 RefusesCase tree plan _ = ⊥
 
--- The check of a sweep that failed. Of several causes it is the first of workers, the file and its document, cases.
+-- The check of a sweep that failed. Of several causes it is the first of workers, the file and its document, items, cases.
 abbrev pub FailsSweepCheck : Shelf → SweepWords → Failure → Type 0
 FailsSweepCheck before sweep failure =
     RefusesWorkers (word_given sweep.workers) failure
     ⊎ (((workers : ℕ) × AsksForWorkers (word_given sweep.workers) workers × HasNoDocument (before sweep.file.now) sweep.file.now failure)
+    ⊎ (((workers : ℕ) × (tree : Data) × AsksForWorkers (word_given sweep.workers) workers × HasDocument (before sweep.file.now) (Some tree)
+    × LacksItem tree sweep.plan failure)
     ⊎ ((workers : ℕ) × (tree : Data) × AsksForWorkers (word_given sweep.workers) workers × HasDocument (before sweep.file.now) (Some tree)
-    × RefusesCase tree sweep.plan failure))
+    × (missing_of tree sweep.plan.settings ≡ None) × RefusesCase tree sweep.plan failure)))
+
+-- a text is no beginning of the piece's table, and is told by the name of its file
+abbrev pub IsOther : Data → SweepWords → List ℕ → Piece → List ℕ → PieceFault → Type 0
+IsOther tree sweep mark p text (piece.Other name) = (name.now ≡ sweep.table.now) × RefusesBegun (tells_revived tree) mark sweep.plan p text begun_fault.Other
+IsOther tree sweep mark p text _ = ⊥
+
+-- that is so, or memory was refused
+abbrev pub RefusesSoFar : Data → SweepWords → List ℕ → Piece → List ℕ → Failure → Type 0
+RefusesSoFar tree sweep mark p text (Pieces cause) = IsOther tree sweep mark p text cause
+RefusesSoFar tree sweep mark p text Memory = Unit {0}
+RefusesSoFar tree sweep mark p text _ = ⊥
+
+-- A piece can't go on: what the file of its table holds is no beginning of that; the file can't be read; or memory was refused.
+abbrev pub RefusesStood : Data → SweepWords → List ℕ → Piece → KnownFile → Failure → Type 0
+RefusesStood tree sweep mark p known (Pieces cause) = (text : List ℕ) × HeldSoFar known text × IsOther tree sweep mark p text cause
+RefusesStood tree sweep mark p known failure = IsUnread known sweep.table.now failure
+
+-- the piece that was to go on can't
+abbrev pub CannotGoOn : Data → SweepWords → List ℕ → KnownFile → Failure → Type 0
+CannotGoOn tree sweep mark known failure = (p : Piece) × (piece_resumed sweep.resume sweep.piece ≡ Some p) × RefusesStood tree sweep mark p known failure
 
 -- the runs were ended by the fault, which has its cause: the file holds a beginning of their table, and no other has changed
-pub record BreaksOffTable (tree : Data) (plan : Sweep) (before after : Shelf) (table : Text) (cause : Fault) : Type 0 where
+pub record BreaksOffTable (tree : Data) (sweep : SweepWords) (before after : Shelf) (cause : Fault) : Type 0 where
   pub made : List Made
-  pub are : AreMade tree plan made
-  pub begun : HoldsBeginning (before table) (after table) (table_text tree plan made)
-  pub others : KeepsOthers before after table
-  pub caused : HasCause tree plan cause
+  pub are : AreMade tree sweep.plan made
+  pub begun : HoldsBeginning (before sweep.table.now) (after sweep.table.now) (table_text tree sweep.plan made)
+  pub others : KeepsOthers before after sweep.table.now
+  pub caused : HasCause tree sweep.plan cause
 
 -- the same of the table of a piece
-pub record BreaksOffPiece (tree : Data) (plan : Sweep) (mark : List ℕ) (p : Piece) (before after : Shelf) (table : Text) (cause : Fault) : Type 0 where
+pub record BreaksOffPiece (tree : Data) (sweep : SweepWords) (mark : List ℕ) (p : Piece) (before after : Shelf) (cause : Fault) : Type 0 where
   pub made : List Made
-  pub are : AreMadeIn tree plan p made
-  pub begun : HoldsBeginning (before table) (after table) (piece_table (tells_revived tree) mark plan p made)
-  pub others : KeepsOthers before after table
-  pub caused : HasCause tree plan cause
+  pub are : AreMadeIn tree sweep.plan p made
+  pub begun : HoldsBeginning (before sweep.table.now) (after sweep.table.now) (piece_table (tells_revived tree) mark sweep.plan p made)
+  pub others : KeepsOthers before after sweep.table.now
+  pub caused : HasCause tree sweep.plan cause
+
+-- of that of a piece that went on
+pub record BreaksOffRest (tree : Data) (sweep : SweepWords) (mark : List ℕ) (p : Piece) (before after : Shelf) (cause : Fault) : Type 0 where
+  pub lines : List ℕ
+  pub runs : ℕ
+  pub stood : Stood tree sweep mark p (before sweep.table.now) lines runs
+  pub made : List Made
+  pub are : AreMadeBehind tree sweep.plan p runs made
+  pub begun : HoldsBeginning (before sweep.table.now) (after sweep.table.now) (rest_text (tells_revived tree) mark sweep.plan p lines made)
+  pub others : KeepsOthers before after sweep.table.now
+  pub caused : HasCause tree sweep.plan cause
+
+abbrev pub BreaksOffPart : Bool → Data → SweepWords → List ℕ → Piece → Shelf → Shelf → Fault → Type 0
+BreaksOffPart false tree sweep mark p before after cause = BreaksOffPiece tree sweep mark p before after cause
+BreaksOffPart true tree sweep mark p before after cause = BreaksOffRest tree sweep mark p before after cause
 
 -- and of what is asked for
-abbrev pub BreaksOff : Option Piece → Data → Sweep → List ℕ → Shelf → Shelf → Text → Fault → Type 0
-BreaksOff None tree plan mark before after table cause = BreaksOffTable tree plan before after table cause
-BreaksOff (Some p) tree plan mark before after table cause = BreaksOffPiece tree plan mark p before after table cause
+abbrev pub BreaksOff : Option Piece → Data → SweepWords → List ℕ → Shelf → Shelf → Fault → Type 0
+BreaksOff None tree sweep mark before after cause = BreaksOffTable tree sweep before after cause
+BreaksOff (Some p) tree sweep mark before after cause = BreaksOffPart sweep.resume tree sweep mark p before after cause
 
 -- No whole table was stored: its file can't be made, memory was refused, or the runs broke off. Before they began no file has changed.
 abbrev pub TableFails : Data → List ℕ → Shelf → Shelf → Making → SweepWords → Failure → Type 0
@@ -137,21 +314,51 @@ TableFails tree mark before after making sweep (File name) =
     (name.now ≡ sweep.table.now) × CannotMake making sweep.file.now sweep.table.now × (after ≡ before)
 TableFails tree mark before after making sweep Memory = after ≡ before
 TableFails tree mark before after making sweep (Run cause) =
-    (making.are_one sweep.file.now sweep.table.now ≡ false) × BreaksOff sweep.piece tree sweep.plan mark before after sweep.table.now cause
+    (making.are_one sweep.file.now sweep.table.now ≡ false) × BreaksOff sweep.piece tree sweep mark before after cause
 TableFails tree mark before after making sweep _ = ⊥
 
--- all checks passed, but the table was not stored whole
+-- of a table and a page: the one has a beginning while the other is empty, or the one is whole and the other has a beginning
+pub record BreaksOffPaged (tree : Data) (sweep : SweepWords) (page : Text) (before after : Shelf) (cause : Fault) : Type 0 where
+  pub made : List Made
+  pub are : AreMade tree sweep.plan made
+  pub written : (HoldsBeginning (before sweep.table.now) (after sweep.table.now) (table_text tree sweep.plan made) × HoldsNow (before page) (after page) [])
+      ⊎ (HoldsNow (before sweep.table.now) (after sweep.table.now) (table_text tree sweep.plan made)
+      × ((text : List ℕ) × IsPageOfRuns sweep made text × HoldsBeginning (before page) (after page) text))
+  pub others : KeepsAllOthers before after sweep.table.now page
+  pub caused : HasCause tree sweep.plan cause
+
+-- a table and a page were not stored whole: a file can't be made, memory was refused, or it broke off. Before that no file has changed.
+abbrev pub PagedFails : Data → Text → Shelf → Shelf → Making → SweepWords → Failure → Type 0
+PagedFails tree page before after making sweep (File name) =
+    (((name.now ≡ sweep.table.now) × CannotMake making sweep.file.now sweep.table.now)
+    ⊎ ((name.now ≡ page) × CannotMakeSecond making sweep.file.now sweep.table.now page)) × (after ≡ before)
+PagedFails tree page before after making sweep Memory = after ≡ before
+PagedFails tree page before after making sweep (Run cause) =
+    AreThreeFiles making sweep.file.now sweep.table.now page × BreaksOffPaged tree sweep page before after cause
+PagedFails tree page before after making sweep _ = ⊥
+
+-- and of what is asked for
+abbrev pub StoreFails : Option (Bor Text) → Data → List ℕ → Shelf → Shelf → Making → SweepWords → Failure → Type 0
+StoreFails None tree mark before after making sweep failure = TableFails tree mark before after making sweep failure
+StoreFails (Some page) tree mark before after making sweep failure = PagedFails tree page.now before after making sweep failure
+
+-- all checks passed, but a piece can't go on, and no file has changed; or what is asked for was not stored whole
 pub record FailsToSweep (before after : Shelf) (making : Making) (sweep : SweepWords) (failure : Failure) : Type 0 where
   pub workers : ℕ
   pub tree : Data
   pub mark : List ℕ
   pub checks : PassesSweepChecks before sweep workers tree mark
-  pub cause : TableFails tree mark before after making sweep failure
+  pub cause : (CannotGoOn tree sweep mark (before sweep.table.now) failure × (after ≡ before)) ⊎ StoreFails sweep.page tree mark before after making sweep failure
 
 -- why the sweep was not done: the first check that failed, and after all checks what befell the table
 abbrev pub SweepFails : Shelf → Shelf → Making → SweepWords → Failure → Type 0
 SweepFails before after making sweep failure =
     IsRefused before after (FailsSweepCheck before sweep failure) ⊎ FailsToSweep before after making sweep failure
+
+-- the words ask for a sweep that sets a key of an item which the document of the file hasn't, or has more than once
+abbrev pub SetsNoItem : List Text → Shelf → Type 0
+SetsNoItem words before = (sweep : SweepWords) × AsksForSweep words sweep × ((tree : Data) × HasDocument (before sweep.file.now) (Some tree)
+    × ((k : SettingKey) × (missing_of tree sweep.plan.settings ≡ Some k)))
 
 -- why a sweep that the words ask for was not done
 abbrev pub DoesNotSweep : List Text → Shelf → Shelf → Making → Failure → Type 0

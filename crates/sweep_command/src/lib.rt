@@ -1,6 +1,10 @@
 //! The command `sweep`: many runs of the scenario of a file, and the file that takes their table.
 #![tactic(auto)]
 
+mod checks;
+mod paging;
+mod resuming;
 mod sweeping;
+mod telling;
 
 pub use sweeping::sweep_file;

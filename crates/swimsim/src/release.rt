@@ -1,8 +1,8 @@
 //! Which release of the program this is.
 
 /// The number of the version.
-pub const VERSION: &str = "1.2.0";
+pub const VERSION: &str = "1.3.0";
 /// The digest of the sources.
-pub const SOURCES: &str = "9451a0b3d1b5ac54d468b29055cc0198b6b44c72f3fde0ebca51cb5f66435f98";
+pub const SOURCES: &str = "85522381c5d18a57f9de2acdfe4ccdcc54256eacdb2240aa5b132b1621659c1e";
 /// The kit.
 pub const KIT: &str = "rattle-kit-13f logic dac8208d650f15bf";

@@ -4,10 +4,12 @@ use Rattle.clap.specs.Words.{Text}
 use Rattle.files.specs.Files.{Making}
 use Rattle.scenario_files.specs.Shelves.{Shelf}
 use Rattle.command_line.specs.Failures.{status_of, IsMistaken}
-use Rattle.command_line.specs.Words.{AsksToExplain}
+use Rattle.command_line.specs.Words.{AsksToExplain, IsNoCommand}
+use Rattle.sweep_command.specs.Outcomes.{SetsNoItem}
+use Rattle.sweep_command.proofs.Causes.{sweep_item}
 use Rattle.cli.specs.Outcomes.{Fails}
 use Rattle.command_line.specs.declared.failure.Failure.{Failure}
-use Rattle.command_line.specs.declared.failure.Failure.TheVariants.{File, Usage, Preset, Rule, Mistaken, Case, Pieces, Workers, Division, Run, Memory, Output}
+use Rattle.command_line.specs.declared.failure.Failure.TheVariants.{File, Usage, Preset, NoItem, Rule, Mistaken, Case, Pieces, Workers, Division, Run, Memory, Output}
 use Rattle.cli.proofs.program.command.Goals as goal
 
 -- no failure has the status of what was done
@@ -16,6 +18,7 @@ no_failure (File name) e = omega arith
 no_failure Output e = omega arith
 no_failure Usage e = omega arith
 no_failure Preset e = omega arith
+no_failure (NoItem key) e = omega arith
 no_failure (Rule number) e = omega arith
 no_failure (Mistaken number) e = omega arith
 no_failure (Case number settings) e = omega arith
@@ -25,20 +28,22 @@ no_failure (Division cause) e = omega arith
 no_failure (Run cause) e = omega arith
 no_failure Memory e = omega arith
 
--- status 2 is for words that are no command
-is_usage : (failure : Failure) → status_of failure ≡ 2 → (failure ≡ Usage) ⊎ (failure ≡ Preset)
-is_usage (File name) e = absurd (omega arith)
-is_usage Output e = absurd (omega arith)
-is_usage Usage e = inl refl
-is_usage Preset e = inr refl
-is_usage (Rule number) e = absurd (omega arith)
-is_usage (Mistaken number) e = absurd (omega arith)
-is_usage (Case number settings) e = absurd (omega arith)
-is_usage (Pieces cause) e = absurd (omega arith)
-is_usage Workers e = absurd (omega arith)
-is_usage (Division cause) e = absurd (omega arith)
-is_usage (Run cause) e = absurd (omega arith)
-is_usage Memory e = absurd (omega arith)
+-- status 2 is for words that are no command, and for the key of an item that the text hasn't
+is_usage : (words : List Text) (before after : Shelf) (making : Making) (old new : Option (List ℕ)) (failure : Failure) → status_of failure ≡ 2
+    → (failure ≡ Usage → IsNoCommand words) → (failure ≡ Preset → IsNoCommand words) → Fails words before after making old new failure → IsNoCommand words ⊎ SetsNoItem words before
+is_usage words before after making old new (File name) e usage preset fails = absurd (omega arith)
+is_usage words before after making old new Output e usage preset fails = absurd (omega arith)
+is_usage words before after making old new Usage e usage preset fails = inl (usage refl)
+is_usage words before after making old new Preset e usage preset fails = inl (preset refl)
+is_usage words before after making old new (NoItem key) e usage preset fails = inr (sweep_item words before after making fails.0 key fails.1 fails.2)
+is_usage words before after making old new (Rule number) e usage preset fails = absurd (omega arith)
+is_usage words before after making old new (Mistaken number) e usage preset fails = absurd (omega arith)
+is_usage words before after making old new (Case number settings) e usage preset fails = absurd (omega arith)
+is_usage words before after making old new (Pieces cause) e usage preset fails = absurd (omega arith)
+is_usage words before after making old new Workers e usage preset fails = absurd (omega arith)
+is_usage words before after making old new (Division cause) e usage preset fails = absurd (omega arith)
+is_usage words before after making old new (Run cause) e usage preset fails = absurd (omega arith)
+is_usage words before after making old new Memory e usage preset fails = absurd (omega arith)
 
 -- standard output that failed has status 1
 not_output : (failure : Failure) → 2 ≤ status_of failure → failure ≢ Output
@@ -53,6 +58,7 @@ has_three (File name) is = absurd is
 has_three Output is = absurd is
 has_three Usage is = absurd is
 has_three Preset is = absurd is
+has_three (NoItem key) is = absurd is
 has_three (Rule number) is = absurd is
 has_three (Case number settings) is = absurd is
 has_three (Pieces cause) is = absurd is
@@ -68,6 +74,7 @@ asks_to_explain words before after making old new (File name) fails is = absurd 
 asks_to_explain words before after making old new Output fails is = absurd is
 asks_to_explain words before after making old new Usage fails is = absurd is
 asks_to_explain words before after making old new Preset fails is = absurd is
+asks_to_explain words before after making old new (NoItem key) fails is = absurd is
 asks_to_explain words before after making old new (Rule number) fails is = absurd is
 asks_to_explain words before after making old new (Case number settings) fails is = absurd is
 asks_to_explain words before after making old new (Pieces cause) fails is = absurd is
@@ -119,10 +126,7 @@ returns-in-Err-clause-failed g c _ = record {
 
 pub returns-in-Err-clause-usage : goal.returns-in-Err-clause-usage
 returns-in-Err-clause-usage g c e =
-    elim (is_usage c.in-Err.failure (sym c.refuse.ensures.status ∙ e)) [
-      | inl is ↦ c.in-Err.ensures.usage (ap Err is)
-      | inr is ↦ c.in-Err.ensures.preset (ap Err is)
-    ]
+    is_usage _ _ _ _ _ _ c.in-Err.failure (sym c.refuse.ensures.status ∙ e) (λ is. c.in-Err.ensures.usage (ap Err is)) (λ is. c.in-Err.ensures.preset (ap Err is)) c.in-Err.ensures.failed
 
 pub returns-in-Err-clause-other : goal.returns-in-Err-clause-other
 returns-in-Err-clause-other g c none = two_or_five c.in-Err.failure c.refuse.result c.refuse.ensures.status (c.in-Err.ensures.other none)

@@ -1,6 +1,6 @@
 -- a run or a sweep that the words ask for, done and told or not done
 use Rattle.std.proofs.lemmas.Result.{IfErr-weaker, on_ok_weaker}
-use Rattle.cli.proofs.Commands.{asked_explain_done, asked_explain_failed, asked_init_done, asked_init_fails, asked_join_done, asked_join_fails, asked_join_unprinted, asked_piece, asked_run_done, asked_run_fails, asked_sweep_done, asked_sweep_fails, asked_sweep_unprinted, asked_untold, asked_wants, is_command}
+use Rattle.cli.proofs.Commands.{asked_alone, asked_explain_done, asked_explain_failed, asked_init_done, asked_init_fails, asked_join_done, asked_join_fails, asked_join_unprinted, asked_piece, asked_run_done, asked_run_fails, asked_sweep_done, asked_sweep_fails, asked_sweep_unprinted, asked_untold, asked_wants, is_command}
 use Rattle.scenario_files.proofs.Held.{handed_on}
 use Rattle.cli.proofs.program.perform.Goals as goal
 
@@ -30,7 +30,7 @@ returns-in_ok-lines-in-Sweep-clause-done g c =
 
 pub returns-in_ok-lines-in-Sweep-clause-failed : goal.returns-in_ok-lines-in-Sweep-clause-failed
 returns-in_ok-lines-in-Sweep-clause-failed g c =
-    asked_sweep_unprinted _ _ _ _ _ _ _ _ _ c.print_text.result c.in-Sweep.is c.in_ok-help.ensures.answer c.in_ok-lines-in-Sweep.ensures.done c.print_text.ensures.failure
+    asked_sweep_unprinted _ _ _ _ _ _ _ _ _ _ c.print_text.result c.in-Sweep.is c.in_ok-help.ensures.answer c.in_ok-lines-in-Sweep.ensures.done c.print_text.ensures.failure
 
 pub returns-in_ok-lines-in-Sweep-clause-command : goal.returns-in_ok-lines-in-Sweep-clause-command
 returns-in_ok-lines-in-Sweep-clause-command g c =
@@ -57,6 +57,9 @@ returns-in_err-lines-in-Sweep-clause-other g c none = absurd (none (is_command _
 
 pub sweep_file-requires-clause-piece : goal.sweep_file-requires-clause-piece
 sweep_file-requires-clause-piece g c _ _ = asked_piece _ _ _ c.in-Sweep.is c.in_ok-help.ensures.answer
+
+pub sweep_file-requires-clause-alone : goal.sweep_file-requires-clause-alone
+sweep_file-requires-clause-alone g c _ _ = asked_alone _ _ _ c.in-Sweep.is c.in_ok-help.ensures.answer
 
 pub sweep_file-requires-clause-wants : goal.sweep_file-requires-clause-wants
 sweep_file-requires-clause-wants g c _ _ = asked_wants _ _ _ c.in-Sweep.is c.in_ok-help.ensures.answer

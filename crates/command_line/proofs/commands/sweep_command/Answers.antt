@@ -14,10 +14,5 @@ returns c =
     let bare : IsLocal (new_app (codes "sweep")) c.about.result
     = (ap app_of_fields c.about.ensures ∙ c.new.ensures.app, ap globals c.about.ensures ∙ c.new.ensures.local) in
     let filed = c.in_ok-filed.ensures _ bare in
-    let tabled = c.in_ok-tabled.ensures _ filed in
-    let seeded = c.in_ok-seeded.ensures _ tabled in
-    let set = c.in_ok-set.ensures _ seeded in
-    let sharded = c.in_ok-sharded.ensures _ set in
-    let wanted = c.in_ok-wanted.ensures _ sharded in
-    let worked = c.in_ok-worked.ensures _ wanted in
-    c.with_flag.ensures _ worked
+    let made = c.in_ok-made.ensures _ filed in
+    c.with_telling.ensures _ made

@@ -1,8 +1,11 @@
 -- what the file holds of a sweep that was done, and of one that broke off
 use Rattle.std.proofs.Common.{ap}
 use Rattle.scenario_files.proofs.Held.{each_ok, told_done, told_failed}
-use Rattle.sweep_command.proofs.Tables.{each_err_with, table_begun, table_stored}
+use Rattle.sweep_command.proofs.Tables.{each_err_with, stood_few, table_begun, table_stored}
 use Rattle.sweep_command.proofs.sweeping.store_table.Goals as goal
+
+pub fill_table-made-requires-clause-few : goal.fill_table-made-requires-clause-few
+fill_table-made-requires-clause-few g c _ _ = stood_few _ _ _ _ _ _ c.requires.stood
 
 pub returns-clause-done : goal.returns-clause-done
 returns-clause-done g c =
@@ -10,8 +13,8 @@ returns-clause-done g c =
     let filled = c.fill_table-made in
     let holds = g.F.Made.Write.contents in
     told_done _ filled.result.1 c.run_told.result c.run_told.ensures (each_ok filled.result.1 filled.ensures.whole (λ lines tells.
-    table_stored _ _ _ _ (known c.args.files.now) (known c.make.new.self) (known c.close.new.self) c.args.words.now.table.now _ _ _
-    c.in-Ok.ensures.others c.close.ensures.others c.in-Ok.ensures.empty c.in-Ok.ensures.made c.close.ensures.closed (ap holds c.into_inner.ensures) c.args.words.now.piece _ tells))
+    table_stored _ _ _ (known c.args.files.now) (known c.make.new.self) (known c.close.new.self) _ _ _ _ _
+    c.in-Ok.ensures.others c.close.ensures.others c.in-Ok.ensures.empty c.in-Ok.ensures.made c.close.ensures.closed (ap holds c.into_inner.ensures) c.args.words.now.piece _ c.requires.stood tells))
 
 pub returns-clause-failed : goal.returns-clause-failed
 returns-clause-failed g c =
@@ -21,7 +24,7 @@ returns-clause-failed g c =
     told_failed _ filled.result.1 c.run_told.result c.run_told.ensures
     (each_err_with filled.result.1 filled.ensures.part filled.ensures.causes (λ cause begins caused. (
       c.in-Ok.ensures.apart,
-      table_begun _ _ c.args.words.now.wants.items _ (known c.args.files.now) (known c.make.new.self) (known c.close.new.self) c.args.words.now.table.now _ _ _
+      table_begun _ _ _ (known c.args.files.now) (known c.make.new.self) (known c.close.new.self) _ _ _ _ _
           c.in-Ok.ensures.others c.close.ensures.others c.in-Ok.ensures.empty c.in-Ok.ensures.made c.close.ensures.closed (ap holds c.into_inner.ensures)
-          c.args.words.now.piece cause begins caused,
+          c.args.words.now.piece cause c.requires.stood begins caused,
     )))

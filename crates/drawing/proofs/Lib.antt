@@ -1,0 +1,5 @@
+pub mod Markup
+pub mod Pushes
+pub mod Groups
+pub mod Ranges
+pub mod Steps

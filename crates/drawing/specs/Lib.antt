@@ -1,0 +1,6 @@
+pub mod Axes
+pub mod Escaped
+pub mod Legends
+pub mod Numbers
+pub mod Rounds
+pub mod Shapes

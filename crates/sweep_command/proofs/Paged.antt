@@ -1,0 +1,97 @@
+-- What came of a whole sweep with a page, as what is asked for.
+use Rattle.std.proofs.Common.{◌≡◌, ◌≢◌, ◌⊎◌, ℕ, Bool, List, [], Option, Some, None, Bor, Result, Ok, Err, IfOk, IfErr, OnOk, OnErr, sym, subst, inl, inr}
+use Rattle.std.specs.Prelude.{IsErrAnd}
+use Rattle.std.specs.declared.cmp.Ordering.{Ordering}
+use Rattle.std.specs.Io.KnownBytes.{Appends, Keeps}
+use Rattle.std.proofs.lemmas.Result.{IfErr-weaker, on_ok_weaker}
+use Rattle.toml.specs.Data.{Data}
+use Rattle.base.specs.declared.fault.Fault.{Fault}
+use Rattle.files.specs.Files.{AreThreeFiles, Making}
+use Rattle.trace.specs.Sinks.{AppendsBeginning}
+use Rattle.trace.proofs.Beginnings.{beginning-whole, Keeps-same}
+use Rattle.trace.specs.declared.write.WriteError.{WriteError}
+use Rattle.trace.specs.declared.write.WriteError.TheVariants as write_error
+use Rattle.trace.specs.Sinks.{fault_of_write}
+use Rattle.cases.specs.Sweep.{Sweep}
+use Rattle.pieces.specs.declared.piece.Piece.{Piece}
+use Rattle.sweep.specs.Summaries.{MakesAll}
+use Rattle.sweep.specs.Table.{BeginsTable, HasCause, table_text}
+use Rattle.sweep_page.specs.Page.{IsPage, Styles}
+use Rattle.sweep_page.specs.declared.front_points.FrontPoint.{FrontPoint}
+use Rattle.figures.specs.declared.summary.CaseSummary.{CaseSummary}
+use Rattle.command_line.specs.declared.words.SweepWords.{SweepWords}
+use Rattle.command_line.specs.declared.failure.Failure.{Failure}
+use Rattle.scenario_files.specs.Shelves.{Shelf}
+use Rattle.scenario_files.proofs.Held.{each_ok}
+use Rattle.sweep_command.specs.Outcomes.{AreApart, BeginsPage, BeginsPaged, IsSweepPage, PagedFails, StoreFails, StoresAsked, StoresPaged, StoresPlain, StoresWhole, TableFails, WritesPage, front_of}
+
+-- what is asked for is stored, with a page or without one
+module _ {T E : Type 0} (bytes : T → List ℕ) (tree : Data) (sweep : SweepWords) (release mark : List ℕ) (before after : Shelf) (told : Result T E) where
+  pub paged_asked : (page : Bor (List ℕ)) (asked : Option Piece) → asked ≡ None → sweep.page ≡ Some page
+      → IfOk told (λ lines. StoresPaged tree sweep release page.now before after (bytes lines)) → IfOk told (λ lines. StoresAsked asked tree sweep release mark before after (bytes lines))
+  paged_asked page asked none is stores =
+      each_ok told stores (λ lines h.
+      subst (λ (o : Option Piece). StoresAsked o tree sweep release mark before after (bytes lines)) (sym none)
+      (subst (λ (o : Option (Bor (List ℕ))). StoresWhole o tree sweep release before after (bytes lines)) (sym is) h))
+
+  plain : (asked : Option Piece) (lines : List ℕ) → sweep.page ≡ None → StoresPlain asked tree sweep mark before after lines → StoresAsked asked tree sweep release mark before after lines
+  plain None lines none h = subst (λ (o : Option (Bor (List ℕ))). StoresWhole o tree sweep release before after lines) (sym none) h
+  plain (Some p) lines none h = h
+
+  pub plain_asked : (asked : Option Piece) → sweep.page ≡ None → IfOk told (λ lines. StoresPlain asked tree sweep mark before after (bytes lines))
+      → IfOk told (λ lines. StoresAsked asked tree sweep release mark before after (bytes lines))
+  plain_asked asked none stores = each_ok told stores (λ lines h. plain asked (bytes lines) none h)
+
+-- or not
+module _ {T : Type 0} (tree : Data) (sweep : SweepWords) (mark : List ℕ) (before after : Shelf) (making : Making) (told : Result T Failure) where
+  pub paged_failed : (page : Bor (List ℕ)) → sweep.page ≡ Some page → IfErr told (PagedFails tree page.now before after making sweep)
+      → IfErr told (StoreFails sweep.page tree mark before after making sweep)
+  paged_failed page is fails =
+      subst (λ (o : Option (Bor (List ℕ))). IfErr told (StoreFails o tree mark before after making sweep)) (sym is)
+      (IfErr-weaker told _ _ (λ failure h. h) fails)
+
+  pub plain_failed : sweep.page ≡ None → IfErr told (TableFails tree mark before after making sweep) → IfErr told (StoreFails sweep.page tree mark before after making sweep)
+  plain_failed none fails =
+      subst (λ (o : Option (Bor (List ℕ))). IfErr told (StoreFails o tree mark before after making sweep)) (sym none)
+      (IfErr-weaker told _ _ (λ failure h. h) fails)
+
+-- the files are different ones
+pub paged_apart : {T E : Type 0} (told : Result T E) (making : Making) (file table : List ℕ) (asked : Option (Bor (List ℕ))) (page : Bor (List ℕ)) → asked ≡ Some page
+    → OnOk told (AreThreeFiles making file table page.now) → OnOk told (AreApart asked making file table)
+paged_apart told making file table asked page is apart = subst (λ (o : Option (Bor (List ℕ))). OnOk told (AreApart o making file table)) (sym is) apart
+
+pub plain_apart : {T E : Type 0} (told : Result T E) (making : Making) (file table : List ℕ) (asked : Option (Bor (List ℕ))) → asked ≡ None
+    → OnOk told (AreApart None making file table) → OnOk told (AreApart asked making file table)
+plain_apart told making file table asked none apart = subst (λ (o : Option (Bor (List ℕ))). OnOk told (AreApart o making file table)) (sym none) apart
+
+-- a page of the cases
+pub page_is : {T E : Type 0} (bytes : T → List ℕ) (told : Result T E) (order : FrontPoint → FrontPoint → Ordering) (s : Styles) (sweep : SweepWords) (name release : List ℕ) (cases : List CaseSummary) (front : List Bool)
+    → name ≡ sweep.file.now → front ≡ front_of cases → IfOk told (λ text. IsPage order s name release sweep.plan cases front (bytes text)) → IfOk told (λ text. IsSweepPage sweep release cases (bytes text))
+page_is bytes told order s sweep name release cases front named are is =
+    each_ok told is (λ text h. (
+      order,
+      s,
+      subst (λ (f : List Bool). IsPage order s sweep.file.now release sweep.plan cases f (bytes text)) are
+          (subst (λ (n : List ℕ). IsPage order s n release sweep.plan cases front (bytes text)) named h),
+    ))
+
+-- what failed while a page was written has its cause
+write_cause : (tree : Data) (plan : Sweep) (e : WriteError) → HasCause tree plan (fault_of_write e)
+write_cause tree plan write_error.Memory = tt
+write_cause tree plan write_error.Stopped = tt
+
+pub page_cause : {T : Type 0} (tree : Data) (plan : Sweep) (told : Result T Fault) (e : WriteError) → IsErrAnd told (λ f. f ≡ fault_of_write e) → IfErr told (HasCause tree plan)
+page_cause tree plan (Ok x) e is = tt
+page_cause tree plan (Err f) e is = subst (HasCause tree plan) (sym is) (write_cause tree plan e)
+
+-- what was begun of both where the table broke off, and where it is whole
+module _ (tree : Data) (sweep : SweepWords) (release : List ℕ) (old new page_old page_new : Option (List ℕ)) where
+  pub table_broke : BeginsTable tree sweep.plan old new → Keeps page_old page_new → BeginsPaged tree sweep old new page_old page_new
+  table_broke begins keeps = record { made = begins.made; are = begins.are; written = inl (begins.written, keeps) }
+
+  pub page_broke : (cases all : List CaseSummary) → all ≡ cases → MakesAll tree sweep.plan old new cases → BeginsPage sweep release all page_old page_new → BeginsPaged tree sweep old new page_old page_new
+  page_broke cases all same makes begins = by (subst (λ (l : List CaseSummary). BeginsPage sweep release l page_old page_new) same begins)
+    where
+      by : BeginsPage sweep release cases page_old page_new → BeginsPaged tree sweep old new page_old page_new
+      by (inl keeps) = record { made = makes.made; are = makes.are; written = inl (beginning-whole old new (table_text tree sweep.plan makes.made) makes.written, keeps) }
+      by (inr some) = record { made = makes.made; are = makes.are; written = inr (makes.written, (some.0, (release, cases, makes.told, some.1), some.2)) }

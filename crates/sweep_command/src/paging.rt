@@ -1,0 +1,205 @@
+//! A whole sweep, and the files that take its table and its page.
+ghost use Rattle.std.specs.Prelude.{◌≡◌, ◌<◌, ◌^◌, All, false, length, IfOk, IfErr, OnOk, OnErr, string_bytes};
+ghost use Rattle.std.specs.Io.KnownBytes.{Appends};
+ghost use Rattle.toml.specs.Data.{Data};
+ghost use Rattle.toml.specs.View.{view};
+ghost use Rattle.answers.specs.Wants.{IsBounded};
+ghost use Rattle.cases.specs.Sweep.{Sweep, case_count};
+ghost use Rattle.files.specs.Files.{AreThreeFiles};
+ghost use Rattle.trace.specs.Sinks.{AppendsBeginning};
+ghost use Rattle.trace.specs.Writers.{writer_under};
+ghost use Rattle.sweep.specs.Runs.{IsAskedFor};
+ghost use Rattle.sweep.specs.Judged.{AreAccepted};
+ghost use Rattle.sweep.specs.Table.{HasCause};
+ghost use Rattle.sweep_command.specs.Outcomes.{BeginsPage, BeginsPaged, IsSweepPage, MakesPaged, PagedFails, StoresPaged, WritesPage, front_of};
+
+use crate::checks::PreparedSweep;
+use crate::telling::{RunLines, cases_told};
+use answers::is_on_front;
+use base::{Fault, Memory};
+use command_line::{Failure, Release, SweepWords};
+use figures::CaseSummary;
+use files::{Files, PairFault};
+use outputs::flush;
+use scenario_files::run_told;
+use std::alloc::Global;
+use std::io::Write;
+use std::thread::Threads;
+use sweep::{NoProgress, Progress, sweep};
+use sweep_page::{SweepShown, page};
+use trace::{Put, Sink, WriteError, put_all};
+
+/// Makes all runs, and writes their table to the file that the words name and a page of their cases to another. Either both are
+/// made or neither is.
+pub(crate) fn store_paged<'a, F: Files, P: Write>(
+    rt: &(impl Threads + Sync),
+    alloc: Global,
+    release: &Release<'_>,
+    words: &SweepWords<'a>,
+    prepared: &PreparedSweep,
+    page: &'a str,
+    files: &mut F,
+    progress: &mut P,
+) -> Result<String, Failure<'a>>
+    requires asked { IsAskedFor words.now.plan }
+    requires wants { All IsBounded words.now.wants.items }
+    requires judged { AreAccepted (view prepared.now.marked.document) words.now.plan }
+    ensures done { IfOk result (λ lines. StoresPaged (view prepared.now.marked.document) words.now release.now.version.now page.entry.now
+        (F.known files.old) (F.known files.new) (string_bytes lines)) }
+    ensures apart { OnOk result (AreThreeFiles (F.making files.old) words.now.file.now words.now.table.now page.entry.now) }
+    ensures failed { IfErr result (PagedFails (view prepared.now.marked.document) page.entry.now (F.known files.old) (F.known files.new)
+        (F.making files.old) words.now) }
+    ensures unasked { words.now.progress ≡ false → progress.new ≡ progress.old }
+{
+    let (made_table, made_page) = match files.make_both(words.file, words.table, page) {
+        Ok(made) => made,
+        Err(PairFault::First) => return Err(Failure::File(words.table)),
+        Err(PairFault::Second) => return Err(Failure::File(page)),
+        Err(PairFault::Memory) => return Err(Failure::Memory),
+    };
+    let (made_table, made_page, outcome) = fill_both(
+        rt, alloc, release, words, prepared, made_table, made_page, progress,
+    );
+    files.close(words.table, made_table.into_inner());
+    files.close(page, made_page.into_inner());
+    run_told(outcome)
+}
+
+/// Makes all runs, writes their table to one writer and a page of their cases to the other, and gives both back, with what is told
+/// of the cases.
+fn fill_both<T: Write, U: Write, P: Write>(
+    rt: &(impl Threads + Sync),
+    alloc: Global,
+    release: &Release<'_>,
+    words: &SweepWords<'_>,
+    prepared: &PreparedSweep,
+    table: T,
+    page: U,
+    progress: &mut P,
+) -> (Put<T>, Put<U>, Result<String, Fault>)
+    requires asked { IsAskedFor words.now.plan }
+    requires wants { All IsBounded words.now.wants.items }
+    requires judged { AreAccepted (view prepared.now.marked.document) words.now.plan }
+    ensures whole { IfOk result.2 (λ lines. MakesPaged (view prepared.now.marked.document) words.now release.now.version.now
+        (T.contents table) (T.contents (writer_under result.0)) (U.contents page) (U.contents (writer_under result.1)) (string_bytes lines)) }
+    ensures part { OnErr result.2 (BeginsPaged (view prepared.now.marked.document) words.now
+        (T.contents table) (T.contents (writer_under result.0)) (U.contents page) (U.contents (writer_under result.1))) }
+    ensures causes { IfErr result.2 (HasCause (view prepared.now.marked.document) words.now.plan) }
+    ensures unasked { words.now.progress ≡ false → progress.new ≡ progress.old }
+{
+    let mut table = Put::new(table);
+    let mut page = Put::new(page);
+    if words.progress {
+        let mut lines = RunLines { out: progress };
+        let outcome = tell_both(
+            rt, alloc, release, words, prepared, &mut lines, &mut table, &mut page,
+        );
+        return (table, page, outcome);
+    }
+    let outcome = tell_both(
+        rt,
+        alloc,
+        release,
+        words,
+        prepared,
+        &mut NoProgress,
+        &mut table,
+        &mut page,
+    );
+    (table, page, outcome)
+}
+
+/// Makes all runs, writes their table and then a page of their cases, and answers what is told of the cases.
+fn tell_both<S: Sink, U: Sink, P: Progress>(
+    rt: &(impl Threads + Sync),
+    alloc: Global,
+    release: &Release<'_>,
+    words: &SweepWords<'_>,
+    prepared: &PreparedSweep,
+    progress: &mut P,
+    table: &mut S,
+    page: &mut U,
+) -> Result<String, Fault>
+    requires asked { IsAskedFor words.now.plan }
+    requires wants { All IsBounded words.now.wants.items }
+    requires judged { AreAccepted (view prepared.now.marked.document) words.now.plan }
+    requires countable { S.failed table.old < 2 ^ 63 }
+    requires countable_too { U.failed page.old < 2 ^ 63 }
+    ensures whole { IfOk result (λ lines. MakesPaged (view prepared.now.marked.document) words.now release.now.version.now
+        (S.held table.old) (S.held table.new) (U.held page.old) (U.held page.new) (string_bytes lines)) }
+    ensures part { OnErr result (BeginsPaged (view prepared.now.marked.document) words.now
+        (S.held table.old) (S.held table.new) (U.held page.old) (U.held page.new)) }
+    ensures causes { IfErr result (HasCause (view prepared.now.marked.document) words.now.plan) }
+{
+    let document = &prepared.marked.document;
+    let cases = sweep(
+        rt,
+        alloc,
+        &words.plan,
+        document,
+        prepared.workers,
+        progress,
+        table,
+    )?;
+    let lines = cases_told(alloc, words, document, &cases)?;
+    write_page(alloc, release, words, &cases, page)?;
+    Ok(lines)
+}
+
+/// Writes a page of the cases.
+fn write_page<U: Sink>(
+    alloc: Global,
+    release: &Release<'_>,
+    words: &SweepWords<'_>,
+    cases: &[CaseSummary],
+    out: &mut U,
+) -> Result<(), Fault>
+    requires all { length cases.now ≡ case_count words.now.plan.settings }
+    requires countable { U.failed out.old < 2 ^ 63 }
+    ensures whole { OnOk result (WritesPage words.now release.now.version.now cases.now (U.held out.old) (U.held out.new)) }
+    ensures part { OnErr result (BeginsPage words.now release.now.version.now cases.now (U.held out.old) (U.held out.new)) }
+    ensures causes { (tree : Data) (plan : Sweep) → IfErr result (HasCause tree plan) }
+{
+    let text = page_of(alloc, release, words, cases)?;
+    put_page(text.as_bytes(), out)?;
+    Ok(())
+}
+
+/// Puts a whole text, and flushes the sink.
+fn put_page<U: Sink>(text: &[u8], out: &mut U) -> Result<(), WriteError>
+    requires countable { U.failed out.old < 2 ^ 63 }
+    ensures whole { OnOk result (Appends (U.held out.old) (U.held out.new) text.now) }
+    ensures part { OnErr result (AppendsBeginning (U.held out.old) (U.held out.new) text.now) }
+{
+    put_all(text, out)?;
+    flush(out)
+}
+
+/// The page of the cases.
+fn page_of(
+    alloc: Global,
+    release: &Release<'_>,
+    words: &SweepWords<'_>,
+    cases: &[CaseSummary],
+) -> Result<String, Memory>
+    requires all { length cases.now ≡ case_count words.now.plan.settings }
+    ensures { IfOk result (λ text. IsSweepPage words.now release.now.version.now cases.now (string_bytes text)) }
+{
+    let front = front_of(alloc, cases)?;
+    let shown = SweepShown {
+        name: words.file,
+        release: release.version,
+    };
+    page(alloc, &shown, &words.plan, cases, &front)
+}
+
+/// Which cases no other beats.
+fn front_of(alloc: Global, cases: &[CaseSummary]) -> Result<Vec<bool>, Memory>
+    ensures { IfOk result (λ front. front.items ≡ front_of cases.now) }
+{
+    let mut front = Vec::new(alloc);
+    for case in cases {
+        front.push(is_on_front(case, cases))?;
+    }
+    Ok(front)
+}

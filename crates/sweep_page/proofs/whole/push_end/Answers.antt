@@ -1,0 +1,7 @@
+use Rattle.drawing.proofs.Pushes.{and_then, and_last}
+use Rattle.sweep_page.specs.Page.{page_end}
+use Rattle.sweep_page.proofs.whole.push_end.Goals as goal
+
+pub returns : goal.returns
+unfolding page_end
+returns c = and_last _ _ _ _ c.push_markup-2.result (and_then _ _ _ c.in_ok-push_markup.ensures c.in_ok-push_escaped.ensures) c.push_markup-2.ensures

@@ -1,0 +1,142 @@
+-- The figure of all cases, each by how fast and how safe it is.
+use Rattle.std.specs.Prelude.{ℕ, Bool, true, false, fold, ◌+◌, ◌-◌, ◌/◌, ◌^◌, ◌==◌, if◌then◌else◌, min, max, not, List, [], ◌++◌, Option, codes, decimal, length, slice_get, unwrap_or}
+use Rattle.std.specs.List.{flat_map, range_with_len}
+use Rattle.std.specs.Option.{option_map_or}
+use Rattle.cases.specs.Sweep.{KeyValues}
+use Rattle.drawing.specs.Axes.{at_ticks, axis_across}
+use Rattle.drawing.specs.Escaped.{markup}
+use Rattle.drawing.specs.Numbers.{place as place_on}
+use Rattle.drawing.specs.Rounds.{round_step}
+use Rattle.drawing.specs.Shapes.{figure_opening, figure_end, plot_opening, plot_end}
+use Rattle.figures.specs.declared.summary.CaseSummary.{CaseSummary}
+use Rattle.sweep_page.specs.Words.{percent_words, rate_words, thousandths, share_of, number_words, settings_at, is_marked}
+use Rattle.sweep_page.specs.Paths.{path_start, path_step}
+use Rattle.sweep_page.specs.Table.{time_cell, share_cells}
+use Rattle.sweep_page.specs.declared.front.Reach.{Reach}
+use Rattle.sweep_page.specs.declared.front_points.FrontPoint.{FrontPoint}
+
+-- the slowest case that has a median time; 1 at least
+abbrev pub slowest : List CaseSummary → ℕ
+slowest cases = fold (λ (most : ℕ) (case : CaseSummary). max most (unwrap_or case.confirm_p50 0)) 1 cases
+
+-- the greatest upper end of an interval; a percent at least
+abbrev pub highest : List CaseSummary → ℕ
+highest cases = fold (λ (most : ℕ) (case : CaseSummary). max most (thousandths case.share_high)) 10 cases
+
+-- the greatest number of messages; 1 at least
+abbrev pub most_messages : List CaseSummary → ℕ
+most_messages cases = fold (λ (most : ℕ) (case : CaseSummary). max most (unwrap_or case.messages 0)) 1 cases
+
+-- a sixteenth past the slowest case, that its mark is whole; an axis reaches a billion billions at most
+abbrev pub past : ℕ → ℕ
+past time = min time (10 ^ 18) + min time (10 ^ 18) / 16
+
+-- how far the plot reaches: across, up, and by the sizes of its dots
+unfoldable pub reach_of : List CaseSummary → Reach
+reach_of cases = record { across = past (slowest cases); up = highest cases; messages = most_messages cases }
+
+-- the class of what is on the front
+unfoldable pub best_class : Bool → List ℕ
+best_class best = if best then codes " best" else []
+
+-- the bar of an interval, and the dot of a share
+unfoldable pub interval_bar : List ℕ → ℕ → ℕ → ℕ → List ℕ
+interval_bar class at top bottom =
+    codes "<path class=\"span" ++ class ++ codes "\" d=\"M" ++ decimal at ++ codes " " ++ decimal top ++ codes "V" ++ decimal bottom ++ codes "\"/>"
+
+unfoldable pub share_dot : List ℕ → ℕ → ℕ → ℕ → List ℕ
+share_dot class size at middle =
+    codes "<path class=\"point r" ++ decimal size ++ class ++ codes "\" d=\"M" ++ decimal at ++ codes " " ++ decimal middle ++ codes "h0\"/>"
+
+-- the size of a dot, from 1 to 5: in fifths of the greatest number of messages
+unfoldable pub size_of : Option ℕ → ℕ → ℕ
+size_of messages most = min (min (unwrap_or messages 0) most / (most / 5 + 1)) 4 + 1
+
+-- a case's bar and dot over its time; heights count from the top
+unfoldable pub mark_over : Reach → Bool → CaseSummary → ℕ → List ℕ
+mark_over reach best case time =
+    interval_bar (best_class best) (min time reach.across) (reach.up - thousandths case.share_high) (reach.up - thousandths case.share_low)
+    ++ share_dot (best_class best) (size_of case.messages reach.messages) (min time reach.across) (reach.up - share_of case)
+
+-- nothing where it has no median time
+unfoldable pub case_mark : Reach → Bool → CaseSummary → List ℕ
+case_mark reach best case = option_map_or (mark_over reach best case) case.confirm_p50 []
+
+-- the case at a place is on the front where those are asked for, or not on it where the others are
+abbrev pub is_among : List Bool → Bool → ℕ → Bool
+is_among front best place = if best then is_marked front place else not (is_marked front place)
+
+-- its mark, where it is among these
+unfoldable pub mark_at : Reach → List CaseSummary → List Bool → Bool → ℕ → List ℕ
+mark_at reach cases front best place = if is_among front best place then option_map_or (case_mark reach best) (slice_get cases place) [] else []
+
+abbrev pub all_marks : Reach → List CaseSummary → List Bool → Bool → List ℕ
+all_marks reach cases front best = flat_map (mark_at reach cases front best) (range_with_len 0 (length cases))
+
+-- the line through the front goes on to a case; it begins at the first
+unfoldable pub joint : Reach → ℕ → FrontPoint → List ℕ
+joint reach place p = if place == 0 then path_start (min p.time reach.across) (reach.up - p.share) else path_step (min p.time reach.across) (reach.up - p.share)
+
+unfoldable pub joint_at : Reach → List FrontPoint → ℕ → List ℕ
+joint_at reach points place = option_map_or (joint reach place) (slice_get points place) []
+
+unfoldable pub joined : Reach → List FrontPoint → List ℕ
+joined reach points =
+    markup (codes "<path class=\"joined\" d=\"") ++ flat_map (joint_at reach points) (range_with_len 0 (length points)) ++ markup (codes "\"/>")
+
+-- the number of a case on the front, beside its dot
+unfoldable pub number_mark : Reach → FrontPoint → List ℕ
+number_mark reach p =
+    markup (codes "<span class=\"number\" aria-hidden=\"true\" style=\"left:") ++ place_on p.time reach.across ++ markup (codes ";bottom:") ++ place_on p.share reach.up
+    ++ markup (codes "\">") ++ number_words p.place ++ markup (codes "</span>")
+
+-- a tick of the axis of shares
+unfoldable pub share_tick : ℕ → ℕ → List ℕ
+share_tick up share = markup (codes "<span style=\"bottom:") ++ place_on share up ++ markup (codes "\">") ++ percent_words share ++ markup (codes "</span>")
+
+unfoldable pub shares_up : ℕ → List ℕ
+shares_up up = markup (codes "<div class=\"up\" aria-hidden=\"true\">") ++ at_ticks (share_tick up) up (round_step up 4) ++ markup (codes "</div>")
+
+-- the plot begins
+unfoldable pub plane_opening : Reach → List ℕ
+plane_opening reach =
+    plot_opening (codes "cases") reach.across reach.up (codes "Every setting by its speed and its safety")
+    (codes "Across: the median time until a crash is first confirmed. Up: the share of runs in which a healthy member was thrown out. The table beneath has the settings on the front.")
+
+-- the plot: the other cases, the line through the front, those on the front, and their numbers
+unfoldable pub plane : Reach → List CaseSummary → List Bool → List FrontPoint → List ℕ
+plane reach cases front points =
+    markup (codes "<div class=\"plane\">") ++ plane_opening reach ++ all_marks reach cases front false ++ joined reach points ++ all_marks reach cases front true ++ plot_end
+    ++ flat_map (number_mark reach) points ++ markup (codes "</div>")
+
+-- the row of a case on the front
+unfoldable pub front_row : List KeyValues → ℕ → CaseSummary → List ℕ
+front_row settings place case =
+    markup (codes "<tr><td>") ++ number_words place ++ markup (codes "</td><td>") ++ settings_at settings place ++ markup (codes "</td>") ++ time_cell case.confirm_p50
+    ++ share_cells case ++ markup (codes "<td>") ++ rate_words case.messages ++ markup (codes "</td></tr>")
+
+unfoldable pub front_row_of : List KeyValues → List CaseSummary → FrontPoint → List ℕ
+front_row_of settings cases p = option_map_or (front_row settings p.place) (slice_get cases p.place) []
+
+-- what its columns are
+unfoldable pub front_heads : List ℕ
+front_heads = codes "<details><summary>The front in numbers</summary><div class=\"wide\"><table><thead><tr><th></th><th>setting</th><th>confirmed, median</th><th>runs with a healthy member thrown out</th><th>their share</th><th>95&nbsp;% interval</th><th>messages a member and 1,000 ticks</th></tr></thead><tbody>"
+
+-- the figures of the front, folded
+unfoldable pub front_table : List KeyValues → List CaseSummary → List FrontPoint → List ℕ
+front_table settings cases points = front_heads ++ flat_map (front_row_of settings cases) points ++ markup (codes "</tbody></table></div></details>")
+
+-- what the plot shows
+unfoldable pub front_words : List ℕ
+front_words = codes "<p class=\"soft\">Each dot is a setting: the further left, the faster; the lower, the safer. Up: the share of runs in which a healthy member was thrown out, with its 95&nbsp;% interval as a bar. A larger dot sends more messages. The numbered dots, joined by a line, are on the front: no other setting is as good in both and better in one.</p>"
+
+-- the plot with its axes
+unfoldable pub front_chart : Reach → List CaseSummary → List Bool → List FrontPoint → List ℕ
+front_chart reach cases front points =
+    markup (codes "<div class=\"chart\">") ++ shares_up reach.up ++ plane reach cases front points
+    ++ axis_across reach.across (codes "ticks until a crash is first confirmed, median") ++ markup (codes "</div>")
+
+-- the whole figure
+unfoldable pub front_figure : List KeyValues → List CaseSummary → List Bool → List FrontPoint → List ℕ
+front_figure settings cases front points =
+    figure_opening (codes "front") (codes "Fast or safe: every setting") ++ front_words ++ front_chart (reach_of cases) cases front points ++ front_table settings cases points ++ figure_end

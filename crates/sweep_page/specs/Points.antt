@@ -1,0 +1,28 @@
+-- The cases on the front.
+use Rattle.std.specs.Prelude.{ℕ, Bool, List, Option, None, if◌then◌else◌, length, option_map, option_to_list, slice_get}
+use Rattle.std.specs.List.{flat_map, range_with_len}
+use Rattle.std.specs.Option.{option_map_or}
+use Rattle.figures.specs.declared.summary.CaseSummary.{CaseSummary}
+use Rattle.sweep_page.specs.Words.{thousandths, share_of, is_marked}
+use Rattle.sweep_page.specs.declared.front_points.FrontPoint.{FrontPoint}
+
+-- a case as it stands on the front, with its median time
+abbrev pub point_of : ℕ → CaseSummary → ℕ → FrontPoint
+point_of place case time =
+    record { time = time; place = place; share = share_of case; low = thousandths case.share_low; high = thousandths case.share_high; runs_with = case.runs_with; runs = case.runs }
+
+-- nothing where it has none
+unfoldable pub front_point : ℕ → CaseSummary → Option FrontPoint
+front_point place case = option_map (point_of place case) case.confirm_p50
+
+-- the case at a place, where it is on the front
+abbrev pub point_at : List CaseSummary → List Bool → ℕ → Option FrontPoint
+point_at cases front place = if is_marked front place then option_map_or (front_point place) (slice_get cases place) None else None
+
+-- the same as a list of one or none
+abbrev pub points_at : List CaseSummary → List Bool → ℕ → List FrontPoint
+points_at cases front place = option_to_list (point_at cases front place)
+
+-- those on the front that have a median time
+abbrev pub front_cases : List CaseSummary → List Bool → List FrontPoint
+front_cases cases front = flat_map (points_at cases front) (range_with_len 0 (length cases))

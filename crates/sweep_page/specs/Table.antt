@@ -1,0 +1,75 @@
+-- The table of all cases.
+use Rattle.std.specs.Prelude.{ℕ, Bool, if◌then◌else◌, List, [], ◌++◌, Option, codes, length, slice_get}
+use Rattle.std.specs.List.{flat_map, range_with_len}
+use Rattle.std.specs.Option.{option_map_or}
+use Rattle.cases.specs.Cases.{cases_of}
+use Rattle.cases.specs.Keys.{key_name}
+use Rattle.cases.specs.Sweep.{KeyValues}
+use Rattle.cases.specs.Values.{value_text}
+use Rattle.cases.specs.declared.choice.Choice.{Choice}
+use Rattle.drawing.specs.Escaped.{escaped, markup}
+use Rattle.drawing.specs.Shapes.{figure_opening, figure_end}
+use Rattle.figures.specs.declared.summary.CaseSummary.{CaseSummary}
+use Rattle.sweep_page.specs.Words.{time_words, percent_words, hundredths_words, rate_words, runs_words, interval_words, thousandths, share_of, number_words, is_marked}
+
+-- a cell with a text
+unfoldable pub cell : List ℕ → List ℕ
+cell text = markup (codes "<td>") ++ escaped text ++ markup (codes "</td>")
+
+-- a cell with a time
+unfoldable pub time_cell : Option ℕ → List ℕ
+time_cell time = markup (codes "<td>") ++ time_words time ++ markup (codes "</td>")
+
+-- the cells that tell how often a case threw out healthy members
+unfoldable pub share_cells : CaseSummary → List ℕ
+share_cells case =
+    markup (codes "<td>") ++ runs_words case ++ markup (codes "</td><td>") ++ percent_words (share_of case) ++ markup (codes "</td><td>")
+    ++ interval_words (thousandths case.share_low) (thousandths case.share_high) ++ markup (codes "</td>")
+
+-- the cells of what it cost: false suspicions a run, and messages
+unfoldable pub cost_cells : CaseSummary → List ℕ
+cost_cells case = markup (codes "<td>") ++ hundredths_words case.false_suspect ++ markup (codes "</td><td>") ++ rate_words case.messages ++ markup (codes "</td>")
+
+-- the cells of a case's figures
+unfoldable pub figure_cells : CaseSummary → List ℕ
+figure_cells case =
+    time_cell case.confirm_p50 ++ share_cells case ++ time_cell case.suspect_p50 ++ time_cell case.confirm_p99 ++ time_cell case.confirm_greatest ++ time_cell case.last_p50
+    ++ time_cell case.last_greatest ++ cost_cells case
+
+-- the cells of the values that a case gives its keys
+unfoldable pub value_cell : Choice → List ℕ
+value_cell choice = cell (value_text choice.value)
+
+unfoldable pub value_cells : List KeyValues → ℕ → List ℕ
+value_cells settings place = option_map_or (λ chosen. flat_map value_cell chosen) (slice_get (cases_of settings) place) []
+
+-- a row begins with the number of its case, which has a star where it is on the front
+unfoldable pub row_opening : Bool → List ℕ
+row_opening marked = if marked then codes "<tr class=\"best\"><td>&#9733;&nbsp;" else codes "<tr><td>"
+
+-- the row of a case
+unfoldable pub row : List KeyValues → ℕ → CaseSummary → Bool → List ℕ
+row settings place case marked =
+    row_opening marked ++ number_words place ++ markup (codes "</td>") ++ value_cells settings place ++ figure_cells case ++ markup (codes "</tr>\n")
+
+-- the row of the case at a place
+unfoldable pub row_at : List KeyValues → List CaseSummary → List Bool → ℕ → List ℕ
+row_at settings cases front place = option_map_or (λ case. row settings place case (is_marked front place)) (slice_get cases place) []
+
+-- the name of a key over its column
+unfoldable pub key_head : KeyValues → List ℕ
+key_head setting = markup (codes "<th>") ++ escaped (key_name setting.key) ++ markup (codes "</th>")
+
+-- what the table is
+unfoldable pub table_words : List ℕ
+table_words = codes "<p class=\"soft\">Times are in ticks since the crash, over all crashes of all runs; a dash stands where too few crashes were detected. Starred settings are on the front.</p><div class=\"wide\"><table><thead><tr><th></th>"
+
+-- the words over the figures
+unfoldable pub figure_heads : List ℕ
+figure_heads = codes "<th>confirmed, median</th><th>runs with a healthy member thrown out</th><th>their share</th><th>95&nbsp;% interval</th><th>suspected, median</th><th>confirmed, 99th percentile</th><th>confirmed, greatest</th><th>last confirmed, median</th><th>last confirmed, greatest</th><th>false suspicions a run</th><th>messages a member and 1,000 ticks</th>"
+
+-- the table: a column for each key and each figure, a row for each case
+unfoldable pub table : List KeyValues → List CaseSummary → List Bool → List ℕ
+table settings cases front =
+    figure_opening (codes "cases") (codes "All settings") ++ table_words ++ flat_map key_head settings ++ figure_heads ++ markup (codes "</tr></thead><tbody>\n")
+    ++ flat_map (row_at settings cases front) (range_with_len 0 (length cases)) ++ markup (codes "</tbody></table></div>") ++ figure_end

@@ -1,0 +1,303 @@
+//! Each case by how fast and how safe it is.
+ghost use Rattle.std.specs.Prelude.{◌≡◌, ◌≤◌, ◌<◌, ◌^◌, ◌++◌, OnOk, length};
+ghost use Rattle.std.specs.List.{flat_map, range_with_len};
+ghost use Rattle.std.specs.String.{string_bytes};
+ghost use Rattle.drawing.specs.Axes.{at_ticks};
+ghost use Rattle.drawing.specs.Rounds.{round_step};
+ghost use Rattle.sweep_page.specs.Front.{slowest, highest, most_messages, reach_of, share_tick, shares_up, plane, plane_opening, front_row, front_row_of, front_heads, front_table, front_words, front_chart, front_figure};
+
+use crate::cells::{case_at, push_number, push_percent, push_rate, push_settings_at, thousandths};
+use crate::front_points::FrontPoint;
+use crate::marks::{push_joined, push_marks, push_numbers};
+use crate::table::{push_shares, push_time_cell};
+use base::Memory;
+use cases::Plan;
+use drawing::{
+    close_figure, close_plot, open_figure, open_plot, push_across, push_markup, push_place,
+    round_step,
+};
+use figures::CaseSummary;
+use std::alloc::{AllocError, Global};
+
+/// The greatest number that an axis reaches.
+const MOST: u64 = 1_000_000_000_000_000_000;
+
+/// How far the plot reaches.
+#[derive(Clone, Copy)]
+pub struct Reach {
+    /// Ticks across; past the slowest case.
+    pub across: u64,
+    /// Thousandths up: the greatest upper end of an interval.
+    pub up: u64,
+    /// The greatest number of messages, in hundredths.
+    pub messages: u128,
+}
+
+/// How far a plot of these cases reaches.
+#[tactic(auto, unfolding(crate::specs::Front::reach_of))]
+fn reach_of(cases: &[CaseSummary]) -> Reach
+    ensures is { result ≡ reach_of cases.now }
+    ensures across { result.across < 2 ^ 63 }
+    ensures up { result.up < 2 ^ 63 }
+{
+    let slowest = slowest(cases).min(MOST);
+    let across = slowest + slowest / 16;
+    let up = highest(cases);
+    let messages = most_messages(cases);
+    Reach {
+        across,
+        up,
+        messages,
+    }
+}
+
+/// The slowest median time of a case; 1 at least.
+fn slowest(cases: &[CaseSummary]) -> u64
+    ensures { result ≡ slowest cases.now }
+{
+    let mut most = 1;
+    for case in cases {
+        most = most.max(case.confirm_p50.unwrap_or(0));
+    }
+    most
+}
+
+/// The greatest upper end of an interval, in thousandths; a percent at least.
+fn highest(cases: &[CaseSummary]) -> u64
+    ensures is { result ≡ highest cases.now }
+    ensures low { result < 2 ^ 63 }
+{
+    let mut most = 10;
+    for case in cases {
+        most = most.max(thousandths(case.share_high));
+    }
+    most
+}
+
+/// The greatest number of messages, in hundredths; 1 at least.
+fn most_messages(cases: &[CaseSummary]) -> u128
+    ensures { result ≡ most_messages cases.now }
+{
+    let mut most = 1;
+    for case in cases {
+        most = most.max(case.messages.unwrap_or(0));
+    }
+    most
+}
+
+/// Appends the plot of all cases, those on the front joined and named, and their figures in a table.
+#[tactic(auto, unfolding(crate::specs::Front::front_figure))]
+pub(crate) fn push_front(
+    alloc: Global,
+    text: &mut String,
+    plan: &Plan,
+    cases: &[CaseSummary],
+    front: &[bool],
+    points: &[FrontPoint],
+) -> Result<(), Memory>
+    ensures { OnOk result (string_bytes text.new ≡ string_bytes text.old ++ front_figure plan.now.settings cases.now front.now points.now) }
+{
+    let reach = reach_of(cases);
+    open_figure(text, "front", "Fast or safe: every setting")?;
+    push_words(text)?;
+    push_chart(text, cases, front, points, &reach)?;
+    push_rows(alloc, text, plan, cases, points)?;
+    close_figure(text)?;
+    Ok(())
+}
+
+/// Appends what the plot shows.
+#[tactic(auto, unfolding(crate::specs::Front::front_words))]
+fn push_words(text: &mut String) -> Result<(), AllocError>
+    ensures { OnOk result (string_bytes text.new ≡ string_bytes text.old ++ front_words) }
+{
+    text.push_str(
+        "<p class=\"soft\">Each dot is a setting: the further left, the faster; the lower, the safer. Up: the \
+         share of runs in which a healthy member was thrown out, with its 95&nbsp;% interval as a bar. A larger \
+         dot sends more messages. The numbered dots, joined by a line, are on the front: no other setting \
+         is as good in both and better in one.</p>",
+    )
+}
+
+/// Appends the plot with its axes.
+#[tactic(auto, unfolding(crate::specs::Front::front_chart))]
+fn push_chart(
+    text: &mut String,
+    cases: &[CaseSummary],
+    front: &[bool],
+    points: &[FrontPoint],
+    reach: &Reach,
+) -> Result<(), AllocError>
+    requires across { reach.now.across < 2 ^ 63 }
+    requires up { reach.now.up < 2 ^ 63 }
+    ensures { OnOk result (string_bytes text.new ≡ string_bytes text.old ++ front_chart reach.now cases.now front.now points.now) }
+{
+    push_markup(text, "<div class=\"chart\">")?;
+    push_shares_up(text, reach.up)?;
+    push_plane(text, cases, front, points, reach)?;
+    push_across(
+        text,
+        reach.across,
+        "ticks until a crash is first confirmed, median",
+    )?;
+    push_markup(text, "</div>")
+}
+
+/// Appends the axis of shares.
+#[tactic(auto, unfolding(crate::specs::Front::shares_up))]
+fn push_shares_up(text: &mut String, up: u64) -> Result<(), AllocError>
+    requires { up < 2 ^ 63 }
+    ensures { OnOk result (string_bytes text.new ≡ string_bytes text.old ++ shares_up up) }
+{
+    push_markup(text, "<div class=\"up\" aria-hidden=\"true\">")?;
+    push_share_ticks(text, up)?;
+    push_markup(text, "</div>")
+}
+
+/// Appends its ticks.
+fn push_share_ticks(text: &mut String, up: u64) -> Result<(), AllocError>
+    requires { up < 2 ^ 63 }
+    ensures { OnOk result (string_bytes text.new ≡ string_bytes text.old ++ at_ticks (share_tick up) up (round_step up 4)) }
+{
+    let step = round_step(up, 4);
+    for tick in 0..up / step + 1 {
+        push_share_tick(text, tick * step, up)?;
+    }
+    Ok(())
+}
+
+/// Appends a tick of that axis.
+#[tactic(auto, unfolding(crate::specs::Front::share_tick))]
+fn push_share_tick(text: &mut String, share: u64, up: u64) -> Result<(), AllocError>
+    ensures { OnOk result (string_bytes text.new ≡ string_bytes text.old ++ share_tick up share) }
+{
+    push_markup(text, "<span style=\"bottom:")?;
+    push_place(text, share, up)?;
+    push_markup(text, "\">")?;
+    push_percent(text, share)?;
+    push_markup(text, "</span>")
+}
+
+/// Appends the dots, their bars, the line and the numbers.
+#[tactic(auto, unfolding(crate::specs::Front::plane))]
+fn push_plane(
+    text: &mut String,
+    cases: &[CaseSummary],
+    front: &[bool],
+    points: &[FrontPoint],
+    reach: &Reach,
+) -> Result<(), AllocError>
+    ensures { OnOk result (string_bytes text.new ≡ string_bytes text.old ++ plane reach.now cases.now front.now points.now) }
+{
+    push_markup(text, "<div class=\"plane\">")?;
+    open_plane(text, reach)?;
+    push_marks(text, cases, front, false, reach)?;
+    push_joined(text, points, reach)?;
+    push_marks(text, cases, front, true, reach)?;
+    close_plot(text)?;
+    push_numbers(text, points, reach)?;
+    push_markup(text, "</div>")
+}
+
+/// Begins the plot.
+#[tactic(auto, unfolding(crate::specs::Front::plane_opening))]
+fn open_plane(text: &mut String, reach: &Reach) -> Result<(), AllocError>
+    ensures { OnOk result (string_bytes text.new ≡ string_bytes text.old ++ plane_opening reach.now) }
+{
+    open_plot(
+        text,
+        "cases",
+        reach.across,
+        reach.up,
+        "Every setting by its speed and its safety",
+        "Across: the median time until a crash is first confirmed. Up: the share of runs in which a healthy member \
+         was thrown out. The table beneath has the settings on the front.",
+    )
+}
+
+/// Appends the figures of the cases on the front, folded.
+#[tactic(auto, unfolding(crate::specs::Front::front_table))]
+fn push_rows(
+    alloc: Global,
+    text: &mut String,
+    plan: &Plan,
+    cases: &[CaseSummary],
+    points: &[FrontPoint],
+) -> Result<(), Memory>
+    ensures { OnOk result (string_bytes text.new ≡ string_bytes text.old ++ front_table plan.now.settings cases.now points.now) }
+{
+    push_heads(text)?;
+    push_rows_of(alloc, text, plan, cases, points)?;
+    push_markup(text, "</tbody></table></div></details>")?;
+    Ok(())
+}
+
+/// Appends what their columns are.
+#[tactic(auto, unfolding(crate::specs::Front::front_heads))]
+fn push_heads(text: &mut String) -> Result<(), AllocError>
+    ensures { OnOk result (string_bytes text.new ≡ string_bytes text.old ++ front_heads) }
+{
+    text.push_str(
+        "<details><summary>The front in numbers</summary><div class=\"wide\"><table><thead><tr><th></th>\
+         <th>setting</th><th>confirmed, median</th><th>runs with a healthy member thrown out</th>\
+         <th>their share</th><th>95&nbsp;% interval</th>\
+         <th>messages a member and 1,000 ticks</th></tr></thead><tbody>",
+    )
+}
+
+/// Appends the rows of these cases.
+fn push_rows_of(
+    alloc: Global,
+    text: &mut String,
+    plan: &Plan,
+    cases: &[CaseSummary],
+    points: &[FrontPoint],
+) -> Result<(), Memory>
+    ensures { OnOk result (string_bytes text.new ≡ string_bytes text.old ++ flat_map (front_row_of plan.now.settings cases.now) points.now) }
+{
+    for point in points {
+        push_row_of(alloc, text, plan, cases, point)?;
+    }
+    Ok(())
+}
+
+/// Appends the row of a case on the front.
+#[tactic(auto, unfolding(crate::specs::Front::front_row_of))]
+fn push_row_of(
+    alloc: Global,
+    text: &mut String,
+    plan: &Plan,
+    cases: &[CaseSummary],
+    point: &FrontPoint,
+) -> Result<(), Memory>
+    ensures { OnOk result (string_bytes text.new ≡ string_bytes text.old ++ front_row_of plan.now.settings cases.now point.now) }
+{
+    match case_at(cases, point.place) {
+        Some(case) => push_row(alloc, text, plan, point.place, &case),
+        None => Ok(()),
+    }
+}
+
+/// Appends the row of the case at a place, with its summary.
+#[tactic(auto, unfolding(crate::specs::Front::front_row))]
+fn push_row(
+    alloc: Global,
+    text: &mut String,
+    plan: &Plan,
+    place: usize,
+    case: &CaseSummary,
+) -> Result<(), Memory>
+    ensures { OnOk result (string_bytes text.new ≡ string_bytes text.old ++ front_row plan.now.settings place case.now) }
+{
+    push_markup(text, "<tr><td>")?;
+    push_number(text, place)?;
+    push_markup(text, "</td><td>")?;
+    push_settings_at(alloc, text, plan, place)?;
+    push_markup(text, "</td>")?;
+    push_time_cell(text, case.confirm_p50)?;
+    push_shares(text, case)?;
+    push_markup(text, "<td>")?;
+    push_rate(text, case.messages)?;
+    push_markup(text, "</td></tr>")?;
+    Ok(())
+}

@@ -1,0 +1,125 @@
+//! The cases on the front, by their times.
+ghost use Rattle.std.specs.Prelude.{◌≡◌, ◌++◌, IfOk, OnOk};
+ghost use Rattle.std.specs.List.Sorted.{IsPermutation, IsSorted};
+ghost use Rattle.sweep_page.specs.Words.{is_marked};
+ghost use Rattle.sweep_page.specs.Points.{front_cases, front_point, point_at, points_at};
+
+use crate::cells::{case_at, share_of, thousandths};
+use base::Memory;
+use figures::CaseSummary;
+use std::alloc::Global;
+
+/// A case on the front: the faster one is the less.
+#[derive(Clone, Copy, Debug, PartialEq, Eq, PartialOrd, Ord)]
+pub struct FrontPoint {
+    /// Its median time until a crash was confirmed, in ticks.
+    pub time: u64,
+    /// Its place among the cases.
+    pub place: usize,
+    /// The share of its runs in which healthy members were thrown out, in thousandths.
+    pub share: u64,
+    /// The ends of the 95 % interval of that, in thousandths.
+    pub low: u64,
+    pub high: u64,
+    /// How many runs those are, and how many there are.
+    pub runs_with: u64,
+    pub runs: u64,
+}
+
+/// The cases on the front that have a median time, the fastest first.
+pub(crate) fn front_points(
+    alloc: Global,
+    cases: &[CaseSummary],
+    front: &[bool],
+) -> Result<Vec<FrontPoint>, Memory>
+    ensures all { IfOk result (λ points. IsPermutation (front_cases cases.now front.now) points.items) }
+    ensures order { IfOk result (λ points. IsSorted ⟦<FrontPoint as Ord>⟧.cmp points.items) }
+{
+    let points = unordered(alloc, cases, front)?;
+    sorted(points)
+}
+
+/// The same in the order of their places.
+fn unordered(
+    alloc: Global,
+    cases: &[CaseSummary],
+    front: &[bool],
+) -> Result<Vec<FrontPoint>, Memory>
+    ensures { IfOk result (λ points. points.items ≡ front_cases cases.now front.now) }
+{
+    let mut points = Vec::new(alloc);
+    for place in 0..cases.len() {
+        push_point(&mut points, cases, front, place)?;
+    }
+    Ok(points)
+}
+
+/// Adds the case at a place, where it is on the front and has a median time.
+fn push_point(
+    points: &mut Vec<FrontPoint>,
+    cases: &[CaseSummary],
+    front: &[bool],
+    place: usize,
+) -> Result<(), Memory>
+    ensures { OnOk result (points.new.items ≡ points.old.items ++ points_at cases.now front.now place) }
+{
+    if let Some(point) = point_at(cases, front, place) {
+        points.push(point)?;
+    }
+    Ok(())
+}
+
+/// These in their order.
+fn sorted(points: Vec<FrontPoint>) -> Result<Vec<FrontPoint>, Memory>
+    ensures all { IfOk result (λ sorted. IsPermutation points.items sorted.items) }
+    ensures order { IfOk result (λ sorted. IsSorted ⟦<FrontPoint as Ord>⟧.cmp sorted.items) }
+{
+    let mut points = points;
+    points.sort()?;
+    Ok(points)
+}
+
+/// Whether the case at a place is on the front.
+pub(crate) fn is_marked(front: &[bool], place: usize) -> bool
+    ensures { result ≡ is_marked front.now place }
+{
+    match front.get(place) {
+        Some(marked) => *marked,
+        None => false,
+    }
+}
+
+/// The case at a place, where it is on the front and has a median time.
+fn point_at(cases: &[CaseSummary], front: &[bool], place: usize) -> Option<FrontPoint>
+    ensures { result ≡ point_at cases.now front.now place }
+{
+    if !is_marked(front, place) {
+        return None;
+    }
+    match case_at(cases, place) {
+        Some(case) => front_point(place, &case),
+        None => None,
+    }
+}
+
+/// A case as it stands on the front, where it has a median time.
+#[tactic(auto, unfolding(crate::specs::Points::front_point))]
+fn front_point(place: usize, case: &CaseSummary) -> Option<FrontPoint>
+    ensures { result ≡ front_point place case.now }
+{
+    let share = share_of(case);
+    let low = thousandths(case.share_low);
+    let high = thousandths(case.share_high);
+    match case.confirm_p50 {
+        Some(time) => Some(FrontPoint {
+            time,
+            place,
+            share,
+            low,
+            high,
+            runs_with: case.runs_with,
+            runs: case.runs,
+        }),
+        None => None,
+    }
+}

@@ -1,0 +1,256 @@
+//! The table of all cases.
+ghost use Rattle.std.specs.Prelude.{◌≡◌, ◌<◌, ◌++◌, OnOk, length};
+ghost use Rattle.std.specs.List.{flat_map, range_with_len};
+ghost use Rattle.std.specs.String.{string_bytes};
+ghost use Rattle.cases.specs.Sweep.{case_count};
+ghost use Rattle.sweep_page.specs.Table.{cell, time_cell, share_cells, cost_cells, figure_cells, value_cell, value_cells, row_opening, row, row_at, key_head, table_words, figure_heads, table};
+
+use crate::cells::{
+    case_at, push_hundredths, push_interval, push_number, push_percent, push_rate, push_runs_with,
+    push_time, share_of, thousandths,
+};
+use crate::front_points::is_marked;
+use base::Memory;
+use cases::{Choice, Plan, Setting};
+use drawing::{close_figure, open_figure, push_escaped, push_markup};
+use figures::CaseSummary;
+use std::alloc::{AllocError, Global};
+
+/// Appends the table of all cases, those on the front marked.
+#[tactic(auto, unfolding(crate::specs::Table::table))]
+pub(crate) fn push_table(
+    alloc: Global,
+    text: &mut String,
+    plan: &Plan,
+    cases: &[CaseSummary],
+    front: &[bool],
+) -> Result<(), Memory>
+    requires { length cases.now ≡ case_count plan.now.settings }
+    ensures { OnOk result (string_bytes text.new ≡ string_bytes text.old ++ table plan.now.settings cases.now front.now) }
+{
+    open_figure(text, "cases", "All settings")?;
+    push_table_words(text)?;
+    let settings = plan.settings();
+    push_names(alloc, text, settings)?;
+    push_figure_words(text)?;
+    push_markup(text, "</tr></thead><tbody>\n")?;
+    push_rows(alloc, text, plan, cases, front)?;
+    push_markup(text, "</tbody></table></div>")?;
+    close_figure(text)?;
+    Ok(())
+}
+
+/// Appends what the table is, and begins it.
+#[tactic(auto, unfolding(crate::specs::Table::table_words))]
+fn push_table_words(text: &mut String) -> Result<(), AllocError>
+    ensures { OnOk result (string_bytes text.new ≡ string_bytes text.old ++ table_words) }
+{
+    text.push_str(
+        "<p class=\"soft\">Times are in ticks since the crash, over all crashes of all runs; a dash \
+         stands where too few crashes were detected. Starred settings are on the front.</p>\
+         <div class=\"wide\"><table><thead><tr><th></th>",
+    )
+}
+
+/// Appends the names of the keys as heads of columns.
+fn push_names(alloc: Global, text: &mut String, settings: &[Setting]) -> Result<(), Memory>
+    ensures { OnOk result (string_bytes text.new ≡ string_bytes text.old ++ flat_map key_head settings.now) }
+{
+    for setting in settings {
+        push_name(alloc, text, setting)?;
+    }
+    Ok(())
+}
+
+/// Appends the name of a key as the head of its column.
+#[tactic(auto, unfolding(crate::specs::Table::key_head))]
+fn push_name(alloc: Global, text: &mut String, setting: &Setting) -> Result<(), Memory>
+    ensures { OnOk result (string_bytes text.new ≡ string_bytes text.old ++ key_head setting.now) }
+{
+    let name = setting.key().name(alloc)?;
+    push_markup(text, "<th>")?;
+    push_escaped(text, name.as_str())?;
+    push_markup(text, "</th>")?;
+    Ok(())
+}
+
+/// Appends the words over the figures.
+#[tactic(auto, unfolding(crate::specs::Table::figure_heads))]
+fn push_figure_words(text: &mut String) -> Result<(), AllocError>
+    ensures { OnOk result (string_bytes text.new ≡ string_bytes text.old ++ figure_heads) }
+{
+    text.push_str(
+        "<th>confirmed, median</th><th>runs with a healthy member thrown out</th>\
+         <th>their share</th><th>95&nbsp;% interval</th><th>suspected, median</th>\
+         <th>confirmed, 99th percentile</th><th>confirmed, greatest</th>\
+         <th>last confirmed, median</th><th>last confirmed, greatest</th>\
+         <th>false suspicions a run</th><th>messages a member and 1,000 ticks</th>",
+    )
+}
+
+/// Appends the rows of all cases.
+fn push_rows(
+    alloc: Global,
+    text: &mut String,
+    plan: &Plan,
+    cases: &[CaseSummary],
+    front: &[bool],
+) -> Result<(), Memory>
+    requires { length cases.now ≡ case_count plan.now.settings }
+    ensures { OnOk result (string_bytes text.new
+        ≡ string_bytes text.old ++ flat_map (row_at plan.now.settings cases.now front.now) (range_with_len 0 (length cases.now))) }
+{
+    for place in 0..cases.len() {
+        push_row_at(alloc, text, plan, cases, front, place)?;
+    }
+    Ok(())
+}
+
+/// Appends the row of the case at a place.
+#[tactic(auto, unfolding(crate::specs::Table::row_at))]
+fn push_row_at(
+    alloc: Global,
+    text: &mut String,
+    plan: &Plan,
+    cases: &[CaseSummary],
+    front: &[bool],
+    place: usize,
+) -> Result<(), Memory>
+    requires { length cases.now ≡ case_count plan.now.settings }
+    ensures { OnOk result (string_bytes text.new ≡ string_bytes text.old ++ row_at plan.now.settings cases.now front.now place) }
+{
+    match case_at(cases, place) {
+        Some(case) => push_row(alloc, text, plan, place, &case, is_marked(front, place)),
+        None => Ok(()),
+    }
+}
+
+/// Appends the row of the case at a place, with its summary.
+#[tactic(auto, unfolding(crate::specs::Table::row))]
+fn push_row(
+    alloc: Global,
+    text: &mut String,
+    plan: &Plan,
+    place: usize,
+    case: &CaseSummary,
+    marked: bool,
+) -> Result<(), Memory>
+    requires { place < case_count plan.now.settings }
+    ensures { OnOk result (string_bytes text.new ≡ string_bytes text.old ++ row plan.now.settings place case.now marked) }
+{
+    push_row_opening(text, marked)?;
+    push_number(text, place)?;
+    push_markup(text, "</td>")?;
+    push_values(alloc, text, plan, place)?;
+    push_figures(text, case)?;
+    push_markup(text, "</tr>\n")?;
+    Ok(())
+}
+
+/// Begins a row, with a star where its case is on the front.
+#[tactic(auto, unfolding(crate::specs::Table::row_opening))]
+fn push_row_opening(text: &mut String, marked: bool) -> Result<(), AllocError>
+    ensures { OnOk result (string_bytes text.new ≡ string_bytes text.old ++ row_opening marked) }
+{
+    if marked {
+        text.push_str("<tr class=\"best\"><td>&#9733;&nbsp;")
+    } else {
+        text.push_str("<tr><td>")
+    }
+}
+
+/// Appends the values that the case at a place gives its keys.
+#[tactic(auto, unfolding(crate::specs::Table::value_cells))]
+fn push_values(alloc: Global, text: &mut String, plan: &Plan, place: usize) -> Result<(), Memory>
+    requires { place < case_count plan.now.settings }
+    ensures { OnOk result (string_bytes text.new ≡ string_bytes text.old ++ value_cells plan.now.settings place) }
+{
+    let chosen = plan.case_at(alloc, place)?;
+    push_chosen(alloc, text, &chosen)?;
+    Ok(())
+}
+
+/// Appends these values.
+fn push_chosen(alloc: Global, text: &mut String, chosen: &[Choice]) -> Result<(), Memory>
+    ensures { OnOk result (string_bytes text.new ≡ string_bytes text.old ++ flat_map value_cell chosen.now) }
+{
+    for choice in chosen {
+        push_value(alloc, text, choice)?;
+    }
+    Ok(())
+}
+
+/// Appends a value.
+#[tactic(auto, unfolding(crate::specs::Table::value_cell))]
+fn push_value(alloc: Global, text: &mut String, choice: &Choice) -> Result<(), Memory>
+    ensures { OnOk result (string_bytes text.new ≡ string_bytes text.old ++ value_cell choice.now) }
+{
+    let value = choice.value.text(alloc)?;
+    push_cell(text, value.as_str())?;
+    Ok(())
+}
+
+/// Appends a cell.
+#[tactic(auto, unfolding(crate::specs::Table::cell))]
+fn push_cell(text: &mut String, words: &str) -> Result<(), AllocError>
+    ensures { OnOk result (string_bytes text.new ≡ string_bytes text.old ++ cell words.now) }
+{
+    push_markup(text, "<td>")?;
+    push_escaped(text, words)?;
+    push_markup(text, "</td>")
+}
+
+/// Appends the figures of a case.
+#[tactic(auto, unfolding(crate::specs::Table::figure_cells))]
+fn push_figures(text: &mut String, case: &CaseSummary) -> Result<(), AllocError>
+    ensures { OnOk result (string_bytes text.new ≡ string_bytes text.old ++ figure_cells case.now) }
+{
+    push_time_cell(text, case.confirm_p50)?;
+    push_shares(text, case)?;
+    push_time_cell(text, case.suspect_p50)?;
+    push_time_cell(text, case.confirm_p99)?;
+    push_time_cell(text, case.confirm_greatest)?;
+    push_time_cell(text, case.last_p50)?;
+    push_time_cell(text, case.last_greatest)?;
+    push_costs(text, case)
+}
+
+/// Appends what a case cost: false suspicions, and messages.
+#[tactic(auto, unfolding(crate::specs::Table::cost_cells))]
+fn push_costs(text: &mut String, case: &CaseSummary) -> Result<(), AllocError>
+    ensures { OnOk result (string_bytes text.new ≡ string_bytes text.old ++ cost_cells case.now) }
+{
+    push_markup(text, "<td>")?;
+    push_hundredths(text, case.false_suspect)?;
+    push_markup(text, "</td><td>")?;
+    push_rate(text, case.messages)?;
+    push_markup(text, "</td>")
+}
+
+/// Appends a cell with a time.
+#[tactic(auto, unfolding(crate::specs::Table::time_cell))]
+pub(crate) fn push_time_cell(text: &mut String, time: Option<u64>) -> Result<(), AllocError>
+    ensures { OnOk result (string_bytes text.new ≡ string_bytes text.old ++ time_cell time) }
+{
+    push_markup(text, "<td>")?;
+    push_time(text, time)?;
+    push_markup(text, "</td>")
+}
+
+/// Appends how often a case threw out healthy members.
+#[tactic(auto, unfolding(crate::specs::Table::share_cells))]
+pub(crate) fn push_shares(text: &mut String, case: &CaseSummary) -> Result<(), AllocError>
+    ensures { OnOk result (string_bytes text.new ≡ string_bytes text.old ++ share_cells case.now) }
+{
+    push_markup(text, "<td>")?;
+    push_runs_with(text, case)?;
+    push_markup(text, "</td><td>")?;
+    push_percent(text, share_of(case))?;
+    push_markup(text, "</td><td>")?;
+    push_interval(
+        text,
+        thousandths(case.share_low),
+        thousandths(case.share_high),
+    )?;
+    push_markup(text, "</td>")
+}
