@@ -1,5 +1,5 @@
 #!/usr/bin/env python3
-"""Runs the commands that README.md, docs/GUIDE.md and docs/MEMBERLIST.md show, and compares the outputs shown with them.
+"""Runs the commands that README.md and docs/GUIDE.md, FORMAT.md and MEMBERLIST.md show, and compares the outputs shown with them.
 
     tests/documents.py [--program FILE]
 
@@ -24,7 +24,7 @@ from pathlib import Path
 
 TOP = Path(__file__).resolve().parent.parent
 BUILT = TOP / 'crates' / 'swimsim' / 'out' / 'swimsim'
-DOCUMENTS = ('README.md', 'docs/GUIDE.md', 'docs/MEMBERLIST.md')
+DOCUMENTS = ('README.md', 'docs/GUIDE.md', 'docs/FORMAT.md', 'docs/MEMBERLIST.md')
 REFUSED = TOP / 'tests' / 'explain' / 'refused'
 # commands that build, test or install are no business of this script
 OTHERS = re.compile(r'^\s*(?:\./test|tools/|\./swimsim --from-source)', re.M)

@@ -1,4 +1,4 @@
-"""What members draw, by docs/FORMAT.md ("Draws"), seen in the rows of small runs under many seeds."""
+"""What members draw, by docs/RUN.md ("Draws"), seen in the rows of small runs under many seeds."""
 
 from model_links import Draws
 from model_text import rows_in

@@ -3,7 +3,7 @@
 
     tests/model.py FILE [--trace T] [--report R]
 
-It is written from docs/FORMAT.md and docs/PROTOCOL.md alone, in their order and in their words; nothing in it
+It is written from docs/FORMAT.md, RUN.md and PROTOCOL.md alone, in their order and in their words; nothing in it
 comes from the program's sources. It judges the scenario text FILE as `swimsim check` does
 (tests/scenarios.py), and writes the trace and the report of its run (tests/model_text.py). Here is the cluster
 and its order; tests/model_links.py has draws and links, tests/model_member.py what a member does.
@@ -19,7 +19,7 @@ from model_text import report_of, trace_of
 from scenarios import NEWEST, document_of, judge
 
 
-# ---- A run (docs/FORMAT.md, "A run") ----
+# ---- A run (docs/RUN.md, "Events") ----
 
 class Run:
     """All members, what pends, and the rows in the order made."""

@@ -1,6 +1,6 @@
 """Draws, and when messages arrive, for tests/model.py.
 
-Written from docs/FORMAT.md ("Draws", "Links") alone.
+Written from docs/RUN.md ("Draws", "Links") alone.
 """
 
 # ---- Draws ----
