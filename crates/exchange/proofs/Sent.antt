@@ -18,13 +18,13 @@ use Rattle.member.specs.declared.event.Event.{Event}
 use Rattle.worker_queue.specs.declared.queue.EventQueue.{Ghosts}
 use Rattle.worker_queue.specs.contracts.wheel_queue.WheelQueue as wheel
 use Rattle.windows.specs.contracts.part.Part as part
+use Rattle.turns.specs.contracts.turns.Course as course
 use Rattle.workers.specs.contracts.pool.WorkerPool as pool
 use Rattle.workers.specs.declared.gate.Gate as gate
 use Rattle.workers.specs.declared.pieces.OfScenario as of_scenario
 use Rattle.workers.proofs.Sent.{scenario_sync, links_sync, member_send, task_send, board_sync, seat_send, signals_sync}
 use Rattle.relay.specs.contracts.relay.SendSeat as send_seat
 use Rattle.relay.proofs.Sent.{relay_sync}
-use Rattle.exchange.specs.contracts.basis.Basis as basis
 use Rattle.exchange.specs.contracts.driver.Driven as driven
 use Rattle.exchange.specs.contracts.driver.DriverTask as task
 
@@ -53,12 +53,12 @@ seat_field_send = search (shared_seat.the_send, badge.the_send, crosses, sendabl
 pub driven_send : IsSend driven.the_row
 driven_send = search (seat_field_send, crosses, sendable) depth 60
 
-basis_field_send : (α : NamedLft) → IsSend (basis.the_field α).row
-basis_field_send α = search (scenario_sync, links_sync, division_sync, crosses, sendable) depth 60 fits 20000
+course_sync : (α : NamedLft) → IsSync (course.the_row α)
+course_sync α = search (scenario_sync, links_sync, division_sync, crosses, sendable) depth 60 fits 20000
 
 pub driver_task_send : (ρ β α : NamedLft) (Q G P K : RattleType) (g : Ghosts Q.Denot Event) (e : gate.Ghosts G.Denot) (p : site.Ghosts P.Denot) (k : of_scenario.Ghosts K.Denot) → IsSend Q → IsSync G
     → IsSend (task.the_row ρ β α Q G P K g p e k)
 driver_task_send ρ β α Q G P K g e p k s t =
     let all : AllSend (shape (task.the_type ρ β α Q G P K g p e k)).fields =
-    (Vec-send (part.the_row Q) (part_row_send Q s), (pool_field_send β α Q G P K g e p k s t, (basis_field_send α, (search (relay_sync, sendable), (seat_field_send, tt))))) in
+    (Vec-send (part.the_row Q) (part_row_send Q s), (pool_field_send β α Q G P K g e p k s t, (search (course_sync, sendable), (search (relay_sync, sendable), (seat_field_send, tt))))) in
     declared_send (task.the_type ρ β α Q G P K g p e k) all

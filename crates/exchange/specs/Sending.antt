@@ -16,11 +16,11 @@ use Rattle.relay.specs.declared.relay.TakeSeat.{TakeSeat}
 use Rattle.relay.specs.Lots.{rows_in, has_last}
 use Rattle.relay.specs.Seats.{scenario_of, sent_by, taken_by, IsSender, IsTaker}
 use Rattle.windows.specs.declared.part.Part.{Part}
+use Rattle.turns.specs.declared.turns.Course.{Course}
 use Rattle.turns.specs.Beginning.{BeginsRun}
-use Rattle.turns.specs.Course.{GoTogether}
+use Rattle.turns.specs.Course.{IsCourse}
 use Rattle.turns.specs.Parts.{StandFor}
 use Rattle.outputs.specs.Written.{sink_failures, HasWritten}
-use Rattle.exchange.specs.declared.basis.Basis.{Basis}
 use Rattle.exchange.specs.declared.driver.Driven.{Driven}
 use Rattle.exchange.specs.declared.threads.Ended.{Ended}
 use Rattle.exchange.specs.declared.row_sender.RowSender.{RowSender}
@@ -32,10 +32,10 @@ use Rattle.exchange.specs.Batches.{AreBatches}
 abbrev pub rows_so_far : {R : Type 0} → RowSender R → List Row
 rows_so_far row_sender = rows_in (sent_by row_sender.seat) ++ row_sender.rows.items
 
--- a run that rests on this can begin in these parts
-pub record CanBegin {Q : Type 0} (set : Q → FinMap key_cmp Event) (basis : Basis) (parts : List (Part Q)) : Type 0 where
-  pub together : GoTogether basis.scenario.now basis.links.now basis.division.now
-  pub opened : StandFor set basis.division.now parts (opening basis.scenario.now)
+-- the turns of a run can go by this course, and begin in these parts
+pub record CanBegin {Q : Type 0} (set : Q → FinMap key_cmp Event) (course : Course) (parts : List (Part Q)) : Type 0 where
+  pub is : IsCourse course
+  pub opened : StandFor set course.division.now parts (opening course.cluster.scenario.now)
 
 -- the seat is the relay's, which is for this scenario, and nothing was sent from it yet
 pub record MaySend (s : Setup) (relay : Relay) (seat : SendSeat) : Type 0 where
@@ -49,12 +49,14 @@ pub record MayTake (s : Setup) (relay : Relay) (seat : TakeSeat) : Type 0 where
   pub one : scenario_of relay ≡ s
   pub none : taken_by seat ≡ []
 
--- the writer takes from the relay, which is for its scenario; nothing was received or tallied yet, and one failure more can be counted
-pub record MayWrite (writer : Writer) (failed : ℕ) : Type 0 where
+-- the writer takes from the relay, which is for its scenario; nothing was received, tallied or gathered yet, and one failure more can
+-- be counted
+pub record MayWrite (writer : Writer) (failed : ℕ) (gathered : List Row → Type 0) : Type 0 where
   pub taker : IsTaker writer.relay.now writer.seat
   pub one : scenario_of writer.relay.now ≡ writer.scenario.now
   pub none : taken_by writer.seat ≡ []
   pub none_tallied : writer.tallies ≡ []
+  pub none_gathered : gathered []
   pub countable : failed < 2 ^ 63
 
 -- the sender of rows sends over its relay, which is for its scenario; the last batch was not sent yet, and what waits for the next
@@ -90,6 +92,10 @@ pub record IsWritten (s : Setup) (relay : Relay) (held_old held_new : Option (Li
   pub last : OnOk written.outcome (has_last (taken_by written.seat) ≡ true)
   pub text : HasWritten s (rows_in (taken_by written.seat)) held_old held_new written.tallies written.outcome
   pub failures : failed_new ≡ failed_old + sink_failures written.outcome
+
+-- what was gathered is what the tallied rows tell, where the writer came to its end
+abbrev pub GathersAll : (List Row → Type 0) → Written → Type 0
+GathersAll gathered written = OnOk written.outcome (gathered written.tallies)
 
 -- The threads of the scenario's run have ended, and so has the writer.
 pub record HasEnded (s : Setup) (relay : Relay) (held_old held_new : Option (List ℕ)) (failed_old failed_new : ℕ) (ended : Ended) : Type 0 where

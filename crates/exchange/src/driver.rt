@@ -7,7 +7,6 @@ ghost use Rattle.exchange.specs.Batches.{CountsBatches};
 ghost use Rattle.workers.specs.Gates.{AwaitsAll};
 ghost use Rattle.exchange.specs.Sending.{rows_so_far, CanBegin, IsOpen, MaySend, ComeTo, IsDriven};
 
-use crate::basis::Basis;
 use crate::row_sender::RowSender;
 use base::Fault;
 use board::Site;
@@ -20,7 +19,7 @@ use std::marker::Sync;
 use std::snapshot::Snapshot;
 use std::sync::Wait;
 use std::thread::{Promise, Threads};
-use turns::{Course, Slice, Turned, bounded_by_horizons, course_of, exchanged, first_moment};
+use turns::{Course, Slice, Turned, bounded_by_horizons, exchanged, first_moment};
 use windows::Part;
 use worker_queue::EventQueue;
 use workers::{Gate, OfScenario, TaskPost, WorkerPool};
@@ -52,7 +51,7 @@ pub(crate) struct DriverTask<'r, 'b, 'a, Q: EventQueue<Event>, G: Gate, J: Site,
     /// The parts in which the run begins.
     pub(crate) parts: Vec<Part<Q>>,
     pub(crate) pool: WorkerPool<'b, 'a, Q, G, J, K>,
-    pub(crate) basis: Basis<'a>,
+    pub(crate) course: &'r Course<'a>,
     pub(crate) relay: &'r Relay,
     pub(crate) seat: SendSeat,
 }
@@ -73,24 +72,23 @@ pub(crate) fn drive<
     alloc: Global,
     task: DriverTask<'r, 'b, 'a, Q, G, J, K>,
 ) -> (Driven, TaskPost<'b, 'a, Q, G, J, K>)
-    requires ready { CanBegin Q.set task.basis task.parts.items }
-    requires board { K.scenario ≡ Some task.basis.scenario.now }
+    requires ready { CanBegin Q.set task.course.now task.parts.items }
+    requires board { K.scenario ≡ Some task.course.now.cluster.scenario.now }
     requires worker { G.knows 0 }
-    requires windows { AwaitsAll G.awaits task.basis.division.now.parts }
+    requires windows { AwaitsAll G.awaits task.course.now.division.now.parts }
     requires fresh { task.pool.windows ≡ 0 }
-    requires seat { MaySend task.basis.scenario.now task.relay.now task.seat }
-    ensures { IsDriven task.entry.basis.scenario.now task.entry.relay.now result.0 }
+    requires seat { MaySend task.course.now.cluster.scenario.now task.relay.now task.seat }
+    ensures { IsDriven task.entry.course.now.cluster.scenario.now task.entry.relay.now result.0 }
 {
     let DriverTask {
         parts,
         mut pool,
-        basis,
+        course,
         relay,
         seat,
     } = task;
-    let course = course_of(basis.scenario, basis.links, basis.division);
-    let mut row_sender = RowSender::new(rt, alloc, basis.scenario, relay, seat);
-    let outcome = turns_by_pool(rt, alloc, parts, &mut pool, &mut row_sender, &course);
+    let mut row_sender = RowSender::new(rt, alloc, course.cluster.scenario, relay, seat);
+    let outcome = turns_by_pool(rt, alloc, parts, &mut pool, &mut row_sender, course);
     let driven = row_sender.close(outcome);
     (driven, pool.leave())
 }
@@ -114,11 +112,11 @@ fn turns_by_pool<
     course: &Course<'a>,
 ) -> Result<(), Fault>
     requires course { IsCourse course.now }
-    requires opened { StandFor Q.set course.now.division.now parts.items (opening course.now.scenario.now) }
+    requires opened { StandFor Q.set course.now.division.now parts.items (opening course.now.cluster.scenario.now) }
     requires open { IsOpen row_sender.old }
-    requires one { row_sender.old.scenario.now ≡ course.now.scenario.now }
+    requires one { row_sender.old.scenario.now ≡ course.now.cluster.scenario.now }
     requires none_yet { rows_so_far row_sender.old ≡ [] }
-    requires board { K.scenario ≡ Some course.now.scenario.now }
+    requires board { K.scenario ≡ Some course.now.cluster.scenario.now }
     requires worker { G.knows 0 }
     requires windows { AwaitsAll G.awaits course.now.division.now.parts }
     requires fresh { pool.old.windows ≡ 0 }
@@ -128,9 +126,9 @@ fn turns_by_pool<
     ensures counts { CountsBatches row_sender.new.batches row_sender.new.seat }
     ensures few { row_sender.new.batches ≤ 2 ^ 41 }
     ensures relay { row_sender.new.relay ≡ row_sender.old.relay }
-    ensures come { ComeTo course.now.scenario.now (rows_so_far row_sender.new) result }
+    ensures come { ComeTo course.now.cluster.scenario.now (rows_so_far row_sender.new) result }
 {
-    let horizons = horizons(alloc, course.scenario, course.division, course.links)?;
+    let horizons = horizons(alloc, course.cluster, course.division)?;
     turns_to_horizons(rt, alloc, parts, pool, row_sender, &horizons, course)
 }
 
@@ -153,12 +151,12 @@ fn turns_to_horizons<
     course: &Course<'a>,
 ) -> Result<(), Fault>
     requires course { IsCourse course.now }
-    requires opened { StandFor Q.set course.now.division.now parts.items (opening course.now.scenario.now) }
-    requires horizons { AreHorizonsOf horizons.now course.now.scenario.now course.now.division.now }
+    requires opened { StandFor Q.set course.now.division.now parts.items (opening course.now.cluster.scenario.now) }
+    requires horizons { AreHorizonsOf horizons.now course.now.cluster.scenario.now course.now.division.now }
     requires open { IsOpen row_sender.old }
-    requires one { row_sender.old.scenario.now ≡ course.now.scenario.now }
+    requires one { row_sender.old.scenario.now ≡ course.now.cluster.scenario.now }
     requires none_yet { rows_so_far row_sender.old ≡ [] }
-    requires board { K.scenario ≡ Some course.now.scenario.now }
+    requires board { K.scenario ≡ Some course.now.cluster.scenario.now }
     requires worker { G.knows 0 }
     requires windows { AwaitsAll G.awaits course.now.division.now.parts }
     requires fresh { pool.old.windows ≡ 0 }
@@ -168,7 +166,7 @@ fn turns_to_horizons<
     ensures counts { CountsBatches row_sender.new.batches row_sender.new.seat }
     ensures few { row_sender.new.batches ≤ 2 ^ 41 }
     ensures relay { row_sender.new.relay ≡ row_sender.old.relay }
-    ensures come { ComeTo course.now.scenario.now (rows_so_far row_sender.new) result }
+    ensures come { ComeTo course.now.cluster.scenario.now (rows_so_far row_sender.new) result }
 {
     let mut kept = Vec::new(alloc);
     let mut slice = Slice::new();
@@ -180,7 +178,7 @@ fn turns_to_horizons<
         };
         let limit = slice.end(first);
         let bounded = bounded_by_horizons(alloc, parts, first, limit, horizons, course)?;
-        let done = pool.run_windows(rt, alloc, bounded, course.scenario, course.links)?;
+        let done = pool.run_windows(rt, alloc, bounded, course.cluster)?;
         let turned = exchanged(rt, alloc, done, kept, course.division)?;
         let Turned {
             parts: after,

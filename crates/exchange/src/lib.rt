@@ -1,7 +1,6 @@
 //! Runs of a scenario: by threads, which this crate has, and on the calling thread alone, by `whole_runs`.
 #![tactic(auto)]
 
-mod basis;
 mod by_workers;
 mod driver;
 mod row_sender;
@@ -9,10 +8,11 @@ mod settling;
 mod threads;
 mod writer;
 
-pub use by_workers::run;
-pub use outputs::Summary;
+pub use by_workers::{run, run_gathered};
+pub use outputs::{GatherRows, Summary, TraceAndGathered};
 pub use whole_runs::{
     a_run_exists, events_are_new, keys_rise, rows_rise, run_in_turn, run_one, run_streamed,
-    tally_run, the_first_version_is_kept, the_run_is_one, the_window_of_all_is_the_run,
+    run_streamed_gathered, tally_run, the_first_version_is_kept, the_run_is_one,
+    the_window_of_all_is_the_run,
 };
 pub use workers::{Gate, OpenGate};

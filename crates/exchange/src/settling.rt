@@ -1,5 +1,5 @@
 //! What a run by threads comes to once they have ended.
-ghost use Rattle.std.specs.Prelude.{◌≡◌, IfOk, OnOk};
+ghost use Rattle.std.specs.Prelude.{◌≡◌, IsOk, IfOk, OnOk};
 ghost use Rattle.board.specs.Sites.{AreSingleSeats};
 ghost use Rattle.relay.specs.Seats.{IsSender, IsTaker};
 ghost use Rattle.exchange.specs.Settled.{TakesAll};
@@ -20,7 +20,8 @@ use workers::{Gate, OfScenario, TaskBoard, TaskSeat, close_board, first_of};
 pub(crate) fn settled(relay: Relay, ended: Ended) -> Result<Tallies, Fault>
     requires sender { IsSender relay ended.driven.seat }
     requires taker { IsTaker relay ended.written.seat }
-    ensures { Settles relay ended result }
+    ensures settles { Settles relay ended result }
+    ensures tallied { IfOk result (λ rows. IsOk ended.written.outcome × (rows ≡ ended.written.tallies)) }
 {
     let Ended { driven, written } = ended;
     close(relay, driven.seat, written.seat);
@@ -57,6 +58,7 @@ pub(crate) fn closed<'a, Q: EventQueue<Event> + Drop, G: Gate, K: OfScenario>(
 ) -> (Result<Tallies, Fault>, Snapshot<Vec<TaskSeat<'a, Q>>>)
     requires { IfOk seats (λ seats. AreSingleSeats board seats.items) }
     ensures keeps { StillKeeps so_far result.0 }
+    ensures same { OnOk result.0 (result.0 ≡ so_far) }
     ensures settled { OnOk result.0 (TakesAll board.entry result.1.value.items) }
 {
     let Ok(seats) = seats else {

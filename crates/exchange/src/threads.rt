@@ -2,20 +2,20 @@
 ghost use Rattle.std.specs.Prelude.{◌≡◌, ◌<◌, ◌≤◌, Some, IfOk, OnErr, IfErr};
 ghost use Rattle.std.specs.Thread.{IsSync, IsSend};
 ghost use Rattle.workers.specs.Gates.{KnowsAll, AwaitsAll};
-ghost use Rattle.exchange.specs.Sending.{CanBegin, MaySend, MayWrite, IsEarly, IsDriven, HasEnded};
+ghost use Rattle.exchange.specs.Sending.{CanBegin, MaySend, MayWrite, IsEarly, IsDriven, GathersAll, HasEnded};
 
 use crate::driver::{Driven, DriverTask, Drives, drive};
 use crate::writer::{Writer, Written, write_all};
 use base::{Fault, Memory};
 use board::Site;
 use member::Event;
+use outputs::TakeRows;
 use std::alloc::Global;
 use std::marker::Sync;
 use std::snapshot::Snapshot;
 use std::sync::Wait;
 use std::thread;
 use std::thread::{JoinHandle, Scope, Threads};
-use trace::Sink;
 use worker_queue::EventQueue;
 use workers::{Gate, OfScenario, Signals, TaskPost, work};
 
@@ -26,8 +26,8 @@ pub(crate) struct Ended {
     pub(crate) written: Written,
 }
 
-/// Starts a thread for each of so many workers, of which the first is the driver, who has the pool. It writes on the
-/// calling thread what the driver sends, and returns once all threads have ended: what they leave, the pool's post,
+/// Starts a thread for each of so many workers, of which the first is the driver, who has the pool. It takes on the
+/// calling thread the rows that the driver sends, and returns once all threads have ended: what they leave, the pool's post,
 /// and the others, or `Memory` where there was none for these.
 ///
 /// Faults: `Relay` where a thread could not be started, `Memory` where its handle could not be kept. Then nothing
@@ -36,7 +36,8 @@ pub(crate) fn within<
     'r,
     'b,
     'a,
-    A: Sink,
+    T: TakeRows<P>,
+    P,
     Q: EventQueue<Event> + Drop + Send,
     G: Gate,
     J: Site + Send,
@@ -51,7 +52,7 @@ pub(crate) fn within<
     gate: &G,
     task: DriverTask<'r, 'b, 'a, Q, G, J, K>,
     writer: Writer<'r>,
-    trace: &mut A,
+    place: &mut P,
 ) -> Result<
     (
         Ended,
@@ -62,19 +63,20 @@ pub(crate) fn within<
 >
     requires first { G.knows 0 }
     requires known { KnowsAll G.knows workers }
-    requires windows { AwaitsAll G.awaits task.basis.division.now.parts }
-    requires board { K.scenario ≡ Some task.basis.scenario.now }
+    requires windows { AwaitsAll G.awaits task.course.now.division.now.parts }
+    requires board { K.scenario ≡ Some task.course.now.cluster.scenario.now }
     requires fresh { task.pool.windows ≡ 0 }
-    requires ready { CanBegin Q.set task.basis task.parts.items }
-    requires sends { MaySend task.basis.scenario.now task.relay.now task.seat }
-    requires writes { MayWrite writer (A.failed trace.old) }
-    requires one { writer.scenario.now ≡ task.basis.scenario.now }
+    requires ready { CanBegin Q.set task.course.now task.parts.items }
+    requires sends { MaySend task.course.now.cluster.scenario.now task.relay.now task.seat }
+    requires writes { MayWrite writer (T.failed place.old) (T.gathered place.old writer.scenario.now) }
+    requires one { writer.scenario.now ≡ task.course.now.cluster.scenario.now }
     requires relay { writer.relay.now ≡ task.relay.now }
-    ensures ended { IfOk result (λ r. HasEnded writer.entry.scenario.now writer.entry.relay.now (A.held trace.old) (A.held trace.new) (A.failed trace.old) (A.failed trace.new) r.0) }
-    ensures unwritten { OnErr result (trace.new ≡ trace.old) }
+    ensures ended { IfOk result (λ r. HasEnded writer.entry.scenario.now writer.entry.relay.now (T.held place.old) (T.held place.new) (T.failed place.old) (T.failed place.new) r.0) }
+    ensures gathered { IfOk result (λ r. GathersAll (T.gathered place.new writer.entry.scenario.now) r.0.written) }
+    ensures unwritten { OnErr result (place.new ≡ place.old) }
     ensures fault { IfErr result IsEarly }
 {
-    let (ended, _trace) = thread::scope(
+    let (ended, _place) = thread::scope(
         thread::scope_env(),
         rt,
         move |scope| -> (
@@ -86,45 +88,50 @@ pub(crate) fn within<
                 ),
                 Fault,
             >,
-            &mut A,
+            &mut P,
         )
             requires { IsSync R.row × IsSync G.row × IsSend Q.row
-                × CanBegin Q.set task.basis task.parts.items
-                × MaySend task.basis.scenario.now task.relay.now task.seat
-                × MayWrite writer (A.failed trace.now)
-                × (task.basis.scenario.now ≡ writer.scenario.now) × (task.relay.now ≡ writer.relay.now)
-                × G.knows 0 × KnowsAll G.knows workers × AwaitsAll G.awaits task.basis.division.now.parts
-                × (K.scenario ≡ Some task.basis.scenario.now) × (task.pool.windows ≡ 0) }
-            ensures same { result.1.ghost_name ≡ trace.entry.ghost_name }
+                × CanBegin Q.set task.course.now task.parts.items
+                × MaySend task.course.now.cluster.scenario.now task.relay.now task.seat
+                × MayWrite writer (T.failed place.now) (T.gathered place.now writer.scenario.now)
+                × (task.course.now.cluster.scenario.now ≡ writer.scenario.now) × (task.relay.now ≡ writer.relay.now)
+                × G.knows 0 × KnowsAll G.knows workers × AwaitsAll G.awaits task.course.now.division.now.parts
+                × (K.scenario ≡ Some task.course.now.cluster.scenario.now) × (task.pool.windows ≡ 0) }
+            ensures same { result.1.ghost_name ≡ place.entry.ghost_name }
             ensures ended { IfOk result.0 (λ r. HasEnded writer.entry.scenario.now writer.entry.relay.now
-                (A.held trace.entry.now) (A.held result.1.now) (A.failed trace.entry.now) (A.failed result.1.now) r.0) }
-            ensures unwritten { OnErr result.0 (result.1.now ≡ trace.entry.now) }
+                (T.held place.entry.now) (T.held result.1.now) (T.failed place.entry.now) (T.failed result.1.now) r.0) }
+            ensures gathered { IfOk result.0 (λ r. GathersAll (T.gathered result.1.now writer.entry.scenario.now) r.0.written) }
+            ensures unwritten { OnErr result.0 (result.1.now ≡ place.entry.now) }
             ensures fault { IfErr result.0 IsEarly }
         {
             let threads = match start_workers(
                 scope, rt, alloc, &mut posts, signals, gate, workers,
             ) {
                 Ok(threads) => threads,
-                Err(fault) => return (Err(fault), trace),
+                Err(fault) => return (Err(fault), place),
             };
+            let course = task.course;
             let driver = scope.spawn_with(
-                Drives(Snapshot::of(task.basis.scenario), Snapshot::of(task.relay)),
+                Drives(
+                    Snapshot::of(course.cluster.scenario),
+                    Snapshot::of(task.relay),
+                ),
                 move || -> (Driven, TaskPost<Q, G, J, K>)
                     requires { IsSync R.row
-                        × CanBegin Q.set task.basis task.parts.items
-                        × MaySend task.basis.scenario.now task.relay.now task.seat
-                        × (K.scenario ≡ Some task.basis.scenario.now) × G.knows 0 × AwaitsAll G.awaits task.basis.division.now.parts
+                        × CanBegin Q.set task.course.now task.parts.items
+                        × MaySend task.course.now.cluster.scenario.now task.relay.now task.seat
+                        × (K.scenario ≡ Some task.course.now.cluster.scenario.now) × G.knows 0 × AwaitsAll G.awaits task.course.now.division.now.parts
                         × (task.pool.windows ≡ 0) }
-                    ensures { IsDriven task.entry.basis.scenario.now task.entry.relay.now result.0 }
+                    ensures { IsDriven task.entry.course.now.cluster.scenario.now task.entry.relay.now result.0 }
                 { drive(rt, alloc, task) },
             );
             let Ok(driver) = driver else {
-                return (Err(Fault::Relay), trace);
+                return (Err(Fault::Relay), place);
             };
-            let written = write_all(rt, alloc, writer, trace);
+            let written = write_all::<T, P, R>(rt, alloc, writer, place);
             let (driven, own) = driver.join(rt);
             let posts = gather(rt, threads, posts);
-            (Ok((Ended { driven, written }, own, posts)), trace)
+            (Ok((Ended { driven, written }, own, posts)), place)
         },
     );
     ended

@@ -1,13 +1,13 @@
 //! Who writes the trace of a run by threads, as its rows come over the relay.
-ghost use Rattle.exchange.specs.Sending.{MayWrite, IsWritten};
+ghost use Rattle.exchange.specs.Sending.{MayWrite, IsWritten, GathersAll};
 
 use base::Fault;
+use outputs::TakeRows;
 use relay::{Relay, TakeSeat};
 use reports::Tallies;
 use scenario::Scenario;
 use std::alloc::Global;
 use std::sync::Wait;
-use trace::Sink;
 use trace_writer::write_stream;
 
 /// What the writer takes with it.
@@ -29,15 +29,16 @@ pub(crate) struct Written {
     pub(crate) outcome: Result<(), Fault>,
 }
 
-/// Writes and tallies what comes over the writer's relay, up to the last batch.
-pub(crate) fn write_all<A: Sink>(
-    rt: &impl Wait,
+/// Takes the rows that come over the writer's relay, up to the last batch.
+pub(crate) fn write_all<T: TakeRows<P>, P, R: Wait>(
+    rt: &R,
     alloc: Global,
     writer: Writer,
-    trace: &mut A,
+    place: &mut P,
 ) -> Written
-    requires { MayWrite writer (A.failed trace.old) }
-    ensures { IsWritten writer.entry.scenario.now writer.entry.relay.now (A.held trace.old) (A.held trace.new) (A.failed trace.old) (A.failed trace.new) result }
+    requires { MayWrite writer (T.failed place.old) (T.gathered place.old writer.scenario.now) }
+    ensures written { IsWritten writer.entry.scenario.now writer.entry.relay.now (T.held place.old) (T.held place.new) (T.failed place.old) (T.failed place.new) result }
+    ensures gathered { GathersAll (T.gathered place.new writer.entry.scenario.now) result }
 {
     let Writer {
         relay,
@@ -45,7 +46,15 @@ pub(crate) fn write_all<A: Sink>(
         mut seat,
         mut tallies,
     } = writer;
-    let outcome = write_stream(rt, alloc, relay, &mut seat, scenario, &mut tallies, trace);
+    let outcome = write_stream::<T, P, R>(
+        rt,
+        alloc,
+        relay,
+        &mut seat,
+        scenario,
+        &mut tallies,
+        place,
+    );
     Written {
         seat,
         tallies,

@@ -1,16 +1,17 @@
 -- What is answered of a text that was not written whole, and what is promised of a run that ends by a fault.
-use Rattle.std.proofs.Common.{◌≡◌, ◌≢◌, ◌∙◌, ◌⊎◌, ℕ, ◌<◌, List, Option, Result, Ok, Err, IsErrAnd, ap, sym, subst, refl}
+use Rattle.std.proofs.Common.{◌≡◌, ◌≢◌, ◌∙◌, ◌⊎◌, ℕ, ◌<◌, List, length, Option, Result, Ok, Err, IsErrAnd, ap, sym, subst, refl}
 use Rattle.std.specs.Result.{IfErr, IsErrOf}
 use Rattle.base.specs.declared.fault.Fault.{Fault}
 use Rattle.base.specs.declared.fault.Fault.TheVariants.{Memory, Worn, Write, Relay}
 use Rattle.scenario.specs.Setup.{Setup}
+use Rattle.trace.specs.declared.row.Row.{Row}
 use Rattle.trace.specs.declared.write.WriteError.{WriteError}
 use Rattle.trace.specs.declared.write.WriteError.TheVariants as error
 use Rattle.trace.specs.Sinks.{failures_of_write, fault_of_write}
 use Rattle.reports.proofs.Faults.{is_err}
 use Rattle.outputs.specs.declared.summary.Summary.{Summary}
 use Rattle.outputs.specs.Written.{sink_failures}
-use Rattle.outputs.specs.Promise.{WritesBeginning, KeepsPromise}
+use Rattle.outputs.specs.Promise.{WritesBeginning, KeepsPromise, summed}
 
 memory≢worn : Memory ≢ Worn
 memory≢worn is = cc
@@ -61,6 +62,14 @@ answered P r e gives p = subst (λ (o : Result _ _). IfErr o P) (sym (is_err r e
 pub never_relay : {T : Type 0} (r : Result T Fault) (e : WriteError) → IsErrAnd r (λ f. f ≡ fault_of_write e) → IfErr r (λ f. f ≢ Relay)
 never_relay r error.Memory gives = answered (λ f. f ≢ Relay) r Memory gives memory≢relay
 never_relay r error.Stopped gives = answered (λ f. f ≢ Relay) r Write gives write≢relay
+
+-- a fault is told as it is
+pub summed_err : (r : Result (List Row) Fault) (fault : Fault) → IsErrAnd r (λ f. f ≡ fault) → IsErrAnd (summed r) (λ f. f ≡ fault)
+summed_err (Ok rows) fault gives = absurd gives
+summed_err (Err cause) fault gives = gives
+
+pub summed_ok : (rows : List Row) (count : ℕ) → count ≡ length rows → summed (Ok rows) ≡ Ok (record { rows = count })
+summed_ok rows count is = ap (λ n. Ok (record { rows = n })) (sym is)
 
 -- what is promised after a fault
 pub breaks_off : {A B : Type 0} (held : A → Option (List ℕ)) (failed : A → ℕ) (held_report : B → Option (List ℕ)) (failed_report : B → ℕ)

@@ -1,5 +1,5 @@
 -- What a run writes, and how far it has come.
-use Rattle.std.specs.Prelude.{◌≡◌, ◌≢◌, ℕ, ◌⊎◌, List, ◌^◌, ◌<◌, Option, Result, length, IfOk, IfErr, OnOk, OnErr, IsErrOf}
+use Rattle.std.specs.Prelude.{◌≡◌, ◌≢◌, ℕ, ◌⊎◌, List, ◌^◌, ◌<◌, Option, Result, Ok, Err, length, IfOk, IfErr, OnOk, OnErr, IsErrOf}
 use Rattle.std.specs.Io.KnownBytes.{Appends, Keeps}
 use Rattle.base.specs.declared.fault.Fault.{Fault}
 use Rattle.base.specs.declared.fault.Fault.TheVariants as fault
@@ -41,6 +41,11 @@ pub record KeepsPromise {A B : Type 0} (held : A → Option (List ℕ)) (failed 
   pub whole : OnOk result (failed trace_new ≡ failed trace_old)
   pub whole_report : OnOk result (failed_report report_new ≡ failed_report report_old)
   pub others_report : IfErr result (λ cause. cause ≢ fault.Write → failed_report report_new ≡ failed_report report_old)
+
+-- what a run whose rows were tallied has come to, in short
+abbrev pub summed : Result (List Row) Fault → Result Summary Fault
+summed (Ok rows) = Ok (record { rows = length rows })
+summed (Err cause) = Err cause
 
 -- a beginning of the trace of the scenario's run was appended
 pub record BeginsTrace (s : Setup) (trace_old trace_new : Option (List ℕ)) : Type 0 where

@@ -1,7 +1,7 @@
 //! The end of a run whose trace was written as its rows came.
 ghost use Rattle.std.specs.Prelude.{◌≡◌, ◌≢◌, ◌<◌, ◌^◌, IsOk, IfOk, OnOk, IfErr, IsErrOf, All};
 ghost use Rattle.trace.specs.Text.{NamesMembers};
-ghost use Rattle.outputs.specs.Promise.{KeepsPromise};
+ghost use Rattle.outputs.specs.Promise.{KeepsPromise, summed};
 ghost use Rattle.outputs.specs.Traced.{KeepsTrace};
 
 use crate::summary::Summary;
@@ -35,10 +35,36 @@ pub fn end_run<A: Sink, B: Sink>(
     ensures relay { IsErrOf result Fault.Relay → IsErrOf outcome Fault.Relay }
     ensures others { IfErr result (λ fault. fault ≢ Fault.Write → A.failed trace.new ≡ A.failed trace.old) }
 {
-    let tallies = outcome?;
-    flush(trace)?;
-    write_tallied(alloc, &tallies, scenario, report)?;
+    let tallies = end_tallied(alloc, outcome, scenario, trace, report)?;
     Ok(Summary {
         rows: tallies.rows(),
     })
+}
+
+/// Ends a run as `end_run` does, and gives its tallies back.
+pub fn end_tallied<A: Sink, B: Sink>(
+    alloc: Global,
+    outcome: Result<Tallies, Fault>,
+    scenario: &Scenario,
+    trace: &mut A,
+    report: &mut B,
+) -> Result<Tallies, Fault>
+    requires named { IfOk outcome (λ tallies. All (NamesMembers scenario.now) tallies) }
+    requires countable { OnOk outcome (A.failed trace.old < 2 ^ 63) }
+    requires countable_report { B.failed report.old < 2 ^ 63 }
+
+    // Whatever the trace's sink held first: where the run kept what it owes that sink, the whole promise is kept.
+    ensures promise { (first : A) → KeepsTrace scenario.now (A.held first) (A.held trace.old) (A.failed first) (A.failed trace.old) outcome
+        → KeepsPromise A.held A.failed B.held B.failed scenario.now first trace.new report.old report.new (summed result) }
+
+    // Only the sinks' failures and want of memory are added to the run's own faults.
+    ensures came { OnOk result (result ≡ outcome) }
+    ensures worn { IsErrOf result Fault.Worn → IsErrOf outcome Fault.Worn }
+    ensures relay { IsErrOf result Fault.Relay → IsErrOf outcome Fault.Relay }
+    ensures others { IfErr result (λ fault. fault ≢ Fault.Write → A.failed trace.new ≡ A.failed trace.old) }
+{
+    let tallies = outcome?;
+    flush(trace)?;
+    write_tallied(alloc, &tallies, scenario, report)?;
+    Ok(tallies)
 }

@@ -2,11 +2,13 @@
 #![tactic(auto)]
 
 mod ending;
+mod gathering;
 mod summary;
 mod taking;
 mod writing;
 
-pub use ending::end_run;
+pub use ending::{end_run, end_tallied};
+pub use gathering::GatherRows;
 pub use summary::Summary;
-pub use taking::{TakeRows, TalliedAlone, Written};
-pub use writing::{begin_trace, flush, write_run, write_tallied};
+pub use taking::{TakeRows, TalliedAlone, TraceAndGathered, Written, WrittenAndGathered};
+pub use writing::{flush, write_run, write_tallied};

@@ -1,10 +1,14 @@
 //! What becomes of the rows of a run as they come.
-ghost use Rattle.std.specs.Prelude.{◌≡◌, ◌≢◌, ◌+◌, ◌++◌, ◌<◌, ◌≤◌, ◌^◌, length, List, None, Option, OnOk, OnErr, IfErr, IsErrOf, All, ℕ};
+ghost use Rattle.std.specs.Prelude.{◌≡◌, ◌≢◌, ◌+◌, ◌++◌, ◌<◌, ◌≤◌, ◌^◌, [], length, List, None, Option, OnOk, OnErr, IfErr, IsErrOf, All, ℕ};
 ghost use Rattle.std.specs.Io.KnownBytes.{Appends};
+ghost use Rattle.scenario.specs.Setup.{Setup};
+ghost use Rattle.trace.specs.declared.row.Row.{Row as ARow};
 ghost use Rattle.trace.specs.Text.{NamesMembers, rows_text};
 ghost use Rattle.trace.specs.Sinks.{AppendsBeginning};
-ghost use Rattle.outputs.specs.Written.{sink_failures};
+ghost use Rattle.outputs.specs.Written.{sink_failures, HasWritten};
 
+use crate::gathering::{GatherRows, gather_all};
+use crate::writing::begin_trace;
 use base::Fault;
 use reports::Tallies;
 use scenario::Scenario;
@@ -19,7 +23,20 @@ pub trait TakeRows<P> {
     // how often it has failed
     ghost failed: { P → ℕ };
 
-    /// Tallies the next rows of a run, and writes them where they are written.
+    // what it has gathered is what these rows of a run of the scenario tell
+    ghost gathered: { P → Setup → List ARow → Type 0 };
+
+    /// Begins the trace of a run, where one is written: with its header.
+    ///
+    /// Faults: `Memory`; `Write` where the place failed.
+    fn begin(place: &mut P) -> Result<(), Fault>
+        requires countable { failed place.old < 2 ^ 63 }
+        ensures written { (s : _) → HasWritten s [] (held place.old) (held place.new) [] result }
+        ensures gathered { (s : _) (rows : List ARow) → gathered place.old s rows → gathered place.new s rows }
+        ensures failures { failed place.new ≡ failed place.old + sink_failures result }
+        ensures relay { IfErr result (λ fault. fault ≢ Fault.Relay) };
+
+    /// Tallies the next rows of a run, gathers what is gathered of them, and writes them where they are written.
     ///
     /// Faults: `Memory`; `Worn` where a count of the report would pass 2^63; `Write` where the place failed.
     fn take(
@@ -31,8 +48,10 @@ pub trait TakeRows<P> {
     ) -> Result<(), Fault>
         requires named { All (NamesMembers scenario.now) rows.now }
         requires countable { failed place.old < 2 ^ 63 }
+        requires gathered { gathered place.old scenario.now tallies.old }
         ensures whole { OnOk result (Appends (held place.old) (held place.new) (rows_text scenario.now rows.now)) }
         ensures tallied { OnOk result (tallies.new ≡ tallies.old ++ rows.now) }
+        ensures gathered { OnOk result (gathered place.new scenario.now tallies.new) }
         ensures part { OnErr result (AppendsBeginning (held place.old) (held place.new) (rows_text scenario.now rows.now)) }
         ensures lasts { OnOk result (length tallies.new ≤ 2 ^ 63) }
         ensures worn { IsErrOf result Fault.Worn → 2 ^ 63 < length (tallies.old ++ rows.now) }
@@ -48,6 +67,12 @@ impl<A: Sink> TakeRows<A> for Written {
 
     ghost failed = { A.failed };
 
+    ghost gathered = { λ _ _ _. Unit {0} };
+
+    fn begin(place: &mut A) -> Result<(), Fault> {
+        begin_trace(place)
+    }
+
     fn take(
         alloc: Global,
         rows: &[Row],
@@ -60,6 +85,39 @@ impl<A: Sink> TakeRows<A> for Written {
     }
 }
 
+/// A sink of a trace, and what is gathered of its rows.
+#[derive(Drop)]
+pub struct TraceAndGathered<A, G> {
+    pub trace: A,
+    pub gathered: G,
+}
+
+/// Rows that are written, and of which something else is gathered too.
+pub struct WrittenAndGathered;
+
+impl<A: Sink, G: GatherRows> TakeRows<TraceAndGathered<A, G>> for WrittenAndGathered {
+    ghost held = { λ place. A.held place.trace };
+
+    ghost failed = { λ place. A.failed place.trace };
+
+    ghost gathered = { λ place. G.has place.gathered };
+
+    fn begin(place: &mut TraceAndGathered<A, G>) -> Result<(), Fault> {
+        begin_trace(&mut place.trace)
+    }
+
+    fn take(
+        alloc: Global,
+        rows: &[Row],
+        scenario: &Scenario,
+        tallies: &mut Tallies,
+        place: &mut TraceAndGathered<A, G>,
+    ) -> Result<(), Fault> {
+        gather_all(&mut place.gathered, rows, scenario)?;
+        Written::take(alloc, rows, scenario, tallies, &mut place.trace)
+    }
+}
+
 /// Rows that are tallied alone.
 pub struct TalliedAlone;
 
@@ -67,6 +125,12 @@ impl TakeRows<()> for TalliedAlone {
     ghost held = { λ _. None };
 
     ghost failed = { λ _. 0 };
+
+    ghost gathered = { λ _ _ _. Unit {0} };
+
+    fn begin(_place: &mut ()) -> Result<(), Fault> {
+        Ok(())
+    }
 
     fn take(
         _alloc: Global,

@@ -50,7 +50,7 @@ pub fn write_run<A: Sink, B: Sink>(
 }
 
 /// Writes the header of the trace. Faults: `Memory`; `Write` where the sink failed.
-pub fn begin_trace<A: Sink>(trace: &mut A) -> Result<(), Fault>
+pub(crate) fn begin_trace<A: Sink>(trace: &mut A) -> Result<(), Fault>
     requires countable { A.failed trace.old < 2 ^ 63 }
     ensures written { (s : _) → HasWritten s [] (A.held trace.old) (A.held trace.new) [] result }
     ensures failures { A.failed trace.new ≡ A.failed trace.old + sink_failures result }

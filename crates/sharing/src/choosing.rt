@@ -1,7 +1,6 @@
 //! By which parts a run is shared. No result depends on it.
 ghost use Rattle.std.specs.Prelude.{◌≡◌, ◌<◌, ◌≤◌, length, IfOk, IfSome};
 ghost use Rattle.scenario.specs.Setup.{member_count};
-ghost use Rattle.links.specs.Arrival.{AreLinksOf};
 
 use crate::sites::by_sites;
 use crate::turn_length::{has_long_turns, long_turn};
@@ -10,6 +9,7 @@ use horizons::horizons;
 use links::Links;
 use scenario::{Division, Scenario};
 use std::alloc::Global;
+use windows::Cluster;
 
 /// The parts by which the run is likely to take less time than by those of the division: its sites, or all members as one part where
 /// a turn of neither is worth handing over. None where the division's own are good.
@@ -21,12 +21,13 @@ pub(crate) fn better_parts(
     requires divides { length division.now.part_of ≡ member_count scenario.now }
     ensures { IfOk result (λ chosen. IfSome chosen (λ parts. length parts.part_of ≡ member_count scenario.now)) }
 {
-    let links = Links::of(alloc, scenario)?;
-    if is_worthwhile(alloc, scenario, division, &links)? {
+    let links = &Links::of(alloc, scenario)?;
+    let cluster = Cluster { scenario, links };
+    if is_worthwhile(alloc, cluster, division)? {
         return Ok(None);
     }
-    if let Some(sites) = by_sites(alloc, scenario, &links, long_turn(scenario))? {
-        if is_worthwhile(alloc, scenario, &sites, &links)? {
+    if let Some(sites) = by_sites(alloc, cluster, long_turn(scenario))? {
+        if is_worthwhile(alloc, cluster, &sites)? {
             return Ok(Some(sites));
         }
     }
@@ -34,20 +35,14 @@ pub(crate) fn better_parts(
 }
 
 /// Whether a turn of these parts is worth handing over.
-fn is_worthwhile(
-    alloc: Global,
-    scenario: &Scenario,
-    division: &Division,
-    links: &Links,
-) -> Result<bool, Memory>
-    requires links { AreLinksOf links.now scenario.now }
-    requires divides { length division.now.part_of ≡ member_count scenario.now }
+fn is_worthwhile(alloc: Global, cluster: Cluster, division: &Division) -> Result<bool, Memory>
+    requires { length division.now.part_of ≡ member_count cluster.scenario.now }
 {
     if division.parts() == 1 {
         return Ok(false);
     }
-    let horizons = horizons(alloc, scenario, division, links)?;
-    Ok(has_long_turns(scenario, &horizons))
+    let horizons = horizons(alloc, cluster, division)?;
+    Ok(has_long_turns(cluster.scenario, &horizons))
 }
 
 /// All members of the scenario as one part.

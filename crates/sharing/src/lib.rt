@@ -7,4 +7,4 @@ mod shared;
 mod sites;
 mod turn_length;
 
-pub use shared::run_shared;
+pub use shared::{run_shared, run_shared_gathered};

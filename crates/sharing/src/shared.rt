@@ -1,13 +1,15 @@
 //! A run by as many threads as pay.
-ghost use Rattle.std.specs.Prelude.{◌≡◌, ◌<◌, ◌≤◌, ◌^◌, ◌⊎◌, length, OnOk, IsErrOf};
+ghost use Rattle.std.specs.Prelude.{◌≡◌, ◌<◌, ◌≤◌, ◌^◌, ◌⊎◌, [], length, IfOk, OnOk, IsErrOf, All};
 ghost use Rattle.scenario.specs.Setup.{member_count};
-ghost use Rattle.member_laws.specs.Runs.{WearsOut};
-ghost use Rattle.outputs.specs.Promise.{KeepsPromise, WearsOutReport};
+ghost use Rattle.trace.specs.Text.{NamesMembers};
+ghost use Rattle.member_laws.specs.Runs.{IsRunOf, WearsOut};
+ghost use Rattle.outputs.specs.Promise.{KeepsPromise, WearsOutReport, summed};
 
 use crate::choosing::better_parts;
 use base::{Fault, Memory};
-use exchange::{OpenGate, Summary, run, run_streamed};
-use outputs::end_run;
+use exchange::{OpenGate, Summary, run, run_gathered, run_streamed, run_streamed_gathered};
+use outputs::{GatherRows, TraceAndGathered, end_run, end_tallied};
+use reports::Tallies;
 use scenario::{Division, Scenario, Workers};
 use std::alloc::Global;
 use std::marker::Sync;
@@ -58,5 +60,60 @@ pub fn run_shared<A: Sink, B: Sink, R: Threads + Wait + Sync>(
             rt, alloc, scenario, &parts, workers, &OpenGate, trace, report,
         ),
         Err(Memory) => end_run(alloc, Err(Fault::Memory), scenario, trace, report),
+    }
+}
+
+/// Runs the scenario as `run_shared` does, and gathers something else of the rows of its run as they come: that and the
+/// tallies of the rows are whole where it succeeds.
+///
+/// Faults: as of `run_shared`.
+pub fn run_shared_gathered<A: Sink, B: Sink, C: GatherRows, R: Threads + Wait + Sync>(
+    rt: &R,
+    alloc: Global,
+    scenario: &Scenario,
+    division: &Division,
+    workers: Workers,
+    place: &mut TraceAndGathered<A, C>,
+    report: &mut B,
+) -> Result<Tallies, Fault>
+    requires divides { length division.now.part_of ≡ member_count scenario.now }
+    requires countable { A.failed place.old.trace < 2 ^ 63 }
+    requires countable_report { B.failed report.old < 2 ^ 63 }
+    requires none_gathered { C.has place.old.gathered scenario.now [] }
+
+    // The sinks get exactly the trace of the scenario's run, and the report on it; after a fault a beginning of that.
+    ensures promise { KeepsPromise A.held A.failed B.held B.failed scenario.now place.old.trace place.new.trace report.old report.new (summed result) }
+
+    // The rows of the run are tallied, and what was gathered is what they tell.
+    ensures run { IfOk result (IsRunOf scenario.now) }
+    ensures named { IfOk result (All (NamesMembers scenario.now)) }
+    ensures gathered { IfOk result (C.has place.new.gathered scenario.now) }
+
+    // No count of its report passes 2^63, and no fault comes without its cause.
+    ensures lasts_report { OnOk result (¬ (WearsOutReport scenario.now)) }
+    ensures worn { IsErrOf result Fault.Worn → WearsOut scenario.now ⊎ WearsOutReport scenario.now }
+    ensures others { IsErrOf result Fault.Relay → A.failed place.new.trace ≡ A.failed place.old.trace }
+
+    // One worker alone loses nothing to threads.
+    ensures threads { IsErrOf result Fault.Relay → 2 ≤ workers }
+{
+    let _end = scenario.end();
+    if workers.count() < 2 {
+        return run_streamed_gathered(alloc, scenario, place, report);
+    }
+    match better_parts(alloc, scenario, division) {
+        Ok(None) => run_gathered(
+            rt, alloc, scenario, division, workers, &OpenGate, place, report,
+        ),
+        Ok(Some(parts)) => run_gathered(
+            rt, alloc, scenario, &parts, workers, &OpenGate, place, report,
+        ),
+        Err(Memory) => end_tallied(
+            alloc,
+            Err(Fault::Memory),
+            scenario,
+            &mut place.trace,
+            report,
+        ),
     }
 }

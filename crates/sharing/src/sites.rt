@@ -7,6 +7,7 @@ use base::{MemberId, Memory};
 use links::Links;
 use scenario::{Division, Scenario};
 use std::alloc::Global;
+use windows::Cluster;
 
 /// How many groups are looked at. Members of later ones go with those of the first.
 const MOST_GROUPS: usize = 64;
@@ -14,16 +15,15 @@ const MOST_GROUPS: usize = 64;
 /// The members by their sites: two groups are of one where a link between them is shorter than so many ticks.
 pub(crate) fn by_sites(
     alloc: Global,
-    scenario: &Scenario,
-    links: &Links,
+    cluster: Cluster,
     ticks: u64,
 ) -> Result<Option<Division>, Memory>
-    ensures { IfOk result (λ made. IfSome made (λ sites. length sites.part_of ≡ member_count scenario.now)) }
+    ensures { IfOk result (λ made. IfSome made (λ sites. length sites.part_of ≡ member_count cluster.entry.scenario.now)) }
 {
-    let firsts = first_members(alloc, scenario)?;
-    let sites = sites_of_groups(alloc, &firsts, links, ticks)?;
-    let part_of = parts_of_members(alloc, scenario, &sites)?;
-    Ok(divided(scenario, sites.len(), part_of))
+    let firsts = first_members(alloc, cluster.scenario)?;
+    let sites = sites_of_groups(alloc, &firsts, cluster.links, ticks)?;
+    let part_of = parts_of_members(alloc, cluster.scenario, &sites)?;
+    Ok(divided(cluster.scenario, sites.len(), part_of))
 }
 
 /// The first member of each group.

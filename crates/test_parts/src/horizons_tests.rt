@@ -7,6 +7,7 @@ use scenario::{Division, Scenario};
 use scenario_reader::read;
 use std::alloc::Global;
 use std::process::Abort;
+use windows::Cluster;
 
 /// What all texts begin with.
 const HEAD: &str = "version = 1
@@ -239,14 +240,14 @@ fn horizons_of(
     parts: usize,
     part_of: &[u8],
 ) -> Horizons {
-    let scenario = scenario_of(alloc, rt, text);
+    let scenario = &scenario_of(alloc, rt, text);
     let part_of = part_of.to_vec(alloc).ok().expect(rt, "memory");
-    let division = Division::new(&scenario, parts, part_of)
+    let division = Division::new(scenario, parts, part_of)
         .ok()
         .expect(rt, "divided");
-    let links = Links::of(alloc, &scenario).ok().expect(rt, "memory");
+    let links = &Links::of(alloc, scenario).ok().expect(rt, "memory");
     assert_eq!(rt; division.members(), scenario.members());
-    horizons(alloc, &scenario, &division, &links)
+    horizons(alloc, Cluster { scenario, links }, &division)
         .ok()
         .expect(rt, "memory")
 }

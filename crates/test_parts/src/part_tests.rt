@@ -18,7 +18,7 @@ use std::alloc::Global;
 use std::process::Abort;
 use std::test::Fail;
 use trace::{Row, What};
-use windows::{Done, Part};
+use windows::{Cluster, Done, Part};
 use worker_queue::{EventQueue, TreeQueue};
 
 const TWO_MEMBERS: &str = "version = 1
@@ -139,11 +139,11 @@ fn window<Q: EventQueue<Event> + Drop>(
     ensures among { All (λ (e : Event). IsAmongMembers scenario.now e.key e.content) result.out.items }
 {
     assert!(rt; bound <= scenario.end().ticks() + 1);
-    let links = match Links::of(alloc, scenario) {
+    let links = &match Links::of(alloc, scenario) {
         Ok(links) => links,
         Err(_) => panic!(rt; "want of memory"),
     };
-    match part.run(alloc, Moment(bound), scenario, &links) {
+    match part.run(alloc, Moment(bound), Cluster { scenario, links }) {
         Ok(done) => done,
         Err(_) => panic!(rt; "the window was refused"),
     }

@@ -26,7 +26,7 @@ use std::test::Fail;
 use std::thread;
 use std::thread::Threads;
 use trace::Row;
-use windows::{Bounded, Done, Part};
+use windows::{Bounded, Cluster, Done, Part};
 use worker_queue::{EventQueue, TreeQueue};
 use workers::{
     Gate, OfScenario, OpenGate, Signals, TaskBoard, TaskPost, TaskSeat, WorkerPool, close_board,
@@ -169,25 +169,23 @@ fn drive<'b, 'a, G: Gate, J: Site, K: OfScenario>(
     rt: &impl Wait,
     alloc: Global,
     pool: &mut WorkerPool<'b, 'a, WatchedQueue, G, J, K>,
-    scenario: &'a Scenario,
-    links: &'a Links,
+    cluster: Cluster<'a>,
     watch: &Watch,
 ) -> Result<Vec<Row>, Fault>
-    requires fits { AreLinksOf links.now scenario.now }
-    requires one { K.scenario ≡ Some scenario.now }
+    requires one { K.scenario ≡ Some cluster.scenario.now }
     requires first { G.knows 0 }
     requires told { (window part : ℕ) → 1 ≤ window → G.awaits window part }
     requires fresh { pool.old.windows ≡ 0 }
 {
     let mut rows = Vec::new(alloc);
     for window in 0..WINDOWS {
-        let bound = (window + 1).min(scenario.end().ticks());
+        let bound = (window + 1).min(cluster.scenario.end().ticks());
         watch.clear();
-        let parts = match four(alloc, scenario, Moment(bound), watch) {
+        let parts = match four(alloc, cluster.scenario, Moment(bound), watch) {
             Ok(parts) => parts,
             Err(Memory) => return Err(Fault::Memory),
         };
-        let done = match pool.run_windows(rt, alloc, parts, scenario, links) {
+        let done = match pool.run_windows(rt, alloc, parts, cluster) {
             Ok(done) => done,
             Err(fault) => return Err(fault),
         };
@@ -208,12 +206,10 @@ fn within<'b, 'a, G: Gate, J: Site + Send, K: OfScenario + Send + Sync, R: Threa
     mut pool: WorkerPool<'b, 'a, WatchedQueue, G, J, K>,
     signals: &Signals,
     gate: &G,
-    scenario: &'a Scenario,
-    links: &'a Links,
+    cluster: Cluster<'a>,
     watch: &Watch,
 ) -> Result<(Vec<Row>, Vec<TaskPost<'b, 'a, WatchedQueue, G, J, K>>), Fault>
-    requires fits { AreLinksOf links.now scenario.now }
-    requires one { K.scenario ≡ Some scenario.now }
+    requires one { K.scenario ≡ Some cluster.scenario.now }
     requires known { (worker : ℕ) → G.knows worker }
     requires told { (window part : ℕ) → 1 ≤ window → G.awaits window part }
     requires fresh { pool.windows ≡ 0 }
@@ -222,8 +218,8 @@ fn within<'b, 'a, G: Gate, J: Site + Send, K: OfScenario + Send + Sync, R: Threa
         thread::scope_env(),
         rt,
         move |scope| -> Result<(Vec<Row>, Vec<TaskPost<WatchedQueue, G, J, K>>), Fault>
-            requires { IsSync R.row × IsSync G.row × AreLinksOf links.now scenario.now
-                × (K.scenario ≡ Some scenario.now) × ((worker : ℕ) → G.knows worker)
+            requires { IsSync R.row × IsSync G.row
+                × (K.scenario ≡ Some cluster.scenario.now) × ((worker : ℕ) → G.knows worker)
                 × ((window part : ℕ) → 1 ≤ window → G.awaits window part) × (pool.windows ≡ 0) }
         {
             let mut threads = Vec::new(alloc);
@@ -244,7 +240,7 @@ fn within<'b, 'a, G: Gate, J: Site + Send, K: OfScenario + Send + Sync, R: Threa
                     Err(_) => return Err(Fault::Memory),
                 }
             }
-            let rows = drive(rt, alloc, &mut pool, scenario, links, watch);
+            let rows = drive(rt, alloc, &mut pool, cluster, watch);
             match posts.push(pool.leave()) {
                 Ok(()) => {}
                 Err(_) => return Err(Fault::Memory),
@@ -271,12 +267,10 @@ fn at_board<'a, G: Gate, J: Site + Send, K: OfScenario + Send + Sync, R: Threads
     board: &TaskBoard<'a, WatchedQueue, G, K>,
     seats: Vec<TaskSeat<'a, WatchedQueue>>,
     gate: &G,
-    scenario: &'a Scenario,
-    links: &'a Links,
+    cluster: Cluster<'a>,
     watch: &Watch,
 ) -> Result<(Vec<Row>, Vec<TaskSeat<'a, WatchedQueue>>), Fault>
-    requires fits { AreLinksOf links.now scenario.now }
-    requires one { K.scenario ≡ Some scenario.now }
+    requires one { K.scenario ≡ Some cluster.scenario.now }
     requires known { (worker : ℕ) → G.knows worker }
     requires told { (window part : ℕ) → 1 ≤ window → G.awaits window part }
     requires here { table_of board.now ≡ J.table }
@@ -294,7 +288,7 @@ fn at_board<'a, G: Gate, J: Site + Send, K: OfScenario + Send + Sync, R: Threads
     };
     let pool = WorkerPool::new(workers, own, &signals, gate);
     let (rows, posts) = match within(
-        rt, alloc, workers, posts, pool, &signals, gate, scenario, links, watch,
+        rt, alloc, workers, posts, pool, &signals, gate, cluster, watch,
     ) {
         Ok(pair) => pair,
         Err(fault) => return Err(fault),
@@ -312,12 +306,10 @@ fn by_workers<'a, G: Gate, K: OfScenario + Send + Sync, R: Threads + Wait + Sync
     workers: usize,
     room: usize,
     gate: &G,
-    scenario: &'a Scenario,
-    links: &'a Links,
+    cluster: Cluster<'a>,
     watch: &Watch,
 ) -> Result<Vec<Row>, Fault>
-    requires fits { AreLinksOf links.now scenario.now }
-    requires one { K.scenario ≡ Some scenario.now }
+    requires one { K.scenario ≡ Some cluster.scenario.now }
     requires known { (worker : ℕ) → G.knows worker }
     requires room { (1 ≤ room) × (room ≤ 64) }
     requires told { (window part : ℕ) → 1 ≤ window → G.awaits window part }
@@ -325,12 +317,12 @@ fn by_workers<'a, G: Gate, K: OfScenario + Send + Sync, R: Threads + Wait + Sync
     let (board, seats): (
         TaskBoard<'a, WatchedQueue, G, K>,
         Vec<TaskSeat<'a, WatchedQueue>>,
-    ) = match open_board(alloc, scenario, room) {
+    ) = match open_board(alloc, cluster.scenario, room) {
         Ok(pair) => pair,
         Err(Memory) => return Err(Fault::Memory),
     };
     let (rows, seats) = match at_board::<G, Brand, K, R>(
-        rt, alloc, workers, &board, seats, gate, scenario, links, watch,
+        rt, alloc, workers, &board, seats, gate, cluster, watch,
     ) {
         Ok(pair) => pair,
         Err(fault) => return Err(fault),
@@ -342,17 +334,15 @@ fn by_workers<'a, G: Gate, K: OfScenario + Send + Sync, R: Threads + Wait + Sync
 }
 
 /// The rows of all windows, one part after another.
-fn in_turn(alloc: Global, scenario: &Scenario, links: &Links) -> Result<Vec<Row>, Fault>
-    requires { AreLinksOf links.now scenario.now }
-{
-    let _end = scenario.end();
+fn in_turn(alloc: Global, cluster: Cluster) -> Result<Vec<Row>, Fault> {
+    let _end = cluster.scenario.end();
     let mut rows = Vec::new(alloc);
     for window in 0..WINDOWS {
-        let part = match everybody(alloc, scenario, TreeQueue::new(alloc)) {
+        let part = match everybody(alloc, cluster.scenario, TreeQueue::new(alloc)) {
             Ok(part) => part,
             Err(Memory) => return Err(Fault::Memory),
         };
-        let Ok(done) = part.run(alloc, Moment(window + 1), scenario, links) else {
+        let Ok(done) = part.run(alloc, Moment(window + 1), cluster) else {
             return Err(Fault::Memory);
         };
         let Done { rows: mut made, .. } = done;
@@ -444,11 +434,8 @@ fn counted<R: Abort + Threads + Wait + Sync>(
     rt: &R,
     alloc: Global,
     workers: usize,
-    scenario: &Scenario,
-    links: &Links,
-) -> Result<Vec<Row>, Fault>
-    requires { AreLinksOf links.now scenario.now }
-{
+    cluster: Cluster,
+) -> Result<Vec<Row>, Fault> {
     let watch = watch_of(alloc, usize::MAX)?;
     let gate = Counter {
         entered: sixteen(),
@@ -457,9 +444,7 @@ fn counted<R: Abort + Threads + Wait + Sync>(
         workers,
         watch: another(&watch)?,
     };
-    let rows = by_workers::<Counter, Brand, R>(
-        rt, alloc, workers, 4, &gate, scenario, links, &watch,
-    );
+    let rows = by_workers::<Counter, Brand, R>(rt, alloc, workers, 4, &gate, cluster, &watch);
     for cell in &gate.entered[4..] {
         assert_eq!(rt; cell.load(Ordering::SeqCst), 1);
     }
@@ -471,15 +456,16 @@ fn counted<R: Abort + Threads + Wait + Sync>(
 #[test]
 fn four_parts_by_one_two_and_three_workers(rt: HostRuntime) -> Result<(), Fail> {
     let alloc = rt.alloc();
-    let scenario = scenario_of(&rt, alloc);
-    let links = links_of(&rt, alloc, &scenario);
-    let wanted = in_turn(alloc, &scenario, &links)?;
+    let scenario = &scenario_of(&rt, alloc);
+    let links = &links_of(&rt, alloc, scenario);
+    let cluster = Cluster { scenario, links };
+    let wanted = in_turn(alloc, cluster)?;
     assert_eq!(rt; wanted.len(), 12);
     for workers in 1..4 {
-        let rows = counted(&rt, alloc, workers, &scenario, &links)?;
+        let rows = counted(&rt, alloc, workers, cluster)?;
         assert!(rt; are_same(&rows, &wanted));
     }
-    let rows = counted(&rt, alloc, 64, &scenario, &links)?;
+    let rows = counted(&rt, alloc, 64, cluster)?;
     assert!(rt; are_same(&rows, &wanted));
     Ok(())
 }
@@ -487,11 +473,12 @@ fn four_parts_by_one_two_and_three_workers(rt: HostRuntime) -> Result<(), Fail> 
 #[test]
 fn an_open_gate_lets_all_pass(rt: HostRuntime) -> Result<(), Fail> {
     let alloc = rt.alloc();
-    let scenario = scenario_of(&rt, alloc);
-    let links = links_of(&rt, alloc, &scenario);
+    let scenario = &scenario_of(&rt, alloc);
+    let links = &links_of(&rt, alloc, scenario);
+    let cluster = Cluster { scenario, links };
     let watch = watch_of(alloc, usize::MAX)?;
     let rows = by_workers::<OpenGate, Brand, HostRuntime>(
-        &rt, alloc, 2, 4, &OpenGate, &scenario, &links, &watch,
+        &rt, alloc, 2, 4, &OpenGate, cluster, &watch,
     )?;
     assert_eq!(rt; rows.len(), 12);
     Ok(())
@@ -526,18 +513,15 @@ impl Gate for Holder {
 fn crowded<R: Abort + Threads + Wait + Sync>(
     rt: &R,
     alloc: Global,
-    scenario: &Scenario,
-    links: &Links,
+    cluster: Cluster,
     room: usize,
-) -> Result<Vec<Row>, Fault>
-    requires { AreLinksOf links.now scenario.now }
-{
+) -> Result<Vec<Row>, Fault> {
     let watch = watch_of(alloc, room)?;
     let gate = Holder {
         watch: another(&watch)?,
         alone: AtomicU64::new(0),
     };
-    let rows = by_workers::<Holder, Brand, R>(rt, alloc, 2, 1, &gate, scenario, links, &watch);
+    let rows = by_workers::<Holder, Brand, R>(rt, alloc, 2, 1, &gate, cluster, &watch);
     assert_eq!(rt; gate.alone.load(Ordering::SeqCst), 0);
     rows
 }
@@ -546,12 +530,13 @@ fn crowded<R: Abort + Threads + Wait + Sync>(
 #[test]
 fn a_part_that_comes_back_is_told_unless_memory_was_refused(rt: HostRuntime) -> Result<(), Fail> {
     let alloc = rt.alloc();
-    let scenario = scenario_of(&rt, alloc);
-    let links = links_of(&rt, alloc, &scenario);
-    let came = crowded(&rt, alloc, &scenario, &links, usize::MAX);
+    let scenario = &scenario_of(&rt, alloc);
+    let links = &links_of(&rt, alloc, scenario);
+    let cluster = Cluster { scenario, links };
+    let came = crowded(&rt, alloc, cluster, usize::MAX);
     assert!(rt; came.is_err_and(|fault| fault == Fault::Relay));
     // both starts pend, and nothing that comes of them may
-    let came = crowded(&rt, alloc, &scenario, &links, 2);
+    let came = crowded(&rt, alloc, cluster, 2);
     assert!(rt; came.is_err_and(|fault| fault == Fault::Memory));
     Ok(())
 }
@@ -592,16 +577,15 @@ impl Gate for Meeting {
 #[test]
 fn two_workers_meet_in_every_window(rt: HostRuntime) -> Result<(), Fail> {
     let alloc = rt.alloc();
-    let scenario = scenario_of(&rt, alloc);
-    let links = links_of(&rt, alloc, &scenario);
+    let scenario = &scenario_of(&rt, alloc);
+    let links = &links_of(&rt, alloc, scenario);
+    let cluster = Cluster { scenario, links };
     let gate = Meeting {
         entered: sixteen(),
         alone: AtomicU64::new(0),
     };
     let watch = watch_of(alloc, usize::MAX)?;
-    let rows = by_workers::<Meeting, Brand, HostRuntime>(
-        &rt, alloc, 2, 4, &gate, &scenario, &links, &watch,
-    )?;
+    let rows = by_workers::<Meeting, Brand, HostRuntime>(&rt, alloc, 2, 4, &gate, cluster, &watch)?;
     assert_eq!(rt; rows.len(), 12);
     assert_eq!(rt; gate.alone.load(Ordering::SeqCst), 0);
     Ok(())

@@ -10,6 +10,8 @@ mod figures_tests;
 #[cfg(test)]
 mod gates;
 #[cfg(test)]
+mod gathered_tests;
+#[cfg(test)]
 mod horizons_tests;
 #[cfg(test)]
 mod links_tests;

@@ -6,44 +6,46 @@ ghost use Rattle.relay.specs.Seats.{scenario_of, taken_by, IsTaker};
 ghost use Rattle.outputs.specs.Written.{sink_failures, HasWritten};
 
 use base::Fault;
-use outputs::{TakeRows, Written, begin_trace};
+use outputs::TakeRows;
 use relay::{Relay, TakeSeat};
 use reports::Tallies;
 use scenario::Scenario;
 use std::alloc::Global;
 use std::sync::Wait;
-use trace::{Row, Sink};
+use trace::Row;
 
-/// Writes the trace as its rows come over the relay, up to the last batch, and tallies them. After a fault it
-/// goes on receiving, so that whoever sends can come to an end, but puts nothing more.
+/// Begins the trace and takes its rows as they come over the relay, up to the last batch. After a fault it goes on
+/// receiving, so that whoever sends can come to an end, but takes nothing more.
 ///
-/// Faults: `Memory`; `Worn` where a count of the report would pass 2^63; `Write` where the sink failed; `Relay`
+/// Faults: `Memory`; `Worn` where a count of the report would pass 2^63; `Write` where the place failed; `Relay`
 /// where the last batch never came.
-pub fn write_stream<A: Sink>(
-    rt: &impl Wait,
+pub fn write_stream<T: TakeRows<P>, P, R: Wait>(
+    rt: &R,
     alloc: Global,
     relay: &Relay,
     seat: &mut TakeSeat,
     scenario: &Scenario,
     tallies: &mut Tallies,
-    trace: &mut A,
+    place: &mut P,
 ) -> Result<(), Fault>
     requires seat { IsTaker relay.now seat.old }
     requires one { scenario_of relay.now ≡ scenario.now }
     requires none_taken { taken_by seat.old ≡ [] }
     requires none_tallied { tallies.old ≡ [] }
-    requires countable { A.failed trace.old < 2 ^ 63 }
+    requires countable { T.failed place.old < 2 ^ 63 }
+    requires none_gathered { T.gathered place.old scenario.now [] }
     ensures seat { IsTaker relay.now seat.new }
     ensures last { OnOk result (has_last (taken_by seat.new) ≡ true) }
-    ensures written { HasWritten scenario.now (rows_in (taken_by seat.new)) (A.held trace.old) (A.held trace.new) tallies.new result }
-    ensures failures { A.failed trace.new ≡ A.failed trace.old + sink_failures result }
+    ensures written { HasWritten scenario.now (rows_in (taken_by seat.new)) (T.held place.old) (T.held place.new) tallies.new result }
+    ensures gathered { OnOk result (T.gathered place.new scenario.now tallies.new) }
+    ensures failures { T.failed place.new ≡ T.failed place.old + sink_failures result }
 {
-    let mut so_far = begin_trace(trace);
+    let mut so_far = T::begin(place);
     for _ in rt.forever() {
         let Some(batch) = relay.receive(rt, seat) else {
             return lost(so_far);
         };
-        so_far = go_on(so_far, alloc, &batch.rows, scenario, tallies, trace);
+        so_far = go_on::<T, P>(so_far, alloc, &batch.rows, scenario, tallies, place);
         if batch.last {
             return so_far;
         }
@@ -51,23 +53,25 @@ pub fn write_stream<A: Sink>(
     unreachable!()
 }
 
-/// Writes the rows of a batch, unless a fault came before.
-fn go_on<A: Sink>(
+/// Takes the rows of a batch, unless a fault came before.
+fn go_on<T: TakeRows<P>, P>(
     so_far: Result<(), Fault>,
     alloc: Global,
     rows: &[Row],
     scenario: &Scenario,
     tallies: &mut Tallies,
-    trace: &mut A,
+    place: &mut P,
 ) -> Result<(), Fault>
     requires named { All (NamesMembers scenario.now) rows.now }
-    requires countable { OnOk so_far (A.failed trace.old < 2 ^ 63) }
-    ensures written { (before : List ARow) (held : Option (List ℕ)) → HasWritten scenario.now before held (A.held trace.old) tallies.old so_far
-        → HasWritten scenario.now (before ++ rows.now) held (A.held trace.new) tallies.new result }
-    ensures failures { A.failed trace.new + sink_failures so_far ≡ A.failed trace.old + sink_failures result }
+    requires countable { OnOk so_far (T.failed place.old < 2 ^ 63) }
+    requires gathered { OnOk so_far (T.gathered place.old scenario.now tallies.old) }
+    ensures written { (before : List ARow) (held : Option (List ℕ)) → HasWritten scenario.now before held (T.held place.old) tallies.old so_far
+        → HasWritten scenario.now (before ++ rows.now) held (T.held place.new) tallies.new result }
+    ensures gathered { OnOk result (T.gathered place.new scenario.now tallies.new) }
+    ensures failures { T.failed place.new + sink_failures so_far ≡ T.failed place.old + sink_failures result }
 {
     so_far?;
-    Written::take(alloc, rows, scenario, tallies, trace)
+    T::take(alloc, rows, scenario, tallies, place)
 }
 
 /// What is answered where the last batch came back, or never came.

@@ -114,13 +114,13 @@ is_least s (Some d) reached least alone = (reached, least)
 
 -- ---- the opening
 
-pub not_yet : {Q : Type 0} (set : Q → FinMap key_cmp Event) (course : Course) (is : IsCourse course) (parts : List (Part Q)) → StandFor set course.division.now parts (opening course.scenario.now)
-    → IsUnderWay set course.scenario.now course.division.now 0 parts [] []
+pub not_yet : {Q : Type 0} (set : Q → FinMap key_cmp Event) (course : Course) (is : IsCourse course) (parts : List (Part Q)) → StandFor set course.division.now parts (opening course.cluster.scenario.now)
+    → IsUnderWay set course.cluster.scenario.now course.division.now 0 parts [] []
 not_yet set course is parts stand = record {
-  world = opening course.scenario.now;
+  world = opening course.cluster.scenario.now;
   stand = stand;
-  whole = opening_whole course.scenario.now is.sound;
-  none = none_of_parts set course.division.now parts (opening course.scenario.now) stand 0 (λ q here. omega arith);
+  whole = opening_whole course.cluster.scenario.now is.sound;
+  none = none_of_parts set course.division.now parts (opening course.cluster.scenario.now) stand 0 (λ q here. omega arith);
   late = λ t none. tt;
   follows = λ keys left last run over. (keys, left, run, own_items left);
   met = λ m t met. met;
@@ -188,9 +188,9 @@ kept_late {P} least rows upto t here = by_least least ((upto t).0 here) rows
 -- ---- the next turn
 
 module _ {Q : Type 0} (set : Q → FinMap key_cmp Event) (course : Course) (is : IsCourse course) (parts : List (Part Q)) (rows kept : List Row) (from : ℕ)
-    (so_far : IsUnderWay set course.scenario.now course.division.now from parts rows kept) where
+    (so_far : IsUnderWay set course.cluster.scenario.now course.division.now from parts rows kept) where
   abbrev s : Setup
-  s = course.scenario.now
+  s = course.cluster.scenario.now
 
   abbrev deal : Deal
   deal = course.division.now
@@ -362,9 +362,9 @@ module _ (s : Setup) (sound : IsSound s) where
 -- ---- the rows of one turn more
 
 module _ {Q : Type 0} (set : Q → FinMap key_cmp Event) (course : Course) (is : IsCourse course) (rows made kept : List Row) (from : ℕ) (after : List (Part Q))
-    (on : IsUnderWay set course.scenario.now course.division.now from after (rows ++ made) kept) where
-  pub names_on : All (NamesMembers course.scenario.now) made
-  names_on = names_next course.scenario.now is.sound rows made (begins set course is after (rows ++ made) kept from on)
+    (on : IsUnderWay set course.cluster.scenario.now course.division.now from after (rows ++ made) kept) where
+  pub names_on : All (NamesMembers course.cluster.scenario.now) made
+  names_on = names_next course.cluster.scenario.now is.sound rows made (begins set course is after (rows ++ made) kept from on)
 
-  pub begins_on : (front : List Row) → IsBeginning front (rows ++ made) → BeginsRun course.scenario.now front
-  begins_on front first = begins_with course.scenario.now is.sound front (rows ++ made) first (begins set course is after (rows ++ made) kept from on)
+  pub begins_on : (front : List Row) → IsBeginning front (rows ++ made) → BeginsRun course.cluster.scenario.now front
+  begins_on front first = begins_with course.cluster.scenario.now is.sound front (rows ++ made) first (begins set course is after (rows ++ made) kept from on)

@@ -90,7 +90,7 @@ module _ (s : Setup) (sound : IsSound s) (division : ℕ → ℕ) (w : Cluster) 
 
 module _ {Q : Type 0} (set : Q → FinMap key_cmp Event) (course : Course) (is : IsCourse course) (parts : List (Part Q)) (first : ℕ) (found : IsFirstMoment set parts course.end first) where
   abbrev s : Setup
-  s = course.scenario.now
+  s = course.cluster.scenario.now
 
   abbrev deal : Deal
   deal = course.division.now

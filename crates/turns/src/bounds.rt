@@ -47,8 +47,8 @@ pub fn bounded_in_common<Q: EventQueue<Event> + Drop>(
 ) -> Result<Vec<Bounded<Q>>, Memory>
     requires course { IsCourse course.now }
     requires first { IsFirstMoment Q.set parts.items course.now.end first }
-    requires least { IsLeastDelay course.now.scenario.now least_delay }
-    ensures { IfOk result (λ bounded. AreBounded Q.set course.now.scenario.now course.now.division.now parts.items first bounded.items) }
+    requires least { IsLeastDelay course.now.cluster.scenario.now least_delay }
+    ensures { IfOk result (λ bounded. AreBounded Q.set course.now.cluster.scenario.now course.now.division.now parts.items first bounded.items) }
 {
     let last = course.end.ticks() + 1;
     let bound = bound_after(first.ticks(), last, least_delay);
@@ -104,8 +104,8 @@ pub fn bounded_by_horizons<Q: EventQueue<Event> + Drop>(
     requires count { length parts.items ≡ course.now.division.now.parts }
     requires first { IsFirstMoment Q.set parts.items course.now.end first }
     requires limit { first < limit }
-    requires horizons { AreHorizonsOf horizons.now course.now.scenario.now course.now.division.now }
-    ensures { IfOk result (λ bounded. AreBounded Q.set course.now.scenario.now course.now.division.now parts.items first bounded.items) }
+    requires horizons { AreHorizonsOf horizons.now course.now.cluster.scenario.now course.now.division.now }
+    ensures { IfOk result (λ bounded. AreBounded Q.set course.now.cluster.scenario.now course.now.division.now parts.items first bounded.items) }
 {
     let firsts = first_moments(alloc, &parts)?;
     bound_each(alloc, parts, &firsts, limit, horizons, course.end)

@@ -1,6 +1,5 @@
 ghost use Rattle.std.specs.Prelude.{◌≡◌, ◌<◌, ◌++◌, map, flat_map, length, IfOk};
 ghost use Rattle.scenario.specs.Setup.{member_count};
-ghost use Rattle.links.specs.Arrival.{AreLinksOf};
 ghost use Rattle.windows.specs.declared.part.Done.{Done as ADone};
 ghost use Rattle.horizons.specs.Between.{part_number};
 ghost use Rattle.turns.specs.Parts.{Came, HaveExchanged};
@@ -9,44 +8,38 @@ ghost use Rattle.turns.specs.Course.{IsCourse};
 use crate::parts::{deliver, least_moment};
 use crate::rows::{Split, in_row_order, join, released, stand_in_order};
 use base::{Memory, Moment};
-use links::Links;
 use member::Event;
-use scenario::{Division, Scenario};
+use scenario::Division;
 use std::alloc::Global;
 use std::marker::Sync;
 use std::thread::Threads;
 use trace::Row;
-use windows::{Done, Part};
+use windows::{Cluster, Done, Part};
 use worker_queue::EventQueue;
 
 /// What every turn of a run goes by.
 #[derive(Drop)]
 pub struct Course<'a> {
     /// Whose run it is.
-    pub scenario: &'a Scenario,
-    /// The links of the scenario.
-    pub links: &'a Links,
+    pub cluster: Cluster<'a>,
     /// Which part each of its members has.
     pub division: &'a Division,
     /// The last moment at which something happens.
     pub end: Moment,
 }
 
-/// What the turns of the scenario's run go by.
-pub fn course_of<'a>(scenario: &'a Scenario, links: &'a Links, division: &'a Division) -> Course<'a>
-    requires fits { AreLinksOf links.now scenario.now }
-    requires divides { length division.now.part_of ≡ member_count scenario.now }
-    requires below { (m : _) → m < member_count scenario.now → part_number division.now m < division.now.parts }
+/// What the turns of the cluster's run go by.
+pub fn course_of<'a>(cluster: Cluster<'a>, division: &'a Division) -> Course<'a>
+    requires divides { length division.now.part_of ≡ member_count cluster.scenario.now }
+    requires below { (m : _) → m < member_count cluster.scenario.now → part_number division.now m < division.now.parts }
     ensures course { IsCourse result }
-    ensures scenario { result.scenario.now ≡ scenario.now }
-    ensures links { result.links.now ≡ links.now }
+    ensures cluster { result.cluster ≡ cluster.entry }
     ensures division { result.division.now ≡ division.now }
 {
     Course {
-        scenario,
-        links,
+        cluster,
         division,
-        end: scenario.end(),
+        end: cluster.scenario.end(),
     }
 }
 

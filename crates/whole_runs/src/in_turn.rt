@@ -25,7 +25,7 @@ use trace::{Row, Sink};
 use turns::{
     Course, Turned, bounded_in_common, course_of, exchanged, first_moment, join, open_parts,
 };
-use windows::{Bounded, Done, Part};
+use windows::{Bounded, Cluster, Done, Part};
 use worker_queue::EventQueue;
 
 /// Runs the scenario by the parts of a division of its members: window after window, in each the parts one
@@ -75,10 +75,11 @@ fn rows_in_turn(
     ensures sound { IsSound scenario.now }
 {
     let _end = scenario.end();
-    let links = Links::of(alloc, scenario)?;
+    let links = &Links::of(alloc, scenario)?;
     let parts = open_parts(alloc, scenario, division)?;
     let least_delay = links.least_delay();
-    let course = course_of(scenario, &links, division);
+    let cluster = Cluster { scenario, links };
+    let course = course_of(cluster, division);
     turns_in_turn(rt, alloc, parts, least_delay, &course)
 }
 
@@ -91,12 +92,12 @@ fn turns_in_turn<Q: EventQueue<Event> + Drop>(
     course: &Course,
 ) -> Result<Vec<Row>, Fault>
     requires course { IsCourse course.now }
-    requires least { IsLeastDelay course.now.scenario.now least_delay }
-    requires opened { StandFor Q.set course.now.division.now parts.items (opening course.now.scenario.now) }
-    ensures run { IfOk result (λ rows. IsRunOf course.now.scenario.now rows.items) }
-    ensures worn { IsErrOf result Fault.Worn → WearsOut course.now.scenario.now }
+    requires least { IsLeastDelay course.now.cluster.scenario.now least_delay }
+    requires opened { StandFor Q.set course.now.division.now parts.items (opening course.now.cluster.scenario.now) }
+    ensures run { IfOk result (λ rows. IsRunOf course.now.cluster.scenario.now rows.items) }
+    ensures worn { IsErrOf result Fault.Worn → WearsOut course.now.cluster.scenario.now }
     ensures causes { IfErr result (λ fault. (fault ≢ Fault.Write) × (fault ≢ Fault.Relay)) }
-    ensures lasts { OnOk result (¬ (WearsOut course.now.scenario.now)) }
+    ensures lasts { OnOk result (¬ (WearsOut course.now.cluster.scenario.now)) }
 {
     let mut rows = Vec::new(alloc);
     let mut kept = Vec::new(alloc);
@@ -129,15 +130,15 @@ fn windows_in_turn<Q: EventQueue<Event> + Drop>(
     course: &Course,
 ) -> Result<Vec<Done<Q>>, StepError>
     requires course { IsCourse course.now }
-    requires in_time { AllByRecursion (λ (b : ABounded Q). b.bound ≤ course.now.scenario.now.end + 1) parts.items }
-    requires consistent { AllByRecursion (λ (b : ABounded Q). IsConsistentPart course.now.scenario.now (world_of Q.set b.part)) parts.items }
-    ensures ok { IfOk result (λ done. RanWindows Q.set course.now.scenario.now parts.items done.items) }
-    ensures worn { IsErrOf result StepError.Worn → OneWears Q.set course.now.scenario.now parts.items }
+    requires in_time { AllByRecursion (λ (b : ABounded Q). b.bound ≤ course.now.cluster.scenario.now.end + 1) parts.items }
+    requires consistent { AllByRecursion (λ (b : ABounded Q). IsConsistentPart course.now.cluster.scenario.now (world_of Q.set b.part)) parts.items }
+    ensures ok { IfOk result (λ done. RanWindows Q.set course.now.cluster.scenario.now parts.items done.items) }
+    ensures worn { IsErrOf result StepError.Worn → OneWears Q.set course.now.cluster.scenario.now parts.items }
 {
     let mut all = Vec::new(alloc);
     for bounded in parts {
         let Bounded { part, bound } = bounded;
-        let done = part.run(alloc, bound, course.scenario, course.links)?;
+        let done = part.run(alloc, bound, course.cluster)?;
         all.push(done)?;
     }
     Ok(all)

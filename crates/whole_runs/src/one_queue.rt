@@ -1,10 +1,14 @@
-ghost use Rattle.std.specs.Prelude.{◌≡◌, ◌≢◌, ◌⊎◌, ◌<◌, ◌^◌, OnOk, IfErr, IsErrOf};
-ghost use Rattle.member_laws.specs.Runs.{WearsOut};
-ghost use Rattle.outputs.specs.Promise.{KeepsPromise, WearsOutReport};
+ghost use Rattle.std.specs.Prelude.{◌≡◌, ◌≢◌, ◌⊎◌, ◌<◌, ◌^◌, [], IfOk, OnOk, IfErr, IsErrOf, All};
+ghost use Rattle.trace.specs.Text.{NamesMembers};
+ghost use Rattle.member_laws.specs.Runs.{IsRunOf, WearsOut};
+ghost use Rattle.outputs.specs.Promise.{KeepsPromise, WearsOutReport, summed};
 
 use crate::streaming::stream_run;
 use base::Fault;
-use outputs::{Summary, end_run};
+use outputs::{
+    GatherRows, Summary, TraceAndGathered, Written, WrittenAndGathered, end_run, end_tallied,
+};
+use reports::Tallies;
 use scenario::Scenario;
 use std::alloc::Global;
 use trace::Sink;
@@ -33,6 +37,38 @@ pub fn run_streamed<A: Sink, B: Sink>(
     ensures relay { IfErr result (λ fault. fault ≢ Fault.Relay) }
 {
     let _end = scenario.end();
-    let outcome = stream_run(alloc, scenario, trace);
+    let outcome = stream_run::<Written, A>(alloc, scenario, trace);
     end_run(alloc, outcome, scenario, trace, report)
+}
+
+/// Runs the scenario as `run_streamed` does, and gathers something else of the rows of its run as they come: that and
+/// the tallies of the rows are whole where it succeeds.
+///
+/// Faults: as of `run_streamed`.
+pub fn run_streamed_gathered<A: Sink, B: Sink, C: GatherRows>(
+    alloc: Global,
+    scenario: &Scenario,
+    place: &mut TraceAndGathered<A, C>,
+    report: &mut B,
+) -> Result<Tallies, Fault>
+    requires countable { A.failed place.old.trace < 2 ^ 63 }
+    requires countable_report { B.failed report.old < 2 ^ 63 }
+    requires none_gathered { C.has place.old.gathered scenario.now [] }
+
+    // The sinks get exactly the trace of the scenario's run, and the report on it; after a fault a beginning of that.
+    ensures promise { KeepsPromise A.held A.failed B.held B.failed scenario.now place.old.trace place.new.trace report.old report.new (summed result) }
+
+    // The rows of the run are tallied, and what was gathered is what they tell.
+    ensures run { IfOk result (IsRunOf scenario.now) }
+    ensures named { IfOk result (All (NamesMembers scenario.now)) }
+    ensures gathered { IfOk result (C.has place.new.gathered scenario.now) }
+
+    // No fault comes without its cause.
+    ensures lasts_report { OnOk result (¬ (WearsOutReport scenario.now)) }
+    ensures worn { IsErrOf result Fault.Worn → WearsOut scenario.now ⊎ WearsOutReport scenario.now }
+    ensures relay { IfErr result (λ fault. fault ≢ Fault.Relay) }
+{
+    let _end = scenario.end();
+    let outcome = stream_run::<WrittenAndGathered, TraceAndGathered<A, C>>(alloc, scenario, place);
+    end_tallied(alloc, outcome, scenario, &mut place.trace, report)
 }

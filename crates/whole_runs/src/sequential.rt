@@ -10,7 +10,7 @@ use outputs::{Summary, write_run};
 use scenario::Scenario;
 use std::alloc::Global;
 use trace::{Row, Sink};
-use windows::{Done, Part};
+use windows::{Cluster, Done, Part};
 use worker_queue::TreeQueue;
 
 /// Runs the scenario on one thread, with one set of pending events, and writes its trace. Once the whole
@@ -50,9 +50,10 @@ pub(crate) fn rows_of_whole(alloc: Global, scenario: &Scenario) -> Result<Vec<Ro
     ensures sound { IsSound scenario.now }
 {
     let past_the_end = Moment(scenario.end().ticks() + 1);
-    let links = Links::of(alloc, scenario)?;
+    let links = &Links::of(alloc, scenario)?;
     let part = Part::whole(alloc, scenario, TreeQueue::new(alloc))?;
-    let done = part.run(alloc, past_the_end, scenario, &links)?;
+    let cluster = Cluster { scenario, links };
+    let done = part.run(alloc, past_the_end, cluster)?;
     let Done {
         part: _,
         out: _,

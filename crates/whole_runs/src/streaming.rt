@@ -1,4 +1,4 @@
-ghost use Rattle.std.specs.Prelude.{◌≡◌, ◌≢◌, ◌⊎◌, ◌<◌, ◌^◌, IfOk, OnOk, IfErr, OnErr, IsErrOf};
+ghost use Rattle.std.specs.Prelude.{◌≡◌, ◌≢◌, ◌⊎◌, ◌<◌, ◌^◌, [], IfOk, OnOk, IfErr, OnErr, IsErrOf};
 ghost use Rattle.std.specs.Io.KnownBytes.{Appends};
 ghost use Rattle.trace.specs.Text.{trace_text};
 ghost use Rattle.member_laws.specs.Runs.{IsRunOf, WearsOut};
@@ -8,42 +8,43 @@ use crate::slices::run_slices;
 use base::Fault;
 use links::Links;
 use member::Event;
-use outputs::{Written, begin_trace};
+use outputs::TakeRows;
 use reports::Tallies;
 use scenario::Scenario;
 use std::alloc::Global;
-use trace::Sink;
-use windows::Part;
+use windows::{Cluster, Part};
 use worker_queue::WheelQueue;
 
-/// Runs the scenario on this thread, and writes and tallies the rows of its run as they come, in the order made.
-/// None is kept for longer than a slice of the run, and nothing is flushed. After a fault the sink has got a
-/// beginning of the trace.
+/// Runs the scenario on this thread, and takes the rows of its run as they come, in the order made. None is kept for
+/// longer than a slice of the run, and nothing is flushed. After a fault the place has got a beginning of the trace.
 ///
-/// Faults: `Memory`; `Worn` where a counter of the run or of the report would pass 2^63; `Write` where the sink
+/// Faults: `Memory`; `Worn` where a counter of the run or of the report would pass 2^63; `Write` where the place
 /// failed.
-pub fn stream_run<A: Sink>(
+pub(crate) fn stream_run<T: TakeRows<P>, P>(
     alloc: Global,
     scenario: &Scenario,
-    trace: &mut A,
+    place: &mut P,
 ) -> Result<Tallies, Fault>
-    requires countable { A.failed trace.old < 2 ^ 63 }
+    requires countable { T.failed place.old < 2 ^ 63 }
+    requires none_gathered { T.gathered place.old scenario.now [] }
     ensures run { IfOk result (IsRunOf scenario.now) }
-    ensures whole { IfOk result (λ tallies. Appends (A.held trace.old) (A.held trace.new) (trace_text scenario.now tallies)) }
-    ensures part { OnErr result (BeginsTrace scenario.now (A.held trace.old) (A.held trace.new)) }
+    ensures whole { IfOk result (λ tallies. Appends (T.held place.old) (T.held place.new) (trace_text scenario.now tallies)) }
+    ensures part { OnErr result (BeginsTrace scenario.now (T.held place.old) (T.held place.new)) }
+    ensures gathered { IfOk result (T.gathered place.new scenario.now) }
     ensures lasts { OnOk result (¬ (WearsOut scenario.now)) }
     ensures lasts_report { OnOk result (¬ (WearsOutReport scenario.now)) }
 
     // No fault comes without its cause.
     ensures worn { IsErrOf result Fault.Worn → WearsOut scenario.now ⊎ WearsOutReport scenario.now }
-    ensures write { IsErrOf result Fault.Write → A.failed trace.old < A.failed trace.new }
-    ensures unfailed { OnOk result (A.failed trace.new ≡ A.failed trace.old) }
+    ensures write { IsErrOf result Fault.Write → T.failed place.old < T.failed place.new }
+    ensures unfailed { OnOk result (T.failed place.new ≡ T.failed place.old) }
     ensures relay { IfErr result (λ fault. fault ≢ Fault.Relay) }
 {
     let _end = scenario.end();
-    let links = Links::of(alloc, scenario)?;
+    let links = &Links::of(alloc, scenario)?;
     let wheel = WheelQueue::new(alloc)?;
     let part = Part::whole(alloc, scenario, wheel)?;
-    begin_trace(trace)?;
-    run_slices::<Written, A, WheelQueue<Event>>(alloc, part, scenario, &links, trace)
+    T::begin(place)?;
+    let cluster = Cluster { scenario, links };
+    run_slices::<T, P, WheelQueue<Event>>(alloc, part, cluster, place)
 }

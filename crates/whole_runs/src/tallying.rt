@@ -3,16 +3,12 @@ ghost use Rattle.trace.specs.Text.{NamesMembers};
 ghost use Rattle.member_laws.specs.Runs.{IsRunOf, WearsOut};
 ghost use Rattle.outputs.specs.Promise.{WearsOutReport};
 
-use crate::slices::run_slices;
+use crate::streaming::stream_run;
 use base::Fault;
-use links::Links;
-use member::Event;
 use outputs::TalliedAlone;
 use reports::Tallies;
 use scenario::Scenario;
 use std::alloc::Global;
-use windows::Part;
-use worker_queue::WheelQueue;
 
 /// Runs the scenario on this thread, and tallies the rows of its run as they come, in the order made. None is
 /// kept for longer than a slice of the run, and none is written. `reports::report` makes of the tallies the
@@ -30,15 +26,6 @@ pub fn tally_run(alloc: Global, scenario: &Scenario) -> Result<Tallies, Fault>
     ensures causes { IfErr result (λ fault. (fault ≢ Fault.Write) × (fault ≢ Fault.Relay)) }
 {
     let _end = scenario.end();
-    let links = Links::of(alloc, scenario)?;
-    let wheel = WheelQueue::new(alloc)?;
-    let part = Part::whole(alloc, scenario, wheel)?;
-    let tallies = run_slices::<TalliedAlone, (), WheelQueue<Event>>(
-        alloc,
-        part,
-        scenario,
-        &links,
-        &mut (),
-    )?;
+    let tallies = stream_run::<TalliedAlone, ()>(alloc, scenario, &mut ())?;
     Ok(tallies)
 }

@@ -4,9 +4,8 @@ ghost use Rattle.std.specs.FinMap.{get, remove, empty};
 ghost use Rattle.base.specs.declared.key.Key.{Key};
 ghost use Rattle.scenario.specs.Setup.{Setup, IsSound};
 ghost use Rattle.trace.specs.declared.row.Row.{Row as ARow};
-ghost use Rattle.links.specs.Arrival.{AreLinksOf};
 ghost use Rattle.member.specs.Opening.{opening};
-ghost use Rattle.member_laws.specs.Runs.{Cluster, IsRunOf, WearsOut};
+ghost use Rattle.member_laws.specs.Runs.{Cluster as World, IsRunOf, WearsOut};
 ghost use Rattle.worker_queue.specs.SetOf.{set_of};
 ghost use Rattle.windows.specs.Safe.{IsSafe};
 ghost use Rattle.windows.specs.Schedule.{rows_by};
@@ -15,9 +14,9 @@ ghost use Rattle.windows.specs.Play.{NonePasses, Plays, IsPlayOf, IsLeastLeft, I
 ghost use Rattle.windows.specs.Choosing.{safe_bound, IsPlayed, HasChosen, HasPlayed};
 ghost use Rattle.windows.specs.WorldOf.{world_of};
 
+use crate::cluster::Cluster;
 use crate::faults::told;
 use crate::part::Part;
-use crate::setting::Setting;
 use crate::steps::{handle_taken, nothing};
 use base::{Fault, MemberId, Moment};
 use links::Links;
@@ -72,7 +71,7 @@ pub fn play(alloc: Global, scenario: &Scenario, choices: &[MemberId]) -> Result<
 
 /// What choices of members handle is a schedule of safe steps.
 pub fn a_play_is_a_schedule()
-    ensures { (s : Setup) (least_delay : Option ℕ) (w v : Cluster) (choices : List ℕ) (keys : List Key) (rows : List ARow)
+    ensures { (s : Setup) (least_delay : Option ℕ) (w v : World) (choices : List ℕ) (keys : List Key) (rows : List ARow)
         → Plays s least_delay w choices keys rows v → SafeSchedule s least_delay w keys rows v }
 {}
 
@@ -83,16 +82,12 @@ fn play_out(alloc: Global, scenario: &Scenario, choices: &[MemberId]) -> Result<
     ensures worn { IsErrOf result StepError.Worn → WearsOut scenario.now }
 {
     let end = scenario.end();
-    let links = Links::of(alloc, scenario)?;
+    let links = &Links::of(alloc, scenario)?;
     let mut part = Part::whole(alloc, scenario, TreeQueue::new(alloc))?;
-    let setting = Setting {
-        bound: end,
-        scenario,
-        links: &links,
-    };
+    let cluster = Cluster { scenario, links };
     let mut made = nothing(alloc);
     let least_delay = links.least_delay();
-    let handled = choose_all(alloc, &mut part, &setting, least_delay, choices, &mut made)?;
+    let handled = choose_all(alloc, &mut part, cluster, least_delay, choices, &mut made)?;
     let Effects { rows, events: _ } = made;
     Ok(Played {
         rows,
@@ -107,23 +102,22 @@ fn play_out(alloc: Global, scenario: &Scenario, choices: &[MemberId]) -> Result<
 fn choose_all(
     alloc: Global,
     part: &mut Part<TreeQueue<Event>>,
-    setting: &Setting,
+    cluster: Cluster,
     least_delay: Option<u64>,
     choices: &[MemberId],
     made: &mut Effects,
 ) -> Result<usize, StepError>
-    requires sound { IsSound setting.now.scenario.now }
-    requires fits { AreLinksOf setting.now.links.now setting.now.scenario.now }
-    requires least { IsLeastDelay setting.now.scenario.now least_delay }
-    requires opened { world_of set_of part.old ≡ opening setting.now.scenario.now }
+    requires sound { IsSound cluster.scenario.now }
+    requires least { IsLeastDelay cluster.scenario.now least_delay }
+    requires opened { world_of set_of part.old ≡ opening cluster.scenario.now }
     requires none { made.old.rows.items ≡ [] }
-    ensures ok { IfOk result (λ handled. HasPlayed setting.now.scenario.now least_delay choices.now handled made.new.rows.items (world_of set_of part.new)) }
+    ensures ok { IfOk result (λ handled. HasPlayed cluster.entry.scenario.now least_delay choices.now handled made.new.rows.items (world_of set_of part.new)) }
     ensures no_more { IfOk result (λ handled. handled ≤ length choices.now) }
-    ensures worn { IsErrOf result StepError.Worn → WearsOut setting.now.scenario.now }
+    ensures worn { IsErrOf result StepError.Worn → WearsOut cluster.entry.scenario.now }
 {
     let mut handled = 0;
     for member in choices {
-        let went = choose(alloc, part, setting, least_delay, *member, made)?;
+        let went = choose(alloc, part, cluster, least_delay, *member, made)?;
         handled += usize::from(went);
     }
     Ok(handled)
@@ -133,26 +127,25 @@ fn choose_all(
 fn choose(
     alloc: Global,
     part: &mut Part<TreeQueue<Event>>,
-    setting: &Setting,
+    cluster: Cluster,
     least_delay: Option<u64>,
     member: MemberId,
     made: &mut Effects,
 ) -> Result<bool, StepError>
-    requires sound { IsSound setting.now.scenario.now }
-    requires fits { AreLinksOf setting.now.links.now setting.now.scenario.now }
-    requires least { IsLeastDelay setting.now.scenario.now least_delay }
-    requires played { IsPlayed setting.now.scenario.now least_delay (world_of set_of part.old) }
-    ensures ok { IfOk result (λ went. HasChosen setting.now.scenario.now least_delay member went (world_of set_of part.old) (world_of set_of part.new)
+    requires sound { IsSound cluster.scenario.now }
+    requires least { IsLeastDelay cluster.scenario.now least_delay }
+    requires played { IsPlayed cluster.scenario.now least_delay (world_of set_of part.old) }
+    ensures ok { IfOk result (λ went. HasChosen cluster.entry.scenario.now least_delay member went (world_of set_of part.old) (world_of set_of part.new)
         made.old.rows.items made.new.rows.items) }
-    ensures worn { IsErrOf result StepError.Worn → WearsOut setting.now.scenario.now }
+    ensures worn { IsErrOf result StepError.Worn → WearsOut cluster.entry.scenario.now }
 {
-    let end = setting.scenario.end();
+    let end = cluster.scenario.end();
     let event = match take_safe(part, end, least_delay, member) {
         Some(event) => event,
         None => return Ok(false),
     };
     let mut spare = nothing(alloc);
-    handle_taken(alloc, part, event, setting, &mut spare, made)?;
+    handle_taken(alloc, part, event, cluster, &mut spare, made)?;
     Ok(true)
 }
 

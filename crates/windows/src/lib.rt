@@ -5,6 +5,7 @@
 
 mod bounded;
 mod choices;
+mod cluster;
 mod faults;
 mod laws;
 mod own_members;
@@ -14,6 +15,7 @@ mod steps;
 
 pub use bounded::Bounded;
 pub use choices::{Played, a_play_is_a_schedule, play};
+pub use cluster::Cluster;
 pub use faults::told;
 pub use laws::{
     a_part_owns_the_members_of_its_number, a_part_sends_out_late, a_part_writes_in_row_order,

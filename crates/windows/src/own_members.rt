@@ -7,7 +7,7 @@ ghost use Rattle.member.specs.StateOf.{state_of};
 ghost use Rattle.windows.specs.WorldOf.{states_in};
 ghost use Rattle.windows.specs.Handling.{Handles, WearsReceiver};
 
-use crate::setting::Setting;
+use crate::cluster::Cluster;
 use crate::steps::in_parts;
 use base::{MemberId, Memory};
 use member::{Effects, Event, Member, StepError};
@@ -63,14 +63,14 @@ impl OwnMembers {
         &mut self,
         alloc: Global,
         event: Event,
-        setting: &Setting,
+        cluster: Cluster,
         out: &mut Effects,
     ) -> Result<(), StepError>
-        requires here { IsSoundSetting setting.now.scenario.now setting.now.links.now event.key }
-        requires known { (t : State) → get (states_in self.old) event.key.to ≡ Some t → HoldsMembers setting.now.scenario.now event.key.to t }
-        requires names { MentionsMembers (member_count setting.now.scenario.now) event.content }
-        ensures ok { OnOk result (Handles setting.now.scenario.now event (states_in self.old) (states_in self.new) out.old out.new) }
-        ensures worn { IsErrOf result StepError.Worn → WearsReceiver setting.now.scenario.now event (states_in self.old) }
+        requires here { IsSoundSetting cluster.scenario.now cluster.links.now event.key }
+        requires known { (t : State) → get (states_in self.old) event.key.to ≡ Some t → HoldsMembers cluster.scenario.now event.key.to t }
+        requires names { MentionsMembers (member_count cluster.scenario.now) event.content }
+        ensures ok { OnOk result (Handles cluster.entry.scenario.now event (states_in self.old) (states_in self.new) out.old out.new) }
+        ensures worn { IsErrOf result StepError.Worn → WearsReceiver cluster.entry.scenario.now event (states_in self.old) }
     {
         let receiver = receiver_of(&event);
         if self.slots.len() <= receiver {
@@ -79,7 +79,7 @@ impl OwnMembers {
         let Some(member) = &mut self.slots[receiver] else {
             return Ok(());
         };
-        member.step(alloc, in_parts(event), setting.scenario, setting.links, out)
+        member.step(alloc, in_parts(event), cluster.scenario, cluster.links, out)
     }
 }
 

@@ -2,7 +2,6 @@ ghost use Rattle.std.specs.Prelude.{◌≡◌, ◌+◌, ◌<◌, ◌++◌, ◌�
 ghost use Rattle.std.specs.Option.{option_map_or};
 ghost use Rattle.std.specs.FinMap.{empty, contains_key, insert};
 ghost use Rattle.scenario.specs.Setup.{IsSound, member_count, crash_of, leave_of};
-ghost use Rattle.links.specs.Arrival.{AreLinksOf};
 ghost use Rattle.member.specs.Opening.{opening, script_key, ending_event};
 ghost use Rattle.member.specs.StateOf.{pair_of};
 ghost use Rattle.member.specs.declared.content.Content.TheVariants.{Crash, Leave};
@@ -15,11 +14,11 @@ ghost use Rattle.windows.specs.WorldOf.{world_of, contents_in};
 ghost use Rattle.windows.specs.Window.{IsConsistentPart, RunsWindow, TakeTheirLinks, is_own};
 ghost use Rattle.windows.specs.Wears.{WearsInWindow};
 
+use crate::cluster::Cluster;
 use crate::own_members::OwnMembers;
 use crate::setting::Setting;
 use crate::steps::{in_parts, run_from};
 use base::{Key, MemberId, Memory, Moment};
-use links::Links;
 use member::{Content, Event, Member, StepError};
 use scenario::Scenario;
 use std::alloc::Global;
@@ -119,35 +118,27 @@ impl<Q: EventQueue<Event> + Drop> Part<Q> {
     /// other member goes out.
     ///
     /// Refusals: `Memory`; `Worn` where a counter of the window would pass 2^63.
-    pub fn run(
-        self,
-        alloc: Global,
-        bound: Moment,
-        scenario: &Scenario,
-        links: &Links,
-    ) -> Result<Done<Q>, StepError>
-        requires sound { IsSound scenario.now }
-        requires fits { AreLinksOf links.now scenario.now }
-        requires consistent { IsConsistentPart scenario.now (world_of Q.set self) }
+    pub fn run(self, alloc: Global, bound: Moment, cluster: Cluster) -> Result<Done<Q>, StepError>
+        requires sound { IsSound cluster.scenario.now }
+        requires consistent { IsConsistentPart cluster.scenario.now (world_of Q.set self) }
 
         // What went out, the rows and the part that is left are those of the part's window.
         ensures ok { let before = world_of Q.set self in
-            IfOk result (λ done. RunsWindow scenario.now (min bound (scenario.now.end + 1)) before done.out.items done.rows.items (world_of Q.set done.part)) }
+            IfOk result (λ done. RunsWindow cluster.entry.scenario.now (min bound (cluster.entry.scenario.now.end + 1)) before done.out.items done.rows.items (world_of Q.set done.part)) }
         ensures number { IfOk result (λ done. done.part.number ≡ self.number) }
-        ensures consistent { IfOk result (λ done. IsConsistentPart scenario.now (world_of Q.set done.part)) }
-        ensures among { IfOk result (λ done. All (λ (e : AnEvent). IsAmongMembers scenario.now e.key e.content) done.out.items) }
+        ensures consistent { IfOk result (λ done. IsConsistentPart cluster.entry.scenario.now (world_of Q.set done.part)) }
+        ensures among { IfOk result (λ done. All (λ (e : AnEvent). IsAmongMembers cluster.entry.scenario.now e.key e.content) done.out.items) }
 
         // Each event that went out takes at least as long as the link of its pair.
-        ensures far { IfOk result (λ done. TakeTheirLinks scenario.now (world_of Q.set self) done.out.items) }
+        ensures far { IfOk result (λ done. TakeTheirLinks cluster.entry.scenario.now (world_of Q.set self) done.out.items) }
 
         // Memory apart, only a counter that has no room refuses the window.
-        ensures worn { IsErrOf result StepError.Worn → WearsInWindow scenario.now (min bound (scenario.now.end + 1)) (world_of Q.set self) }
+        ensures worn { IsErrOf result StepError.Worn → WearsInWindow cluster.entry.scenario.now (min bound (cluster.entry.scenario.now.end + 1)) (world_of Q.set self) }
     {
-        let past_the_end = scenario.end().ticks() + 1;
+        let past_the_end = cluster.scenario.end().ticks() + 1;
         let setting = Setting {
             bound: Moment(bound.ticks().min(past_the_end)),
-            scenario,
-            links,
+            cluster,
         };
         run_from(alloc, self, &setting)
     }

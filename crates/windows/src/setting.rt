@@ -4,16 +4,15 @@ ghost use Rattle.std.specs.Coded.{le_prop};
 ghost use Rattle.base.specs.Run.{MakesLater};
 ghost use Rattle.member.specs.Step.{step};
 
+use crate::cluster::Cluster;
 use base::Moment;
-use links::Links;
-use scenario::Scenario;
 
-/// What every step of a window goes by: its bound, the scenario, and its links.
+/// What every step of a window goes by.
 #[derive(Drop)]
 pub(crate) struct Setting<'a> {
+    /// The events of earlier moments than this one are handled.
     pub(crate) bound: Moment,
-    pub(crate) scenario: &'a Scenario,
-    pub(crate) links: &'a Links,
+    pub(crate) cluster: Cluster<'a>,
     // So a window ends, and the loop that runs it can count the events that are left.
-    ghost later: { MakesLater (step scenario.now) } by { λ f g. λ i k c t. AllByRecursion-prop (λ e. k.at < e.0.at) (λ e. le_prop) (step scenario.now k c t).events (f k c t) (g k c t) i },
+    ghost later: { MakesLater (step cluster.scenario.now) } by { λ f g. λ i k c t. AllByRecursion-prop (λ e. k.at < e.0.at) (λ e. le_prop) (step cluster.scenario.now k c t).events (f k c t) (g k c t) i },
 }

@@ -5,7 +5,6 @@ ghost use Rattle.std.specs.FinMap.{get, contains_key};
 ghost use Rattle.base.specs.World.{with_events, events_of};
 ghost use Rattle.base.specs.Rising.{AreNew};
 ghost use Rattle.scenario.specs.Setup.{IsSound, member_count};
-ghost use Rattle.links.specs.Arrival.{AreLinksOf};
 ghost use Rattle.member.specs.Here.{IsSoundSetting, HoldsMembers, MentionsMembers};
 ghost use Rattle.member.specs.State.{State};
 ghost use Rattle.member.specs.declared.event.Event.{Event};
@@ -18,6 +17,7 @@ ghost use Rattle.windows.specs.Wears.{WearsInWindow};
 ghost use Rattle.worker_queue.specs.Queue.{NoneIsBelow};
 ghost use Rattle.windows.specs.Handling.{HandlesTaken, WearsReceiver, Advances, made_of};
 
+use crate::cluster::Cluster;
 use crate::own_members::OwnMembers;
 use crate::part::{Done, Part, push};
 use crate::setting::Setting;
@@ -32,17 +32,16 @@ pub(crate) fn run_from<Q: EventQueue<Event> + Drop>(
     mut part: Part<Q>,
     setting: &Setting,
 ) -> Result<Done<Q>, StepError>
-    requires sound { IsSound setting.now.scenario.now }
-    requires fits { AreLinksOf setting.now.links.now setting.now.scenario.now }
-    requires in_time { setting.now.bound ≤ setting.now.scenario.now.end + 1 }
-    requires consistent { IsConsistentPart setting.now.scenario.now (world_of Q.set part) }
+    requires sound { IsSound setting.now.cluster.scenario.now }
+    requires in_time { setting.now.bound ≤ setting.now.cluster.scenario.now.end + 1 }
+    requires consistent { IsConsistentPart setting.now.cluster.scenario.now (world_of Q.set part) }
     ensures ok { let before = world_of Q.set part in
-        IfOk result (λ done. RunsWindow setting.now.scenario.now setting.now.bound before done.out.items done.rows.items (world_of Q.set done.part)) }
+        IfOk result (λ done. RunsWindow setting.now.cluster.scenario.now setting.now.bound before done.out.items done.rows.items (world_of Q.set done.part)) }
     ensures number { IfOk result (λ done. done.part.number ≡ part.number) }
-    ensures consistent { IfOk result (λ done. IsConsistentPart setting.now.scenario.now (world_of Q.set done.part)) }
-    ensures among { IfOk result (λ done. All (λ (e : Event). IsAmongMembers setting.now.scenario.now e.key e.content) done.out.items) }
-    ensures far { IfOk result (λ done. TakeTheirLinks setting.now.scenario.now (world_of Q.set part) done.out.items) }
-    ensures worn { IsErrOf result StepError.Worn → WearsInWindow setting.now.scenario.now setting.now.bound (world_of Q.set part) }
+    ensures consistent { IfOk result (λ done. IsConsistentPart setting.now.cluster.scenario.now (world_of Q.set done.part)) }
+    ensures among { IfOk result (λ done. All (λ (e : Event). IsAmongMembers setting.now.cluster.scenario.now e.key e.content) done.out.items) }
+    ensures far { IfOk result (λ done. TakeTheirLinks setting.now.cluster.scenario.now (world_of Q.set part) done.out.items) }
+    ensures worn { IsErrOf result StepError.Worn → WearsInWindow setting.now.cluster.scenario.now setting.now.bound (world_of Q.set part) }
 {
     let mut made = nothing(alloc);
     let mut spare = nothing(alloc);
@@ -71,23 +70,22 @@ fn advance<Q: EventQueue<Event>>(
     spare: &mut Effects,
     out: &mut Effects,
 ) -> Result<bool, StepError>
-    requires sound { IsSound setting.now.scenario.now }
-    requires fits { AreLinksOf setting.now.links.now setting.now.scenario.now }
-    requires in_time { setting.now.bound ≤ setting.now.scenario.now.end + 1 }
-    requires consistent { IsConsistentPart setting.now.scenario.now (world_of Q.set part.old) }
+    requires sound { IsSound setting.now.cluster.scenario.now }
+    requires in_time { setting.now.bound ≤ setting.now.cluster.scenario.now.end + 1 }
+    requires consistent { IsConsistentPart setting.now.cluster.scenario.now (world_of Q.set part.old) }
     ensures went { let before = world_of Q.set part.old in
-        IfOk result (λ went. OnTrue went (Advances setting.now.scenario.now (is_own before) setting.now.bound before (world_of Q.set part.new) out.old out.new)) }
+        IfOk result (λ went. OnTrue went (Advances setting.now.cluster.scenario.now (is_own before) setting.now.bound before (world_of Q.set part.new) out.old out.new)) }
     ensures over { IfOk result (λ went. OnFalse went (NoneIsBelow (world_of Q.set part.old).pending setting.now.bound)) }
     ensures same { IfOk result (λ went. OnFalse went (world_of Q.set part.new ≡ world_of Q.set part.old)) }
     ensures none { IfOk result (λ went. OnFalse went (out.new ≡ out.old)) }
     ensures number { OnOk result (part.new.number ≡ part.old.number) }
-    ensures worn { IsErrOf result StepError.Worn → WearsInWindow setting.now.scenario.now setting.now.bound (world_of Q.set part.old) }
+    ensures worn { IsErrOf result StepError.Worn → WearsInWindow setting.now.cluster.scenario.now setting.now.bound (world_of Q.set part.old) }
 {
     let event = match part.queue.pop_below(setting.bound) {
         Some(event) => event,
         None => return Ok(false),
     };
-    handle_taken(alloc, part, event, setting, spare, out)?;
+    handle_taken(alloc, part, event, setting.cluster, spare, out)?;
     Ok(true)
 }
 
@@ -98,21 +96,21 @@ pub(crate) fn handle_taken<Q: EventQueue<Event>>(
     alloc: Global,
     part: &mut Part<Q>,
     event: Event,
-    setting: &Setting,
+    cluster: Cluster,
     spare: &mut Effects,
     out: &mut Effects,
 ) -> Result<(), StepError>
-    requires here { IsSoundSetting setting.now.scenario.now setting.now.links.now event.key }
-    requires known { (t : State) → get (world_of Q.set part.old).members event.key.to ≡ Some t → HoldsMembers setting.now.scenario.now event.key.to t }
-    requires names { MentionsMembers (member_count setting.now.scenario.now) event.content }
-    requires new { AreNew (world_of Q.set part.old).pending (events_of (made_of setting.now.scenario.now (world_of Q.set part.old).members event)) }
-    ensures ok { OnOk result (HandlesTaken setting.now.scenario.now event (world_of Q.set part.old) (world_of Q.set part.new) out.old out.new) }
+    requires here { IsSoundSetting cluster.scenario.now cluster.links.now event.key }
+    requires known { (t : State) → get (world_of Q.set part.old).members event.key.to ≡ Some t → HoldsMembers cluster.scenario.now event.key.to t }
+    requires names { MentionsMembers (member_count cluster.scenario.now) event.content }
+    requires new { AreNew (world_of Q.set part.old).pending (events_of (made_of cluster.scenario.now (world_of Q.set part.old).members event)) }
+    ensures ok { OnOk result (HandlesTaken cluster.entry.scenario.now event (world_of Q.set part.old) (world_of Q.set part.new) out.old out.new) }
     ensures number { OnOk result (part.new.number ≡ part.old.number) }
-    ensures worn { IsErrOf result StepError.Worn → WearsReceiver setting.now.scenario.now event (world_of Q.set part.old).members }
+    ensures worn { IsErrOf result StepError.Worn → WearsReceiver cluster.entry.scenario.now event (world_of Q.set part.old).members }
 {
     spare.events.clear();
     spare.rows.clear();
-    part.members.handle(alloc, event, setting, spare)?;
+    part.members.handle(alloc, event, cluster, spare)?;
     move_behind(&mut spare.rows, &mut out.rows)?;
     deliver(
         &part.members,

@@ -135,7 +135,7 @@ terms_send α Q g s = search (scenario_sync, links_sync, crosses, sendable) dept
 
 task_of_parts : (α : NamedLft) (Q : RattleType) (g : Ghosts Q.Denot Event) → IsSend (part.the_field Q).row → IsSend (terms.the_field α Q g).row → IsSend (reply.the_field Q g).row → IsSend (task.the_row α Q g)
 task_of_parts α Q g p t r =
-    let all : AllSend (shape (task.the_type α Q g)).fields = (p, (search sendable, (search (scenario_sync, sendable), (t, (r, tt))))) in
+    let all : AllSend (shape (task.the_type α Q g)).fields = (p, (search sendable, (t, (r, tt)))) in
     declared_send (task.the_type α Q g) all
 
 pub task_send : (α : NamedLft) (Q : RattleType) (g : Ghosts Q.Denot Event) → IsSend Q → IsSend (task.the_row α Q g)

@@ -17,4 +17,4 @@ task_part task = task.part
 -- the part of that number is awaited
 abbrev pub Belongs : {Q : Type 0} (set : Q → FinMap key_cmp Event) (scenario : Option Setup) (awaits : ℕ → ℕ → Type 0) → {g : _} → WindowTask Q g → Type 0
 Belongs set scenario awaits task =
-    IfSome scenario (λ s. (task.scenario.now ≡ s) × IsConsistentPart s (world_of set task.part)) × awaits task.window task.part.number
+    IfSome scenario (λ s. (task.terms.cluster.scenario.now ≡ s) × IsConsistentPart s (world_of set task.part)) × awaits task.window task.part.number

@@ -22,7 +22,6 @@ use Rattle.member.specs.declared.content.Content.{Content}
 use Rattle.member.specs.declared.content.Content.TheVariants.{Start, Crash, Leave, JoinTimer, PeriodTimer, TimeoutTimer, NackTimer, SuspicionTimer, Join, Welcome, Ping, PingReq, Ack, Nack, Bye, DeadlineTimer, GossipTimer, PushTimer, Call, Answer, Gossip, Push, Pull}
 use Rattle.member.specs.Here.{MentionsMembers}
 use Rattle.member.specs.State.{State}
-use Rattle.member_laws.specs.Words.{IsConsistent, IsAmongMembers}
 use Rattle.windows.specs.Window.{IsConsistentPart}
 
 phase-set : IsSet Phase

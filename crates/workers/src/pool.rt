@@ -1,7 +1,6 @@
 ghost use Rattle.std.specs.Prelude.{◌≡◌, ◌≢◌, ◌+◌, ◌≤◌, ◌++◌, ◌⊎◌, [], ◌<◌, ◌^◌, List, Some, None, IsOk, IfOk, OnOk, IfErr, IfSome, IfNone, IsErrOf};
 ghost use Rattle.std.specs.List.{AllByRecursion};
 ghost use Rattle.scenario.specs.Setup.{IsSound};
-ghost use Rattle.links.specs.Arrival.{AreLinksOf};
 ghost use Rattle.windows.specs.declared.bounded.Bounded.{Bounded as ABounded};
 ghost use Rattle.windows.specs.WorldOf.{world_of};
 ghost use Rattle.windows.specs.Window.{IsConsistentPart};
@@ -17,12 +16,11 @@ use crate::signals::{Signals, StopGuard};
 use crate::window_task::{WindowTask, ask};
 use base::{Fault, Memory};
 use board::Site;
-use links::Links;
 use member::Event;
 use scenario::Scenario;
 use std::alloc::Global;
 use std::sync::Wait;
-use windows::{Bounded, Done, told};
+use windows::{Bounded, Cluster, Done, told};
 use worker_queue::EventQueue;
 
 /// The driver's hold on its workers. Once it is dropped or has left they end.
@@ -89,33 +87,31 @@ impl<'b, 'a, Q: EventQueue<Event> + Drop, G: Gate, J: Site, K: OfScenario> Worke
         rt: &impl Wait,
         alloc: Global,
         parts: Vec<Bounded<Q>>,
-        scenario: &'a Scenario,
-        links: &'a Links,
+        cluster: Cluster<'a>,
     ) -> Result<Vec<Done<Q>>, Fault>
-        requires sound { IsSound scenario.now }
-        requires fits { AreLinksOf links.now scenario.now }
-        requires in_time { AllByRecursion (λ (b : ABounded Q). b.bound ≤ scenario.now.end + 1) parts.items }
-        requires consistent { AllByRecursion (λ (b : ABounded Q). IsConsistentPart scenario.now (world_of Q.set b.part)) parts.items }
-        requires one { K.scenario ≡ Some scenario.now }
+        requires sound { IsSound cluster.scenario.now }
+        requires in_time { AllByRecursion (λ (b : ABounded Q). b.bound ≤ cluster.scenario.now.end + 1) parts.items }
+        requires consistent { AllByRecursion (λ (b : ABounded Q). IsConsistentPart cluster.scenario.now (world_of Q.set b.part)) parts.items }
+        requires one { K.scenario ≡ Some cluster.scenario.now }
         requires worker { G.knows 0 }
         requires awaited { AllByRecursion (λ (b : ABounded Q). G.awaits (self.old.windows + 1) b.part.number) parts.items }
         requires countable { self.old.windows < 2 ^ 63 }
         ensures next { self.new.windows ≡ self.old.windows + 1 }
-        ensures ok { IfOk result (λ done. RanWindows Q.set scenario.now parts.items done.items) }
-        ensures worn { IsErrOf result Fault.Worn → OneWears Q.set scenario.now parts.items }
+        ensures ok { IfOk result (λ done. RanWindows Q.set cluster.entry.scenario.now parts.items done.items) }
+        ensures worn { IsErrOf result Fault.Worn → OneWears Q.set cluster.entry.scenario.now parts.items }
         ensures write { IfErr result (λ fault. fault ≢ Fault.Write) }
     {
         self.windows += 1;
         let window = self.windows;
         if self.workers == 1 {
-            return run_alone(alloc, self.gate, parts, window, scenario, links);
+            return run_alone(alloc, self.gate, parts, window, cluster);
         }
-        let dealt = self.deal(rt, alloc, parts, window, scenario, links);
+        let dealt = self.deal(rt, alloc, parts, window, cluster);
         self.help(rt, alloc);
         self.hold.0.wait_group.wait(rt);
         let Dealt { tickets, fault } = dealt;
         let so_far = begun(alloc, fault, tickets.len());
-        gather(so_far, tickets, scenario)
+        gather(so_far, tickets, cluster.scenario)
     }
 
     /// Deals the parts, until one can't be dealt.
@@ -125,16 +121,14 @@ impl<'b, 'a, Q: EventQueue<Event> + Drop, G: Gate, J: Site, K: OfScenario> Worke
         alloc: Global,
         parts: Vec<Bounded<Q>>,
         window: u64,
-        scenario: &'a Scenario,
-        links: &'a Links,
+        cluster: Cluster<'a>,
     ) -> Dealt<Q>
-        requires fits { AreLinksOf links.now scenario.now }
-        requires in_time { AllByRecursion (λ (b : ABounded Q). b.bound ≤ scenario.now.end + 1) parts.items }
-        requires consistent { AllByRecursion (λ (b : ABounded Q). IsConsistentPart scenario.now (world_of Q.set b.part)) parts.items }
-        requires one { K.scenario ≡ Some scenario.now }
+        requires in_time { AllByRecursion (λ (b : ABounded Q). b.bound ≤ cluster.scenario.now.end + 1) parts.items }
+        requires consistent { AllByRecursion (λ (b : ABounded Q). IsConsistentPart cluster.scenario.now (world_of Q.set b.part)) parts.items }
+        requires one { K.scenario ≡ Some cluster.scenario.now }
         requires awaited { AllByRecursion (λ (b : ABounded Q). G.awaits window b.part.number) parts.items }
         ensures same { self.new.windows ≡ self.old.windows }
-        ensures windows { AllByRecursion (IsOfScenario scenario.now) result.tickets.items }
+        ensures windows { AllByRecursion (IsOfScenario cluster.entry.scenario.now) result.tickets.items }
         ensures whole { IfNone result.fault (all_bounded result.tickets.items ≡ parts.items) }
         ensures beginning { (rest : List (ABounded Q)) × (parts.items ≡ all_bounded result.tickets.items ++ rest) }
         ensures causes { IfSome result.fault (λ fault. (fault ≢ Fault.Worn) × (fault ≢ Fault.Write)) }
@@ -144,7 +138,7 @@ impl<'b, 'a, Q: EventQueue<Event> + Drop, G: Gate, J: Site, K: OfScenario> Worke
             Err(fault) => return stopped(Vec::new(alloc), fault),
         };
         for bounded in parts {
-            let (ticket, task) = match ask(alloc, bounded, window, scenario, links) {
+            let (ticket, task) = match ask(alloc, bounded, window, cluster) {
                 Ok(pair) => pair,
                 Err(Memory) => return stopped(tickets, Fault::Memory),
             };
@@ -260,24 +254,22 @@ fn run_alone<Q: EventQueue<Event> + Drop, G: Gate>(
     gate: &G,
     parts: Vec<Bounded<Q>>,
     window: u64,
-    scenario: &Scenario,
-    links: &Links,
+    cluster: Cluster,
 ) -> Result<Vec<Done<Q>>, Fault>
-    requires sound { IsSound scenario.now }
-    requires fits { AreLinksOf links.now scenario.now }
-    requires in_time { AllByRecursion (λ (b : ABounded Q). b.bound ≤ scenario.now.end + 1) parts.items }
-    requires consistent { AllByRecursion (λ (b : ABounded Q). IsConsistentPart scenario.now (world_of Q.set b.part)) parts.items }
+    requires sound { IsSound cluster.scenario.now }
+    requires in_time { AllByRecursion (λ (b : ABounded Q). b.bound ≤ cluster.scenario.now.end + 1) parts.items }
+    requires consistent { AllByRecursion (λ (b : ABounded Q). IsConsistentPart cluster.scenario.now (world_of Q.set b.part)) parts.items }
     requires worker { G.knows 0 }
     requires awaited { AllByRecursion (λ (b : ABounded Q). G.awaits window b.part.number) parts.items }
-    ensures ok { IfOk result (λ done. RanWindows Q.set scenario.now parts.items done.items) }
-    ensures worn { IsErrOf result Fault.Worn → OneWears Q.set scenario.now parts.items }
+    ensures ok { IfOk result (λ done. RanWindows Q.set cluster.entry.scenario.now parts.items done.items) }
+    ensures worn { IsErrOf result Fault.Worn → OneWears Q.set cluster.entry.scenario.now parts.items }
     ensures write { IfErr result (λ fault. fault ≢ Fault.Write) }
 {
     let mut so_far = room_for(alloc, parts.len());
     for bounded in parts {
         let Bounded { part, bound } = bounded;
         gate.enter(0, window, part.number);
-        so_far = joined(so_far, told(part.run(alloc, bound, scenario, links)));
+        so_far = joined(so_far, told(part.run(alloc, bound, cluster)));
     }
     so_far
 }

@@ -1,5 +1,4 @@
 ghost use Rattle.std.specs.Prelude.{◌≡◌, ◌+◌, ◌≤◌, IfOk};
-ghost use Rattle.links.specs.Arrival.{AreLinksOf};
 ghost use Rattle.windows.specs.WorldOf.{world_of};
 ghost use Rattle.windows.specs.Window.{IsConsistentPart};
 ghost use Rattle.workers.specs.Pools.{bounded_of, IsOfScenario};
@@ -8,12 +7,10 @@ use crate::gate::Gate;
 use crate::ring::{Reply, Ticket, ring_for};
 use crate::terms::Terms;
 use base::Memory;
-use links::Links;
 use member::Event;
-use scenario::Scenario;
 use std::alloc::Global;
 use std::snapshot::Snapshot;
-use windows::{Bounded, Part};
+use windows::{Bounded, Cluster, Part};
 use worker_queue::EventQueue;
 
 /// What a worker takes: a part, and all that its window needs.
@@ -21,11 +18,9 @@ use worker_queue::EventQueue;
 pub struct WindowTask<'a, Q: EventQueue<Event>> {
     part: Part<Q>,
     window: u64,
-    scenario: &'a Scenario,
     terms: Terms<'a, Q>,
     reply: Reply<Q>,
-    ghost scenario_of_terms: { terms.scenario.now ≡ scenario.now },
-    ghost scenario_of_reply: { reply.scenario.value ≡ scenario.now },
+    ghost scenario_of_reply: { reply.scenario.value ≡ terms.cluster.scenario.now },
     ghost bound_of_reply: { reply.bound ≡ terms.bound },
     ghost part_of_terms: { terms.part.value ≡ part },
     ghost part_of_reply: { reply.before.value ≡ part },
@@ -36,30 +31,26 @@ pub(crate) fn ask<'a, Q: EventQueue<Event> + Drop>(
     alloc: Global,
     bounded: Bounded<Q>,
     window: u64,
-    scenario: &'a Scenario,
-    links: &'a Links,
+    cluster: Cluster<'a>,
 ) -> Result<(Ticket<Q>, WindowTask<'a, Q>), Memory>
-    requires fits { AreLinksOf links.now scenario.now }
-    requires in_time { bounded.bound ≤ scenario.now.end + 1 }
-    requires consistent { IsConsistentPart scenario.now (world_of Q.set bounded.part) }
-    ensures ticket { IfOk result (λ r. IsOfScenario scenario.now r.0 × (bounded_of r.0 ≡ bounded)) }
-    ensures task { IfOk result (λ r. (r.1.scenario.now ≡ scenario.now) × (r.1.part ≡ bounded.part) × (r.1.window ≡ window)) }
+    requires in_time { bounded.bound ≤ cluster.scenario.now.end + 1 }
+    requires consistent { IsConsistentPart cluster.scenario.now (world_of Q.set bounded.part) }
+    ensures ticket { IfOk result (λ r. IsOfScenario cluster.entry.scenario.now r.0 × (bounded_of r.0 ≡ bounded)) }
+    ensures task { IfOk result (λ r. (r.1.terms.cluster.scenario.now ≡ cluster.entry.scenario.now) × (r.1.part ≡ bounded.part) × (r.1.window ≡ window)) }
 {
     let Bounded { part, bound } = bounded;
-    let (ticket, reply) = match ring_for(alloc, scenario, bound, &part) {
+    let (ticket, reply) = match ring_for(alloc, cluster.scenario, bound, &part) {
         Ok(ends) => ends,
         Err(Memory) => return Err(Memory),
     };
     let terms = Terms {
-        scenario,
-        links,
+        cluster,
         bound,
         part: Snapshot::of(&part),
     };
     let task = WindowTask {
         part,
         window,
-        scenario,
         terms,
         reply,
     };
@@ -75,7 +66,6 @@ impl<'a, Q: EventQueue<Event> + Drop> WindowTask<'a, Q> {
         let WindowTask {
             part,
             window,
-            scenario: _,
             terms,
             reply,
         } = self;

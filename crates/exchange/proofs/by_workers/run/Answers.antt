@@ -1,19 +1,12 @@
 -- what the run owes the trace's sink is kept, and then all of the promise
-use Rattle.std.proofs.Common.{◌≡◌, ◌≢◌, ℕ, ◌<◌, ◌^◌, List, Result, Ok, Err, sym, arith}
-use Rattle.std.specs.Result.{OnOk}
+use Rattle.std.proofs.Common.{◌≢◌, ◌^◌, sym, arith}
 use Rattle.std.proofs.lemmas.Result.{IfOk-weaker, IfErr-at_err}
-use Rattle.base.specs.declared.fault.Fault.{Fault}
 use Rattle.base.specs.declared.fault.Fault.TheVariants.{Write}
-use Rattle.trace.specs.declared.row.Row.{Row}
 use Rattle.turns.proofs.Goes.{names_run}
 use Rattle.outputs.specs.Promise.{WearsOutReport}
-use Rattle.outputs.proofs.Faults.{on_came}
+use Rattle.outputs.proofs.Faults.{on_came, still_countable}
 use Rattle.exchange.proofs.Faults.{write≢relay}
 use Rattle.exchange.proofs.by_workers.run.Goals as goal
-
-still_countable : (o : Result (List Row) Fault) (old new n : ℕ) → OnOk o (new ≡ old) → old < n → OnOk o (new < n)
-still_countable (Ok x) old new n same few = omega (arith, same, few)
-still_countable (Err e) old new n same few = tt
 
 pub end_run-requires-clause-named : goal.end_run-requires-clause-named
 end_run-requires-clause-named g c = IfOk-weaker c.run_into-outcome.result _ _ (λ rows run. names_run c.args.scenario.now c.run_into-outcome.ensures.sound rows run) c.run_into-outcome.ensures.trace.run

@@ -15,8 +15,8 @@ loop-from-init g c =
     let course = c.args.course.now in
     record {
       run =
-          subst (λ l. IsUnderWay g.Q.EventQueue.set course.scenario.now course.division.now 0 c.args.parts.items (rows_so_far c.args.row_sender.now) l) (sym c.new-kept.ensures.items)
-          (subst (λ l. IsUnderWay g.Q.EventQueue.set course.scenario.now course.division.now 0 c.args.parts.items l []) (sym c.requires.none_yet)
+          subst (λ l. IsUnderWay g.Q.EventQueue.set course.cluster.scenario.now course.division.now 0 c.args.parts.items (rows_so_far c.args.row_sender.now) l) (sym c.new-kept.ensures.items)
+          (subst (λ l. IsUnderWay g.Q.EventQueue.set course.cluster.scenario.now course.division.now 0 c.args.parts.items l []) (sym c.requires.none_yet)
           (not_yet g.Q.EventQueue.set course c.requires.course c.args.parts.items c.requires.opened));
       open_still = c.requires.open;
       one = c.requires.one;
@@ -35,9 +35,6 @@ bounded_by_horizons-requires-clause-first g c = subst (λ l. IsFirstMoment g.Q.E
 
 pub run_windows-requires-clause-sound : goal.run_windows-requires-clause-sound
 run_windows-requires-clause-sound g c = λ loans lives. c.requires.course.sound
-
-pub run_windows-requires-clause-fits : goal.run_windows-requires-clause-fits
-run_windows-requires-clause-fits g c = λ loans lives. c.requires.course.fits
 
 pub run_windows-requires-clause-in_time : goal.run_windows-requires-clause-in_time
 run_windows-requires-clause-in_time g c = λ loans lives. c.in_ok-bounded.ensures.in_time
@@ -81,8 +78,8 @@ loop-from-preserved g c =
     let way = further g.Q.EventQueue.set c.args.course.now c.requires.course c.loop-from.parts.items (rows_so_far c.loop-from.row_sender) c.loop-from.kept.items c.loop-from.from c.loop-from.invariant.run c.in-Some.first c.deref.result.now c.deref.ensures.value c.in-Some.ensures.first in
     record {
       run =
-          subst (λ t. IsUnderWay set course.scenario.now course.division.now t turned.parts.items (rows_so_far c.take.new.self) turned.kept.items) (omega (arith, c.ticks-from.ensures))
-          (subst (λ l. IsUnderWay set course.scenario.now course.division.now (c.in-Some.first + 1) turned.parts.items l turned.kept.items) (sym c.in_ok-take.ensures.ok) on);
+          subst (λ t. IsUnderWay set course.cluster.scenario.now course.division.now t turned.parts.items (rows_so_far c.take.new.self) turned.kept.items) (omega (arith, c.ticks-from.ensures))
+          (subst (λ l. IsUnderWay set course.cluster.scenario.now course.division.now (c.in-Some.first + 1) turned.parts.items l turned.kept.items) (sym c.in_ok-take.ensures.ok) on);
       open_still = c.take.ensures.open;
       one = ap (λ s. s.now) c.take.ensures.same.0 ∙ c.loop-from.invariant.one;
       relay = c.take.ensures.same.1 ∙ c.loop-from.invariant.relay;
@@ -95,19 +92,19 @@ loop-from-preserved g c =
 pub returns-in_default-clause-come : goal.returns-in_default-clause-come
 returns-in_default-clause-come g c =
     let over = ends_here g.Q.EventQueue.set c.args.course.now c.requires.course c.loop-from.parts.items (rows_so_far c.loop-from.row_sender) c.loop-from.kept.items c.loop-from.from c.loop-from.invariant.run c.deref.result.now c.deref.ensures.value c.in_default.ensures.over in
-    comes_whole c.args.course.now.scenario.now (rows_so_far c.loop-from.row_sender) over.0 over.1
+    comes_whole c.args.course.now.cluster.scenario.now (rows_so_far c.loop-from.row_sender) over.0 over.1
 
 pub returns-in_err-bounded-clause-come : goal.returns-in_err-bounded-clause-come
-returns-in_err-bounded-clause-come g c = comes_by_memory c.args.course.now.scenario.now _ c.from_residual.result c.from_residual.ensures.1 (begins g.Q.EventQueue.set c.args.course.now c.requires.course c.loop-from.parts.items (rows_so_far c.loop-from.row_sender) c.loop-from.kept.items c.loop-from.from c.loop-from.invariant.run)
+returns-in_err-bounded-clause-come g c = comes_by_memory c.args.course.now.cluster.scenario.now _ c.from_residual.result c.from_residual.ensures.1 (begins g.Q.EventQueue.set c.args.course.now c.requires.course c.loop-from.parts.items (rows_so_far c.loop-from.row_sender) c.loop-from.kept.items c.loop-from.from c.loop-from.invariant.run)
 
 pub returns-in_err-done-clause-come : goal.returns-in_err-done-clause-come
 returns-in_err-done-clause-come g c =
-    comes_by c.args.course.now.scenario.now _ c.from_residual-in_err-done.result _ c.from_residual-in_err-done.ensures.1 (begins g.Q.EventQueue.set c.args.course.now c.requires.course c.loop-from.parts.items (rows_so_far c.loop-from.row_sender) c.loop-from.kept.items c.loop-from.from c.loop-from.invariant.run)
+    comes_by c.args.course.now.cluster.scenario.now _ c.from_residual-in_err-done.result _ c.from_residual-in_err-done.ensures.1 (begins g.Q.EventQueue.set c.args.course.now c.requires.course c.loop-from.parts.items (rows_so_far c.loop-from.row_sender) c.loop-from.kept.items c.loop-from.from c.loop-from.invariant.run)
     (λ is. one_wears g.Q.EventQueue.set c.args.course.now c.requires.course c.loop-from.parts.items (rows_so_far c.loop-from.row_sender) c.loop-from.kept.items c.loop-from.from c.loop-from.invariant.run c.in-Some.first c.in_ok-bounded.bounded.items c.in_ok-bounded.ensures (c.in_err-done.ensures.worn (ap Err is)))
     c.in_err-done.ensures.write
 
 pub returns-in_err-turned-clause-come : goal.returns-in_err-turned-clause-come
-returns-in_err-turned-clause-come g c = comes_by_memory c.args.course.now.scenario.now _ c.from_residual-in_err-turned.result c.from_residual-in_err-turned.ensures.1 (begins g.Q.EventQueue.set c.args.course.now c.requires.course c.loop-from.parts.items (rows_so_far c.loop-from.row_sender) c.loop-from.kept.items c.loop-from.from c.loop-from.invariant.run)
+returns-in_err-turned-clause-come g c = comes_by_memory c.args.course.now.cluster.scenario.now _ c.from_residual-in_err-turned.result c.from_residual-in_err-turned.ensures.1 (begins g.Q.EventQueue.set c.args.course.now c.requires.course c.loop-from.parts.items (rows_so_far c.loop-from.row_sender) c.loop-from.kept.items c.loop-from.from c.loop-from.invariant.run)
 
 pub returns-in_err-take-clause-come : goal.returns-in_err-take-clause-come
 returns-in_err-take-clause-come g c =
@@ -119,14 +116,14 @@ returns-in_err-take-clause-come g c =
     goes_on g.Q.EventQueue.set c.args.course.now c.requires.course c.loop-from.parts.items (rows_so_far c.loop-from.row_sender) c.loop-from.kept.items c.loop-from.from c.loop-from.invariant.run c.in-Some.first c.in_ok-bounded.bounded.items c.in_ok-bounded.ensures c.in_ok-done.done.items c.in_ok-done.ensures.ok
     turned.parts.items turned.rows.items turned.kept.items c.in_ok-turned.ensures in
     let few = c.in_err-take.ensures.causes in
-    comes_by course.scenario.now _ c.from_residual-in_err-take.result _ c.from_residual-in_err-take.ensures.1
+    comes_by course.cluster.scenario.now _ c.from_residual-in_err-take.result _ c.from_residual-in_err-take.ensures.1
     (begins_on set course c.requires.course rows turned.rows.items turned.kept.items (c.in-Some.first + 1) turned.parts.items on (rows_so_far c.take.new.self) c.in_err-take.ensures.beginning)
     (λ is. absurd (few.0 is)) few.1
 
 pub returns-clause-come : goal.returns-clause-come
 returns-clause-come g c =
     let over = ends_past g.Q.EventQueue.set c.args.course.now c.requires.course c.loop-from.parts.items (rows_so_far c.loop-from.row_sender) c.loop-from.kept.items c.loop-from.from c.loop-from.invariant.run (omega arith) in
-    comes_whole c.args.course.now.scenario.now (rows_so_far c.loop-from.row_sender) over.0 over.1
+    comes_whole c.args.course.now.cluster.scenario.now (rows_so_far c.loop-from.row_sender) over.0 over.1
 
 pub run_windows-requires-clause-one : goal.run_windows-requires-clause-one
 run_windows-requires-clause-one g c = λ loans lives. c.requires.board

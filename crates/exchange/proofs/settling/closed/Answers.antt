@@ -15,3 +15,6 @@ returns-in-Err-close_board-clause-keeps g c = λ s held_old held_new failed_old 
 pub returns-in-Ok-close_board-clause-settled : goal.returns-in-Ok-close_board-clause-settled
 returns-in-Ok-close_board-clause-settled g c =
     subst (λ (v : Vec _ Global). TakesAll c.args.board v.items) (sym c.of-ended.ensures) (record { all = c.in-Ok-close_board.ensures.all; taken_all = c.in-Ok-close_board.ensures.taken })
+
+pub returns-in-Ok-close_board-clause-same : goal.returns-in-Ok-close_board-clause-same
+returns-in-Ok-close_board-clause-same g c = sym c.in-Ok-so_far.is

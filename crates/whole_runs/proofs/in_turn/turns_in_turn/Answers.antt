@@ -9,8 +9,8 @@ loop-from-init g c =
     let course = c.args.course.now in
     record {
       run =
-          subst (λ l. IsUnderWay g.Q.EventQueue.set course.scenario.now course.division.now 0 c.args.parts.items c.new-rows.result.items l) (sym c.new-kept.ensures.items)
-          (subst (λ l. IsUnderWay g.Q.EventQueue.set course.scenario.now course.division.now 0 c.args.parts.items l []) (sym c.new-rows.ensures.items)
+          subst (λ l. IsUnderWay g.Q.EventQueue.set course.cluster.scenario.now course.division.now 0 c.args.parts.items c.new-rows.result.items l) (sym c.new-kept.ensures.items)
+          (subst (λ l. IsUnderWay g.Q.EventQueue.set course.cluster.scenario.now course.division.now 0 c.args.parts.items l []) (sym c.new-rows.ensures.items)
           (not_yet g.Q.EventQueue.set course c.requires.course c.args.parts.items c.requires.opened));
     }
 
@@ -52,8 +52,8 @@ loop-from-preserved g c =
     turned.parts.items turned.rows.items turned.kept.items c.in_ok-turned.ensures in
     record {
       run =
-          subst (λ t. IsUnderWay set course.scenario.now course.division.now t turned.parts.items c.join.new.all.items turned.kept.items) (omega (arith, c.ticks-from.ensures))
-          (subst (λ l. IsUnderWay set course.scenario.now course.division.now (c.in-Some.first + 1) turned.parts.items l turned.kept.items) (sym c.in_ok-join.ensures.ok) on);
+          subst (λ t. IsUnderWay set course.cluster.scenario.now course.division.now t turned.parts.items c.join.new.all.items turned.kept.items) (omega (arith, c.ticks-from.ensures))
+          (subst (λ l. IsUnderWay set course.cluster.scenario.now course.division.now (c.in-Some.first + 1) turned.parts.items l turned.kept.items) (sym c.in_ok-join.ensures.ok) on);
     }
 
 pub returns-clause-run : goal.returns-clause-run

@@ -10,23 +10,23 @@ use Rattle.whole_runs.proofs.in_turn.windows_in_turn.Goals as goal
 
 pub run-requires-clause-consistent : goal.run-requires-clause-consistent
 run-requires-clause-consistent g c =
-    (subst (AllByRecursion (λ b. IsConsistentPart c.args.course.now.scenario.now (world_of g.Q.EventQueue.set b.part))) c.in-Some.ensures.steps.0 c.loop-bounded.invariant.consistent).0
+    (subst (AllByRecursion (λ b. IsConsistentPart c.args.course.now.cluster.scenario.now (world_of g.Q.EventQueue.set b.part))) c.in-Some.ensures.steps.0 c.loop-bounded.invariant.consistent).0
 
 pub returns-in_err-done-clause-worn : goal.returns-in_err-done-clause-worn
 returns-in_err-done-clause-worn g c = λ h.
-    let one = (subst (AllByRecursion (λ b. b.bound ≤ c.args.course.now.scenario.now.end + 1)) c.in-Some.ensures.steps.0 c.loop-bounded.invariant.in_time).0 in
-    let in_time : min c.in-Some.bounded.bound (c.args.course.now.scenario.now.end + 1) ≡ c.in-Some.bounded.bound = omega (arith, one) in
+    let one = (subst (AllByRecursion (λ b. b.bound ≤ c.args.course.now.cluster.scenario.now.end + 1)) c.in-Some.ensures.steps.0 c.loop-bounded.invariant.in_time).0 in
+    let in_time : min c.in-Some.bounded.bound (c.args.course.now.cluster.scenario.now.end + 1) ≡ c.in-Some.bounded.bound = omega (arith, one) in
     record {
       before = c.loop-bounded.yielded;
       one = c.in-Some.bounded;
       after = c.next.new.self.rest.items;
       there = sym (ap (λ ps. c.loop-bounded.yielded ++ ps) (sym c.in-Some.ensures.steps.0) ∙ c.loop-bounded.invariant.left);
-      wears = subst (λ b. WearsInWindow c.args.course.now.scenario.now b (world_of g.Q.EventQueue.set c.in-Some.bounded.part)) in_time (c.in_err-done.ensures.worn (handed_on c.from_residual.result _ _ c.from_residual.ensures.1 h));
+      wears = subst (λ b. WearsInWindow c.args.course.now.cluster.scenario.now b (world_of g.Q.EventQueue.set c.in-Some.bounded.part)) in_time (c.in_err-done.ensures.worn (handed_on c.from_residual.result _ _ c.from_residual.ensures.1 h));
     }
 
 pub loop-bounded-preserved : goal.loop-bounded-preserved
 loop-bounded-preserved g c =
-    let s = c.args.course.now.scenario.now in
+    let s = c.args.course.now.cluster.scenario.now in
     let times = subst (AllByRecursion (λ b. b.bound ≤ s.end + 1)) c.in-Some.ensures.steps.0 c.loop-bounded.invariant.in_time in
     let one = times.0 in
     let in_time : min c.in-Some.bounded.bound (s.end + 1) ≡ c.in-Some.bounded.bound = omega (arith, one) in

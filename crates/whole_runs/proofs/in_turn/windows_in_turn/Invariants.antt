@@ -8,7 +8,7 @@ use Rattle.whole_runs.proofs.in_turn.windows_in_turn.Given as goal
 abbrev pub invariant-loop-bounded : goal.invariant-loop-bounded
 invariant-loop-bounded g l = record {
   left : l.yielded ++ l.bounded-iterator.rest.items ≡ l.fn.parts.items;
-  windows : RanWindows g.Q.EventQueue.set l.course.scenario.now l.yielded l.all.items;
-  in_time : AllByRecursion (λ b. b.bound ≤ l.course.scenario.now.end + 1) l.bounded-iterator.rest.items;
-  consistent : AllByRecursion (λ b. IsConsistentPart l.course.scenario.now (world_of g.Q.EventQueue.set b.part)) l.bounded-iterator.rest.items;
+  windows : RanWindows g.Q.EventQueue.set l.course.cluster.scenario.now l.yielded l.all.items;
+  in_time : AllByRecursion (λ b. b.bound ≤ l.course.cluster.scenario.now.end + 1) l.bounded-iterator.rest.items;
+  consistent : AllByRecursion (λ b. IsConsistentPart l.course.cluster.scenario.now (world_of g.Q.EventQueue.set b.part)) l.bounded-iterator.rest.items;
 }

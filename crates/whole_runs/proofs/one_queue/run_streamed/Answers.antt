@@ -1,22 +1,10 @@
-use Rattle.std.proofs.Common.{◌≡◌, ◌≢◌, ℕ, ◌<◌, ◌^◌, List, Result, Ok, Err, ap, refl, arith}
-use Rattle.std.specs.Result.{OnOk, IfErr, IsErrOf}
+use Rattle.std.proofs.Common.{◌≢◌, ◌^◌, refl}
 use Rattle.std.proofs.lemmas.Result.{IfOk-weaker, IfErr-at_err}
-use Rattle.base.specs.declared.fault.Fault.{Fault}
 use Rattle.base.specs.declared.fault.Fault.TheVariants.{Relay}
-use Rattle.trace.specs.declared.row.Row.{Row}
 use Rattle.turns.proofs.Goes.{names_run}
-use Rattle.outputs.specs.declared.summary.Summary.{Summary}
-use Rattle.outputs.proofs.Faults.{on_came}
+use Rattle.outputs.proofs.Faults.{on_came, never, still_countable}
 use Rattle.outputs.specs.Promise.{WearsOutReport}
 use Rattle.whole_runs.proofs.one_queue.run_streamed.Goals as goal
-
-still_countable : (o : Result (List Row) Fault) (old new n : ℕ) → OnOk o (new ≡ old) → old < n → OnOk o (new < n)
-still_countable (Ok x) old new n same few = omega (arith, same, few)
-still_countable (Err e) old new n same few = tt
-
-never : (r : Result Summary Fault) (fault : Fault) → ¬ (IsErrOf r fault) → IfErr r (λ e. e ≢ fault)
-never (Ok x) fault differs = tt
-never (Err e) fault differs = λ is. differs (ap Err is)
 
 pub end_run-requires-clause-named : goal.end_run-requires-clause-named
 end_run-requires-clause-named g c = IfOk-weaker c.stream_run-outcome.result _ _ (λ rows run. names_run c.args.scenario.now c.end-end.ensures.sound rows run) c.stream_run-outcome.ensures.run

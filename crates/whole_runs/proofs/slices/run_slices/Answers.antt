@@ -18,31 +18,32 @@ use Rattle.whole_runs.proofs.slices.run_slices.Goals as goal
 
 pub loop-from-init : goal.loop-from-init
 loop-from-init g c =
-    let s = c.args.scenario.now in
+    let s = c.args.cluster.scenario.now in
     let world = world_of g.Q.EventQueue.set c.args.part in
     record {
       consistent = subst (IsConsistentPart s) (sym c.requires.opened) (opening_consistent s c.requires.sound);
       come = subst (HasComeTo s 0 world) (sym c.new-tallies.ensures) (at_opening s c.requires.sound world c.requires.opened);
       written = λ first wrote. subst (λ rows. HasWritten {T = Unit {0}} s rows first (g.T.TakeRows.held c.args.place.now) rows (Ok (tt {0}))) (sym c.new-tallies.ensures) wrote;
+      gathered = subst (g.T.TakeRows.gathered c.args.place.now s) (sym c.new-tallies.ensures) c.requires.none_gathered;
       few = subst (λ l. length l ≤ 2 ^ 63) (sym c.new-tallies.ensures) (omega arith);
       unfailed = refl;
     }
 
 pub returns-in_err-done-clause-part : goal.returns-in_err-done-clause-part
 returns-in_err-done-clause-part g c = λ first wrote.
-    let s = c.args.scenario.now in
+    let s = c.args.cluster.scenario.now in
     let before = c.loop-from.tallies in
     on_err _
     (begins_trace s before before _ _ _ (comes_first s c.requires.sound c.loop-from.from (world_of g.Q.EventQueue.set c.loop-from.part) before c.loop-from.invariant.come) (c.loop-from.invariant.written first wrote))
 
 pub returns-in_err-done-clause-worn : goal.returns-in_err-done-clause-worn
 returns-in_err-done-clause-worn g c = λ h.
-    inl (comes_worn c.args.scenario.now c.requires.sound c.loop-from.from (world_of g.Q.EventQueue.set c.loop-from.part) c.loop-from.tallies c.loop-from.invariant.come c.end-bound.result
+    inl (comes_worn c.args.cluster.scenario.now c.requires.sound c.loop-from.from (world_of g.Q.EventQueue.set c.loop-from.part) c.loop-from.tallies c.loop-from.invariant.come c.end-bound.result
     (c.in_err-done.ensures.worn (worn_step c.from_residual.result _ c.from_residual.ensures.1 h)))
 
 pub take-requires-clause-named : goal.take-requires-clause-named
 take-requires-clause-named g c =
-    let s = c.args.scenario.now in
+    let s = c.args.cluster.scenario.now in
     let set = g.Q.EventQueue.set in
     let before = c.loop-from.tallies in
     let after = world_of set c.in_ok-done.done.part in
@@ -54,7 +55,7 @@ take-requires-clause-named g c =
 
 pub returns-in_err-take-clause-part : goal.returns-in_err-take-clause-part
 returns-in_err-take-clause-part g c = λ first wrote.
-    let s = c.args.scenario.now in
+    let s = c.args.cluster.scenario.now in
     let set = g.Q.EventQueue.set in
     let before = c.loop-from.tallies in
     let rows = c.deref.result.now in
@@ -67,7 +68,7 @@ returns-in_err-take-clause-part g c = λ first wrote.
 
 pub returns-in_err-take-clause-worn : goal.returns-in_err-take-clause-worn
 returns-in_err-take-clause-worn g c = λ h.
-    let s = c.args.scenario.now in
+    let s = c.args.cluster.scenario.now in
     let set = g.Q.EventQueue.set in
     let before = c.loop-from.tallies in
     let after = world_of set c.in_ok-done.done.part in
@@ -78,7 +79,7 @@ returns-in_err-take-clause-worn g c = λ h.
 
 pub loop-from-preserved : goal.loop-from-preserved
 loop-from-preserved g c =
-    let s = c.args.scenario.now in
+    let s = c.args.cluster.scenario.now in
     let set = g.Q.EventQueue.set in
     let before = c.loop-from.tallies in
     let rows = c.deref.result.now in
@@ -95,6 +96,7 @@ loop-from-preserved g c =
       written = λ first wrote.
           subst (λ l. HasWritten {T = Unit {0}} s l first (g.T.TakeRows.held c.take.new.place) c.take.new.tallies (Ok (tt {0}))) (sym same)
           (written_on s before rows _ _ _ before c.take.new.tallies _ (c.loop-from.invariant.written first wrote) c.in_ok-take.ensures.whole same c.in_ok-take.ensures.part c.in_ok-take.ensures.lasts c.in_ok-take.ensures.worn);
+      gathered = c.in_ok-take.ensures.gathered;
       few = c.in_ok-take.ensures.lasts;
       unfailed = omega (arith, none, so_far);
     }
@@ -104,11 +106,11 @@ loop-from-smaller g c = omega (arith, c.ticks-last.ensures, c.ticks-from.ensures
 
 pub returns-clause-run : goal.returns-clause-run
 returns-clause-run g c =
-    comes_to_end c.args.scenario.now c.requires.sound c.loop-from.from (world_of g.Q.EventQueue.set c.loop-from.part) c.loop-from.tallies c.loop-from.invariant.come (omega arith)
+    comes_to_end c.args.cluster.scenario.now c.requires.sound c.loop-from.from (world_of g.Q.EventQueue.set c.loop-from.part) c.loop-from.tallies c.loop-from.invariant.come (omega arith)
 
 pub returns-clause-lasts : goal.returns-clause-lasts
 returns-clause-lasts g c =
-    comes_unworn c.args.scenario.now c.requires.sound c.loop-from.from (world_of g.Q.EventQueue.set c.loop-from.part) c.loop-from.tallies c.loop-from.invariant.come (omega arith)
+    comes_unworn c.args.cluster.scenario.now c.requires.sound c.loop-from.from (world_of g.Q.EventQueue.set c.loop-from.part) c.loop-from.tallies c.loop-from.invariant.come (omega arith)
     (part_unworn g.Q.EventQueue.set c.loop-from.part)
 
 pub returns-clause-whole : goal.returns-clause-whole
@@ -117,5 +119,8 @@ returns-clause-whole g c = λ first wrote. (c.loop-from.invariant.written first 
 pub returns-clause-lasts_report : goal.returns-clause-lasts_report
 returns-clause-lasts_report g c =
     let rows = c.loop-from.tallies in
-    let run = comes_to_end c.args.scenario.now c.requires.sound c.loop-from.from (world_of g.Q.EventQueue.set c.loop-from.part) rows c.loop-from.invariant.come (omega arith) in
-    lasts_in_report c.args.scenario.now rows c.requires.sound run c.loop-from.invariant.few
+    let run = comes_to_end c.args.cluster.scenario.now c.requires.sound c.loop-from.from (world_of g.Q.EventQueue.set c.loop-from.part) rows c.loop-from.invariant.come (omega arith) in
+    lasts_in_report c.args.cluster.scenario.now rows c.requires.sound run c.loop-from.invariant.few
+
+pub returns-clause-gathered : goal.returns-clause-gathered
+returns-clause-gathered g c = c.loop-from.invariant.gathered

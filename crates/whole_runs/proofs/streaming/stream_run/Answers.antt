@@ -6,27 +6,30 @@ use Rattle.whole_runs.proofs.Streamed.{begins_trace}
 use Rattle.whole_runs.proofs.streaming.stream_run.Goals as goal
 
 pub returns-in_err-links-clause-part : goal.returns-in_err-links-clause-part
-returns-in_err-links-clause-part g c = on_err _ (begins_nothing c.args.scenario.now (g.A.Sink.held c.args.trace.now) c.end-end.ensures.sound)
+returns-in_err-links-clause-part g c = on_err _ (begins_nothing c.args.scenario.now (g.T.TakeRows.held c.args.place.now) c.end-end.ensures.sound)
 
 pub returns-in_err-wheel-clause-part : goal.returns-in_err-wheel-clause-part
-returns-in_err-wheel-clause-part g c = on_err _ (begins_nothing c.args.scenario.now (g.A.Sink.held c.args.trace.now) c.end-end.ensures.sound)
+returns-in_err-wheel-clause-part g c = on_err _ (begins_nothing c.args.scenario.now (g.T.TakeRows.held c.args.place.now) c.end-end.ensures.sound)
 
 pub returns-in_err-part-clause-part : goal.returns-in_err-part-clause-part
-returns-in_err-part-clause-part g c = on_err _ (begins_nothing c.args.scenario.now (g.A.Sink.held c.args.trace.now) c.end-end.ensures.sound)
+returns-in_err-part-clause-part g c = on_err _ (begins_nothing c.args.scenario.now (g.T.TakeRows.held c.args.place.now) c.end-end.ensures.sound)
 
-pub returns-in_err-begin_trace-clause-part : goal.returns-in_err-begin_trace-clause-part
-returns-in_err-begin_trace-clause-part g c =
+pub returns-in_err-begin-clause-part : goal.returns-in_err-begin-clause-part
+returns-in_err-begin-clause-part g c =
     let s = c.args.scenario.now in
     let run = some_run s c.end-end.ensures.sound in
-    on_err _ (begins_trace s [] [] _ _ _ (run.0, run.1, (run.0, refl)) (c.in_err-begin_trace.ensures.written s))
+    on_err _ (begins_trace s [] [] _ _ _ (run.0, run.1, (run.0, refl)) (c.in_err-begin.ensures.written s))
 
-pub returns-in_err-begin_trace-clause-worn : goal.returns-in_err-begin_trace-clause-worn
-returns-in_err-begin_trace-clause-worn g c = λ h.
-    let many = (c.in_err-begin_trace.ensures.written c.args.scenario.now).worn (handed_on c.from_residual-in_err-begin_trace.result _ _ c.from_residual-in_err-begin_trace.ensures.1 h) in
+pub returns-in_err-begin-clause-worn : goal.returns-in_err-begin-clause-worn
+returns-in_err-begin-clause-worn g c = λ h.
+    let many = (c.in_err-begin.ensures.written c.args.scenario.now).worn (handed_on c.from_residual-in_err-begin.result _ _ c.from_residual-in_err-begin.ensures.1 h) in
     absurd (omega (arith, many))
 
 pub returns-clause-whole : goal.returns-clause-whole
-returns-clause-whole g c = c.run_slices.ensures.whole _ (c.in_ok-begin_trace.ensures.written c.args.scenario.now)
+returns-clause-whole g c = c.run_slices.ensures.whole _ (c.in_ok-begin.ensures.written c.args.scenario.now)
 
 pub returns-clause-part : goal.returns-clause-part
-returns-clause-part g c = c.run_slices.ensures.part _ (c.in_ok-begin_trace.ensures.written c.args.scenario.now)
+returns-clause-part g c = c.run_slices.ensures.part _ (c.in_ok-begin.ensures.written c.args.scenario.now)
+
+pub run_slices-requires-clause-none_gathered : goal.run_slices-requires-clause-none_gathered
+run_slices-requires-clause-none_gathered g c = c.in_ok-begin.ensures.gathered c.args.scenario.now [] c.requires.none_gathered

@@ -8,22 +8,22 @@ use Rattle.windows.proofs.choices.choose.Goals as goal
 
 pub returns-in-None-clause-ok : goal.returns-in-None-clause-ok
 returns-in-None-clause-ok c =
-    let s = c.args.setting.now.scenario.now in
+    let s = c.args.cluster.scenario.now in
     let w = world_of set_of c.args.part.now in
     none_handled s c.args.least_delay c.args.member w (world_of set_of c.take_safe.new.part) c.args.made.now.rows.items
     (subst (λ end. NonePasses (IsSafe end c.args.least_delay) w c.args.member) c.end-end.ensures.value c.in-None.ensures.none) c.in-None.ensures.unchanged
 
 pub handle_taken-requires-clause-here : goal.handle_taken-requires-clause-here
 handle_taken-requires-clause-here c =
-    let s = c.args.setting.now.scenario.now in
+    let s = c.args.cluster.scenario.now in
     let w = world_of set_of c.args.part.now in
     let event = c.in-Some.event in
     let safe = subst (λ end. IsSafe end c.args.least_delay w event.key) c.end-end.ensures.value c.in-Some.ensures.safe in
-    handled_here s c.requires.sound c.args.least_delay c.requires.least w c.requires.played event c.in-Some.ensures.here safe c.args.setting.now.links.now c.requires.fits
+    handled_here s c.requires.sound c.args.least_delay c.requires.least w c.requires.played event c.in-Some.ensures.here safe c.args.cluster.links.now c.args.cluster.fits
 
 pub handle_taken-requires-clause-known : goal.handle_taken-requires-clause-known
 handle_taken-requires-clause-known c =
-    let s = c.args.setting.now.scenario.now in
+    let s = c.args.cluster.scenario.now in
     let w = world_of set_of c.args.part.now in
     let event = c.in-Some.event in
     let safe = subst (λ end. IsSafe end c.args.least_delay w event.key) c.end-end.ensures.value c.in-Some.ensures.safe in
@@ -32,7 +32,7 @@ handle_taken-requires-clause-known c =
 
 pub handle_taken-requires-clause-names : goal.handle_taken-requires-clause-names
 handle_taken-requires-clause-names c =
-    let s = c.args.setting.now.scenario.now in
+    let s = c.args.cluster.scenario.now in
     let w = world_of set_of c.args.part.now in
     let event = c.in-Some.event in
     let safe = subst (λ end. IsSafe end c.args.least_delay w event.key) c.end-end.ensures.value c.in-Some.ensures.safe in
@@ -40,7 +40,7 @@ handle_taken-requires-clause-names c =
 
 pub handle_taken-requires-clause-new : goal.handle_taken-requires-clause-new
 handle_taken-requires-clause-new c =
-    let s = c.args.setting.now.scenario.now in
+    let s = c.args.cluster.scenario.now in
     let w = world_of set_of c.args.part.now in
     let event = c.in-Some.event in
     let safe = subst (λ end. IsSafe end c.args.least_delay w event.key) c.end-end.ensures.value c.in-Some.ensures.safe in
@@ -48,7 +48,7 @@ handle_taken-requires-clause-new c =
 
 pub returns-clause-ok : goal.returns-clause-ok
 returns-clause-ok c =
-    let s = c.args.setting.now.scenario.now in
+    let s = c.args.cluster.scenario.now in
     let w = world_of set_of c.args.part.now in
     let event = c.in-Some.event in
     let safe = subst (λ end. IsSafe end c.args.least_delay w event.key) c.end-end.ensures.value c.in-Some.ensures.safe in
@@ -57,7 +57,7 @@ returns-clause-ok c =
 
 pub returns-in_err-handle_taken-clause-worn : goal.returns-in_err-handle_taken-clause-worn
 returns-in_err-handle_taken-clause-worn c = λ worn.
-    let s = c.args.setting.now.scenario.now in
+    let s = c.args.cluster.scenario.now in
     let w = world_of set_of c.args.part.now in
     let event = c.in-Some.event in
     let safe = subst (λ end. IsSafe end c.args.least_delay w event.key) c.end-end.ensures.value c.in-Some.ensures.safe in

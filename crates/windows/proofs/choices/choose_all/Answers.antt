@@ -13,12 +13,12 @@ counted_as false = refl
 
 pub choose-requires-clause-played : goal.choose-requires-clause-played
 choose-requires-clause-played c =
-    played_there c.args.setting.now.scenario.now c.args.least_delay (take c.loop-member.member-index c.args.choices.now) c.loop-member.handled c.loop-member.made.rows.items (world_of set_of c.loop-member.part)
+    played_there c.args.cluster.scenario.now c.args.least_delay (take c.loop-member.member-index c.args.choices.now) c.loop-member.handled c.loop-member.made.rows.items (world_of set_of c.loop-member.part)
     c.loop-member.invariant.so_far
 
 pub loop-member-preserved : goal.loop-member-preserved
 loop-member-preserved c =
-    let s = c.args.setting.now.scenario.now in
+    let s = c.args.cluster.scenario.now in
     let d = c.args.least_delay in
     let place = c.loop-member.member-index in
     let choices = c.args.choices.now in

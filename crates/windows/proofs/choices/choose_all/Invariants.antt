@@ -6,6 +6,6 @@ use Rattle.windows.proofs.choices.choose_all.Given as goal
 
 abbrev pub invariant-loop-member : goal.invariant-loop-member
 invariant-loop-member l = record {
-  so_far : HasPlayed l.setting.scenario.now l.least_delay (take l.member-index l.choices) l.handled l.made.rows.items (world_of set_of l.part);
+  so_far : HasPlayed l.cluster.scenario.now l.least_delay (take l.member-index l.choices) l.handled l.made.rows.items (world_of set_of l.part);
   few : l.handled ≤ l.member-index;
 }

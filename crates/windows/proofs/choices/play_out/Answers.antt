@@ -1,13 +1,9 @@
 use Rattle.std.proofs.Common.{subst, refl, arith}
-use Rattle.member.proofs.Fair.{steps_later}
 use Rattle.worker_queue.specs.SetOf.{set_of}
 use Rattle.windows.specs.Play.{IsLeastLeft}
 use Rattle.windows.specs.WorldOf.{world_of}
 use Rattle.windows.proofs.PlayEnds.{play_of, least_of_links}
 use Rattle.windows.proofs.choices.play_out.Goals as goal
-
-pub invariant_of-setting : goal.invariant_of-setting
-invariant_of-setting c = record { later = steps_later c.args.scenario.now c.end-end.ensures.sound }
 
 pub returns-clause-played : goal.returns-clause-played
 returns-clause-played c =

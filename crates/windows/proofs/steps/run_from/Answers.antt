@@ -12,12 +12,12 @@ use Rattle.windows.proofs.steps.run_from.Goals as goal
 
 pub advance-requires-clause-consistent : goal.advance-requires-clause-consistent
 advance-requires-clause-consistent g c =
-    window_consistent c.args.setting.now.scenario.now c.args.setting.now.bound (world_of g.Q.EventQueue.set c.args.part) (world_of g.Q.EventQueue.set c.loop-spare.part) c.loop-spare.made c.loop-spare.invariant.window
+    window_consistent c.args.setting.now.cluster.scenario.now c.args.setting.now.bound (world_of g.Q.EventQueue.set c.args.part) (world_of g.Q.EventQueue.set c.loop-spare.part) c.loop-spare.made c.loop-spare.invariant.window
     c.requires.sound c.requires.in_time c.requires.consistent
 
 pub loop-spare-smaller : goal.loop-spare-smaller
 loop-spare-smaller g c =
-    let s = c.args.setting.now.scenario.now in
+    let s = c.args.setting.now.cluster.scenario.now in
     let bound = c.args.setting.now.bound in
     let before = world_of g.Q.EventQueue.set c.loop-spare.part in
     let after = world_of g.Q.EventQueue.set c.advance.new.part in
@@ -26,7 +26,7 @@ loop-spare-smaller g c =
 
 pub loop-spare-preserved : goal.loop-spare-preserved
 loop-spare-preserved g c =
-    let s = c.args.setting.now.scenario.now in
+    let s = c.args.setting.now.cluster.scenario.now in
     let bound = c.args.setting.now.bound in
     let before = world_of g.Q.EventQueue.set c.loop-spare.part in
     let after = world_of g.Q.EventQueue.set c.advance.new.part in
@@ -38,7 +38,7 @@ loop-spare-preserved g c =
 
 pub returns-clause-ok : goal.returns-clause-ok
 returns-clause-ok g c =
-    let s = c.args.setting.now.scenario.now in
+    let s = c.args.setting.now.cluster.scenario.now in
     let bound = c.args.setting.now.bound in
     let opened = world_of g.Q.EventQueue.set c.args.part in
     let before = world_of g.Q.EventQueue.set c.loop-spare.part in
@@ -52,7 +52,7 @@ returns-clause-ok g c =
 
 pub returns-clause-consistent : goal.returns-clause-consistent
 returns-clause-consistent g c =
-    let s = c.args.setting.now.scenario.now in
+    let s = c.args.setting.now.cluster.scenario.now in
     let before = world_of g.Q.EventQueue.set c.loop-spare.part in
     let after = world_of g.Q.EventQueue.set c.advance.new.part in
     let same = subst (λ (b : Bool). OnFalse b (after ≡ before)) c.if-branch.false c.in_ok-advance.ensures.same in
@@ -61,7 +61,7 @@ returns-clause-consistent g c =
 
 pub returns-clause-among : goal.returns-clause-among
 returns-clause-among g c =
-    let s = c.args.setting.now.scenario.now in
+    let s = c.args.setting.now.cluster.scenario.now in
     let none = subst (λ (b : Bool). OnFalse b (c.advance.new.out ≡ c.loop-spare.made)) c.if-branch.false c.in_ok-advance.ensures.none in
     subst (λ (out : Effects). All (λ (e : Event). IsAmongMembers s e.key e.content) out.events.items) (sym none)
     (window_among s c.args.setting.now.bound (world_of g.Q.EventQueue.set c.args.part) (world_of g.Q.EventQueue.set c.loop-spare.part) c.loop-spare.made c.loop-spare.invariant.window c.requires.sound c.requires.in_time
@@ -69,7 +69,7 @@ returns-clause-among g c =
 
 pub returns-clause-far : goal.returns-clause-far
 returns-clause-far g c =
-    let s = c.args.setting.now.scenario.now in
+    let s = c.args.setting.now.cluster.scenario.now in
     let opened = world_of g.Q.EventQueue.set c.args.part in
     let none = subst (λ (b : Bool). OnFalse b (c.advance.new.out ≡ c.loop-spare.made)) c.if-branch.false c.in_ok-advance.ensures.none in
     subst (λ (out : Effects). TakeTheirLinks s opened out.events.items) (sym none)
@@ -77,5 +77,5 @@ returns-clause-far g c =
 
 pub returns-in_err-advance-clause-worn : goal.returns-in_err-advance-clause-worn
 returns-in_err-advance-clause-worn g c = λ worn.
-    window_wears c.args.setting.now.scenario.now c.args.setting.now.bound (world_of g.Q.EventQueue.set c.args.part) (world_of g.Q.EventQueue.set c.loop-spare.part) c.loop-spare.made c.loop-spare.invariant.window
+    window_wears c.args.setting.now.cluster.scenario.now c.args.setting.now.bound (world_of g.Q.EventQueue.set c.args.part) (world_of g.Q.EventQueue.set c.loop-spare.part) c.loop-spare.made c.loop-spare.invariant.window
     (c.in_err-advance.ensures.worn (search rules))

@@ -5,9 +5,9 @@ use Rattle.windows.proofs.steps.run_from.Given as goal
 
 abbrev pub invariant-loop-spare : goal.invariant-loop-spare
 invariant-loop-spare g l = record {
-  window : IsWindowSoFar l.setting.scenario.now l.setting.bound (world_of g.Q.EventQueue.set l.fn.part) (world_of g.Q.EventQueue.set l.part) l.made;
+  window : IsWindowSoFar l.setting.cluster.scenario.now l.setting.bound (world_of g.Q.EventQueue.set l.fn.part) (world_of g.Q.EventQueue.set l.part) l.made;
   number : l.part.number ≡ l.fn.part.number;
 }
 
 abbrev pub decreases-loop-spare : goal.decreases-loop-spare
-decreases-loop-spare g l = left_in l.setting.scenario.now l.setting.later l.setting.bound (world_of g.Q.EventQueue.set l.fn.part) (world_of g.Q.EventQueue.set l.part)
+decreases-loop-spare g l = left_in l.setting.cluster.scenario.now l.setting.later l.setting.bound (world_of g.Q.EventQueue.set l.fn.part) (world_of g.Q.EventQueue.set l.part)

@@ -1,4 +1,4 @@
-use Rattle.std.proofs.Common.{◌∙◌, arith}
+use Rattle.std.proofs.Common.{arith}
 use Rattle.workers.proofs.close.close_board.Goals as goal
 
 pub settle-requires : goal.settle-requires

@@ -7,11 +7,11 @@ use Rattle.workers.proofs.pool.run_alone.Goals as goal
 
 pub run-requires-clause-consistent : goal.run-requires-clause-consistent
 run-requires-clause-consistent g c =
-    (subst (AllByRecursion (λ b. IsConsistentPart c.args.scenario.now (world_of g.Q.EventQueue.set b.part))) c.in-Some.ensures.steps.0 c.loop-bounded.invariant.consistent).0
+    (subst (AllByRecursion (λ b. IsConsistentPart c.args.cluster.scenario.now (world_of g.Q.EventQueue.set b.part))) c.in-Some.ensures.steps.0 c.loop-bounded.invariant.consistent).0
 
 pub loop-bounded-preserved : goal.loop-bounded-preserved
 loop-bounded-preserved g c =
-    let s = c.args.scenario.now in
+    let s = c.args.cluster.scenario.now in
     let b = c.in-Some.bounded in
     let in_time = subst (AllByRecursion (λ b. b.bound ≤ s.end + 1)) c.in-Some.ensures.steps.0 c.loop-bounded.invariant.in_time in
     let clipped : min b.bound (s.end + 1) ≡ b.bound = omega (arith, in_time.0) in

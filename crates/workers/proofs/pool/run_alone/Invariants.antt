@@ -8,8 +8,8 @@ use Rattle.workers.proofs.pool.run_alone.Given as goal
 abbrev pub invariant-loop-bounded : goal.invariant-loop-bounded
 invariant-loop-bounded g l = record {
   left : l.yielded ++ l.bounded-iterator.rest.items ≡ l.fn.parts.items;
-  so_far : SoFar g.Q.EventQueue.set l.fn.scenario l.yielded l.so_far;
-  in_time : AllByRecursion (λ b. b.bound ≤ l.fn.scenario.end + 1) l.bounded-iterator.rest.items;
+  so_far : SoFar g.Q.EventQueue.set l.fn.cluster.scenario.now l.yielded l.so_far;
+  in_time : AllByRecursion (λ b. b.bound ≤ l.fn.cluster.scenario.now.end + 1) l.bounded-iterator.rest.items;
   awaited : AllByRecursion (λ b. g.G.Gate.awaits l.fn.window b.part.number) l.bounded-iterator.rest.items;
-  consistent : AllByRecursion (λ b. IsConsistentPart l.fn.scenario (world_of g.Q.EventQueue.set b.part)) l.bounded-iterator.rest.items;
+  consistent : AllByRecursion (λ b. IsConsistentPart l.fn.cluster.scenario.now (world_of g.Q.EventQueue.set b.part)) l.bounded-iterator.rest.items;
 }

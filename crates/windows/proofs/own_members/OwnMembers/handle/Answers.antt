@@ -40,12 +40,12 @@ step-requires-clause-known c =
     let count = c.len.ensures in
     let within : i < length slots = omega (arith, low, count) in
     let here = slice_get_read slots (length slots) i c.index_mut.result.now refl within c.index_mut.ensures.value in
-    subst (λ (event : Event). HoldsMembers c.args.setting.now.scenario.now event.key.to (state_of c.in-Some.member)) (sym c.in_parts.ensures)
+    subst (λ (event : Event). HoldsMembers c.args.cluster.scenario.now event.key.to (state_of c.in-Some.member)) (sym c.in_parts.ensures)
     (c.requires.known (state_of c.in-Some.member) (receiver_at slots i c.args.event.key.to c.index_mut.result.now c.receiver_of-receiver.ensures here ∙ ap (option_map state_of) c.in-Some.is))
 
 pub returns-clause-ok : goal.returns-clause-ok
 returns-clause-ok c =
-    let s = c.args.setting.now.scenario.now in
+    let s = c.args.cluster.scenario.now in
     let event = c.args.event in
     let slots = c.args.self.now.slots.items in
     let i = c.receiver_of-receiver.result in
@@ -72,5 +72,5 @@ returns-clause-worn c = λ worn.
       member = state_of c.in-Some.member;
       there = receiver_at slots i c.args.event.key.to c.index_mut.result.now c.receiver_of-receiver.ensures here ∙ ap (option_map state_of) c.in-Some.is;
       worn =
-          subst (λ (e : Event). IsWorn (step c.args.setting.now.scenario.now e.key e.content (state_of c.in-Some.member)).state) c.in_parts.ensures (c.step.ensures.worn worn);
+          subst (λ (e : Event). IsWorn (step c.args.cluster.scenario.now e.key e.content (state_of c.in-Some.member)).state) c.in_parts.ensures (c.step.ensures.worn worn);
     }

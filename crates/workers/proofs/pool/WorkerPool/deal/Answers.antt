@@ -16,7 +16,7 @@ returns-in-Err-hand-clause-beginning g c = (
 
 pub hand-requires-clause-belongs : goal.hand-requires-clause-belongs
 hand-requires-clause-belongs g c = λ loans lives.
-    let s = c.args.scenario.now in
+    let s = c.args.cluster.scenario.now in
     let set = g.Q.EventQueue.set in
     let awaits = g.G.Gate.awaits in
     let told = c.in-Ok-ask.ensures.task in

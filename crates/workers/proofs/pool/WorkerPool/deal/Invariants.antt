@@ -9,9 +9,9 @@ abbrev pub invariant-loop-bounded : goal.invariant-loop-bounded
 invariant-loop-bounded g l = record {
   left : l.yielded ++ l.bounded-iterator.rest.items ≡ l.fn.parts.items;
   dealt : all_bounded l.tickets.items ≡ l.yielded;
-  windows : AllByRecursion (IsOfScenario l.fn.scenario) l.tickets.items;
-  in_time : AllByRecursion (λ b. b.bound ≤ l.fn.scenario.end + 1) l.bounded-iterator.rest.items;
+  windows : AllByRecursion (IsOfScenario l.fn.cluster.scenario.now) l.tickets.items;
+  in_time : AllByRecursion (λ b. b.bound ≤ l.fn.cluster.scenario.now.end + 1) l.bounded-iterator.rest.items;
   awaited : AllByRecursion (λ b. g.G.Gate.awaits l.fn.window b.part.number) l.bounded-iterator.rest.items;
   same : l.self.windows ≡ l.fn.self.windows;
-  consistent : AllByRecursion (λ b. IsConsistentPart l.fn.scenario (world_of g.Q.EventQueue.set b.part)) l.bounded-iterator.rest.items;
+  consistent : AllByRecursion (λ b. IsConsistentPart l.fn.cluster.scenario.now (world_of g.Q.EventQueue.set b.part)) l.bounded-iterator.rest.items;
 }

@@ -8,4 +8,4 @@ pub returns-clause-worn : goal.returns-clause-worn
 returns-clause-worn g c = λ is.
     let from = c.deal-dealt.ensures.beginning in
     let set = g.Q.EventQueue.set in
-    subst (OneWears set c.args.scenario.now) (sym from.1) (wears_more set c.args.scenario.now (all_bounded c.deal-dealt.result.tickets.items) from.0 (c.gather.ensures.worn is))
+    subst (OneWears set c.args.cluster.scenario.now) (sym from.1) (wears_more set c.args.cluster.scenario.now (all_bounded c.deal-dealt.result.tickets.items) from.0 (c.gather.ensures.worn is))
