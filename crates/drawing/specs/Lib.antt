@@ -4,3 +4,4 @@ pub mod Legends
 pub mod Numbers
 pub mod Rounds
 pub mod Shapes
+pub mod Styles

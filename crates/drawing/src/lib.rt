@@ -17,7 +17,7 @@ pub use escape::{push_escaped, push_markup};
 pub use laws::escaped_texts_are_no_markup;
 pub use legend::{push_counted, push_entry};
 pub use number::{push_grouped, push_place};
-pub use palette::STYLE;
+pub use palette::drawing_style;
 pub use round::round_step;
 pub use shapes::{
     close_figure, close_plot, open_figure, open_plot, push_area, push_band, push_bar, push_dot,

@@ -1,8 +1,10 @@
 //! The palette. Its colours differ in lightness as well as in hue, so that they are told apart by the
 //! colour-blind and in print.
+ghost use Rattle.std.specs.Prelude.{◌≡◌};
+ghost use Rattle.drawing.specs.Styles.{drawing_style};
 
 /// The style of drawings.
-pub const STYLE: &str = "\
+const STYLE: &str = "\
 :root{color-scheme:light dark;--ink:#1a1d21;--soft:#59616b;--line:#c9ced4;--page:#fff;--field:#f3f5f7;\
 --suspect:#f2b632;--dead:#8b1e5c;--mark:#1a1d21;--slow:#cfe3f3;--cut:#e3d7ee;\
 --one:#0b5c9c;--two:#6db6e8;--three:#1b8a6b;--four:#e9d24a;--five:#d98a1f;--six:#b58bc4;--seven:#8a8f96;--lost:#c1272d}\
@@ -30,3 +32,11 @@ pub const STYLE: &str = "\
 .legend{list-style:none;display:flex;flex-wrap:wrap;gap:.2em 1.2em;padding:0;margin:.3em 0 .6em;font-size:.85rem}\
 .legend li{display:flex;align-items:center;gap:.4em}.swatch{width:.9em;height:.9em;flex:none}\
 .swatch .rule,.swatch .dot{vector-effect:none}";
+
+/// The style of drawings: the palette, and rules that all of them share, in CSS.
+#[tactic(auto, unfolding(crate::specs::Styles::drawing_style))]
+pub fn drawing_style() -> &'static str
+    ensures { result.now ≡ drawing_style }
+{
+    STYLE
+}

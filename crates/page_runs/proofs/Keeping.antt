@@ -1,0 +1,129 @@
+-- What a run keeps that writes a page, by what it keeps of its trace and its report.
+use Rattle.std.proofs.Common.{◌≡◌, ◌≢◌, ◌<◌, ◌⊎◌, ℕ, List, Option, Result, Ok, Err, length, subst, refl, inl, inr, arith}
+use Rattle.std.specs.Result.{IfOk, IfErr, OnOk, OnErr, IsErrOf}
+use Rattle.std.specs.Io.KnownBytes.{Appends, Keeps}
+use Rattle.base.specs.declared.fault.Fault.{Fault}
+use Rattle.base.specs.declared.fault.Fault.TheVariants.{Memory, Write}
+use Rattle.scenario.specs.Setup.{Setup, IsSound}
+use Rattle.trace.specs.Sinks.{AppendsBeginning}
+use Rattle.trace.specs.Text.{trace_text}
+use Rattle.trace.specs.declared.row.Row.{Row}
+use Rattle.trace.proofs.Beginnings.{Keeps-same}
+use Rattle.reports.specs.Text.{report_text}
+use Rattle.member_laws.specs.Runs.{IsRunOf}
+use Rattle.outputs.specs.declared.summary.Summary.{Summary}
+use Rattle.outputs.specs.Promise.{KeepsPromise, summed}
+use Rattle.outputs.proofs.Failing.{breaks_off}
+use Rattle.outputs.proofs.Runs.{writes_nothing}
+use Rattle.page_runs.specs.Pages.{BeginsPage, WritesPage}
+use Rattle.page_runs.specs.Promise.{KeepsPagePromise}
+use Rattle.page_runs.specs.Told.{TellsRun, rows_told}
+use Rattle.page_runs.specs.declared.told.RunTold.{RunTold}
+
+memory≢write : Memory ≢ Write
+memory≢write is = cc
+
+module _ {A B : Type 0} (held : A → Option (List ℕ)) (failed : A → ℕ) (held_report : B → Option (List ℕ)) (failed_report : B → ℕ) (s : Setup) where
+  -- a run that was refused memory before it began
+  pub unbegun : (trace : A) (report : B) → IsSound s → KeepsPromise held failed held_report failed_report s trace trace report report (summed (rows_told (Err Memory)))
+  unbegun trace report sound =
+      breaks_off held failed held_report failed_report s trace trace report report (Err Memory) Memory refl
+      (writes_nothing s (held trace) (held_report report) sound) (λ _. refl) (λ is. absurd (memory≢write is)) (λ _. refl)
+
+module _ {A B C : Type 0} (held : A → Option (List ℕ)) (failed : A → ℕ) (held_report : B → Option (List ℕ)) (failed_report : B → ℕ)
+    (held_page : C → Option (List ℕ)) (failed_page : C → ℕ) (name release : List ℕ) (s : Setup) (trace_old trace_new : A) (report_old report_new : B) where
+  -- it broke off before its page
+  pub unpaged : (page : C) (outcome : Result RunTold Fault) (fault : Fault) → outcome ≡ Err fault
+      → KeepsPromise held failed held_report failed_report s trace_old trace_new report_old report_new (summed (rows_told outcome))
+      → KeepsPagePromise held failed held_report failed_report held_page failed_page name release s trace_old trace_new report_old report_new page page (Err fault)
+  unpaged page outcome fault is promise = record {
+    written = tt;
+    beginning = record { rows = kept.beginning.rows; run = kept.beginning.run; written = begun kept.beginning.written };
+    first = kept.first;
+    second = λ _. refl;
+    lasts = tt;
+    write = λ same. failing (kept.write same);
+    whole = tt;
+    whole_report = tt;
+    whole_page = tt;
+    others_report = kept.others_report;
+    others_page = λ _. refl;
+  }
+    where
+      kept : KeepsPromise held failed held_report failed_report s trace_old trace_new report_old report_new (Err fault)
+      kept = subst (λ r. KeepsPromise held failed held_report failed_report s trace_old trace_new report_old report_new (summed (rows_told r))) is promise
+
+      rows : List Row
+      rows = kept.beginning.rows
+
+      failing : (failed trace_old < failed trace_new) ⊎ (failed_report report_old < failed_report report_new)
+          → (failed trace_old < failed trace_new) ⊎ ((failed_report report_old < failed_report report_new) ⊎ (failed_page page < failed_page page))
+      failing (inl less) = inl less
+      failing (inr less) = inr (inl less)
+
+      begun : (AppendsBeginning (held trace_old) (held trace_new) (trace_text s rows) × Keeps (held_report report_old) (held_report report_new))
+          ⊎ (Appends (held trace_old) (held trace_new) (trace_text s rows) × AppendsBeginning (held_report report_old) (held_report report_new) (report_text s rows))
+          → (AppendsBeginning (held trace_old) (held trace_new) (trace_text s rows) × Keeps (held_report report_old) (held_report report_new) × Keeps (held_page page) (held_page page))
+          ⊎ ((Appends (held trace_old) (held trace_new) (trace_text s rows) × AppendsBeginning (held_report report_old) (held_report report_new) (report_text s rows)
+          × Keeps (held_page page) (held_page page))
+          ⊎ (Appends (held trace_old) (held trace_new) (trace_text s rows) × Appends (held_report report_old) (held_report report_new) (report_text s rows)
+          × BeginsPage name release s rows (held_page page) (held_page page)))
+      begun (inl part) = inl (part.0, part.1, Keeps-same (held_page page))
+      begun (inr part) = inr (inl (part.0, part.1, Keeps-same (held_page page)))
+
+  -- its trace and its report are whole: they are of the rows that were told, since there is one run
+  module _ (page_old page_new : C) (outcome : Result RunTold Fault) (told : RunTold) (is : outcome ≡ Ok told)
+      (promise : KeepsPromise held failed held_report failed_report s trace_old trace_new report_old report_new (summed (rows_told outcome)))
+      (tells_outcome : IfOk outcome (TellsRun s)) (one : (first second : List Row) → IsRunOf s first → IsRunOf s second → first ≡ second) where
+    kept : KeepsPromise held failed held_report failed_report s trace_old trace_new report_old report_new (Ok (record { rows = length told.tallies }))
+    kept = subst (λ r. KeepsPromise held failed held_report failed_report s trace_old trace_new report_old report_new (summed (rows_told r))) is promise
+
+    tells : TellsRun s told
+    tells = subst (λ r. IfOk r (TellsRun s)) is tells_outcome
+
+    same : kept.written.rows ≡ told.tallies
+    same = one kept.written.rows told.tallies kept.written.run tells.run
+
+    traced : Appends (held trace_old) (held trace_new) (trace_text s told.tallies)
+    traced = subst (λ rows. Appends (held trace_old) (held trace_new) (trace_text s rows)) same kept.written.trace
+
+    reported : Appends (held_report report_old) (held_report report_new) (report_text s told.tallies)
+    reported = subst (λ rows. Appends (held_report report_old) (held_report report_new) (report_text s rows)) same kept.written.report
+
+    -- neither of their sinks has failed
+    none_failed : {P : Type 0} → (failed trace_old < failed trace_new) ⊎ (failed_report report_old < failed_report report_new) → P
+    none_failed (inl less) = let whole = kept.whole in absurd (omega (arith, whole, less))
+    none_failed (inr less) = let whole = kept.whole_report in absurd (omega (arith, whole, less))
+
+    pub paged : (result : Result Summary Fault) → IfOk result (λ summary. summary.rows ≡ length told.tallies)
+        → OnOk result (WritesPage name release s told.tallies (held_page page_old) (held_page page_new))
+        → OnErr result (BeginsPage name release s told.tallies (held_page page_old) (held_page page_new))
+        → OnOk result (failed_page page_new ≡ failed_page page_old) → (IsErrOf result Write → failed_page page_old < failed_page page_new)
+        → IfErr result (λ cause. cause ≢ Write → failed_page page_new ≡ failed_page page_old)
+        → KeepsPagePromise held failed held_report failed_report held_page failed_page name release s trace_old trace_new report_old report_new page_old page_new result
+    paged (Ok summary) counted whole part unfailed write others = record {
+      written = record { rows = told.tallies; run = tells.run; counted = counted; trace = traced; report = reported; page = whole };
+      beginning = tt;
+      first = kept.first;
+      second = none_failed;
+      lasts = kept.lasts;
+      write = λ failing. cc;
+      whole = kept.whole;
+      whole_report = kept.whole_report;
+      whole_page = unfailed;
+      others_report = tt;
+      others_page = tt;
+    }
+    paged (Err cause) counted whole part unfailed write others = record {
+      written = tt;
+      beginning = record { rows = told.tallies; run = tells.run; written = inr (inr (traced, reported, part)) };
+      first = kept.first;
+      second = none_failed;
+      lasts = tt;
+      write = λ failing. inr (inr (write failing));
+      whole = tt;
+      whole_report = tt;
+      whole_page = tt;
+      others_report = λ _. kept.whole_report;
+      others_page = others;
+    }

@@ -1,0 +1,83 @@
+//! The page of a run whose rows were told.
+ghost use Rattle.std.specs.Prelude.{◌≡◌, ◌≢◌, ◌+◌, ◌<◌, ◌^◌, length, IfOk, IfErr, OnOk, OnErr, IsErrOf, string_bytes};
+ghost use Rattle.std.specs.Io.KnownBytes.{Appends};
+ghost use Rattle.trace.specs.Sinks.{AppendsBeginning, failure_if_stopped};
+ghost use Rattle.page_runs.specs.Pages.{IsPageOf, WritesPage, BeginsPage};
+ghost use Rattle.page_runs.specs.Told.{TellsRun};
+
+use crate::told::RunTold;
+use base::{Fault, Memory};
+use outputs::Summary;
+use run_page::{Run, page};
+use scenario::Scenario;
+use std::alloc::Global;
+use trace::{Sink, Stopped, put_all};
+
+/// What the page of a run tells beside what happened.
+#[derive(Clone, Copy, Debug, PartialEq, Eq)]
+pub struct RunShown<'a> {
+    /// What the scenario is called, as its file's name.
+    pub name: &'a str,
+    /// The release of the program that runs it.
+    pub release: &'a str,
+}
+
+/// Writes the page of a run, flushes its sink, and sums the run up.
+///
+/// Faults: `Memory`; `Write` where the sink failed.
+pub(crate) fn write_page<C: Sink>(
+    alloc: Global,
+    scenario: &Scenario,
+    shown: &RunShown<'_>,
+    told: &RunTold,
+    out: &mut C,
+) -> Result<Summary, Fault>
+    requires told { TellsRun scenario.now told.now }
+    requires countable { C.failed out.old < 2 ^ 63 }
+    ensures rows { IfOk result (λ summary. summary.rows ≡ length told.now.tallies) }
+    ensures whole { OnOk result (WritesPage shown.now.name.now shown.now.release.now scenario.now told.now.tallies (C.held out.old) (C.held out.new)) }
+    ensures part { OnErr result (BeginsPage shown.now.name.now shown.now.release.now scenario.now told.now.tallies (C.held out.old) (C.held out.new)) }
+    ensures unfailed { OnOk result (C.failed out.new ≡ C.failed out.old) }
+    ensures write { IsErrOf result Fault.Write → C.failed out.old < C.failed out.new }
+    ensures others { IfErr result (λ cause. cause ≢ Fault.Write → C.failed out.new ≡ C.failed out.old) }
+    ensures causes { IfErr result (λ cause. (cause ≢ Fault.Worn) × (cause ≢ Fault.Relay)) }
+{
+    let text = page_of(alloc, scenario, shown, told)?;
+    match put_page(text.as_bytes(), out) {
+        Ok(()) => Ok(Summary {
+            rows: told.tallies.rows(),
+        }),
+        Err(Stopped) => Err(Fault::Write),
+    }
+}
+
+/// Puts a whole text, and flushes the sink.
+fn put_page<C: Sink>(text: &[u8], out: &mut C) -> Result<(), Stopped>
+    requires countable { C.failed out.old < 2 ^ 63 }
+    ensures whole { OnOk result (Appends (C.held out.old) (C.held out.new) text.now) }
+    ensures part { OnErr result (AppendsBeginning (C.held out.old) (C.held out.new) text.now) }
+    ensures failures { C.failed out.new ≡ C.failed out.old + failure_if_stopped result }
+{
+    put_all(text, out)?;
+    out.flush()
+}
+
+/// The page of a run.
+fn page_of(
+    alloc: Global,
+    scenario: &Scenario,
+    shown: &RunShown<'_>,
+    told: &RunTold,
+) -> Result<String, Memory>
+    requires told { TellsRun scenario.now told.now }
+    ensures { IfOk result (λ text. IsPageOf shown.now.name.now scenario.now told.now.tallies shown.now.release.now (string_bytes text)) }
+{
+    let run = Run {
+        name: shown.name,
+        release: shown.release,
+        scenario,
+        series: &told.gathered.series,
+        tallies: &told.tallies,
+    };
+    page(alloc, &run)
+}

@@ -1,0 +1,4 @@
+pub mod Steps
+pub mod Named
+pub mod Levels
+pub mod Choosing

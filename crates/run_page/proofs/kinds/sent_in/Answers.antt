@@ -1,0 +1,7 @@
+use Rattle.std.proofs.Common.{refl, ◌∙◌}
+use Rattle.series.specs.Series.{kind_place}
+use Rattle.run_page.proofs.Stacking.{where_counted}
+use Rattle.run_page.proofs.kinds.sent_in.Goals as goal
+
+pub returns : goal.returns
+returns c = where_counted c.args.kind _ _ (kind_place c.args.kind) refl c.requires.counted (λ place is. c.sent.ensures.of_kind place is ∙ c.requires.told.gathered.sent c.args.kind place c.args.span is c.requires.few)

@@ -1,0 +1,85 @@
+-- The members' local health counters, over time.
+use Rattle.std.specs.Prelude.{ℕ, ◌-◌, ◌*◌, ◌^◌, ◌==◌, nat_eq, if◌then◌else◌, List, [], ◌++◌, codes, decimal, map, flat_map, slice_index}
+use Rattle.std.specs.List.{range_with_len}
+use Rattle.scenario.specs.Setup.{Setup}
+use Rattle.trace.specs.declared.row.Row.{Row}
+use Rattle.reports.specs.Rows.{worst_health}
+use Rattle.series.specs.Spans.{span_width, span_count}
+use Rattle.series.specs.Changes.{came, went}
+use Rattle.series.specs.Series.{healths_of}
+use Rattle.drawing.specs.Axes.{axis_up}
+use Rattle.drawing.specs.Legends.{entry}
+use Rattle.drawing.specs.Shapes.{figure_opening, figure_end, plot_opening, plot_end}
+use Rattle.run_lanes.specs.Heights.{heights, flat, axis_height}
+use Rattle.run_lanes.specs.Lanes.{moments}
+use Rattle.run_lanes.specs.LaneTable.{time_axis, is_unchanged}
+use Rattle.run_page.specs.Stacks.{Layer, layers, tops, greatest}
+
+-- the values that are drawn: a counter never passes 16
+unfoldable pub values : List ℕ
+values = range_with_len 1 16
+
+-- the class of a value
+abbrev pub class_of_value : ℕ → List ℕ
+class_of_value value = if value == 1 then codes "two" else if value == 2 then codes "one" else if value == 3 then codes "six" else codes "dead"
+
+-- how many members stand at a value in each span
+abbrev pub at_value : Setup → List Row → ℕ → ℕ → List ℕ
+at_value s rows most value = heights (λ span. came value span (healths_of s rows)) (λ span. went value span (healths_of s rows)) (span_count s) 0 most
+
+-- what is drawn of a value
+abbrev pub health_layer : Setup → List Row → ℕ → ℕ → Layer
+health_layer s rows most value = record { class = class_of_value value; heights = at_value s rows most value }
+
+-- how many are at a value over 0 in each span, as far as 64 bits hold it
+abbrev pub unwell : Setup → List Row → List ℕ
+unwell s rows = tops (2 ^ 64 - 1) (flat (span_count s)) (map (health_layer s rows (2 ^ 64 - 1)) values)
+
+-- an area for each value, each on those before it
+abbrev pub health_areas : Setup → List Row → ℕ → List ℕ
+health_areas s rows most = layers s most (flat (span_count s)) (map (health_layer s rows most) values)
+
+-- what the plot shows
+unfoldable pub health_words : List ℕ
+health_words =
+    codes "<p class=\"soft\">A member's health counter (Lifeguard) rises as its own probes fail. " ++ codes "Nobody at 0 is drawn.</p><ul class=\"legend\">"
+    ++ entry (codes "two") (codes "at 1") ++ entry (codes "one") (codes "at 2") ++ entry (codes "six") (codes "at 3") ++ entry (codes "dead") (codes "at 4 and more")
+    ++ codes "</ul>"
+
+-- the plot, as high as so many members
+unfoldable pub health_plot : Setup → List Row → ℕ → List ℕ
+health_plot s rows most =
+    codes "<div class=\"chart low\">" ++ axis_up most
+    ++ plot_opening (codes "") (moments s) most (codes "Health") (codes "How many members stand at each value of the health counter.")
+    ++ health_areas s rows most ++ plot_end ++ time_axis s ++ codes "</div>"
+
+-- a row of the table: how many members stand at a value from a moment on
+abbrev pub health_row : ℕ → ℕ → ℕ → List ℕ
+health_row value from count = codes "<tr><td>" ++ decimal value ++ codes "<td>" ++ decimal from ++ codes "<td>" ++ decimal count
+
+-- the row of a span, where the number changes in it
+abbrev pub health_span : ℕ → ℕ → List ℕ → ℕ → List ℕ
+health_span value width counts span = if is_unchanged counts span then [] else health_row value (span * width) (slice_index counts span)
+
+-- the rows of so many spans
+abbrev pub health_rows : ℕ → ℕ → ℕ → List ℕ → List ℕ
+health_rows value width spans counts = flat_map (health_span value width counts) (range_with_len 0 spans)
+
+-- the rows of a value
+abbrev pub value_rows : Setup → List Row → ℕ → List ℕ
+value_rows s rows value = health_rows value (span_width s) (span_count s) (at_value s rows (2 ^ 64 - 1) value)
+
+-- the health as a table
+unfoldable pub health_table : Setup → List Row → List ℕ
+health_table s rows =
+    codes "<details><summary>Health as a table</summary><div class=\"wide\"><table><tr><th>value" ++ codes "<th>from moment<th>members</tr>\n"
+    ++ flat_map (value_rows s rows) values ++ codes "</table></div></details>"
+
+-- the figure, its plot as high as so many members
+unfoldable pub health_figure : Setup → List Row → ℕ → List ℕ
+health_figure s rows most =
+    figure_opening (codes "health") (codes "Members in bad health") ++ health_words ++ health_plot s rows most ++ health_table s rows ++ figure_end
+
+-- the same, where somebody was in bad health
+abbrev pub health_text : Setup → List Row → List ℕ
+health_text s rows = if nat_eq (worst_health rows) 0 then [] else health_figure s rows (axis_height (greatest (unwell s rows)))

@@ -1,0 +1,5 @@
+pub mod Styles
+pub mod Stacks
+pub mod Traffic
+pub mod Health
+pub mod Page

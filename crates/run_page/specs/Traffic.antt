@@ -1,0 +1,164 @@
+-- Messages by kind, over time.
+use Rattle.std.specs.Prelude.{ℕ, Bool, ◌-◌, ◌*◌, ◌/◌, ◌%◌, ◌^◌, nat_lt, nat_eq, if◌then◌else◌, List, [], ◌++◌, codes, decimal, map, flat_map, count_by, sum_by, min, max}
+use Rattle.std.specs.Option.{is_some}
+use Rattle.std.specs.List.{range_with_len}
+use Rattle.scenario.specs.Setup.{Setup, member_count}
+use Rattle.trace.specs.declared.row.What.{What}
+use Rattle.trace.specs.declared.row.What.TheVariants as what
+use Rattle.trace.specs.declared.row.Row.{Row}
+use Rattle.trace.specs.Text.{word_of}
+use Rattle.reports.specs.Rows.{count_of, losses_of}
+use Rattle.reports.specs.Text.{message_kinds}
+use Rattle.series.specs.Spans.{span_width, span_count}
+use Rattle.series.specs.Series.{kind_place, sends_in, loses_in}
+use Rattle.drawing.specs.Axes.{axis_up}
+use Rattle.drawing.specs.Legends.{entry, counted_entry}
+use Rattle.drawing.specs.Numbers.{grouped}
+use Rattle.drawing.specs.Shapes.{figure_opening, figure_end, plot_opening, plot_end, area}
+use Rattle.run_lanes.specs.Heights.{flat, axis_height}
+use Rattle.run_lanes.specs.Lanes.{moments}
+use Rattle.run_lanes.specs.LaneTable.{time_axis}
+use Rattle.run_page.specs.Stacks.{Layer, layers, tops, greatest}
+
+-- the class of a kind of message
+abbrev pub class_of : What → List ℕ
+class_of what.Ping = codes "one"
+class_of what.Ack = codes "two"
+class_of what.PingReq = codes "five"
+class_of what.Nack = codes "four"
+class_of what.Join = codes "three"
+class_of what.Welcome = codes "six"
+class_of what.Bye = codes "seven"
+class_of what.Gossip = codes "eight"
+class_of what.Push = codes "nine"
+class_of what.Pull = codes "ten"
+class_of what.Call = codes "eleven"
+class_of _ = codes "twelve"
+
+-- messages of this kind are counted
+abbrev pub is_counted : What → Bool
+is_counted kind = is_some (kind_place kind)
+
+-- how many messages of a kind were sent in each span, and how many of them were lost
+abbrev pub sent_by_span : Setup → List Row → What → List ℕ
+sent_by_span s rows kind = map (λ span. count_by (sends_in s kind span) rows) (range_with_len 0 (span_count s))
+
+abbrev pub lost_by_span : Setup → List Row → What → List ℕ
+lost_by_span s rows kind = map (λ span. count_by (loses_in s kind span) rows) (range_with_len 0 (span_count s))
+
+-- what is drawn of a kind
+abbrev pub sent_layer : Setup → List Row → What → Layer
+sent_layer s rows kind = record { class = class_of kind; heights = sent_by_span s rows kind }
+
+abbrev pub lost_layer : Setup → List Row → What → Layer
+lost_layer s rows kind = record { class = codes "lost"; heights = lost_by_span s rows kind }
+
+-- how many messages of the version's kinds were sent, and how many of them were lost, as far as 64 bits hold it
+abbrev pub sent : Setup → List Row → ℕ
+sent s rows = min (sum_by (λ kind. count_of kind rows) (message_kinds s.version)) (2 ^ 64 - 1)
+
+abbrev pub lost : Setup → List Row → ℕ
+lost s rows = min (sum_by (λ kind. losses_of kind rows) (message_kinds s.version)) (2 ^ 64 - 1)
+
+-- messages a member and 1,000 ticks, in hundredths
+abbrev pub hundredths : Setup → ℕ → ℕ
+hundredths s sent = sent * 100000 / max (max s.end 1 * member_count s) 1
+
+-- a number of hundredths with two places
+unfoldable pub two_places : ℕ → List ℕ
+two_places n = decimal (n / 100) ++ codes "." ++ decimal (n / 10 % 10) ++ decimal (n % 10)
+
+-- how many messages there were
+unfoldable pub rate_words : Setup → ℕ → ℕ → List ℕ
+rate_words s sent lost =
+    codes "<p class=\"soft\">" ++ grouped sent ++ codes " were sent and " ++ grouped lost ++ codes " of them lost: "
+    ++ two_places (hundredths s sent) ++ codes " a member and 1,000 ticks.</p>"
+
+-- a kind's entry of the legend, where there are some of it
+abbrev pub kind_entry : List Row → What → List ℕ
+kind_entry rows kind = if nat_lt 0 (count_of kind rows) then counted_entry (class_of kind) (word_of kind) (count_of kind rows) else []
+
+-- the entry of what was lost, where some was
+abbrev pub lost_entry : ℕ → List ℕ
+lost_entry lost = if nat_lt 0 lost then entry (codes "lost") (codes "lost, of all kinds") else []
+
+-- the legend
+unfoldable pub kinds_legend : Setup → List Row → ℕ → List ℕ
+kinds_legend s rows lost =
+    codes "<ul class=\"legend\">" ++ flat_map (kind_entry rows) (message_kinds s.version)
+    ++ lost_entry lost ++ codes "</ul>"
+
+-- how high each span is drawn of all that was sent, and of all that was lost
+abbrev pub sent_tops : Setup → List Row → List ℕ
+sent_tops s rows = tops (2 ^ 64 - 1) (flat (span_count s)) (map (sent_layer s rows) (message_kinds s.version))
+
+abbrev pub lost_tops : Setup → List Row → List ℕ
+lost_tops s rows = tops (2 ^ 64 - 1) (flat (span_count s)) (map (lost_layer s rows) (message_kinds s.version))
+
+-- how long a span is, behind some words
+unfoldable pub width_words : List ℕ → ℕ → List ℕ
+width_words words width = words ++ decimal width ++ codes " ticks.</p>"
+
+-- an area for each kind, each on those before it
+abbrev pub sent_areas : Setup → List Row → ℕ → List ℕ
+sent_areas s rows most = layers s most (flat (span_count s)) (map (sent_layer s rows) (message_kinds s.version))
+
+-- the messages that were sent, in a plot of that height
+unfoldable pub sent_plot : Setup → List Row → ℕ → List ℕ
+sent_plot s rows most =
+    codes "<div class=\"chart\">" ++ axis_up most
+    ++ plot_opening (codes "") (moments s) most (codes "Messages sent") (codes "How many messages of each kind were sent in each span of time.")
+    ++ sent_areas s rows most ++ plot_end ++ time_axis s ++ width_words (codes "</div><p class=\"soft\">Sent in each span of ") (span_width s)
+
+-- the area of so many in each span that were lost
+unfoldable pub lost_area : Setup → List ℕ → ℕ → List ℕ
+lost_area s counts most = area (codes "lost") (flat (span_count s)) counts (span_width s) (moments s) most
+
+-- the messages that were lost, so many in each span, in a plot of that height
+unfoldable pub lost_plot : Setup → List ℕ → ℕ → List ℕ
+lost_plot s counts most =
+    codes "<div class=\"chart low\">" ++ axis_up most
+    ++ plot_opening (codes "") (moments s) most (codes "Messages lost") (codes "How many messages were lost in each span of time.")
+    ++ lost_area s counts most ++ plot_end
+    ++ time_axis s ++ width_words (codes "</div><p class=\"soft\">Lost in each span of ") (span_width s)
+
+-- the same, where some were lost
+abbrev pub lost_part : Setup → List ℕ → List ℕ
+lost_part s counts = if nat_eq (greatest counts) 0 then [] else lost_plot s counts (axis_height (greatest counts))
+
+-- the heads of a kind's columns
+abbrev pub column : What → List ℕ
+column kind = codes "<th>" ++ word_of kind ++ codes "<th>lost"
+
+-- the heads of all columns
+unfoldable pub columns : List What → List ℕ
+columns kinds = codes "<table><tr><th>from moment" ++ flat_map column kinds ++ codes "</tr>\n"
+
+-- the first cell of the row of a span
+abbrev pub from_cell : Setup → ℕ → List ℕ
+from_cell s span = codes "<tr><td>" ++ decimal (span * span_width s)
+
+-- the cells of a kind in a span
+abbrev pub cells : Setup → List Row → ℕ → What → List ℕ
+cells s rows span kind = codes "<td>" ++ decimal (count_by (sends_in s kind span) rows) ++ codes "<td>" ++ decimal (count_by (loses_in s kind span) rows)
+
+-- the row of a span
+unfoldable pub span_cells : Setup → List Row → ℕ → List ℕ
+span_cells s rows span = from_cell s span ++ flat_map (cells s rows span) (message_kinds s.version)
+
+-- the messages as a table
+unfoldable pub traffic_table : Setup → List Row → List ℕ
+traffic_table s rows =
+    codes "<details><summary>The messages as a table</summary><div class=\"wide\">" ++ columns (message_kinds s.version)
+    ++ flat_map (span_cells s rows) (range_with_len 0 (span_count s)) ++ codes "</table></div></details>"
+
+-- plots and table, where something was sent
+unfoldable pub traffic_body : Setup → List Row → ℕ → List ℕ
+traffic_body s rows most =
+    if nat_lt 0 most then sent_plot s rows (axis_height most) ++ lost_part s (lost_tops s rows) ++ traffic_table s rows else []
+
+-- the figure
+unfoldable pub traffic_text : Setup → List Row → List ℕ
+traffic_text s rows =
+    figure_opening (codes "traffic") (codes "Messages") ++ rate_words s (sent s rows) (lost s rows) ++ kinds_legend s rows (lost s rows)
+    ++ traffic_body s rows (greatest (sent_tops s rows)) ++ figure_end

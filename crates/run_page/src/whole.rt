@@ -1,0 +1,119 @@
+ghost use Rattle.std.specs.Prelude.{◌≡◌, ◌<◌, ◌++◌, List, IfOk, OnOk, All};
+ghost use Rattle.std.specs.String.{string_bytes};
+ghost use Rattle.std.specs.List.Sorted.{IsPermutation, IsSorted};
+ghost use Rattle.scenario.specs.Setup.{member_count};
+ghost use Rattle.run_lanes.specs.declared.chosen.Chosen.{Chosen as AChosen};
+ghost use Rattle.run_lanes.specs.Run.{IsTold};
+ghost use Rattle.run_lanes.specs.Choice.{choices};
+ghost use Rattle.run_page.specs.Page.{head_opening, head_end, head_text, page_front, page_back, page_text};
+
+use crate::health::push_health;
+use crate::layout::layout_style;
+use crate::traffic::push_traffic;
+use base::Memory;
+use drawing::{drawing_style, push_escaped};
+use run_lanes::{Chosen, Run, all_chosen, push_lanes, push_thrown_out};
+use run_settings::push_settings;
+use run_spread::push_spread;
+use run_summary::push_summary;
+use std::alloc::{AllocError, Global};
+
+/// The page of a run, whole. It fails where memory is refused, and then there is none.
+pub fn page(alloc: Global, run: &Run) -> Result<String, Memory>
+    requires { IsTold run.now }
+    ensures { IfOk result (λ text. (all : List AChosen)
+        × IsPermutation (choices run.now.scenario.now run.now.tallies.now) all × IsSorted ⟦<Chosen as Ord>⟧.cmp all
+        × (string_bytes text ≡ page_text run.now.name.now run.now.scenario.now run.now.tallies.now all run.now.release.now)) }
+{
+    let all = all_chosen(alloc, run)?;
+    whole(alloc, run, all.as_slice())
+}
+
+/// The page of a run, where these are all members with a lane in their order.
+fn whole(alloc: Global, run: &Run, all: &[Chosen]) -> Result<String, Memory>
+    requires told { IsTold run.now }
+    requires within { All (λ lane. lane.member < member_count run.now.scenario.now) all.now }
+    ensures { IfOk result (λ text. string_bytes text
+        ≡ page_text run.now.name.now run.now.scenario.now run.now.tallies.now all.now run.now.release.now) }
+{
+    let mut text = String::new(alloc);
+    push_page(alloc, &mut text, run, all)?;
+    Ok(text)
+}
+
+/// Appends the page.
+#[tactic(auto, unfolding(crate::specs::Page::page_text))]
+fn push_page(alloc: Global, text: &mut String, run: &Run, all: &[Chosen]) -> Result<(), Memory>
+    requires told { IsTold run.now }
+    requires within { All (λ lane. lane.member < member_count run.now.scenario.now) all.now }
+    ensures { OnOk result (string_bytes text.new ≡ string_bytes text.old
+        ++ page_text run.now.name.now run.now.scenario.now run.now.tallies.now all.now run.now.release.now) }
+{
+    push_head(text, run.name)?;
+    push_front(alloc, text, run, all)?;
+    push_back(alloc, text, run)?;
+    Ok(())
+}
+
+/// Appends what happened, the lanes and the table of those that were thrown out.
+#[tactic(auto, unfolding(crate::specs::Page::page_front))]
+fn push_front(alloc: Global, text: &mut String, run: &Run, all: &[Chosen]) -> Result<(), Memory>
+    requires told { IsTold run.now }
+    requires within { All (λ lane. lane.member < member_count run.now.scenario.now) all.now }
+    ensures { OnOk result (string_bytes text.new ≡ string_bytes text.old ++ page_front run.now.scenario.now run.now.tallies.now all.now) }
+{
+    push_summary(alloc, text, run)?;
+    push_lanes(alloc, text, run, all)?;
+    push_thrown_out(text, run, all)?;
+    Ok(())
+}
+
+/// Appends how the news of crashes spread, the messages, the members' health and what was run.
+#[tactic(auto, unfolding(crate::specs::Page::page_back))]
+fn push_back(alloc: Global, text: &mut String, run: &Run) -> Result<(), Memory>
+    requires { IsTold run.now }
+    ensures { OnOk result (string_bytes text.new ≡ string_bytes text.old ++ page_back run.now.scenario.now run.now.tallies.now run.now.release.now) }
+{
+    push_spread(alloc, text, run)?;
+    push_traffic(alloc, text, run)?;
+    push_health(alloc, text, run)?;
+    push_settings(text, run.scenario, run.release)?;
+    text.push_str("</main></body></html>\n")?;
+    Ok(())
+}
+
+/// Appends what stands before the figures.
+#[tactic(auto, unfolding(crate::specs::Page::head_text))]
+fn push_head(text: &mut String, name: &str) -> Result<(), AllocError>
+    ensures { OnOk result (string_bytes text.new ≡ string_bytes text.old ++ head_text name.now) }
+{
+    open_head(text, name)?;
+    text.push_str(drawing_style())?;
+    text.push_str(layout_style())?;
+    close_head(text, name)?;
+    Ok(())
+}
+
+/// Appends the page's head up to its style.
+#[tactic(auto, unfolding(crate::specs::Page::head_opening))]
+fn open_head(text: &mut String, name: &str) -> Result<(), AllocError>
+    ensures { OnOk result (string_bytes text.new ≡ string_bytes text.old ++ head_opening name.now) }
+{
+    text.push_str(
+        "<!DOCTYPE html>\n<html lang=\"en\"><head><meta charset=\"utf-8\"><meta name=\"viewport\" content=\"width=device-width,initial-scale=1\"><title>",
+    )?;
+    push_escaped(text, name)?;
+    text.push_str(" - swimsim</title><style>")?;
+    Ok(())
+}
+
+/// Appends the end of the head, and the heading.
+#[tactic(auto, unfolding(crate::specs::Page::head_end))]
+fn close_head(text: &mut String, name: &str) -> Result<(), AllocError>
+    ensures { OnOk result (string_bytes text.new ≡ string_bytes text.old ++ head_end name.now) }
+{
+    text.push_str("</style></head>\n<body><main><header><h1>")?;
+    push_escaped(text, name)?;
+    text.push_str("</h1></header>\n")?;
+    Ok(())
+}

@@ -1,0 +1,336 @@
+//! What was run.
+ghost use Rattle.std.specs.Prelude.{◌≡◌, ◌++◌, OnOk, flat_map, map};
+ghost use Rattle.std.specs.String.{string_bytes};
+ghost use Rattle.schema.specs.Schema.{spelling_of};
+ghost use Rattle.scenario.specs.SetupOf.{group_of};
+ghost use Rattle.run_settings.specs.Settings.{chip_opening, is_changed, chip, switch, default_of, is_switched, entry_of, key_entry, section_entries, gossip_entries, third_entries, group_entry, start_words, group_name, path_entry, is_other_link, link_words, version_number, top_entries, entries, settings_text};
+
+use crate::values::{switch_of, value_of};
+use drawing::{close_figure, open_figure, push_escaped, push_grouped};
+use scenario::{Group, Link, Path, Scenario, Version};
+use schema::{Absence, KeyRule, Section};
+use std::alloc::AllocError;
+
+/// Appends what was run: a scenario, by a release of the program. What isn't the default stands out.
+#[tactic(auto, unfolding(crate::specs::Settings::settings_text))]
+pub fn push_settings(
+    text: &mut String,
+    scenario: &Scenario,
+    release: &str,
+) -> Result<(), AllocError>
+    ensures { OnOk result (string_bytes text.new ≡ string_bytes text.old ++ settings_text scenario.now release.now) }
+{
+    open_figure(text, "settings", "What was run")?;
+    text.push_str("<p class=\"soft\">What isn't the default is in bold.</p><ul class=\"keys\">")?;
+    push_entries(text, scenario)?;
+    text.push_str("</ul><p class=\"soft\">swimsim ")?;
+    push_escaped(text, release)?;
+    text.push_str("</p>")?;
+    close_figure(text)?;
+    Ok(())
+}
+
+/// Appends the keys of all tables, groups and paths.
+#[tactic(auto, unfolding(crate::specs::Settings::entries))]
+fn push_entries(text: &mut String, scenario: &Scenario) -> Result<(), AllocError>
+    ensures { OnOk result (string_bytes text.new ≡ string_bytes text.old ++ entries scenario.now) }
+{
+    push_top(text, scenario)?;
+    push_section(text, scenario, "swim.", Section::Swim)?;
+    push_section(text, scenario, "suspicion.", Section::Suspicion)?;
+    push_section(text, scenario, "lifeguard.", Section::Lifeguard)?;
+    push_section(text, scenario, "link.", Section::Link)?;
+    push_third(text, scenario)?;
+    push_groups(text, scenario.groups())?;
+    push_paths(text, scenario, scenario.paths())
+}
+
+/// Appends the keys that stand above all tables.
+#[tactic(auto, unfolding(crate::specs::Settings::top_entries))]
+fn push_top(text: &mut String, scenario: &Scenario) -> Result<(), AllocError>
+    ensures { OnOk result (string_bytes text.new ≡ string_bytes text.old ++ top_entries scenario.now) }
+{
+    let version = version_number(scenario.version());
+    push_chip(text, "", "version", version, None)?;
+    push_chip(text, "", "seed", scenario.seed(), None)?;
+    push_chip(text, "", "end", scenario.end().ticks(), None)
+}
+
+/// The number of a version, as a scenario's text has it.
+fn version_number(version: Version) -> u64
+    ensures { result ≡ version_number version }
+{
+    match version {
+        Version::One => 1,
+        Version::Two => 2,
+        Version::Three => 3,
+    }
+}
+
+/// Appends the keys of the tables that only version 3 has.
+fn push_third(text: &mut String, scenario: &Scenario) -> Result<(), AllocError>
+    ensures { OnOk result (string_bytes text.new ≡ string_bytes text.old ++ third_entries scenario.now scenario.now.version) }
+{
+    match scenario.version() {
+        Version::One | Version::Two => Ok(()),
+        Version::Three => {
+            push_gossip(text, scenario)?;
+            push_section(text, scenario, "stream.", Section::Stream)
+        }
+    }
+}
+
+/// Appends the keys of how members gossip, where they do.
+fn push_gossip(text: &mut String, scenario: &Scenario) -> Result<(), AllocError>
+    ensures { OnOk result (string_bytes text.new ≡ string_bytes text.old ++ gossip_entries scenario.now scenario.now.gossip) }
+{
+    match scenario.gossip() {
+        Some(_) => push_section(text, scenario, "gossip.", Section::Gossip),
+        None => Ok(()),
+    }
+}
+
+/// Appends the keys of a table.
+fn push_section(
+    text: &mut String,
+    scenario: &Scenario,
+    prefix: &str,
+    section: Section,
+) -> Result<(), AllocError>
+    ensures { OnOk result (string_bytes text.new ≡ string_bytes text.old ++ section_entries scenario.now prefix.now section) }
+{
+    push_rules(
+        text,
+        scenario,
+        prefix,
+        section,
+        section.rows(scenario.version()),
+    )
+}
+
+/// Appends the keys of these rules of a table.
+fn push_rules(
+    text: &mut String,
+    scenario: &Scenario,
+    prefix: &str,
+    section: Section,
+    rules: &[KeyRule],
+) -> Result<(), AllocError>
+    ensures { OnOk result (string_bytes text.new ≡ string_bytes text.old ++ flat_map (key_entry scenario.now prefix.now section) rules.now) }
+{
+    for rule in rules {
+        push_key(text, scenario, prefix, section, rule)?;
+    }
+    Ok(())
+}
+
+/// Appends a key and its value.
+fn push_key(
+    text: &mut String,
+    scenario: &Scenario,
+    prefix: &str,
+    section: Section,
+    rule: &KeyRule,
+) -> Result<(), AllocError>
+    ensures { OnOk result (string_bytes text.new ≡ string_bytes text.old ++ key_entry scenario.now prefix.now section rule.now) }
+{
+    push_entry(
+        text,
+        value_of(scenario, section, rule.key),
+        switch_of(scenario, rule.key),
+        prefix,
+        rule,
+    )
+}
+
+/// Appends a key, where it has a number or is a switch.
+fn push_entry(
+    text: &mut String,
+    number: Option<u64>,
+    is_on: Option<bool>,
+    prefix: &str,
+    rule: &KeyRule,
+) -> Result<(), AllocError>
+    ensures { OnOk result (string_bytes text.new ≡ string_bytes text.old ++ entry_of number is_on prefix.now rule.now) }
+{
+    if let Some(number) = number {
+        let usual = default_of(rule.absence);
+        return push_chip(text, prefix, rule.key.text(), number, usual);
+    }
+    if let Some(is_on) = is_on {
+        let is_changed = is_switched(is_on, rule.absence);
+        return push_switch(text, prefix, rule.key.text(), is_on, is_changed);
+    }
+    Ok(())
+}
+
+/// The value that holds where a key is missing, if there is one.
+fn default_of(absence: Absence) -> Option<u64>
+    ensures { result ≡ default_of absence }
+{
+    match absence {
+        Absence::Default(number) => Some(number),
+        _ => None,
+    }
+}
+
+/// Whether a switch isn't as where its key is missing.
+fn is_switched(is_on: bool, absence: Absence) -> bool
+    ensures { result ≡ is_switched is_on absence }
+{
+    match absence {
+        Absence::Off => is_on,
+        _ => !is_on,
+    }
+}
+
+/// Begins an entry; one that isn't as where its key is missing stands out.
+fn push_opening(text: &mut String, is_changed: bool) -> Result<(), AllocError>
+    ensures { OnOk result (string_bytes text.new ≡ string_bytes text.old ++ chip_opening is_changed) }
+{
+    if is_changed {
+        text.push_str("<li class=\"changed\">")
+    } else {
+        text.push_str("<li>")
+    }
+}
+
+/// Whether a number isn't the default.
+fn is_changed(number: u64, default: Option<u64>) -> bool
+    ensures { result ≡ is_changed number default }
+{
+    match default {
+        Some(usual) => usual != number,
+        None => false,
+    }
+}
+
+/// Appends a key and its number; one that isn't the default stands out.
+#[tactic(auto, unfolding(crate::specs::Settings::chip))]
+fn push_chip(
+    text: &mut String,
+    prefix: &str,
+    key: &str,
+    number: u64,
+    default: Option<u64>,
+) -> Result<(), AllocError>
+    ensures { OnOk result (string_bytes text.new ≡ string_bytes text.old ++ chip prefix.now key.now number default) }
+{
+    push_opening(text, is_changed(number, default))?;
+    text.push_str(prefix)?;
+    text.push_str(key)?;
+    text.push_str(" ")?;
+    push_grouped(text, number)?;
+    text.push_str("</li>")
+}
+
+/// Appends a switch; one that isn't as where its key is missing stands out.
+#[tactic(auto, unfolding(crate::specs::Settings::switch))]
+fn push_switch(
+    text: &mut String,
+    prefix: &str,
+    key: &str,
+    is_on: bool,
+    is_changed: bool,
+) -> Result<(), AllocError>
+    ensures { OnOk result (string_bytes text.new ≡ string_bytes text.old ++ switch prefix.now key.now is_on is_changed) }
+{
+    push_opening(text, is_changed)?;
+    text.push_str(prefix)?;
+    text.push_str(key)?;
+    if is_on {
+        text.push_str(" on</li>")
+    } else {
+        text.push_str(" off</li>")
+    }
+}
+
+/// Appends these groups.
+fn push_groups(text: &mut String, groups: &[Group]) -> Result<(), AllocError>
+    ensures { OnOk result (string_bytes text.new ≡ string_bytes text.old ++ flat_map group_entry (map group_of groups.now)) }
+{
+    for group in groups {
+        push_group(text, group)?;
+    }
+    Ok(())
+}
+
+/// Appends a group; one whose members start later than at 0 stands out.
+#[tactic(auto, unfolding(crate::specs::Settings::group_entry))]
+fn push_group(text: &mut String, group: &Group) -> Result<(), AllocError>
+    ensures { OnOk result (string_bytes text.new ≡ string_bytes text.old ++ group_entry (group_of group.now)) }
+{
+    let start = group.start.ticks();
+    push_opening(text, start > 0)?;
+    text.push_str("group ")?;
+    push_escaped(text, group.name.as_str())?;
+    text.push_str(": count ")?;
+    push_grouped(text, group.count)?;
+    push_start(text, start)?;
+    text.push_str("</li>")
+}
+
+/// Appends when the members of a group start, where that is later than at 0.
+fn push_start(text: &mut String, at: u64) -> Result<(), AllocError>
+    ensures { OnOk result (string_bytes text.new ≡ string_bytes text.old ++ start_words at) }
+{
+    if at > 0 {
+        text.push_str(", start ")?;
+        return push_grouped(text, at);
+    }
+    Ok(())
+}
+
+/// Appends these paths.
+fn push_paths(text: &mut String, scenario: &Scenario, paths: &[Path]) -> Result<(), AllocError>
+    ensures { OnOk result (string_bytes text.new ≡ string_bytes text.old ++ flat_map (path_entry scenario.now) paths.now) }
+{
+    for path in paths {
+        push_path(text, scenario, path)?;
+    }
+    Ok(())
+}
+
+/// Appends a path; one whose link isn't that of all pairs stands out.
+#[tactic(auto, unfolding(crate::specs::Settings::path_entry))]
+fn push_path(text: &mut String, scenario: &Scenario, path: &Path) -> Result<(), AllocError>
+    ensures { OnOk result (string_bytes text.new ≡ string_bytes text.old ++ path_entry scenario.now path.now) }
+{
+    push_opening(text, is_other_link(path.link, scenario.link()))?;
+    text.push_str("path ")?;
+    push_escaped(text, group_name(scenario.groups(), path.from))?;
+    text.push_str(" to ")?;
+    push_escaped(text, group_name(scenario.groups(), path.to))?;
+    push_link(text, path.link)
+}
+
+/// The name of the group of a number.
+fn group_name(groups: &[Group], number: usize) -> &str
+    ensures { result.now ≡ group_name (map group_of groups.now) number }
+{
+    match groups.get(number) {
+        Some(group) => group.name.as_str(),
+        None => "",
+    }
+}
+
+/// Whether a link isn't that of all pairs.
+fn is_other_link(link: Link, usual: Link) -> bool
+    ensures { result ≡ is_other_link link usual }
+{
+    !(link.delay == usual.delay && link.jitter == usual.jitter && link.loss == usual.loss)
+}
+
+/// Appends the numbers of a link.
+#[tactic(auto, unfolding(crate::specs::Settings::link_words))]
+fn push_link(text: &mut String, link: Link) -> Result<(), AllocError>
+    ensures { OnOk result (string_bytes text.new ≡ string_bytes text.old ++ link_words link) }
+{
+    text.push_str(": delay ")?;
+    push_grouped(text, link.delay)?;
+    text.push_str(", jitter ")?;
+    push_grouped(text, link.jitter)?;
+    text.push_str(", loss ")?;
+    push_grouped(text, link.loss)?;
+    text.push_str("</li>")
+}

@@ -1,0 +1,7 @@
+use Rattle.std.proofs.Common.{append_assoc, refl}
+use Rattle.run_spread.specs.Spread.{share_table}
+use Rattle.run_spread.proofs.spread.push_shares.Goals as goal
+
+pub returns : goal.returns
+unfolding share_table
+returns c = simp (c.in_ok-push_str-3.ensures.bytes, c.in_ok-push_row-2.ensures, c.in_ok-push_row.ensures, c.in_ok-push_str-2.ensures.bytes, c.in_ok-push_str.ensures.bytes, append_assoc) refl

@@ -1,0 +1,152 @@
+-- How the news of crashes spread: for each crash that is watched, how many of those who stay had suspected the member, and
+-- how many held it dead, by the time since it crashed.
+use Rattle.std.specs.Prelude.{ℕ, Bool, ◌+◌, ◌-◌, ◌/◌, ◌&&◌, not, nat_lt, nat_le, nat_eq, if◌then◌else◌, Option, Some, None, List, [], ◌++◌, codes, decimal, map, flat_map, filter_map, count_by, max, option_map, unwrap_or, slice_index_or}
+use Rattle.std.specs.List.{range_with_len, fold}
+use Rattle.std.specs.Option.{is_some, option_map_or}
+use Rattle.scenario.specs.Setup.{Setup, member_count, name_of, leave_of}
+use Rattle.trace.specs.declared.row.What.{What}
+use Rattle.trace.specs.declared.row.What.TheVariants as what
+use Rattle.trace.specs.declared.row.Row.{Row}
+use Rattle.figures.specs.Cases.{rank, at_rank}
+use Rattle.series.specs.Watched.{at_by, crashes, crashed, watched}
+use Rattle.series.specs.Stories.{first_said}
+use Rattle.drawing.specs.Axes.{axis_up, axis_across}
+use Rattle.drawing.specs.Escaped.{escaped}
+use Rattle.drawing.specs.Legends.{entry}
+use Rattle.drawing.specs.Numbers.{grouped}
+use Rattle.drawing.specs.Shapes.{figure_opening, figure_end, plot_opening, plot_end, line, step_start}
+use Rattle.run_lanes.specs.Heights.{axis_height}
+use Rattle.run_spread.specs.declared.news.ShareTimes.{ShareTimes}
+
+-- ---- when members learned of a crash
+
+-- how long after a moment a member first told this of a subject, if it did
+abbrev pub told_after : List Row → What → ℕ → ℕ → ℕ → Option ℕ
+told_after rows kind subject from member = option_map (λ at. at - from) (first_said kind subject from member rows)
+
+-- the same, where at each member's number stands when it first did
+abbrev pub learned : List (Option ℕ) → ℕ → ℕ → Option ℕ
+learned moments from member = option_map (λ at. at - from) (slice_index_or moments member None)
+
+-- the member stays: it neither crashes nor leaves by the end
+abbrev pub stays : Setup → ℕ → Bool
+stays s member = not (crashes s member) && not (is_some (at_by s.end (leave_of s member)))
+
+-- how many stay
+abbrev pub staying : Setup → ℕ
+staying s = count_by (stays s) (range_with_len 0 (member_count s))
+
+-- when those who stay learned of something, where it is known of each member whether and when it did
+abbrev pub time_of_one : Setup → (ℕ → Option ℕ) → ℕ → Option ℕ
+time_of_one s learned member = if stays s member then learned member else None
+
+abbrev pub times : Setup → (ℕ → Option ℕ) → List ℕ
+times s learned = filter_map (time_of_one s learned) (range_with_len 0 (member_count s))
+
+-- the greatest of a number of each member
+abbrev pub greatest_of_all : Setup → (ℕ → ℕ) → ℕ
+greatest_of_all s number = fold (λ most member. max most (number member)) 0 (range_with_len 0 (member_count s))
+
+-- how long it took until the last member learned of something, 0 where none did
+abbrev pub last_learned : Setup → (ℕ → Option ℕ) → ℕ
+last_learned s learned = greatest_of_all s (λ member. unwrap_or (learned member) 0)
+
+-- how long after a member's crash the last other one suspected it or held it dead, where the crash is watched
+abbrev pub last_told : Setup → List Row → ℕ → ℕ → ℕ
+last_told s rows subject from = max (last_learned s (told_after rows what.Suspect subject from)) (last_learned s (told_after rows what.Confirm subject from))
+
+abbrev pub last_of : Setup → List Row → ℕ → ℕ
+last_of s rows subject = option_map_or (last_told s rows subject) (watched s subject) 0
+
+-- the same of all crashes that are watched
+abbrev pub longest : Setup → List Row → ℕ
+longest s rows = greatest_of_all s (last_of s rows)
+
+-- ---- what is shown of these times
+
+-- how many of these times have come by the end of each of 120 steps
+abbrev pub come_by : List ℕ → ℕ → ℕ → ℕ
+come_by times step place = count_by (λ time. nat_lt time (step_start step (place + 1))) times
+
+unfoldable pub reached : List ℕ → ℕ → List ℕ
+reached times step = map (come_by times step) (range_with_len 0 120)
+
+-- by which of these times so many percent of so many members have learned of it, and by which the first one has
+abbrev pub shares : ℕ → List ℕ → ShareTimes
+shares staying times =
+    record {
+      first = at_rank 1 times;
+      half = at_rank (rank 50 staying) times;
+      nine_tenths = at_rank (rank 90 staying) times;
+      nearly_all = at_rank (rank 99 staying) times;
+      all = at_rank (rank 100 staying) times;
+    }
+
+-- ---- the figure
+
+-- a plot begins, so wide and so high
+unfoldable pub chart_opening : List ℕ → ℕ → ℕ → List ℕ
+chart_opening name width most =
+    codes "<div class=\"chart\">" ++ axis_up most
+    ++ plot_opening (codes "") width most name (codes "How many members had suspected it, and how many held it dead, by the time since its crash.")
+
+-- how many had suspected the member, and how many held it dead, by the end of each step, in such a plot
+unfoldable pub spread_chart : List ℕ → ℕ → ℕ → ℕ → List ℕ → List ℕ → List ℕ
+spread_chart name width most step suspected dead =
+    chart_opening name width most ++ line (codes "suspect") suspected step most ++ line (codes "dead") dead step most
+    ++ plot_end ++ axis_across width (codes "ticks since the crash") ++ codes "</div>"
+
+-- a time, a dash where there is none
+abbrev pub time_cell : Option ℕ → List ℕ
+time_cell (Some time) = codes "<td>" ++ grouped time
+time_cell None = codes "<td>" ++ codes "-"
+
+-- the times of shares, behind some words
+unfoldable pub share_cells : ShareTimes → List ℕ
+share_cells shares = time_cell shares.first ++ time_cell shares.half ++ time_cell shares.nine_tenths ++ time_cell shares.nearly_all ++ time_cell shares.all
+
+unfoldable pub share_row : List ℕ → ShareTimes → List ℕ
+share_row words shares = codes "<tr><td>" ++ words ++ share_cells shares
+
+-- after which times shares of those who stay had suspected the member, and held it dead
+unfoldable pub share_table : ShareTimes → ShareTimes → List ℕ
+share_table suspected dead =
+    codes "<div class=\"wide\"><table><tr><th>of those up<th>first" ++ codes "<th>50 %<th>90 %<th>99 %<th>all</tr>"
+    ++ share_row (codes "suspected it after") suspected ++ share_row (codes "held it dead after") dead ++ codes "</table></div>"
+
+-- what is shown of the crash of a member of that name, where so many stay
+unfoldable pub crash_part : List ℕ → ℕ → ℕ → List ℕ → ShareTimes → List ℕ → ShareTimes → List ℕ
+crash_part name staying step suspected suspecting dead confirming =
+    codes "<div><h3>" ++ escaped name ++ codes "</h3>"
+    ++ spread_chart name (axis_height (step_start step 120)) (axis_height staying) step suspected dead
+    ++ share_table suspecting confirming ++ codes "</div>\n"
+
+-- the same by when members suspected it and when they held it dead
+abbrev pub crash_text : Setup → List ℕ → ℕ → (ℕ → Option ℕ) → (ℕ → Option ℕ) → List ℕ
+crash_text s name step suspected dead =
+    crash_part name (staying s) step (reached (times s suspected) step) (shares (staying s) (times s suspected)) (reached (times s dead) step) (shares (staying s) (times s dead))
+
+-- what is shown of a member that crashes at a moment, and of any member: nothing where its crash isn't watched
+abbrev pub told_crash : Setup → List Row → ℕ → ℕ → ℕ → List ℕ
+told_crash s rows step member from = crash_text s (name_of s member) step (told_after rows what.Suspect member from) (told_after rows what.Confirm member from)
+
+abbrev pub watched_crash : Setup → List Row → ℕ → ℕ → List ℕ
+watched_crash s rows step member = option_map_or (told_crash s rows step member) (watched s member) []
+
+-- what the colours stand for
+unfoldable pub spread_legend : List ℕ
+spread_legend = codes "<ul class=\"legend\">" ++ entry (codes "suspect") (codes "have suspected it") ++ entry (codes "dead") (codes "hold it dead") ++ codes "</ul>"
+
+-- how many crashes aren't watched, where there are more than 12
+unfoldable pub unwatched_words : ℕ → List ℕ
+unwatched_words crashed = if nat_le crashed 12 then [] else codes "<p class=\"soft\">" ++ decimal (crashed - 12) ++ codes " more crashed; these are the first 12 by number.</p>"
+
+-- the figure, in steps so long
+unfoldable pub spread_figure : Setup → List Row → ℕ → List ℕ
+spread_figure s rows step =
+    figure_opening (codes "spread") (codes "How the news of a crash spread") ++ spread_legend ++ unwatched_words (crashed s (member_count s))
+    ++ codes "<div class=\"many\">" ++ flat_map (watched_crash s rows step) (range_with_len 0 (member_count s)) ++ codes "</div>" ++ figure_end
+
+-- the same, where somebody learned of a crash that is watched: 120 steps hold the longest time
+abbrev pub spread_text : Setup → List Row → List ℕ
+spread_text s rows = if nat_eq (longest s rows) 0 then [] else spread_figure s rows (longest s rows / 120 + 1)

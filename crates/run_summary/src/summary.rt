@@ -1,0 +1,313 @@
+//! What happened, in a few words.
+ghost use Rattle.std.specs.Prelude.{◌≡◌, ◌++◌, ℕ, OnOk, IfOk, nat_lt, codes, length, count_by, min, max};
+ghost use Rattle.std.specs.String.{string_bytes};
+ghost use Rattle.std.specs.List.{reduce};
+ghost use Rattle.scenario.specs.Setup.{member_count};
+ghost use Rattle.reports.specs.Departures.{crashes_of, latencies_of};
+ghost use Rattle.drawing.specs.Numbers.{grouped};
+ghost use Rattle.run_lanes.specs.Run.{IsTold};
+ghost use Rattle.run_lanes.specs.Wrongly.{count_out};
+ghost use Rattle.run_summary.specs.Summary.{size_words, crashed_words, found_words, greatest_words, between_words, latency_words, is_found, crash_words, out_words, figure_start, figure, out_class, back_figure, first_figures, last_figures, last_figures_of, figures, summary_of, summary_text};
+
+use base::Memory;
+use drawing::push_grouped;
+use reports::{Departure, Tallies, false_positive_count};
+use run_lanes::{Run, claims_by_member};
+use scenario::Version;
+use std::alloc::{AllocError, Global};
+use trace::What;
+
+/// Appends what happened.
+pub fn push_summary(alloc: Global, text: &mut String, run: &Run) -> Result<(), Memory>
+    requires { IsTold run.now }
+    ensures { OnOk result (string_bytes text.new ≡ string_bytes text.old ++ summary_text run.now.scenario.now run.now.tallies.now) }
+{
+    let out = members_out(alloc, run)?;
+    push_all(text, run, out)?;
+    Ok(())
+}
+
+/// How many members were thrown out though they were up.
+fn members_out(alloc: Global, run: &Run) -> Result<u64, Memory>
+    requires { IsTold run.now }
+    ensures { IfOk result (λ out. out ≡ count_out (member_count run.now.scenario.now) run.now.tallies.now) }
+{
+    let claims = run.tallies.false_positives(What::Confirm);
+    let wrongly = claims_by_member(alloc, claims, run.members())?;
+    Ok(count_some(wrongly.as_slice()))
+}
+
+/// How many of these numbers are over 0.
+fn count_some(numbers: &[u64]) -> u64
+    ensures { result ≡ count_by (λ number. nat_lt 0 number) numbers.now }
+{
+    numbers.iter().filter(|number| **number > 0).count() as u64
+}
+
+/// Appends what happened, where so many were thrown out.
+#[tactic(auto, unfolding(crate::specs::Summary::summary_of))]
+fn push_all(text: &mut String, run: &Run, out: u64) -> Result<(), AllocError>
+    requires { IsTold run.now }
+    ensures { OnOk result (string_bytes text.new ≡ string_bytes text.old ++ summary_of run.now.scenario.now out run.now.tallies.now) }
+{
+    text.push_str("<p class=\"lead\">")?;
+    push_size(text, run)?;
+    push_crashes(text, run.tallies.crashes())?;
+    push_out(text, out)?;
+    text.push_str("</p><ul class=\"figures\">")?;
+    push_figures(text, run.scenario.version(), run.tallies, out)?;
+    text.push_str("</ul>\n")?;
+    Ok(())
+}
+
+/// Appends how large the cluster is and how long it ran.
+#[tactic(auto, unfolding(crate::specs::Summary::size_words))]
+fn push_size(text: &mut String, run: &Run) -> Result<(), AllocError>
+    requires { IsTold run.now }
+    ensures { OnOk result (string_bytes text.new ≡ string_bytes text.old ++ size_words run.now.scenario.now) }
+{
+    push_grouped(text, run.members() as u64)?;
+    text.push_str(" members, ")?;
+    push_grouped(text, run.end())?;
+    text.push_str(" ticks. ")
+}
+
+/// Appends how many crashed, and how soon they were found.
+#[tactic(auto, unfolding(crate::specs::Summary::crash_words))]
+fn push_crashes(text: &mut String, crashes: &[Departure]) -> Result<(), AllocError>
+    ensures { OnOk result (string_bytes text.new ≡ string_bytes text.old ++ crash_words crashes.now) }
+{
+    if crashes.is_empty() {
+        return text.push_str("Nobody crashed. ");
+    }
+    let count = crashes.len();
+    push_crashed(text, count)?;
+    push_found(text, count, count_found(crashes))?;
+    push_latencies(text, least_latency(crashes), greatest_latency(crashes))
+}
+
+/// Appends how many crashed.
+#[tactic(auto, unfolding(crate::specs::Summary::crashed_words))]
+fn push_crashed(text: &mut String, count: usize) -> Result<(), AllocError>
+    ensures { OnOk result (string_bytes text.new ≡ string_bytes text.old ++ crashed_words count) }
+{
+    if count == 1 {
+        text.push_str("1 member crashed")
+    } else {
+        write!(text, "{count} members crashed")
+    }
+}
+
+/// How many of these crashes were found.
+fn count_found(crashes: &[Departure]) -> usize
+    ensures { result ≡ count_by is_found crashes.now }
+{
+    crashes
+        .iter()
+        .filter(|crash| crash.detection.confirm.is_some())
+        .count()
+}
+
+/// Appends how many of so many crashes were found.
+#[tactic(auto, unfolding(crate::specs::Summary::found_words))]
+fn push_found(text: &mut String, count: usize, found: usize) -> Result<(), AllocError>
+    ensures { OnOk result (string_bytes text.new ≡ string_bytes text.old ++ found_words count found) }
+{
+    if found == 0 {
+        return text.push_str(", and nobody found out. ");
+    }
+    if found < count {
+        return write!(text, ", {found} of them were found");
+    }
+    Ok(())
+}
+
+fn least_latency(crashes: &[Departure]) -> Option<u64>
+    ensures { result ≡ reduce min (latencies_of crashes.now) }
+{
+    crashes.iter().filter_map(|crash| crash.latency()).min()
+}
+
+fn greatest_latency(crashes: &[Departure]) -> Option<u64>
+    ensures { result ≡ reduce max (latencies_of crashes.now) }
+{
+    crashes.iter().filter_map(|crash| crash.latency()).max()
+}
+
+/// Appends how long it took until crashes were found, at least and at most, where some were.
+#[tactic(auto, unfolding(crate::specs::Summary::latency_words))]
+fn push_latencies(
+    text: &mut String,
+    least: Option<u64>,
+    greatest: Option<u64>,
+) -> Result<(), AllocError>
+    ensures { OnOk result (string_bytes text.new ≡ string_bytes text.old ++ latency_words least greatest) }
+{
+    let Some(least) = least else {
+        return Ok(());
+    };
+    let Some(greatest) = greatest else {
+        return Ok(());
+    };
+    push_between(text, least, greatest)
+}
+
+/// Appends between which times crashes were found.
+#[tactic(auto, unfolding(crate::specs::Summary::between_words))]
+fn push_between(text: &mut String, least: u64, greatest: u64) -> Result<(), AllocError>
+    ensures { OnOk result (string_bytes text.new ≡ string_bytes text.old ++ between_words least greatest) }
+{
+    text.push_str(": first held dead after ")?;
+    push_grouped(text, least)?;
+    push_greatest(text, least, greatest)?;
+    text.push_str(" ticks. ")?;
+    Ok(())
+}
+
+/// Appends the greatest time, where it is another than the least.
+fn push_greatest(text: &mut String, least: u64, greatest: u64) -> Result<(), AllocError>
+    ensures { OnOk result (string_bytes text.new ≡ string_bytes text.old ++ greatest_words least greatest) }
+{
+    if greatest > least {
+        return push_to(text, greatest);
+    }
+    Ok(())
+}
+
+/// Appends up to which time.
+fn push_to(text: &mut String, greatest: u64) -> Result<(), AllocError>
+    ensures { OnOk result (string_bytes text.new ≡ string_bytes text.old ++ (codes " to " ++ grouped greatest)) }
+{
+    text.push_str(" to ")?;
+    push_grouped(text, greatest)?;
+    Ok(())
+}
+
+/// Appends how many were thrown out.
+#[tactic(auto, unfolding(crate::specs::Summary::out_words))]
+fn push_out(text: &mut String, out: u64) -> Result<(), AllocError>
+    ensures { OnOk result (string_bytes text.new ≡ string_bytes text.old ++ out_words out) }
+{
+    if out == 0 {
+        return text.push_str("Nobody who was up was held dead.");
+    }
+    if out == 1 {
+        return text.push_str("<b>1 member was thrown out though it was up.</b>");
+    }
+    write!(
+        text,
+        "<b>{out} members were thrown out though they were up.</b>"
+    )
+}
+
+/// Appends the figures, where so many were thrown out.
+#[tactic(auto, unfolding(crate::specs::Summary::figures))]
+fn push_figures(
+    text: &mut String,
+    version: Version,
+    tallies: &Tallies,
+    out: u64,
+) -> Result<(), AllocError>
+    ensures { OnOk result (string_bytes text.new ≡ string_bytes text.old ++ figures version out tallies.now) }
+{
+    push_first_of(text, tallies, out)?;
+    push_back(text, version, tallies)?;
+    push_last_of(text, tallies)?;
+    Ok(())
+}
+
+/// Appends how many crashed, and how many were thrown out.
+fn push_first_of(text: &mut String, tallies: &Tallies, out: u64) -> Result<(), AllocError>
+    ensures { OnOk result (string_bytes text.new ≡ string_bytes text.old ++ first_figures (length (crashes_of tallies.now)) out) }
+{
+    push_first(text, tallies.crashes().len() as u64, out)
+}
+
+/// Appends that so many crashed, and that so many were thrown out.
+#[tactic(auto, unfolding(crate::specs::Summary::first_figures))]
+fn push_first(text: &mut String, crashed: u64, out: u64) -> Result<(), AllocError>
+    ensures { OnOk result (string_bytes text.new ≡ string_bytes text.old ++ first_figures crashed out) }
+{
+    push_figure(text, "", crashed, "crashed")?;
+    push_out_figure(text, out)?;
+    Ok(())
+}
+
+/// Appends the figure of those who were thrown out.
+fn push_out_figure(text: &mut String, out: u64) -> Result<(), AllocError>
+    ensures { OnOk result (string_bytes text.new ≡ string_bytes text.old ++ figure (out_class out) out (codes "thrown out though up")) }
+{
+    push_figure(text, out_class(out), out, "thrown out though up")
+}
+
+/// Appends the figures of the protocol and of the trace.
+fn push_last_of(text: &mut String, tallies: &Tallies) -> Result<(), AllocError>
+    ensures { OnOk result (string_bytes text.new ≡ string_bytes text.old ++ last_figures_of tallies.now) }
+{
+    push_last(
+        text,
+        false_positive_count(tallies, What::Suspect) as u64,
+        tallies.told(What::Refute),
+        tallies.told(What::Fail),
+        tallies.worst_health(),
+        tallies.rows(),
+    )
+}
+
+/// Appends these figures of the protocol and of the trace.
+#[tactic(auto, unfolding(crate::specs::Summary::last_figures))]
+fn push_last(
+    text: &mut String,
+    suspicions: u64,
+    refutations: u64,
+    fails: u64,
+    worst: u64,
+    rows: u64,
+) -> Result<(), AllocError>
+    ensures { OnOk result (string_bytes text.new ≡ string_bytes text.old ++ last_figures suspicions refutations fails worst rows) }
+{
+    push_figure(text, "", suspicions, "false suspicions")?;
+    push_figure(text, "", refutations, "refutations")?;
+    push_figure(text, "", fails, "failed probes")?;
+    push_figure(text, "", worst, "worst health")?;
+    push_figure(text, "", rows, "rows in the trace")?;
+    Ok(())
+}
+
+/// The class of the figure of those who were thrown out.
+fn out_class(out: u64) -> &'static str
+    ensures { result.now ≡ out_class out }
+{
+    if out > 0 { "bad" } else { "" }
+}
+
+/// Appends how often members were taken for alive again, where the version has that.
+fn push_back(text: &mut String, version: Version, tallies: &Tallies) -> Result<(), AllocError>
+    ensures { OnOk result (string_bytes text.new ≡ string_bytes text.old ++ back_figure version tallies.now) }
+{
+    match version {
+        Version::One | Version::Two => Ok(()),
+        Version::Three => push_figure(text, "", tallies.revivals(), "taken back"),
+    }
+}
+
+/// Appends one figure.
+#[tactic(auto, unfolding(crate::specs::Summary::figure))]
+fn push_figure(text: &mut String, class: &str, number: u64, words: &str) -> Result<(), AllocError>
+    ensures { OnOk result (string_bytes text.new ≡ string_bytes text.old ++ figure class.now number words.now) }
+{
+    open_figure(text, class)?;
+    push_grouped(text, number)?;
+    text.push_str("</b><span>")?;
+    text.push_str(words)?;
+    text.push_str("</span></li>")?;
+    Ok(())
+}
+
+/// Begins a figure of a class.
+#[tactic(auto, unfolding(crate::specs::Summary::figure_start))]
+fn open_figure(text: &mut String, class: &str) -> Result<(), AllocError>
+    ensures { OnOk result (string_bytes text.new ≡ string_bytes text.old ++ figure_start class.now) }
+{
+    write!(text, "<li class=\"{class}\"><b>")
+}

@@ -1,0 +1,9 @@
+pub mod Grids
+pub mod Passing
+pub mod Flowing
+pub mod Telling
+pub mod Counted
+pub mod Revived
+pub mod Gathering
+pub mod Holding
+mod Watching

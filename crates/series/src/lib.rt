@@ -1,0 +1,21 @@
+//! The series of a run: what a page shows of it, gathered as its rows come, in memory that grows
+//! with the members and not with the rows.
+#![tactic(auto)]
+
+mod flows;
+mod grid;
+mod laws;
+mod lines;
+mod series;
+mod spans;
+mod spread;
+mod story;
+
+pub use flows::Flows;
+pub use grid::Grid;
+pub use laws::those_who_came_and_did_not_go_are_there;
+pub use lines::Line;
+pub use series::Series;
+pub use spans::Spans;
+pub use spread::Spread;
+pub use story::Story;
