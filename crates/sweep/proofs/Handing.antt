@@ -3,13 +3,12 @@ use Rattle.std.proofs.Common.{◌≡◌, ℕ, ◌+◌, ap, sym, subst, arith, Re
 use Rattle.std.specs.Prelude.{IfErr, OnErr, OnOk}
 use Rattle.base.specs.declared.fault.Fault.{Fault}
 use Rattle.base.specs.declared.fault.Fault.TheVariants as fault
-use Rattle.scenario.specs.Setup.{Setup}
 use Rattle.toml.specs.Data.{Data}
 use Rattle.trace.specs.Sinks.{fault_of_write}
 use Rattle.trace.specs.declared.write.WriteError.{WriteError}
 use Rattle.trace.specs.declared.write.WriteError.TheVariants as error
 use Rattle.cases.specs.Sweep.{Sweep}
-use Rattle.sweep.specs.Table.{HasCause, IsCauseOf}
+use Rattle.sweep.specs.Table.{HasCause}
 use Rattle.outputs.specs.Written.{sink_failures}
 
 -- what holds holds at an error too
@@ -55,10 +54,3 @@ pub write_caused : {T : Type 0} (tree : Data) (sweep : Sweep) (r : Result T Faul
 write_caused tree sweep (Ok x) e gives = tt
 write_caused tree sweep (Err f) error.Memory gives = subst (HasCause tree sweep) (sym gives) tt
 write_caused tree sweep (Err f) error.Stopped gives = subst (HasCause tree sweep) (sym gives) tt
-
--- what keeps a run from having figures is no failure of a sink
-pub told_fails_none : (T : Type 0) (s : Setup) (f : Fault) (n : ℕ) → IsCauseOf s f → n ≡ n + sink_failures {T = T} (Err f)
-told_fails_none T s fault.Memory n h = omega arith
-told_fails_none T s fault.Worn n h = omega arith
-told_fails_none T s fault.Write n h = absurd h
-told_fails_none T s fault.Relay n h = absurd h

@@ -1,6 +1,7 @@
 pub mod Flat
 pub mod Handing
 mod Lots
+pub mod Numbers
 pub mod Steps
 pub mod Gathered
 mod Pushed

@@ -1,4 +1,4 @@
--- What is told of lots of runs, one lot after the other.
+-- What is held against lots of items, one lot after the other.
 use Rattle.std.proofs.Common.{◌≡◌, List, [], ◌∷◌, ◌++◌, refl, ap, subst, sym, ◌∙◌}
 use Rattle.std.specs.List.{AllZip, flat_map}
 use Rattle.std.proofs.lemmas.List.{append-nil}
@@ -33,7 +33,7 @@ one_lot_more R P lots lot told more before here xs zipped =
     ap (flat_map (λ l. l)) end.whole ∙ flat_map-append end.front (end.last ∷ []) ∙ ap (λ l. flat_map (λ l. l) end.front ++ l) (append-nil end.last) in
     subst (λ l. AllZip R l (told ++ more)) (sym all) joined
 
--- no lot, and nothing told
+-- no lot, and nothing held
 pub no_lot : {X Y L : Type 0} (R : X → Y → Type 0) (P : List X → L → Type 0) (told : List Y) → told ≡ []
     → (xs : List (List X)) → AllZip P xs [] → AllZip R (flat_map (λ l. l) xs) told
 no_lot R P told none [] zipped = subst (AllZip R []) (sym none) tt

@@ -1,5 +1,5 @@
 -- The lines of a piece, of which some were made before.
-use Rattle.std.proofs.Common.{◌≡◌, ◌+◌, ℕ, List, [], ◌++◌, Option, true, sym, subst, ◌∙◌, ap, append-nil, add-zero}
+use Rattle.std.proofs.Common.{◌≡◌, ◌+◌, ℕ, List, [], ◌++◌, Option, true, subst, ◌∙◌, ap, append-nil, add-zero}
 use Rattle.std.specs.List.{flat_map}
 use Rattle.std.specs.Io.KnownBytes.{Appends}
 use Rattle.toml.specs.Data.{Data}

@@ -1,13 +1,14 @@
 -- How the table grows by a line, and why it ends.
-use Rattle.std.proofs.Common.{◌≡◌, ℕ, zero, suc, ◌+◌, ◌-◌, ◌<◌, ◌≤◌, List, [], ◌∷◌, ◌++◌, Option, Some, refl, sym, ap, subst, ◌∙◌, arith, take, drop, get_or, length, map, append_assoc, append-nil, ⊎_elim, ◌≢◌, Bool, true, false, eqb, true≢false}
+use Rattle.std.proofs.Common.{◌≡◌, ℕ, zero, suc, ◌+◌, ◌-◌, ◌≤◌, List, [], ◌∷◌, ◌++◌, Option, Some, refl, sym, ap, subst, ◌∙◌, arith, take, drop, length, map, append_assoc, append-nil, ◌≢◌, Bool, true, false, eqb, true≢false}
 use Rattle.std.proofs.lemmas.Bool.{eqb-true, eq-eqb}
 use Rattle.std.proofs.lemmas.List.{take_all, take-append-drop, take_more, map-append, length-map}
 use Rattle.std.proofs.Math.Seq.{take-take}
 use Rattle.std.proofs.lemmas.List.Concat.{flat_map-append}
 use Rattle.std.proofs.lemmas.List.Elements.{All-drop, All-head, All-push, All-tail, All-take}
-use Rattle.std.proofs.lemmas.Option.{none-some, same_Some, slice_get-get_or, slice_get_within, get_or_from_slice_get}
+use Rattle.std.proofs.lemmas.Option.{slice_get_within, get_or_from_slice_get}
 use Rattle.std.proofs.lemmas.Slice.Zip.{all_zipped_more}
-use Rattle.std.specs.Prelude.{slice_get, All, Result, Ok, Err}
+use Rattle.std.proofs.Common.{IsErrAnd}
+use Rattle.std.specs.Prelude.{slice_get, All, Result, Ok, Err, IfErr}
 use Rattle.std.specs.List.{AllZip, flat_map}
 use Rattle.std.specs.Io.KnownBytes.{Appends, Keeps}
 use Rattle.rayon.proofs.ListFacts.{AllZip-append}
@@ -19,19 +20,19 @@ use Rattle.trace.specs.declared.row.Row.{Row}
 use Rattle.trace.specs.Sinks.{AppendsBeginning}
 use Rattle.trace.proofs.Beginnings.{Appends-none, Appends-then, Keeps-same, Appends-kept, beginning-kept, beginning-first, beginning-then, beginning-whole, beginning-of}
 use Rattle.member_laws.specs.Runs.{IsRunOf}
-use Rattle.figures.specs.Lines.{header_line, run_line}
-use Rattle.figures.specs.Notes.{Note, note_of}
+use Rattle.outputs.specs.Written.{sink_failures}
+use Rattle.figures.specs.Lines.{header_line}
+use Rattle.figures.specs.Notes.{Note}
 use Rattle.cases.specs.Sweep.{Sweep, run_count, seed_count}
-use Rattle.cases.specs.declared.choice.Choice.{Choice}
-use Rattle.sweep.specs.Runs.{Planned, Made, IsMadeAs, AreMadeBetween, IsRunAt, noted, planned_as, runs_of, runs_between, verdict_of}
-use Rattle.sweep.specs.Table.{texts_of, names_of, tells_revived, made_line, note_before, line_with, lines_text, table_text, Course, HasLines, BeginsLines, BeginsTable, HasCause, IsCauseOf, IsTold, IsReadAt}
-use Rattle.sweep.specs.declared.telling.ToldRun.{ToldRun}
+use Rattle.sweep.specs.Runs.{Planned, Made, IsMadeAs, AreMadeBetween, IsRunAt, noted, runs_of, runs_between, verdict_of}
+use Rattle.sweep.specs.Table.{names_of, tells_revived, note_before, line_with, lines_text, Course, HasLines, BeginsLines, BeginsTable, HasCause, IsCauseAt, IsMadeRun}
+use Rattle.sweep.specs.declared.making.MadeRun.{MadeRun}
 use Rattle.sweep.specs.declared.gathering.Gathering.{Gathering}
 use Rattle.sweep.specs.Summaries.{IsGathered, HasCome, MakesAll, summaries_in}
 use Rattle.sweep.specs.Judged.{IsAccepted, IsAcceptedAt, AreAccepted}
 use Rattle.sweep.proofs.Flat.{runs_counted}
 use Rattle.sweep.proofs.Gathered.{all_through}
-use Rattle.sweep.proofs.Pushed.{pushed}
+use Rattle.sweep.proofs.Handing.{handed}
 
 pub taken_more : {X : Type 0} (xs : List X) (n : ℕ) (x : X) → slice_get xs n ≡ Some x → take (n + 1) xs ≡ take n xs ++ x ∷ []
 taken_more xs n x e = take_more xs n x (slice_get_within xs n x e) ∙ ap (λ y. take n xs ++ y ∷ []) (get_or_from_slice_get xs n x x e)
@@ -63,38 +64,13 @@ text_more tree course made m =
     append_assoc course.front (flat_map line made) (line m)
     ∙ ap (λ l. course.front ++ l) (ap (λ l. flat_map line made ++ l) (sym (append-nil (line m))) ∙ sym (flat_map-append line made (m ∷ [])))
 
--- items of two lists at one place
-zipped_at : {X Y : Type 0} (R : X → Y → Type 0) (xs : List X) (ys : List Y) (place : ℕ) (x : X) (y : Y) → AllZip R xs ys
-    → slice_get xs place ≡ Some x → slice_get ys place ≡ Some y → R x y
-zipped_at R [] ys place x y all e h = absurd (none-some x e)
-zipped_at R (a ∷ xs) [] place x y all e h = absurd (none-some y h)
-zipped_at R (a ∷ xs) (b ∷ ys) zero x y all e h = subst (λ z. R z y) (same_Some a x e) (subst (R a) (same_Some b y h) all.0)
-zipped_at R (a ∷ xs) (b ∷ ys) (suc n) x y all e h = zipped_at R xs ys n x y all.1 e h
-
 pub zipped_long : {X Y : Type 0} (R : X → Y → Type 0) (xs : List X) (ys : List Y) → AllZip R xs ys → length xs ≡ length ys
 zipped_long R [] [] all = refl
 zipped_long R [] (b ∷ ys) all = absurd all
 zipped_long R (a ∷ xs) [] all = absurd all
 zipped_long R (a ∷ xs) (b ∷ ys) all = ap suc (zipped_long R xs ys all.1)
 
--- the same where the second is read
-pub zipped_read : {X Y : Type 0} (R : X → Y → Type 0) (xs : List X) (ys : List Y) (place : ℕ) (x : X) (d : Y) → AllZip R xs ys
-    → slice_get xs place ≡ Some x → R x (get_or ys place d)
-zipped_read R xs ys place x d all e =
-    let lt : place < length ys = omega (arith, slice_get_within xs place x e, zipped_long R xs ys all) in
-    zipped_at R xs ys place x (get_or ys place d) all e (slice_get-get_or ys place d lt)
-
 module _ (tree : Data) (sweep : Sweep) where
-  -- one more scenario was read
-  pub read_more : (from number : ℕ) (scenarios : List Setup) (s : Setup) → from + length scenarios ≡ number
-      → ((place : ℕ) (t : Setup) → slice_get scenarios place ≡ Some t → IsReadAt tree sweep (from + place) t) → IsReadAt tree sweep number s
-      → (place : ℕ) (t : Setup) → slice_get (scenarios ++ s ∷ []) place ≡ Some t → IsReadAt tree sweep (from + place) t
-  read_more from number scenarios s long before here place t e =
-      ⊎_elim (before place t)
-      (λ p. let there : number ≡ from + place = sym long ∙ ap (λ n. from + n) (sym p.0) in
-      subst (λ n. IsReadAt tree sweep n t) there (subst (IsReadAt tree sweep number) p.1 here))
-      (pushed scenarios s t place e)
-
   -- a run that is accepted is refused for want of memory alone
   pub refused_for_memory : (number : ℕ) (p : Planned) (rule : ℕ) → AreAccepted tree sweep → IsRunAt sweep number p
       → (rule ≢ 11 → verdict_of tree p ≡ Err rule) → rule ≡ 11
@@ -195,13 +171,29 @@ module _ (tree : Data) (sweep : Sweep) where
       written = beginning-first course.start held course.front [] p;
     }
 
-  -- a cause of a run that is asked for is one of the sweep
-  pub cause_of_run : (number : ℕ) (s : Setup) (f : Fault) → IsReadAt tree sweep number s → IsCauseOf s f → HasCause tree sweep f
-  cause_of_run number s fault.Memory read h = tt
-  cause_of_run number s fault.Worn read h =
-      record { number = number; planned = read.0; there = read.1; scenario = s; accepted = read.2; worn = h }
-  cause_of_run number s fault.Write read h = absurd h
-  cause_of_run number s fault.Relay read h = absurd h
+  -- why there is no run of a number is why the sweep ends
+  pub cause_at : (number : ℕ) (f : Fault) → IsCauseAt tree sweep number f → HasCause tree sweep f
+  cause_at number fault.Memory h = tt
+  cause_at number fault.Worn h =
+      record { number = number; planned = h.read.0; there = h.read.1; scenario = h.scenario; accepted = h.read.2; worn = h.worn }
+  cause_at number fault.Write h = absurd h
+  cause_at number fault.Relay h = absurd h
+
+  -- also where it is handed on
+  pub cause_handed : {T : Type 0} (number : ℕ) (e : Fault) (r : Result T Fault) → IsErrAnd r (λ f. f ≡ e) → IsCauseAt tree sweep number e → IfErr r (HasCause tree sweep)
+  cause_handed number e r gives h = handed r (λ f. f ≡ e) (HasCause tree sweep) gives (λ f same. subst (HasCause tree sweep) (sym same) (cause_at number e h))
+
+  -- and it is no failure of a sink
+  pub cause_fails_none : {T : Type 0} (number : ℕ) (e : Fault) (r : Result T Fault) (n : ℕ) → IsErrAnd r (λ f. f ≡ e) → IsCauseAt tree sweep number e
+      → n ≡ n + sink_failures r
+  cause_fails_none number e (Ok x) n gives h = omega arith
+  cause_fails_none {T} number e (Err f) n gives h = subst (λ f. n ≡ n + sink_failures {T = T} (Err f)) (sym gives) (by e h)
+    where
+      by : (e : Fault) → IsCauseAt tree sweep number e → n ≡ n + sink_failures {T = T} (Err e)
+      by fault.Memory h = omega arith
+      by fault.Worn h = omega arith
+      by fault.Write h = absurd h
+      by fault.Relay h = absurd h
 
   -- the runs from the first to past the last are all
   all_made : (made : List Made) → AreMadeBetween tree sweep 0 (run_count sweep) made → AllZip (IsMadeAs tree) (runs_of sweep) made
@@ -270,55 +262,38 @@ module _ (tree : Data) (sweep : Sweep) where
         let begun = begun_lines (whole_course start) held all lines in
         record { made = begun.0; are = all_made begun.0 begun.1; written = begun.2 }
 
-  module _ (number : ℕ) (s : Setup) (run : ToldRun) (chosen : List Choice) (seed : Option ℕ) (told : ℕ)
-      (read : IsReadAt tree sweep number s) (is_told : IsTold s run) (at : IsRunAt sweep number (planned_as chosen seed)) (e : told ≡ s.seed) (notes : Bool) where
-    abbrev pub the_made : Made
-    the_made = record { case = chosen; scenario = s; rows = run.tallies }
-
-    abbrev pub the_line : List ℕ
-    the_line = note_before notes run.note ++ run_line (tells_revived tree) (texts_of chosen) told run.figures
-
-    pub is_made : IsMadeAs tree read.0 the_made
-    is_made = record {
-      same = ap (λ p. p.case) (same_Some (planned_as chosen seed) read.0 (sym at ∙ read.1));
-      accepted = read.2;
-      run = is_told.run;
-    }
-
-    pub line_same : the_line ≡ line_with (tells_revived tree) notes the_made
-    line_same = (λ i. note_before notes (is_told.kept i) ++ run_line (tells_revived tree) (texts_of chosen) (e i) (is_told.same i))
+  module _ (notes : Bool) (number : ℕ) (run : MadeRun) (is : IsMadeRun tree sweep notes number run) (course : Course) (same : course.notes ≡ notes) where
+    line_same : run.line.items ≡ line_with (tells_revived tree) course.notes is.made
+    line_same = is.written ∙ ap (λ b. line_with (tells_revived tree) b is.made) (sym same)
 
     -- its line was written, and it was gathered
-    pub line_whole : (course : Course) (mid held : Option (List ℕ)) (Before After : List Note → Type 0) → course.notes ≡ notes → Appends mid held the_line
+    pub line_whole : (mid held : Option (List ℕ)) (Before After : List Note → Type 0) → Appends mid held run.line.items
         → ((made : List Note) → Before made → After (made ++ run.note ∷ []))
         → HasCome tree sweep course mid Before number → HasCome tree sweep course held After (number + 1)
-    line_whole course mid held Before After with_notes p gathers come =
+    line_whole mid held Before After p gathers come =
         let lines = come.lines in
-        let line : the_line ≡ line_with (tells_revived tree) course.notes the_made = line_same ∙ ap (λ b. line_with (tells_revived tree) b the_made) (sym with_notes) in
-        let added : map noted lines.made ++ run.note ∷ [] ≡ map noted (lines.made ++ the_made ∷ []) =
-        ap (λ n. map noted lines.made ++ n ∷ []) is_told.kept ∙ sym (map-append noted lines.made (the_made ∷ [])) in
+        let added : map noted lines.made ++ run.note ∷ [] ≡ map noted (lines.made ++ is.made ∷ []) =
+        ap (λ n. map noted lines.made ++ n ∷ []) is.kept ∙ sym (map-append noted lines.made (is.made ∷ [])) in
         record {
           lines = record {
-            made = lines.made ++ the_made ∷ [];
+            made = lines.made ++ is.made ∷ [];
             low = omega (arith, lines.low);
-            are = are_more course.from number read.0 the_made lines.made lines.low read.1 is_made lines.are;
-            written = subst (Appends course.start held) (text_more tree course lines.made the_made)
-                (Appends-then course.start mid held (lines_text tree course lines.made) (line_with (tells_revived tree) course.notes the_made) lines.written (subst (Appends mid held) line p));
+            are = are_more course.from number is.planned is.made lines.made lines.low is.there is.is lines.are;
+            written = subst (Appends course.start held) (text_more tree course lines.made is.made)
+                (Appends-then course.start mid held (lines_text tree course lines.made) (line_with (tells_revived tree) course.notes is.made) lines.written (subst (Appends mid held) line_same p));
           };
           gathered = subst After added (gathers (map noted lines.made) come.gathered);
         }
 
     -- a beginning of its line was written
-    pub line_part : (course : Course) (mid held : Option (List ℕ)) → course.notes ≡ notes → number + 1 ≤ course.till → AppendsBeginning mid held the_line
+    pub line_part : (mid held : Option (List ℕ)) → number + 1 ≤ course.till → AppendsBeginning mid held run.line.items
         → HasLines tree sweep course mid number → BeginsLines tree sweep course held
-    line_part course mid held with_notes high p lines =
-        let line : the_line ≡ line_with (tells_revived tree) course.notes the_made = line_same ∙ ap (λ b. line_with (tells_revived tree) b the_made) (sym with_notes) in
-        record {
-          number = number + 1;
-          made = lines.made ++ the_made ∷ [];
-          low = omega (arith, lines.low);
-          high = high;
-          are = are_more course.from number read.0 the_made lines.made lines.low read.1 is_made lines.are;
-          written = beginning-of course.start held _ _ (text_more tree course lines.made the_made)
-              (beginning-then course.start mid held (lines_text tree course lines.made) (line_with (tells_revived tree) course.notes the_made) lines.written (beginning-of mid held _ _ line p));
-        }
+    line_part mid held high p lines = record {
+      number = number + 1;
+      made = lines.made ++ is.made ∷ [];
+      low = omega (arith, lines.low);
+      high = high;
+      are = are_more course.from number is.planned is.made lines.made lines.low is.there is.is lines.are;
+      written = beginning-of course.start held _ _ (text_more tree course lines.made is.made)
+          (beginning-then course.start mid held (lines_text tree course lines.made) (line_with (tells_revived tree) course.notes is.made) lines.written (beginning-of mid held _ _ line_same p));
+    }

@@ -12,17 +12,17 @@ use Rattle.schema.specs.declared.schema.Version.TheVariants.{One, Two, Three}
 use Rattle.scenario.specs.Setup.{Setup}
 use Rattle.scenario_reader.specs.Reading.{version_of}
 use Rattle.trace.specs.Sinks.{AppendsBeginning}
-use Rattle.member_laws.specs.Runs.{IsRunOf, WearsOut}
+use Rattle.member_laws.specs.Runs.{WearsOut}
 use Rattle.outputs.specs.Promise.{WearsOutReport}
 use Rattle.figures.specs.Figures.{figures_of}
 use Rattle.figures.specs.Lines.{header_line, run_line}
-use Rattle.figures.specs.Notes.{Note, note_of, note_cell}
+use Rattle.figures.specs.Notes.{Note, note_cell}
 use Rattle.cases.specs.Keys.{key_name}
 use Rattle.cases.specs.Values.{value_text}
 use Rattle.cases.specs.Sweep.{KeyValues, Sweep}
 use Rattle.cases.specs.declared.choice.Choice.{Choice}
-use Rattle.sweep.specs.declared.telling.ToldRun.{ToldRun}
-use Rattle.sweep.specs.Runs.{Planned, Made, AreMade, AreMadeBetween, IsRunAt, noted, verdict_of}
+use Rattle.sweep.specs.declared.making.MadeRun.{MadeRun}
+use Rattle.sweep.specs.Runs.{Planned, Made, IsMadeAs, AreMade, AreMadeBetween, IsRunAt, noted, verdict_of}
 
 -- the values of a case, as words say them
 abbrev pub texts_of : List Choice → List (List ℕ)
@@ -114,28 +114,37 @@ HasCause tree sweep fault.Worn = WearsOutSome tree sweep
 HasCause tree sweep fault.Write = Unit {0}
 HasCause tree sweep fault.Relay = ⊥
 
--- why nothing is told of a scenario's run
-abbrev pub IsCauseOf : Setup → Fault → Type 0
-IsCauseOf s fault.Memory = Unit {0}
-IsCauseOf s fault.Worn = IsWearing s
-IsCauseOf s fault.Write = ⊥
-IsCauseOf s fault.Relay = ⊥
-
--- the rows of the scenario's run, as they were tallied, its figures, and its note
-pub record IsTold (s : Setup) (told : ToldRun) : Type 0 where
-  pub run : IsRunOf s told.tallies
-  pub same : told.figures ≡ figures_of s told.tallies
-  pub kept : told.note ≡ note_of s told.tallies
-
--- the scenario's run was told, or there is a cause for there being nothing to tell
-abbrev pub AreTold : Setup → Result ToldRun Fault → Type 0
-AreTold s (Ok told) = IsTold s told
-AreTold s (Err f) = IsCauseOf s f
-
--- the runs of some scenarios were told, one by one, unless memory was refused
-abbrev pub IsToldLot : List Setup → Result (Vec (Result ToldRun Fault) Global) Memory → Type 0
-IsToldLot scenarios lot = IfOk lot (λ told. AllZip AreTold scenarios told.items)
-
 -- the scenario is that of the run of this number
 abbrev pub IsReadAt : Data → Sweep → ℕ → Setup → Type 0
 IsReadAt tree sweep number s = (p : Planned) × IsRunAt sweep number p × (verdict_of tree p ≡ Ok s)
+
+-- the run of this number wears a counter out
+pub record WearsOutAt (tree : Data) (sweep : Sweep) (number : ℕ) : Type 0 where
+  pub scenario : Setup
+  pub read : IsReadAt tree sweep number scenario
+  pub worn : IsWearing scenario
+
+-- why there is no run of a number: a counter only where that run wears one out; no sink, and no relay
+abbrev pub IsCauseAt : Data → Sweep → ℕ → Fault → Type 0
+IsCauseAt tree sweep number fault.Memory = Unit {0}
+IsCauseAt tree sweep number fault.Worn = WearsOutAt tree sweep number
+IsCauseAt tree sweep number fault.Write = ⊥
+IsCauseAt tree sweep number fault.Relay = ⊥
+
+-- the line and the note are those of the run of this number
+pub record IsMadeRun (tree : Data) (sweep : Sweep) (notes : Bool) (number : ℕ) (run : MadeRun) : Type 0 where
+  pub planned : Planned
+  pub there : IsRunAt sweep number planned
+  pub made : Made
+  pub is : IsMadeAs tree planned made
+  pub written : run.line.items ≡ line_with (tells_revived tree) notes made
+  pub kept : run.note ≡ noted made
+
+-- the run of this number was made, or there is a cause for there being none
+abbrev pub IsMadeOf : Data → Sweep → Bool → ℕ → Result MadeRun Fault → Type 0
+IsMadeOf tree sweep notes number (Ok run) = IsMadeRun tree sweep notes number run
+IsMadeOf tree sweep notes number (Err f) = IsCauseAt tree sweep number f
+
+-- the runs of some numbers were made, one by one, unless memory was refused
+abbrev pub IsMadeLot : Data → Sweep → Bool → List ℕ → Result (Vec (Result MadeRun Fault) Global) Memory → Type 0
+IsMadeLot tree sweep notes numbers lot = IfOk lot (λ runs. AllZip (IsMadeOf tree sweep notes) numbers runs.items)

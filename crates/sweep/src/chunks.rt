@@ -9,12 +9,12 @@ ghost use Rattle.sweep.specs.Table.{BeginsTable, BeginsLines, Course, HasCause};
 ghost use Rattle.sweep.specs.Summaries.{MakesAll, HasCome};
 
 use crate::gathering::{Gather, Gathering};
+use crate::making::make_side_by_side;
 use crate::progress::Progress;
-use crate::reading::{read_run, read_runs};
+use crate::reading::read_run;
 use crate::revived::tells_revived;
-use crate::telling::told_side_by_side;
 use crate::values::write_names;
-use crate::writing::write_lines;
+use crate::writing::write_line;
 use base::Fault;
 use cases::Plan;
 use figures::CaseSummary;
@@ -28,10 +28,10 @@ use trace::Sink;
 use whole_runs::a_run_exists;
 
 /// The most runs that each worker makes before their lines are written.
-const MOST_RUNS_OF_A_WORKER: u64 = 16;
+const MOST_RUNS_OF_A_WORKER: u64 = 32;
 
-/// How many periods of members a worker runs, about, before lines are written: some fifty milliseconds of work.
-const MEMBER_PERIODS: u64 = 100_000;
+/// How many periods of members a worker runs, about, before lines are written: some hundred milliseconds of work.
+const MEMBER_PERIODS: u64 = 200_000;
 
 /// Makes the runs of a sweep, and writes their table: a header, and a line for each run, in the order of the
 /// cases and of the seeds; at the end the table is flushed. Runs are made some at a time, as many side by side
@@ -127,7 +127,7 @@ pub(crate) fn make_runs<S: Sink, P: Progress, G: Gather>(
 /// so that one which is through waits for the others seldom, and few long ones, so that progress is told often.
 pub fn runs_of_a_worker(scenario: &Scenario) -> usize
     ensures least { 1 ≤ result }
-    ensures most { result ≤ 16 }
+    ensures most { result ≤ 32 }
 {
     let periods = scenario.end().ticks() / scenario.period().max(1);
     let of_all = periods.saturating_mul(scenario.members() as u64).max(1);
@@ -161,10 +161,11 @@ fn make_some<S: Sink, G: Gather>(
     ensures causes { IfErr result (HasCause (view document.now) plan.now) }
     ensures failures { S.failed table.new ≡ S.failed table.old + sink_failures result }
 {
-    let scenarios = read_runs(alloc, plan, document, from, till)?;
     let each = (till - from).div_ceil(workers.count()).max(1);
-    let told = told_side_by_side(rt, alloc, &scenarios, each)?;
-    write_lines(
-        alloc, plan, document, notes, from, &scenarios, &told, gathering, table,
-    )
+    let runs = make_side_by_side(rt, alloc, plan, document, notes, from, till, each)?;
+    for made in runs {
+        let run = made?;
+        write_line(alloc, &run, gathering, table)?;
+    }
+    Ok(())
 }

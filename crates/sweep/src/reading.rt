@@ -1,7 +1,6 @@
 //! The scenarios of runs that a sweep asks for.
-ghost use Rattle.std.specs.Prelude.{◌≡◌, ◌≤◌, ◌<◌, ◌+◌, ◌-◌, ℕ, Some, slice_get, vec_len, IfOk, IfErr};
+ghost use Rattle.std.specs.Prelude.{◌≡◌, ◌<◌, IfOk};
 ghost use Rattle.toml.specs.View.{view};
-ghost use Rattle.scenario.specs.Setup.{Setup};
 ghost use Rattle.cases.specs.Sweep.{run_count};
 ghost use Rattle.sweep.specs.Judged.{AreAccepted};
 ghost use Rattle.sweep.specs.Runs.{IsAskedFor};
@@ -14,31 +13,6 @@ use scenario::Scenario;
 use scenario_reader::Refusal;
 use std::alloc::Global;
 use toml::Value;
-
-/// The scenarios of the runs from one number to before another. All documents were judged, so an error is
-/// want of memory.
-pub fn read_runs(
-    alloc: Global,
-    plan: &Plan,
-    document: &Value,
-    from: usize,
-    till: usize,
-) -> Result<Vec<Scenario>, Memory>
-    requires asked { IsAskedFor plan.now }
-    requires judged { AreAccepted (view document.now) plan.now }
-    requires ordered { from ≤ till }
-    requires within { till ≤ run_count plan.now }
-    ensures count { IfOk result (λ scenarios. vec_len scenarios ≡ till - from) }
-    ensures read { IfOk result (λ scenarios. (place : ℕ) (s : Setup) → slice_get scenarios.items place ≡ Some s
-        → IsReadAt (view document.now) plan.now (from + place) s) }
-{
-    let mut scenarios = Vec::new(alloc);
-    for number in from..till {
-        let scenario = read_run(alloc, plan, document, number)?;
-        scenarios.push(scenario)?;
-    }
-    Ok(scenarios)
-}
 
 /// The scenario of the run of this number. Its document was judged, so an error is want of memory.
 pub fn read_run(

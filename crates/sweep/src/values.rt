@@ -5,12 +5,11 @@ ghost use Rattle.trace.specs.Sinks.{AppendsBeginning, failures_of_write};
 ghost use Rattle.figures.specs.Lines.{header_line, run_line};
 ghost use Rattle.sweep.specs.Table.{names_of, note_before, texts_of};
 
-use crate::telling::ToldRun;
 use base::Memory;
 use cases::{Choice, Setting};
 use figures::{RunFigures, RunNote, write_header, write_note, write_run};
 use std::alloc::Global;
-use trace::{Sink, WriteError};
+use trace::{Put, Sink, WriteError};
 
 /// Puts the first line of the table, with the names of the keys that are set. Whether it tells of members
 /// that were taken for alive again is given.
@@ -30,24 +29,45 @@ pub fn write_names<S: Sink>(
     write_header(alloc, &keys, revived, table)
 }
 
-/// Puts the line of a run, with the values of its case, and with its note where lines have notes; whether it tells of
-/// members that were taken for alive again is given.
-pub(crate) fn write_told<S: Sink>(
+/// The line of a run, with the values of its case, and with its note before it where lines have
+/// notes; whether it tells of members that were taken for alive again is given.
+pub(crate) fn line_of(
     alloc: Global,
     notes: bool,
     case: &[Choice],
     seed: u64,
-    told: &ToldRun,
+    note: &RunNote,
+    figures: &RunFigures,
+    revived: bool,
+) -> Result<Vec<u8>, Memory>
+    ensures { IfOk result (λ line. line.items ≡ note_before notes note.now ++ run_line revived (texts_of case.now) seed figures.now) }
+{
+    let mut line = Put::new(Vec::new(alloc));
+    match write_noted(alloc, notes, case, seed, note, figures, revived, &mut line) {
+        Ok(()) => Ok(line.into_inner()),
+        // A text in memory fails by want of that.
+        Err(_) => Err(Memory),
+    }
+}
+
+/// Puts that line.
+fn write_noted<S: Sink>(
+    alloc: Global,
+    notes: bool,
+    case: &[Choice],
+    seed: u64,
+    note: &RunNote,
+    figures: &RunFigures,
     revived: bool,
     table: &mut S,
 ) -> Result<(), WriteError>
     requires { S.failed table.old < 2 ^ 63 }
-    ensures whole { OnOk result (Appends (S.held table.old) (S.held table.new) (note_before notes told.now.note ++ run_line revived (texts_of case.now) seed told.now.figures)) }
-    ensures part { OnErr result (AppendsBeginning (S.held table.old) (S.held table.new) (note_before notes told.now.note ++ run_line revived (texts_of case.now) seed told.now.figures)) }
+    ensures whole { OnOk result (Appends (S.held table.old) (S.held table.new) (note_before notes note.now ++ run_line revived (texts_of case.now) seed figures.now)) }
+    ensures part { OnErr result (AppendsBeginning (S.held table.old) (S.held table.new) (note_before notes note.now ++ run_line revived (texts_of case.now) seed figures.now)) }
     ensures failures { S.failed table.new ≡ S.failed table.old + failures_of_write result }
 {
-    write_note_before(alloc, notes, &told.note, table)?;
-    write_values(alloc, case, seed, &told.figures, revived, table)
+    write_note_before(alloc, notes, note, table)?;
+    write_values(alloc, case, seed, figures, revived, table)
 }
 
 /// Puts the note of a run, where lines have notes.

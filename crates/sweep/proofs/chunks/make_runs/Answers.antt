@@ -1,4 +1,4 @@
-use Rattle.std.proofs.Common.{◌≡◌, arith, rules, refl, subst}
+use Rattle.std.proofs.Common.{◌≡◌, arith, rules, subst}
 use Rattle.toml.specs.View.{view}
 use Rattle.cases.specs.Sweep.{seed_count}
 use Rattle.sweep.specs.Summaries.{HasCome}

@@ -1,49 +1,110 @@
-use Rattle.std.proofs.Common.{◌≡◌, ◌+◌, ◌≤◌, ap, sym, subst, length, arith}
+use Rattle.std.proofs.Common.{◌≡◌, ◌∙◌, ◌+◌, ◌-◌, ◌++◌, ◌∷◌, [], refl, subst, length, length-append, arith, rules}
+use Rattle.std.specs.List.{AllZip, range_with_len}
 use Rattle.toml.specs.View.{view}
 use Rattle.cases.specs.Sweep.{seed_count}
-use Rattle.sweep.specs.Table.{Course, BeginsLines}
+use Rattle.sweep.specs.Table.{IsMadeOf, IsMadeRun}
 use Rattle.sweep.specs.Summaries.{HasCome}
-use Rattle.sweep.proofs.Handing.{on_err, on_ok_then, on_err_then}
-use Rattle.sweep.proofs.Steps.{have_begun}
+use Rattle.sweep.proofs.Handing.{on_err}
+use Rattle.sweep.proofs.Numbers.{is_next, none_left}
+use Rattle.sweep.proofs.Steps.{cause_fails_none, cause_handed, have_begun, line_part, line_whole}
 use Rattle.sweep.proofs.chunks.make_some.Goals as goal
 
-pub returns-clause-whole : goal.returns-clause-whole
-returns-clause-whole g c =
-    let tree = view c.args.document.now in
-    let plan = c.args.plan.now in
-    let each = seed_count plan.seeds in
-    let old = g.S.Sink.held c.args.table.now in
-    let new = g.S.Sink.held c.write_lines.new.table in
-    let end = c.args.from + length c.deref-2.result.now in
-    let all : end ≡ c.args.till = omega (arith, ap length c.deref-2.ensures.value, c.in_ok-scenarios.ensures.count, c.requires.ordered) in
-    let Before = g.G.Gather.has c.args.gathering.now each in
-    let After = g.G.Gather.has c.write_lines.new.gathering each in
-    on_ok_then ((course : Course) → course.notes ≡ c.args.notes → HasCome tree plan course old Before c.args.from → HasCome tree plan course new After end)
-    ((course : Course) → course.notes ≡ c.args.notes → HasCome tree plan course old Before c.args.from → HasCome tree plan course new After c.args.till)
-    c.write_lines.result c.write_lines.ensures.whole (λ go course same come. subst (HasCome tree plan course new After) all (go course same come))
-
-pub returns-clause-part : goal.returns-clause-part
-returns-clause-part g c =
-    let tree = view c.args.document.now in
-    let plan = c.args.plan.now in
-    let each = seed_count plan.seeds in
-    let old = g.S.Sink.held c.args.table.now in
-    let new = g.S.Sink.held c.write_lines.new.table in
-    let end = c.args.from + length c.deref-2.result.now in
-    let all : end ≡ c.args.till = omega (arith, ap length c.deref-2.ensures.value, c.in_ok-scenarios.ensures.count, c.requires.ordered) in
-    let Before = g.G.Gather.has c.args.gathering.now each in
-    on_err_then ((course : Course) → course.notes ≡ c.args.notes → end ≤ course.till → HasCome tree plan course old Before c.args.from → BeginsLines tree plan course new)
-    ((course : Course) → course.notes ≡ c.args.notes → c.args.till ≤ course.till → HasCome tree plan course old Before c.args.from → BeginsLines tree plan course new)
-    c.write_lines.result c.write_lines.ensures.part (λ go course same high. go course same (subst (λ n. n ≤ course.till) (sym all) high))
-
-pub returns-in_err-scenarios-clause-part : goal.returns-in_err-scenarios-clause-part
-returns-in_err-scenarios-clause-part g c =
+pub returns-in_err-runs-clause-part : goal.returns-in_err-runs-clause-part
+returns-in_err-runs-clause-part g c =
     on_err c.from_residual.result
     (λ course same high come. have_begun (view c.args.document.now) c.args.plan.now course (g.S.Sink.held c.args.table.now) c.args.from
     (omega (arith, high, c.requires.ordered)) come.lines)
 
-pub returns-in_err-told-clause-part : goal.returns-in_err-told-clause-part
-returns-in_err-told-clause-part g c =
-    on_err c.from_residual-in_err-told.result
-    (λ course same high come. have_begun (view c.args.document.now) c.args.plan.now course (g.S.Sink.held c.args.table.now) c.args.from
-    (omega (arith, high, c.requires.ordered)) come.lines)
+pub returns-in_err-run-clause-part : goal.returns-in_err-run-clause-part
+returns-in_err-run-clause-part g c =
+    on_err c.from_residual-in_err-run.result
+    (λ course same high come. have_begun (view c.args.document.now) c.args.plan.now course (g.S.Sink.held c.loop-made.table) (c.args.from + length c.loop-made.yielded)
+    (omega (arith, high, c.loop-made.invariant.within)) (c.loop-made.invariant.come course same come).lines)
+
+pub returns-in_err-run-clause-causes : goal.returns-in_err-run-clause-causes
+returns-in_err-run-clause-causes g c =
+    let tree = view c.args.document.now in
+    let plan = c.args.plan.now in
+    let R = IsMadeOf tree plan c.args.notes in
+    let till = c.args.till in
+    let number = c.args.from + length c.loop-made.yielded in
+    let next = is_next R number till c.in-Some.made c.next.new.self.rest.items _ c.in-Some.ensures.steps.0 c.loop-made.invariant.left in
+    cause_handed tree plan number _ c.from_residual-in_err-run.result c.from_residual-in_err-run.ensures.1 (subst (R number) c.in_err-run.was next.here)
+
+pub returns-in_err-run-clause-failures : goal.returns-in_err-run-clause-failures
+returns-in_err-run-clause-failures g c =
+    let tree = view c.args.document.now in
+    let plan = c.args.plan.now in
+    let R = IsMadeOf tree plan c.args.notes in
+    let till = c.args.till in
+    let number = c.args.from + length c.loop-made.yielded in
+    let next = is_next R number till c.in-Some.made c.next.new.self.rest.items _ c.in-Some.ensures.steps.0 c.loop-made.invariant.left in
+    c.loop-made.invariant.same
+    ∙ cause_fails_none tree plan number _ c.from_residual-in_err-run.result (g.S.Sink.failed c.args.table.now) c.from_residual-in_err-run.ensures.1 (subst (R number) c.in_err-run.was next.here)
+
+pub returns-in_err-write_line-clause-part : goal.returns-in_err-write_line-clause-part
+returns-in_err-write_line-clause-part g c =
+    let tree = view c.args.document.now in
+    let plan = c.args.plan.now in
+    let R = IsMadeOf tree plan c.args.notes in
+    let till = c.args.till in
+    let number = c.args.from + length c.loop-made.yielded in
+    let next = is_next R number till c.in-Some.made c.next.new.self.rest.items _ c.in-Some.ensures.steps.0 c.loop-made.invariant.left in
+    let is : IsMadeRun tree plan c.args.notes number c.in_ok-run.run' = subst (R number) c.in_ok-run.was next.here in
+    on_err c.from_residual-in_err-write_line.result (λ course same high come.
+    line_part tree plan c.args.notes number c.in_ok-run.run' is course same (g.S.Sink.held c.loop-made.table) (g.S.Sink.held c.write_line.new.table)
+    (omega (arith, high, next.low)) c.in_err-write_line.ensures.part (c.loop-made.invariant.come course same come).lines)
+
+pub loop-made-init : goal.loop-made-init
+loop-made-init g c =
+    let tree = view c.args.document.now in
+    let plan = c.args.plan.now in
+    let R = IsMadeOf tree plan c.args.notes in
+    let till = c.args.till in
+    let none : c.args.from ≡ c.args.from + 0 = omega arith in
+    record {
+      within = omega (arith, c.requires.ordered);
+      left = subst (λ n. AllZip R (range_with_len n (till - n)) c.into_iter-made-iterator.result.rest.items) none (search rules);
+      come = λ course same come. subst (HasCome tree plan course (g.S.Sink.held c.args.table.now) (g.G.Gather.has c.args.gathering.now (seed_count plan.seeds))) none come;
+      same = refl;
+    }
+
+pub loop-made-preserved : goal.loop-made-preserved
+loop-made-preserved g c =
+    let tree = view c.args.document.now in
+    let plan = c.args.plan.now in
+    let R = IsMadeOf tree plan c.args.notes in
+    let till = c.args.till in
+    let yielded = c.loop-made.yielded in
+    let number = c.args.from + length yielded in
+    let made = c.in-Some.made in
+    let left = c.next.new.self.rest.items in
+    let each = seed_count plan.seeds in
+    let old = g.S.Sink.held c.loop-made.table in
+    let new = g.S.Sink.held c.write_line.new.table in
+    let Before = g.G.Gather.has c.loop-made.gathering each in
+    let After = g.G.Gather.has c.write_line.new.gathering each in
+    let next = is_next R number till made left _ c.in-Some.ensures.steps.0 c.loop-made.invariant.left in
+    let is : IsMadeRun tree plan c.args.notes number c.in_ok-run.run' = subst (R number) c.in_ok-run.was next.here in
+    let more : number + 1 ≡ c.args.from + length (yielded ++ made ∷ []) = omega (arith, length-append yielded (made ∷ [])) in
+    record {
+      within = omega (arith, more, next.low);
+      left = subst (λ n. AllZip R (range_with_len n (till - n)) left) more next.rest;
+      come = λ course same come.
+          subst (HasCome tree plan course new After) more
+          (line_whole tree plan c.args.notes number c.in_ok-run.run' is course same old new Before After c.in_ok-write_line.ensures.whole
+          (λ notes before. c.in_ok-write_line.ensures.gathered each notes before) (c.loop-made.invariant.come course same come));
+      same = search rules;
+    }
+
+pub returns-clause-whole : goal.returns-clause-whole
+returns-clause-whole g c = λ course same come.
+    let tree = view c.args.document.now in
+    let plan = c.args.plan.now in
+    let R = IsMadeOf tree plan c.args.notes in
+    let till = c.args.till in
+    let number = c.args.from + length c.loop-made.yielded in
+    let past = none_left R number till c.loop-made.made-iterator.rest.items (omega (arith, c.in-None.ensures.steps.0)) c.loop-made.invariant.left in
+    let all : number ≡ till = omega (arith, past, c.loop-made.invariant.within) in
+    subst (HasCome tree plan course (g.S.Sink.held c.loop-made.table) (g.G.Gather.has c.loop-made.gathering (seed_count plan.seeds))) all
+    (c.loop-made.invariant.come course same come)

@@ -1,11 +1,11 @@
-use Rattle.std.proofs.Common.{◌≡◌, ◌≤◌, ◌+◌, ◌++◌, ◌∙◌, ap, refl, sym, subst, arith, rules}
+use Rattle.std.proofs.Common.{◌≤◌, ◌+◌, ◌++◌, ◌∙◌, ap, refl, subst, arith}
 use Rattle.std.specs.Io.KnownBytes.{Appends}
 use Rattle.toml.specs.View.{view}
 use Rattle.trace.specs.Sinks.{AppendsBeginning}
-use Rattle.cases.specs.Sweep.{run_count, seed_count}
+use Rattle.cases.specs.Sweep.{run_count}
 use Rattle.pieces.specs.Pieces.{first_run, past_run}
 use Rattle.sweep.specs.Pieces.{piece_header}
-use Rattle.sweep.proofs.Handing.{on_err, on_ok, write_caused}
+use Rattle.sweep.proofs.Handing.{on_err, write_caused}
 use Rattle.sweep.proofs.Steps.{front_come, front_part, have_begun, begun_kept, come_kept}
 use Rattle.sweep.proofs.PieceCourse.{piece_course, rest_begun, rest_whole}
 use Rattle.sweep.proofs.piece_tables.write_rest.Goals as goal

@@ -1,5 +1,5 @@
 -- without notes nothing stands before a line
-use Rattle.std.proofs.Common.{◌≡◌, rules}
+use Rattle.std.proofs.Common.{rules}
 use Rattle.sweep.proofs.Steps.{none_before}
 use Rattle.sweep.proofs.values.write_note_before.Goals as goal
 

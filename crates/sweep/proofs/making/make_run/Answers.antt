@@ -1,0 +1,26 @@
+use Rattle.std.proofs.Common.{◌∙◌, ◌++◌, ap, sym}
+use Rattle.std.proofs.lemmas.Option.{same_Some}
+use Rattle.figures.specs.Lines.{run_line}
+use Rattle.sweep.specs.Runs.{planned_as}
+use Rattle.sweep.specs.Table.{note_before, texts_of}
+use Rattle.sweep.proofs.making.make_run.Goals as goal
+
+pub returns : goal.returns
+returns c =
+    let run = c.in_ok-run.run' in
+    let read = c.in_ok-scenario.ensures in
+    let figures = c.in_ok-figures.ensures in
+    let note = c.in_ok-note.ensures in
+    record {
+      planned = read.0;
+      there = read.1;
+      made = record { case = run.case.items; scenario = c.in_ok-scenario.scenario; rows = c.in_ok-tallies.tallies };
+      is = record {
+        same = ap (λ p. p.case) (same_Some (planned_as run.case.items run.seed) read.0 (sym c.in_ok-run.ensures.run ∙ read.1));
+        accepted = read.2;
+        run = c.in_ok-tallies.ensures.run;
+      };
+      written = c.in_ok-line.ensures
+          ∙ (λ i. note_before c.args.notes (note i) ++ run_line (c.tells_revived.ensures i) (texts_of (c.deref.ensures.value i)) (c.seed.ensures i) (figures i));
+      kept = note;
+    }

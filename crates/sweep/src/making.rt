@@ -1,0 +1,146 @@
+//! The runs of a sweep, made side by side.
+ghost use Rattle.std.specs.Prelude.{◌≡◌, ◌≤◌, ◌<◌, ◌-◌, ℕ, Bool, All, List, IfOk};
+ghost use Rattle.std.specs.List.{AllZip, flat_map, range_with_len};
+ghost use Rattle.toml.specs.Data.{Data};
+ghost use Rattle.toml.specs.View.{view};
+ghost use Rattle.cases.specs.Sweep.{Sweep, run_count};
+ghost use Rattle.sweep.specs.Judged.{AreAccepted};
+ghost use Rattle.sweep.specs.Runs.{IsAskedFor};
+ghost use Rattle.sweep.specs.Table.{IsMadeLot, IsMadeOf};
+
+use crate::planned::planned;
+use crate::reading::read_run;
+use crate::revived::tells_revived;
+use crate::values::line_of;
+use base::{Fault, Memory};
+use cases::Plan;
+use figures::{RunFigures, RunNote};
+use rayon::prelude::*;
+use std::alloc::Global;
+use std::marker::Sync;
+use std::thread::Threads;
+use toml::Value;
+use whole_runs::tally_run;
+
+/// A run that was made.
+#[derive(Drop)]
+pub struct MadeRun {
+    /// Its line of the table, with its note before it where lines have notes.
+    pub line: Vec<u8>,
+    /// What its case keeps of it.
+    pub note: RunNote,
+}
+
+/// The runs from one number to before another, in their order, with lines that have notes or none;
+/// or why there is no run of a number: `Memory`; `Worn` where a counter of that run, or a count of
+/// its tallies, would pass 2^63. The numbers are dealt out in lots of so many; as many threads as
+/// there are processors, and no more than there are lots, make the runs of the lots, side by side.
+/// Each document must have been judged to be accepted. It fails where memory is refused for the
+/// list of runs.
+pub fn make_side_by_side(
+    rt: &(impl Threads + Sync),
+    alloc: Global,
+    plan: &Plan,
+    document: &Value,
+    notes: bool,
+    from: usize,
+    till: usize,
+    each: usize,
+) -> Result<Vec<Result<MadeRun, Fault>>, Memory>
+    requires asked { IsAskedFor plan.now }
+    requires judged { AreAccepted (view document.now) plan.now }
+    requires within { till ≤ run_count plan.now }
+    requires some { 0 < each }
+    ensures { IfOk result (λ runs. AllZip (IsMadeOf (view document.now) plan.now notes) (range_with_len from (till - from)) runs.items) }
+{
+    let numbers = numbers(alloc, from, till)?;
+    let lots: Vec<Result<Vec<Result<MadeRun, Fault>>, Memory>> = numbers
+        .par_chunks(each)
+        .with_min_len(1)
+        .map(
+            |lot: &[usize]| -> Result<Vec<Result<MadeRun, Fault>>, Memory>
+                requires { IsAskedFor plan.now × AreAccepted (view document.now) plan.now × All (λ number. number < run_count plan.now) lot.now }
+                ensures { IsMadeLot (view document.entry.now) plan.entry.now notes lot.entry.now result }
+            { make_in_turn(alloc, plan, document, notes, lot) },
+        )
+        .collect(rt, alloc)?;
+    joined(alloc, lots)
+}
+
+/// The numbers from one to before another.
+fn numbers(alloc: Global, from: usize, till: usize) -> Result<Vec<usize>, Memory>
+    ensures { IfOk result (λ numbers. numbers.items ≡ range_with_len from (till - from)) }
+{
+    let mut numbers = Vec::new(alloc);
+    for number in from..till {
+        numbers.push(number)?;
+    }
+    Ok(numbers)
+}
+
+/// The runs of a lot, made one after the other.
+fn make_in_turn(
+    alloc: Global,
+    plan: &Plan,
+    document: &Value,
+    notes: bool,
+    lot: &[usize],
+) -> Result<Vec<Result<MadeRun, Fault>>, Memory>
+    requires asked { IsAskedFor plan.now }
+    requires judged { AreAccepted (view document.now) plan.now }
+    requires within { All (λ number. number < run_count plan.now) lot.now }
+    ensures { IsMadeLot (view document.now) plan.now notes lot.now result }
+{
+    let mut runs = Vec::new(alloc);
+    for number in lot {
+        runs.push(make_run(alloc, plan, document, notes, *number))?;
+    }
+    Ok(runs)
+}
+
+/// The runs of all lots, one lot after the other.
+fn joined(
+    alloc: Global,
+    lots: Vec<Result<Vec<Result<MadeRun, Fault>>, Memory>>,
+) -> Result<Vec<Result<MadeRun, Fault>>, Memory>
+    ensures { IfOk result (λ runs. (tree : Data) (sweep : Sweep) (notes : Bool) (numbers : List (List ℕ))
+        → AllZip (IsMadeLot tree sweep notes) numbers lots.items
+        → AllZip (IsMadeOf tree sweep notes) (flat_map (λ lot. lot) numbers) runs.items) }
+{
+    let mut runs = Vec::new(alloc);
+    for lot in lots {
+        let mut made = lot?;
+        runs.append(&mut made)?;
+    }
+    Ok(runs)
+}
+
+/// Makes the run of this number, and lays out its line. All else that is known of the run is dropped.
+fn make_run(
+    alloc: Global,
+    plan: &Plan,
+    document: &Value,
+    notes: bool,
+    number: usize,
+) -> Result<MadeRun, Fault>
+    requires asked { IsAskedFor plan.now }
+    requires judged { AreAccepted (view document.now) plan.now }
+    requires within { number < run_count plan.now }
+    ensures { IsMadeOf (view document.now) plan.now notes number result }
+{
+    let run = planned(alloc, plan, number)?;
+    let scenario = read_run(alloc, plan, document, number)?;
+    let tallies = tally_run(alloc, &scenario)?;
+    let figures = RunFigures::of(alloc, &tallies, &scenario)?;
+    let note = RunNote::of(alloc, &tallies, &figures, &scenario)?;
+    let line = line_of(
+        alloc,
+        notes,
+        &run.case,
+        scenario.seed(),
+        &note,
+        &figures,
+        tells_revived(document),
+    )?;
+    Ok(MadeRun { line, note })
+}

@@ -1,0 +1,109 @@
+-- Runs that are left can be made: of a case until they are enough, and of all cases.
+use Rattle.std.proofs.Common.{◌≡◌, ◌∙◌, ◌<◌, ◌≤◌, ◌+◌, ◌*◌, ◌-◌, ◌⊎◌, ℕ, zero, suc, List, [], ◌∷◌, ◌++◌, Bool, true, false, Some, None, refl, sym, ap, subst, arith, get_or, inl, inr, length, length-append, map, take, drop, append-nil, append_assoc}
+use Rattle.std.specs.Prelude.{slice_get}
+use Rattle.std.specs.List.{AllZip, range_with_len}
+use Rattle.std.proofs.lemmas.List.{map-id}
+use Rattle.std.proofs.lemmas.List.FromFn.{map-range_with_len_more}
+use Rattle.std.proofs.lemmas.List.Elements.{All-get_or}
+use Rattle.std.proofs.Math.Nat.{suc-mul}
+use Rattle.std.proofs.lemmas.Nat.{mul-le}
+use Rattle.std.proofs.lemmas.Option.{slice_get-get_or}
+use Rattle.std.proofs.lemmas.Slice.Zip.{all_zipped_more}
+use Rattle.toml.specs.Data.{Data}
+use Rattle.scenario.specs.Setup.{Setup, IsSound}
+use Rattle.trace.specs.declared.row.Row.{Row}
+use Rattle.member_laws.specs.Runs.{IsRunOf}
+use Rattle.cases.specs.Sweep.{Sweep, case_count, run_count, seed_count}
+use Rattle.sweep.specs.Runs.{Planned, Made, IsMadeAs, AreMadeBetween, noted, planned_as, runs_of}
+use Rattle.sweep.specs.Judged.{IsAccepted, AreAccepted}
+use Rattle.sweep.proofs.Flat.{runs_counted}
+use Rattle.sweep.proofs.Steps.{are_more}
+use Rattle.sweep_until.specs.Until.{AreMadeUntil, IsMadeUntil, IsWide, is_narrow_of}
+use Rattle.sweep_until.proofs.Same.{OneRun}
+use Rattle.sweep_until.proofs.Wide.{wide_next}
+
+pub range_more : (k : ℕ) → range_with_len 0 (k + 1) ≡ range_with_len 0 k ++ k ∷ []
+range_more k =
+    sym (map-id (range_with_len 0 (k + 1))) ∙ map-range_with_len_more (λ (x : ℕ). x) 0 k k (omega arith) ∙ ap (λ xs. xs ++ k ∷ []) (map-id (range_with_len 0 k))
+
+-- the runs of a case are among all
+pub case_within : (cases each number : ℕ) → number < cases → number * each + each ≤ cases * each
+case_within cases each number low =
+    omega (arith, suc-mul number each, mul-le (suc number) each cases each (omega (arith, low)) (omega arith))
+
+-- one case more was made
+pub one_case : (tree : Data) (sweep : Sweep) (width number : ℕ) (made : List (List Made)) (case : List Made) → AreMadeUntil tree sweep width number made
+    → IsMadeUntil tree sweep width number case → AreMadeUntil tree sweep width (number + 1) (made ++ case ∷ [])
+one_case tree sweep width number made case before here =
+    subst (λ l. AllZip (IsMadeUntil tree sweep width) l (made ++ case ∷ [])) (sym (range_more number))
+    (all_zipped_more (IsMadeUntil tree sweep width) (range_with_len 0 number) made number case before here)
+
+module _ (tree : Data) (sweep : Sweep) (one : OneRun) (exists : (s : Setup) → IsSound s → (rows : List Row) × IsRunOf s rows) (ok : AreAccepted tree sweep) (width : ℕ) where
+  -- the run of a number can be made
+  run_left : (number : ℕ) → number < run_count sweep → (p : Planned) × (m : Made) × (slice_get (runs_of sweep) number ≡ Some p) × IsMadeAs tree p m
+  run_left number low =
+      let all = runs_of sweep in
+      let within : number < length all = omega (arith, low, runs_counted sweep) in
+      let p = get_or all number (planned_as [] None) in
+      let here : IsAccepted tree p = All-get_or (IsAccepted tree) all number _ within ok in
+      let run = exists here.0 here.2 in
+      (p, record { case = p.case; scenario = here.0; rows = run.0 }, slice_get-get_or all number _ within, record { same = refl; accepted = here.1; run = run.1 })
+
+  module _ (number : ℕ) (low : number < case_count sweep.settings) where
+    abbrev first : ℕ
+    first = number * seed_count sweep.seeds
+
+    -- so the runs of a case can be made until they are enough
+    abbrev Filled : List Made → Type 0
+    Filled made = (more : List Made) × IsMadeUntil tree sweep width number (made ++ more)
+
+    abbrev Are : List Made → Type 0
+    Are made = AreMadeBetween tree sweep first (first + length made) made
+
+    enough : (made : List Made) → length made ≤ seed_count sweep.seeds → Are made → IsWide width (map noted made)
+        → (is_narrow_of width (map noted made) ≡ true) ⊎ (length made ≡ seed_count sweep.seeds) → Filled made
+    enough made few are wide ends =
+        ([], subst (IsMadeUntil tree sweep width number) (sym (append-nil made)) (record { are = are; few = few; wide = wide; ends = ends }))
+
+    one_further : (left : ℕ) (made : List Made) → length made + suc left ≡ seed_count sweep.seeds → Are made → IsWide width (map noted made)
+        → ((longer : List Made) → length longer + left ≡ seed_count sweep.seeds → Are longer → IsWide width (map noted longer) → Filled longer)
+        → (b : Bool) → is_narrow_of width (map noted made) ≡ b → Filled made
+    one_further left made full are wide further true narrow = enough made (omega (arith, full)) are wide (inl narrow)
+    one_further left made full are wide further false narrow =
+        let within = case_within (case_count sweep.settings) (seed_count sweep.seeds) number low in
+        let place = first + length made in
+        let next = run_left place (omega (arith, within, full)) in
+        let longer = made ++ next.1 ∷ [] in
+        let size = length-append made (next.1 ∷ []) in
+        let grown : place + 1 ≡ first + length longer = omega (arith, size) in
+        let are_grown : Are longer = subst (λ n. AreMadeBetween tree sweep first n longer) grown (are_more tree sweep first place next.0 next.1 made (omega arith) next.2 next.3 are) in
+        let wide_grown = wide_next tree sweep one ok width first place (first + length longer) made longer (omega arith) (omega (arith, within, full)) (omega arith) (omega (arith, size, within, full)) (omega (arith, size))
+        are are_grown wide narrow in
+        let rest = further longer (omega (arith, size, full)) are_grown wide_grown in
+        (next.1 ∷ rest.0, subst (IsMadeUntil tree sweep width number) (append_assoc made (next.1 ∷ []) rest.0) rest.1)
+
+    case_left : (left : ℕ) (made : List Made) → length made + left ≡ seed_count sweep.seeds → Are made → IsWide width (map noted made) → Filled made
+    case_left zero made full are wide = enough made (omega (arith, full)) are wide (inr (omega (arith, full)))
+    case_left (suc left) made full are wide = one_further left made full are wide (case_left left) (is_narrow_of width (map noted made)) refl
+
+    pub filled : (made : List Made) → length made ≤ seed_count sweep.seeds → AreMadeBetween tree sweep first (first + length made) made → IsWide width (map noted made) → Filled made
+    filled made few are wide = case_left (seed_count sweep.seeds - length made) made (omega (arith, few)) are wide
+
+    none_made : AreMadeBetween tree sweep first (first + 0) []
+    none_made =
+        let none : 0 ≡ (first + 0) - first = omega arith in
+        subst (λ n. AllZip (IsMadeAs tree) (take n (drop first (runs_of sweep))) []) none tt
+
+    pub fresh : (made : List Made) × IsMadeUntil tree sweep width number made
+    fresh = filled [] (omega arith) none_made (λ n less. absurd (omega arith))
+
+  -- and so can those of the cases that are left
+  pub cases_left : (left number : ℕ) (made : List (List Made)) → number + left ≡ case_count sweep.settings → AreMadeUntil tree sweep width number made
+      → (more : List (List Made)) × AreMadeUntil tree sweep width (case_count sweep.settings) (made ++ more)
+  cases_left zero number made full are =
+      let same : number ≡ case_count sweep.settings = omega (arith, full) in
+      ([], subst (λ l. AreMadeUntil tree sweep width (case_count sweep.settings) l) (sym (append-nil made)) (subst (λ n. AreMadeUntil tree sweep width n made) same are))
+  cases_left (suc left) number made full are =
+      let next = fresh number (omega (arith, full)) in
+      let rest = cases_left left (number + 1) (made ++ next.0 ∷ []) (omega (arith, full)) (one_case tree sweep width number made next.0 are next.1) in
+      (next.0 ∷ rest.0, subst (λ l. AreMadeUntil tree sweep width (case_count sweep.settings) l) (append_assoc made (next.0 ∷ []) rest.0) rest.1)

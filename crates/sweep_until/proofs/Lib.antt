@@ -1,0 +1,5 @@
+pub mod Counted
+pub mod Same
+pub mod Wide
+pub mod Left
+pub mod Cases

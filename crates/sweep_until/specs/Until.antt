@@ -1,0 +1,97 @@
+-- A sweep whose cases have as many runs as their 95 % intervals need to be narrow enough, and no more.
+use Rattle.std.specs.Prelude.{◌≡◌, ◌≤◌, ◌<◌, ◌⊎◌, ℕ, ◌+◌, ◌*◌, Bool, true, false, List, [], Option, flat_map, length, map, take}
+use Rattle.std.specs.List.{AllZip, range_with_len}
+use Rattle.std.specs.Io.KnownBytes.{Appends}
+use Rattle.toml.specs.Data.{Data}
+use Rattle.trace.specs.Sinks.{AppendsBeginning}
+use Rattle.cases.specs.Sweep.{Sweep, case_count, seed_count}
+use Rattle.figures.specs.declared.summary.CaseSummary.{CaseSummary}
+use Rattle.figures.specs.Cases.{IsSummaryOf, runs_with}
+use Rattle.figures.specs.Notes.{Note}
+use Rattle.sweep.specs.Runs.{Made, AreMadeBetween, noted}
+use Rattle.sweep.specs.Table.{Course, BeginsLines, made_line, table_text, tells_revived}
+use Rattle.sweep.specs.Summaries.{HasCome}
+use Rattle.widths.specs.Widths.{is_narrow}
+use Rattle.sweep_until.specs.Kept.{AreKept}
+use Rattle.sweep_until.specs.declared.runs.CaseRuns.{CaseRuns}
+
+-- the interval of the share of these runs in which members were thrown out is at most so many hundredths wide
+abbrev pub is_narrow_of : ℕ → List Note → Bool
+is_narrow_of width runs = is_narrow width (runs_with runs) (length runs)
+
+-- that of no fewer of them is
+abbrev pub IsWide : ℕ → List Note → Type 0
+IsWide width runs = (n : ℕ) → n < length runs → is_narrow_of width (take n runs) ≡ false
+
+-- The runs of the case of this number: its first ones, as few as make its interval narrow enough, or all that are asked for where none do.
+pub record IsMadeUntil (tree : Data) (sweep : Sweep) (width number : ℕ) (made : List Made) : Type 0 where
+  pub are : AreMadeBetween tree sweep (number * seed_count sweep.seeds) (number * seed_count sweep.seeds + length made) made
+  pub few : length made ≤ seed_count sweep.seeds
+  pub wide : IsWide width (map noted made)
+  pub ends : (is_narrow_of width (map noted made) ≡ true) ⊎ (length made ≡ seed_count sweep.seeds)
+
+-- those of the first cases, in their order
+abbrev pub AreMadeUntil : Data → Sweep → ℕ → ℕ → List (List Made) → Type 0
+AreMadeUntil tree sweep width cases made = AllZip (IsMadeUntil tree sweep width) (range_with_len 0 cases) made
+
+-- the table of the runs of some cases
+abbrev pub cases_table : Data → Sweep → List (List Made) → List ℕ
+cases_table tree sweep made = table_text tree sweep (flat_map (λ case. case) made)
+
+-- the summary of a case's runs
+abbrev pub SumsUp : List Made → CaseSummary → Type 0
+SumsUp made case = IsSummaryOf case (map noted made)
+
+-- the runs of the first cases were made, their table was appended, and each case is summed up
+pub record HasCases (tree : Data) (sweep : Sweep) (width : ℕ) (old new : Option (List ℕ)) (number : ℕ) (cases : List CaseSummary) : Type 0 where
+  pub made : List (List Made)
+  pub are : AreMadeUntil tree sweep width number made
+  pub written : Appends old new (cases_table tree sweep made)
+  pub told : AllZip SumsUp made cases
+
+-- those of all cases
+abbrev pub MakesUntil : Data → Sweep → ℕ → Option (List ℕ) → Option (List ℕ) → List CaseSummary → Type 0
+MakesUntil tree sweep width old new cases = HasCases tree sweep width old new (case_count sweep.settings) cases
+
+-- a beginning of their table was appended
+pub record BeginsUntil (tree : Data) (sweep : Sweep) (width : ℕ) (old new : Option (List ℕ)) : Type 0 where
+  pub made : List (List Made)
+  pub are : AreMadeUntil tree sweep width (case_count sweep.settings) made
+  pub written : AppendsBeginning old new (cases_table tree sweep made)
+
+-- ---- how far a case has come
+
+-- the lines of the case of this number
+abbrev pub case_course : Sweep → ℕ → Option (List ℕ) → Course
+case_course sweep number start =
+    record { start = start; front = []; notes = false; from = number * seed_count sweep.seeds; till = number * seed_count sweep.seeds + seed_count sweep.seeds }
+
+-- the lines of the runs of a case to before the run of this number were appended, and no fewer of them are narrow enough
+pub record HasGone (tree : Data) (sweep : Sweep) (width : ℕ) (course : Course) (held : Option (List ℕ)) (kept : CaseRuns) (number : ℕ) : Type 0 where
+  pub come : HasCome tree sweep course held (λ notes. AreKept notes kept) number
+  pub wide : IsWide width (map noted come.lines.made)
+
+-- nor are they
+pub record GoesOn (tree : Data) (sweep : Sweep) (width : ℕ) (course : Course) (held : Option (List ℕ)) (kept : CaseRuns) (number : ℕ) : Type 0 where
+  pub gone : HasGone tree sweep width course held kept number
+  pub open_yet : is_narrow_of width (map noted gone.come.lines.made) ≡ false
+
+-- runs of a case were made up to one with which there are enough, or all to before the run of a number
+pub record HasEnded (tree : Data) (sweep : Sweep) (width : ℕ) (course : Course) (held : Option (List ℕ)) (kept : CaseRuns) (first past : ℕ) : Type 0 where
+  pub next : ℕ
+  pub more : first < next
+  pub high : next ≤ past
+  pub gone : HasGone tree sweep width course held kept next
+  pub ends : (is_narrow_of width (map noted gone.come.lines.made) ≡ true) ⊎ (next ≡ past)
+
+-- a beginning of such lines was appended
+pub record BeginsWide (tree : Data) (sweep : Sweep) (width : ℕ) (course : Course) (held : Option (List ℕ)) : Type 0 where
+  pub begun : BeginsLines tree sweep course held
+  pub wide : IsWide width (map noted begun.made)
+
+-- the runs of a case were made, their lines were appended, and it is summed up
+pub record MakesCase (tree : Data) (sweep : Sweep) (width number : ℕ) (old new : Option (List ℕ)) (case : CaseSummary) : Type 0 where
+  pub made : List Made
+  pub are : IsMadeUntil tree sweep width number made
+  pub written : Appends old new (flat_map (made_line (tells_revived tree)) made)
+  pub told : SumsUp made case

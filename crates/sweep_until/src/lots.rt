@@ -1,0 +1,66 @@
+//! The runs of a case, some at a time, side by side.
+ghost use Rattle.std.specs.Prelude.{◌≡◌, ◌<◌, ◌≤◌, ◌^◌, ◌+◌, false, OnErr, IfOk, IfErr};
+ghost use Rattle.toml.specs.View.{view};
+ghost use Rattle.cases.specs.Sweep.{run_count};
+ghost use Rattle.outputs.specs.Written.{sink_failures};
+ghost use Rattle.sweep.specs.Judged.{AreAccepted};
+ghost use Rattle.sweep.specs.Runs.{IsAskedFor};
+ghost use Rattle.sweep.specs.Table.{Course, HasCause};
+ghost use Rattle.sweep_until.specs.Until.{BeginsWide, GoesOn, HasGone};
+
+use crate::runs::CaseRuns;
+use base::Fault;
+use cases::Plan;
+use scenario::Workers;
+use std::alloc::Global;
+use std::marker::Sync;
+use std::thread::Threads;
+use sweep::{make_side_by_side, write_line};
+use toml::Value;
+use trace::Sink;
+use whole_runs::the_run_is_one;
+
+/// Makes the runs of a case from one number to before another, as many side by side as there are workers, and writes their
+/// lines up to the first run with which the interval is narrow enough. Answers the number of the run after the last that was
+/// written; what was made beyond is thrown away.
+pub(crate) fn make_lot<S: Sink>(
+    rt: &(impl Threads + Sync),
+    alloc: Global,
+    plan: &Plan,
+    width: u64,
+    document: &Value,
+    workers: Workers,
+    from: usize,
+    till: usize,
+    runs: &mut CaseRuns,
+    table: &mut S,
+) -> Result<usize, Fault>
+    requires asked { IsAskedFor plan.now }
+    requires judged { AreAccepted (view document.now) plan.now }
+    requires most { width ≤ 100 }
+    requires some { from < till }
+    requires within { till ≤ run_count plan.now }
+    requires countable { S.failed table.old < 2 ^ 63 }
+    ensures whole { IfOk result (λ next. (course : Course) → course.notes ≡ false → GoesOn (view document.now) plan.now width course (S.held table.old) runs.old from
+        → HasGone (view document.now) plan.now width course (S.held table.new) runs.new next) }
+    ensures further { IfOk result (λ next. from < next) }
+    ensures bounded { IfOk result (λ next. next ≤ till) }
+    ensures part { OnErr result ((course : Course) → course.notes ≡ false → till ≤ course.till → GoesOn (view document.now) plan.now width course (S.held table.old) runs.old from
+        → BeginsWide (view document.now) plan.now width course (S.held table.new)) }
+    ensures causes { IfErr result (HasCause (view document.now) plan.now) }
+    ensures failures { S.failed table.new ≡ S.failed table.old + sink_failures result }
+{
+    the_run_is_one();
+    let each = (till - from).div_ceil(workers.count()).max(1);
+    let lot = make_side_by_side(rt, alloc, plan, document, false, from, till, each)?;
+    let mut past = from;
+    for made in lot {
+        let run = made?;
+        write_line(alloc, &run, runs, table)?;
+        past += 1;
+        if runs.is_narrow(width) {
+            return Ok(past);
+        }
+    }
+    Ok(past)
+}

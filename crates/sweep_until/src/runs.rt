@@ -1,0 +1,82 @@
+//! What is kept of the runs of one case while they are made.
+ghost use Rattle.std.specs.Prelude.{◌≡◌, ◌≤◌, ◌<◌, ◌∷◌, [], List, IfOk};
+ghost use Rattle.figures.specs.Cases.{runs_with};
+ghost use Rattle.figures.specs.Notes.{Note};
+
+use base::Memory;
+use figures::{CaseFigures, CaseSummary, RunNote};
+use std::alloc::Global;
+use std::mem::replace;
+use sweep::Gather;
+use widths::is_narrow;
+
+/// The most runs that there is room for.
+const MOST_RUNS: u64 = 1_000_000;
+
+/// What is kept of the runs of one case while they are made, one after the other. There is room for 1,000,000 runs.
+#[derive(Drop)]
+pub struct CaseRuns {
+    /// Their figures.
+    figures: CaseFigures,
+    /// In how many of them members were thrown out.
+    runs_with: u64,
+}
+
+impl CaseRuns {
+    ghost use Rattle.figures.specs.Cases.{IsSummaryOf};
+    ghost use Rattle.sweep_until.specs.Kept.{AreKept, runs_in};
+    ghost use Rattle.sweep_until.specs.Until.{is_narrow_of};
+
+    /// Nothing of a case yet. It takes no memory.
+    pub fn new(alloc: Global) -> CaseRuns
+        ensures { AreKept [] result }
+    {
+        CaseRuns {
+            figures: CaseFigures::new(alloc),
+            runs_with: 0,
+        }
+    }
+
+    /// Whether the 95 % interval of the share of runs in which members were thrown out is at most so many hundredths wide.
+    pub fn is_narrow(&self, width: u64) -> bool
+        requires { width ≤ 100 }
+        ensures { (runs : List Note) → AreKept runs self.now → result ≡ is_narrow_of width runs }
+    {
+        let runs = self.figures.runs();
+        is_narrow(width, self.runs_with.min(runs), runs)
+    }
+
+    /// What is told of the runs.
+    pub fn into_summary(self) -> Result<CaseSummary, Memory>
+        requires { 0 < runs_in self }
+        ensures { IfOk result (λ summary. (runs : List Note) → AreKept runs self → IsSummaryOf summary runs) }
+    {
+        self.figures.summary()
+    }
+}
+
+impl Gather for CaseRuns {
+    ghost use Rattle.sweep_until.specs.Kept.{AreKept};
+
+    ghost has = { λ kept _ runs. AreKept runs kept };
+
+    // a case has no more runs than there is room for, which the trait can't say
+    fn add(&mut self, alloc: Global, note: &RunNote) -> Result<(), Memory> {
+        let alone = runs_with(alloc, note)?;
+        let figures = replace(&mut self.figures, CaseFigures::new(alloc));
+        if figures.runs() >= MOST_RUNS {
+            return Err(Memory);
+        }
+        self.figures = figures.with(note)?;
+        self.runs_with = self.runs_with.saturating_add(alone);
+        Ok(())
+    }
+}
+
+/// Whether members were thrown out in a run, as its number of such runs: that of a case which has this run alone.
+fn runs_with(alloc: Global, note: &RunNote) -> Result<u64, Memory>
+    ensures { IfOk result (λ n. n ≡ runs_with (note.now ∷ [])) }
+{
+    let figures = CaseFigures::new(alloc).with(note)?;
+    Ok(figures.summary()?.runs_with)
+}
