@@ -9,9 +9,11 @@ use Rattle.drawing.specs.Numbers.{place as place_on}
 use Rattle.drawing.specs.Rounds.{round_step}
 use Rattle.drawing.specs.Shapes.{figure_opening, figure_end, plot_opening, plot_end}
 use Rattle.figures.specs.declared.summary.CaseSummary.{CaseSummary}
-use Rattle.sweep_page.specs.Words.{percent_words, rate_words, thousandths, share_of, number_words, settings_at, is_marked}
-use Rattle.sweep_page.specs.Paths.{path_start, path_step}
-use Rattle.sweep_page.specs.Table.{time_cell, share_cells}
+use Rattle.sweep_cells.specs.Words.{percent_words, rate_words, thousandths, share_of, number_words, settings_at}
+use Rattle.sweep_page.specs.Points.{is_marked}
+use Rattle.sweep_cells.specs.Paths.{path_start, path_step}
+use Rattle.sweep_cells.specs.Cells.{time_cell}
+use Rattle.sweep_page.specs.Table.{share_cells}
 use Rattle.sweep_page.specs.declared.front.Reach.{Reach}
 use Rattle.sweep_page.specs.declared.front_points.FrontPoint.{FrontPoint}
 
@@ -39,11 +41,12 @@ reach_of cases = record { across = past (slowest cases); up = highest cases; mes
 unfoldable pub best_class : Bool → List ℕ
 best_class best = if best then codes " best" else []
 
--- the bar of an interval, and the dot of a share
+-- the bar of an interval
 unfoldable pub interval_bar : List ℕ → ℕ → ℕ → ℕ → List ℕ
 interval_bar class at top bottom =
     codes "<path class=\"span" ++ class ++ codes "\" d=\"M" ++ decimal at ++ codes " " ++ decimal top ++ codes "V" ++ decimal bottom ++ codes "\"/>"
 
+-- the dot of a share
 unfoldable pub share_dot : List ℕ → ℕ → ℕ → ℕ → List ℕ
 share_dot class size at middle =
     codes "<path class=\"point r" ++ decimal size ++ class ++ codes "\" d=\"M" ++ decimal at ++ codes " " ++ decimal middle ++ codes "h0\"/>"
@@ -70,6 +73,7 @@ is_among front best place = if best then is_marked front place else not (is_mark
 unfoldable pub mark_at : Reach → List CaseSummary → List Bool → Bool → ℕ → List ℕ
 mark_at reach cases front best place = if is_among front best place then option_map_or (case_mark reach best) (slice_get cases place) [] else []
 
+-- the marks of all cases among these
 abbrev pub all_marks : Reach → List CaseSummary → List Bool → Bool → List ℕ
 all_marks reach cases front best = flat_map (mark_at reach cases front best) (range_with_len 0 (length cases))
 
@@ -77,9 +81,11 @@ all_marks reach cases front best = flat_map (mark_at reach cases front best) (ra
 unfoldable pub joint : Reach → ℕ → FrontPoint → List ℕ
 joint reach place p = if place == 0 then path_start (min p.time reach.across) (reach.up - p.share) else path_step (min p.time reach.across) (reach.up - p.share)
 
+-- the one at a place
 unfoldable pub joint_at : Reach → List FrontPoint → ℕ → List ℕ
 joint_at reach points place = option_map_or (joint reach place) (slice_get points place) []
 
+-- the whole line
 unfoldable pub joined : Reach → List FrontPoint → List ℕ
 joined reach points =
     markup (codes "<path class=\"joined\" d=\"") ++ flat_map (joint_at reach points) (range_with_len 0 (length points)) ++ markup (codes "\"/>")
@@ -94,6 +100,7 @@ number_mark reach p =
 unfoldable pub share_tick : ℕ → ℕ → List ℕ
 share_tick up share = markup (codes "<span style=\"bottom:") ++ place_on share up ++ markup (codes "\">") ++ percent_words share ++ markup (codes "</span>")
 
+-- the axis of shares
 unfoldable pub shares_up : ℕ → List ℕ
 shares_up up = markup (codes "<div class=\"up\" aria-hidden=\"true\">") ++ at_ticks (share_tick up) up (round_step up 4) ++ markup (codes "</div>")
 
@@ -115,6 +122,7 @@ front_row settings place case =
     markup (codes "<tr><td>") ++ number_words place ++ markup (codes "</td><td>") ++ settings_at settings place ++ markup (codes "</td>") ++ time_cell case.confirm_p50
     ++ share_cells case ++ markup (codes "<td>") ++ rate_words case.messages ++ markup (codes "</td></tr>")
 
+-- that of a case by its place
 unfoldable pub front_row_of : List KeyValues → List CaseSummary → FrontPoint → List ℕ
 front_row_of settings cases p = option_map_or (front_row settings p.place) (slice_get cases p.place) []
 

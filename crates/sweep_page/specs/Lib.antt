@@ -1,7 +1,6 @@
-pub mod Words
 pub mod Points
-pub mod Paths
 pub mod Table
 pub mod Summary
 pub mod Front
+pub mod Style
 pub mod Page

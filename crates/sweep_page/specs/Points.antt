@@ -1,10 +1,14 @@
 -- The cases on the front.
-use Rattle.std.specs.Prelude.{ℕ, Bool, List, Option, None, if◌then◌else◌, length, option_map, option_to_list, slice_get}
+use Rattle.std.specs.Prelude.{ℕ, Bool, false, ◌==◌, ◌&&◌, ◌||◌, nat_lt, List, [], ◌∷◌, Option, None, if◌then◌else◌, length, option_map, option_to_list, slice_get, unwrap_or}
 use Rattle.std.specs.List.{flat_map, range_with_len}
 use Rattle.std.specs.Option.{option_map_or}
 use Rattle.figures.specs.declared.summary.CaseSummary.{CaseSummary}
-use Rattle.sweep_page.specs.Words.{thousandths, share_of, is_marked}
+use Rattle.sweep_cells.specs.Words.{thousandths, share_of}
 use Rattle.sweep_page.specs.declared.front_points.FrontPoint.{FrontPoint}
+
+-- the case at a place is on the front
+abbrev pub is_marked : List Bool → ℕ → Bool
+is_marked front place = unwrap_or (slice_get front place) false
 
 -- a case as it stands on the front, with its median time
 abbrev pub point_of : ℕ → CaseSummary → ℕ → FrontPoint
@@ -26,3 +30,21 @@ points_at cases front place = option_to_list (point_at cases front place)
 -- those on the front that have a median time
 abbrev pub front_cases : List CaseSummary → List Bool → List FrontPoint
 front_cases cases front = flat_map (points_at cases front) (range_with_len 0 (length cases))
+
+-- a case comes before another: it is faster, or as fast and earlier among all
+abbrev pub comes_before : FrontPoint → FrontPoint → Bool
+comes_before p q = nat_lt p.time q.time || (p.time == q.time && nat_lt p.place q.place)
+
+-- a case takes its place among others that stand in their order
+abbrev pub placed : FrontPoint → List FrontPoint → List FrontPoint
+placed p [] = p ∷ []
+placed p (q ∷ more) = if comes_before p q then p ∷ q ∷ more else q ∷ placed p more
+
+-- these in their order, the fastest first
+abbrev pub by_speed : List FrontPoint → List FrontPoint
+by_speed [] = []
+by_speed (p ∷ more) = placed p (by_speed more)
+
+-- the cases on the front in their order
+unfoldable pub front_points : List CaseSummary → List Bool → List FrontPoint
+front_points cases front = by_speed (front_cases cases front)

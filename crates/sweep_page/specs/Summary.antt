@@ -5,13 +5,13 @@ use Rattle.std.specs.Option.{option_map_or}
 use Rattle.cases.specs.Sweep.{KeyValues, Sweep, case_count, seed_count}
 use Rattle.drawing.specs.Escaped.{markup}
 use Rattle.drawing.specs.Numbers.{grouped}
-use Rattle.sweep_page.specs.Words.{interval_words, number_words, settings_at}
+use Rattle.sweep_cells.specs.Words.{interval_words, number_words, settings_at}
 use Rattle.sweep_page.specs.declared.front_points.FrontPoint.{FrontPoint}
 
 -- how many cases there are, and how often each ran
 unfoldable pub size_words : Sweep → List ℕ
 size_words sweep =
-    markup (codes "<p class=\"soft\">Settings tried: ") ++ grouped (case_count sweep.settings) ++ markup (codes ". Runs of each: ") ++ grouped (seed_count sweep.seeds) ++ markup (codes ".</p>\n")
+    markup (codes "<p class=\"soft\">Settings tried: ") ++ grouped (case_count sweep.settings) ++ markup (codes ". Seeds for each: ") ++ grouped (seed_count sweep.seeds) ++ markup (codes ".</p>\n")
 
 -- how fast a case is, and how safe
 unfoldable pub speed_words : FrontPoint → List ℕ

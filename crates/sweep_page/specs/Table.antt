@@ -1,5 +1,5 @@
 -- The table of all cases.
-use Rattle.std.specs.Prelude.{ℕ, Bool, if◌then◌else◌, List, [], ◌++◌, Option, codes, length, slice_get}
+use Rattle.std.specs.Prelude.{ℕ, Bool, if◌then◌else◌, List, [], ◌++◌, codes, length, slice_get}
 use Rattle.std.specs.List.{flat_map, range_with_len}
 use Rattle.std.specs.Option.{option_map_or}
 use Rattle.cases.specs.Cases.{cases_of}
@@ -10,15 +10,9 @@ use Rattle.cases.specs.declared.choice.Choice.{Choice}
 use Rattle.drawing.specs.Escaped.{escaped, markup}
 use Rattle.drawing.specs.Shapes.{figure_opening, figure_end}
 use Rattle.figures.specs.declared.summary.CaseSummary.{CaseSummary}
-use Rattle.sweep_page.specs.Words.{time_words, percent_words, hundredths_words, rate_words, runs_words, interval_words, thousandths, share_of, number_words, is_marked}
-
--- a cell with a text
-unfoldable pub cell : List ℕ → List ℕ
-cell text = markup (codes "<td>") ++ escaped text ++ markup (codes "</td>")
-
--- a cell with a time
-unfoldable pub time_cell : Option ℕ → List ℕ
-time_cell time = markup (codes "<td>") ++ time_words time ++ markup (codes "</td>")
+use Rattle.sweep_cells.specs.Cells.{cell, time_cell}
+use Rattle.sweep_cells.specs.Words.{percent_words, hundredths_words, rate_words, runs_words, interval_words, thousandths, share_of, number_words}
+use Rattle.sweep_page.specs.Points.{is_marked}
 
 -- the cells that tell how often a case threw out healthy members
 unfoldable pub share_cells : CaseSummary → List ℕ
@@ -36,10 +30,11 @@ figure_cells case =
     time_cell case.confirm_p50 ++ share_cells case ++ time_cell case.suspect_p50 ++ time_cell case.confirm_p99 ++ time_cell case.confirm_greatest ++ time_cell case.last_p50
     ++ time_cell case.last_greatest ++ cost_cells case
 
--- the cells of the values that a case gives its keys
+-- the cell of a value that a case gives a key
 unfoldable pub value_cell : Choice → List ℕ
 value_cell choice = cell (value_text choice.value)
 
+-- those of the case at a place
 unfoldable pub value_cells : List KeyValues → ℕ → List ℕ
 value_cells settings place = option_map_or (λ chosen. flat_map value_cell chosen) (slice_get (cases_of settings) place) []
 

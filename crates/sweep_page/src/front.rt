@@ -6,10 +6,9 @@ ghost use Rattle.drawing.specs.Axes.{at_ticks};
 ghost use Rattle.drawing.specs.Rounds.{round_step};
 ghost use Rattle.sweep_page.specs.Front.{slowest, highest, most_messages, reach_of, share_tick, shares_up, plane, plane_opening, front_row, front_row_of, front_heads, front_table, front_words, front_chart, front_figure};
 
-use crate::cells::{case_at, push_number, push_percent, push_rate, push_settings_at, thousandths};
 use crate::front_points::FrontPoint;
 use crate::marks::{push_joined, push_marks, push_numbers};
-use crate::table::{push_shares, push_time_cell};
+use crate::table::push_shares;
 use base::Memory;
 use cases::Plan;
 use drawing::{
@@ -18,6 +17,9 @@ use drawing::{
 };
 use figures::CaseSummary;
 use std::alloc::{AllocError, Global};
+use sweep_cells::{
+    case_at, push_number, push_percent, push_rate, push_settings_at, push_time_cell, thousandths,
+};
 
 /// The greatest number that an axis reaches.
 const MOST: u64 = 1_000_000_000_000_000_000;
@@ -85,7 +87,8 @@ fn most_messages(cases: &[CaseSummary]) -> u128
     most
 }
 
-/// Appends the plot of all cases, those on the front joined and named, and their figures in a table.
+/// Appends the plot of all cases, those on the front joined and named, and their figures in a
+/// table.
 #[tactic(auto, unfolding(crate::specs::Front::front_figure))]
 pub(crate) fn push_front(
     alloc: Global,

@@ -1,13 +1,11 @@
 //! The cases on the front, by their times.
 ghost use Rattle.std.specs.Prelude.{◌≡◌, ◌++◌, IfOk, OnOk};
-ghost use Rattle.std.specs.List.Sorted.{IsPermutation, IsSorted};
-ghost use Rattle.sweep_page.specs.Words.{is_marked};
-ghost use Rattle.sweep_page.specs.Points.{front_cases, front_point, point_at, points_at};
+ghost use Rattle.sweep_page.specs.Points.{is_marked, front_cases, front_points, front_point, point_at, points_at};
 
-use crate::cells::{case_at, share_of, thousandths};
 use base::Memory;
 use figures::CaseSummary;
 use std::alloc::Global;
+use sweep_cells::{case_at, share_of, thousandths};
 
 /// A case on the front: the faster one is the less.
 #[derive(Clone, Copy, Debug, PartialEq, Eq, PartialOrd, Ord)]
@@ -26,17 +24,19 @@ pub struct FrontPoint {
     pub runs: u64,
 }
 
-/// The cases on the front that have a median time, the fastest first.
+/// The cases on the front that have a median time, the fastest first; those as fast as each other
+/// stand in the order of their places.
+#[tactic(auto, unfolding(crate::specs::Points::front_points))]
 pub(crate) fn front_points(
     alloc: Global,
     cases: &[CaseSummary],
     front: &[bool],
 ) -> Result<Vec<FrontPoint>, Memory>
-    ensures all { IfOk result (λ points. IsPermutation (front_cases cases.now front.now) points.items) }
-    ensures order { IfOk result (λ points. IsSorted ⟦<FrontPoint as Ord>⟧.cmp points.items) }
+    ensures { IfOk result (λ points. points.items ≡ front_points cases.now front.now) }
 {
-    let points = unordered(alloc, cases, front)?;
-    sorted(points)
+    let mut points = unordered(alloc, cases, front)?;
+    points.sort()?;
+    Ok(points)
 }
 
 /// The same in the order of their places.
@@ -67,16 +67,6 @@ fn push_point(
         points.push(point)?;
     }
     Ok(())
-}
-
-/// These in their order.
-fn sorted(points: Vec<FrontPoint>) -> Result<Vec<FrontPoint>, Memory>
-    ensures all { IfOk result (λ sorted. IsPermutation points.items sorted.items) }
-    ensures order { IfOk result (λ sorted. IsSorted ⟦<FrontPoint as Ord>⟧.cmp sorted.items) }
-{
-    let mut points = points;
-    points.sort()?;
-    Ok(points)
 }
 
 /// Whether the case at a place is on the front.

@@ -1,7 +1,9 @@
 //! How the page is laid out.
+ghost use Rattle.std.specs.Prelude.{◌≡◌};
+ghost use Rattle.sweep_page.specs.Style.{page_style};
 
 /// The style of the page.
-pub(crate) const STYLE: &str = "\
+const STYLE: &str = "\
 *{box-sizing:border-box}body{margin:0;background:var(--page);color:var(--ink);font:16px/1.5 system-ui,sans-serif}\
 main{max-width:72rem;margin:0 auto;padding:1rem}h1{font-size:1.5rem;margin:.2em 0;overflow-wrap:anywhere}\
 h2{font-size:1.15rem;margin:2em 0 .2em}h3{font-size:1rem;margin:1em 0 .2em}p{margin:.3em 0;max-width:48rem}\
@@ -37,3 +39,11 @@ td{white-space:nowrap}th{color:var(--soft);font-weight:600;vertical-align:bottom
 .best td{font-weight:600}tr.best{background:var(--field)}\
 @media(max-width:760px){.chart{grid-template-columns:3.4rem 1fr}.plane{height:14rem}}\
 @media print{details{display:none}.answers li,.chart{break-inside:avoid}.number{print-color-adjust:exact}}";
+
+/// The style of the page.
+#[tactic(auto, unfolding(crate::specs::Style::page_style))]
+pub(crate) fn page_style() -> &'static str
+    ensures { result.now ≡ page_style }
+{
+    STYLE
+}

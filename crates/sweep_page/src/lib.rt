@@ -1,15 +1,11 @@
-//! The page of a sweep: one HTML file that shows which setting to take, with no script and nothing from
-//! elsewhere.
+//! The page of a sweep: one HTML file that shows which setting to take, with no script and nothing
+//! from elsewhere.
 #![tactic(auto)]
 
-mod cells;
 mod front;
 mod front_points;
-mod keys;
 mod layout;
-mod lines;
 mod marks;
-mod paths;
 mod summary;
 mod table;
 mod whole;

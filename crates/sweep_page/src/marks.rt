@@ -1,17 +1,16 @@
-//! The marks of cases in the plot of all: a dot and a bar for each, a line through those on the front, and
-//! their numbers.
+//! The marks of cases in the plot of all: a dot and a bar for each, a line through those on the
+//! front, and their numbers.
 ghost use Rattle.std.specs.Prelude.{◌≡◌, ◌++◌, OnOk, length};
 ghost use Rattle.std.specs.List.{flat_map, range_with_len};
 ghost use Rattle.std.specs.String.{string_bytes};
 ghost use Rattle.sweep_page.specs.Front.{best_class, interval_bar, share_dot, size_of, mark_over, case_mark, is_among, mark_at, all_marks, joint, joint_at, joined, number_mark};
 
-use crate::cells::{case_at, push_number, share_of, thousandths};
 use crate::front::Reach;
 use crate::front_points::{FrontPoint, is_marked};
-use crate::paths::{push_start, push_step};
 use drawing::{push_markup, push_place};
 use figures::CaseSummary;
 use std::alloc::AllocError;
+use sweep_cells::{case_at, push_number, push_start, push_step, share_of, thousandths};
 
 /// Appends the marks of the cases on the front, or of the others.
 pub(crate) fn push_marks(
@@ -50,7 +49,8 @@ fn push_mark_at(
     }
 }
 
-/// Whether the case at a place is on the front, where those are asked for, or isn't, where the others are.
+/// Whether the case at a place is on the front, where those are asked for, or isn't, where the
+/// others are.
 fn is_among(front: &[bool], best: bool, place: usize) -> bool
     ensures { result ≡ is_among front.now best place }
 {

@@ -4,12 +4,12 @@ ghost use Rattle.std.specs.List.{flat_map, range_with_len};
 ghost use Rattle.std.specs.String.{string_bytes};
 ghost use Rattle.sweep_page.specs.Summary.{size_words, speed_words, more_words, answer, answer_at, answers_opening, untold_words, answers, no_answers, summary};
 
-use crate::cells::{push_interval, push_number, push_settings_at};
 use crate::front_points::FrontPoint;
 use base::Memory;
 use cases::Plan;
 use drawing::{push_grouped, push_markup};
 use std::alloc::{AllocError, Global};
+use sweep_cells::{push_interval, push_number, push_settings_at};
 
 /// How many cases on the front are told of in words.
 const MOST_TOLD: usize = 12;
@@ -40,7 +40,7 @@ fn push_size(text: &mut String, plan: &Plan) -> Result<(), AllocError>
 {
     push_markup(text, "<p class=\"soft\">Settings tried: ")?;
     push_grouped(text, plan.cases() as u64)?;
-    push_markup(text, ". Runs of each: ")?;
+    push_markup(text, ". Seeds for each: ")?;
     push_grouped(text, plan.runs_of_case() as u64)?;
     push_markup(text, ".</p>\n")
 }

@@ -3,18 +3,18 @@ ghost use Rattle.std.specs.Prelude.{◌≡◌, ◌<◌, ◌++◌, OnOk, length};
 ghost use Rattle.std.specs.List.{flat_map, range_with_len};
 ghost use Rattle.std.specs.String.{string_bytes};
 ghost use Rattle.cases.specs.Sweep.{case_count};
-ghost use Rattle.sweep_page.specs.Table.{cell, time_cell, share_cells, cost_cells, figure_cells, value_cell, value_cells, row_opening, row, row_at, key_head, table_words, figure_heads, table};
+ghost use Rattle.sweep_page.specs.Table.{share_cells, cost_cells, figure_cells, value_cell, value_cells, row_opening, row, row_at, key_head, table_words, figure_heads, table};
 
-use crate::cells::{
-    case_at, push_hundredths, push_interval, push_number, push_percent, push_rate, push_runs_with,
-    push_time, share_of, thousandths,
-};
 use crate::front_points::is_marked;
 use base::Memory;
 use cases::{Choice, Plan, Setting};
 use drawing::{close_figure, open_figure, push_escaped, push_markup};
 use figures::CaseSummary;
 use std::alloc::{AllocError, Global};
+use sweep_cells::{
+    case_at, push_cell, push_hundredths, push_interval, push_number, push_percent, push_rate,
+    push_runs_with, push_time_cell, share_of, thousandths,
+};
 
 /// Appends the table of all cases, those on the front marked.
 #[tactic(auto, unfolding(crate::specs::Table::table))]
@@ -190,16 +190,6 @@ fn push_value(alloc: Global, text: &mut String, choice: &Choice) -> Result<(), M
     Ok(())
 }
 
-/// Appends a cell.
-#[tactic(auto, unfolding(crate::specs::Table::cell))]
-fn push_cell(text: &mut String, words: &str) -> Result<(), AllocError>
-    ensures { OnOk result (string_bytes text.new ≡ string_bytes text.old ++ cell words.now) }
-{
-    push_markup(text, "<td>")?;
-    push_escaped(text, words)?;
-    push_markup(text, "</td>")
-}
-
 /// Appends the figures of a case.
 #[tactic(auto, unfolding(crate::specs::Table::figure_cells))]
 fn push_figures(text: &mut String, case: &CaseSummary) -> Result<(), AllocError>
@@ -224,16 +214,6 @@ fn push_costs(text: &mut String, case: &CaseSummary) -> Result<(), AllocError>
     push_hundredths(text, case.false_suspect)?;
     push_markup(text, "</td><td>")?;
     push_rate(text, case.messages)?;
-    push_markup(text, "</td>")
-}
-
-/// Appends a cell with a time.
-#[tactic(auto, unfolding(crate::specs::Table::time_cell))]
-pub(crate) fn push_time_cell(text: &mut String, time: Option<u64>) -> Result<(), AllocError>
-    ensures { OnOk result (string_bytes text.new ≡ string_bytes text.old ++ time_cell time) }
-{
-    push_markup(text, "<td>")?;
-    push_time(text, time)?;
     push_markup(text, "</td>")
 }
 

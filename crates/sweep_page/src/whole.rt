@@ -2,19 +2,19 @@
 ghost use Rattle.std.specs.Prelude.{◌≡◌, ◌++◌, IfOk, OnOk, length};
 ghost use Rattle.std.specs.String.{string_bytes};
 ghost use Rattle.cases.specs.Sweep.{case_count};
-ghost use Rattle.sweep_page.specs.Page.{IsPage, page_text, styles, page_head, page_end};
+ghost use Rattle.sweep_page.specs.Page.{page_head, page_end, page_over, page_text};
 
 use crate::front::push_front;
 use crate::front_points::{FrontPoint, front_points};
-use crate::keys::keys_figures;
-use crate::layout::STYLE;
+use crate::layout::page_style;
 use crate::summary::push_summary;
 use crate::table::push_table;
 use base::Memory;
 use cases::Plan;
-use drawing::{STYLE as DRAWINGS, push_escaped, push_markup};
+use drawing::{drawing_style, push_escaped, push_markup};
 use figures::CaseSummary;
 use std::alloc::{AllocError, Global};
+use sweep_keys::push_keys;
 
 /// What is told beside the figures.
 #[derive(Clone, Copy)]
@@ -25,8 +25,8 @@ pub struct SweepShown<'a> {
     pub release: &'a str,
 }
 
-/// The page of a sweep, whole. It takes the summary of each case of the plan, in their order, and for each
-/// whether it is on the front. It fails where memory is refused, and then there is none.
+/// The page of a sweep, whole. It takes the summary of each case of the plan, in their order, and
+/// for each whether it is on the front. It fails where memory is refused, and then there is none.
 pub fn page(
     alloc: Global,
     shown: &SweepShown,
@@ -35,27 +35,17 @@ pub fn page(
     front: &[bool],
 ) -> Result<String, Memory>
     requires { length cases.now ≡ case_count plan.now.settings }
-    ensures { IfOk result (λ text. IsPage ⟦<FrontPoint as Ord>⟧.cmp (styles DRAWINGS.now STYLE.now) shown.now.name.now shown.now.release.now plan.now cases.now
-        front.now (string_bytes text)) }
+    ensures { IfOk result (λ text. string_bytes text
+        ≡ page_text shown.now.name.now shown.now.release.now plan.now cases.now front.now) }
 {
     let points = front_points(alloc, cases, front)?;
-    let keys = keys_figures(alloc, plan, cases)?;
     let mut text = String::new(alloc);
-    push_page(
-        alloc,
-        &mut text,
-        shown,
-        plan,
-        cases,
-        front,
-        &points,
-        keys.as_str(),
-    )?;
+    push_page(alloc, &mut text, shown, plan, cases, front, &points)?;
     Ok(text)
 }
 
-/// Appends the page, with the cases on the front in their order, and the figures of keys.
-#[tactic(auto, unfolding(crate::specs::Page::page_text))]
+/// Appends the page, with the cases on the front in their order.
+#[tactic(auto, unfolding(crate::specs::Page::page_over))]
 fn push_page(
     alloc: Global,
     text: &mut String,
@@ -64,16 +54,15 @@ fn push_page(
     cases: &[CaseSummary],
     front: &[bool],
     points: &[FrontPoint],
-    keys: &str,
 ) -> Result<(), Memory>
     requires { length cases.now ≡ case_count plan.now.settings }
     ensures { OnOk result (string_bytes text.new ≡ string_bytes text.old
-        ++ page_text (styles DRAWINGS.now STYLE.now) shown.now.name.now shown.now.release.now plan.now cases.now front.now points.now keys.now) }
+        ++ page_over shown.now.name.now shown.now.release.now plan.now cases.now front.now points.now) }
 {
-    push_head(text, DRAWINGS, STYLE, shown.name)?;
+    push_head(text, shown.name)?;
     push_summary(alloc, text, plan, points)?;
     push_front(alloc, text, plan, cases, front, points)?;
-    push_markup(text, keys)?;
+    push_keys(alloc, text, plan, cases)?;
     push_table(alloc, text, plan, cases, front)?;
     push_end(text, shown.release)?;
     Ok(())
@@ -81,8 +70,8 @@ fn push_page(
 
 /// Appends what stands before the figures.
 #[tactic(auto, unfolding(crate::specs::Page::page_head))]
-fn push_head(text: &mut String, drawings: &str, style: &str, name: &str) -> Result<(), AllocError>
-    ensures { OnOk result (string_bytes text.new ≡ string_bytes text.old ++ page_head (styles drawings.now style.now) name.now) }
+fn push_head(text: &mut String, name: &str) -> Result<(), AllocError>
+    ensures { OnOk result (string_bytes text.new ≡ string_bytes text.old ++ page_head name.now) }
 {
     push_markup(
         text,
@@ -91,8 +80,8 @@ fn push_head(text: &mut String, drawings: &str, style: &str, name: &str) -> Resu
     )?;
     push_escaped(text, name)?;
     push_markup(text, " - swimsim sweep</title><style>")?;
-    push_markup(text, drawings)?;
-    push_markup(text, style)?;
+    push_markup(text, drawing_style())?;
+    push_markup(text, page_style())?;
     push_markup(
         text,
         "</style></head>\n<body><main><header><h1>Which setting of ",

@@ -1,6 +1,6 @@
 use Rattle.std.proofs.Common.{◌≡◌, ◌≤◌, ℕ, max, fold, take}
 use Rattle.figures.specs.declared.summary.CaseSummary.{CaseSummary}
-use Rattle.sweep_page.specs.Words.{thousandths}
+use Rattle.sweep_cells.specs.Words.{thousandths}
 use Rattle.sweep_page.proofs.front.highest.Given as goal
 
 abbrev pub invariant-loop-case : goal.invariant-loop-case

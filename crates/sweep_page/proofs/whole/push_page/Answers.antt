@@ -1,7 +1,7 @@
 use Rattle.drawing.proofs.Pushes.{and_then}
-use Rattle.sweep_page.specs.Page.{page_text}
+use Rattle.sweep_page.specs.Page.{page_over}
 use Rattle.sweep_page.proofs.whole.push_page.Goals as goal
 
 pub returns : goal.returns
-unfolding page_text
-returns c = and_then _ _ _ (and_then _ _ _ (and_then _ _ _ (and_then _ _ _ (and_then _ _ _ c.in_ok-push_head.ensures c.in_ok-push_summary.ensures) c.in_ok-push_front.ensures) c.in_ok-push_markup.ensures) c.in_ok-push_table.ensures) c.in_ok-push_end.ensures
+unfolding page_over
+returns c = and_then _ _ _ (and_then _ _ _ (and_then _ _ _ (and_then _ _ _ (and_then _ _ _ c.in_ok-push_head.ensures c.in_ok-push_summary.ensures) c.in_ok-push_front.ensures) c.in_ok-push_keys.ensures) c.in_ok-push_table.ensures) c.in_ok-push_end.ensures

@@ -1,0 +1,3 @@
+pub mod Words
+pub mod Paths
+pub mod Cells

@@ -1,0 +1,61 @@
+-- Figures as words.
+use Rattle.std.specs.Prelude.{ℕ, ◌+◌, ◌-◌, ◌*◌, ◌/◌, ◌%◌, ◌^◌, ◌==◌, if◌then◌else◌, min, max, List, [], ◌++◌, Option, codes, decimal, length, slice_get}
+use Rattle.std.specs.Option.{option_map_or}
+use Rattle.cases.specs.Cases.{cases_of, settings_text}
+use Rattle.cases.specs.Sweep.{KeyValues}
+use Rattle.cases.specs.declared.choice.Choice.{Choice}
+use Rattle.drawing.specs.Escaped.{escaped, markup}
+use Rattle.drawing.specs.Numbers.{grouped}
+use Rattle.figures.specs.declared.summary.CaseSummary.{CaseSummary}
+
+-- a time in ticks, or a dash where there is none
+unfoldable pub time_words : Option ℕ → List ℕ
+time_words time = option_map_or grouped time (codes "-")
+
+-- a whole number of percent
+unfoldable pub whole_percent : ℕ → List ℕ
+whole_percent n = decimal n ++ codes "&nbsp;%"
+
+-- a number of percent with its tenths
+unfoldable pub tenth_percent : ℕ → ℕ → List ℕ
+tenth_percent n tenth = decimal n ++ codes "." ++ decimal tenth ++ codes "&nbsp;%"
+
+-- a number of thousandths as percent, with a tenth where it isn't whole
+unfoldable pub percent_words : ℕ → List ℕ
+percent_words n = if n % 10 == 0 then whole_percent (n / 10) else tenth_percent (n / 10) (n % 10)
+
+-- a number of hundredths
+unfoldable pub hundredths_words : ℕ → List ℕ
+hundredths_words n = decimal (n / 100) ++ codes "." ++ decimal (n / 10 % 10) ++ decimal (n % 10)
+
+-- messages a member and 1,000 ticks, in hundredths, or a dash where there are none
+unfoldable pub rate_words : Option ℕ → List ℕ
+rate_words rate = option_map_or hundredths_words rate (codes "-")
+
+-- in how many of a case's runs healthy members were thrown out
+unfoldable pub runs_words : CaseSummary → List ℕ
+runs_words case = grouped case.runs_with ++ markup (codes " of ") ++ grouped case.runs
+
+-- an interval of shares, in thousandths
+unfoldable pub interval_words : ℕ → ℕ → List ℕ
+interval_words low high = percent_words low ++ markup (codes " to ") ++ percent_words high
+
+-- a share is at most the whole
+abbrev pub thousandths : ℕ → ℕ
+thousandths share = min share 1000
+
+-- the share of its runs in which a case threw out healthy members, in thousandths and rounded down
+unfoldable pub share_of : CaseSummary → ℕ
+share_of case = thousandths (case.runs_with * 1000 / max case.runs 1)
+
+-- the number of the case at a place: the first is 1, and none is past 64 bits
+unfoldable pub number_words : ℕ → List ℕ
+number_words place = grouped (min (place + 1) (2 ^ 64 - 1))
+
+-- the settings of a case
+unfoldable pub settings_words : List Choice → List ℕ
+settings_words chosen = if length chosen == 0 then codes "the scenario as it is" else escaped (settings_text chosen)
+
+-- those of the case at a place among all
+unfoldable pub settings_at : List KeyValues → ℕ → List ℕ
+settings_at settings place = option_map_or settings_words (slice_get (cases_of settings) place) []

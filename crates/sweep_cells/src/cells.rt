@@ -1,0 +1,183 @@
+//! Figures as words, and cells of tables.
+ghost use Rattle.std.specs.Prelude.{◌≡◌, ◌<◌, ◌++◌, OnOk, slice_get, IfSome, length};
+ghost use Rattle.std.specs.String.{string_bytes};
+ghost use Rattle.cases.specs.Sweep.{case_count};
+ghost use Rattle.sweep_cells.specs.Cells.{cell, time_cell};
+ghost use Rattle.sweep_cells.specs.Words.{time_words, whole_percent, tenth_percent, percent_words, hundredths_words, rate_words, runs_words, interval_words, number_words, settings_words, settings_at, thousandths, share_of};
+
+use base::Memory;
+use cases::{Choice, Plan, settings_text};
+use drawing::{push_escaped, push_grouped, push_markup};
+use figures::CaseSummary;
+use std::alloc::{AllocError, Global};
+
+/// Appends a time in ticks, or a dash where there is none.
+#[tactic(auto, unfolding(crate::specs::Words::time_words))]
+pub fn push_time(text: &mut String, time: Option<u64>) -> Result<(), AllocError>
+    ensures { OnOk result (string_bytes text.new ≡ string_bytes text.old ++ time_words time) }
+{
+    match time {
+        Some(ticks) => push_grouped(text, ticks),
+        None => text.push_str("-"),
+    }
+}
+
+/// Appends a number of thousandths as percent, with a tenth where it isn't whole.
+#[tactic(auto, unfolding(crate::specs::Words::percent_words))]
+pub fn push_percent(text: &mut String, thousandths: u64) -> Result<(), AllocError>
+    ensures { OnOk result (string_bytes text.new ≡ string_bytes text.old ++ percent_words thousandths) }
+{
+    let whole = thousandths / 10;
+    let rest = thousandths % 10;
+    if rest == 0 {
+        push_whole(text, whole)
+    } else {
+        push_tenth(text, whole, rest)
+    }
+}
+
+/// Appends a whole number of percent.
+#[tactic(auto, unfolding(crate::specs::Words::whole_percent))]
+fn push_whole(text: &mut String, whole: u64) -> Result<(), AllocError>
+    ensures { OnOk result (string_bytes text.new ≡ string_bytes text.old ++ whole_percent whole) }
+{
+    write!(text, "{whole}&nbsp;%")
+}
+
+/// Appends a number of percent with its tenths.
+#[tactic(auto, unfolding(crate::specs::Words::tenth_percent))]
+fn push_tenth(text: &mut String, whole: u64, tenth: u64) -> Result<(), AllocError>
+    ensures { OnOk result (string_bytes text.new ≡ string_bytes text.old ++ tenth_percent whole tenth) }
+{
+    write!(text, "{whole}.{tenth}&nbsp;%")
+}
+
+/// Appends a number of hundredths, with its two digits.
+#[tactic(auto, unfolding(crate::specs::Words::hundredths_words))]
+pub fn push_hundredths(text: &mut String, hundredths: u128) -> Result<(), AllocError>
+    ensures { OnOk result (string_bytes text.new ≡ string_bytes text.old ++ hundredths_words hundredths) }
+{
+    let whole = hundredths / 100;
+    let tenth = hundredths / 10 % 10;
+    let last = hundredths % 10;
+    write!(text, "{whole}.{tenth}{last}")
+}
+
+/// Appends messages a member and 1,000 ticks, which are in hundredths, or a dash where there are
+/// none.
+#[tactic(auto, unfolding(crate::specs::Words::rate_words))]
+pub fn push_rate(text: &mut String, rate: Option<u128>) -> Result<(), AllocError>
+    ensures { OnOk result (string_bytes text.new ≡ string_bytes text.old ++ rate_words rate) }
+{
+    match rate {
+        Some(hundredths) => push_hundredths(text, hundredths),
+        None => text.push_str("-"),
+    }
+}
+
+/// Appends in how many runs healthy members were thrown out, of how many.
+#[tactic(auto, unfolding(crate::specs::Words::runs_words))]
+pub fn push_runs_with(text: &mut String, case: &CaseSummary) -> Result<(), AllocError>
+    ensures { OnOk result (string_bytes text.new ≡ string_bytes text.old ++ runs_words case.now) }
+{
+    push_grouped(text, case.runs_with)?;
+    push_markup(text, " of ")?;
+    push_grouped(text, case.runs)
+}
+
+/// Appends the 95 % interval of a share, in thousandths.
+#[tactic(auto, unfolding(crate::specs::Words::interval_words))]
+pub fn push_interval(text: &mut String, low: u64, high: u64) -> Result<(), AllocError>
+    ensures { OnOk result (string_bytes text.new ≡ string_bytes text.old ++ interval_words low high) }
+{
+    push_percent(text, low)?;
+    push_markup(text, " to ")?;
+    push_percent(text, high)
+}
+
+/// A share in thousandths, of which 1,000 are all.
+pub fn thousandths(share: u128) -> u64
+    ensures { result ≡ thousandths share }
+{
+    share.min(1000) as u64
+}
+
+/// The share of its runs in which a case threw out healthy members, in thousandths, rounded down.
+#[tactic(auto, unfolding(crate::specs::Words::share_of))]
+pub fn share_of(case: &CaseSummary) -> u64
+    ensures { result ≡ share_of case.now }
+{
+    let runs = u128::from(case.runs).max(1);
+    thousandths(u128::from(case.runs_with) * 1000 / runs)
+}
+
+/// Appends the number of the case at a place: the first is 1.
+#[tactic(auto, unfolding(crate::specs::Words::number_words))]
+pub fn push_number(text: &mut String, place: usize) -> Result<(), AllocError>
+    ensures { OnOk result (string_bytes text.new ≡ string_bytes text.old ++ number_words place) }
+{
+    push_grouped(text, (place as u64).saturating_add(1))
+}
+
+/// Appends the settings of a case: its choices, or that there are none.
+#[tactic(auto, unfolding(crate::specs::Words::settings_words))]
+pub fn push_settings(alloc: Global, text: &mut String, chosen: &[Choice]) -> Result<(), Memory>
+    ensures { OnOk result (string_bytes text.new ≡ string_bytes text.old ++ settings_words chosen.now) }
+{
+    if chosen.is_empty() {
+        text.push_str("the scenario as it is")?;
+        return Ok(());
+    }
+    let settings = settings_text(alloc, chosen)?;
+    push_escaped(text, settings.as_str())?;
+    Ok(())
+}
+
+/// Appends the settings of the case at a place among all of the plan; nothing where there is none.
+#[tactic(auto, unfolding(crate::specs::Words::settings_at))]
+pub fn push_settings_at(
+    alloc: Global,
+    text: &mut String,
+    plan: &Plan,
+    place: usize,
+) -> Result<(), Memory>
+    ensures { OnOk result (string_bytes text.new ≡ string_bytes text.old ++ settings_at plan.now.settings place) }
+{
+    if place >= plan.cases() {
+        return Ok(());
+    }
+    let chosen = plan.case_at(alloc, place)?;
+    push_settings(alloc, text, &chosen)?;
+    Ok(())
+}
+
+/// The case at a place, where there is one.
+pub fn case_at(cases: &[CaseSummary], place: usize) -> Option<CaseSummary>
+    ensures value { result ≡ slice_get cases.now place }
+    ensures within { IfSome result (λ _. place < length cases.now) }
+{
+    match cases.get(place) {
+        Some(case) => Some(*case),
+        None => None,
+    }
+}
+
+/// Appends a cell with a text, escaped.
+#[tactic(auto, unfolding(crate::specs::Cells::cell))]
+pub fn push_cell(text: &mut String, words: &str) -> Result<(), AllocError>
+    ensures { OnOk result (string_bytes text.new ≡ string_bytes text.old ++ cell words.now) }
+{
+    push_markup(text, "<td>")?;
+    push_escaped(text, words)?;
+    push_markup(text, "</td>")
+}
+
+/// Appends a cell with a time in ticks, or a dash where there is none.
+#[tactic(auto, unfolding(crate::specs::Cells::time_cell))]
+pub fn push_time_cell(text: &mut String, time: Option<u64>) -> Result<(), AllocError>
+    ensures { OnOk result (string_bytes text.new ≡ string_bytes text.old ++ time_cell time) }
+{
+    push_markup(text, "<td>")?;
+    push_time(text, time)?;
+    push_markup(text, "</td>")
+}

@@ -1,0 +1,14 @@
+//! What the figures of a sweep's page share: times, shares and settings as words, cells of tables,
+//! and paths corner by corner. What appends fails only where memory is refused; the text then has
+//! some beginning of what was to come.
+#![tactic(auto)]
+
+mod cells;
+mod paths;
+
+pub use cells::{
+    case_at, push_cell, push_hundredths, push_interval, push_number, push_percent, push_rate,
+    push_runs_with, push_settings, push_settings_at, push_time, push_time_cell, share_of,
+    thousandths,
+};
+pub use paths::{push_start, push_step};

@@ -1,0 +1,7 @@
+use Rattle.drawing.proofs.Pushes.{and_then, and_last}
+use Rattle.sweep_keys.specs.Keys.{more_undrawn}
+use Rattle.sweep_keys.proofs.legend.push_more.Goals as goal
+
+pub returns : goal.returns
+unfolding more_undrawn
+returns c = and_last _ _ _ _ c.push_markup-2.result (and_then _ _ _ c.in_ok-push_markup.ensures c.in_ok-push_grouped.ensures) c.push_markup-2.ensures

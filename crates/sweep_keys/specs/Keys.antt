@@ -1,0 +1,219 @@
+-- The figures of keys: what each key that is set changes.
+use Rattle.std.specs.Prelude.{ℕ, Bool, ◌+◌, ◌-◌, ◌/◌, ◌%◌, ◌^◌, ◌==◌, ◌&&◌, nat_le, if◌then◌else◌, min, max, List, [], ◌++◌, Option, None, codes, decimal, drop, fold, is_some, length, slice_get, take, unwrap_or}
+use Rattle.std.specs.List.{flat_map, range_with_len}
+use Rattle.std.specs.Option.{option_map_or}
+use Rattle.cases.specs.Cases.{cases_of}
+use Rattle.cases.specs.Keys.{key_name}
+use Rattle.cases.specs.Sweep.{KeyValues, case_count}
+use Rattle.cases.specs.Values.{value_text}
+use Rattle.cases.specs.declared.choice.Choice.{Choice}
+use Rattle.cases.specs.declared.values.SettingValue.{SettingValue}
+use Rattle.drawing.specs.Axes.{axis_up}
+use Rattle.drawing.specs.Escaped.{escaped, markup}
+use Rattle.drawing.specs.Numbers.{grouped, place as place_on}
+use Rattle.drawing.specs.Shapes.{figure_opening, figure_end, plot_opening, plot_end}
+use Rattle.figures.specs.declared.summary.CaseSummary.{CaseSummary}
+use Rattle.sweep_keys.specs.Lines.{key_lines, case_place, width, middle, across, shared_out, statistic_words, median, reach}
+use Rattle.sweep_cells.specs.Paths.{path_start, path_step}
+use Rattle.sweep_cells.specs.Cells.{cell, time_cell}
+use Rattle.sweep_cells.specs.Words.{settings_words}
+use Rattle.sweep_keys.specs.declared.lines.KeyLines.{KeyLines}
+use Rattle.sweep_keys.specs.declared.statistic.Statistic.{Statistic}
+use Rattle.sweep_keys.specs.declared.statistic.Statistic.TheVariants.{Suspected, Confirmed, Last}
+
+-- the choices of a case but that for the key at a place
+abbrev pub without : ℕ → List Choice → List Choice
+without key chosen = take key chosen ++ drop (key + 1) chosen
+
+-- the values of the other keys, in words
+unfoldable pub others_words : List Choice → List ℕ
+others_words others = if length others == 0 then codes "all else as in the scenario" else settings_words others
+
+-- the settings of the case at a place but that of this key
+unfoldable pub others_at : List KeyValues → ℕ → ℕ → List ℕ
+others_at settings key place = option_map_or (λ chosen. others_words (without key chosen)) (slice_get (cases_of settings) place) []
+
+-- an entry of the legend begins by a piece of its line
+unfoldable pub sample : ℕ → List ℕ
+sample line = codes "<li><svg class=\"sample\" viewBox=\"0 0 20 10\" aria-hidden=\"true\"><path class=\"path s" ++ decimal line ++ codes "\" d=\"M0 5H20\"/></svg><code>"
+
+-- it tells the values of the other keys, which all cases of its line have
+unfoldable pub legend_entry : List KeyValues → KeyLines → ℕ → ℕ → List ℕ
+legend_entry settings k key line = sample line ++ others_at settings key (case_place k line 0) ++ markup (codes "</code></li>")
+
+-- so many lines aren't drawn
+unfoldable pub more_undrawn : ℕ → List ℕ
+more_undrawn more = markup (codes "<p class=\"soft\">Not drawn are ") ++ grouped more ++ markup (codes " more; the table of all settings has them.</p>")
+
+-- nothing where all are
+unfoldable pub undrawn_words : ℕ → List ℕ
+undrawn_words more = if more == 0 then [] else more_undrawn more
+
+-- the legend of a key's lines, each by its first case
+unfoldable pub legend : List KeyValues → KeyLines → ℕ → List ℕ
+legend settings k key =
+    markup (codes "<ul class=\"legend\">") ++ flat_map (legend_entry settings k key) (range_with_len 0 k.lines) ++ markup (codes "</ul>")
+    ++ undrawn_words (case_count settings / max k.values 1 - k.lines)
+
+-- the case that a line has over the value at a place
+abbrev pub case_over : List CaseSummary → KeyLines → ℕ → ℕ → Option CaseSummary
+case_over cases k line value = slice_get cases (case_place k line value)
+
+-- its median time
+abbrev pub time_over : List CaseSummary → KeyLines → Statistic → ℕ → ℕ → Option ℕ
+time_over cases k s line value = option_map_or (median s) (case_over cases k line value) None
+
+-- the greatest time that is drawn of it; 0 where there is none
+unfoldable pub greatest_over : List CaseSummary → KeyLines → Statistic → ℕ → ℕ → ℕ
+greatest_over cases k s line value = option_map_or (λ case. max (unwrap_or (median s case) 0) (unwrap_or (reach s case) 0)) (case_over cases k line value) 0
+
+-- that of a line
+unfoldable pub greatest_of : List CaseSummary → KeyLines → Statistic → ℕ → ℕ
+greatest_of cases k s line = fold (λ most value. max most (greatest_over cases k s line value)) 0 (range_with_len 0 k.values)
+
+-- that of all lines, 1 at least
+unfoldable pub greatest_of_all : List CaseSummary → KeyLines → Statistic → ℕ
+greatest_of_all cases k s = fold (λ most line. max most (greatest_of cases k s line)) 1 (range_with_len 0 k.lines)
+
+-- how high a plot is: an axis reaches a billion billions at most
+unfoldable pub greatest : List CaseSummary → KeyLines → Statistic → ℕ
+greatest cases k s = min (greatest_of_all cases k s) (10 ^ 18)
+
+-- a line has a time over the value before the one at a place
+abbrev pub goes_on : List CaseSummary → KeyLines → Statistic → ℕ → ℕ → Bool
+goes_on cases k s line value = nat_le 1 value && is_some (time_over cases k s line (value - 1))
+
+-- it then goes on to its next corner, and else begins anew there
+unfoldable pub corner : Bool → ℕ → ℕ → List ℕ
+corner on at height = if on then path_step at height else path_start at height
+
+-- the corner over a value; none where the line has no time
+unfoldable pub corner_over : List CaseSummary → KeyLines → Statistic → ℕ → ℕ → ℕ → List ℕ
+corner_over cases k s most line value =
+    option_map_or (λ time. corner (goes_on cases k s line value) (across k line value) (most - time)) (time_over cases k s line value) []
+
+-- a bar from the median of a case as far as the statistic reaches; heights count from the top
+unfoldable pub reach_bar : ℕ → ℕ → ℕ → ℕ → List ℕ
+reach_bar line at middle_height top =
+    codes "<path class=\"reach s" ++ decimal line ++ codes "\" d=\"M" ++ decimal at ++ codes " " ++ decimal middle_height ++ codes "V" ++ decimal top ++ codes "\"/>"
+
+-- a dot at the median
+unfoldable pub median_dot : ℕ → ℕ → ℕ → List ℕ
+median_dot line at height = codes "<path class=\"mark s" ++ decimal line ++ codes "\" d=\"M" ++ decimal at ++ codes " " ++ decimal height ++ codes "h0\"/>"
+
+-- both of a case, where it has a median; where it has no reach, the bar goes to the top
+unfoldable pub dot_of : Statistic → ℕ → ℕ → ℕ → CaseSummary → List ℕ
+dot_of s most line at case =
+    option_map_or (λ time. reach_bar line at (most - time) (most - unwrap_or (reach s case) most) ++ median_dot line at (most - time)) (median s case) []
+
+-- those of the case of a line over a value
+unfoldable pub dot_over : List CaseSummary → KeyLines → Statistic → ℕ → ℕ → ℕ → List ℕ
+dot_over cases k s most line value = option_map_or (dot_of s most line (across k line value)) (case_over cases k line value) []
+
+-- a line begins, in its colour
+unfoldable pub path_line : ℕ → List ℕ
+path_line line = codes "<path class=\"path s" ++ decimal line ++ codes "\" d=\""
+
+-- a line over the values, and then its dots and bars
+unfoldable pub line_over : List CaseSummary → KeyLines → Statistic → ℕ → ℕ → List ℕ
+line_over cases k s most line =
+    path_line line ++ flat_map (corner_over cases k s most line) (range_with_len 0 k.values) ++ markup (codes "\"/>") ++ flat_map (dot_over cases k s most line) (range_with_len 0 k.values)
+
+-- a value under a plot, in the middle of its room
+unfoldable pub value_word : KeyLines → ℕ → SettingValue → List ℕ
+value_word k place value = markup (codes "<span style=\"left:") ++ place_on (middle place) (width k) ++ markup (codes "\">") ++ escaped (value_text value) ++ markup (codes "</span>")
+
+-- the value at a place, where it is one of those that are shown: of eight or more values not all
+unfoldable pub value_at : KeyLines → List SettingValue → ℕ → List ℕ
+value_at k values place = if place % (k.values / 8 + 1) == 0 then option_map_or (value_word k place) (slice_get values place) [] else []
+
+-- the values under a plot
+unfoldable pub values_under : KeyLines → List SettingValue → List ℕ
+values_under k values = markup (codes "<div class=\"values\" aria-hidden=\"true\">") ++ flat_map (value_at k values) (range_with_len 0 (length values)) ++ markup (codes "</div>")
+
+-- a chart begins by what it shows
+unfoldable pub chart_opening : Statistic → List ℕ
+chart_opening s = markup (codes "<div><h3>") ++ markup (statistic_words s) ++ markup (codes "</h3><div class=\"chart\">")
+
+-- its plot begins, so wide as the values want and so high
+unfoldable pub lines_opening : KeyLines → ℕ → Statistic → List ℕ
+lines_opening k most s = plot_opening (codes "lines") (width k) most (statistic_words s) (codes "Ticks since the crash against the values of the key, a line for each value of the others.")
+
+-- the lines of the plot
+unfoldable pub lines_plane : List CaseSummary → KeyLines → Statistic → ℕ → List ℕ
+lines_plane cases k s most =
+    markup (codes "<div class=\"plane\">") ++ lines_opening k most s ++ flat_map (line_over cases k s most) (range_with_len 0 k.lines) ++ plot_end ++ markup (codes "</div>")
+
+-- a chart of a statistic over the key's values
+unfoldable pub key_chart : List CaseSummary → KeyLines → List SettingValue → Statistic → List ℕ
+key_chart cases k values s =
+    chart_opening s ++ axis_up (greatest cases k s) ++ lines_plane cases k s (greatest cases k s) ++ values_under k values ++ markup (codes "</div></div>")
+
+-- the times of a case, in cells
+unfoldable pub times_of : CaseSummary → List ℕ
+times_of case = time_cell case.suspect_p50 ++ time_cell case.confirm_p50 ++ time_cell case.confirm_p99 ++ time_cell case.last_p50 ++ time_cell case.last_greatest
+
+-- those of a line's case with the value at a place
+unfoldable pub times_over : List CaseSummary → KeyLines → ℕ → ℕ → List ℕ
+times_over cases k line place = option_map_or times_of (case_over cases k line place) []
+
+-- the row of a line's case with the value at a place, which is this one: the value, the other keys' values, and the times
+unfoldable pub key_row : List KeyValues → List CaseSummary → KeyLines → ℕ → ℕ → ℕ → SettingValue → List ℕ
+key_row settings cases k key line place value =
+    markup (codes "<tr>") ++ cell (value_text value) ++ markup (codes "<td>") ++ others_at settings key (case_place k line place) ++ markup (codes "</td>")
+    ++ times_over cases k line place ++ markup (codes "</tr>")
+
+-- the same, where the key has a value at that place
+unfoldable pub line_row : List KeyValues → List CaseSummary → KeyLines → ℕ → List SettingValue → ℕ → ℕ → List ℕ
+line_row settings cases k key values line place = option_map_or (key_row settings cases k key line place) (slice_get values place) []
+
+-- what the columns are
+unfoldable pub key_heads : List ℕ
+key_heads = codes "<details><summary>These figures in numbers</summary><div class=\"wide\"><table><thead><tr><th>value</th><th>other keys</th><th>suspected, median</th><th>confirmed, median</th><th>confirmed, 99th percentile</th><th>last confirmed, median</th><th>last confirmed, greatest</th></tr></thead><tbody>"
+
+-- the rows of a line
+unfoldable pub line_rows : List KeyValues → List CaseSummary → KeyLines → ℕ → List SettingValue → ℕ → List ℕ
+line_rows settings cases k key values line = flat_map (line_row settings cases k key values line) (range_with_len 0 (length values))
+
+-- the figures of a key in numbers, folded
+unfoldable pub key_table : List KeyValues → List CaseSummary → KeyLines → ℕ → List SettingValue → List ℕ
+key_table settings cases k key values =
+    key_heads ++ flat_map (line_rows settings cases k key values) (range_with_len 0 k.lines) ++ markup (codes "</tbody></table></div></details>")
+
+-- by which name a key's figure is found
+abbrev pub key_id : ℕ → List ℕ
+key_id key = codes "key-" ++ decimal key
+
+-- what it is called
+abbrev pub key_heading : KeyValues → List ℕ
+key_heading setting = codes "What " ++ key_name setting.key ++ codes " changes"
+
+-- it begins
+unfoldable pub key_opening : ℕ → KeyValues → List ℕ
+key_opening key setting = figure_opening (key_id key) (key_heading setting)
+
+-- its charts
+unfoldable pub key_charts : List CaseSummary → KeyLines → List SettingValue → List ℕ
+key_charts cases k values =
+    markup (codes "<div class=\"many\">") ++ key_chart cases k values Suspected ++ key_chart cases k values Confirmed ++ key_chart cases k values Last ++ markup (codes "</div>")
+
+-- the figure of a key with these lines, which stands at a place: what the lines are, the charts, and the same in numbers
+unfoldable pub key_figure : List KeyValues → List CaseSummary → KeyLines → ℕ → KeyValues → List ℕ
+key_figure settings cases k key setting =
+    key_opening key setting ++ legend settings k key ++ key_charts cases k setting.values ++ key_table settings cases k key setting.values ++ figure_end
+
+-- the lines over it: what stands for each value of the keys before is shared out among its own
+abbrev pub lines_of : List KeyValues → List CaseSummary → ℕ → KeyValues → KeyLines
+lines_of settings cases key setting = key_lines (length setting.values) (shared_out (length cases) (take key settings) / max (length setting.values) 1) (length cases)
+
+-- a figure, where the key has more values than one
+unfoldable pub key_figure_of : List KeyValues → List CaseSummary → ℕ → KeyValues → List ℕ
+key_figure_of settings cases key setting = if nat_le 2 (length setting.values) then key_figure settings cases (lines_of settings cases key setting) key setting else []
+
+-- that of the key at a place
+unfoldable pub key_figure_at : List KeyValues → List CaseSummary → ℕ → List ℕ
+key_figure_at settings cases key = option_map_or (key_figure_of settings cases key) (slice_get settings key) []
+
+-- the figures of all keys
+unfoldable pub key_figures : List KeyValues → List CaseSummary → List ℕ
+key_figures settings cases = flat_map (key_figure_at settings cases) (range_with_len 0 (length settings))

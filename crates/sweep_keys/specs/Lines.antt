@@ -1,0 +1,53 @@
+-- The cases that differ in one key alone, as lines over its values.
+use Rattle.std.specs.Prelude.{ℕ, ◌+◌, ◌-◌, ◌*◌, ◌/◌, ◌%◌, ◌^◌, min, max, List, Option, codes, fold, length}
+use Rattle.cases.specs.Sweep.{KeyValues}
+use Rattle.figures.specs.declared.summary.CaseSummary.{CaseSummary}
+use Rattle.sweep_keys.specs.declared.lines.KeyLines.{KeyLines}
+use Rattle.sweep_keys.specs.declared.statistic.Statistic.{Statistic}
+use Rattle.sweep_keys.specs.declared.statistic.Statistic.TheVariants.{Suspected, Confirmed, Last}
+
+-- as far as 64 bits hold it
+abbrev pub held : ℕ → ℕ
+held n = min n (2 ^ 64 - 1)
+
+-- how many cases stand for each value that the keys so far have together: all cases, shared out among the values of each key
+abbrev pub shared_out : ℕ → List KeyValues → ℕ
+shared_out cases settings = fold (λ left (s : KeyValues). left / max (length s.values) 1) cases settings
+
+-- the lines over a key of so many values, where each of these values stands for so many cases of the keys after it, among all cases: eight at most
+unfoldable pub key_lines : ℕ → ℕ → ℕ → KeyLines
+key_lines values after cases = record { values = values; after = after; lines = min (cases / max values 1) 8 }
+
+-- the place among all cases of a line's case with the value at a place: values come again each time that the keys before them change
+unfoldable pub case_place : KeyLines → ℕ → ℕ → ℕ
+case_place k line value = held (line / max k.after 1 * (max k.after 1 * k.values) + value * max k.after 1 + line % max k.after 1)
+
+-- how wide a plot is: each value has the room of 32 units
+unfoldable pub width : KeyLines → ℕ
+width k = max (held (k.values * 32)) 1
+
+-- the middle of the room of the value at a place
+unfoldable pub middle : ℕ → ℕ
+middle value = held (value * 32 + 16)
+
+-- where a line has its dot in the room of a value: lines stand beside each other, two units apart
+unfoldable pub across : KeyLines → ℕ → ℕ → ℕ
+across k line value = held (middle value - (k.lines - 1) + line * 2)
+
+-- what is drawn of a case, in words
+unfoldable pub statistic_words : Statistic → List ℕ
+statistic_words Suspected = codes "First suspected: median"
+statistic_words Confirmed = codes "First confirmed: median to 99th"
+statistic_words Last = codes "Last confirmed: median to greatest"
+
+-- its median
+unfoldable pub median : Statistic → CaseSummary → Option ℕ
+median Suspected case = case.suspect_p50
+median Confirmed case = case.confirm_p50
+median Last case = case.last_p50
+
+-- how far its bar reaches
+unfoldable pub reach : Statistic → CaseSummary → Option ℕ
+reach Suspected case = case.suspect_p50
+reach Confirmed case = case.confirm_p99
+reach Last case = case.last_greatest

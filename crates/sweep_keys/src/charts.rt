@@ -1,0 +1,226 @@
+//! The plots of a key: a statistic over its values, a line for each choice of the other keys.
+ghost use Rattle.std.specs.Prelude.{◌≡◌, ◌<◌, ◌^◌, ◌++◌, OnOk, length};
+ghost use Rattle.std.specs.List.{flat_map, range_with_len};
+ghost use Rattle.std.specs.String.{string_bytes};
+ghost use Rattle.sweep_keys.specs.Keys.{greatest_over, greatest_of, greatest_of_all, greatest, line_over, value_word, value_at, values_under, chart_opening, lines_opening, lines_plane, key_chart};
+
+use crate::line::{Plot, case_over, push_line};
+use crate::lines::{KeyLines, middle};
+use crate::statistic::Statistic;
+use base::Memory;
+use cases::SettingValue;
+use drawing::{close_plot, open_plot, push_escaped, push_markup, push_place, push_up};
+use figures::CaseSummary;
+use std::alloc::{AllocError, Global};
+
+/// The greatest number that an axis reaches.
+const MOST: u64 = 1_000_000_000_000_000_000;
+
+/// Appends a plot of a statistic over the key's values.
+#[tactic(auto, unfolding(crate::specs::Keys::key_chart))]
+pub(crate) fn push_chart(
+    alloc: Global,
+    text: &mut String,
+    cases: &[CaseSummary],
+    values: &[SettingValue],
+    lines: &KeyLines,
+    statistic: Statistic,
+) -> Result<(), Memory>
+    ensures { OnOk result (string_bytes text.new ≡ string_bytes text.old
+        ++ key_chart cases.now lines.now values.now statistic) }
+{
+    let most = greatest(cases, lines, statistic);
+    push_chart_opening(text, statistic)?;
+    push_up(text, most)?;
+    let plot = Plot {
+        cases,
+        lines: *lines,
+        statistic,
+        most,
+    };
+    push_plane(text, &plot)?;
+    push_values(alloc, text, values, lines)?;
+    push_markup(text, "</div></div>")?;
+    Ok(())
+}
+
+/// Begins it by the words of the statistic.
+#[tactic(auto, unfolding(crate::specs::Keys::chart_opening))]
+fn push_chart_opening(text: &mut String, statistic: Statistic) -> Result<(), AllocError>
+    ensures { OnOk result (string_bytes text.new ≡ string_bytes text.old ++ chart_opening statistic) }
+{
+    let words = statistic.words();
+    push_markup(text, "<div><h3>")?;
+    push_markup(text, words)?;
+    push_markup(text, "</h3><div class=\"chart\">")
+}
+
+/// Appends the lines.
+#[tactic(auto, unfolding(crate::specs::Keys::lines_plane))]
+fn push_plane(text: &mut String, plot: &Plot<'_>) -> Result<(), AllocError>
+    ensures { OnOk result (string_bytes text.new ≡ string_bytes text.old
+        ++ lines_plane plot.now.cases.now plot.now.lines plot.now.statistic plot.now.most) }
+{
+    push_markup(text, "<div class=\"plane\">")?;
+    open_lines(text, plot)?;
+    push_lines(text, plot)?;
+    close_plot(text)?;
+    push_markup(text, "</div>")
+}
+
+/// Begins their plot.
+#[tactic(auto, unfolding(crate::specs::Keys::lines_opening))]
+fn open_lines(text: &mut String, plot: &Plot<'_>) -> Result<(), AllocError>
+    ensures { OnOk result (string_bytes text.new ≡ string_bytes text.old
+        ++ lines_opening plot.now.lines plot.now.most plot.now.statistic) }
+{
+    let words = plot.statistic.words();
+    let width = plot.lines.width();
+    open_plot(
+        text,
+        "lines",
+        width,
+        plot.most,
+        words,
+        "Ticks since the crash against the values of the key, a line for each value of the others.",
+    )
+}
+
+/// Appends each line.
+fn push_lines(text: &mut String, plot: &Plot<'_>) -> Result<(), AllocError>
+    ensures { OnOk result (string_bytes text.new ≡ string_bytes text.old
+        ++ flat_map (line_over plot.now.cases.now plot.now.lines plot.now.statistic plot.now.most)
+        (range_with_len 0 plot.now.lines.lines)) }
+{
+    for line in 0..plot.lines.lines {
+        push_line(text, plot, line)?;
+    }
+    Ok(())
+}
+
+/// How high a plot is: the greatest time that it shows, and 1 at least.
+#[tactic(auto, unfolding(crate::specs::Keys::greatest))]
+fn greatest(cases: &[CaseSummary], lines: &KeyLines, statistic: Statistic) -> u64
+    ensures is { result ≡ greatest cases.now lines.now statistic }
+    ensures low { result < 2 ^ 63 }
+{
+    greatest_of_all(cases, lines, statistic).min(MOST)
+}
+
+/// The greatest time of all lines; 1 at least.
+#[tactic(auto, unfolding(crate::specs::Keys::greatest_of_all))]
+fn greatest_of_all(cases: &[CaseSummary], lines: &KeyLines, statistic: Statistic) -> u64
+    ensures { result ≡ greatest_of_all cases.now lines.now statistic }
+{
+    let mut most = 1;
+    for line in 0..lines.lines {
+        most = most.max(greatest_of(cases, lines, statistic, line));
+    }
+    most
+}
+
+/// The greatest time of a line; 0 where there is none.
+#[tactic(auto, unfolding(crate::specs::Keys::greatest_of))]
+fn greatest_of(cases: &[CaseSummary], lines: &KeyLines, statistic: Statistic, line: usize) -> u64
+    ensures { result ≡ greatest_of cases.now lines.now statistic line }
+{
+    let mut most = 0;
+    for value in 0..lines.values {
+        most = most.max(greatest_over(cases, lines, statistic, line, value));
+    }
+    most
+}
+
+/// The greatest time of its case over the value at a place; 0 where there is none.
+#[tactic(auto, unfolding(crate::specs::Keys::greatest_over))]
+fn greatest_over(
+    cases: &[CaseSummary],
+    lines: &KeyLines,
+    statistic: Statistic,
+    line: usize,
+    value: usize,
+) -> u64
+    ensures { result ≡ greatest_over cases.now lines.now statistic line value }
+{
+    match case_over(cases, lines, line, value) {
+        Some(case) => {
+            let median = statistic.median(&case).unwrap_or(0);
+            let reach = statistic.reach(&case).unwrap_or(0);
+            median.max(reach)
+        }
+        None => 0,
+    }
+}
+
+/// Appends the key's values under a plot; where there are many, some of them.
+#[tactic(auto, unfolding(crate::specs::Keys::values_under))]
+fn push_values(
+    alloc: Global,
+    text: &mut String,
+    values: &[SettingValue],
+    lines: &KeyLines,
+) -> Result<(), Memory>
+    ensures { OnOk result (string_bytes text.new ≡ string_bytes text.old ++ values_under lines.now values.now) }
+{
+    push_markup(text, "<div class=\"values\" aria-hidden=\"true\">")?;
+    push_all_values(alloc, text, values, lines)?;
+    push_markup(text, "</div>")?;
+    Ok(())
+}
+
+/// Appends these values.
+fn push_all_values(
+    alloc: Global,
+    text: &mut String,
+    values: &[SettingValue],
+    lines: &KeyLines,
+) -> Result<(), Memory>
+    ensures { OnOk result (string_bytes text.new ≡ string_bytes text.old
+        ++ flat_map (value_at lines.now values.now) (range_with_len 0 (length values.now))) }
+{
+    for place in 0..values.len() {
+        push_value_at(alloc, text, values, lines, place)?;
+    }
+    Ok(())
+}
+
+/// Appends the value at a place, where it is one of those that are shown.
+#[tactic(auto, unfolding(crate::specs::Keys::value_at))]
+fn push_value_at(
+    alloc: Global,
+    text: &mut String,
+    values: &[SettingValue],
+    lines: &KeyLines,
+    place: usize,
+) -> Result<(), Memory>
+    ensures { OnOk result (string_bytes text.new ≡ string_bytes text.old ++ value_at lines.now values.now place) }
+{
+    let each = lines.values / 8 + 1;
+    if place % each != 0 {
+        return Ok(());
+    }
+    match values.get(place) {
+        Some(value) => push_value(alloc, text, *value, lines, place),
+        None => Ok(()),
+    }
+}
+
+/// Appends a value in the middle of its room.
+#[tactic(auto, unfolding(crate::specs::Keys::value_word))]
+fn push_value(
+    alloc: Global,
+    text: &mut String,
+    value: SettingValue,
+    lines: &KeyLines,
+    place: usize,
+) -> Result<(), Memory>
+    ensures { OnOk result (string_bytes text.new ≡ string_bytes text.old ++ value_word lines.now place value) }
+{
+    let words = value.text(alloc)?;
+    push_markup(text, "<span style=\"left:")?;
+    push_place(text, middle(place), lines.width())?;
+    push_markup(text, "\">")?;
+    push_escaped(text, words.as_str())?;
+    push_markup(text, "</span>")?;
+    Ok(())
+}

@@ -1,0 +1,153 @@
+//! What each key that is set changes.
+ghost use Rattle.std.specs.Prelude.{◌≡◌, ◌++◌, IfOk, OnOk};
+ghost use Rattle.std.specs.String.{string_bytes};
+ghost use Rattle.sweep_keys.specs.Keys.{key_id, key_heading, key_opening, key_charts, key_figure, key_figure_of, key_figure_at, key_figures, lines_of};
+
+use crate::charts::push_chart;
+use crate::legend::push_legend;
+use crate::lines::{KeyLines, shared_out};
+use crate::rows::push_rows;
+use crate::statistic::Statistic;
+use base::Memory;
+use cases::{Plan, Setting, SettingValue};
+use drawing::{close_figure, open_figure, push_markup};
+use figures::CaseSummary;
+use std::alloc::Global;
+
+/// Appends a figure for each key that has more values than one. It takes the summary of each case
+/// of the plan, in their order, and fails only where memory is refused.
+#[tactic(auto, unfolding(crate::specs::Keys::key_figures))]
+pub fn push_keys(
+    alloc: Global,
+    text: &mut String,
+    plan: &Plan,
+    cases: &[CaseSummary],
+) -> Result<(), Memory>
+    ensures { OnOk result (string_bytes text.new ≡ string_bytes text.old ++ key_figures plan.now.settings cases.now) }
+{
+    for key in 0..plan.settings().len() {
+        push_key_at(alloc, text, plan, cases, key)?;
+    }
+    Ok(())
+}
+
+/// Appends the figure of the key at a place, where it has more values than one.
+#[tactic(auto, unfolding(crate::specs::Keys::key_figure_at))]
+fn push_key_at(
+    alloc: Global,
+    text: &mut String,
+    plan: &Plan,
+    cases: &[CaseSummary],
+    key: usize,
+) -> Result<(), Memory>
+    ensures { OnOk result (string_bytes text.new ≡ string_bytes text.old ++ key_figure_at plan.now.settings cases.now key) }
+{
+    let settings = plan.settings();
+    match settings.get(key) {
+        Some(setting) => push_key(alloc, text, plan, cases, key, setting),
+        None => Ok(()),
+    }
+}
+
+/// Appends the figure of a key, where it has more values than one.
+#[tactic(auto, unfolding(crate::specs::Keys::key_figure_of))]
+fn push_key(
+    alloc: Global,
+    text: &mut String,
+    plan: &Plan,
+    cases: &[CaseSummary],
+    key: usize,
+    setting: &Setting,
+) -> Result<(), Memory>
+    ensures { OnOk result (string_bytes text.new ≡ string_bytes text.old
+        ++ key_figure_of plan.now.settings cases.now key setting.now) }
+{
+    if setting.values().len() < 2 {
+        return Ok(());
+    }
+    let lines = lines_of(plan.settings(), cases, key, setting);
+    push_figure(alloc, text, plan, cases, key, setting, &lines)
+}
+
+/// The lines over a key.
+fn lines_of(settings: &[Setting], cases: &[CaseSummary], key: usize, setting: &Setting) -> KeyLines
+    ensures { result ≡ lines_of settings.now cases.now key setting.now }
+{
+    let keys_before = &settings[..key.min(settings.len())];
+    let values = setting.values().len();
+    let after = shared_out(cases.len(), keys_before) / values.max(1);
+    KeyLines::new(values, after, cases.len())
+}
+
+/// Appends the figure of a key.
+#[tactic(auto, unfolding(crate::specs::Keys::key_figure))]
+fn push_figure(
+    alloc: Global,
+    text: &mut String,
+    plan: &Plan,
+    cases: &[CaseSummary],
+    key: usize,
+    setting: &Setting,
+    lines: &KeyLines,
+) -> Result<(), Memory>
+    ensures { OnOk result (string_bytes text.new ≡ string_bytes text.old
+        ++ key_figure plan.now.settings cases.now lines.now key setting.now) }
+{
+    let values = setting.values();
+    push_opening(alloc, text, key, setting)?;
+    push_legend(alloc, text, plan, key, lines)?;
+    push_charts(alloc, text, cases, values, lines)?;
+    push_rows(alloc, text, plan, cases, key, values, lines)?;
+    close_figure(text)?;
+    Ok(())
+}
+
+/// Begins the figure of a key by its name.
+#[tactic(auto, unfolding(crate::specs::Keys::key_opening))]
+fn push_opening(
+    alloc: Global,
+    text: &mut String,
+    key: usize,
+    setting: &Setting,
+) -> Result<(), Memory>
+    ensures { OnOk result (string_bytes text.new ≡ string_bytes text.old ++ key_opening key setting.now) }
+{
+    let id = key_id(alloc, key)?;
+    let heading = key_heading(alloc, setting)?;
+    open_figure(text, id.as_str(), heading.as_str())?;
+    Ok(())
+}
+
+/// The name of the figure of the key at a place.
+fn key_id(alloc: Global, key: usize) -> Result<String, Memory>
+    ensures { IfOk result (λ id. string_bytes id ≡ key_id key) }
+{
+    Ok(format!(in alloc; "key-{key}")?)
+}
+
+/// What the figure of a key is called.
+fn key_heading(alloc: Global, setting: &Setting) -> Result<String, Memory>
+    ensures { IfOk result (λ heading. string_bytes heading ≡ key_heading setting.now) }
+{
+    let name = setting.key().name(alloc)?;
+    Ok(format!(in alloc; "What {name} changes")?)
+}
+
+/// Appends the plot of each statistic.
+#[tactic(auto, unfolding(crate::specs::Keys::key_charts))]
+fn push_charts(
+    alloc: Global,
+    text: &mut String,
+    cases: &[CaseSummary],
+    values: &[SettingValue],
+    lines: &KeyLines,
+) -> Result<(), Memory>
+    ensures { OnOk result (string_bytes text.new ≡ string_bytes text.old ++ key_charts cases.now lines.now values.now) }
+{
+    push_markup(text, "<div class=\"many\">")?;
+    push_chart(alloc, text, cases, values, lines, Statistic::Suspected)?;
+    push_chart(alloc, text, cases, values, lines, Statistic::Confirmed)?;
+    push_chart(alloc, text, cases, values, lines, Statistic::Last)?;
+    push_markup(text, "</div>")?;
+    Ok(())
+}

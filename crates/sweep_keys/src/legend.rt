@@ -1,0 +1,143 @@
+//! The legend of a key's lines: the values of the other keys.
+ghost use Rattle.std.specs.Prelude.{◌≡◌, ◌++◌, IfOk, OnOk};
+ghost use Rattle.std.specs.List.{flat_map, range_with_len};
+ghost use Rattle.std.specs.String.{string_bytes};
+ghost use Rattle.sweep_keys.specs.Keys.{without, others_words, others_at, sample, legend_entry, more_undrawn, undrawn_words, legend};
+
+use crate::lines::KeyLines;
+use base::Memory;
+use cases::{Choice, Plan};
+use drawing::{push_grouped, push_markup};
+use std::alloc::{AllocError, Global};
+use sweep_cells::push_settings;
+
+/// Appends what each line is: the values of the other keys.
+#[tactic(auto, unfolding(crate::specs::Keys::legend))]
+pub(crate) fn push_legend(
+    alloc: Global,
+    text: &mut String,
+    plan: &Plan,
+    key: usize,
+    lines: &KeyLines,
+) -> Result<(), Memory>
+    ensures { OnOk result (string_bytes text.new ≡ string_bytes text.old ++ legend plan.now.settings lines.now key) }
+{
+    push_markup(text, "<ul class=\"legend\">")?;
+    push_entries(alloc, text, plan, key, lines)?;
+    push_markup(text, "</ul>")?;
+    let all = plan.cases() / lines.values.max(1);
+    push_undrawn(text, all.saturating_sub(lines.lines))?;
+    Ok(())
+}
+
+/// Appends its entries.
+fn push_entries(
+    alloc: Global,
+    text: &mut String,
+    plan: &Plan,
+    key: usize,
+    lines: &KeyLines,
+) -> Result<(), Memory>
+    ensures { OnOk result (string_bytes text.new ≡ string_bytes text.old ++ flat_map (legend_entry plan.now.settings lines.now key) (range_with_len 0 lines.now.lines)) }
+{
+    for line in 0..lines.lines {
+        push_entry(alloc, text, plan, key, lines, line)?;
+    }
+    Ok(())
+}
+
+/// Appends the entry of a line.
+#[tactic(auto, unfolding(crate::specs::Keys::legend_entry))]
+fn push_entry(
+    alloc: Global,
+    text: &mut String,
+    plan: &Plan,
+    key: usize,
+    lines: &KeyLines,
+    line: usize,
+) -> Result<(), Memory>
+    ensures { OnOk result (string_bytes text.new ≡ string_bytes text.old ++ legend_entry plan.now.settings lines.now key line) }
+{
+    let first = lines.place(line, 0);
+    push_sample(text, line)?;
+    push_others_at(alloc, text, plan, key, first)?;
+    push_markup(text, "</code></li>")?;
+    Ok(())
+}
+
+/// Begins an entry of the legend by a piece of its line.
+#[tactic(auto, unfolding(crate::specs::Keys::sample))]
+fn push_sample(text: &mut String, line: usize) -> Result<(), AllocError>
+    ensures { OnOk result (string_bytes text.new ≡ string_bytes text.old ++ sample line) }
+{
+    write!(
+        text,
+        "<li><svg class=\"sample\" viewBox=\"0 0 20 10\" aria-hidden=\"true\">\
+         <path class=\"path s{line}\" d=\"M0 5H20\"/></svg><code>"
+    )
+}
+
+/// Appends how many lines aren't drawn.
+#[tactic(auto, unfolding(crate::specs::Keys::undrawn_words))]
+fn push_undrawn(text: &mut String, more: usize) -> Result<(), AllocError>
+    ensures { OnOk result (string_bytes text.new ≡ string_bytes text.old ++ undrawn_words more) }
+{
+    if more == 0 {
+        return Ok(());
+    }
+    push_more(text, more)
+}
+
+/// Appends that so many aren't drawn.
+#[tactic(auto, unfolding(crate::specs::Keys::more_undrawn))]
+fn push_more(text: &mut String, more: usize) -> Result<(), AllocError>
+    ensures { OnOk result (string_bytes text.new ≡ string_bytes text.old ++ more_undrawn more) }
+{
+    push_markup(text, "<p class=\"soft\">Not drawn are ")?;
+    push_grouped(text, more as u64)?;
+    push_markup(text, " more; the table of all settings has them.</p>")
+}
+
+/// Appends the settings of the case at a place without one of its keys.
+#[tactic(auto, unfolding(crate::specs::Keys::others_at))]
+pub(crate) fn push_others_at(
+    alloc: Global,
+    text: &mut String,
+    plan: &Plan,
+    key: usize,
+    place: usize,
+) -> Result<(), Memory>
+    ensures { OnOk result (string_bytes text.new ≡ string_bytes text.old ++ others_at plan.now.settings key place) }
+{
+    if place >= plan.cases() {
+        return Ok(());
+    }
+    let chosen = plan.case_at(alloc, place)?;
+    let others = without(alloc, &chosen, key)?;
+    push_others(alloc, text, &others)?;
+    Ok(())
+}
+
+/// The choices of a case without that of the key at a place.
+fn without(alloc: Global, chosen: &[Choice], key: usize) -> Result<Vec<Choice>, Memory>
+    ensures { IfOk result (λ others. others.items ≡ without key chosen.now) }
+{
+    let before = key.min(chosen.len());
+    let after = key.saturating_add(1).min(chosen.len());
+    let mut others = Vec::new(alloc);
+    others.extend_from_slice(&chosen[..before])?;
+    others.extend_from_slice(&chosen[after..])?;
+    Ok(others)
+}
+
+/// Appends these settings.
+#[tactic(auto, unfolding(crate::specs::Keys::others_words))]
+fn push_others(alloc: Global, text: &mut String, others: &[Choice]) -> Result<(), Memory>
+    ensures { OnOk result (string_bytes text.new ≡ string_bytes text.old ++ others_words others.now) }
+{
+    if others.is_empty() {
+        text.push_str("all else as in the scenario")?;
+        return Ok(());
+    }
+    push_settings(alloc, text, others)
+}

@@ -1,0 +1,177 @@
+//! What the plots of a key show, in numbers.
+ghost use Rattle.std.specs.Prelude.{◌≡◌, ◌++◌, OnOk, length};
+ghost use Rattle.std.specs.List.{flat_map, range_with_len};
+ghost use Rattle.std.specs.String.{string_bytes};
+ghost use Rattle.sweep_keys.specs.Keys.{times_of, times_over, key_row, key_heads, line_row, line_rows, key_table};
+
+use crate::legend::push_others_at;
+use crate::line::case_over;
+use crate::lines::KeyLines;
+use base::Memory;
+use cases::{Plan, SettingValue};
+use drawing::push_markup;
+use figures::CaseSummary;
+use std::alloc::{AllocError, Global};
+use sweep_cells::{push_cell, push_time_cell};
+
+/// What the rows of a key are of.
+#[derive(Clone, Copy)]
+struct Table<'a> {
+    /// The sweep.
+    plan: &'a Plan,
+    /// All its cases, in their order.
+    cases: &'a [CaseSummary],
+    /// The key's place among those that are set.
+    key: usize,
+    /// Its values.
+    values: &'a [SettingValue],
+    /// The lines over these.
+    lines: KeyLines,
+}
+
+/// Appends the figures that are drawn of a key, folded.
+#[tactic(auto, unfolding(crate::specs::Keys::key_table))]
+pub(crate) fn push_rows(
+    alloc: Global,
+    text: &mut String,
+    plan: &Plan,
+    cases: &[CaseSummary],
+    key: usize,
+    values: &[SettingValue],
+    lines: &KeyLines,
+) -> Result<(), Memory>
+    ensures { OnOk result (string_bytes text.new ≡ string_bytes text.old
+        ++ key_table plan.now.settings cases.now lines.now key values.now) }
+{
+    let table = Table {
+        plan,
+        cases,
+        key,
+        values,
+        lines: *lines,
+    };
+    push_heads(text)?;
+    push_lines(alloc, text, &table)?;
+    push_markup(text, "</tbody></table></div></details>")?;
+    Ok(())
+}
+
+/// Appends what their columns are.
+#[tactic(auto, unfolding(crate::specs::Keys::key_heads))]
+fn push_heads(text: &mut String) -> Result<(), AllocError>
+    ensures { OnOk result (string_bytes text.new ≡ string_bytes text.old ++ key_heads) }
+{
+    text.push_str(
+        "<details><summary>These figures in numbers</summary><div class=\"wide\"><table><thead><tr>\
+         <th>value</th><th>other keys</th><th>suspected, median</th><th>confirmed, median</th>\
+         <th>confirmed, 99th percentile</th><th>last confirmed, median</th>\
+         <th>last confirmed, greatest</th></tr></thead><tbody>",
+    )
+}
+
+/// Appends the rows of each line.
+fn push_lines(alloc: Global, text: &mut String, table: &Table<'_>) -> Result<(), Memory>
+    ensures { OnOk result (string_bytes text.new ≡ string_bytes text.old
+        ++ flat_map (line_rows table.now.plan.now.settings table.now.cases.now table.now.lines table.now.key table.now.values.now)
+        (range_with_len 0 table.now.lines.lines)) }
+{
+    for line in 0..table.lines.lines {
+        push_line_rows(alloc, text, table, line)?;
+    }
+    Ok(())
+}
+
+/// Appends the rows of a line.
+#[tactic(auto, unfolding(crate::specs::Keys::line_rows))]
+fn push_line_rows(
+    alloc: Global,
+    text: &mut String,
+    table: &Table<'_>,
+    line: usize,
+) -> Result<(), Memory>
+    ensures { OnOk result (string_bytes text.new ≡ string_bytes text.old
+        ++ line_rows table.now.plan.now.settings table.now.cases.now table.now.lines table.now.key table.now.values.now line) }
+{
+    for place in 0..table.values.len() {
+        push_row_at(alloc, text, table, line, place)?;
+    }
+    Ok(())
+}
+
+/// Appends the row of a line's case with the value at a place.
+#[tactic(auto, unfolding(crate::specs::Keys::line_row))]
+fn push_row_at(
+    alloc: Global,
+    text: &mut String,
+    table: &Table<'_>,
+    line: usize,
+    place: usize,
+) -> Result<(), Memory>
+    ensures { OnOk result (string_bytes text.new ≡ string_bytes text.old
+        ++ line_row table.now.plan.now.settings table.now.cases.now table.now.lines table.now.key table.now.values.now line place) }
+{
+    let values = table.values;
+    match values.get(place) {
+        Some(value) => push_row(alloc, text, table, line, place, *value),
+        None => Ok(()),
+    }
+}
+
+/// Appends the row of a line's case with this value.
+#[tactic(auto, unfolding(crate::specs::Keys::key_row))]
+fn push_row(
+    alloc: Global,
+    text: &mut String,
+    table: &Table<'_>,
+    line: usize,
+    place: usize,
+    value: SettingValue,
+) -> Result<(), Memory>
+    ensures { OnOk result (string_bytes text.new ≡ string_bytes text.old
+        ++ key_row table.now.plan.now.settings table.now.cases.now table.now.lines table.now.key line place value) }
+{
+    let words = value.text(alloc)?;
+    push_markup(text, "<tr>")?;
+    push_cell(text, words.as_str())?;
+    push_markup(text, "<td>")?;
+    push_others_at(
+        alloc,
+        text,
+        table.plan,
+        table.key,
+        table.lines.place(line, place),
+    )?;
+    push_markup(text, "</td>")?;
+    push_times_over(text, table, line, place)?;
+    push_markup(text, "</tr>")?;
+    Ok(())
+}
+
+/// Appends the times of a line's case with the value at a place.
+#[tactic(auto, unfolding(crate::specs::Keys::times_over))]
+fn push_times_over(
+    text: &mut String,
+    table: &Table<'_>,
+    line: usize,
+    place: usize,
+) -> Result<(), AllocError>
+    ensures { OnOk result (string_bytes text.new ≡ string_bytes text.old
+        ++ times_over table.now.cases.now table.now.lines line place) }
+{
+    match case_over(table.cases, &table.lines, line, place) {
+        Some(case) => push_times(text, &case),
+        None => Ok(()),
+    }
+}
+
+/// Appends the times of a case.
+#[tactic(auto, unfolding(crate::specs::Keys::times_of))]
+fn push_times(text: &mut String, case: &CaseSummary) -> Result<(), AllocError>
+    ensures { OnOk result (string_bytes text.new ≡ string_bytes text.old ++ times_of case.now) }
+{
+    push_time_cell(text, case.suspect_p50)?;
+    push_time_cell(text, case.confirm_p50)?;
+    push_time_cell(text, case.confirm_p99)?;
+    push_time_cell(text, case.last_p50)?;
+    push_time_cell(text, case.last_greatest)
+}

@@ -1,7 +1,0 @@
-use Rattle.std.proofs.Common.{append_assoc}
-use Rattle.sweep_page.specs.Words.{tenth_percent}
-use Rattle.sweep_page.proofs.cells.push_tenth.Goals as goal
-
-pub returns : goal.returns
-unfolding tenth_percent
-returns c = simp append_assoc c.write.ensures.bytes

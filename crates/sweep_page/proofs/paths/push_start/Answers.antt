@@ -1,7 +1,0 @@
-use Rattle.std.proofs.Common.{append_assoc}
-use Rattle.sweep_page.specs.Paths.{path_start}
-use Rattle.sweep_page.proofs.paths.push_start.Goals as goal
-
-pub returns : goal.returns
-unfolding path_start
-returns c = simp append_assoc c.write.ensures.bytes
