@@ -4,7 +4,7 @@ use Rattle.std.proofs.lemmas.Bool.{false≢true}
 use Rattle.std.proofs.lemmas.Option.{none-some, same_Some}
 use Rattle.std.proofs.lemmas.Result.{on_ok_weaker, IfErr-weaker}
 use Rattle.std.proofs.lemmas.List.Elements.{All-cons, All-nil}
-use Rattle.std.specs.Prelude.{All, unwrap_or}
+use Rattle.std.specs.Prelude.{◌≤◌, ◌&&◌, All, is_none, not, unwrap_or}
 use Rattle.std.specs.Result.{OnOk, IfErr}
 use Rattle.std.specs.Option.{ForSome}
 use Rattle.std.specs.Io.KnownBytes.{Appends}
@@ -25,7 +25,7 @@ use Rattle.answers.specs.declared.want.Want.{Want}
 use Rattle.cli.specs.Outcomes.{CheckFails, EndsRunBy, HasDone, Fails}
 use Rattle.files.specs.Files.{Making}
 use Rattle.command_line.specs.Printed.{rows_line, PresetFails, PrintsPreset}
-use Rattle.command_line.specs.Words.{Answers, AsksForRun, AsksForCheck, AsksForExplain, AsksForInit, AsksForJoin, AsksForPiece, AsksForSweep, IsCommand, go_together}
+use Rattle.command_line.specs.Words.{Answers, AsksForRun, AsksForCheck, AsksForExplain, AsksForInit, AsksForJoin, AsksForPiece, AsksForSweep, AsksForWidth, IsCommand, go_together}
 use Rattle.command_line.specs.declared.release.Release.{Release}
 use Rattle.command_line.specs.declared.words.Asked.{Asked}
 use Rattle.command_line.specs.declared.words.Asked.TheVariants as asked
@@ -50,21 +50,21 @@ is_command words (asked.Help help) h = inr (inr (inr (inr (inr (inr (inl h.1))))
 is_command words asked.Version h = inr (inr (inr (inr (inr (inr (inr h))))))
 
 -- why a run that the words ask for was not done
-pub run_fails : (words : List Text) (before after : Shelf) (making : Making) (old new : Option (List ℕ)) (run : RunWords) (failure : Failure)
-    → AsksForRun words run → RunFails EndsRunBy before after making run failure → Fails words before after making old new failure
-run_fails words before after making old new run (File name) asks fails = inl (run, asks, fails)
-run_fails words before after making old new run (Rule rule) asks fails = inl (run, asks, fails)
-run_fails words before after making old new run (Mistaken rule) asks fails = absurd (run_mistaken before after making run rule fails)
-run_fails words before after making old new run (Case rule settings) asks fails = inl (run, asks, fails)
-run_fails words before after making old new run (Pieces cause) asks fails = inl (run, asks, fails)
-run_fails words before after making old new run Workers asks fails = inl (run, asks, fails)
-run_fails words before after making old new run (Division cause) asks fails = inl (run, asks, fails)
-run_fails words before after making old new run (Run cause) asks fails = inl (run, asks, fails)
-run_fails words before after making old new run failing.Preset asks fails = absurd (run_preset before after making run fails)
-run_fails words before after making old new run Usage asks fails = absurd (run_usage before after making run fails)
-run_fails words before after making old new run (NoItem key) asks fails = absurd (run_item before after making run key fails)
-run_fails words before after making old new run Output asks fails = absurd (run_output before after making run fails)
-run_fails words before after making old new run Memory asks fails = run_memory before after making run fails
+pub run_fails : (words : List Text) (before after : Shelf) (making : Making) (old new : Option (List ℕ)) (run : RunWords) (version : List ℕ) (failure : Failure)
+    → AsksForRun words run → RunFails EndsRunBy version before after making run failure → Fails words before after making old new failure
+run_fails words before after making old new run version (File name) asks fails = inl (run, asks, (version, fails))
+run_fails words before after making old new run version (Rule rule) asks fails = inl (run, asks, (version, fails))
+run_fails words before after making old new run version (Mistaken rule) asks fails = absurd (run_mistaken version before after making run rule fails)
+run_fails words before after making old new run version (Case rule settings) asks fails = inl (run, asks, (version, fails))
+run_fails words before after making old new run version (Pieces cause) asks fails = inl (run, asks, (version, fails))
+run_fails words before after making old new run version Workers asks fails = inl (run, asks, (version, fails))
+run_fails words before after making old new run version (Division cause) asks fails = inl (run, asks, (version, fails))
+run_fails words before after making old new run version (Run cause) asks fails = inl (run, asks, (version, fails))
+run_fails words before after making old new run version failing.Preset asks fails = absurd (run_preset version before after making run fails)
+run_fails words before after making old new run version Usage asks fails = absurd (run_usage version before after making run fails)
+run_fails words before after making old new run version (NoItem key) asks fails = absurd (run_item version before after making run key fails)
+run_fails words before after making old new run version Output asks fails = absurd (run_output version before after making run fails)
+run_fails words before after making old new run version Memory asks fails = run_memory version before after making run fails
 
 -- why a check that the words ask for was not done
 pub check_fails : (words : List Text) (before after : Shelf) (making : Making) (old new : Option (List ℕ)) (file : Text) (failure : Failure)
@@ -141,15 +141,23 @@ sweep_fails words before after making old new sweep Output asks fails = absurd (
 sweep_fails words before after making old new sweep Memory asks fails = sweep_memory before after making sweep fails
 
 -- the same of an answer that is a run
-pub asked_run_fails : (words : List Text) (before after : Shelf) (making : Making) (old new : Option (List ℕ)) (answer : Asked) (run : RunWords) (failure : Failure)
-    → answer ≡ asked.Run run → Answers words answer → RunFails EndsRunBy before after making run failure → Fails words before after making old new failure
-asked_run_fails words before after making old new answer run failure is h fails =
+pub asked_run_fails : (version : List ℕ) (words : List Text) (before after : Shelf) (making : Making) (old new : Option (List ℕ)) (answer : Asked) (run : RunWords) (failure : Failure)
+    → answer ≡ asked.Run run → Answers words answer → RunFails EndsRunBy version before after making run failure → Fails words before after making old new failure
+asked_run_fails version words before after making old new answer run failure is h fails =
     let asks : Answers words (asked.Run run) = subst (Answers words) is h in
-    run_fails words before after making old new run failure asks fails
+    run_fails words before after making old new run version failure asks fails
+
+-- a run that the words ask for was done, and the number of its rows was not printed
+pub asked_run_unprinted : (version : List ℕ) (words : List Text) (before after : Shelf) (making : Making) (old new : Option (List ℕ)) (answer : Asked) (run : RunWords) (count : ℕ)
+    (printed : Result (Unit {0}) Failure) → answer ≡ asked.Run run → Answers words answer → RunsAll version before after making run count
+    → IfErr printed (λ failure. failure ≡ Output) → IfErr printed (Fails words before after making old new)
+asked_run_unprinted version words before after making old new answer run count printed is h ran told =
+    let asks : Answers words (asked.Run run) = subst (Answers words) is h in
+    IfErr-weaker printed _ _ (λ failure same. subst (Fails words before after making old new) (sym same) (inl (version, count, (run, asks, ran)))) told
 
 -- a run that the words ask for was done, and the number of its rows printed
 pub asked_run_done : {E : Type 0} (release : Release) (words : List Text) (before after : Shelf) (making : Making) (old new : Option (List ℕ)) (answer : Asked) (run : RunWords) (count : ℕ)
-    (printed : Result (Unit {0}) E) → answer ≡ asked.Run run → Answers words answer → RunsAll before after making run count
+    (printed : Result (Unit {0}) E) → answer ≡ asked.Run run → Answers words answer → RunsAll release.version.now before after making run count
     → OnOk printed (Appends old new (rows_line count)) → OnOk printed (HasDone release words before after making old new)
 asked_run_done release words before after making old new answer run count printed is h ran told =
     let asks : Answers words (asked.Run run) = subst (Answers words) is h in
@@ -202,17 +210,43 @@ asked_piece words answer sweep is h =
     piece_sound (first_of (codes "shard") asks.1.rows) sweep.piece asks.1.piece
 
 -- a page is asked of no piece
-alone : (shard page : Option Text) (resume jsonl : Bool) (piece : Option Piece) → go_together shard page resume jsonl ≡ true → (name : Text) → page ≡ Some name → AsksForPiece shard piece → piece ≡ None
-alone None page resume jsonl None sense name is asks = refl
-alone None page resume jsonl (Some p) sense name is asks = absurd asks
-alone (Some word) None resume jsonl piece sense name is asks = absurd (none-some name is)
-alone (Some word) (Some page) resume jsonl piece sense name is asks = absurd (false≢true sense)
+alone : (shard page until : Option Text) (resume jsonl : Bool) (piece : Option Piece) → go_together shard page until resume jsonl ≡ true → (name : Text) → page ≡ Some name
+    → AsksForPiece shard piece → piece ≡ None
+alone None page until resume jsonl None sense name is asks = refl
+alone None page until resume jsonl (Some p) sense name is asks = absurd asks
+alone (Some word) None until resume jsonl piece sense name is asks = absurd (none-some name is)
+alone (Some word) (Some page) until resume jsonl piece sense name is asks = absurd (false≢true sense)
 
 pub asked_alone : (words : List Text) (answer : Asked) (sweep : SweepWords) → answer ≡ asked.Sweep sweep → Answers words answer → ForSome sweep.page (λ _. sweep.piece ≡ None)
 asked_alone words answer sweep is h page named =
     let asks : Answers words (asked.Sweep sweep) = subst (Answers words) is h in
-    alone (first_of (codes "shard") asks.1.rows) (first_of (codes "page") asks.1.rows) _ _ sweep.piece asks.1.sense page.now
+    alone (first_of (codes "shard") asks.1.rows) (first_of (codes "page") asks.1.rows) _ _ _ sweep.piece asks.1.sense page.now
     (asks.1.page ∙ ap (option_map (λ (word : Bor Text). word.now)) named) asks.1.piece
+
+-- of no piece is it asked to give cases fewer seeds
+no_width : (until : Option Text) (jsonl : Bool) (width : Option ℕ) → (is_none until && not jsonl) ≡ true → AsksForWidth until width → width ≡ None
+no_width None jsonl None sense asks = refl
+no_width None jsonl (Some w) sense asks = absurd asks
+no_width (Some word) jsonl width sense asks = absurd (false≢true sense)
+
+all_seeds : (shard page until : Option Text) (resume jsonl : Bool) (piece : Option Piece) (width : Option ℕ) → go_together shard page until resume jsonl ≡ true
+    → AsksForPiece shard piece → AsksForWidth until width → (p : Piece) → piece ≡ Some p → width ≡ None
+all_seeds None page until resume jsonl None width sense asks wide p is = absurd (none-some p is)
+all_seeds None page until resume jsonl (Some q) width sense asks wide p is = absurd asks
+all_seeds (Some word) None until resume jsonl piece width sense asks wide p is = no_width until jsonl width sense wide
+all_seeds (Some word) (Some page) until resume jsonl piece width sense asks wide p is = absurd (false≢true sense)
+
+pub asked_seeds : (words : List Text) (answer : Asked) (sweep : SweepWords) → answer ≡ asked.Sweep sweep → Answers words answer → ForSome sweep.piece (λ _. sweep.until ≡ None)
+asked_seeds words answer sweep is h p named =
+    let asks : Answers words (asked.Sweep sweep) = subst (Answers words) is h in
+    all_seeds (first_of (codes "shard") asks.1.rows) (first_of (codes "page") asks.1.rows) (first_of (codes "until") asks.1.rows) _ _ sweep.piece sweep.until asks.1.sense
+    asks.1.piece asks.1.until p named
+
+-- how wide an interval may be is bounded
+pub asked_width : (words : List Text) (answer : Asked) (sweep : SweepWords) → answer ≡ asked.Sweep sweep → Answers words answer → ForSome sweep.until (λ width. width ≤ 100)
+asked_width words answer sweep is h =
+    let asks : Answers words (asked.Sweep sweep) = subst (Answers words) is h in
+    asks.1.most
 
 -- what a sweep wants is bounded
 wants_bounded : (words : List Text) (wants : List Want) → AreWants words wants → All IsBounded wants

@@ -59,7 +59,7 @@ DoesVersion words before after = AsksForVersion words × (after ≡ before)
 -- printed; what a scenario means printed; a sweep, and the lines of its cases printed; a preset's scenario printed; pieces joined, and the lines of
 -- the cases printed; help was printed; or the line that tells of this release
 abbrev pub HasDone : Release → List Text → Shelf → Shelf → Making → Option (List ℕ) → Option (List ℕ) → Type 0
-HasDone release words before after making old new = ((count : ℕ) × DoesRun words before after making count × Appends old new (rows_line count))
+HasDone release words before after making old new = ((count : ℕ) × DoesRun release.version.now words before after making count × Appends old new (rows_line count))
     ⊎ (((members : ℕ) × DoesCheck words before after members × Appends old new (members_line members))
     ⊎ (DoesExplain words before after old new
     ⊎ (((lines : List ℕ) × DoesSweep release.version.now words before after making lines × Appends old new lines)
@@ -75,7 +75,7 @@ Explains words before after =
 
 -- the same, but that standard output took less than it was given; of a scenario that is refused too it was to get what is told
 abbrev pub DoneUnprinted : List Text → Shelf → Shelf → Making → Type 0
-DoneUnprinted words before after making = ((count : ℕ) × DoesRun words before after making count)
+DoneUnprinted words before after making = ((version : List ℕ) × (count : ℕ) × DoesRun version words before after making count)
     ⊎ (((members : ℕ) × DoesCheck words before after members)
     ⊎ (Explains words before after
     ⊎ (((version : List ℕ) × (lines : List ℕ) × DoesSweep version words before after making lines)
@@ -102,7 +102,7 @@ DoesNotExplain words before after old new failure = (explain : ExplainWords) × 
 -- why a run, a check, an explanation, a sweep or a joining that the words ask for was not done
 abbrev pub DoesNot : List Text → Shelf → Shelf → Making → Option (List ℕ) → Option (List ℕ) → Failure → Type 0
 DoesNot words before after making old new failure =
-    ((run : RunWords) × AsksForRun words run × RunFails EndsRunBy before after making run failure)
+    ((run : RunWords) × AsksForRun words run × ((version : List ℕ) × RunFails EndsRunBy version before after making run failure))
     ⊎ (((file : Text) × AsksForCheck words file × CheckFails before after file failure)
     ⊎ (DoesNotExplain words before after old new failure
     ⊎ (DoesNotSweep words before after making failure

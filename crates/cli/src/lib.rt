@@ -10,7 +10,8 @@ pub use command_line::{
     Asked, ExplainWords, Failure, JoinWords, PieceFault, Release, RunWords, Split, SweepWords,
     division_asked, parse, refuse, workers_asked,
 };
-pub use files::{FileFault, Files, PairFault, ReadFault, testing};
+pub use files::{FileFault, Files, PairFault, ReadFault, TripleFault, testing};
+pub use page_runs::RunShown;
 pub use program::command;
 pub use scenario_files::check;
-pub use simulation::simulate;
+pub use simulation::{simulate, simulate_with_page};

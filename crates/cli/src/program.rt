@@ -39,8 +39,8 @@ pub fn command<S: AsStr, F: Files, O: Write, E: Write, P: Write>(
 ) -> u8
     ensures range { result ≤ 5 }
 
-    // Status 0: what the words ask for was done. A run has left its trace in the file of that name, and its
-    // report where one is asked for, and told standard output the number of its rows; a check, the number
+    // Status 0: what the words ask for was done. A run has left its trace in the file of that name, its
+    // report and its page where they are asked for, and told standard output the number of its rows; a check, the number
     // of members; an explanation, what the scenario means; a sweep has left its table and its page, and told the lines of its cases, unless it
     // is a piece; a preset's scenario was told; pieces that were joined have left the table of the whole, and told those lines; who
     // asks for the version was told the line of this release.
@@ -98,7 +98,7 @@ fn perform<'a, S: AsStr, F: Files, O: Write, P: Write>(
         Asked::Help(help) => print_help(&help, out),
         Asked::Version => print_release(release, out),
         Asked::Run(words) => {
-            let summary = run(&ByThreads { rt }, alloc, words, files)?;
+            let summary = run(&ByThreads { rt }, alloc, release, words, files)?;
             print_rows(summary.rows, out)
         }
         Asked::Check(file) => {

@@ -5,10 +5,12 @@ ghost use Rattle.scenario.specs.Setup.{member_count};
 ghost use Rattle.member_laws.specs.Runs.{WearsOut};
 ghost use Rattle.trace.specs.Writers.{writer_under, put_failures};
 ghost use Rattle.outputs.specs.Promise.{WritesRun, WritesBeginning, WearsOutReport};
+ghost use Rattle.page_runs.specs.Pages.{WritesRunAndPage, BeginsRunAndPage};
 ghost use Rattle.cli.specs.Outcomes.{EndsRunBy};
 
 use base::Fault;
 use outputs::Summary;
+use page_runs::{RunShown, run_with_page};
 use run_command::Simulator;
 use scenario::{Division, Scenario, Workers};
 use sharing::run_shared;
@@ -42,6 +44,22 @@ impl<H: Threads + Wait + Sync> Simulator for ByThreads<'_, H> {
         report: R,
     ) -> (Put<T>, Put<R>, Result<Summary, Fault>) {
         simulate(self.rt, alloc, scenario, division, workers, trace, report)
+    }
+
+    fn simulate_with_page<T: Write, R: Write, P: Write>(
+        &self,
+        alloc: Global,
+        scenario: &Scenario,
+        division: &Division,
+        workers: Workers,
+        shown: &RunShown<'_>,
+        trace: T,
+        report: R,
+        page: P,
+    ) -> (Put<T>, Put<R>, Put<P>, Result<Summary, Fault>) {
+        simulate_with_page(
+            self.rt, alloc, scenario, division, workers, shown, trace, report, page,
+        )
     }
 }
 
@@ -89,4 +107,58 @@ pub fn simulate<T: Write, R: Write>(
         &mut report,
     );
     (trace, report, outcome)
+}
+
+/// Runs a scenario as `simulate` does, writes its page, which tells what `shown` says, to a third writer once the other two
+/// are whole, and gives all three back, with the failures that were counted. After a fault they have got a beginning of that.
+pub fn simulate_with_page<T: Write, R: Write, P: Write>(
+    rt: &(impl Threads + Wait + Sync),
+    alloc: Global,
+    scenario: &Scenario,
+    division: &Division,
+    workers: Workers,
+    shown: &RunShown<'_>,
+    trace: T,
+    report: R,
+    page: P,
+) -> (Put<T>, Put<R>, Put<P>, Result<Summary, Fault>)
+    requires divided { length division.now.part_of ≡ member_count scenario.now }
+    ensures written { IfOk result.3 (λ summary. WritesRunAndPage shown.now.name.now shown.now.release.now scenario.now
+        (T.contents trace) (T.contents (writer_under result.0)) (R.contents report) (R.contents (writer_under result.1))
+        (P.contents page) (P.contents (writer_under result.2)) summary.rows) }
+    ensures beginning { OnErr result.3 (BeginsRunAndPage shown.now.name.now shown.now.release.now scenario.now
+        (T.contents trace) (T.contents (writer_under result.0)) (R.contents report) (R.contents (writer_under result.1))
+        (P.contents page) (P.contents (writer_under result.2))) }
+    ensures first { 0 < put_failures result.0 → writer_under result.1 ≡ report }
+    ensures second { (0 < put_failures result.0) ⊎ (0 < put_failures result.1) → writer_under result.2 ≡ page }
+    ensures whole { OnOk result.3 (put_failures result.0 ≡ 0) }
+    ensures whole_report { OnOk result.3 (put_failures result.1 ≡ 0) }
+    ensures whole_page { OnOk result.3 (put_failures result.2 ≡ 0) }
+    ensures lasts { OnOk result.3 (¬ (WearsOut scenario.now)) }
+
+    // no fault comes without its cause
+    ensures worn { IsErrOf result.3 Fault.Worn → WearsOut scenario.now ⊎ WearsOutReport scenario.now }
+    ensures write { IsErrOf result.3 Fault.Write → (0 < put_failures result.0) ⊎ ((0 < put_failures result.1) ⊎ (0 < put_failures result.2)) }
+    ensures relay { IsErrOf result.3 Fault.Relay → put_failures result.0 ≡ 0 }
+    ensures others_report { IfErr result.3 (λ cause. cause ≢ Fault.Write → put_failures result.1 ≡ 0) }
+    ensures others_page { IfErr result.3 (λ cause. cause ≢ Fault.Write → put_failures result.2 ≡ 0) }
+
+    // one worker alone loses nothing to threads
+    ensures threads { IsErrOf result.3 Fault.Relay → 2 ≤ workers }
+    ensures cause { IfErr result.3 (EndsRunBy scenario.now workers) }
+{
+    let mut reported = Put::new(report);
+    let mut paged = Put::new(page);
+    let (traced, outcome) = run_with_page(
+        rt,
+        alloc,
+        scenario,
+        division,
+        workers,
+        shown,
+        Put::new(trace),
+        &mut reported,
+        &mut paged,
+    );
+    (traced, reported, paged, outcome)
 }

@@ -7,14 +7,9 @@ use Rattle.decimals.specs.Items.{list_items}
 use Rattle.scenario.specs.Division.{Deal}
 use Rattle.scenario.specs.declared.division.DivisionFault.{DivisionFault}
 use Rattle.scenario.specs.declared.division.DivisionFault.TheVariants as fault
+use Rattle.command_line.specs.Numbers.{IsNumber}
 use Rattle.command_line.specs.declared.words.Split.{Split}
 use Rattle.command_line.specs.declared.words.Split.TheVariants as split
-
--- the word is the number, of this range, in decimal without sign or leading zero
-pub record IsNumber (least most : ℕ) (word : Text) (n : ℕ) : Type 0 where
-  pub written : decimal n ≡ word
-  pub low : least ≤ n
-  pub high : n ≤ most
 
 -- the word is a number of parts or of workers
 abbrev pub IsCount : Text → ℕ → Type 0

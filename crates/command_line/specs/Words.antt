@@ -1,5 +1,6 @@
 -- What words ask for, as `clap` reads them by the commands below.
-use Rattle.std.specs.Prelude.{◌≡◌, ◌≢◌, ◌⊎◌, List, Option, Some, None, [], Bool, true, false, not, codes, map, option_map, unwrap_or}
+use Rattle.std.specs.Prelude.{◌≡◌, ◌≢◌, ◌≤◌, ◌⊎◌, ◌&&◌, ℕ, List, Option, Some, None, [], Bool, true, false, not, codes, is_none, map, option_map, unwrap_or}
+use Rattle.std.specs.Option.{ForSome}
 use Rattle.std.specs.Str.{bytes_eq}
 use Rattle.clap.specs.Lexer.{usize_max}
 use Rattle.clap.specs.Words.{App, Row, Rule, Text, app_of, new_app, new_rule, with_rule, with_subcommand}
@@ -17,6 +18,7 @@ use Rattle.pieces.specs.Pieces.{IsPieceWord}
 use Rattle.pieces.specs.declared.piece.Piece.{Piece}
 use Rattle.presets.specs.Presets.{word_of}
 use Rattle.presets.specs.declared.preset.Preset.{Preset}
+use Rattle.command_line.specs.Numbers.{IsNumber}
 use Rattle.command_line.specs.declared.words.Asked.{Asked}
 use Rattle.command_line.specs.declared.words.Asked.TheVariants.{Run, Check, Explain, Sweep, Init, Join, Help, Version}
 use Rattle.command_line.specs.declared.explaining.ExplainWords.{ExplainWords}
@@ -42,13 +44,21 @@ required_rule name = record (option_rule name) { required = true }
 abbrev pub repeated_rule : Text → Rule
 repeated_rule name = record (option_rule name) { action = Some Append }
 
--- the command `run`: a file and the option --trace, both required, and four options more
-abbrev pub run_app : App
-run_app =
-    let traced = with_rule (with_rule (new_app (codes "run")) file_rule) (required_rule (codes "trace")) in
-    let reported = with_rule traced (option_rule (codes "report")) in
-    let worked = with_rule reported (option_rule (codes "workers")) in
+-- a command, and what says which files a run is written to: the option --trace, which is required; --report and --page
+abbrev pub with_outputs : App → App
+with_outputs app =
+    let traced = with_rule app (required_rule (codes "trace")) in
+    with_rule (with_rule traced (option_rule (codes "report"))) (option_rule (codes "page"))
+
+-- and how many workers run it, and which part each member is in: --workers, --parts and --division
+abbrev pub with_parting : App → App
+with_parting app =
+    let worked = with_rule app (option_rule (codes "workers")) in
     with_rule (with_rule worked (option_rule (codes "parts"))) (option_rule (codes "division"))
+
+-- the command `run`: a file, which is required, the options of where it is written and those of who runs it
+abbrev pub run_app : App
+run_app = with_parting (with_outputs (with_rule (new_app (codes "run")) file_rule))
 
 -- the command `check`: a file
 abbrev pub check_app : App
@@ -62,9 +72,12 @@ flag_rule name = record (new_rule name) { long = Some name; action = Some SetTru
 abbrev pub explain_app : App
 explain_app = with_rule (with_rule (new_app (codes "explain")) file_rule) (flag_rule (codes "json"))
 
--- a command, and what says which cases a sweep has: the option --seeds; and --set, which may stand more than once
+-- a command, and what says which cases a sweep has, and by how many seeds: the options --seeds and --until; and --set, which may stand more
+-- than once
 abbrev pub with_cases : App → App
-with_cases app = with_rule (with_rule app (option_rule (codes "seeds"))) (repeated_rule (codes "set"))
+with_cases app =
+    let seeded = with_rule app (option_rule (codes "seeds")) in
+    with_rule (with_rule seeded (option_rule (codes "until"))) (repeated_rule (codes "set"))
 
 -- and what says which runs are made and where their table goes: the option --table, which is required; the cases; --shard and --workers; and the
 -- flag --resume
@@ -127,6 +140,7 @@ pub record IsRunIn (met : Option (Text × List Row)) (run : RunWords) : Type 0 w
   pub file : first_of (codes "FILE") rows ≡ Some run.file.now
   pub trace : first_of (codes "trace") rows ≡ Some run.trace.now
   pub report : first_of (codes "report") rows ≡ option_map (λ word. word.now) run.report
+  pub page : first_of (codes "page") rows ≡ option_map (λ word. word.now) run.page
   pub workers : first_of (codes "workers") rows ≡ option_map (λ word. word.now) run.workers
   pub divided : IsSplitIn rows run.split
 
@@ -153,6 +167,14 @@ pub record IsExplainIn (met : Option (Text × List Row)) (explain : ExplainWords
 abbrev pub IsPlanIn : List Row → Planned → Type 0
 IsPlanIn rows plan = IsSweepOf (unwrap_or (all_of (codes "set") rows) []) (first_of (codes "seeds") rows) plan
 
+-- how wide, in hundredths, the interval of a case may be for it to get no more seeds: the number that the word is, 1 to 100; nothing is said
+-- of it where there is no word
+abbrev pub AsksForWidth : Option Text → Option ℕ → Type 0
+AsksForWidth None None = Unit {0}
+AsksForWidth None (Some width) = ⊥
+AsksForWidth (Some word) None = ⊥
+AsksForWidth (Some word) (Some width) = IsNumber 1 100 word width
+
 -- this piece is asked for; none, and so the whole, where there is no word
 abbrev pub AsksForPiece : Option Text → Option Piece → Type 0
 AsksForPiece None None = Unit {0}
@@ -160,16 +182,16 @@ AsksForPiece None (Some p) = ⊥
 AsksForPiece (Some word) None = ⊥
 AsksForPiece (Some word) (Some p) = IsPieceWord word p
 
--- only a piece goes on where it was cut off, and only a whole sweep tells its cases and has a page
-abbrev pub go_together : Option Text → Option Text → Bool → Bool → Bool
-go_together None page resume jsonl = not resume
-go_together (Some word) None resume jsonl = not jsonl
-go_together (Some word) (Some page) resume jsonl = false
+-- only a piece goes on where it was cut off, and only a whole sweep tells its cases, has a page and may give a case fewer seeds
+abbrev pub go_together : Option Text → Option Text → Option Text → Bool → Bool → Bool
+go_together None page until resume jsonl = not resume
+go_together (Some piece) page until resume jsonl = is_none page && (is_none until && not jsonl)
 
 -- the words go together
 abbrev pub have_sense : List Row → Bool
 have_sense rows =
-    go_together (first_of (codes "shard") rows) (first_of (codes "page") rows) (is_given (first_of (codes "resume") rows)) (is_given (first_of (codes "jsonl") rows))
+    go_together (first_of (codes "shard") rows) (first_of (codes "page") rows) (first_of (codes "until") rows) (is_given (first_of (codes "resume") rows))
+    (is_given (first_of (codes "jsonl") rows))
 
 -- the words of all that is wanted of cases, in their order, want these
 abbrev pub AreWantsIn : List Row → List Want → Type 0
@@ -182,6 +204,9 @@ pub record IsSweepIn (met : Option (Text × List Row)) (sweep : SweepWords) : Ty
   pub file : first_of (codes "FILE") rows ≡ Some sweep.file.now
   pub table : first_of (codes "table") rows ≡ Some sweep.table.now
   pub plan : IsPlanIn rows sweep.plan
+  pub until : AsksForWidth (first_of (codes "until") rows) sweep.until
+  pub least : ForSome sweep.until (λ width. 1 ≤ width)
+  pub most : ForSome sweep.until (λ width. width ≤ 100)
   pub piece : AsksForPiece (first_of (codes "shard") rows) sweep.piece
   pub wants : AreWantsIn rows sweep.wants.items
   pub workers : first_of (codes "workers") rows ≡ option_map (λ word. word.now) sweep.workers

@@ -4,12 +4,12 @@ ghost use Rattle.std.specs.List.{range_with_len};
 ghost use Rattle.decimals.specs.Items.{list_items};
 ghost use Rattle.scenario.specs.Setup.{member_count};
 ghost use Rattle.scenario.specs.Division.{divided};
-ghost use Rattle.command_line.specs.Division.{AreParts, AsksForWorkers, Divides, DividesByList, IsCount, IsNumber, in_turn, past_greatest};
+ghost use Rattle.command_line.specs.Division.{AreParts, AsksForWorkers, Divides, DividesByList, IsCount, in_turn, past_greatest};
 ghost use Rattle.command_line.specs.Failures.{IsFaultOf, RefusesDivision, RefusesItems, RefusesList, RefusesWorkers};
 
 use crate::failure::Failure;
+use crate::numbers::number_within;
 use crate::words::Split;
-use decimals::number;
 use scenario::{Division, DivisionFault, Scenario, Workers};
 use std::alloc::{AllocError, Global};
 
@@ -73,10 +73,7 @@ fn count_asked(word: &str) -> Option<usize>
     ensures some { IfSome result (IsCount word.now) }
     ensures none { IsNone result → (count : ℕ) → ¬ (IsCount word.now count) }
 {
-    let count = number(word)?;
-    if count == 0 || count > MOST {
-        return None;
-    }
+    let count = number_within(word, 1, MOST)?;
     Some(count as usize)
 }
 
@@ -149,9 +146,9 @@ fn part_numbers(alloc: Global, list: &str) -> Result<Vec<u8>, Failure<'static>>
 {
     let mut numbers = Vec::new(alloc);
     for item in list.split(',') {
-        match part_number(item) {
+        match number_within(item, 0, MOST - 1) {
             Some(part) => {
-                if numbers.push(part).is_err() {
+                if numbers.push(part as u8).is_err() {
                     return Err(Failure::Memory);
                 }
             }
@@ -159,18 +156,6 @@ fn part_numbers(alloc: Global, list: &str) -> Result<Vec<u8>, Failure<'static>>
         }
     }
     Ok(numbers)
-}
-
-/// The number of a part, 0 to 63, that an item names.
-fn part_number(item: &str) -> Option<u8>
-    ensures some { IfSome result (IsNumber 0 63 item.now) }
-    ensures none { IsNone result → (part : ℕ) → ¬ (IsNumber 0 63 item.now part) }
-{
-    let part = number(item)?;
-    if part >= MOST {
-        return None;
-    }
-    Some(part as u8)
 }
 
 /// The division, with its fault as a failure.

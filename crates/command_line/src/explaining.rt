@@ -4,13 +4,13 @@ ghost use Rattle.clap.specs.Words.{subcommand_rows_of};
 ghost use Rattle.command_line.specs.declared.explaining.ExplainWords.{ExplainWords as Wondered};
 ghost use Rattle.command_line.specs.Words.{explain_app, IsExplainIn, IsLocal};
 
-use crate::commands::{with_file, with_flag};
+use crate::arguments::{with_file, with_flag};
 use crate::words::{is_given, value_of};
 use clap::{ArgMatches, Command};
 use std::alloc::{AllocError, Global};
 
 /// The words of the command `explain`.
-#[derive(Clone, Copy, Debug, PartialEq, Eq)]
+#[derive(Clone, Copy, Debug)]
 pub struct ExplainWords<'a> {
     /// The name of the scenario's file.
     pub file: &'a str,

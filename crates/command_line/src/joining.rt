@@ -4,7 +4,7 @@ ghost use Rattle.clap.specs.Words.{App, rule_of, subcommand_rows_of, with_rule};
 ghost use Rattle.command_line.specs.declared.joining.JoinWords.{JoinWords as Wished};
 ghost use Rattle.command_line.specs.Words.{join_app, pieces_rule, IsJoinIn, IsLocal};
 
-use crate::commands::with_required;
+use crate::arguments::with_required;
 use crate::failure::Failure;
 use crate::words::{value_of, values_of};
 use clap::{Arg, ArgMatches, Command};

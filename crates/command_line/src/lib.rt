@@ -1,15 +1,19 @@
 //! What the words of a command line ask for, and what a command prints.
 #![tactic(auto)]
 
+mod arguments;
 mod commands;
 mod division;
 mod explaining;
 mod failure;
 mod initial;
 mod joining;
+mod numbers;
 mod printing;
 mod release;
+mod running;
 mod shown;
+mod sweeping;
 pub mod system;
 mod words;
 

@@ -1,7 +1,7 @@
 //! Which release of the program this is.
 
 /// What the program tells of itself.
-#[derive(Clone, Copy, Debug, PartialEq, Eq)]
+#[derive(Clone, Copy, Debug)]
 pub struct Release<'a> {
     /// The number of the version.
     pub version: &'a str,

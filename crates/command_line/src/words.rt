@@ -1,21 +1,17 @@
 //! What the words of a command line ask for.
-ghost use Rattle.std.specs.Prelude.{◌≡◌, ◌⊎◌, map, option_map, unwrap_or, IfOk, IfErr, IfSome, IsNone, IsErrOf, List, [], ℕ, false, Option, codes};
+ghost use Rattle.std.specs.Prelude.{◌≡◌, ◌⊎◌, map, option_map, unwrap_or, IfOk, IfErr, IfSome, IsNone, IsErrOf, List, [], ℕ, false};
 ghost use Rattle.clap.specs.Words.{FailsBy, all_of, fault_of, first_of, found_of, rows_of, subcommand_of, subcommand_rows_of};
-ghost use Rattle.cases.specs.Sweep.{Sweep as Planned};
-ghost use Rattle.command_line.specs.declared.words.RunWords.{RunWords as Wish};
-ghost use Rattle.command_line.specs.declared.words.Split.{Split as Wanted};
-ghost use Rattle.command_line.specs.declared.words.SweepWords.{SweepWords as Sought};
-ghost use Rattle.pieces.specs.declared.piece.Piece.{Piece as Part};
-ghost use Rattle.answers.specs.declared.want.Want.{Want as Wanting};
-ghost use Rattle.command_line.specs.Words.{have_sense, is_given, swimsim_app, Answers, AreWantsIn, AsksForNoPreset, AsksForPiece, IsCheckIn, IsNoCommand, IsPlanIn, IsRunIn, IsSplitIn, IsSweepIn};
+ghost use Rattle.command_line.specs.Words.{is_given, swimsim_app, Answers, AsksForNoPreset, IsCheckIn, IsNoCommand};
 
 use crate::commands::program_command;
 use crate::explaining::{ExplainWords, explain_asked};
 use crate::failure::Failure;
 use crate::initial::init_asked;
 use crate::joining::{JoinWords, join_asked};
-use answers::{Want, WantFault, read_wants};
-use cases::{Plan, PlanFault};
+use crate::running::run_asked;
+use crate::sweeping::sweep_asked;
+use answers::Want;
+use cases::Plan;
 use clap::error::ErrorKind;
 use clap::{ArgMatches, Error};
 use pieces::Piece;
@@ -24,7 +20,7 @@ use std::alloc::{AllocError, Global};
 use std::convert::AsStr;
 
 /// How the members are to be divided into parts, in the words of the command line.
-#[derive(Clone, Copy, Debug, PartialEq, Eq)]
+#[derive(Clone, Copy, Debug)]
 pub enum Split<'a> {
     /// Member m in the part m modulo the number of workers.
     Workers,
@@ -35,7 +31,7 @@ pub enum Split<'a> {
 }
 
 /// The words of the command `run`.
-#[derive(Clone, Copy, Debug, PartialEq, Eq)]
+#[derive(Clone, Copy, Debug)]
 pub struct RunWords<'a> {
     /// The name of the scenario's file.
     pub file: &'a str,
@@ -43,6 +39,8 @@ pub struct RunWords<'a> {
     pub trace: &'a str,
     /// The name of the file that takes the report, where one is asked for.
     pub report: Option<&'a str>,
+    /// The name of the file that takes the page, where one is asked for.
+    pub page: Option<&'a str>,
     /// How many workers run it; one where that isn't said.
     pub workers: Option<&'a str>,
     /// How the members are to be divided.
@@ -58,6 +56,10 @@ pub struct SweepWords<'a> {
     pub table: &'a str,
     /// Which keys of the scenario are set to which values, and by which seeds each case is run.
     pub plan: Plan,
+    /// How wide, in hundredths, the 95 % interval of the share of a case's runs in which a healthy
+    /// member was thrown out may be for the case to get no more seeds: 1 to 100. A case gets all
+    /// seeds where that isn't said. Never with a piece.
+    pub until: Option<u64>,
     /// Which piece of the sweep is made; all of it where none is named.
     pub piece: Option<Piece>,
     /// Whether a piece goes on where its table was cut off. Never without a piece.
@@ -77,7 +79,7 @@ pub struct SweepWords<'a> {
 /// What the words ask for.
 #[derive(Debug, Drop)]
 pub enum Asked<'a> {
-    /// To run a scenario, and write its trace and its report.
+    /// To run a scenario, and write its trace, and its report and its page where they are asked for.
     Run(RunWords<'a>),
     /// To check the scenario in the file of this name.
     Check(&'a str),
@@ -139,43 +141,6 @@ fn matches_of<'a, S: AsStr>(alloc: Global, words: &'a [S]) -> Result<ArgMatches<
     program_command(alloc)?.try_get_matches_from(words)
 }
 
-/// The run that is asked for by words that `clap` took.
-fn run_asked<'a>(matches: &ArgMatches<'a>) -> Option<RunWords<'a>>
-    ensures some { IfSome result (IsRunIn (subcommand_rows_of matches.now)) }
-    ensures none { IsNone result → (run : Wish) → ¬ (IsRunIn (subcommand_rows_of matches.now) run) }
-{
-    let run = matches.subcommand_matches("run")?;
-    let file = value_of(run, "FILE")?;
-    let trace = value_of(run, "trace")?;
-    let report = value_of(run, "report");
-    let workers = value_of(run, "workers");
-    let split = split_asked(run)?;
-    Some(RunWords {
-        file,
-        trace,
-        report,
-        workers,
-        split,
-    })
-}
-
-/// How the members are to be divided by the words of a run. The two options for it exclude each other.
-fn split_asked<'a>(run: &ArgMatches<'a>) -> Option<Split<'a>>
-    ensures some { IfSome result (IsSplitIn (rows_of (found_of run.now))) }
-    ensures none { IsNone result → (split : Wanted) → ¬ (IsSplitIn (rows_of (found_of run.now)) split) }
-{
-    match value_of(run, "parts") {
-        None => match value_of(run, "division") {
-            None => Some(Split::Workers),
-            Some(list) => Some(Split::List(list)),
-        },
-        Some(parts) => match value_of(run, "division") {
-            None => Some(Split::Parts(parts)),
-            Some(_) => None,
-        },
-    }
-}
-
 /// The file whose check is asked for by words that `clap` took.
 fn check_asked<'a>(matches: &ArgMatches<'a>) -> Option<&'a str>
     ensures some { IfSome result (λ file. IsCheckIn (subcommand_rows_of matches.now) file.now) }
@@ -183,112 +148,6 @@ fn check_asked<'a>(matches: &ArgMatches<'a>) -> Option<&'a str>
 {
     let check = matches.subcommand_matches("check")?;
     value_of(check, "FILE")
-}
-
-/// The sweep that is asked for by words that `clap` took.
-///
-/// Failures: `Usage` where they ask for none, as where a whole sweep is to go on; `Memory`.
-fn sweep_asked<'a>(alloc: Global, matches: &ArgMatches<'a>) -> Result<SweepWords<'a>, Failure<'a>>
-    ensures sweep { IfOk result (IsSweepIn (subcommand_rows_of matches.now)) }
-    ensures usage { IsErrOf result Failure.Usage → (sweep : Sought) → ¬ (IsSweepIn (subcommand_rows_of matches.now) sweep) }
-    ensures failures { IfErr result (λ f. (f ≡ Failure.Usage) ⊎ (f ≡ Failure.Memory)) }
-{
-    let Some(sweep) = matches.subcommand_matches("sweep") else {
-        return Err(Failure::Usage);
-    };
-    let Some(file) = value_of(sweep, "FILE") else {
-        return Err(Failure::Usage);
-    };
-    let Some(table) = value_of(sweep, "table") else {
-        return Err(Failure::Usage);
-    };
-    if !have_sense(sweep) {
-        return Err(Failure::Usage);
-    }
-    let plan = plan_asked(alloc, sweep)?;
-    let piece = piece_asked(sweep)?;
-    let wants = wants_asked(alloc, sweep)?;
-    Ok(SweepWords {
-        file,
-        table,
-        plan,
-        piece,
-        resume: is_given(sweep, "resume"),
-        wants,
-        workers: value_of(sweep, "workers"),
-        progress: is_given(sweep, "progress"),
-        jsonl: is_given(sweep, "jsonl"),
-        page: value_of(sweep, "page"),
-    })
-}
-
-/// Whether the words of a sweep go together: only a piece goes on where it was cut off, and only a whole sweep tells
-/// its cases and has a page.
-fn have_sense(sweep: &ArgMatches<'_>) -> bool
-    ensures { result ≡ have_sense (rows_of (found_of sweep.now)) }
-{
-    match value_of(sweep, "shard") {
-        None => !is_given(sweep, "resume"),
-        Some(_) => match value_of(sweep, "page") {
-            None => !is_given(sweep, "jsonl"),
-            Some(_) => false,
-        },
-    }
-}
-
-/// The plan that is asked for by the words of a sweep.
-///
-/// Failures: `Usage` where they ask for none; `Memory`.
-fn plan_asked<'a>(alloc: Global, sweep: &ArgMatches<'a>) -> Result<Plan, Failure<'a>>
-    ensures plan { IfOk result (IsPlanIn (rows_of (found_of sweep.now))) }
-    ensures usage { IsErrOf result Failure.Usage → (plan : Planned) → ¬ (IsPlanIn (rows_of (found_of sweep.now)) plan) }
-    ensures failures { IfErr result (λ f. (f ≡ Failure.Usage) ⊎ (f ≡ Failure.Memory)) }
-{
-    let settings = match values_of(alloc, sweep, "set") {
-        Ok(settings) => settings,
-        Err(_) => return Err(Failure::Memory),
-    };
-    match Plan::read(alloc, &settings, value_of(sweep, "seeds")) {
-        Ok(plan) => Ok(plan),
-        Err(PlanFault::Words) => Err(Failure::Usage),
-        Err(PlanFault::Memory) => Err(Failure::Memory),
-    }
-}
-
-/// The piece that is asked for by the words of a sweep, if any is.
-///
-/// Failure: `Usage` where the word is no piece, as `3/8`.
-fn piece_asked<'a>(sweep: &ArgMatches<'a>) -> Result<Option<Piece>, Failure<'a>>
-    ensures piece { IfOk result (AsksForPiece (first_of (codes "shard") (rows_of (found_of sweep.now)))) }
-    ensures usage { IsErrOf result Failure.Usage → (piece : Option Part) → ¬ (AsksForPiece (first_of (codes "shard") (rows_of (found_of sweep.now))) piece) }
-    ensures failures { IfErr result (λ f. f ≡ Failure.Usage) }
-{
-    let Some(word) = value_of(sweep, "shard") else {
-        return Ok(None);
-    };
-    match Piece::read(word) {
-        Some(piece) => Ok(Some(piece)),
-        None => Err(Failure::Usage),
-    }
-}
-
-/// What is wanted of the cases by the words of a sweep.
-///
-/// Failures: `Usage` where one of them wants nothing; `Memory`.
-fn wants_asked<'a>(alloc: Global, sweep: &ArgMatches<'a>) -> Result<Vec<Want<'a>>, Failure<'a>>
-    ensures wants { IfOk result (λ wants. AreWantsIn (rows_of (found_of sweep.now)) wants.items) }
-    ensures usage { IsErrOf result Failure.Usage → (wants : List Wanting) → ¬ (AreWantsIn (rows_of (found_of sweep.now)) wants) }
-    ensures failures { IfErr result (λ f. (f ≡ Failure.Usage) ⊎ (f ≡ Failure.Memory)) }
-{
-    let words = match values_of(alloc, sweep, "want") {
-        Ok(words) => words,
-        Err(_) => return Err(Failure::Memory),
-    };
-    match read_wants(alloc, &words) {
-        Ok(wants) => Ok(wants),
-        Err(WantFault::Words) => Err(Failure::Usage),
-        Err(WantFault::Memory) => Err(Failure::Memory),
-    }
 }
 
 /// Whether a flag is given.

@@ -1,5 +1,5 @@
 -- Files in memory by their names: what storing one does to its own name, and to the others.
-use Rattle.std.proofs.Common.{◌≡◌, ◌≢◌, ℕ, Bool, true, false, List, [], ◌∷◌, ◌++◌, Option, Some, None, option_map, get_or, set, find, position, length, ◌≤◌, sym, ap, ◌∙◌, string_bytes, is_some, ◌<◌, OnOk, OnErr, Result, Ok, Err, cond, subst, bytes_eq, ◌+◌, ◌⊎◌, inl, inr, arith, refl}
+use Rattle.std.proofs.Common.{◌≡◌, ◌≢◌, ℕ, Bool, true, false, List, [], ◌∷◌, ◌++◌, Option, Some, None, get_or, set, find, position, length, ◌≤◌, sym, ap, ◌∙◌, string_bytes, is_some, ◌<◌, OnOk, OnErr, Result, Ok, Err, cond, subst, bytes_eq, ◌+◌, ◌⊎◌, inl, inr, arith, refl}
 use Rattle.std.specs.List.{position_or_len}
 use Rattle.std.specs.Option.{option_or, option_and_then}
 use Rattle.std.proofs.lemmas.List.Folds.{find_at, find-set, find_past, find-append}

@@ -1,5 +1,5 @@
 -- What files tell of the names that they are asked for.
-use Rattle.std.specs.Prelude.{◌≡◌, ◌≢◌, ◌⊎◌, ℕ, Bool, true, false, List, [], Option, Some, None, IfSome}
+use Rattle.std.specs.Prelude.{◌≡◌, ◌≢◌, ◌⊎◌, ℕ, Bool, true, false, List, Option, Some, None, IfSome}
 
 -- what is known of a name: nothing, that no file has it, or what its file holds
 abbrev pub KnownFile : Type 0
@@ -29,6 +29,10 @@ KeepsOthers old new name = (other : List ℕ) → other ≢ name → new other �
 abbrev pub KeepsAllOthers : {K : Type 0} → (List ℕ → K) → (List ℕ → K) → List ℕ → List ℕ → Type 0
 KeepsAllOthers old new first second = (other : List ℕ) → other ≢ first → other ≢ second → new other ≡ old other
 
+-- no file changes but those of these three names
+abbrev pub KeepsAllButThree : {K : Type 0} → (List ℕ → K) → (List ℕ → K) → List ℕ → List ℕ → List ℕ → Type 0
+KeepsAllButThree old new first second third = (other : List ℕ) → other ≢ first → other ≢ second → other ≢ third → new other ≡ old other
+
 -- What is known of the making of files: whether one of a name can be made, else false; and whether two names stand for one
 -- file that keeps what it is given, else false.
 pub record Making : Type 0 where
@@ -48,3 +52,20 @@ pub record AreThreeFiles (making : Making) (source first second : List ℕ) : Ty
   pub from_first : making.are_one source first ≡ false
   pub from_second : making.are_one source second ≡ false
   pub from_each_other : making.are_one first second ≡ false
+
+-- the same of the third of three files, which may be the first or the second too
+abbrev pub CannotMakeThird : Making → List ℕ → List ℕ → List ℕ → List ℕ → Type 0
+CannotMakeThird making source first second third = CannotMakeSecond making source first third ⊎ (making.are_one second third ≡ true)
+
+-- the files of a source and of three names are four
+pub record AreFourFiles (making : Making) (source first second third : List ℕ) : Type 0 where
+  pub before_third : AreThreeFiles making source first second
+  pub from_source : making.are_one source third ≡ false
+  pub from_first : making.are_one first third ≡ false
+  pub from_second : making.are_one second third ≡ false
+
+-- of three names no two are one, where something is known of the earlier
+pub record DifferEach (known : List ℕ → KnownFile) (first second third : List ℕ) : Type 0 where
+  pub second_from_first : IfSome (known first) (λ _. second ≢ first)
+  pub third_from_first : IfSome (known first) (λ _. third ≢ first)
+  pub third_from_second : IfSome (known second) (λ _. third ≢ second)

@@ -1,5 +1,5 @@
 -- What writers and files over memory hold.
-use Rattle.std.specs.Prelude.{◌≡◌, ℕ, List, Bool, true, false, not, Option, Some, None, bytes_eq, find, is_some, option_map, string_bytes}
+use Rattle.std.specs.Prelude.{◌≡◌, ℕ, List, Bool, true, false, not, Option, bytes_eq, find, is_some, option_map, string_bytes}
 use Rattle.std.specs.Option.{option_and_then, option_map_or}
 use Rattle.std.specs.Borrow.{Bor}
 use Rattle.files.specs.Files.{Making}

@@ -1,5 +1,5 @@
 -- What is said of the system's files.
-use Rattle.std.specs.Prelude.{ℕ, List, false}
+use Rattle.std.specs.Prelude.{false}
 use Rattle.std.specs.Borrow.{Bor}
 use Rattle.files.specs.Files.{Making}
 use Rattle.files.specs.declared.system.SystemFiles.{SystemFiles}

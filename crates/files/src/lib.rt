@@ -3,7 +3,7 @@
 #![tactic(auto)]
 
 ghost use Rattle.std.specs.Prelude.{◌≡◌, ◌≢◌, ℕ, List, [], Option, Some, false, IfOk, IfSome, IsErrOf, OnOk, OnErr};
-ghost use Rattle.files.specs.Files.{KnownFile, Making, Holds, HoldsNow, IsAbsent, ClosesAs, KeepsOthers, KeepsAllOthers, CannotMake, CannotMakeSecond, AreThreeFiles};
+ghost use Rattle.files.specs.Files.{KnownFile, Making, Holds, HoldsNow, IsAbsent, ClosesAs, KeepsOthers, KeepsAllOthers, KeepsAllButThree, CannotMake, CannotMakeSecond, CannotMakeThird, AreThreeFiles, AreFourFiles, DifferEach};
 
 mod identity;
 mod reading;
@@ -41,6 +41,19 @@ pub enum PairFault {
     First,
     /// The second can't.
     Second,
+    /// Memory was refused.
+    Memory,
+}
+
+/// Why none of three files was made.
+#[derive(Clone, Copy, Debug, PartialEq, Eq)]
+pub enum TripleFault {
+    /// The first can't be made.
+    First,
+    /// The second can't.
+    Second,
+    /// The third can't.
+    Third,
     /// Memory was refused.
     Memory,
 }
@@ -98,6 +111,34 @@ pub trait Files {
         ensures refused { IsErrOf result PairFault.First → CannotMake (making self.old) source.now first.now }
         ensures refused_too { IsErrOf result PairFault.Second
             → CannotMakeSecond (making self.old) source.now first.now second.now }
+        ensures making { making self.new ≡ making self.old }
+        ensures same { OnErr result (known self.new ≡ known self.old) };
+
+    /// Makes three empty files, as `make` does. After a fault no file has changed, none of the three.
+    ///
+    /// Faults: `First`, `Second` or `Third` where that one can't be made, or is the file of `source` or that of
+    /// standard output; `Second` also where it is the first, `Third` where it is one of the two before; `Memory`.
+    fn make_three(
+        &mut self,
+        source: &str,
+        first: &str,
+        second: &str,
+        third: &str,
+    ) -> Result<(Self::Made, Self::Made, Self::Made), TripleFault>
+        ensures empty { OnOk result (HoldsNow (known self.old first.now) (known self.new first.now) []) }
+        ensures empty_second { OnOk result (HoldsNow (known self.old second.now) (known self.new second.now) []) }
+        ensures empty_third { OnOk result (HoldsNow (known self.old third.now) (known self.new third.now) []) }
+        ensures made { IfOk result (λ made. IfSome (known self.old first.now) (λ _. Self.Made.contents made.0 ≡ Some [])) }
+        ensures made_second { IfOk result (λ made. IfSome (known self.old second.now) (λ _. Self.Made.contents made.1 ≡ Some [])) }
+        ensures made_third { IfOk result (λ made. IfSome (known self.old third.now) (λ _. Self.Made.contents made.2 ≡ Some [])) }
+        ensures apart { OnOk result (AreFourFiles (making self.old) source.now first.now second.now third.now) }
+        ensures differ { OnOk result (DifferEach (known self.old) first.now second.now third.now) }
+        ensures others { KeepsAllButThree (known self.old) (known self.new) first.now second.now third.now }
+        ensures refused { IsErrOf result TripleFault.First → CannotMake (making self.old) source.now first.now }
+        ensures refused_second { IsErrOf result TripleFault.Second
+            → CannotMakeSecond (making self.old) source.now first.now second.now }
+        ensures refused_third { IsErrOf result TripleFault.Third
+            → CannotMakeThird (making self.old) source.now first.now second.now third.now }
         ensures making { making self.new ≡ making self.old }
         ensures same { OnErr result (known self.new ≡ known self.old) };
 

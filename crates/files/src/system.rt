@@ -4,7 +4,7 @@ ghost use Rattle.files.specs.System.{runtime_of, unknown};
 
 use crate::identity::Identity;
 use crate::reading::{fault_of, read_fault, read_whole};
-use crate::{FileFault, Files, PairFault, ReadFault};
+use crate::{FileFault, Files, PairFault, ReadFault, TripleFault};
 use std::alloc::Global;
 use std::fs::{OpenFile, OpenOptions};
 use std::io::{ErrorKind, Write};
@@ -127,6 +127,31 @@ impl<'r, R: std::rt::Files + AllocGlobal> SystemFiles<'r, R> {
         })
     }
 
+    /// Opens two files to be written, or neither, unless one of them is one of these, or the second the first.
+    fn open_both(
+        &self,
+        first: &str,
+        second: &str,
+        others: [Option<Identity>; 2],
+    ) -> Result<(Opened<R::File>, Opened<R::File>), PairFault> {
+        let [read, output] = others;
+        let opened = match self.open_apart(first, &[read, output]) {
+            Ok(opened) => opened,
+            Err(FileFault::Refused) => return Err(PairFault::First),
+            Err(FileFault::Memory) => return Err(PairFault::Memory),
+        };
+        match self.open_apart(second, &[read, output, opened.identity]) {
+            Ok(other) => Ok((opened, other)),
+            Err(fault) => {
+                self.undo(first, opened);
+                match fault {
+                    FileFault::Refused => Err(PairFault::Second),
+                    FileFault::Memory => Err(PairFault::Memory),
+                }
+            }
+        }
+    }
+
     /// Removes a file that was opened under the name, where there was none before.
     fn undo(&self, name: &str, opened: Opened<R::File>) {
         if opened.is_new {
@@ -171,19 +196,39 @@ impl<R: std::rt::Files + AllocGlobal> Files for SystemFiles<'_, R> {
         first: &str,
         second: &str,
     ) -> Result<(SystemFile<R::File>, SystemFile<R::File>), PairFault> {
+        let (opened, other) = self.open_both(first, second, self.taken(source))?;
+        Ok((opened.made(), other.made()))
+    }
+
+    fn make_three(
+        &mut self,
+        source: &str,
+        first: &str,
+        second: &str,
+        third: &str,
+    ) -> Result<
+        (
+            SystemFile<R::File>,
+            SystemFile<R::File>,
+            SystemFile<R::File>,
+        ),
+        TripleFault,
+    > {
         let [read, output] = self.taken(source);
-        let opened = match self.open_apart(first, &[read, output]) {
+        let (opened, other) = match self.open_both(first, second, [read, output]) {
             Ok(opened) => opened,
-            Err(FileFault::Refused) => return Err(PairFault::First),
-            Err(FileFault::Memory) => return Err(PairFault::Memory),
+            Err(PairFault::First) => return Err(TripleFault::First),
+            Err(PairFault::Second) => return Err(TripleFault::Second),
+            Err(PairFault::Memory) => return Err(TripleFault::Memory),
         };
-        match self.open_apart(second, &[read, output, opened.identity]) {
-            Ok(other) => Ok((opened.made(), other.made())),
+        match self.open_apart(third, &[read, output, opened.identity, other.identity]) {
+            Ok(last) => Ok((opened.made(), other.made(), last.made())),
             Err(fault) => {
+                self.undo(second, other);
                 self.undo(first, opened);
                 match fault {
-                    FileFault::Refused => Err(PairFault::Second),
-                    FileFault::Memory => Err(PairFault::Memory),
+                    FileFault::Refused => Err(TripleFault::Third),
+                    FileFault::Memory => Err(TripleFault::Memory),
                 }
             }
         }

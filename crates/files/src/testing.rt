@@ -1,9 +1,9 @@
 //! Files and writers over memory, which fail where a test wants them to.
 ghost use Rattle.std.specs.Prelude.{◌≡◌, ◌≢◌, ◌≤◌, ℕ, List, [], Some, None, true, false, bytes_eq, find, option_map, position, IfOk, IfSome, OnOk, OnErr};
-ghost use Rattle.files.specs.Files.{KeepsOthers, KeepsAllOthers, CannotMake};
+ghost use Rattle.files.specs.Files.{KeepsOthers, KeepsAllOthers, KeepsAllButThree, CannotMake, CannotMakeSecond};
 ghost use Rattle.files.specs.Memory.{written_by, writer_fails, has_name, has_place, kept_bytes, can_make, making_of, made_fail, with_locked, with_fails, KeepsPlaces};
 
-use crate::{FileFault, Files, PairFault, ReadFault};
+use crate::{FileFault, Files, PairFault, ReadFault, TripleFault};
 use std::alloc::{AllocError, Global};
 use std::io;
 use std::io::Write;
@@ -222,6 +222,16 @@ impl MemoryFiles {
         source != name && self.can_make(name)
     }
 
+    /// The same of a second file, which isn't that of the first name either.
+    fn may_make_beside(&self, source: &str, first: &str, name: &str) -> bool
+        ensures apart { result ≡ true → bytes_eq source.now name.now ≡ false }
+        ensures beside { result ≡ true → bytes_eq first.now name.now ≡ false }
+        ensures differs { result ≡ true → name.now ≢ first.now }
+        ensures refused { result ≡ false → CannotMakeSecond (making_of self.now) source.now first.now name.now }
+    {
+        first != name && self.may_make(source, name)
+    }
+
     /// Makes empty files under two names that differ. Nothing changes where memory is refused.
     fn empty_both(&mut self, first: &str, second: &str) -> Result<(), AllocError>
         requires differ { second.now ≢ first.now }
@@ -229,6 +239,7 @@ impl MemoryFiles {
         ensures empty_too { OnOk result (kept_bytes self.new second.now ≡ Some []) }
         ensures others { KeepsAllOthers (kept_bytes self.old) (kept_bytes self.new) first.now second.now }
         ensures same { OnErr result (kept_bytes self.new ≡ kept_bytes self.old) }
+        ensures places { KeepsPlaces self.old self.new }
         ensures makes { can_make self.new ≡ can_make self.old }
         ensures fails { made_fail self.new ≡ made_fail self.old }
     {
@@ -238,6 +249,33 @@ impl MemoryFiles {
         let _ = self.store(first, Vec::new(self.alloc));
         let _ = self.store(second, Vec::new(self.alloc));
         Ok(())
+    }
+
+    /// Makes empty files under three names that differ. Nothing changes where memory is refused.
+    fn empty_three(&mut self, first: &str, second: &str, third: &str) -> Result<(), AllocError>
+        requires second_from_first { second.now ≢ first.now }
+        requires third_from_first { third.now ≢ first.now }
+        requires third_from_second { third.now ≢ second.now }
+        ensures empty { OnOk result (kept_bytes self.new first.now ≡ Some []) }
+        ensures empty_second { OnOk result (kept_bytes self.new second.now ≡ Some []) }
+        ensures empty_third { OnOk result (kept_bytes self.new third.now ≡ Some []) }
+        ensures others { KeepsAllButThree (kept_bytes self.old) (kept_bytes self.new) first.now second.now third.now }
+        ensures same { OnErr result (kept_bytes self.new ≡ kept_bytes self.old) }
+        ensures makes { can_make self.new ≡ can_make self.old }
+        ensures fails { made_fail self.new ≡ made_fail self.old }
+    {
+        // the first's place before the others are made, so that it takes no memory after that
+        self.hold_place(first)?;
+        self.empty_both(second, third)?;
+        let _ = self.store(first, Vec::new(self.alloc));
+        Ok(())
+    }
+
+    /// A writer of a file that was made.
+    fn writer(&self) -> MemoryWriter
+        ensures { written_by result ≡ [] }
+    {
+        MemoryWriter::new(self.alloc, self.fails)
     }
 }
 
@@ -264,7 +302,7 @@ impl Files for MemoryFiles {
             return Err(FileFault::Refused);
         }
         match self.keep(name, b"") {
-            Ok(()) => Ok(MemoryWriter::new(self.alloc, self.fails)),
+            Ok(()) => Ok(self.writer()),
             Err(_) => Err(FileFault::Memory),
         }
     }
@@ -278,15 +316,34 @@ impl Files for MemoryFiles {
         if !self.may_make(source, first) {
             return Err(PairFault::First);
         }
-        if first == second || !self.may_make(source, second) {
+        if !self.may_make_beside(source, first, second) {
             return Err(PairFault::Second);
         }
         match self.empty_both(first, second) {
-            Ok(()) => Ok((
-                MemoryWriter::new(self.alloc, self.fails),
-                MemoryWriter::new(self.alloc, self.fails),
-            )),
+            Ok(()) => Ok((self.writer(), self.writer())),
             Err(_) => Err(PairFault::Memory),
+        }
+    }
+
+    fn make_three(
+        &mut self,
+        source: &str,
+        first: &str,
+        second: &str,
+        third: &str,
+    ) -> Result<(MemoryWriter, MemoryWriter, MemoryWriter), TripleFault> {
+        if !self.may_make(source, first) {
+            return Err(TripleFault::First);
+        }
+        if !self.may_make_beside(source, first, second) {
+            return Err(TripleFault::Second);
+        }
+        if second == third || !self.may_make_beside(source, first, third) {
+            return Err(TripleFault::Third);
+        }
+        match self.empty_three(first, second, third) {
+            Ok(()) => Ok((self.writer(), self.writer(), self.writer())),
+            Err(_) => Err(TripleFault::Memory),
         }
     }
 

@@ -1,2 +1,3 @@
 pub mod Causes
 mod Stored
+mod Paged

@@ -1,11 +1,13 @@
 //! The command `run`: the run of the scenario of a file, by whatever simulates it, and the files that take its
-//! trace and its report.
+//! trace, its report and its page.
 #![tactic(auto)]
 
+mod paging;
 mod running;
 mod simulator;
 mod storing;
 
 pub use outputs::Summary;
+pub use page_runs::RunShown;
 pub use running::run;
 pub use simulator::Simulator;

@@ -4,9 +4,11 @@ ghost use Rattle.scenario.specs.Setup.{member_count};
 ghost use Rattle.member_laws.specs.Runs.{WearsOut};
 ghost use Rattle.trace.specs.Writers.{writer_under, put_failures};
 ghost use Rattle.outputs.specs.Promise.{WritesRun, WritesBeginning, WearsOutReport};
+ghost use Rattle.page_runs.specs.Pages.{WritesRunAndPage, BeginsRunAndPage};
 
 use base::Fault;
 use outputs::Summary;
+use page_runs::RunShown;
 use scenario::{Division, Scenario, Workers};
 use std::alloc::Global;
 use std::io::Write;
@@ -51,4 +53,35 @@ pub trait Simulator {
         ensures relay { IsErrOf result.2 Fault.Relay → put_failures result.0 ≡ 0 }
         ensures whole { OnOk result.2 (put_failures result.0 ≡ 0) }
         ensures whole_report { OnOk result.2 (put_failures result.1 ≡ 0) };
+
+    /// Runs a scenario as `simulate` does, writes its page to a third writer once the other two are whole, and gives all
+    /// three back. After a fault they have got a beginning of that.
+    fn simulate_with_page<T: Write, R: Write, P: Write>(
+        &self,
+        alloc: Global,
+        scenario: &Scenario,
+        division: &Division,
+        workers: Workers,
+        shown: &RunShown<'_>,
+        trace: T,
+        report: R,
+        page: P,
+    ) -> (Put<T>, Put<R>, Put<P>, Result<Summary, Fault>)
+        requires ready { ready }
+        requires divided { length division.now.part_of ≡ member_count scenario.now }
+        ensures written { IfOk result.3 (λ summary. WritesRunAndPage shown.now.name.now shown.now.release.now scenario.now
+            (T.contents trace) (T.contents (writer_under result.0)) (R.contents report) (R.contents (writer_under result.1))
+            (P.contents page) (P.contents (writer_under result.2)) summary.rows) }
+        ensures beginning { OnErr result.3 (BeginsRunAndPage shown.now.name.now shown.now.release.now scenario.now
+            (T.contents trace) (T.contents (writer_under result.0)) (R.contents report) (R.contents (writer_under result.1))
+            (P.contents page) (P.contents (writer_under result.2))) }
+
+        // no fault comes without its cause
+        ensures cause { IfErr result.3 (ends_by scenario.now workers) }
+        ensures worn { IsErrOf result.3 Fault.Worn → WearsOut scenario.now ⊎ WearsOutReport scenario.now }
+        ensures write { IsErrOf result.3 Fault.Write → (0 < put_failures result.0) ⊎ ((0 < put_failures result.1) ⊎ (0 < put_failures result.2)) }
+        ensures relay { IsErrOf result.3 Fault.Relay → put_failures result.0 ≡ 0 }
+        ensures whole { OnOk result.3 (put_failures result.0 ≡ 0) }
+        ensures whole_report { OnOk result.3 (put_failures result.1 ≡ 0) }
+        ensures whole_page { OnOk result.3 (put_failures result.2 ≡ 0) };
 }

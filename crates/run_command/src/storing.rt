@@ -2,6 +2,7 @@
 ghost use Rattle.std.specs.Prelude.{◌≡◌, Some, None, IfOk, IfErr, OnOk, length};
 ghost use Rattle.scenario.specs.Setup.{member_count};
 ghost use Rattle.run_command.specs.Outcomes.{StoresRun, StoreFails, DifferentFiles};
+ghost use Rattle.scenario_files.specs.Shelves.{word_given};
 
 use crate::simulator::Simulator;
 use command_line::{Failure, RunWords};
@@ -11,8 +12,30 @@ use scenario_files::{PreparedRun, file_failure, run_told};
 use std::alloc::Global;
 use std::io;
 
+/// Runs a scenario, and writes its trace to the file that the words name, and its report to one where they ask for it.
+pub(crate) fn store_run<'a, M: Simulator, F: Files>(
+    simulator: &M,
+    alloc: Global,
+    prepared: &PreparedRun,
+    words: RunWords<'a>,
+    files: &mut F,
+) -> Result<Summary, Failure<'a>>
+    requires ready { M.ready }
+    requires divided { length prepared.now.division.part_of ≡ member_count prepared.now.scenario }
+    ensures done { IfOk result (λ summary. StoresRun prepared.now.scenario (F.known files.old) (F.known files.new)
+        words.entry.trace.now (word_given words.entry.report) summary.rows) }
+    ensures apart { OnOk result (DifferentFiles (F.making files.old) words.entry.file.now words.entry.trace.now (word_given words.entry.report)) }
+    ensures failed { IfErr result (StoreFails (M.ends_by prepared.now.scenario prepared.now.workers) prepared.now.scenario (F.known files.old) (F.known files.new)
+        (F.making files.old) words.entry.file.now words.entry.trace.now (word_given words.entry.report)) }
+{
+    match words.report {
+        Some(report) => store_both(simulator, alloc, prepared, words, report, files),
+        None => store_trace(simulator, alloc, prepared, words, files),
+    }
+}
+
 /// Runs a scenario, and writes its trace to the file that the words name. Its report goes nowhere.
-pub(crate) fn store_trace<'a, M: Simulator, F: Files>(
+fn store_trace<'a, M: Simulator, F: Files>(
     simulator: &M,
     alloc: Global,
     prepared: &PreparedRun,
@@ -45,7 +68,7 @@ pub(crate) fn store_trace<'a, M: Simulator, F: Files>(
 
 /// Runs a scenario, and writes its trace to the file that the words name and its report to another. Either both
 /// are made or neither is.
-pub(crate) fn store_both<'a, M: Simulator, F: Files>(
+fn store_both<'a, M: Simulator, F: Files>(
     simulator: &M,
     alloc: Global,
     prepared: &PreparedRun,

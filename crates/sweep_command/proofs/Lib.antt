@@ -3,3 +3,4 @@ mod Few
 mod Paged
 mod Pairs
 mod Tables
+mod Ways

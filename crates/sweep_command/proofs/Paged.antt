@@ -1,29 +1,26 @@
 -- What came of a whole sweep with a page, as what is asked for.
-use Rattle.std.proofs.Common.{◌≡◌, ◌≢◌, ◌⊎◌, ℕ, Bool, List, [], Option, Some, None, Bor, Result, Ok, Err, IfOk, IfErr, OnOk, OnErr, sym, subst, inl, inr}
+use Rattle.std.proofs.Common.{◌≡◌, ◌∙◌, ap, ℕ, Bool, List, Option, Some, None, Bor, Result, Ok, Err, IfOk, IfErr, OnOk, sym, subst, inl, inr}
 use Rattle.std.specs.Prelude.{IsErrAnd}
-use Rattle.std.specs.declared.cmp.Ordering.{Ordering}
-use Rattle.std.specs.Io.KnownBytes.{Appends, Keeps}
-use Rattle.std.proofs.lemmas.Result.{IfErr-weaker, on_ok_weaker}
+use Rattle.std.specs.Io.KnownBytes.{Keeps}
+use Rattle.std.proofs.lemmas.Result.{IfErr-weaker}
 use Rattle.toml.specs.Data.{Data}
 use Rattle.base.specs.declared.fault.Fault.{Fault}
 use Rattle.files.specs.Files.{AreThreeFiles, Making}
-use Rattle.trace.specs.Sinks.{AppendsBeginning}
-use Rattle.trace.proofs.Beginnings.{beginning-whole, Keeps-same}
+use Rattle.trace.proofs.Beginnings.{beginning-whole}
 use Rattle.trace.specs.declared.write.WriteError.{WriteError}
 use Rattle.trace.specs.declared.write.WriteError.TheVariants as write_error
 use Rattle.trace.specs.Sinks.{fault_of_write}
 use Rattle.cases.specs.Sweep.{Sweep}
 use Rattle.pieces.specs.declared.piece.Piece.{Piece}
-use Rattle.sweep.specs.Summaries.{MakesAll}
-use Rattle.sweep.specs.Table.{BeginsTable, HasCause, table_text}
-use Rattle.sweep_page.specs.Page.{IsPage, Styles}
-use Rattle.sweep_page.specs.declared.front_points.FrontPoint.{FrontPoint}
+use Rattle.sweep.specs.Table.{HasCause}
+use Rattle.sweep_page.specs.Page.{page_text}
 use Rattle.figures.specs.declared.summary.CaseSummary.{CaseSummary}
 use Rattle.command_line.specs.declared.words.SweepWords.{SweepWords}
 use Rattle.command_line.specs.declared.failure.Failure.{Failure}
 use Rattle.scenario_files.specs.Shelves.{Shelf}
 use Rattle.scenario_files.proofs.Held.{each_ok}
-use Rattle.sweep_command.specs.Outcomes.{AreApart, BeginsPage, BeginsPaged, IsSweepPage, PagedFails, StoreFails, StoresAsked, StoresPaged, StoresPlain, StoresWhole, TableFails, WritesPage, front_of}
+use Rattle.sweep_command.specs.Outcomes.{AreApart, BeginsPage, BeginsPaged, IsSweepPage, PagedFails, StoreFails, StoresAsked, StoresPaged, StoresPlain, StoresWhole, TableFails, front_of}
+use Rattle.sweep_command.specs.Runs.{BeginsRuns, MakesRuns, runs_table}
 
 -- what is asked for is stored, with a page or without one
 module _ {T E : Type 0} (bytes : T → List ℕ) (tree : Data) (sweep : SweepWords) (release mark : List ℕ) (before after : Shelf) (told : Result T E) where
@@ -65,15 +62,11 @@ pub plain_apart : {T E : Type 0} (told : Result T E) (making : Making) (file tab
 plain_apart told making file table asked none apart = subst (λ (o : Option (Bor (List ℕ))). OnOk told (AreApart o making file table)) (sym none) apart
 
 -- a page of the cases
-pub page_is : {T E : Type 0} (bytes : T → List ℕ) (told : Result T E) (order : FrontPoint → FrontPoint → Ordering) (s : Styles) (sweep : SweepWords) (name release : List ℕ) (cases : List CaseSummary) (front : List Bool)
-    → name ≡ sweep.file.now → front ≡ front_of cases → IfOk told (λ text. IsPage order s name release sweep.plan cases front (bytes text)) → IfOk told (λ text. IsSweepPage sweep release cases (bytes text))
-page_is bytes told order s sweep name release cases front named are is =
-    each_ok told is (λ text h. (
-      order,
-      s,
-      subst (λ (f : List Bool). IsPage order s sweep.file.now release sweep.plan cases f (bytes text)) are
-          (subst (λ (n : List ℕ). IsPage order s n release sweep.plan cases front (bytes text)) named h),
-    ))
+pub page_is : {T E : Type 0} (bytes : T → List ℕ) (told : Result T E) (sweep : SweepWords) (name release : List ℕ) (cases : List CaseSummary) (front : List Bool)
+    → name ≡ sweep.file.now → front ≡ front_of cases → IfOk told (λ text. bytes text ≡ page_text name release sweep.plan cases front) → IfOk told (λ text. IsSweepPage sweep release cases (bytes text))
+page_is bytes told sweep name release cases front named are is =
+    each_ok told is (λ text h.
+    h ∙ ap (λ n. page_text n release sweep.plan cases front) named ∙ ap (page_text sweep.file.now release sweep.plan cases) are)
 
 -- what failed while a page was written has its cause
 write_cause : (tree : Data) (plan : Sweep) (e : WriteError) → HasCause tree plan (fault_of_write e)
@@ -86,12 +79,12 @@ page_cause tree plan (Err f) e is = subst (HasCause tree plan) (sym is) (write_c
 
 -- what was begun of both where the table broke off, and where it is whole
 module _ (tree : Data) (sweep : SweepWords) (release : List ℕ) (old new page_old page_new : Option (List ℕ)) where
-  pub table_broke : BeginsTable tree sweep.plan old new → Keeps page_old page_new → BeginsPaged tree sweep old new page_old page_new
+  pub table_broke : BeginsRuns sweep.until tree sweep.plan old new → Keeps page_old page_new → BeginsPaged tree sweep old new page_old page_new
   table_broke begins keeps = record { made = begins.made; are = begins.are; written = inl (begins.written, keeps) }
 
-  pub page_broke : (cases all : List CaseSummary) → all ≡ cases → MakesAll tree sweep.plan old new cases → BeginsPage sweep release all page_old page_new → BeginsPaged tree sweep old new page_old page_new
+  pub page_broke : (cases all : List CaseSummary) → all ≡ cases → MakesRuns sweep.until tree sweep.plan old new cases → BeginsPage sweep release all page_old page_new → BeginsPaged tree sweep old new page_old page_new
   page_broke cases all same makes begins = by (subst (λ (l : List CaseSummary). BeginsPage sweep release l page_old page_new) same begins)
     where
       by : BeginsPage sweep release cases page_old page_new → BeginsPaged tree sweep old new page_old page_new
-      by (inl keeps) = record { made = makes.made; are = makes.are; written = inl (beginning-whole old new (table_text tree sweep.plan makes.made) makes.written, keeps) }
+      by (inl keeps) = record { made = makes.made; are = makes.are; written = inl (beginning-whole old new (runs_table sweep.until tree sweep.plan makes.made) makes.written, keeps) }
       by (inr some) = record { made = makes.made; are = makes.are; written = inr (makes.written, (some.0, (release, cases, makes.told, some.1), some.2)) }

@@ -7,11 +7,12 @@ use Rattle.base.specs.declared.fault.Fault.{Fault}
 use Rattle.files.specs.Files.{KnownFile, HoldsNow, ClosesAs, KeepsOthers, KeepsAllOthers}
 use Rattle.trace.specs.Sinks.{AppendsBeginning}
 use Rattle.trace.proofs.Beginnings.{Appends-none}
-use Rattle.sweep.specs.Table.{HasCause, table_text}
+use Rattle.sweep.specs.Table.{HasCause}
 use Rattle.command_line.specs.declared.words.SweepWords.{SweepWords}
 use Rattle.scenario_files.specs.Shelves.{Shelf, HoldsBeginning}
 use Rattle.scenario_files.proofs.Held.{holds_text}
 use Rattle.sweep_command.specs.Outcomes.{BeginsPaged, BreaksOffPaged, IsPageOfRuns, MakesPaged, StoresPaged}
+use Rattle.sweep_command.specs.Runs.{runs_table}
 
 -- what holds of a file of which something is known
 known_or : {P : Type 0} (known : KnownFile) (X : Option (List ℕ) → Type 0) → IfSome known (λ _. P) → (P → IfSome known X) → IfSome known X
@@ -68,7 +69,7 @@ module _ (sweep : SweepWords) (start made between end : Shelf) (page : Text) (ap
     paged_stored tree release lines makes = record {
       made = makes.makes.made;
       are = makes.makes.are;
-      stored = table_holds (table_text tree sweep.plan makes.makes.made) makes.makes.written;
+      stored = table_holds (runs_table sweep.until tree sweep.plan makes.makes.made) makes.makes.written;
       cases = makes.cases;
       all = makes.makes.all;
       told = makes.makes.told;
@@ -84,7 +85,7 @@ module _ (sweep : SweepWords) (start made between end : Shelf) (page : Text) (ap
     paged_begun tree cause begins caused = record { made = begins.made; are = begins.are; written = by begins.written; others = others_kept; caused = caused }
       where
         text : List ℕ
-        text = table_text tree sweep.plan begins.made
+        text = runs_table sweep.until tree sweep.plan begins.made
 
         by : (AppendsBeginning old new text × Keeps page_old page_new) ⊎ (Appends old new text × ((told : List ℕ) × IsPageOfRuns sweep begins.made told × AppendsBeginning page_old page_new told))
             → (HoldsBeginning (start sweep.table.now) (end sweep.table.now) text × HoldsNow (start page) (end page) [])

@@ -1,21 +1,22 @@
 -- What the file holds that the table of a sweep was written to.
-use Rattle.std.proofs.Common.{◌≡◌, ◌∙◌, ℕ, Bool, false, true, List, [], Option, Some, None, Result, Ok, Err, IfSome, IfOk, IfErr, OnOk, OnErr, append-nil, refl, sym, subst}
+use Rattle.std.proofs.Common.{◌≡◌, ◌∙◌, ℕ, Bool, false, true, List, [], Option, Some, None, Result, Ok, Err, IfSome, IfOk, IfErr, OnOk, OnErr, refl, sym, subst}
 use Rattle.std.specs.Option.{ForSome}
 use Rattle.std.specs.Io.KnownBytes.{Appends}
 use Rattle.toml.specs.Data.{Data}
 use Rattle.base.specs.declared.fault.Fault.{Fault}
 use Rattle.files.specs.Files.{KnownFile, HoldsNow, ClosesAs, KeepsOthers}
 use Rattle.trace.specs.Sinks.{AppendsBeginning}
+use Rattle.trace.proofs.Beginnings.{beginning-whole}
 use Rattle.cases.specs.Sweep.{Sweep}
 use Rattle.pieces.specs.declared.piece.Piece.{Piece}
 use Rattle.sweep.specs.Pieces.{piece_table}
 use Rattle.sweep.specs.Resumed.{rest_text}
-use Rattle.sweep.specs.Table.{BeginsTable, HasCause, table_text, tells_revived}
-use Rattle.sweep.specs.Summaries.{MakesAll}
+use Rattle.sweep.specs.Table.{HasCause, tells_revived}
 use Rattle.figures.specs.declared.summary.CaseSummary.{CaseSummary}
 use Rattle.command_line.specs.declared.words.SweepWords.{SweepWords}
 use Rattle.scenario_files.specs.Shelves.{Shelf, HoldsBeginning}
 use Rattle.sweep_command.specs.Outcomes.{BeginsAsked, BeginsPart, BreaksOff, BreaksOffPart, FitPiece, GoesOn, MakesAsked, MakesLines, MakesPart, StoresPlain, StoresPart, Stood, piece_resumed}
+use Rattle.sweep_command.specs.Runs.{BeginsRuns, MakesRuns, runs_table}
 use Rattle.scenario_files.proofs.Held.{holds_beginning, holds_text}
 
 -- what holds of an error, by what holds where there is one and what holds of it
@@ -47,7 +48,7 @@ module _ {T E : Type 0} (bytes : T → List ℕ) (tree : Data) (sweep : SweepWor
   pub piece_begun : (p : Piece) → asked ≡ Some p → OnErr told (BeginsPart sweep.resume tree sweep mark p stood runs old new) → OnErr told (BeginsAsked asked tree sweep mark stood runs old new)
   piece_begun p is begun = subst (λ (o : Option Piece). OnErr told (BeginsAsked o tree sweep mark stood runs old new)) (sym is) begun
 
-  pub whole_begun : asked ≡ None → OnErr told (BeginsTable tree sweep.plan old new) → OnErr told (BeginsAsked asked tree sweep mark stood runs old new)
+  pub whole_begun : asked ≡ None → OnErr told (BeginsRuns sweep.until tree sweep.plan old new) → OnErr told (BeginsAsked asked tree sweep mark stood runs old new)
   whole_begun is begun = subst (λ (o : Option Piece). OnErr told (BeginsAsked o tree sweep mark stood runs old new)) (sym is) begun
 
 -- a piece that goes on has no fewer runs than are made
@@ -56,12 +57,10 @@ pub stood_few : (tree : Data) (sweep : SweepWords) (mark : List ℕ) (known : Kn
 stood_few tree sweep mark known stood runs goes p is = (goes p is).begun.few
 
 -- the whole table is a beginning of itself
-pub all_begins : (tree : Data) (plan : Sweep) (old new : Option (List ℕ)) (cases : List CaseSummary) → MakesAll tree plan old new cases → BeginsTable tree plan old new
-all_begins tree plan old new cases makes = record {
-  made = makes.made;
-  are = makes.are;
-  written = record { front = table_text tree plan makes.made; rest = []; whole = append-nil (table_text tree plan makes.made); appends = makes.written };
-}
+pub all_begins : (until : Option ℕ) (tree : Data) (plan : Sweep) (old new : Option (List ℕ)) (cases : List CaseSummary) → MakesRuns until tree plan old new cases
+    → BeginsRuns until tree plan old new
+all_begins until tree plan old new cases makes =
+    record { made = makes.made; are = makes.are; written = beginning-whole old new (runs_table until tree plan makes.made) makes.written }
 
 -- after a sweep that was done, and after one that broke off
 module _ (tree : Data) (sweep : SweepWords) (mark : List ℕ) (start made end : Shelf) (old new held : Option (List ℕ)) (stood : List ℕ) (runs : ℕ)
@@ -104,7 +103,7 @@ module _ (tree : Data) (sweep : SweepWords) (mark : List ℕ) (start made end : 
   table_stored None lines goes tells = record {
     made = tells.makes.made;
     are = tells.makes.are;
-    stored = text_held (table_text tree sweep.plan tells.makes.made) tells.makes.written;
+    stored = text_held (runs_table sweep.until tree sweep.plan tells.makes.made) tells.makes.written;
     others = others_kept;
     told = record { cases = tells.cases; all = tells.makes.all; told = tells.makes.told; text = tells.text };
   }
@@ -135,7 +134,7 @@ module _ (tree : Data) (sweep : SweepWords) (mark : List ℕ) (start made end : 
   table_begun None cause goes begins caused = record {
     made = begins.made;
     are = begins.are;
-    begun = beginning_held (table_text tree sweep.plan begins.made) begins.written;
+    begun = beginning_held (runs_table sweep.until tree sweep.plan begins.made) begins.written;
     others = others_kept;
     caused = caused;
   }

@@ -1,6 +1,5 @@
 -- What a sweep has done once it ends, and why one was not done.
 use Rattle.std.specs.Prelude.{◌≡◌, ◌≤◌, ◌+◌, ◌⊎◌, ℕ, Bool, List, [], false, true, Option, Some, None, length, map, string_bytes}
-use Rattle.std.specs.declared.cmp.Ordering.{Ordering}
 use Rattle.std.specs.Option.{ForSome}
 use Rattle.std.specs.Borrow.{Bor}
 use Rattle.std.specs.Io.KnownBytes.{Appends, Keeps}
@@ -10,21 +9,19 @@ use Rattle.base.specs.declared.fault.Fault.{Fault}
 use Rattle.files.specs.Files.{KnownFile, Making, Holds, HoldsNow, IsAbsent, KeepsOthers, KeepsAllOthers, CannotMake, CannotMakeSecond, AreThreeFiles}
 use Rattle.cases.specs.Keys.{key_name}
 use Rattle.cases.specs.Missing.{missing_of}
-use Rattle.cases.specs.Sweep.{Sweep, case_count, run_count, seed_count}
+use Rattle.cases.specs.Sweep.{Sweep, case_count, run_count}
 use Rattle.cases.specs.Cases.{settings_text}
 use Rattle.cases.specs.declared.keys.SettingKey.{SettingKey}
 use Rattle.trace.specs.Sinks.{AppendsBeginning}
 use Rattle.answers.specs.Answers.{AddsAnswer}
 use Rattle.answers.specs.Front.{is_on_front}
-use Rattle.sweep_page.specs.Page.{IsPage, Styles}
-use Rattle.sweep_page.specs.declared.front_points.FrontPoint.{FrontPoint}
+use Rattle.sweep_page.specs.Page.{page_text}
 use Rattle.case_json.specs.Objects.{TellsObjects}
 use Rattle.pieces.specs.Pieces.{first_run, past_run}
 use Rattle.pieces.specs.declared.piece.Piece.{Piece}
-use Rattle.sweep.specs.Runs.{Made, Planned, AreMade, noted}
+use Rattle.sweep.specs.Runs.{Made, Planned}
 use Rattle.sweep.specs.Judged.{AreAccepted, IsFirstRefused}
-use Rattle.sweep.specs.Table.{table_text, tells_revived, HasCause, BeginsTable}
-use Rattle.sweep.specs.Summaries.{MakesAll, SumUp}
+use Rattle.sweep.specs.Table.{tells_revived, HasCause}
 use Rattle.sweep.specs.Pieces.{AreMadeIn, BeginsPiece, WritesPiece, piece_table}
 use Rattle.sweep.specs.Resumed.{AreMadeBehind, BeginsRest, IsBegun, RefusesBegun, WritesRest, rest_text}
 use Rattle.sweep.specs.declared.begun.BegunFault.TheVariants as begun_fault
@@ -40,6 +37,7 @@ use Rattle.command_line.specs.declared.failure.PieceFault.{PieceFault}
 use Rattle.command_line.specs.declared.failure.PieceFault.TheVariants as piece
 use Rattle.scenario_files.specs.Shelves.{Shelf, word_given, IsRefused, IsUnread, HoldsBeginning}
 use Rattle.scenario_files.specs.Loading.{HasDocument, HasMarkedDocument, HasNoDocument}
+use Rattle.sweep_command.specs.Runs.{RunsBy, AreRuns, AreSummedUp, BeginsRuns, MakesRuns, runs_table}
 
 -- the words ask for a sweep that tells how far it has come
 abbrev pub AsksForProgress : List Text → Type 0
@@ -61,23 +59,23 @@ TellsCases true tree sweep cases text = TellsObjects (tells_revived tree) sweep.
 TellsCases false tree sweep cases text = AddsAnswer sweep.plan.settings sweep.wants.items cases (cases_text (tells_revived tree) sweep.plan cases) text
 
 -- this is what is told of all cases, by the summaries of their runs
-pub record AreLinesOf (tree : Data) (sweep : SweepWords) (made : List Made) (lines : List ℕ) : Type 0 where
+pub record AreLinesOf (tree : Data) (sweep : SweepWords) (made : RunsBy sweep.until) (lines : List ℕ) : Type 0 where
   pub cases : List CaseSummary
   pub all : length cases ≡ case_count sweep.plan.settings
-  pub told : SumUp (seed_count sweep.plan.seeds) (map noted made) cases
+  pub told : AreSummedUp sweep.until sweep.plan made cases
   pub text : TellsCases sweep.jsonl tree sweep cases lines
 
--- all runs were made and their table was appended to what was held, and this is what is told of their cases
+-- the runs were made and their table was appended to what was held, and this is what is told of their cases
 pub record MakesLines (tree : Data) (sweep : SweepWords) (old new : Option (List ℕ)) (lines : List ℕ) : Type 0 where
   pub cases : List CaseSummary
-  pub makes : MakesAll tree sweep.plan old new cases
+  pub makes : MakesRuns sweep.until tree sweep.plan old new cases
   pub text : TellsCases sweep.jsonl tree sweep cases lines
 
--- All runs were made: the file holds their table, no other file has changed, and this is what is told of their cases.
+-- The runs were made: the file holds their table, no other file has changed, and this is what is told of their cases.
 pub record StoresTable (tree : Data) (sweep : SweepWords) (before after : Shelf) (lines : List ℕ) : Type 0 where
-  pub made : List Made
-  pub are : AreMade tree sweep.plan made
-  pub stored : HoldsNow (before sweep.table.now) (after sweep.table.now) (table_text tree sweep.plan made)
+  pub made : RunsBy sweep.until
+  pub are : AreRuns sweep.until tree sweep.plan made
+  pub stored : HoldsNow (before sweep.table.now) (after sweep.table.now) (runs_table sweep.until tree sweep.plan made)
   pub others : KeepsOthers before after sweep.table.now
   pub told : AreLinesOf tree sweep made lines
 
@@ -85,20 +83,20 @@ pub record StoresTable (tree : Data) (sweep : SweepWords) (before after : Shelf)
 abbrev pub front_of : List CaseSummary → List Bool
 front_of cases = map (λ case. is_on_front case cases) cases
 
--- the text is a page of these cases, made by a release; in some styles, and with the cases on the front in some order
+-- the text is the page of these cases, made by a release
 abbrev pub IsSweepPage : SweepWords → List ℕ → List CaseSummary → List ℕ → Type 0
 IsSweepPage sweep release cases text =
-    (order : FrontPoint → FrontPoint → Ordering) × (s : Styles) × IsPage order s sweep.file.now release sweep.plan cases (front_of cases) text
+    text ≡ page_text sweep.file.now release sweep.plan cases (front_of cases)
 
--- All runs were made, and this is what is told of their cases: the file of the table holds that, the file of this name a page of the cases, and no
+-- The runs were made, and this is what is told of their cases: the file of the table holds that, the file of this name a page of the cases, and no
 -- other file has changed.
 pub record StoresPaged (tree : Data) (sweep : SweepWords) (release : List ℕ) (page : Text) (before after : Shelf) (lines : List ℕ) : Type 0 where
-  pub made : List Made
-  pub are : AreMade tree sweep.plan made
-  pub stored : HoldsNow (before sweep.table.now) (after sweep.table.now) (table_text tree sweep.plan made)
+  pub made : RunsBy sweep.until
+  pub are : AreRuns sweep.until tree sweep.plan made
+  pub stored : HoldsNow (before sweep.table.now) (after sweep.table.now) (runs_table sweep.until tree sweep.plan made)
   pub cases : List CaseSummary
   pub all : length cases ≡ case_count sweep.plan.settings
-  pub told : SumUp (seed_count sweep.plan.seeds) (map noted made) cases
+  pub told : AreSummedUp sweep.until sweep.plan made cases
   pub text : TellsCases sweep.jsonl tree sweep cases lines
   pub shown : List ℕ
   pub is : IsSweepPage sweep release cases shown
@@ -120,20 +118,20 @@ BeginsPage sweep release cases old new = Keeps old new ⊎ ((text : List ℕ) ×
 -- the same of what was appended to what was held
 pub record MakesPaged (tree : Data) (sweep : SweepWords) (release : List ℕ) (old new page_old page_new : Option (List ℕ)) (lines : List ℕ) : Type 0 where
   pub cases : List CaseSummary
-  pub makes : MakesAll tree sweep.plan old new cases
+  pub makes : MakesRuns sweep.until tree sweep.plan old new cases
   pub text : TellsCases sweep.jsonl tree sweep cases lines
   pub paged : WritesPage sweep release cases page_old page_new
 
 -- a text is a page of the cases of these runs
-abbrev pub IsPageOfRuns : SweepWords → List Made → List ℕ → Type 0
-IsPageOfRuns sweep made text = (release : List ℕ) × (cases : List CaseSummary) × SumUp (seed_count sweep.plan.seeds) (map noted made) cases × IsSweepPage sweep release cases text
+abbrev pub IsPageOfRuns : (sweep : SweepWords) → RunsBy sweep.until → List ℕ → Type 0
+IsPageOfRuns sweep made text = (release : List ℕ) × (cases : List CaseSummary) × AreSummedUp sweep.until sweep.plan made cases × IsSweepPage sweep release cases text
 
 -- a beginning was appended: of the table, and nothing of a page; or the whole table, and a beginning of a page
 pub record BeginsPaged (tree : Data) (sweep : SweepWords) (old new page_old page_new : Option (List ℕ)) : Type 0 where
-  pub made : List Made
-  pub are : AreMade tree sweep.plan made
-  pub written : (AppendsBeginning old new (table_text tree sweep.plan made) × Keeps page_old page_new)
-      ⊎ (Appends old new (table_text tree sweep.plan made) × ((text : List ℕ) × IsPageOfRuns sweep made text × AppendsBeginning page_old page_new text))
+  pub made : RunsBy sweep.until
+  pub are : AreRuns sweep.until tree sweep.plan made
+  pub written : (AppendsBeginning old new (runs_table sweep.until tree sweep.plan made) × Keeps page_old page_new)
+      ⊎ (Appends old new (runs_table sweep.until tree sweep.plan made) × ((text : List ℕ) × IsPageOfRuns sweep made text × AppendsBeginning page_old page_new text))
 
 -- The runs of a piece were made: the file holds its table, and no other file has changed.
 pub record StoresPiece (tree : Data) (sweep : SweepWords) (mark : List ℕ) (p : Piece) (before after : Shelf) : Type 0 where
@@ -198,7 +196,7 @@ BeginsPart false tree sweep mark p stood runs old new = BeginsPiece tree sweep.p
 BeginsPart true tree sweep mark p stood runs old new = BeginsRest tree sweep.plan mark p stood runs old new
 
 abbrev pub BeginsAsked : Option Piece → Data → SweepWords → List ℕ → List ℕ → ℕ → Option (List ℕ) → Option (List ℕ) → Type 0
-BeginsAsked None tree sweep mark stood runs old new = BeginsTable tree sweep.plan old new
+BeginsAsked None tree sweep mark stood runs old new = BeginsRuns sweep.until tree sweep.plan old new
 BeginsAsked (Some p) tree sweep mark stood runs old new = BeginsPart sweep.resume tree sweep mark p stood runs old new
 
 -- the piece that goes on, if one does
@@ -274,9 +272,9 @@ CannotGoOn tree sweep mark known failure = (p : Piece) × (piece_resumed sweep.r
 
 -- the runs were ended by the fault, which has its cause: the file holds a beginning of their table, and no other has changed
 pub record BreaksOffTable (tree : Data) (sweep : SweepWords) (before after : Shelf) (cause : Fault) : Type 0 where
-  pub made : List Made
-  pub are : AreMade tree sweep.plan made
-  pub begun : HoldsBeginning (before sweep.table.now) (after sweep.table.now) (table_text tree sweep.plan made)
+  pub made : RunsBy sweep.until
+  pub are : AreRuns sweep.until tree sweep.plan made
+  pub begun : HoldsBeginning (before sweep.table.now) (after sweep.table.now) (runs_table sweep.until tree sweep.plan made)
   pub others : KeepsOthers before after sweep.table.now
   pub caused : HasCause tree sweep.plan cause
 
@@ -319,10 +317,10 @@ TableFails tree mark before after making sweep _ = ⊥
 
 -- of a table and a page: the one has a beginning while the other is empty, or the one is whole and the other has a beginning
 pub record BreaksOffPaged (tree : Data) (sweep : SweepWords) (page : Text) (before after : Shelf) (cause : Fault) : Type 0 where
-  pub made : List Made
-  pub are : AreMade tree sweep.plan made
-  pub written : (HoldsBeginning (before sweep.table.now) (after sweep.table.now) (table_text tree sweep.plan made) × HoldsNow (before page) (after page) [])
-      ⊎ (HoldsNow (before sweep.table.now) (after sweep.table.now) (table_text tree sweep.plan made)
+  pub made : RunsBy sweep.until
+  pub are : AreRuns sweep.until tree sweep.plan made
+  pub written : (HoldsBeginning (before sweep.table.now) (after sweep.table.now) (runs_table sweep.until tree sweep.plan made) × HoldsNow (before page) (after page) [])
+      ⊎ (HoldsNow (before sweep.table.now) (after sweep.table.now) (runs_table sweep.until tree sweep.plan made)
       × ((text : List ℕ) × IsPageOfRuns sweep made text × HoldsBeginning (before page) (after page) text))
   pub others : KeepsAllOthers before after sweep.table.now page
   pub caused : HasCause tree sweep.plan cause

@@ -2,6 +2,7 @@
 #![tactic(auto)]
 
 mod checks;
+mod making;
 mod paging;
 mod resuming;
 mod sweeping;

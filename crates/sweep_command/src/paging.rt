@@ -1,5 +1,6 @@
 //! A whole sweep, and the files that take its table and its page.
-ghost use Rattle.std.specs.Prelude.{◌≡◌, ◌<◌, ◌^◌, All, false, length, IfOk, IfErr, OnOk, OnErr, string_bytes};
+ghost use Rattle.std.specs.Prelude.{◌≡◌, ◌<◌, ◌≤◌, ◌^◌, All, false, length, IfOk, IfErr, OnOk, OnErr, string_bytes};
+ghost use Rattle.std.specs.Option.{ForSome};
 ghost use Rattle.std.specs.Io.KnownBytes.{Appends};
 ghost use Rattle.toml.specs.Data.{Data};
 ghost use Rattle.toml.specs.View.{view};
@@ -14,6 +15,7 @@ ghost use Rattle.sweep.specs.Table.{HasCause};
 ghost use Rattle.sweep_command.specs.Outcomes.{BeginsPage, BeginsPaged, IsSweepPage, MakesPaged, PagedFails, StoresPaged, WritesPage, front_of};
 
 use crate::checks::PreparedSweep;
+use crate::making::make_runs;
 use crate::telling::{RunLines, cases_told};
 use answers::is_on_front;
 use base::{Fault, Memory};
@@ -25,12 +27,12 @@ use scenario_files::run_told;
 use std::alloc::Global;
 use std::io::Write;
 use std::thread::Threads;
-use sweep::{NoProgress, Progress, sweep};
+use sweep::{NoProgress, Progress};
 use sweep_page::{SweepShown, page};
 use trace::{Put, Sink, WriteError, put_all};
 
-/// Makes all runs, and writes their table to the file that the words name and a page of their cases to another. Either both are
-/// made or neither is.
+/// Makes the runs, and writes their table to the file that the words name and a page of their cases
+/// to another. Either both files are made or neither is.
 pub(crate) fn store_paged<'a, F: Files, P: Write>(
     rt: &(impl Threads + Sync),
     alloc: Global,
@@ -42,6 +44,7 @@ pub(crate) fn store_paged<'a, F: Files, P: Write>(
     progress: &mut P,
 ) -> Result<String, Failure<'a>>
     requires asked { IsAskedFor words.now.plan }
+    requires width { ForSome words.now.until (λ width. width ≤ 100) }
     requires wants { All IsBounded words.now.wants.items }
     requires judged { AreAccepted (view prepared.now.marked.document) words.now.plan }
     ensures done { IfOk result (λ lines. StoresPaged (view prepared.now.marked.document) words.now release.now.version.now page.entry.now
@@ -65,8 +68,8 @@ pub(crate) fn store_paged<'a, F: Files, P: Write>(
     run_told(outcome)
 }
 
-/// Makes all runs, writes their table to one writer and a page of their cases to the other, and gives both back, with what is told
-/// of the cases.
+/// Makes the runs, writes their table to one writer and a page of their cases to the other, and gives
+/// both back, with what is told of the cases.
 fn fill_both<T: Write, U: Write, P: Write>(
     rt: &(impl Threads + Sync),
     alloc: Global,
@@ -78,6 +81,7 @@ fn fill_both<T: Write, U: Write, P: Write>(
     progress: &mut P,
 ) -> (Put<T>, Put<U>, Result<String, Fault>)
     requires asked { IsAskedFor words.now.plan }
+    requires width { ForSome words.now.until (λ width. width ≤ 100) }
     requires wants { All IsBounded words.now.wants.items }
     requires judged { AreAccepted (view prepared.now.marked.document) words.now.plan }
     ensures whole { IfOk result.2 (λ lines. MakesPaged (view prepared.now.marked.document) words.now release.now.version.now
@@ -109,7 +113,8 @@ fn fill_both<T: Write, U: Write, P: Write>(
     (table, page, outcome)
 }
 
-/// Makes all runs, writes their table and then a page of their cases, and answers what is told of the cases.
+/// Makes the runs, writes their table and then a page of their cases, and answers what is told of the
+/// cases.
 fn tell_both<S: Sink, U: Sink, P: Progress>(
     rt: &(impl Threads + Sync),
     alloc: Global,
@@ -121,6 +126,7 @@ fn tell_both<S: Sink, U: Sink, P: Progress>(
     page: &mut U,
 ) -> Result<String, Fault>
     requires asked { IsAskedFor words.now.plan }
+    requires width { ForSome words.now.until (λ width. width ≤ 100) }
     requires wants { All IsBounded words.now.wants.items }
     requires judged { AreAccepted (view prepared.now.marked.document) words.now.plan }
     requires countable { S.failed table.old < 2 ^ 63 }
@@ -132,10 +138,10 @@ fn tell_both<S: Sink, U: Sink, P: Progress>(
     ensures causes { IfErr result (HasCause (view prepared.now.marked.document) words.now.plan) }
 {
     let document = &prepared.marked.document;
-    let cases = sweep(
+    let cases = make_runs(
         rt,
         alloc,
-        &words.plan,
+        words,
         document,
         prepared.workers,
         progress,

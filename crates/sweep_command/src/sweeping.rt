@@ -1,5 +1,5 @@
 //! Many runs of the scenario of a file, and the file that takes their table.
-ghost use Rattle.std.specs.Prelude.{◌≡◌, ◌<◌, ◌^◌, All, Some, None, false, [], IfOk, IfErr, OnOk, OnErr, string_bytes};
+ghost use Rattle.std.specs.Prelude.{◌≡◌, ◌<◌, ◌≤◌, ◌^◌, All, Some, None, false, [], IfOk, IfErr, OnOk, OnErr, string_bytes};
 ghost use Rattle.std.specs.Option.{ForSome};
 ghost use Rattle.toml.specs.View.{view};
 ghost use Rattle.pieces.specs.Pieces.{IsPiece};
@@ -7,10 +7,12 @@ ghost use Rattle.answers.specs.Wants.{IsBounded};
 ghost use Rattle.trace.specs.Writers.{writer_under};
 ghost use Rattle.sweep.specs.Runs.{IsAskedFor};
 ghost use Rattle.sweep.specs.Judged.{AreAccepted};
-ghost use Rattle.sweep.specs.Table.{BeginsTable, HasCause};
+ghost use Rattle.sweep.specs.Table.{HasCause};
 ghost use Rattle.sweep_command.specs.Outcomes.{AreApart, BeginsAsked, BeginsPart, FitPiece, GoesOn, MakesAsked, MakesLines, MakesPart, StoreFails, StoresAsked, StoresPlain, SweepFails, SweepsAll, TableFails};
+ghost use Rattle.sweep_command.specs.Runs.{BeginsRuns};
 
 use crate::checks::{PreparedSweep, prepare_sweep};
+use crate::making::make_runs;
 use crate::paging::store_paged;
 use crate::resuming::{Standing, find_standing};
 use crate::telling::{RunLines, cases_told};
@@ -22,13 +24,15 @@ use scenario_files::{file_failure, run_told};
 use std::alloc::Global;
 use std::io::Write;
 use std::thread::Threads;
-use sweep::{Begun, NoProgress, Progress, sweep, write_piece, write_rest};
+use sweep::{Begun, NoProgress, Progress, write_piece, write_rest};
 use trace::{Put, Sink};
 
-/// Makes the runs that the words of a sweep ask for, all of them, those of a piece or what is left of these, and writes their
-/// table to a file, and a page of the cases to another where one is asked for; they are made once all checks have passed. Answers
-/// what is told of its cases; nothing for a piece. `release` is what the page tells of the program. How far it has come goes to
-/// `progress`, where the words ask for that.
+/// Makes the runs that the words of a sweep ask for, and writes their table to a file, and a page of
+/// the cases to another where one is asked for. They are each case with each seed, or with only as
+/// many as make its interval narrow enough; or those of a piece, or what is left of these. They are
+/// made once all checks have passed. Answers what is told of the cases; nothing for a piece.
+/// `release` is what the page tells of the program. How far it has come goes to `progress`, where
+/// the words ask for that.
 pub fn sweep_file<'a, F: Files, P: Write>(
     rt: &(impl Threads + Sync),
     alloc: Global,
@@ -38,9 +42,11 @@ pub fn sweep_file<'a, F: Files, P: Write>(
     progress: &mut P,
 ) -> Result<String, Failure<'a>>
     requires asked { IsAskedFor words.now.plan }
+    requires width { ForSome words.now.until (λ width. width ≤ 100) }
     requires piece { ForSome words.now.piece IsPiece }
     requires wants { All IsBounded words.now.wants.items }
     requires alone { ForSome words.now.page (λ _. words.now.piece ≡ None) }
+    requires seeds { ForSome words.now.piece (λ _. words.now.until ≡ None) }
     ensures done { IfOk result
         (λ lines. SweepsAll release.now.version.now (F.known files.old) (F.known files.new) (F.making files.old) words.now (string_bytes lines)) }
     ensures failed { IfErr result (SweepFails (F.known files.old) (F.known files.new) (F.making files.old) words.now) }
@@ -65,6 +71,7 @@ fn store_asked<'a, F: Files, P: Write>(
     progress: &mut P,
 ) -> Result<String, Failure<'a>>
     requires asked { IsAskedFor words.now.plan }
+    requires width { ForSome words.now.until (λ width. width ≤ 100) }
     requires piece { ForSome words.now.piece IsPiece }
     requires wants { All IsBounded words.now.wants.items }
     requires alone { ForSome words.now.page (λ _. words.now.piece ≡ None) }
@@ -94,6 +101,7 @@ fn store_table<'a, F: Files, P: Write>(
     progress: &mut P,
 ) -> Result<String, Failure<'a>>
     requires asked { IsAskedFor words.now.plan }
+    requires width { ForSome words.now.until (λ width. width ≤ 100) }
     requires piece { ForSome words.now.piece IsPiece }
     requires wants { All IsBounded words.now.wants.items }
     requires judged { AreAccepted (view prepared.now.marked.document) words.now.plan }
@@ -125,6 +133,7 @@ fn fill_table<T: Write, P: Write>(
     progress: &mut P,
 ) -> (Put<T>, Result<String, Fault>)
     requires asked { IsAskedFor words.now.plan }
+    requires width { ForSome words.now.until (λ width. width ≤ 100) }
     requires piece { ForSome words.now.piece IsPiece }
     requires wants { All IsBounded words.now.wants.items }
     requires judged { AreAccepted (view prepared.now.marked.document) words.now.plan }
@@ -165,6 +174,7 @@ fn tell_asked<S: Sink, P: Progress>(
     table: &mut S,
 ) -> Result<String, Fault>
     requires asked { IsAskedFor words.now.plan }
+    requires width { ForSome words.now.until (λ width. width ≤ 100) }
     requires piece { ForSome words.now.piece IsPiece }
     requires wants { All IsBounded words.now.wants.items }
     requires judged { AreAccepted (view prepared.now.marked.document) words.now.plan }
@@ -250,7 +260,7 @@ fn write_part<S: Sink, P: Progress>(
     )
 }
 
-/// Makes all runs, writes their table, and answers what is told of the cases.
+/// Makes the runs of a whole sweep, writes their table, and answers what is told of the cases.
 fn tell_runs<S: Sink, P: Progress>(
     rt: &(impl Threads + Sync),
     alloc: Global,
@@ -261,17 +271,18 @@ fn tell_runs<S: Sink, P: Progress>(
 ) -> Result<String, Fault>
     requires wants { All IsBounded words.now.wants.items }
     requires asked { IsAskedFor words.now.plan }
+    requires width { ForSome words.now.until (λ width. width ≤ 100) }
     requires judged { AreAccepted (view prepared.now.marked.document) words.now.plan }
     requires countable { S.failed table.old < 2 ^ 63 }
     ensures whole { IfOk result (λ lines. MakesLines (view prepared.now.marked.document) words.now (S.held table.old) (S.held table.new) (string_bytes lines)) }
-    ensures part { OnErr result (BeginsTable (view prepared.now.marked.document) words.now.plan (S.held table.old) (S.held table.new)) }
+    ensures part { OnErr result (BeginsRuns words.now.until (view prepared.now.marked.document) words.now.plan (S.held table.old) (S.held table.new)) }
     ensures causes { IfErr result (HasCause (view prepared.now.marked.document) words.now.plan) }
 {
     let document = &prepared.marked.document;
-    let cases = sweep(
+    let cases = make_runs(
         rt,
         alloc,
-        &words.plan,
+        words,
         document,
         prepared.workers,
         progress,

@@ -1,6 +1,6 @@
 -- a run or a sweep that the words ask for, done and told or not done
 use Rattle.std.proofs.lemmas.Result.{IfErr-weaker, on_ok_weaker}
-use Rattle.cli.proofs.Commands.{asked_alone, asked_explain_done, asked_explain_failed, asked_init_done, asked_init_fails, asked_join_done, asked_join_fails, asked_join_unprinted, asked_piece, asked_run_done, asked_run_fails, asked_sweep_done, asked_sweep_fails, asked_sweep_unprinted, asked_untold, asked_wants, is_command}
+use Rattle.cli.proofs.Commands.{asked_alone, asked_explain_done, asked_explain_failed, asked_init_done, asked_init_fails, asked_join_done, asked_join_fails, asked_join_unprinted, asked_piece, asked_run_done, asked_run_fails, asked_run_unprinted, asked_seeds, asked_sweep_done, asked_sweep_fails, asked_sweep_unprinted, asked_untold, asked_wants, asked_width, is_command}
 use Rattle.scenario_files.proofs.Held.{handed_on}
 use Rattle.cli.proofs.program.perform.Goals as goal
 
@@ -8,10 +8,14 @@ pub returns-in_ok-summary-in-Run-clause-done : goal.returns-in_ok-summary-in-Run
 returns-in_ok-summary-in-Run-clause-done g c =
     asked_run_done c.args.release.now _ _ _ _ _ _ _ _ _ c.print_rows.result c.in-Run.is c.in_ok-help.ensures.answer c.in_ok-summary-in-Run.ensures.done c.print_rows.ensures.printed
 
+pub returns-in_ok-summary-in-Run-clause-failed : goal.returns-in_ok-summary-in-Run-clause-failed
+returns-in_ok-summary-in-Run-clause-failed g c =
+    asked_run_unprinted _ _ _ _ _ _ _ _ _ _ c.print_rows.result c.in-Run.is c.in_ok-help.ensures.answer c.in_ok-summary-in-Run.ensures.done c.print_rows.ensures.failure
+
 pub returns-in_err-summary-in-Run-clause-failed : goal.returns-in_err-summary-in-Run-clause-failed
 returns-in_err-summary-in-Run-clause-failed g c =
     handed_on _ _ _ c.from_residual-in_err-summary-in-Run.ensures.1
-    (asked_run_fails _ _ _ _ _ _ _ _ _ c.in-Run.is c.in_ok-help.ensures.answer c.in_err-summary-in-Run.ensures.failed)
+    (asked_run_fails _ _ _ _ _ _ _ _ _ _ c.in-Run.is c.in_ok-help.ensures.answer c.in_err-summary-in-Run.ensures.failed)
 
 pub returns-in-Explain-clause-done : goal.returns-in-Explain-clause-done
 returns-in-Explain-clause-done g c =
@@ -60,6 +64,12 @@ sweep_file-requires-clause-piece g c _ _ = asked_piece _ _ _ c.in-Sweep.is c.in_
 
 pub sweep_file-requires-clause-alone : goal.sweep_file-requires-clause-alone
 sweep_file-requires-clause-alone g c _ _ = asked_alone _ _ _ c.in-Sweep.is c.in_ok-help.ensures.answer
+
+pub sweep_file-requires-clause-seeds : goal.sweep_file-requires-clause-seeds
+sweep_file-requires-clause-seeds g c _ _ = asked_seeds _ _ _ c.in-Sweep.is c.in_ok-help.ensures.answer
+
+pub sweep_file-requires-clause-width : goal.sweep_file-requires-clause-width
+sweep_file-requires-clause-width g c _ _ = asked_width _ _ _ c.in-Sweep.is c.in_ok-help.ensures.answer
 
 pub sweep_file-requires-clause-wants : goal.sweep_file-requires-clause-wants
 sweep_file-requires-clause-wants g c _ _ = asked_wants _ _ _ c.in-Sweep.is c.in_ok-help.ensures.answer

@@ -5,12 +5,12 @@ use Rattle.decimals.specs.Items.{list_items}
 use Rattle.command_line.proofs.Parts.{no_parts}
 use Rattle.command_line.proofs.division.part_numbers.Goals as goal
 
-pub returns-in-None-part_number-clause-refused : goal.returns-in-None-part_number-clause-refused
-returns-in-None-part_number-clause-refused c =
+pub returns-in-None-number_within-clause-refused : goal.returns-in-None-number_within-clause-refused
+returns-in-None-number_within-clause-refused c =
     let list = c.args.list.now in
     let items = YieldsList-from_str_split {s = c.into_iter-item-iterator.result} 44 list (lit< tt) (cc) (cc) (cc) in
     let turn = YieldsList-turn items c.loop-item.yielded _ c.loop-item.yielded_by _ _ c.in-Some.item c.in-Some.is c.next.ensures.steps in
-    no_parts (list_items list) (length c.loop-item.yielded) c.in-Some.item.now turn.0 turn.1 (c.in-None-part_number.ensures.none refl)
+    no_parts (list_items list) (length c.loop-item.yielded) c.in-Some.item.now turn.0 turn.1 (c.in-None-number_within.ensures.none refl)
 
 pub returns-clause-numbers : goal.returns-clause-numbers
 returns-clause-numbers c =

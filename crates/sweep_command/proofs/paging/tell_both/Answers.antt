@@ -13,7 +13,7 @@ use Rattle.sweep_command.proofs.Tables.{each_err_of}
 use Rattle.sweep_command.proofs.paging.tell_both.Goals as goal
 
 pub cases_told-requires-clause-few : goal.cases_told-requires-clause-few
-cases_told-requires-clause-few g c = subst (All HasFewRuns) (sym c.deref.ensures.value) (few_runs_each _ _ _ _ _ c.requires.asked c.in_ok-cases.ensures.whole)
+cases_told-requires-clause-few g c = subst (All HasFewRuns) (sym c.deref.ensures.value) (few_runs_each _ _ _ _ _ _ c.requires.asked c.in_ok-cases.ensures.whole)
 
 pub returns-clause-whole : goal.returns-clause-whole
 returns-clause-whole g c = record {

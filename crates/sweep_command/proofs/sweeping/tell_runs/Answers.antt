@@ -10,7 +10,7 @@ use Rattle.sweep_command.proofs.Tables.{all_begins, each_err_of}
 use Rattle.sweep_command.proofs.sweeping.tell_runs.Goals as goal
 
 pub cases_told-requires-clause-few : goal.cases_told-requires-clause-few
-cases_told-requires-clause-few g c = subst (All HasFewRuns) (sym c.deref.ensures.value) (few_runs_each _ _ _ _ _ c.requires.asked c.in_ok-cases.ensures.whole)
+cases_told-requires-clause-few g c = subst (All HasFewRuns) (sym c.deref.ensures.value) (few_runs_each _ _ _ _ _ _ c.requires.asked c.in_ok-cases.ensures.whole)
 
 pub returns-clause-whole : goal.returns-clause-whole
 returns-clause-whole g c = record {
@@ -20,4 +20,4 @@ returns-clause-whole g c = record {
 }
 
 pub returns-in_err-lines-clause-part : goal.returns-in_err-lines-clause-part
-returns-in_err-lines-clause-part g c = each_err_of c.from_residual-in_err-lines.result (all_begins _ _ _ _ _ c.in_ok-cases.ensures.whole)
+returns-in_err-lines-clause-part g c = each_err_of c.from_residual-in_err-lines.result (all_begins _ _ _ _ _ _ c.in_ok-cases.ensures.whole)

@@ -1,5 +1,5 @@
 -- a place that was there, or one at the end
-use Rattle.std.proofs.Common.{◌≡◌, ◌∙◌, List, ℕ, Option, Some, None, find, is_some, position, true, length, ap, sym, refl, rules}
+use Rattle.std.proofs.Common.{◌≡◌, ◌∙◌, List, ℕ, Some, None, find, is_some, position, length, ap, sym, refl, rules}
 use Rattle.std.proofs.Math.Path.{fun_ext}
 use Rattle.files.specs.declared.testing.Kept.{Kept}
 use Rattle.files.specs.Memory.{bytes_under, has_name}

@@ -1,7 +1,6 @@
 -- the bytes at the place of the name
-use Rattle.std.proofs.Common.{◌≡◌, ◌∙◌, List, ℕ, Option, Some, position, true, ap, rules}
-use Rattle.files.specs.declared.testing.Kept.{Kept}
-use Rattle.files.specs.Memory.{has_name, kept_bytes}
+use Rattle.std.proofs.Common.{◌≡◌, ◌∙◌, List, ℕ, Option, Some, position, true, ap}
+use Rattle.files.specs.Memory.{has_name}
 use Rattle.files.proofs.KeptLemmas.{name_at, places_replaced, replaced, replaced_others}
 use Rattle.files.proofs.testing.MemoryFiles.store.Goals as goal
 

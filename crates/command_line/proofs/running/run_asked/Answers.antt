@@ -1,0 +1,41 @@
+use Rattle.std.proofs.Common.{rules, ◌≡◌, ◌∙◌, sym, ap, subst, refl, None, codes}
+use Rattle.std.proofs.lemmas.Option.{none-some}
+use Rattle.clap.specs.Words.{first_of, found_of, rows_of, subcommand_rows_of}
+use Rattle.command_line.specs.Words.{IsSplitIn}
+use Rattle.command_line.proofs.RunRows.{met_rows, same_rows}
+use Rattle.command_line.proofs.running.run_asked.Goals as goal
+
+pub returns-clause-some : goal.returns-clause-some
+returns-clause-some c =
+    let m = c.args.matches.now in
+    let found = found_of c.in_ok-run.run'.now in
+    record {
+      rows = rows_of found;
+      met_run = met_rows m (codes "run") (rows_of found) (search rules) (search rules);
+      file = search rules;
+      trace = search rules;
+      report = search rules;
+      page = search rules;
+      workers = search rules;
+      divided = search rules;
+    }
+
+pub returns-in_err-file-clause-none : goal.returns-in_err-file-clause-none
+returns-in_err-file-clause-none c _ run h =
+    let rows = rows_of (found_of c.in_ok-run.run'.now) in
+    let same : h.rows ≡ rows = same_rows (subcommand_rows_of c.args.matches.now) (codes "run") rows h.rows (search rules) h.met_run in
+    let none : first_of (codes "FILE") rows ≡ None = search rules in
+    none-some run.file.now (sym none ∙ (ap (first_of (codes "FILE")) (sym same) ∙ h.file))
+
+pub returns-in_err-trace-clause-none : goal.returns-in_err-trace-clause-none
+returns-in_err-trace-clause-none c _ run h =
+    let rows = rows_of (found_of c.in_ok-run.run'.now) in
+    let same : h.rows ≡ rows = same_rows (subcommand_rows_of c.args.matches.now) (codes "run") rows h.rows (search rules) h.met_run in
+    let none : first_of (codes "trace") rows ≡ None = search rules in
+    none-some run.trace.now (sym none ∙ (ap (first_of (codes "trace")) (sym same) ∙ h.trace))
+
+pub returns-in_err-split-clause-none : goal.returns-in_err-split-clause-none
+returns-in_err-split-clause-none c _ run h =
+    let rows = rows_of (found_of c.in_ok-run.run'.now) in
+    let same : h.rows ≡ rows = same_rows (subcommand_rows_of c.args.matches.now) (codes "run") rows h.rows (search rules) h.met_run in
+    c.in_err-split.ensures.none refl run.split (subst (λ r. IsSplitIn r run.split) same h.divided)

@@ -1,0 +1,117 @@
+//! The command `run`: what it takes, and what its words ask for.
+ghost use Rattle.std.specs.Prelude.{◌≡◌, IfOk, IfSome, IsNone};
+ghost use Rattle.clap.specs.Words.{App, found_of, rows_of, subcommand_rows_of};
+ghost use Rattle.command_line.specs.declared.words.RunWords.{RunWords as Wish};
+ghost use Rattle.command_line.specs.declared.words.Split.{Split as Wanted};
+ghost use Rattle.command_line.specs.Words.{run_app, with_outputs, with_parting, IsLocal, IsRunIn, IsSplitIn};
+
+use crate::arguments::{with_file, with_option, with_required};
+use crate::words::{RunWords, Split, value_of};
+use clap::{ArgMatches, Command};
+use std::alloc::{AllocError, Global};
+
+/// The command `run`.
+pub(crate) fn run_command<'a>(alloc: Global) -> Result<Command<'a>, AllocError>
+    ensures { IfOk result (IsLocal run_app) }
+{
+    let filed = with_file(
+        alloc,
+        Command::new(alloc, "run").about("Runs a scenario, and writes its trace"),
+    )?;
+    let written = with_outputs(alloc, filed)?;
+    with_parting(alloc, written)
+}
+
+/// A command with the options more that say which files a run is written to.
+fn with_outputs<'a>(alloc: Global, command: Command<'a>) -> Result<Command<'a>, AllocError>
+    ensures { (app : App) → IsLocal app command.entry → IfOk result (IsLocal (with_outputs app)) }
+{
+    let traced = with_required(
+        alloc,
+        command,
+        "trace",
+        "T",
+        "The file that takes the trace; one that is there is replaced",
+    )?;
+    let reported = with_option(
+        alloc,
+        traced,
+        "report",
+        "R",
+        "The file that takes the report; one that is there is replaced",
+    )?;
+    with_option(
+        alloc,
+        reported,
+        "page",
+        "P",
+        "The file that takes a page of the run, in HTML; one that is there is replaced",
+    )
+}
+
+/// A command with the options more that say how many workers run a scenario, and which part each
+/// member is in.
+fn with_parting<'a>(alloc: Global, command: Command<'a>) -> Result<Command<'a>, AllocError>
+    ensures { (app : App) → IsLocal app command.entry → IfOk result (IsLocal (with_parting app)) }
+{
+    let worked = with_option(
+        alloc,
+        command,
+        "workers",
+        "N",
+        "How many workers run the parts, 1 to 64 [default: 1]",
+    )?;
+    let parted = with_option(
+        alloc,
+        worked,
+        "parts",
+        "P",
+        "To how many parts the members are dealt in turn, 1 to 64 [default: the number of workers]",
+    )?;
+    with_option(
+        alloc,
+        parted,
+        "division",
+        "LIST",
+        "The part of each member, 0 to 63, parted by commas; not together with --parts",
+    )
+}
+
+/// The run that is asked for by words that `clap` took.
+pub(crate) fn run_asked<'a>(matches: &ArgMatches<'a>) -> Option<RunWords<'a>>
+    ensures some { IfSome result (IsRunIn (subcommand_rows_of matches.now)) }
+    ensures none { IsNone result → (run : Wish) → ¬ (IsRunIn (subcommand_rows_of matches.now) run) }
+{
+    let run = matches.subcommand_matches("run")?;
+    let file = value_of(run, "FILE")?;
+    let trace = value_of(run, "trace")?;
+    let report = value_of(run, "report");
+    let page = value_of(run, "page");
+    let workers = value_of(run, "workers");
+    let split = split_asked(run)?;
+    Some(RunWords {
+        file,
+        trace,
+        report,
+        page,
+        workers,
+        split,
+    })
+}
+
+/// How the members are to be divided by the words of a run. The two options for it exclude each other.
+fn split_asked<'a>(run: &ArgMatches<'a>) -> Option<Split<'a>>
+    ensures some { IfSome result (IsSplitIn (rows_of (found_of run.now))) }
+    ensures none { IsNone result → (split : Wanted) → ¬ (IsSplitIn (rows_of (found_of run.now)) split) }
+{
+    match value_of(run, "parts") {
+        None => match value_of(run, "division") {
+            None => Some(Split::Workers),
+            Some(list) => Some(Split::List(list)),
+        },
+        Some(parts) => match value_of(run, "division") {
+            None => Some(Split::Parts(parts)),
+            Some(_) => None,
+        },
+    }
+}

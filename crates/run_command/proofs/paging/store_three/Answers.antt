@@ -1,0 +1,66 @@
+-- what the files hold of a run that was done, and of one that broke off
+use Rattle.std.proofs.Common.{◌∙◌, List, ℕ, Result, Err, IfErr, ap, subst}
+use Rattle.std.specs.Prelude.{Some}
+use Rattle.base.specs.declared.fault.Fault.{Fault}
+use Rattle.outputs.specs.declared.summary.Summary.{Summary}
+use Rattle.scenario_files.proofs.Held.{each_err, each_ok, told_done, told_failed}
+use Rattle.run_command.specs.Outcomes.{StoresPaged, BreaksOffPaged}
+use Rattle.run_command.proofs.Paged.{first_of_three, paged_begun, paged_stored, second_of_three, third_of_three, three_others}
+use Rattle.run_command.proofs.paging.store_three.Goals as goal
+
+pub returns-clause-done : goal.returns-clause-done
+returns-clause-done g c =
+    let known = g.F.Files.known in
+    let holds = g.F.Made.Write.contents in
+    let run = c.simulate_with_page-made_trace in
+    let start = known c.args.files.now in
+    let made = known c.make_three.new.self in
+    let one = known c.close.new.self in
+    let two = known c.close-2.new.self in
+    let end = known c.close-3.new.self in
+    let trace = c.args.words.trace.now in
+    let report = c.args.report.now in
+    let page = c.args.page.now in
+    let s = c.args.prepared.now.scenario in
+    let release = c.args.shown.now.release.now in
+    told_done _ run.result.3 c.run_told.result c.run_told.ensures (each_ok run.result.3 run.ensures.written (λ summary writes.
+    subst (λ (name : List ℕ). StoresPaged s name release start end trace (Some report) page summary.rows) c.requires.named
+    (paged_stored s c.args.shown.now.name.now release start end trace (Some report) page _ _ _ _ _ _
+    (first_of_three start made one two end trace report page c.in-Ok.ensures.differ c.in-Ok.ensures.others c.close.ensures.others c.close-2.ensures.others c.close-3.ensures.others
+    _ _ _ c.in-Ok.ensures.empty c.in-Ok.ensures.made c.close.ensures.closed (ap holds c.into_inner.ensures))
+    (second_of_three start made one two end trace report page c.in-Ok.ensures.differ c.in-Ok.ensures.others c.close.ensures.others c.close-2.ensures.others c.close-3.ensures.others
+    _ _ _ c.in-Ok.ensures.empty_second c.in-Ok.ensures.made_second c.close-2.ensures.closed (ap holds c.into_inner-2.ensures))
+    (third_of_three start made one two end trace report page c.in-Ok.ensures.differ c.in-Ok.ensures.others c.close.ensures.others c.close-2.ensures.others c.close-3.ensures.others
+    _ _ _ c.in-Ok.ensures.empty_third c.in-Ok.ensures.made_third c.close-3.ensures.closed (ap holds c.into_inner-3.ensures))
+    (three_others start made one two end trace report page c.in-Ok.ensures.differ c.in-Ok.ensures.others c.close.ensures.others c.close-2.ensures.others c.close-3.ensures.others)
+    summary.rows writes)))
+
+pub returns-clause-failed : goal.returns-clause-failed
+returns-clause-failed g c =
+    let known = g.F.Files.known in
+    let holds = g.F.Made.Write.contents in
+    let run = c.simulate_with_page-made_trace in
+    let start = known c.args.files.now in
+    let made = known c.make_three.new.self in
+    let one = known c.close.new.self in
+    let two = known c.close-2.new.self in
+    let end = known c.close-3.new.self in
+    let trace = c.args.words.trace.now in
+    let report = c.args.report.now in
+    let page = c.args.page.now in
+    let s = c.args.prepared.now.scenario in
+    let release = c.args.shown.now.release.now in
+    let ends_by = g.M.Simulator.ends_by c.args.prepared.now.scenario c.args.prepared.now.workers in
+    told_failed _ run.result.3 c.run_told.result c.run_told.ensures (each_err run.result.3 run.ensures.beginning (λ cause is begins. (
+      c.in-Ok.ensures.apart,
+      subst (λ (name : List ℕ). BreaksOffPaged ends_by s name release start end trace (Some report) page cause) c.requires.named
+          (paged_begun s c.args.shown.now.name.now release start end trace (Some report) page _ _ _ _ _ _
+          (first_of_three start made one two end trace report page c.in-Ok.ensures.differ c.in-Ok.ensures.others c.close.ensures.others c.close-2.ensures.others c.close-3.ensures.others
+          _ _ _ c.in-Ok.ensures.empty c.in-Ok.ensures.made c.close.ensures.closed (ap holds c.into_inner.ensures))
+          (second_of_three start made one two end trace report page c.in-Ok.ensures.differ c.in-Ok.ensures.others c.close.ensures.others c.close-2.ensures.others c.close-3.ensures.others
+          _ _ _ c.in-Ok.ensures.empty_second c.in-Ok.ensures.made_second c.close-2.ensures.closed (ap holds c.into_inner-2.ensures))
+          (third_of_three start made one two end trace report page c.in-Ok.ensures.differ c.in-Ok.ensures.others c.close.ensures.others c.close-2.ensures.others c.close-3.ensures.others
+          _ _ _ c.in-Ok.ensures.empty_third c.in-Ok.ensures.made_third c.close-3.ensures.closed (ap holds c.into_inner-3.ensures))
+          (three_others start made one two end trace report page c.in-Ok.ensures.differ c.in-Ok.ensures.others c.close.ensures.others c.close-2.ensures.others c.close-3.ensures.others)
+          ends_by cause (subst (λ (r : Result Summary Fault). IfErr r ends_by) is run.ensures.cause) begins (λ e. run.ensures.worn (is ∙ ap Err e))),
+    )))

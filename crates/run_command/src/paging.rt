@@ -1,0 +1,133 @@
+//! A run, and the files that take its trace, its report and its page.
+ghost use Rattle.std.specs.Prelude.{◌≡◌, Some, None, IfOk, IfErr, OnOk, length};
+ghost use Rattle.scenario.specs.Setup.{member_count};
+ghost use Rattle.scenario_files.specs.Shelves.{word_given};
+ghost use Rattle.run_command.specs.Outcomes.{StoresPaged, PagedFails, DifferentPaged};
+
+use crate::simulator::Simulator;
+use command_line::{Failure, Release, RunWords};
+use files::{Files, PairFault, TripleFault};
+use outputs::Summary;
+use page_runs::RunShown;
+use scenario_files::{PreparedRun, run_told};
+use std::alloc::Global;
+use std::io;
+
+/// Runs a scenario, and writes its trace to the file that the words name, its page to another, and its report to a third where
+/// they ask for it. Either all are made or none is.
+pub(crate) fn store_paged<'a, M: Simulator, F: Files>(
+    simulator: &M,
+    alloc: Global,
+    release: &Release<'_>,
+    prepared: &PreparedRun,
+    words: RunWords<'a>,
+    page: &'a str,
+    files: &mut F,
+) -> Result<Summary, Failure<'a>>
+    requires ready { M.ready }
+    requires divided { length prepared.now.division.part_of ≡ member_count prepared.now.scenario }
+    ensures done { IfOk result (λ summary. StoresPaged prepared.now.scenario words.entry.file.now release.now.version.now (F.known files.old) (F.known files.new)
+        words.entry.trace.now (word_given words.entry.report) page.entry.now summary.rows) }
+    ensures apart { OnOk result (DifferentPaged (F.making files.old) words.entry.file.now words.entry.trace.now (word_given words.entry.report) page.entry.now) }
+    ensures failed { IfErr result (PagedFails (M.ends_by prepared.now.scenario prepared.now.workers) prepared.now.scenario release.now.version.now
+        (F.known files.old) (F.known files.new) (F.making files.old) words.entry.file.now words.entry.trace.now (word_given words.entry.report) page.entry.now) }
+{
+    let shown = RunShown {
+        name: words.file,
+        release: release.version,
+    };
+    match words.report {
+        Some(report) => store_three(
+            simulator, alloc, prepared, words, &shown, report, page, files,
+        ),
+        None => store_two(simulator, alloc, prepared, words, &shown, page, files),
+    }
+}
+
+/// The same without a report, which goes nowhere.
+fn store_two<'a, M: Simulator, F: Files>(
+    simulator: &M,
+    alloc: Global,
+    prepared: &PreparedRun,
+    words: RunWords<'a>,
+    shown: &RunShown<'_>,
+    page: &'a str,
+    files: &mut F,
+) -> Result<Summary, Failure<'a>>
+    requires ready { M.ready }
+    requires divided { length prepared.now.division.part_of ≡ member_count prepared.now.scenario }
+    requires named { shown.now.name.now ≡ words.file.now }
+    ensures done { IfOk result (λ summary. StoresPaged prepared.now.scenario words.entry.file.now shown.now.release.now (F.known files.old) (F.known files.new)
+        words.entry.trace.now None page.entry.now summary.rows) }
+    ensures apart { OnOk result (DifferentPaged (F.making files.old) words.entry.file.now words.entry.trace.now None page.entry.now) }
+    ensures failed { IfErr result (PagedFails (M.ends_by prepared.now.scenario prepared.now.workers) prepared.now.scenario shown.now.release.now
+        (F.known files.old) (F.known files.new) (F.making files.old) words.entry.file.now words.entry.trace.now None page.entry.now) }
+{
+    let (made_trace, made_page) = match files.make_both(words.file, words.trace, page) {
+        Ok(made) => made,
+        Err(PairFault::First) => return Err(Failure::File(words.trace)),
+        Err(PairFault::Second) => return Err(Failure::File(page)),
+        Err(PairFault::Memory) => return Err(Failure::Memory),
+    };
+    let (made_trace, _nowhere, made_page, outcome) = simulator.simulate_with_page(
+        alloc,
+        &prepared.scenario,
+        &prepared.division,
+        prepared.workers,
+        shown,
+        made_trace,
+        io::sink(),
+        made_page,
+    );
+    files.close(words.trace, made_trace.into_inner());
+    files.close(page, made_page.into_inner());
+    run_told(outcome)
+}
+
+/// The same with a report.
+fn store_three<'a, M: Simulator, F: Files>(
+    simulator: &M,
+    alloc: Global,
+    prepared: &PreparedRun,
+    words: RunWords<'a>,
+    shown: &RunShown<'_>,
+    report: &'a str,
+    page: &'a str,
+    files: &mut F,
+) -> Result<Summary, Failure<'a>>
+    requires ready { M.ready }
+    requires divided { length prepared.now.division.part_of ≡ member_count prepared.now.scenario }
+    requires named { shown.now.name.now ≡ words.file.now }
+    ensures done { IfOk result (λ summary. StoresPaged prepared.now.scenario words.entry.file.now shown.now.release.now (F.known files.old) (F.known files.new)
+        words.entry.trace.now (Some report.entry.now) page.entry.now summary.rows) }
+    ensures apart { OnOk result (DifferentPaged (F.making files.old) words.entry.file.now words.entry.trace.now (Some report.entry.now) page.entry.now) }
+    ensures failed { IfErr result (PagedFails (M.ends_by prepared.now.scenario prepared.now.workers) prepared.now.scenario shown.now.release.now
+        (F.known files.old) (F.known files.new) (F.making files.old) words.entry.file.now words.entry.trace.now (Some report.entry.now) page.entry.now) }
+{
+    let (made_trace, made_report, made_page) = match files.make_three(
+        words.file,
+        words.trace,
+        report,
+        page,
+    ) {
+        Ok(made) => made,
+        Err(TripleFault::First) => return Err(Failure::File(words.trace)),
+        Err(TripleFault::Second) => return Err(Failure::File(report)),
+        Err(TripleFault::Third) => return Err(Failure::File(page)),
+        Err(TripleFault::Memory) => return Err(Failure::Memory),
+    };
+    let (made_trace, made_report, made_page, outcome) = simulator.simulate_with_page(
+        alloc,
+        &prepared.scenario,
+        &prepared.division,
+        prepared.workers,
+        shown,
+        made_trace,
+        made_report,
+        made_page,
+    );
+    files.close(words.trace, made_trace.into_inner());
+    files.close(report, made_report.into_inner());
+    files.close(page, made_page.into_inner());
+    run_told(outcome)
+}
