@@ -17,6 +17,7 @@ from pathlib import Path
 
 import commands
 import draws
+import pages
 import pieces
 import presets
 import sweeps
@@ -26,7 +27,7 @@ import writes
 from program import Program, Wrong
 
 BUILT = Path(__file__).resolve().parent.parent / 'crates' / 'swimsim' / 'out' / 'swimsim'
-KINDS = (worked, draws, texts, commands, presets, sweeps, pieces, writes)
+KINDS = (worked, draws, texts, commands, presets, sweeps, pieces, pages, writes)
 
 
 def failure_of(path, room, case):

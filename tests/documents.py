@@ -1,5 +1,5 @@
 #!/usr/bin/env python3
-"""Runs the commands that README.md and docs/GUIDE.md, FORMAT.md and MEMBERLIST.md show, and compares the outputs shown with them.
+"""Runs the commands that README.md and docs/GUIDE.md, FORMAT.md, SWEEPS.md and MEMBERLIST.md show, and compares the outputs shown with them.
 
     tests/documents.py [--program FILE]
 
@@ -7,7 +7,7 @@ The program is the one that ./swimsim has built, or FILE. Each document has a fo
 its blocks of commands run from the first to the last, each to status 0. A block without a language is lines, in their
 order, of what was last printed or written: by the command in the text right before it, else by the run of the example that
 the section's heading names, else by the block of commands above. One that begins with `error[` is all that `explain` tells
-of the text of tests/explain/refused that it names. Blocks of other commands, as ./test, are left out; those that want a
+of the text of tests/explain/refused that it names. The picture is one that tools/picture makes now. Blocks of other commands, as ./test, are left out; those that want a
 command which isn't there are skipped, and told. The last line is `N passed, M failed`, and the status is 1 where M is over
 0. It takes seconds.
 """
@@ -24,7 +24,7 @@ from pathlib import Path
 
 TOP = Path(__file__).resolve().parent.parent
 BUILT = TOP / 'crates' / 'swimsim' / 'out' / 'swimsim'
-DOCUMENTS = ('README.md', 'docs/GUIDE.md', 'docs/FORMAT.md', 'docs/MEMBERLIST.md')
+DOCUMENTS = ('README.md', 'docs/GUIDE.md', 'docs/FORMAT.md', 'docs/SWEEPS.md', 'docs/MEMBERLIST.md')
 REFUSED = TOP / 'tests' / 'explain' / 'refused'
 # commands that build, test or install are no business of this script
 OTHERS = re.compile(r'^\s*(?:\./test|tools/|\./swimsim --from-source)', re.M)
@@ -133,6 +133,12 @@ def read_document(name, program):
     return passed, failures, skipped
 
 
+def check_picture(program):
+    """Compares README.md's picture with what the program's page of that run shows, as `read_document` answers."""
+    ran = subprocess.run([sys.executable, TOP / 'tools' / 'picture', '--check', '--program', program], capture_output=True, text=True)
+    return (1, [], []) if ran.returncode == 0 else (0, [ran.stderr.strip()], [])
+
+
 def main():
     """Reads the documents, and tells what is wrong in them."""
     parser = argparse.ArgumentParser(description=__doc__, formatter_class=argparse.RawDescriptionHelpFormatter)
@@ -140,7 +146,7 @@ def main():
     program = Path(parser.parse_args().program).resolve()
     if not program.exists():
         sys.exit(f'documents: no program {program}')
-    results = [read_document(name, program) for name in DOCUMENTS]
+    results = [*(read_document(name, program) for name in DOCUMENTS), check_picture(program)]
     failures = [line for _, lines, _ in results for line in lines]
     skipped = [line for _, _, lines in results for line in lines]
     print(*failures, *skipped, sep='\n', end='\n' if failures or skipped else '')

@@ -1,11 +1,12 @@
 """The page of a sweep, a second time: what `sweep --page` writes of the objects that `sweep --jsonl` prints.
 
-Written from docs/SWEEPS.md ("The page"); how it looks is the style's, which isn't modelled but taken as it stands.
+Written from docs/PAGES.md ("The page of a sweep"); how it looks is the style's, which isn't modelled but taken as it stands.
 """
 
-import html
 import itertools
 from collections import namedtuple
+
+from model_drawing import axis_across, axis_up, cells, escaped, figure, grouped, place, plot
 
 STATISTICS = ('First suspected: median', 'First confirmed: median to 99th', 'Last confirmed: median to greatest')
 # so many cases are told in words, and so many lines drawn in a plot, at the most
@@ -35,14 +36,6 @@ def hundredths(rate):
 
 # ---- Numbers and words ----
 
-def escaped(text):
-    return html.escape(text, quote=True).replace('&#x27;', '&#39;')
-
-
-def grouped(number):
-    return f'{number:,}'
-
-
 def time(ticks):
     return '-' if ticks is None else grouped(ticks)
 
@@ -63,53 +56,6 @@ def of_runs(case):
     return f'{grouped(case.runs_with)} of {grouped(case.runs)}'
 
 
-def place(value, most):
-    """Where a value stands on an axis, in percent."""
-    parts = 10000 if value >= most else value * 10000 // most
-    return f'{parts // 100}.{parts % 100:02}%'
-
-
-def cells(tag, values):
-    return ''.join(f'<{tag}>{value}</{tag}>' for value in values)
-
-
-# ---- Axes and figures ----
-
-def step_of(most, ticks):
-    """The least round step of which so many, at most, fit."""
-    steps = (digit * 10 ** power for power in range(19) for digit in (1, 2, 5))
-    return next((step for step in steps if most // step <= ticks), most + 1)
-
-
-def steps_up(most, ticks):
-    step = step_of(most, ticks)
-    return range(0, most + 1, step)
-
-
-def axis_across(most, unit):
-    text = '<div class="across" aria-hidden="true">'
-    for at in steps_up(most, 5):
-        style = ' class="last"' if at > most - most // 16 else ''
-        text += f'<span{style} style="left:{place(at, most)}">{grouped(at)}</span>'
-    return text + f'</div><p class="unit">{escaped(unit)}</p>'
-
-
-def axis_up(most, told):
-    text = '<div class="up" aria-hidden="true">'
-    for at in steps_up(most, 4):
-        text += f'<span style="bottom:{place(at, most)}">{told(at)}</span>'
-    return text + '</div>'
-
-
-def figure(name, heading):
-    return f'<section id="{name}"><h2>{escaped(heading)}</h2>\n'
-
-
-def plot(kind, width, height, title, description):
-    return (f'<svg class="plot {kind}" viewBox="0 0 {width} {height}" preserveAspectRatio="none" role="img">'
-            f'<title>{escaped(title)}</title><desc>{escaped(description)}</desc>')
-
-
 def folded(summary, heads):
     return (f'<details><summary>{summary}</summary><div class="wide"><table><thead><tr>{cells("th", heads)}</tr></thead><tbody>')
 
@@ -120,10 +66,10 @@ FOLDED_END = '</tbody></table></div></details></section>\n'
 # ---- The page ----
 
 class Page:
-    """The page of a sweep of these settings, over the cases in their order."""
+    """The page of a sweep of these settings, with so many seeds, over the cases in their order."""
 
-    def __init__(self, settings, cases):
-        self.settings, self.cases = settings, [Shown(told) for told in cases]
+    def __init__(self, settings, seeds, cases):
+        self.settings, self.seeds, self.cases = settings, seeds, [Shown(told) for told in cases]
         self.choices = list(itertools.product(*(values for _, values in settings)))
         on_front = [Front(case.confirmed, at) for at, case in enumerate(self.cases)
                     if case.is_best and case.confirmed is not None]
@@ -141,7 +87,7 @@ class Page:
 
     def summary(self):
         text = (f'<p class="soft">Settings tried: {grouped(len(self.choices))}. '
-                f'Runs of each: {grouped(self.cases[0].runs)}.</p>\n')
+                f'Seeds for each: {grouped(self.seeds)}.</p>\n')
         if not self.front:
             return text + '<p class="lead">No case confirms half of its crashes.</p>\n'
         text += ('<p class="lead">Take one of these. Each other setting that confirms half of its crashes is no faster and no '
@@ -322,9 +268,9 @@ def word(value):
     return str(value).lower()
 
 
-def page_of(name, release, style, settings, cases):
+def page_of(name, release, style, settings, seeds, cases):
     """The page of the sweep of a file of this name."""
-    page = Page(settings, cases)
+    page = Page(settings, seeds, cases)
     head = ('<!DOCTYPE html>\n<html lang="en"><head><meta charset="utf-8">'
             '<meta name="viewport" content="width=device-width,initial-scale=1">'
             f'<title>{escaped(name)} - swimsim sweep</title><style>{style}</style></head>\n'

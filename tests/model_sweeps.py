@@ -55,9 +55,10 @@ def document_of_run(document, settings, case, seed):
     return document
 
 
-def swept(document, settings, seeds, newest=NEWEST_TAKEN):
+def swept(document, settings, seeds, newest=NEWEST_TAKEN, until=None):
     """An empty text and, for each case, its values and each run's seed and figures; or what is told of the
-    first run that is refused, and no cases. Without seeds each case has one run, with the text's own."""
+    first run that is refused, and no cases. Without seeds each case has one run, with the text's own; with a
+    width a case has no more seeds than make its interval at most so many hundredths wide."""
     cases = []
     for case in cases_of(settings):
         runs = []
@@ -67,8 +68,19 @@ def swept(document, settings, seeds, newest=NEWEST_TAKEN):
                 return refusal_of(rule, settings, case), []
             figures = figures_of(scenario, model.rows_of(scenario))
             runs.append((seed, {**figures, 'tells_revived': version_of(document, newest) >= 3}))
+            if until is not None and is_narrow(until, [figures for _, figures in runs]):
+                break
         cases.append((case, runs))
     return '', cases
+
+
+def is_narrow(width, figures):
+    """Whether Wilson's 95 % interval of the share of these runs in which members were thrown out is at most so many
+    hundredths wide."""
+    runs, found = len(figures), sum(run['thrown_out'] > 0 for run in figures)
+    square = Fraction(196, 100) ** 2
+    apart = 4 * square * (Fraction(found * (runs - found), runs) + square / 4)
+    return apart <= (Fraction(width, 100) * (runs + square)) ** 2
 
 
 def refusal_of(rule, settings, case):

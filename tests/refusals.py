@@ -4,11 +4,11 @@
     tests/refusals.py [--program FILE] [--scenario FILE]
 
 The program is the one that ./swimsim has built, or FILE; nothing of it is built here. The scenario is one in which a
-join, a crash, losses, relays, suspicions and refutations meet, or FILE. `check`, and `run` by one worker and by three,
-are called with the first allocation refused, then with the second, and so on until a call needs no more. Each must end
+join, a crash, losses, relays, suspicions and refutations meet, or FILE. `check`, and `run` by one worker, by three, and
+with a page, are called with the first allocation refused, then with the second, and so on until a call needs no more. Each must end
 well, with all that it writes without a refusal, or with status 5: nothing on standard output, `swimsim: memory` or
-`swimsim: run F1` on standard error, a beginning of the trace, and nothing of the report unless the whole trace is
-there; or, where it was a thread that couldn't be started for it, `swimsim: run F4`, and nothing written. Where the
+`swimsim: run F1` on standard error, a beginning of the trace, nothing of the report unless the whole trace is
+there, and nothing of the page unless both are; or, where it was a thread that couldn't be started for it, `swimsim: run F4`, and nothing written. Where the
 start of a thread is refused that the run needs, it must end so.
 
 Of two faults at once the first is told: the trace of a long run goes to a device that takes nothing, and memory is
@@ -159,6 +159,9 @@ LINES = (b'swimsim: memory\n', NO_MEMORY)
 NOT_STARTED = b'swimsim: run F4\n'
 NOT_WRITTEN = b'swimsim: run F3\n'
 
+# the files that a run may write, in the order in which it does
+WRITTEN = ('t.csv', 'r.txt', 'p.html')
+
 # how many refusals after a failed write are tried one by one; after them each hundredth is
 NEXT = 20
 
@@ -168,19 +171,19 @@ def read(path):
 
 
 def call(words, folder, environment=None):
-    """Status, standard output and error, trace and report of the program with these words."""
-    trace, report = folder / 't.csv', folder / 'r.txt'
-    for old in (trace, report):
-        old.unlink(missing_ok=True)
+    """Status, standard output and error, and the trace, the report and the page of the program with these words."""
+    for name in WRITTEN:
+        (folder / name).unlink(missing_ok=True)
     ran = subprocess.run(words, capture_output=True, env=environment)
-    return ran.returncode, ran.stdout, ran.stderr, read(trace), read(report)
+    return ran.returncode, ran.stdout, ran.stderr, *(read(folder / name) for name in WRITTEN)
 
 
 def is_refusal(left, whole):
     """Whether that is what a refusal leaves of what there is without one."""
-    status, out, err, trace, report = left
-    in_order = whole[3].startswith(trace) and whole[4].startswith(report) and (not report or trace == whole[3])
-    is_told = err in LINES or (err == NOT_STARTED and not trace and not report)
+    status, out, err, *files = left
+    in_order = all(all_of_it.startswith(file) and (not file or files[:nth] == list(whole[3:3 + nth]))
+                   for nth, (file, all_of_it) in enumerate(zip(files, whole[3:])))
+    is_told = err in LINES or (err == NOT_STARTED and not any(files))
     return status == 5 and out == b'' and is_told and in_order
 
 
@@ -224,7 +227,7 @@ def refuse_starts(words, folder, least):
     many wrong. A sort of many rows starts threads too, and does without them."""
     whole, needed, spared, wrong = ended(words, folder, (0, b'')), 0, 0, 0
     for number, left in refused(words, folder, 's', itertools.count(1)):
-        if left == (5, b'', NOT_STARTED, b'', b''):
+        if left == (5, b'', NOT_STARTED, b'', b'', b''):
             needed += 1
         elif left == whole:
             spared += 1
@@ -241,7 +244,7 @@ def refuse_starts(words, folder, least):
 def refuse_after_write(words, folder):
     """Refuses allocations that come after a write has failed; answers how many went well and how many wrong."""
     whole, well, wrong = ended(words, folder, (5, NOT_WRITTEN)), 0, 0
-    told = (5, b'', NO_MEMORY, b'', b'')
+    told = (5, b'', NO_MEMORY, b'', b'', b'')
     spared = 0
     for number, left in refused(words, folder, 'w', itertools.chain(range(1, NEXT), itertools.count(NEXT, 100))):
         spared += left == whole
@@ -284,7 +287,8 @@ def main():
         if options.scenario is None:
             scenario.write_text(SCENARIO)
         run = [program, 'run', scenario, '--trace', folder / 't.csv', '--report', folder / 'r.txt', '--workers']
-        counts = [refuse_each(words, folder) for words in ([program, 'check', scenario], [*run, '1'], [*run, '3'])]
+        paged = [*run, '1', '--page', folder / 'p.html']
+        counts = [refuse_each(words, folder) for words in ([program, 'check', scenario], [*run, '1'], [*run, '3'], paged)]
         far = folder / 'far.toml'
         far.write_text(FAR)
         words = [far if word is scenario else word for word in run]

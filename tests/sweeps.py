@@ -2,6 +2,7 @@
 
 import itertools
 import json
+from math import prod
 
 import texts
 from model_sweep_page import page_of
@@ -36,9 +37,16 @@ def seeds_of(words):
 def expected_of(text, sweep):
     """The table and the lines of a sweep, as the model gives them."""
     settings = settings_of(sweep['set'])
-    _, cases = swept(document_of(text.encode()), settings, seeds_of(sweep.get('seeds')))
+    _, cases = swept(document_of(text.encode()), settings, seeds_of(sweep.get('seeds')), until=sweep.get('until'))
     lines = cases_text(settings, cases) + answer_text(sweep.get('want', []), settings, cases)
     return table_of(settings, cases).encode(), lines.encode()
+
+
+def runs_of(sweep, table):
+    """How many runs are asked for, and how many there may be where cases have no more seeds than they need."""
+    if 'until' not in sweep:
+        return table.count(b'\n') - 1
+    return len(seeds_of(sweep.get('seeds')) or [0]) * prod(len(values) for _, values in settings_of(sweep['set']))
 
 
 def expect_progress(lines, runs, wanted):
@@ -79,6 +87,8 @@ def check(program, sweep):
         words += ['--set', setting]
     for want in sweep.get('want', []):
         words += ['--want', want]
+    if 'until' in sweep:
+        words += ['--until', str(sweep['until'])]
     by_model = expected_of(text, sweep)
     table, lines = ((FOLDER / sweep[key]).read_bytes() if key in sweep else modelled
                     for key, modelled in zip(('table', 'lines'), by_model))
@@ -89,7 +99,7 @@ def check(program, sweep):
         program.keep('t.csv', 'an older table\n' * 1000)
         ran = program.call([*words, *workers, *progress])
         if progress:
-            expect_progress(ran.err, table.count(b'\n') - 1, sweep.get('progress'))
+            expect_progress(ran.err, runs_of(sweep, table), sweep.get('progress'))
             ran = ran._replace(err=b'')
         expect_ran(ran, 0, lines, b'', ' '.join([*workers, *progress, '']))
         expect(f'{workers} table', program.held('t.csv'), table)
@@ -108,7 +118,8 @@ def check_page(program, words, sweep, lines, objects):
     style = page.partition(b'<style>')[2].partition(b'</style>')[0].decode()
     release = program.call(['--version']).out.split()[1].decode()
     told = [json.loads(line) for line in objects.splitlines()]
-    expect('page', page, page_of('s.toml', release, style, settings_of(sweep['set']), told).encode())
+    seeds = len(seeds_of(sweep.get('seeds')) or [0])
+    expect('page', page, page_of('s.toml', release, style, settings_of(sweep['set']), seeds, told).encode())
 
 
 def cases():

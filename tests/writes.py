@@ -59,6 +59,21 @@ def check_room(program, name, way, sizes):
         expect(f'{room} bytes, report', program.held('r.txt'), report[:room] if room >= len(trace) else b'')
 
 
+def check_page_room(program, way, sizes):
+    """Runs with room for so many bytes in each file and a page longer than the trace and the report: once these have room, they are
+    whole and the page is a beginning; before, there is nothing of it."""
+    words = ['run', 's.toml', '--trace', 't.csv', '--report', 'r.txt', '--page', 'p.html', *way]
+    begin(program, 'two-members')
+    program.call(words)
+    page, trace, report = (program.held(name) for name in ('p.html', 't.csv', 'r.txt'))
+    for room in filter(lambda size: size < len(page), sizes):
+        program.keep('p.html', 'an older page\n')
+        expect_ran(program.call(words, room=room), *REFUSED, what=f'{room} bytes, ')
+        expect(f'{room} bytes, trace', program.held('t.csv'), trace[:room])
+        expect(f'{room} bytes, report', program.held('r.txt'), report[:room] if room >= len(trace) else b'')
+        expect(f'{room} bytes, page', program.held('p.html'), page[:room] if room >= max(len(trace), len(report)) else b'')
+
+
 def check_table_room(program, workers, sizes):
     """Sweeps with room for so many bytes in the table, which is then a beginning."""
     table = (DATA / 'sweeps' / 'two-members.table').read_bytes()
@@ -156,6 +171,9 @@ def room_cases():
         for way in WAYS:
             for sizes in rooms(longest):
                 yield Case(f'writes: {name} {way}, {sizes} bytes', check_room, (name, way, sizes))
+    for way in WAYS:
+        for sizes in (range(0, 1200, 97), range(1200, 9000, 611)):
+            yield Case(f'writes: page {way}, {sizes} bytes', check_page_room, (way, sizes))
     for workers in ('1', '3'):
         for sizes in rooms(len((DATA / 'sweeps' / 'two-members.table').read_bytes())):
             yield Case(f'writes: table by {workers}, {sizes} bytes', check_table_room, (workers, sizes))
@@ -168,6 +186,11 @@ def full_cases():
         full_trace, full_report = ['/dev/full', '--report', 'r.txt'], ['t.csv', '--report', '/dev/full']
         yield Case(f'writes: full trace {way}', check_full, ([*run, *full_trace, *way], {'r.txt': b''}))
         yield Case(f'writes: full report {way}', check_full, ([*run, *full_report, *way], {'t.csv': trace}))
+        full_page = ['t.csv', '--report', 'r.txt', '--page', '/dev/full']
+        whole = {'t.csv': trace, 'r.txt': of('two-members', 'report')}
+        yield Case(f'writes: full page {way}', check_full, ([*run, *full_page, *way], whole))
+        yield Case(f'writes: no page after a full trace {way}', check_full,
+                   ([*run, *full_trace, '--page', 'p.html', *way], {'r.txt': b'', 'p.html': b''}))
         yield Case(f'writes: closed pipe {way}', check_pipe, (way,))
     yield Case('writes: full table', check_full, (['sweep', 's.toml', '--table', '/dev/full'], {}))
 

@@ -1,0 +1,314 @@
+"""The page of a run, a second time: what `run --page` writes, of the scenario and the run's rows.
+
+Written from docs/PAGES.md ("The page of a run") alone.
+"""
+
+from model_drawing import (FIGURE_END, PLOT_END, area, axis_across, axis_up, band, dot, escaped, figure, grouped, legend,
+                           legend_entry, line, plot, rule)
+from model_run_series import MOST_HEALTH, MOST_SPANS, Series
+from model_text import CONFIRM, SUSPECT
+from scenarios import keys_of
+
+MOST_LANES, MOST_THROWN_OUT = 60, 200
+MESSAGE_CLASSES = {
+    'ping': 'one', 'ack': 'two', 'join': 'three', 'nack': 'four', 'ping-req': 'five', 'welcome': 'six', 'bye': 'seven',
+    'gossip': 'eight', 'push': 'nine', 'pull': 'ten', 'call': 'eleven', 'answer': 'twelve',
+}
+HEALTH_CLASSES = ('two', 'one', 'six', 'dead')
+# the tables and lists of keys, in the order in which they are told
+TOLD_TABLES = ('swim', 'suspicion', 'lifeguard', 'link', 'gossip', 'stream')
+TABLE_END = '</table></div></details>'
+
+
+def folded(summary, heads):
+    return f'<details><summary>{summary}</summary><div class="wide"><table><tr>{heads}</tr>\n'
+
+
+class Page:
+    """The page of a run of a scenario with these rows."""
+
+    def __init__(self, scenario, rows):
+        self.scenario, self.series = scenario, Series(scenario, rows)
+        self.others = max(1, len(self.series.names) - 1)
+        self.past = self.series.end + 1
+        self.lanes = self.series.lanes()
+
+    def text(self, release):
+        return (self.summary() + self.lanes_figure() + self.thrown_out() + self.spread() + self.traffic() + self.health()
+                + Settings(self.scenario).text(release))
+
+    def time_axis(self):
+        return axis_across(max(1, self.series.end), 'moment, in ticks')
+
+    # what happened, in words
+
+    def summary(self):
+        series = self.series
+        crashed = [member for member, at in series.crash.items() if at <= series.end]
+        out = sum(story.wrongly_by > 0 for story in series.stories)
+        text = f'<p class="lead">{grouped(len(series.names))} members, {grouped(series.end)} ticks. ' + self.crash_words(len(crashed))
+        text += {0: 'Nobody who was up was held dead.',
+                 1: '<b>1 member was thrown out though it was up.</b>'}.get(
+                     out, f'<b>{out} members were thrown out though they were up.</b>')
+        figures = [('', len(crashed), 'crashed'), ('bad' if out else '', out, 'thrown out though up')]
+        if self.scenario['version'] == 3:
+            figures.append(('', sum(sum(story.taken_back.values()) for story in series.stories), 'taken back'))
+        figures += [('', series.false_suspicions, 'false suspicions'), ('', series.told['refute'], 'refutations'),
+                    ('', series.told['fail'], 'failed probes'), ('', series.worst_health, 'worst health'),
+                    ('', series.rows, 'rows in the trace')]
+        items = ''.join(f'<li class="{kind}"><b>{grouped(count)}</b><span>{words}</span></li>' for kind, count, words in figures)
+        return f'{text}</p><ul class="figures">{items}</ul>\n'
+
+    def crash_words(self, crashed):
+        found = self.series.found.values()
+        if not crashed:
+            return 'Nobody crashed. '
+        text = '1 member crashed' if crashed == 1 else f'{crashed} members crashed'
+        if not found:
+            return text + ', and nobody found out. '
+        text += f', {len(found)} of them were found' if len(found) < crashed else ''
+        upto = f' to {grouped(max(found))}' if max(found) > min(found) else ''
+        return f'{text}: first held dead after {grouped(min(found))}{upto} ticks. '
+
+    # a lane for each member of whom there is something to tell
+
+    def lanes_figure(self):
+        text = figure('lanes', 'Who was suspected, and who was held dead')
+        if not self.lanes:
+            return f'{text}<p>Nobody was suspected, crashed, left, was slow or paused.</p>{FIGURE_END}'
+        text += ('<p class="soft">One lane a member. Its height is all other members: how many of them suspect it, and how many hold '
+                 'it dead.</p>')
+        bands = [('slow', 'it is slow'), ('pause', 'it is paused'), ('cut', 'it is cut off')]
+        text += legend([('suspect', 'suspect it'), ('dead', 'hold it dead'), *(it for it in bands if self.scenario[it[0]])])
+        text += ('<p class="soft">Upright line: it crashes; dashed: it leaves or starts; dotted: others take it back; dot: it '
+                 'refutes.</p>')
+        text += ''.join(self.lane(member) for member in self.lanes[:MOST_LANES])
+        text += f'<div class="lane">{self.time_axis()}</div>'
+        if len(self.lanes) > MOST_LANES:
+            text += f'<p class="soft">{len(self.lanes) - MOST_LANES} more were suspected by others or depart.</p>'
+        return text + self.lane_table() + FIGURE_END
+
+    def claims(self, member):
+        """How many others suspect a member in each span, and how many hold it dead."""
+        story = self.series.stories[member]
+        return [self.series.heights(story.came[what], story.went[what], self.others) for what in (SUSPECT, CONFIRM)]
+
+    def lane(self, member):
+        name, width = self.series.names[member], self.series.width
+        suspect, dead = self.claims(member)
+        text = f'<div class="lane"><div class="name">{name}</div>'
+        text += plot('', self.past, self.others, name, 'Over time, how many other members suspect it and how many hold it dead.')
+        text += self.bands(member)
+        text += area('suspect', dead, [min(self.others, sum(both)) for both in zip(suspect, dead)], width, self.past, self.others)
+        text += area('dead', [0] * len(dead), dead, width, self.past, self.others)
+        return f'{text}{self.marks(member)}{PLOT_END}<div class="told">{self.told(member)}</div></div>\n'
+
+    def bands(self, member):
+        ended = [(kind, it['from'], it['until']) for kind in ('slow', 'pause') for it in self.series.those(kind, member)]
+        ended += [('cut', it['at'], it['until']) for it in self.series.cuts(member)]
+        return ''.join(band(kind, min(first, self.past), min(until, self.past), self.others) for kind, first, until in ended)
+
+    def marks(self, member):
+        series, story = self.series, self.series.stories[member]
+        start, text = self.scenario['members'][member]['start'], ''
+        if 0 < start <= series.end:
+            text += rule('start', start, self.others)
+        for kind, moments in (('crash', series.crash), ('leave', series.leave)):
+            if member in moments:
+                text += rule(kind, min(moments[member], series.end), self.others)
+        for kind, shape, counts in (('back', rule, story.taken_back), ('refute', dot, story.refuted)):
+            text += ''.join(shape(kind, span * series.width + series.width // 2, self.others) for span in series.spans if counts[span])
+        return text
+
+    def told(self, member):
+        """What befell a member, in words."""
+        series, story = self.series, self.series.stories[member]
+        words = []
+        if story.wrongly_by:
+            back = sum(story.taken_back.values())
+            words.append(f'<b>thrown out though up</b> by {grouped(story.wrongly_by)}, first at {grouped(story.first_confirm[0])}'
+                         + (f', taken back by {grouped(back)}' if back else ''))
+        if member in series.crash or member in series.leave:
+            gone = f'crashed at {grouped(series.crash[member])}' if member in series.crash else f'left at {grouped(series.leave[member])}'
+            found = f'held dead from {grouped(story.first_confirm[0])}' if story.first_confirm else 'found by nobody'
+            words.append(f'{gone}, {found}')
+        return '; '.join(words) or ('suspected, and refuted it' if story.last_refute else 'never held dead')
+
+    def lane_table(self):
+        text = folded('The lanes as a table', '<th>member<th>from moment<th>suspect it<th>hold it dead')
+        for member in self.lanes[:MOST_LANES]:
+            last = 0, 0
+            for span, both in enumerate(zip(*self.claims(member))):
+                if both != last:
+                    text += f'<tr><td>{self.series.names[member]}<td>{span * self.series.width}<td>{both[0]}<td>{both[1]}'
+                last = both
+        return text + TABLE_END
+
+    # who was thrown out
+
+    def thrown_out(self):
+        members = [member for member in self.lanes if self.series.stories[member].wrongly_by]
+        if not members:
+            return ''
+        text = figure('thrown-out', 'Thrown out though up')
+        text += ('<div class="wide"><table><tr><th>member<th>first held dead<th>by<th>line of the trace<th>times<th>taken back'
+                 '<th>then it was<th>probes of it that failed<th>last refuted<th>line</tr>\n')
+        return text + ''.join(map(self.thrown_out_row, members[:MOST_THROWN_OUT])) + '</table></div>' + FIGURE_END
+
+    def thrown_out_row(self, member):
+        story = self.series.stories[member]
+        moment, accuser, place = story.first_confirm
+        refuted = f'<td>{grouped(story.last_refute[0])}<td>{story.last_refute[1]}' if story.last_refute else '<td>never<td>'
+        return (f'<tr><td>{self.series.names[member]}<td>{grouped(moment)}<td>{self.series.names[accuser]}<td>{place}'
+                f'<td>{grouped(story.wrongly_by)}<td>{grouped(sum(story.taken_back.values()))}<td>{self.condition(member, moment)}'
+                f'<td>{grouped(story.failed_probes)}{refuted}\n')
+
+    def condition(self, member, moment):
+        for word, entries, begin in (('paused', self.series.those('pause', member), 'from'),
+                                     ('slow', self.series.those('slow', member), 'from'), ('cut off', self.series.cuts(member), 'at')):
+            if any(entry[begin] <= moment < entry['until'] for entry in entries):
+                return word
+        return 'well'
+
+    # how the news of a crash spread
+
+    def spread(self):
+        watched = [(member, self.series.stories[member].learned) for member in self.series.watched]
+        latest = max((at for _, learned in watched for moments in learned.values() for at in moments.values()), default=0)
+        if not latest:
+            return ''
+        text = figure('spread', 'How the news of a crash spread')
+        text += legend([('suspect', 'have suspected it'), ('dead', 'hold it dead')])
+        if self.series.unwatched:
+            text += f'<p class="soft">{len(self.series.unwatched)} more crashed; these are the first {len(watched)} by number.</p>'
+        text += '<div class="many">'
+        return text + ''.join(self.news(member, learned, latest // MOST_SPANS + 1) for member, learned in watched) + '</div>' + FIGURE_END
+
+    def news(self, member, learned, step):
+        """The plot of a crash, in steps of so many ticks, and its table."""
+        stay = [other for other in range(len(self.series.names)) if other != member and self.series.stays(other)]
+        suspected, dead = (sorted(learned[what][other] for other in learned[what] if self.series.stays(other))
+                           for what in (SUSPECT, CONFIRM))
+        name, width, most = self.series.names[member], MOST_SPANS * step, max(1, len(stay), len(suspected), len(dead))
+        text = f'<div><h3>{name}</h3><div class="chart">{axis_up(most)}'
+        text += plot('', width, most, name,
+                     'How many members had suspected it, and how many held it dead, by the time since its crash.')
+        for kind, times in (('suspect', suspected), ('dead', dead)):
+            reached = [sum(time < (nth + 1) * step for time in times) for nth in range(MOST_SPANS)]
+            text += line(kind, reached, step, most)
+        text += f'{PLOT_END}{axis_across(width, "ticks since the crash")}</div>'
+        text += '<div class="wide"><table><tr><th>of those up<th>first<th>50 %<th>90 %<th>99 %<th>all</tr>'
+        text += self.shares('suspected it after', suspected, len(stay)) + self.shares('held it dead after', dead, len(stay))
+        return text + '</table></div></div>\n'
+
+    @staticmethod
+    def shares(words, times, of_all):
+        ranks = [max(1, (of_all * percent + 99) // 100) for percent in (0, 50, 90, 99, 100)]
+        return f'<tr><td>{words}' + ''.join(f'<td>{grouped(times[rank - 1]) if rank <= len(times) else "-"}' for rank in ranks)
+
+    # messages, and health
+
+    def stacked(self, layers, most):
+        """An area for each layer, each on those before it: of each its class and its heights."""
+        text, bases = '', [0] * len(self.series.spans)
+        for kind, heights in layers:
+            tops = [base + height for base, height in zip(bases, heights)]
+            text, bases = text + area(kind, bases, tops, self.series.width, self.past, most), tops
+        return text
+
+    def chart(self, kind, title, description, layers):
+        """A plot of layers over time; nothing where they are empty."""
+        most = max(map(sum, zip(*(heights for _, heights in layers))))
+        chart = f'chart {kind}'.strip()
+        return (f'<div class="{chart}">{axis_up(most)}{plot("", self.past, most, title, description)}{self.stacked(layers, most)}{PLOT_END}'
+                f'{self.time_axis()}</div>') if most else ''
+
+    def traffic(self):
+        series, told = self.series, self.series.told
+        sent, lost = ([[counts[kind][span] for span in series.spans] for kind in series.kinds] for counts in (series.sent, series.lost))
+        all_sent, all_lost = (sum(map(sum, counts)) for counts in (sent, lost))
+        rate = all_sent * 100000 // max(1, max(1, series.end) * len(series.names))
+        text = figure('traffic', 'Messages')
+        text += (f'<p class="soft">{grouped(all_sent)} were sent and {grouped(all_lost)} of them lost: {rate // 100}.{rate % 100:02} a member '
+                 'and 1,000 ticks.</p>')
+        text += '<ul class="legend">'
+        text += ''.join(legend_entry(MESSAGE_CLASSES[kind], f'{kind} {grouped(told[kind])}') for kind in series.kinds if told[kind])
+        text += (legend_entry('lost', 'lost, of all kinds') if all_lost else '') + '</ul>'
+        if all_sent:
+            layers = [(MESSAGE_CLASSES[kind], heights) for kind, heights in zip(series.kinds, sent)]
+            text += self.chart('', 'Messages sent', 'How many messages of each kind were sent in each span of time.', layers)
+            text += f'<p class="soft">Sent in each span of {series.width} ticks.</p>' + self.losses(lost)
+            text += folded('The messages as a table', '<th>from moment' + ''.join(f'<th>{kind}<th>lost' for kind in series.kinds))
+            for span in series.spans:
+                text += f'<tr><td>{span * series.width}' + ''.join(f'<td>{ours[span]}<td>{theirs[span]}' for ours, theirs in zip(sent, lost))
+            text += TABLE_END
+        return text + FIGURE_END
+
+    def losses(self, lost):
+        layer = [sum(counts) for counts in zip(*lost)]
+        text = self.chart('low', 'Messages lost', 'How many messages were lost in each span of time.', [('lost', layer)])
+        return text + (f'<p class="soft">Lost in each span of {self.series.width} ticks.</p>' if text else '')
+
+    def health(self):
+        series = self.series
+        if not series.worst_health:
+            return ''
+        values = range(1, MOST_HEALTH + 1)
+        heights = [series.heights(series.worse[value], series.better[value], 2**64) for value in values]
+        text = figure('health', 'Members in bad health')
+        text += ('<p class="soft">A member\'s health counter (Lifeguard) rises as its own probes fail. Nobody at 0 is drawn.</p>')
+        text += legend(zip(HEALTH_CLASSES, ('at 1', 'at 2', 'at 3', 'at 4 and more')))
+        layers = [(HEALTH_CLASSES[min(value, 4) - 1], counts) for value, counts in zip(values, heights)]
+        text += self.chart('low', 'Health', 'How many members stand at each value of the health counter.', layers)
+        text += folded('Health as a table', '<th>value<th>from moment<th>members')
+        for value, counts in zip(values, heights):
+            for span, count in enumerate(counts):
+                if count != (counts[span - 1] if span else 0):
+                    text += f'<tr><td>{value}<td>{span * series.width}<td>{count}'
+        return text + TABLE_END + FIGURE_END
+
+
+class Settings:
+    """What was run: each key of the scenario, those in bold that aren't the default."""
+
+    def __init__(self, scenario):
+        self.scenario = scenario
+        self.keys = keys_of(scenario['version'])
+
+    def text(self, release):
+        keys = ''.join(self.key(name, self.scenario[name], None) for name in ('version', 'seed', 'end'))
+        keys += ''.join(self.table(name) for name in TOLD_TABLES)
+        keys += ''.join(map(self.group, self.scenario['group'])) + ''.join(map(self.path, self.scenario['path']))
+        text = figure('settings', 'What was run') + '<p class="soft">What isn\'t the default is in bold.</p>'
+        return f'{text}<ul class="keys">{keys}</ul><p class="soft">swimsim {escaped(release)}</p>{FIGURE_END}'
+
+    @staticmethod
+    def item(words, is_changed):
+        return f'<li{" class=" + chr(34) + "changed" + chr(34) if is_changed else ""}>{words}</li>'
+
+    def key(self, name, value, default):
+        """A key; one without a default is never in bold."""
+        told = {True: 'on', False: 'off'}[value] if isinstance(value, bool) else grouped(value)
+        return self.item(f'{name} {told}', isinstance(default, int) and value != default)
+
+    def table(self, name):
+        held = self.scenario.get(name)
+        return ''.join(self.key(f'{name}.{key}', held[key], kind.default) for key, kind in self.keys[name].keys.items()) if held else ''
+
+    def group(self, group):
+        start = f', start {grouped(group["start"])}' if group['start'] else ''
+        return self.item(f'group {group["name"]}: count {grouped(group["count"])}{start}', bool(start))
+
+    def path(self, path):
+        link, own = ([entry[key] for key in ('delay', 'jitter', 'loss')] for entry in (self.scenario['link'], path))
+        told = 'delay {}, jitter {}, loss {}'.format(*map(grouped, own))
+        return self.item(f'path {path["from"]} to {path["to"]}: {told}', link != own)
+
+
+def page_of(name, release, style, scenario, rows):
+    """The page of the run of a scenario's file of this name."""
+    head = ('<!DOCTYPE html>\n<html lang="en"><head><meta charset="utf-8">'
+            '<meta name="viewport" content="width=device-width,initial-scale=1">'
+            f'<title>{escaped(name)} - swimsim</title><style>{style}</style></head>\n'
+            f'<body><main><header><h1>{escaped(name)}</h1></header>\n')
+    return head + Page(scenario, rows).text(release) + '</main></body></html>\n'

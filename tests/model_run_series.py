@@ -1,0 +1,125 @@
+"""What the page of a run is made of: its rows, counted by spans, members and kinds.
+
+Written from docs/PAGES.md ("The page of a run") alone.
+"""
+
+from collections import Counter, defaultdict
+
+from model_text import ALIVE, CONFIRM, SUSPECT, false_rows, messages_of
+
+MOST_SPANS, MOST_WATCHED, MOST_HEALTH = 120, 12, 16
+
+
+class Story:
+    """What members claim of one member, and what befalls it."""
+
+    def __init__(self):
+        self.came, self.went = ({what: Counter() for what in (SUSPECT, CONFIRM)} for _ in range(2))
+        self.refuted, self.taken_back = Counter(), Counter()
+        self.first_confirm = self.last_refute = None
+        self.wrongly_by = self.failed_probes = 0
+        # when each member first suspected it, and first held it dead, since its crash
+        self.learned = {SUSPECT: {}, CONFIRM: {}}
+
+
+class Series:
+    """The series of a run of a scenario, of its rows."""
+
+    def __init__(self, scenario, rows):
+        self.scenario, self.rows, self.end = scenario, len(rows), scenario['end']
+        self.names = [member['name'] for member in scenario['members']]
+        self.numbers = {name: number for number, name in enumerate(self.names)}
+        self.width = (self.end + MOST_SPANS) // MOST_SPANS
+        self.spans = range(self.end // self.width + 1)
+        self.stories = [Story() for _ in self.names]
+        self.crash, self.leave = ({self.numbers[entry['member']]: entry['at'] for entry in scenario[what]}
+                                  for what in ('crash', 'leave'))
+        crashed = sorted(member for member, at in self.crash.items() if at <= self.end)
+        self.watched, self.unwatched = crashed[:MOST_WATCHED], crashed[MOST_WATCHED:]
+        self.kinds = messages_of(scenario['version'])
+        self.sent, self.lost = ({kind: Counter() for kind in self.kinds} for _ in range(2))
+        self.better, self.worse = (defaultdict(Counter) for _ in range(2))
+        self.false_suspicions = len(false_rows(scenario, rows, SUSPECT)[0])
+        self.told = Counter(row.what for row in rows)
+        self.worst_health = max((row.value for row in rows if row.what == 'health'), default=0)
+        self.found = {}
+        self.count(rows)
+
+    def count(self, rows):
+        states, health, departed = {}, Counter(), set()
+        for place, row in enumerate(rows):
+            span = row.moment // self.width
+            if row.what in self.kinds:
+                self.sent[row.what][span] += 1
+                self.lost[row.what][span] += row.lost
+            elif row.what in (ALIVE, SUSPECT, CONFIRM):
+                self.count_claim(row, span, states)
+                self.learn(row, place, departed)
+            elif row.what == 'health':
+                value = min(MOST_HEALTH, row.value)
+                if value != health[row.member]:
+                    self.worse[value][span] += 1
+                    self.better[health[row.member]][span] += 1
+                    health[row.member] = value
+            elif row.what == 'refute':
+                self.stories[row.member].refuted[span] += 1
+                self.stories[row.member].last_refute = row.moment, place + 2
+            elif row.what == 'fail':
+                self.stories[row.about].failed_probes += 1
+            elif row.what in ('crash', 'leave'):
+                departed.add(row.member)
+
+    def count_claim(self, row, span, states):
+        """Counts what a member holds another for, where that changes."""
+        story, before = self.stories[row.about], states.get((row.member, row.about), ALIVE)
+        story.taken_back[span] += row.what == ALIVE and before == CONFIRM
+        if row.what != before:
+            states[row.member, row.about] = row.what
+            if row.what != ALIVE:
+                story.came[row.what][span] += 1
+            if before != ALIVE:
+                story.went[before][span] += 1
+
+    def learn(self, row, place, departed):
+        """Keeps the first to claim something; a row's line in the trace is its place and two more."""
+        story = self.stories[row.about]
+        if row.about in self.watched and row.what != ALIVE and row.moment >= self.crash[row.about]:
+            story.learned[row.what].setdefault(row.member, row.moment - self.crash[row.about])
+        if row.what == CONFIRM:
+            story.first_confirm = story.first_confirm or (row.moment, row.member, place + 2)
+            story.wrongly_by += row.about not in departed
+            if row.about in departed and row.about in self.crash:
+                self.found.setdefault(row.about, row.moment - self.crash[row.about])
+
+    def heights(self, came, went, most):
+        """How many are in a state in each span: the more of those at its two ends, or who came where there are none at both."""
+        heights, before = [], 0
+        for span in self.spans:
+            after = before + came[span] - went[span]
+            heights.append(min(most, max(before, after) or came[span]))
+            before = after
+        return heights
+
+    def stays(self, member):
+        """Whether a member neither crashes nor leaves by the end."""
+        return min(self.crash.get(member, self.end + 1), self.leave.get(member, self.end + 1)) > self.end
+
+    def those(self, what, member):
+        """The entries of a list of the scenario that are about a member."""
+        return [entry for entry in self.scenario[what] if entry['member'] == self.names[member]]
+
+    def cuts(self, member):
+        group = self.scenario['members'][member]['group']
+        return [cut for cut in self.scenario['cut'] if group in (cut['from'], cut['to'])]
+
+    def lanes(self):
+        """The members that have a lane, in their order: those first that most hold dead wrongly, then who departs first, then of whom
+        there are most claims."""
+        lanes = []
+        for member, story in enumerate(self.stories):
+            claims = sum(count for what in (SUSPECT, CONFIRM) for count in story.came[what].values())
+            moment = self.crash.get(member, self.leave.get(member))
+            departs = moment is not None and moment <= self.end
+            if claims or departs or self.those('slow', member) or self.those('pause', member):
+                lanes.append((-story.wrongly_by, moment if departs else 2**64, -claims, member))
+        return [member for *_, member in sorted(lanes)]

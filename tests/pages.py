@@ -1,0 +1,48 @@
+"""Pages of runs: what `run --page` leaves is the page that the model makes of the trace, by any number of workers."""
+
+from model_run_page import page_of
+from model_text import rows_in
+from program import Case, DATA, expect, expect_ran
+from worked import FOLDER as WORKED, scenario_of, text_of
+
+EXAMPLES = DATA.parent / 'examples'
+# a crash, false claims with Lifeguard and without, a cut, joins, leaves, stops, three sites, and a cluster in which nothing happens
+SHOWN = ('crash', 'slow-member', 'slow-member-without-lifeguard', 'cut-between-sites', 'rolling-join', 'rolling-restart', 'pauses',
+         'three-sites-wan', 'quiet')
+WAYS = ([], ['--workers', '2'], ['--workers', '3', '--parts', '3'])
+# a name that is no markup in the page
+NAME = '<script>&"it\'s".toml'
+
+
+def check(program, text):
+    """Runs a text with a page, in each way, and compares it with the model's; the trace and the report are those of a run without."""
+    program.keep(NAME, text)
+    program.call(['run', NAME, '--trace', 'old.csv', '--report', 'old.txt'])
+    trace, report = program.held('old.csv'), program.held('old.txt')
+    rows = f'rows {trace.count(10) - 1}\n'.encode()
+    for way in WAYS:
+        told = ' '.join(way)
+        ran = program.call(['run', NAME, '--trace', 't.csv', '--report', 'r.txt', '--page', 'p.html', *way])
+        expect_ran(ran, 0, rows, b'', f'{told} ')
+        expect(f'{told} trace', program.held('t.csv'), trace)
+        expect(f'{told} report', program.held('r.txt'), report)
+        expect_page(program, f'{told} page', text, trace)
+    program.keep('p.html', 'an older page\n' * 100000)
+    ran = program.call(['run', NAME, '--trace', '/dev/null', '--page', 'p.html'])
+    expect_ran(ran, 0, rows, b'', 'page alone ')
+    expect_page(program, 'page alone', text, trace)
+
+
+def expect_page(program, told, text, trace):
+    """Compares the page with the model's; its style is taken as it stands."""
+    page = program.held('p.html')
+    style = page.partition(b'<style>')[2].partition(b'</style>')[0].decode()
+    release = program.call(['--version']).out.split()[1].decode()
+    scenario = scenario_of(text)
+    expect(told, page, page_of(NAME, release, style, scenario, rows_in(scenario, trace.decode())).encode())
+
+
+def cases():
+    """Each worked run, and examples."""
+    for path in [*sorted(WORKED.glob('*.toml')), *(EXAMPLES / f'{name}.toml' for name in SHOWN)]:
+        yield Case(f'page of {path.stem}', check, (text_of(path),))
