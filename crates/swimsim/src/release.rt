@@ -1,8 +1,8 @@
 //! Which release of the program this is.
 
 /// The number of the version.
-pub const VERSION: &str = "1.3.0";
+pub const VERSION: &str = "1.4.0";
 /// The digest of the sources.
-pub const SOURCES: &str = "85522381c5d18a57f9de2acdfe4ccdcc54256eacdb2240aa5b132b1621659c1e";
+pub const SOURCES: &str = "bd6e4d847f4ca70515c61f52560a8c9b2f61c807779a4c523e55994bec421d0c";
 /// The kit.
 pub const KIT: &str = "rattle-kit-13f logic dac8208d650f15bf";
