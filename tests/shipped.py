@@ -70,12 +70,13 @@ def what_was_built_is_what_is_shipped(room):
     assert (room / 'stripped').read_bytes() == SHIPPED.read_bytes()
 
 
-def a_bare_machine_has_its_first_report(room):
-    copy = clone(room)
-    ran = run_bare(copy, 'swimsim', *CRASH)
-    assert (ran.returncode, ran.stdout, ran.stderr) == (0, 'rows 9679\n', ''), ran
-    told = re.search(r'^```\n(crash node-42 .*?)^```$', (TOP / 'README.md').read_text(), re.M | re.S)[1]
-    assert set(told.splitlines()) <= set((copy / 'r.txt').read_text().splitlines()), 'README shows lines of this report'
+def a_bare_machine_has_its_first_page(room):
+    copy, readme = clone(room), (TOP / 'README.md').read_text()
+    words = re.search(r'^```sh\n\./swimsim (.*?)\n```$', readme, re.M)[1].split()
+    ran = run_bare(copy, 'swimsim', *words)
+    assert (ran.returncode, ran.stderr) == (0, ''), ran
+    assert f'`{ran.stdout.strip()}`' in readme, 'README tells what its first command prints'
+    assert (copy / words[-1]).read_text().startswith('<!DOCTYPE html>'), 'the first command leaves a page'
 
 
 def a_changed_byte_is_not_run(room):
@@ -107,12 +108,12 @@ def it_is_installed_where_people_look(room):
     assert installed.read_bytes() == SHIPPED.read_bytes() and os.access(installed, os.X_OK)
     assert (prefix / 'share/man/man1/swimsim.1').is_file()
     examples = sorted(it.name for it in (prefix / 'share/doc/swimsim/examples').iterdir())
-    assert examples == sorted(it.name for it in (TOP / 'examples').glob('*.toml'))
+    assert examples == sorted(it.name for it in (TOP / 'examples').iterdir())
 
 
 CASES = (
     the_record_is_that_of_these_sources, the_program_tells_its_digest_and_kit, what_was_built_is_what_is_shipped,
-    a_bare_machine_has_its_first_report, a_changed_byte_is_not_run, changed_sources_are_not_run,
+    a_bare_machine_has_its_first_page, a_changed_byte_is_not_run, changed_sources_are_not_run,
     the_manual_page_is_that_of_the_program, it_is_installed_where_people_look,
 )
 
