@@ -14,7 +14,6 @@ use Rattle.pieces.specs.Pieces.{IsPiece, first_run, past_run}
 use Rattle.figures.specs.declared.summary.CaseSummary.{CaseSummary}
 use Rattle.sweep.specs.Runs.{Made, noted}
 use Rattle.sweep.specs.Table.{table_text, tells_revived}
-use Rattle.sweep.specs.Texts.{cases_text}
 use Rattle.sweep.specs.Summaries.{SumUp}
 use Rattle.sweep.specs.Pieces.{AreMadeIn, piece_table}
 use Rattle.joins.specs.Joined.{IsAmongTexts}
@@ -44,10 +43,10 @@ pub record IsCutPiece (tree : Data) (mark : List ℕ) (sweep : Sweep) (p : Piece
   pub rest : List ℕ
   pub written : text ++ rest ≡ piece_table (tells_revived tree) mark sweep p made
 
--- the table of the whole sweep was appended, and the text is that of its cases
-pub record IsWhole (tree : Data) (sweep : Sweep) (made : List Made) (old new : Option (List ℕ)) (text : List ℕ) : Type 0 where
+-- the table of the whole sweep was appended, what was read is this sweep and whether its tables tell of members taken for alive again, and each case is summed up
+pub record IsWhole (tree : Data) (sweep : Sweep) (made : List Made) (old new : Option (List ℕ)) (read : Sweep) (revived : Bool) (cases : List CaseSummary) : Type 0 where
+  pub same : read ≡ sweep
+  pub column : revived ≡ tells_revived tree
   pub written : Appends old new (table_text tree sweep made)
-  pub cases : List CaseSummary
   pub each : length cases ≡ case_count sweep.settings
   pub summed : SumUp (seed_count sweep.seeds) (map noted made) cases
-  pub told : text ≡ cases_text (tells_revived tree) sweep cases

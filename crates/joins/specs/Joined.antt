@@ -12,7 +12,6 @@ use Rattle.pieces.specs.Pieces.{IsPiece, first_run, past_run}
 use Rattle.sweep.specs.Runs.{IsAskedFor}
 use Rattle.sweep.specs.Table.{names_of}
 use Rattle.sweep.specs.Summaries.{SumUp, IsGathered}
-use Rattle.sweep.specs.Texts.{cases_text}
 use Rattle.sweep.specs.Pieces.{piece_header}
 use Rattle.sweep.specs.declared.gathering.Gathering.{Gathering}
 use Rattle.joins.specs.Lines.{Line, IsLine, piece_line, plain_line, notes_of}
@@ -57,23 +56,33 @@ pub record JoinsPieces (texts : List (Vec ℕ Global)) (mark : List ℕ) (revive
   pub put : Appends old new (flat_map plain_line lines)
   pub gathered : (each : ℕ) (notes : List Note) → IsGathered each notes before → IsGathered each (notes ++ notes_of lines) after
 
--- The texts have all pieces of a sweep: each is one of them, and its lines are those of the whole from its first run to its last. Their lines
--- without notes are the table that was appended, and the text is that of the cases that the notes tell.
-pub record Joins (texts : List (Vec ℕ Global)) (old new : Option (List ℕ)) (text : List ℕ) : Type 0 where
-  pub sweep : Sweep
-  pub asked : IsAskedFor sweep
-  pub mark : List ℕ
-  pub marked : IsMark mark
-  pub revived : Bool
-  pub of : ℕ
-  pub some : 1 ≤ of
-  pub few : of ≤ 10000
+-- The pieces of a sweep of which each case runs with each seed: behind the first line of each, its lines are those of the whole from its first run to its
+-- last. Their lines without notes are the table, and the notes sum up the cases.
+pub record AreOfRuns (sweep : Sweep) (of : ℕ) (body : Piece → List ℕ) (table : List ℕ) (cases : List CaseSummary) : Type 0 where
   pub lines : List Line
   pub all : length lines ≡ run_count sweep
   pub sound : All IsLine lines
-  pub there : (p : Piece) → IsPiece p → p.of ≡ of → IsAmongTexts texts (piece_of mark revived sweep p lines)
-  pub written : Appends old new (header_line revived (names_of sweep.settings) ++ flat_map plain_line lines)
-  pub cases : List CaseSummary
-  pub each : length cases ≡ case_count sweep.settings
+  pub behind : (p : Piece) → IsPiece p → p.of ≡ of → body p ≡ flat_map piece_line (lines_between lines (first_run p (run_count sweep)) (past_run p (run_count sweep)))
+  pub laid : table ≡ flat_map plain_line lines
   pub summed : SumUp (seed_count sweep.seeds) (notes_of lines) cases
-  pub told : text ≡ cases_text revived sweep cases
+
+-- The texts have all pieces of the sweep, of so many: each is one of them. Their lines were put behind this front, and there is a summary for each case.
+pub record JoinsBehind (front : List ℕ) (texts : List (Vec ℕ Global)) (mark : List ℕ) (revived : Bool) (sweep : Sweep) (of : ℕ) (old new : Option (List ℕ))
+    (cases : List CaseSummary) : Type 0 where
+  pub body : Piece → List ℕ
+  pub there : (p : Piece) → IsPiece p → p.of ≡ of → IsAmongTexts texts (piece_header revived mark sweep p ++ body p)
+  pub table : List ℕ
+  pub written : Appends old new (front ++ table)
+  pub each : length cases ≡ case_count sweep.settings
+  pub are : AreOfRuns sweep of body table cases
+
+-- The texts have all pieces of this sweep, whose tables tell, or don't, of members that were taken for alive again. The table of the whole was appended, and
+-- these are the summaries of its cases.
+pub record Joins (texts : List (Vec ℕ Global)) (old new : Option (List ℕ)) (sweep : Sweep) (revived : Bool) (cases : List CaseSummary) : Type 0 where
+  pub asked : IsAskedFor sweep
+  pub mark : List ℕ
+  pub marked : IsMark mark
+  pub of : ℕ
+  pub some : 1 ≤ of
+  pub few : of ≤ 10000
+  pub put : JoinsBehind (header_line revived (names_of sweep.settings)) texts mark revived sweep of old new cases

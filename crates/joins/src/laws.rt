@@ -1,9 +1,10 @@
 //! What holds of pieces that are put together.
-ghost use Rattle.std.specs.Prelude.{◌≡◌, ℕ, List, Option, All, Vec, length};
+ghost use Rattle.std.specs.Prelude.{◌≡◌, ℕ, Bool, List, Option, All, Vec, length};
 ghost use Rattle.std.specs.declared.alloc.Global.{Global};
 ghost use Rattle.toml.specs.Data.{Data};
 ghost use Rattle.cases.specs.Sweep.{Sweep, run_count};
 ghost use Rattle.sweep.specs.Runs.{Made, IsAskedFor};
+ghost use Rattle.figures.specs.declared.summary.CaseSummary.{CaseSummary};
 ghost use Rattle.joins.specs.Joined.{IsMark, Joins};
 ghost use Rattle.pieces.specs.declared.piece.Piece.{Piece};
 ghost use Rattle.sweep.specs.Pieces.{WritesPiece};
@@ -13,11 +14,11 @@ ghost use Rattle.sweep.specs.declared.begun.BegunFault.TheVariants as begun_faul
 ghost use Rattle.joins.specs.Genuine.{ArePieces, IsCutPiece, IsTellable, IsWhole};
 
 /// Where each of the texts is some piece of a sweep that was made, in whatever order they come and into however many pieces
-/// it was cut, what they are put together to is the table of the whole sweep, and the text of its cases.
+/// it was cut, what they are put together to is that sweep, the table of the whole, and the summaries of its cases.
 pub fn all_pieces_are_the_whole()
-    ensures { (texts : List (Vec ℕ Global)) (old new : Option (List ℕ)) (text mark : List ℕ) (tree : Data) (sweep : Sweep) (of : ℕ) (made : List Made)
-        → Joins texts old new text → IsMark mark → IsAskedFor sweep → length made ≡ run_count sweep → All IsTellable made
-        → ArePieces tree texts mark sweep of made → IsWhole tree sweep made old new text }
+    ensures { (texts : List (Vec ℕ Global)) (old new : Option (List ℕ)) (read : Sweep) (revived : Bool) (cases : List CaseSummary) (mark : List ℕ) (tree : Data) (sweep : Sweep) (of : ℕ) (made : List Made)
+        → Joins texts old new read revived cases → IsMark mark → IsAskedFor sweep → length made ≡ run_count sweep → All IsTellable made
+        → ArePieces tree texts mark sweep of made → IsWhole tree sweep made old new read revived cases }
 {}
 
 /// Where a text is a beginning of a piece that was made, it is taken for one, and the table that goes on behind its whole

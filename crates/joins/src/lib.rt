@@ -1,4 +1,4 @@
-//! The pieces of a sweep put together: the table of the whole, and the text of its cases.
+//! The pieces of a sweep put together: the table of the whole, and the summaries of its cases.
 #![tactic(auto)]
 
 mod fault;
@@ -9,4 +9,4 @@ mod lines;
 mod places;
 
 pub use fault::JoinFault;
-pub use joining::join;
+pub use joining::{Joined, join};

@@ -3,3 +3,4 @@ pub mod Same
 pub mod Wide
 pub mod Left
 pub mod Cases
+pub mod PieceCases
