@@ -1,7 +1,6 @@
 ghost use Rattle.std.specs.Prelude.{◌≡◌, ◌+◌, ◌^◌, ◌≤◌, ◌<◌};
 ghost use Rattle.lifeguard.specs.Health.{scaled};
 ghost use Rattle.member.specs.Turn.{with_event};
-ghost use Rattle.std.specs.Option.{option_map_or};
 ghost use Rattle.std.specs.FinMap.{get};
 ghost use Rattle.member.specs.Makes.{AreAboutMembers, IsMember, KnowsMembers, Makes};
 ghost use Rattle.member.specs.Step.{suspected_at, timed_probe_failed, probe_settled, probe_timers_set, timed_probe_begun, next_timed_probed, waiting_probed, has_time, is_under_way, next_after_settled, probed_in_turn, period_beaten, waiting_after_settled, deadline_over, timed_answered, timed_ack_taken, timed_ack_heard};
@@ -101,7 +100,7 @@ impl Member {
         }
         let seq = self.sequence + 1;
         let deadline = self.next_deadline(here);
-        let number = self.number_of(target);
+        let number = self.table.number_of(target);
         let probe = Probe::timed(seq, target, number, deadline);
         self.sequence = seq;
         self.probe = Some(probe);
@@ -133,16 +132,6 @@ impl Member {
         self.set_timer(turn, here, timeout, Content::TimeoutTimer { seq })?;
         let timer = Content::DeadlineTimer { seq };
         self.make_event(turn, here, deadline, here.key.to, timer)
-    }
-
-    /// The incarnation number at which a member is held, 0 where it isn't known.
-    fn number_of(&self, member: MemberId) -> u64
-        ensures { result ≡ option_map_or (λ held. held.1) (get (state_of self.now).table member) 0 }
-    {
-        match self.table.get(member) {
-            Some(held) => held.1,
-            None => 0,
-        }
     }
 
     /// Probes the next member, where there is one.
