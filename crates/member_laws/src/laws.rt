@@ -1,6 +1,6 @@
 //! What holds of every step, stated over the definitions alone.
 
-ghost use Rattle.std.specs.Prelude.{◌≡◌, ◌≢◌, ◌<◌, ◌≤◌, ◌+◌, ◌^◌, ℕ, Bool, false, Some, None, List, [], All};
+ghost use Rattle.std.specs.Prelude.{◌≡◌, ◌≢◌, ◌<◌, ◌≤◌, ◌+◌, ◌^◌, ℕ, false, Some, None, List, [], All};
 ghost use Rattle.std.specs.FinMap.{get};
 ghost use Rattle.std.specs.FinSet as set;
 ghost use Rattle.base.specs.declared.key.Key.{Key};
@@ -19,7 +19,8 @@ ghost use Rattle.member.specs.declared.content.Content.TheVariants.{Start, Leave
 ghost use Rattle.member.specs.declared.member.Phase.TheVariants.{Waiting, Down};
 ghost use Rattle.member.specs.State.{State};
 ghost use Rattle.member.specs.Opening.{opening_state, opening};
-ghost use Rattle.member.specs.Turn.{Effect, unchanged};
+ghost use Rattle.member.specs.declared.telling.Telling.{Telling};
+ghost use Rattle.member.specs.Effects.{Effect, unchanged};
 ghost use Rattle.member.specs.Send.{buddy_of};
 ghost use Rattle.member.specs.Apply.{applied};
 ghost use Rattle.member.specs.Step.{step, plain_step};
@@ -31,18 +32,18 @@ ghost use Rattle.member_laws.specs.Runs.{Cluster, IsRunOf, IsPlainRunOf, LeadsTo
 /// whatever else it hears. By the papers' rules it so rises by one where it hears itself suspected at
 /// its present number, and stays at all else. No step lowers it.
 pub fn an_incarnation_rises_to_refute_alone()
-    ensures refuted { (s : Setup) (loud : Bool) (k : Key) (u : Update) (o : Effect)
+    ensures refuted { (s : Setup) (telling : Telling) (k : Key) (u : Update) (o : Effect)
         → IsRefuted (profile_of s) k.to o.state u
-        → (applied s loud k u o).state.incarnation ≡ u.inc + 1 }
-    ensures stays { (s : Setup) (loud : Bool) (k : Key) (u : Update) (o : Effect)
+        → (applied s telling k u o).state.incarnation ≡ u.inc + 1 }
+    ensures stays { (s : Setup) (telling : Telling) (k : Key) (u : Update) (o : Effect)
         → ¬ IsRefuted (profile_of s) k.to o.state u
-        → (applied s loud k u o).state.incarnation ≡ o.state.incarnation }
-    ensures refuted_by_papers { (s : Setup) (loud : Bool) (k : Key) (u : Update) (o : Effect)
+        → (applied s telling k u o).state.incarnation ≡ o.state.incarnation }
+    ensures refuted_by_papers { (s : Setup) (telling : Telling) (k : Key) (u : Update) (o : Effect)
         → profile_of s ≡ Papers → AccusesOneself k.to o.state u
-        → (applied s loud k u o).state.incarnation ≡ o.state.incarnation + 1 }
-    ensures stays_by_papers { (s : Setup) (loud : Bool) (k : Key) (u : Update) (o : Effect)
+        → (applied s telling k u o).state.incarnation ≡ o.state.incarnation + 1 }
+    ensures stays_by_papers { (s : Setup) (telling : Telling) (k : Key) (u : Update) (o : Effect)
         → profile_of s ≡ Papers → ¬ AccusesOneself k.to o.state u
-        → (applied s loud k u o).state.incarnation ≡ o.state.incarnation }
+        → (applied s telling k u o).state.incarnation ≡ o.state.incarnation }
     ensures never_falls { (s : Setup) (k : Key) (c : Content) (t : State) → WaitsAsOpened s k.to t
         → t.incarnation ≤ (step s k c t).state.incarnation }
 {}
