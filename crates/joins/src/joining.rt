@@ -1,5 +1,5 @@
 //! The pieces of a sweep put together.
-ghost use Rattle.std.specs.Prelude.{◌≡◌, ◌<◌, ◌-◌, ◌^◌, ◌++◌, [], All, IfOk, IfErr, OnOk, length};
+ghost use Rattle.std.specs.Prelude.{◌≡◌, ◌<◌, ◌-◌, ◌^◌, ◌++◌, [], None, All, IfOk, IfErr, OnOk, length};
 ghost use Rattle.std.specs.Io.KnownBytes.{Appends, Keeps};
 ghost use Rattle.figures.specs.Lines.{header_line};
 ghost use Rattle.sweep.specs.Table.{names_of};
@@ -7,10 +7,12 @@ ghost use Rattle.answers.specs.Wants.{HasFewRuns};
 ghost use Rattle.joins.specs.Joined.{Joins, JoinsBehind, JoinsPiece, JoinsPieces};
 ghost use Rattle.joins.specs.Reasons.{ArePlaces, IsFirst, IsOfSink, IsReason};
 
+use crate::behind::lines_behind;
+use crate::by_cases::join_cases;
 use crate::fault::JoinFault;
-use crate::head::{Head, head_of, header_of};
+use crate::head::{Head, head_of};
 use crate::lines::join_lines;
-use crate::places::{place_of, places_of, text_at};
+use crate::places::{places_of, text_at};
 use cases::Plan;
 use figures::CaseSummary;
 use pieces::Piece;
@@ -45,7 +47,7 @@ pub fn join<S: Sink>(alloc: Global, texts: &[Vec<u8>], table: &mut S) -> Result<
     let head = first_head(alloc, texts)?;
     let places = places_of(alloc, texts, &head)?;
     put_names(alloc, &head.plan, head.revived, table)?;
-    let cases = join_runs(alloc, texts, &head, &places, table)?;
+    let cases = join_whole(alloc, texts, &head, &places, table)?;
     flush(table)?;
     let revived = head.revived;
     Ok(Joined {
@@ -53,6 +55,28 @@ pub fn join<S: Sink>(alloc: Global, texts: &[Vec<u8>], table: &mut S) -> Result<
         revived,
         cases,
     })
+}
+
+/// Puts the lines of all pieces, and gives the summaries of the cases.
+fn join_whole<S: Sink>(
+    alloc: Global,
+    texts: &[Vec<u8>],
+    head: &Head<'_>,
+    places: &[Option<usize>],
+    table: &mut S,
+) -> Result<Vec<CaseSummary>, JoinFault>
+    requires first { IsFirst texts.now head.now.mark.now head.now.revived head.now.plan head.now.piece }
+    requires places { ArePlaces texts.now head.now.mark.now head.now.revived head.now.plan head.now.piece.of places.now (length texts.now) }
+    requires countable { S.failed table.old < 2 ^ 63 }
+    ensures whole { IfOk result (λ cases. JoinsBehind [] texts.now head.now.mark.now head.now.revived head.now.plan head.now.piece.of
+        (S.held table.old) (S.held table.new) head.now.plan.until cases.items) }
+    ensures same { OnOk result (S.failed table.new ≡ S.failed table.old) }
+    ensures refused { IfErr result (IsReason texts.now) }
+{
+    match head.plan.until() {
+        Some(width) => join_cases(alloc, texts, head, places, width, table),
+        None => join_runs(alloc, texts, head, places, table),
+    }
 }
 
 /// Puts the lines of all pieces of a sweep of which each case runs with each seed, and gives the summaries of its cases.
@@ -65,9 +89,10 @@ fn join_runs<S: Sink>(
 ) -> Result<Vec<CaseSummary>, JoinFault>
     requires first { IsFirst texts.now head.now.mark.now head.now.revived head.now.plan head.now.piece }
     requires places { ArePlaces texts.now head.now.mark.now head.now.revived head.now.plan head.now.piece.of places.now (length texts.now) }
+    requires wanted { head.now.plan.until ≡ None }
     requires countable { S.failed table.old < 2 ^ 63 }
     ensures whole { IfOk result (λ cases. JoinsBehind [] texts.now head.now.mark.now head.now.revived head.now.plan head.now.piece.of
-        (S.held table.old) (S.held table.new) cases.items) }
+        (S.held table.old) (S.held table.new) None cases.items) }
     ensures same { OnOk result (S.failed table.new ≡ S.failed table.old) }
     ensures refused { IfErr result (IsReason texts.now) }
 {
@@ -139,6 +164,7 @@ fn join_pieces<S: Sink>(
 ) -> Result<(), JoinFault>
     requires first { IsFirst texts.now head.now.mark.now head.now.revived head.now.plan head.now.piece }
     requires places { ArePlaces texts.now head.now.mark.now head.now.revived head.now.plan head.now.piece.of places.now (length texts.now) }
+    requires wanted { head.now.plan.until ≡ None }
     requires countable { S.failed table.old < 2 ^ 63 }
     ensures whole { OnOk result (JoinsPieces texts.now head.now.mark.now head.now.revived head.now.plan head.now.piece.of head.now.piece.of
         (S.held table.old) (S.held table.new) gathering.old gathering.new) }
@@ -164,6 +190,7 @@ fn join_piece<S: Sink>(
 ) -> Result<(), JoinFault>
     requires first { IsFirst texts.now head.now.mark.now head.now.revived head.now.plan head.now.piece }
     requires places { ArePlaces texts.now head.now.mark.now head.now.revived head.now.plan head.now.piece.of places.now (length texts.now) }
+    requires wanted { head.now.plan.until ≡ None }
     requires within { number < head.now.piece.of }
     requires countable { S.failed table.old < 2 ^ 63 }
     ensures whole { OnOk result (JoinsPiece texts.now head.now.mark.now head.now.revived head.now.plan head.now.piece.of number
@@ -171,21 +198,12 @@ fn join_piece<S: Sink>(
     ensures same { OnOk result (S.failed table.new ≡ S.failed table.old) }
     ensures refused { IfErr result (IsReason texts.now) }
 {
-    let Some(place) = place_of(places, number) else {
-        return Err(JoinFault::Missing(number as u64 + 1));
-    };
+    let behind = lines_behind(alloc, texts, head, places, number)?;
     let piece = Piece {
         number: number as u64 + 1,
         of: head.piece.of,
     };
-    let header = header_of(alloc, head, piece)?;
-    let Some(rest) = text_at(texts, place).strip_prefix(header.as_slice()) else {
-        return Err(JoinFault::Other(place));
-    };
-    let Ok(lines) = from_utf8(rest) else {
-        return Err(JoinFault::Torn(place));
-    };
     let runs = head.plan.runs();
     let count = piece.past(runs) - piece.first(runs);
-    join_lines(alloc, lines, count, place, gathering, table)
+    join_lines(alloc, behind.lines, count, behind.place, gathering, table)
 }

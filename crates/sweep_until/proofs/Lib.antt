@@ -4,3 +4,4 @@ pub mod Wide
 pub mod Left
 pub mod Cases
 pub mod PieceCases
+pub mod Enough

@@ -1,5 +1,5 @@
 //! The table of a piece, which is one of whole cases.
-ghost use Rattle.std.specs.Prelude.{◌≡◌, ◌<◌, ◌^◌, ◌+◌, is_some, true, OnOk, OnErr, IfErr};
+ghost use Rattle.std.specs.Prelude.{◌≡◌, ◌<◌, ◌^◌, ◌+◌, Some, is_some, true, OnOk, OnErr, IfErr};
 ghost use Rattle.toml.specs.View.{view};
 ghost use Rattle.outputs.specs.Written.{sink_failures};
 ghost use Rattle.pieces.specs.Pieces.{IsPiece};
@@ -57,21 +57,32 @@ pub fn write_piece_until<S: Sink, P: Progress>(
     ensures failures { S.failed table.new ≡ S.failed table.old + sink_failures result }
 {
     let count = plan.cases();
-    let first = piece.first(count);
-    let past = piece.past(count);
-    let width = plan.until().unwrap_or(WIDEST);
+    let from = piece.first(count);
+    let till = piece.past(count);
+    let width = width_of(plan);
     let mut cases = Vec::new(alloc);
     let mut part = PieceProgress {
         whole: progress,
-        before: first.saturating_mul(plan.runs_of_case()),
-        all: (past - first).saturating_mul(plan.runs_of_case()),
+        before: from.saturating_mul(plan.runs_of_case()),
+        all: (till - from).saturating_mul(plan.runs_of_case()),
     };
     a_run_exists();
     the_run_is_one();
     write_front(alloc, plan, piece, mark, tells_revived(document), table)?;
     make_cases(
-        rt, alloc, plan, width, document, workers, true, first, past, &mut part, &mut cases, table,
+        rt, alloc, plan, width, document, workers, true, from, till, &mut part, &mut cases, table,
     )?;
     flush(table)?;
     Ok(())
+}
+
+/// The width that a plan has.
+fn width_of(plan: &Plan) -> u64
+    requires { is_some plan.now.until ≡ true }
+    ensures { plan.now.until ≡ Some result }
+{
+    match plan.until() {
+        Some(width) => width,
+        None => WIDEST,
+    }
 }
