@@ -52,11 +52,7 @@ impl<'b, 'a, Q: EventQueue<Event> + Drop, G: Gate, J: Site, K: OfScenario> Worke
     K,
 > {
     /// A pool of the workers that take what is dealt from the post. The driver is worker 0, and takes from it too.
-    pub fn new(
-        post: TaskPost<'b, 'a, Q, G, J, K>,
-        signals: &'b Signals,
-        gate: &'b G,
-    ) -> Self
+    pub fn new(post: TaskPost<'b, 'a, Q, G, J, K>, signals: &'b Signals, gate: &'b G) -> Self
         ensures windows { result.windows ≡ 0 }
     {
         WorkerPool {
