@@ -3,7 +3,7 @@ use Rattle.std.proofs.lemmas.Result.{IfOk-weaker}
 use Rattle.clap.specs.Words.{Rule, rule_of, with_rule}
 use Rattle.clap.specs.declared.builder.action.ArgAction.TheVariants.{Append}
 use Rattle.clap.specs.declared.builder.arg.Arg.{Arg}
-use Rattle.command_line.proofs.arguments.with_repeated.Goals as goal
+use Rattle.arguments.proofs.options.with_repeated.Goals as goal
 
 abbrev changed : Rule → Rule
 changed rule = record rule { action = Some Append }

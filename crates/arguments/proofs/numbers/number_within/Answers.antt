@@ -1,7 +1,7 @@
 use Rattle.std.proofs.Common.{◌≡◌, arith}
 use Rattle.decimals.proofs.Numbers.{same_number}
-use Rattle.command_line.proofs.numbers.number_within.Goals as goal
-use Rattle.command_line.proofs.numbers.number_within.Goals.{then-number-least-via-then-number-least, then-number-least-via-else-number-least+then-number-most}
+use Rattle.arguments.proofs.numbers.number_within.Goals as goal
+use Rattle.arguments.proofs.numbers.number_within.Goals.{then-number-least-via-then-number-least, then-number-least-via-else-number-least+then-number-most}
 
 pub returns-then-number-least-clause-none : goal.returns-then-number-least-clause-none
 returns-then-number-least-clause-none c _ n h =

@@ -2,8 +2,8 @@
 use Rattle.std.proofs.Common.{rules, ◌≡◌, ◌∙◌, Bor, List, [], Option, ap, map, option_map, sym, unwrap_or}
 use Rattle.clap.specs.Words.{Text, all_of, found_of, rows_of}
 use Rattle.clap.proofs.WalkLemmas.{raw_values-rows}
-use Rattle.command_line.proofs.words.values_of.Goals as goal
-use Rattle.command_line.proofs.words.values_of.Goals.{in-Some+in_ok-extend_from_slice, in_default}
+use Rattle.arguments.proofs.values.values_of.Goals as goal
+use Rattle.arguments.proofs.values.values_of.Goals.{in-Some+in_ok-extend_from_slice, in_default}
 
 abbrev texts_of : Option (Bor (List (Bor Text))) → List Text
 texts_of given = unwrap_or (option_map (λ (words : Bor (List (Bor Text))). map (λ (word : Bor Text). word.now) words.now) given) []

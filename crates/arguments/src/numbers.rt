@@ -1,12 +1,12 @@
 //! The numbers that options have.
 ghost use Rattle.std.specs.Prelude.{◌<◌, ◌^◌, ℕ, IfSome, IsNone};
-ghost use Rattle.command_line.specs.Numbers.{IsNumber};
+ghost use Rattle.arguments.specs.Numbers.{IsNumber};
 
 use decimals::number;
 
 /// The number from `least` to `most`, both included, that a word is in decimal, without sign or
 /// leading zero.
-pub(crate) fn number_within(word: &str, least: u64, most: u64) -> Option<u64>
+pub fn number_within(word: &str, least: u64, most: u64) -> Option<u64>
     requires { most < 2 ^ 63 }
     ensures some { IfSome result (IsNumber least most word.now) }
     ensures none { IsNone result → (n : ℕ) → ¬ (IsNumber least most word.now n) }

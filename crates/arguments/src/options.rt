@@ -1,20 +1,27 @@
-//! The arguments of commands, by the few kinds that there are.
+//! Commands, and their arguments.
 ghost use Rattle.std.specs.Prelude.{◌≡◌, IfOk, false};
-ghost use Rattle.clap.specs.Words.{App, rule_of, with_rule};
-ghost use Rattle.command_line.specs.Words.{file_rule, flag_rule, option_rule, required_rule, repeated_rule, IsLocal};
+ghost use Rattle.clap.specs.Words.{App, new_app, rule_of, with_rule};
+ghost use Rattle.arguments.specs.Rules.{file_rule, flag_rule, option_rule, required_rule, repeated_rule, IsLocal};
 
 use clap::{Arg, ArgAction, Command};
 use std::alloc::{AllocError, Global};
 
+/// A command of this name, which takes nothing yet, and the line that its help begins with.
+pub fn new_command<'a>(alloc: Global, name: &'a str, about: &'a str) -> Command<'a>
+    ensures { IsLocal (new_app name.entry.now) result }
+{
+    Command::new(alloc, name).about(about)
+}
+
 /// A command with the scenario's file more.
-pub(crate) fn with_file<'a>(alloc: Global, command: Command<'a>) -> Result<Command<'a>, AllocError>
+pub fn with_file<'a>(alloc: Global, command: Command<'a>) -> Result<Command<'a>, AllocError>
     ensures { (app : App) → IsLocal app command.entry → IfOk result (IsLocal (with_rule app file_rule)) }
 {
     command.arg(file_argument(alloc))
 }
 
 /// A command with an option more, which has one value and may be left out.
-pub(crate) fn with_option<'a>(
+pub fn with_option<'a>(
     alloc: Global,
     command: Command<'a>,
     name: &'a str,
@@ -27,7 +34,7 @@ pub(crate) fn with_option<'a>(
 }
 
 /// A command with an option more, which has one value and must be given.
-pub(crate) fn with_required<'a>(
+pub fn with_required<'a>(
     alloc: Global,
     command: Command<'a>,
     name: &'a str,
@@ -40,7 +47,7 @@ pub(crate) fn with_required<'a>(
 }
 
 /// A command with an option more, which may be given any number of times, with a value each time.
-pub(crate) fn with_repeated<'a>(
+pub fn with_repeated<'a>(
     alloc: Global,
     command: Command<'a>,
     name: &'a str,
@@ -53,7 +60,7 @@ pub(crate) fn with_repeated<'a>(
 }
 
 /// A command with a flag more, which takes no value and may be left out.
-pub(crate) fn with_flag<'a>(
+pub fn with_flag<'a>(
     alloc: Global,
     command: Command<'a>,
     name: &'a str,
