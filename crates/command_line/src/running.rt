@@ -7,7 +7,9 @@ ghost use Rattle.arguments.specs.Rules.{IsLocal};
 ghost use Rattle.command_line.specs.Words.{run_app, with_outputs, with_parting, IsRunIn, IsSplitIn};
 
 use crate::words::{RunWords, Split};
-use arguments::{is_given, new_command, value_of, with_file, with_flag, with_option, with_required};
+use arguments::{
+    is_given, new_command, value_of, with_file, with_flag, with_option, with_required,
+};
 use clap::{ArgMatches, Command};
 use std::alloc::{AllocError, Global};
 

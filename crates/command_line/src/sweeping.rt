@@ -10,8 +10,10 @@ ghost use Rattle.command_line.specs.Words.{have_sense, sweep_app, with_cases, wi
 use crate::failure::Failure;
 use crate::telling::{wants_asked, with_telling};
 use crate::words::SweepWords;
-use arguments::{is_given, new_command, value_of, values_of};
-use arguments::{with_file, with_flag, with_option, with_repeated, with_required};
+use arguments::{
+    is_given, new_command, value_of, values_of, with_file, with_flag, with_option, with_repeated,
+    with_required,
+};
 use cases::{Plan, PlanFault};
 use clap::{ArgMatches, Command};
 use decimals::number;
