@@ -1,4 +1,5 @@
-"""The page of a sweep, a second time: what `sweep --page` writes of the objects that `sweep --jsonl` prints.
+"""The page of a sweep, a second time: what `sweep --page` writes of the objects that `sweep --jsonl` prints, and of
+what `spread_of` adds to them.
 
 Written from docs/PAGES.md ("The page of a sweep"); how it looks is the style's, which isn't modelled but taken as it stands.
 """
@@ -7,6 +8,7 @@ import itertools
 from collections import namedtuple
 
 from model_drawing import axis_across, axis_up, cells, escaped, figure, grouped, place, plot
+from model_sweep_times import times_figure
 
 # what the figures of keys show of a case, and how its 5th percentile, median and 95th percentile are called in its JSON object
 STATISTICS = (('First suspected', 'suspect'), ('First confirmed', 'confirm'), ('Last confirmed', 'last'))
@@ -70,10 +72,11 @@ FOLDED_END = '</tbody></table></div></details></section>\n'
 # ---- The page ----
 
 class Page:
-    """The page of a sweep of these settings, with so many seeds, over the cases in their order."""
+    """The page of a sweep of these settings, with so many seeds, or at most so many, over the cases in their order."""
 
-    def __init__(self, settings, seeds, cases):
+    def __init__(self, settings, seeds, at_most, cases):
         self.settings, self.seeds, self.cases = settings, seeds, [Shown(told) for told in cases]
+        self.at_most, self.all_told = at_most, cases
         self.choices = list(itertools.product(*(values for _, values in settings)))
         on_front = [Front(case.confirmed, at) for at, case in enumerate(self.cases)
                     if case.is_best and case.confirmed is not None]
@@ -91,7 +94,7 @@ class Page:
 
     def summary(self):
         text = (f'<p class="soft">Settings tried: {grouped(len(self.choices))}. '
-                f'Seeds for each: {grouped(self.seeds)}.</p>\n')
+                f'Seeds for each: {"at most " if self.at_most else ""}{grouped(self.seeds)}.</p>\n')
         if not self.front:
             return text + '<p class="lead">No case confirms half of its crashes.</p>\n'
         text += ('<p class="lead">Take one of these. Each other setting that confirms half of its crashes is no faster and no '
@@ -152,6 +155,11 @@ class Page:
             text += '<tr>' + cells('td', (grouped(at + 1), self.name(at), time(case.confirmed), of_runs(case),
                                           percent(case.share), interval(case), rate(case.messages))) + '</tr>'
         return text + FOLDED_END
+
+    # how the times of those on the front spread
+
+    def times_figure(self):
+        return times_figure([(at + 1, self.name(at), self.all_told[at]) for _, at in self.front])
 
     # what each key changes
 
@@ -281,12 +289,12 @@ def word(value):
     return str(value).lower()
 
 
-def page_of(name, release, style, settings, seeds, cases):
+def page_of(name, release, style, settings, seeds, at_most, cases):
     """The page of the sweep of a file of this name."""
-    page = Page(settings, seeds, cases)
+    page = Page(settings, seeds, at_most, cases)
     head = ('<!DOCTYPE html>\n<html lang="en"><head><meta charset="utf-8">'
             '<meta name="viewport" content="width=device-width,initial-scale=1">'
             f'<title>{escaped(name)} - swimsim sweep</title><style>{style}</style></head>\n'
             f'<body><main><header><h1>Which setting of {escaped(name)}?</h1></header>\n')
     end = f'<footer class="soft">swimsim {escaped(release)}</footer></main></body></html>\n'
-    return head + page.summary() + page.front_figure() + page.key_figures() + page.table() + end
+    return head + page.summary() + page.front_figure() + page.times_figure() + page.key_figures() + page.table() + end
