@@ -1,6 +1,6 @@
 use Rattle.windows.specs.WorldOf.{contents_in}
 use Rattle.windows.proofs.Deliveries.{HavePended}
-use Rattle.windows.proofs.steps.let_pend.Given as goal
+use Rattle.windows.proofs.steps.push_pending.Given as goal
 
 abbrev pub invariant-loop-event : goal.invariant-loop-event
 invariant-loop-event g l = record {

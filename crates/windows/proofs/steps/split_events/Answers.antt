@@ -5,7 +5,7 @@ use Rattle.std.proofs.lemmas.List.{map-append}
 use Rattle.member.specs.StateOf.{pair_of}
 use Rattle.windows.specs.WorldOf.{states_in, contents_in}
 use Rattle.windows.proofs.Deliveries.{still_new, one_more_own, one_more_other}
-use Rattle.windows.proofs.steps.part_them.Goals as goal
+use Rattle.windows.proofs.steps.split_events.Goals as goal
 
 pub place-requires : goal.place-requires
 place-requires g c =

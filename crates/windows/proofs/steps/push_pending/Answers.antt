@@ -2,7 +2,7 @@ use Rattle.std.proofs.Common.{◌∙◌, ap}
 use Rattle.std.specs.FinMap.{contains_key, insert}
 use Rattle.windows.specs.WorldOf.{contents_in}
 use Rattle.windows.proofs.Deliveries.{last_is_new, last_pended}
-use Rattle.windows.proofs.steps.let_pend.Goals as goal
+use Rattle.windows.proofs.steps.push_pending.Goals as goal
 
 pub push-requires : goal.push-requires
 push-requires g c =

@@ -5,7 +5,7 @@ use Rattle.base.specs.World.{with_events}
 use Rattle.member.specs.StateOf.{pair_of}
 use Rattle.windows.specs.Parts.{for_own, for_others}
 use Rattle.windows.specs.WorldOf.{states_in, contents_in}
-use Rattle.windows.proofs.steps.part_them.Given as goal
+use Rattle.windows.proofs.steps.split_events.Given as goal
 
 abbrev pub invariant-loop-event : goal.invariant-loop-event
 invariant-loop-event g l = record {
