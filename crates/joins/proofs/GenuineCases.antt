@@ -100,8 +100,8 @@ module _ (revived : Bool) where
 
 module _ {X : Type 0} (xs ys : List X) (of total : ℕ) (some : 0 < of) (long : length xs ≡ total) (long_too : length ys ≡ total)
     (same : (number : ℕ) → number < of
-        → take (past_run (piece_at number of) total - first_run (piece_at number of) total) (drop (first_run (piece_at number of) total) xs)
-        ≡ take (past_run (piece_at number of) total - first_run (piece_at number of) total) (drop (first_run (piece_at number of) total) ys)) where
+    → take (past_run (piece_at number of) total - first_run (piece_at number of) total) (drop (first_run (piece_at number of) total) xs)
+    ≡ take (past_run (piece_at number of) total - first_run (piece_at number of) total) (drop (first_run (piece_at number of) total) ys)) where
   abbrev upto : ℕ → ℕ
   upto count = count * total / of
 

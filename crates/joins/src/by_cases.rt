@@ -72,7 +72,16 @@ fn join_piece_cases<S: Sink>(
     let behind = lines_behind(alloc, texts, head, places, number)?;
     let count = cases_of(head, number);
     let each = head.plan.runs_of_case();
-    join_all(alloc, behind.lines, width, each, count, behind.place, cases, table)
+    join_all(
+        alloc,
+        behind.lines,
+        width,
+        each,
+        count,
+        behind.place,
+        cases,
+        table,
+    )
 }
 
 /// How many cases the piece of this number, counted from 0, has.

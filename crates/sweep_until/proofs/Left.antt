@@ -62,9 +62,11 @@ module _ (tree : Data) (sweep : Sweep) (one : OneRun) (exists : (s : Setup) → 
 
     enough : (made : List Made) → length made ≤ seed_count sweep.seeds → Are made → IsWide width (map noted made)
         → (is_narrow_of width (map noted made) ≡ true) ⊎ (length made ≡ seed_count sweep.seeds) → Filled made
-    enough made few are wide ends =
-        ([], subst (IsMadeUntil tree sweep width number) (sym (append-nil made))
-        (record { are = are; enough = record { few = omega (arith, few, length-map made noted); wide = wide; ends = counted made ends } }))
+    enough made few are wide ends = (
+      [],
+      subst (IsMadeUntil tree sweep width number) (sym (append-nil made))
+          (record { are = are; enough = record { few = omega (arith, few, length-map made noted); wide = wide; ends = counted made ends } }),
+    )
       where
         counted : (made : List Made) → (is_narrow_of width (map noted made) ≡ true) ⊎ (length made ≡ seed_count sweep.seeds)
             → (is_narrow_of width (map noted made) ≡ true) ⊎ (length (map noted made) ≡ seed_count sweep.seeds)

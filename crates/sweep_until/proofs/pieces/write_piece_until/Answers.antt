@@ -19,10 +19,10 @@ pub past-till-requires-clause-few : goal.past-till-requires-clause-few
 past-till-requires-clause-few g c = omega (arith, few_cases c.args.plan.now c.requires.asked, c.cases-count.ensures)
 
 pub make_cases-requires-clause-most : goal.make_cases-requires-clause-most
-make_cases-requires-clause-most g c = a_width c.args.plan.now c.width_of-width.result c.requires.asked c.width_of-width.ensures
+make_cases-requires-clause-most g c _ _ = a_width c.args.plan.now c.width_of-width.result c.requires.asked c.width_of-width.ensures
 
 pub make_cases-requires-clause-within : goal.make_cases-requires-clause-within
-make_cases-requires-clause-within g c = omega (arith, c.past-till.ensures.within, c.cases-count.ensures)
+make_cases-requires-clause-within g c _ _ = omega (arith, c.past-till.ensures.within, c.cases-count.ensures)
 
 pub returns-in_err-write_front-clause-part : goal.returns-in_err-write_front-clause-part
 returns-in_err-write_front-clause-part g c =

@@ -65,5 +65,5 @@ returns-clause-whole g c =
     (subst (λ l. Appends old begun (header_line c.tells_revived.result (names_of l))) c.settings.ensures c.in_ok-write_names.ensures.whole) in
     let none = subst (HasCases tree plan c.args.width (all_cases tree plan) old begun 0) (sym c.new-cases.ensures.items) (no_case tree plan (all_cases tree plan) c.args.width old begun head) in
     let count : c.cases.result - 0 ≡ case_count plan.settings = omega (arith, c.cases.ensures) in
-    subst (λ n. HasCases tree plan c.args.width (all_cases tree plan) old new n _) count
-    (cases_kept tree plan (all_cases tree plan) c.args.width old full new (c.cases.result - 0) _ c.flush.ensures.same (c.in_ok-make_cases.ensures.whole (all_cases tree plan) old refl refl none))
+    subst (λ n. HasCases tree plan c.args.width (all_cases tree plan) old new n c.make_cases.new.cases.items) count
+    (cases_kept tree plan (all_cases tree plan) c.args.width old full new (c.cases.result - 0) c.make_cases.new.cases.items c.flush.ensures.same (c.in_ok-make_cases.ensures.whole (all_cases tree plan) old refl refl none))
