@@ -3,7 +3,7 @@ use Rattle.windows.specs.WorldOf.{world_of}
 use Rattle.windows.specs.Window.{IsConsistentPart}
 use Rattle.outputs.specs.Written.{HasWritten}
 use Rattle.whole_runs.proofs.Whole.{HasComeTo}
-use Rattle.whole_runs.proofs.slices.run_slices.Given as goal
+use Rattle.whole_runs.proofs.stretches.run_stretches.Given as goal
 
 abbrev pub invariant-loop-from : goal.invariant-loop-from
 invariant-loop-from g l = record {

@@ -1,80 +1,34 @@
 ghost use Rattle.std.specs.Prelude.{◌≡◌, ◌≤◌, ◌^◌, OnOk, IsErrOf};
 ghost use Rattle.member.specs.Makes.{IsMade, IsMember, KnowsMembers, Makes};
-ghost use Rattle.member.specs.Turn.{with_row, with_event, with_number, with_timer};
+ghost use Rattle.member.specs.Effects.{with_row, with_event, with_number, with_timer};
 ghost use Rattle.member.specs.StateOf.{effect_of, state_of};
 ghost use Rattle.member.specs.Worn.{IsWorn};
-ghost use Rattle.member.specs.declared.turn.StepError.TheVariants as step_error;
-ghost use Rattle.member.specs.Faults.{fault_of};
 
 use crate::content::Content;
 use crate::event::{Effects, Event};
 use crate::here::Here;
 use crate::member::Member;
+use crate::step_error::StepError;
 use base::limits::COUNTER_LIMIT;
-use base::{Fault, Key, MemberId, Memory, Moment};
-use std::alloc::{AllocError, AllocFailed};
+use base::{Key, MemberId, Moment};
 use trace::{Row, What};
-
-/// Why a step was refused.
-#[derive(Clone, Copy, Debug, PartialEq, Eq)]
-pub enum StepError {
-    /// Memory was refused.
-    Memory,
-    /// A counter stands at its limit, 2^63, and would have to rise.
-    Worn,
-}
-
-impl From<Memory> for StepError {
-    ghost from_gives = { λ _ e. e ≡ step_error.Memory };
-
-    fn from(_memory: Memory) -> Self {
-        StepError::Memory
-    }
-}
-
-impl From<AllocError> for StepError {
-    ghost from_gives = { λ _ e. e ≡ step_error.Memory };
-
-    fn from(_error: AllocError) -> Self {
-        StepError::Memory
-    }
-}
-
-impl<T: Drop> From<AllocFailed<T>> for StepError {
-    ghost from_gives = { λ _ e. e ≡ step_error.Memory };
-
-    fn from(_error: AllocFailed<T>) -> Self {
-        StepError::Memory
-    }
-}
-
-impl From<StepError> for Fault {
-    ghost from_gives = { λ e f. f ≡ fault_of e };
-
-    fn from(error: StepError) -> Self {
-        match error {
-            StepError::Memory => Fault::Memory,
-            StepError::Worn => Fault::Worn,
-        }
-    }
-}
 
 impl Member {
     /// Writes the next row of the event.
-    #[tactic(auto, unfolding(crate::specs::Turn::with_row))]
+    #[tactic(auto, unfolding(crate::specs::Effects::with_row))]
     pub(crate) fn write_row(
         &self,
-        turn: &mut Effects,
+        effects: &mut Effects,
         here: &Here,
         what: What,
         about: Option<MemberId>,
         value: u64,
         lost: bool,
     ) -> Result<(), StepError>
-        ensures { IsMade result (effect_of self.now turn.new) (with_row here.now.key what about value lost (effect_of self.now turn.old)) }
+        ensures { IsMade result (effect_of self.now effects.new) (with_row here.now.key what about value lost (effect_of self.now effects.old)) }
     {
         // So many rows of one event have no place in memory.
-        let Ok(index) = u32::try_from(turn.rows.len()) else {
+        let Ok(index) = u32::try_from(effects.rows.len()) else {
             return Err(StepError::Memory);
         };
         let row = Row {
@@ -88,12 +42,12 @@ impl Member {
             value,
             lost,
         };
-        turn.rows.push(row)?;
+        effects.rows.push(row)?;
         Ok(())
     }
 
     /// Uses the next number for a message that is lost. Worn where the number stands at its limit.
-    #[tactic(auto, using(crate::proofs::Worn::worn_number), unfolding(crate::specs::Turn::with_number))]
+    #[tactic(auto, using(crate::proofs::Worn::worn_number), unfolding(crate::specs::Effects::with_number))]
     pub(crate) fn use_number(&mut self, here: &Here) -> Result<(), StepError>
         requires { KnowsMembers here.now self.old }
         ensures ok { OnOk result (state_of self.new ≡ with_number (state_of self.old)) }
@@ -109,10 +63,10 @@ impl Member {
 
     /// Makes an event, for a moment or for the end of a pause of its receiver that covers it. Worn where the
     /// member's number stands at its limit.
-    #[tactic(auto, using(crate::proofs::Worn::worn_event), unfolding(crate::specs::Turn::with_event))]
+    #[tactic(auto, using(crate::proofs::Worn::worn_event), unfolding(crate::specs::Effects::with_event))]
     pub(crate) fn make_event(
         &mut self,
-        turn: &mut Effects,
+        effects: &mut Effects,
         here: &Here,
         at: Moment,
         to: MemberId,
@@ -120,7 +74,7 @@ impl Member {
     ) -> Result<(), StepError>
         requires to { IsMember here.now to }
         requires known { KnowsMembers here.now self.old }
-        ensures { Makes here.now result self.old turn.old self.new turn.new (with_event here.now.scenario.now here.now.key at to content) }
+        ensures { Makes here.now result self.old effects.old self.new effects.new (with_event here.now.scenario.now here.now.key at to content) }
     {
         let number = self.next_number;
         if number >= COUNTER_LIMIT {
@@ -132,25 +86,25 @@ impl Member {
             from: here.key.to,
             number,
         };
-        turn.events.push(Event { key, content })?;
+        effects.events.push(Event { key, content })?;
         self.next_number = number + 1;
         Ok(())
     }
 
     /// Sets a timer of the member's own, so many ticks from now.
-    #[tactic(auto, unfolding(crate::specs::Turn::with_timer))]
+    #[tactic(auto, unfolding(crate::specs::Effects::with_timer))]
     pub(crate) fn set_timer(
         &mut self,
-        turn: &mut Effects,
+        effects: &mut Effects,
         here: &Here,
         ticks: u64,
         content: Content,
     ) -> Result<(), StepError>
         requires ticks_within { ticks ≤ 2 ^ 41 }
         requires known { KnowsMembers here.now self.old }
-        ensures { Makes here.now result self.old turn.old self.new turn.new (with_timer here.now.scenario.now here.now.key ticks content) }
+        ensures { Makes here.now result self.old effects.old self.new effects.new (with_timer here.now.scenario.now here.now.key ticks content) }
     {
         let at = Moment(here.key.at.ticks() + ticks);
-        self.make_event(turn, here, at, here.key.to, content)
+        self.make_event(effects, here, at, here.key.to, content)
     }
 }

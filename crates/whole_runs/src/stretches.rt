@@ -14,13 +14,13 @@ use member::Event;
 use outputs::TakeRows;
 use reports::Tallies;
 use std::alloc::Global;
-use turns::Slice;
+use turns::TurnLimit;
 use windows::{Cluster, Done, Part};
 use worker_queue::EventQueue;
 
 /// Takes the rows of the run that begins in this part, which owns every member: those of one window after another,
-/// each as long as a slice. What the place holds it has got since it held what it held first.
-pub(crate) fn run_slices<T: TakeRows<P>, P, Q: EventQueue<Event> + Drop>(
+/// each as long as its limit lets it be. What the place holds it has got since it held what it held first.
+pub(crate) fn run_stretches<T: TakeRows<P>, P, Q: EventQueue<Event> + Drop>(
     alloc: Global,
     mut part: Part<Q>,
     cluster: Cluster,
@@ -44,18 +44,18 @@ pub(crate) fn run_slices<T: TakeRows<P>, P, Q: EventQueue<Event> + Drop>(
     ensures relay { IfErr result (λ fault. fault ≢ Fault.Relay) }
 {
     let mut tallies = Tallies::new(alloc);
-    let mut slice = Slice::new();
+    let mut limit = TurnLimit::new();
     let last = cluster.scenario.end().ticks();
     let mut from = 0;
     while from <= last {
-        let bound = slice.end(Moment(from));
+        let bound = limit.end(Moment(from));
         let done = part.run(alloc, bound, cluster)?;
         let Done {
             part: after,
             out: _,
             rows,
         } = done;
-        slice.adapt(rows.len());
+        limit.adapt(rows.len());
         T::take(alloc, &rows, cluster.scenario, &mut tallies, place)?;
         part = after;
         from = bound.ticks();

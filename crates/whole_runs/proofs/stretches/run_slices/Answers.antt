@@ -14,7 +14,7 @@ use Rattle.whole_runs.proofs.Whole.{HasComeTo, at_opening, comes_on, comes_worn,
 use Rattle.whole_runs.proofs.Reported.{wears_report, lasts_in_report}
 use Rattle.whole_runs.proofs.Faults.{worn_step}
 use Rattle.whole_runs.proofs.Streamed.{begins_trace}
-use Rattle.whole_runs.proofs.slices.run_slices.Goals as goal
+use Rattle.whole_runs.proofs.stretches.run_stretches.Goals as goal
 
 pub loop-from-init : goal.loop-from-init
 loop-from-init g c =

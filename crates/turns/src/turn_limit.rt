@@ -14,18 +14,18 @@ const MANY_ROWS: usize = 16_384;
 /// How far past the first pending moment the windows of a turn go at most, so that the rows which are kept until a
 /// turn ends stay few, and turns are long where little is written.
 #[derive(Drop)]
-pub struct Slice {
+pub struct TurnLimit {
     ticks: u64,
     ghost some: { 0 < ticks },
 }
 
-impl Slice {
-    /// The slice of a run's first turn.
+impl TurnLimit {
+    /// The limit of a run's first turn.
     pub fn new() -> Self {
-        Slice { ticks: FIRST_TICKS }
+        TurnLimit { ticks: FIRST_TICKS }
     }
 
-    /// Where the slice ends that begins at this moment.
+    /// The moment before which the windows of a turn stay whose first pending moment is this one.
     pub fn end(&self, first: Moment) -> Moment
         requires { first < 2 ^ 63 }
         ensures { first < result }
