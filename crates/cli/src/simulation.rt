@@ -102,34 +102,27 @@ pub fn simulate<T: Write, R: Write, W: Write>(
     ensures threads { IsErrOf result.2 Fault.Relay → 2 ≤ workers }
     ensures cause { IfErr result.2 (EndsRunBy scenario.now workers) }
 {
-    let mut reported = Put::new(report);
+    let mut report = Put::new(report);
     match watch {
         Some(out) => {
-            let traced = Put::new(trace);
-            let (traced, outcome) = run_watched(
-                rt,
-                alloc,
-                scenario,
-                division,
-                workers,
-                out,
-                traced,
-                &mut reported,
+            let trace = Put::new(trace);
+            let (trace, outcome) = run_watched(
+                rt, alloc, scenario, division, workers, out, trace, &mut report,
             );
-            (traced, reported, outcome)
+            (trace, report, outcome)
         }
         None => {
-            let mut traced = Put::new(trace);
+            let mut trace = Put::new(trace);
             let outcome = run_shared(
                 rt,
                 alloc,
                 scenario,
                 division,
                 workers,
-                &mut traced,
-                &mut reported,
+                &mut trace,
+                &mut report,
             );
-            (traced, reported, outcome)
+            (trace, report, outcome)
         }
     }
 }

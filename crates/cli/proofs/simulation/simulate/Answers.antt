@@ -5,16 +5,16 @@ use Rattle.cli.proofs.simulation.simulate.Goals as goal
 
 pub returns-in-Some-clause-written : goal.returns-in-Some-clause-written
 returns-in-Some-clause-written g c =
-    let written = c.run_watched-traced.ensures.promise.written in
+    let written = c.run_watched-trace.ensures.promise.written in
     search rules fits 100
 
 pub returns-in-Some-clause-beginning : goal.returns-in-Some-clause-beginning
 returns-in-Some-clause-beginning g c =
-    let beginning = c.run_watched-traced.ensures.promise.beginning in
+    let beginning = c.run_watched-trace.ensures.promise.beginning in
     search rules fits 100
 
 pub returns-in-Some-clause-cause : goal.returns-in-Some-clause-cause
-returns-in-Some-clause-cause g c = ends_run _ _ _ c.run_watched-traced.ensures.worn c.run_watched-traced.ensures.threads
+returns-in-Some-clause-cause g c = ends_run _ _ _ c.run_watched-trace.ensures.worn c.run_watched-trace.ensures.threads
 
 pub returns-in-None-clause-written : goal.returns-in-None-clause-written
 returns-in-None-clause-written g c =
