@@ -56,17 +56,17 @@ with_parting app =
     let worked = with_rule app (option_rule (codes "workers")) in
     with_rule (with_rule worked (option_rule (codes "parts"))) (option_rule (codes "division"))
 
--- a flag, which takes no value and may be left out
-abbrev pub flag_rule : Text → Rule
-flag_rule name = record (new_rule name) { long = Some name; action = Some SetTrue }
-
--- the command `run`: a file, which is required, the options of where it is written and those of who runs it, and the flag --progress
+-- the command `run`: a file, which is required, the options of where it is written and those of who runs it
 abbrev pub run_app : App
-run_app = with_rule (with_parting (with_outputs (with_rule (new_app (codes "run")) file_rule))) (flag_rule (codes "progress"))
+run_app = with_parting (with_outputs (with_rule (new_app (codes "run")) file_rule))
 
 -- the command `check`: a file
 abbrev pub check_app : App
 check_app = with_rule (new_app (codes "check")) file_rule
+
+-- a flag, which takes no value and may be left out
+abbrev pub flag_rule : Text → Rule
+flag_rule name = record (new_rule name) { long = Some name; action = Some SetTrue }
 
 -- the command `explain`: a file, and the flag --json
 abbrev pub explain_app : App
@@ -127,11 +127,6 @@ swimsim_app =
 abbrev pub IsLocal : App → Command → Type 0
 IsLocal app command = (app_of command ≡ app) × ((out-Command command).has_globals ≡ false)
 
--- a flag that was given has the value "true"
-abbrev pub is_given : Option Text → Bool
-is_given None = false
-is_given (Some word) = bytes_eq word (codes "true")
-
 -- how the members are to be divided: by --parts, by --division or, with neither, by the number of workers
 abbrev pub IsSplitIn : List Row → Split → Type 0
 IsSplitIn rows split.Workers = (first_of (codes "parts") rows ≡ None) × (first_of (codes "division") rows ≡ None)
@@ -148,13 +143,17 @@ pub record IsRunIn (met : Option (Text × List Row)) (run : RunWords) : Type 0 w
   pub page : first_of (codes "page") rows ≡ option_map (λ word. word.now) run.page
   pub workers : first_of (codes "workers") rows ≡ option_map (λ word. word.now) run.workers
   pub divided : IsSplitIn rows run.split
-  pub progress : is_given (first_of (codes "progress") rows) ≡ run.progress
 
 -- the command that was met is `check`, with this file
 pub record IsCheckIn (met : Option (Text × List Row)) (file : Text) : Type 0 where
   pub rows : List Row
   pub met_check : met ≡ Some (codes "check", rows)
   pub named : first_of (codes "FILE") rows ≡ Some file
+
+-- a flag that was given has the value "true"
+abbrev pub is_given : Option Text → Bool
+is_given None = false
+is_given (Some word) = bytes_eq word (codes "true")
 
 -- the command that was met is `explain`, with these words
 pub record IsExplainIn (met : Option (Text × List Row)) (explain : ExplainWords) : Type 0 where

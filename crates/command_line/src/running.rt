@@ -5,8 +5,8 @@ ghost use Rattle.command_line.specs.declared.words.RunWords.{RunWords as Wish};
 ghost use Rattle.command_line.specs.declared.words.Split.{Split as Wanted};
 ghost use Rattle.command_line.specs.Words.{run_app, with_outputs, with_parting, IsLocal, IsRunIn, IsSplitIn};
 
-use crate::arguments::{with_file, with_flag, with_option, with_required};
-use crate::words::{RunWords, Split, is_given, value_of};
+use crate::arguments::{with_file, with_option, with_required};
+use crate::words::{RunWords, Split, value_of};
 use clap::{ArgMatches, Command};
 use std::alloc::{AllocError, Global};
 
@@ -19,13 +19,7 @@ pub(crate) fn run_command<'a>(alloc: Global) -> Result<Command<'a>, AllocError>
         Command::new(alloc, "run").about("Runs a scenario, and writes its trace"),
     )?;
     let written = with_outputs(alloc, filed)?;
-    let parted = with_parting(alloc, written)?;
-    with_flag(
-        alloc,
-        parted,
-        "progress",
-        "Tells on standard error how far the run has come",
-    )
+    with_parting(alloc, written)
 }
 
 /// A command with the options more that say which files a run is written to.
@@ -95,7 +89,6 @@ pub(crate) fn run_asked<'a>(matches: &ArgMatches<'a>) -> Option<RunWords<'a>>
     let page = value_of(run, "page");
     let workers = value_of(run, "workers");
     let split = split_asked(run)?;
-    let progress = is_given(run, "progress");
     Some(RunWords {
         file,
         trace,
@@ -103,7 +96,6 @@ pub(crate) fn run_asked<'a>(matches: &ArgMatches<'a>) -> Option<RunWords<'a>>
         page,
         workers,
         split,
-        progress,
     })
 }
 

@@ -45,8 +45,6 @@ pub struct RunWords<'a> {
     pub workers: Option<&'a str>,
     /// How the members are to be divided.
     pub split: Split<'a>,
-    /// Whether to tell how far the run has come.
-    pub progress: bool,
 }
 
 /// The words of the command `sweep`.
