@@ -12,7 +12,6 @@ ghost use Rattle.base.specs.declared.profile.Profile.TheVariants.{Papers, Member
 ghost use Rattle.trace.specs.declared.row.Row.{Row};
 ghost use Rattle.trace.specs.declared.row.What.TheVariants as what;
 ghost use Rattle.trace.specs.Text.{NamesMembers};
-ghost use Rattle.incarnation.specs.declared.Claim.{Claim};
 ghost use Rattle.incarnation.specs.declared.Claim.TheVariants.{Alive, Confirm};
 ghost use Rattle.incarnation.specs.declared.Update.{Update};
 ghost use Rattle.membership.specs.Table.{Known};

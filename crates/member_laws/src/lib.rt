@@ -10,4 +10,5 @@ pub use laws::{
     a_silent_member_keeps_silent, a_waiting_member_is_as_opened,
     a_whole_table_is_told_in_ones_own_name, an_incarnation_rises_to_refute_alone,
     health_stays_within_its_ceiling, states_stay_consistent, what_is_off_is_not_done,
+    where_nobody_leaves_runs_are_plain,
 };

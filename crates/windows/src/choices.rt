@@ -15,7 +15,7 @@ ghost use Rattle.windows.specs.Choosing.{safe_bound, IsPlayed, HasChosen, HasPla
 ghost use Rattle.windows.specs.WorldOf.{world_of};
 
 use crate::cluster::Cluster;
-use crate::faults::told;
+use crate::faults::with_run_fault;
 use crate::part::Part;
 use crate::steps::{handle_taken, nothing};
 use base::{Fault, MemberId, Moment};
@@ -59,7 +59,7 @@ pub fn play(alloc: Global, scenario: &Scenario, choices: &[MemberId]) -> Result<
     ensures worn { IsErrOf result Fault.Worn → WearsOut scenario.now }
     ensures faults { IfErr result (λ fault. (fault ≡ Fault.Memory) ⊎ (fault ≡ Fault.Worn)) }
 {
-    let mut played = match told(play_out(alloc, scenario, choices)) {
+    let mut played = match with_run_fault(play_out(alloc, scenario, choices)) {
         Ok(played) => played,
         Err(fault) => return Err(fault),
     };

@@ -4,7 +4,7 @@ use base::Fault;
 use member::StepError;
 
 /// What came of steps, their error as the fault of a run: a worn counter is told as that, and want of memory as that.
-pub fn told<T: Drop>(came: Result<T, StepError>) -> Result<T, Fault>
+pub fn with_run_fault<T: Drop>(came: Result<T, StepError>) -> Result<T, Fault>
     ensures ok { IfOk result (λ value. came ≡ Ok value) }
     ensures worn { IsErrOf result Fault.Worn → IsErrOf came StepError.Worn }
     ensures memory { IsErrOf result Fault.Memory → IsErrOf came StepError.Memory }

@@ -16,7 +16,7 @@ mod steps;
 pub use bounded::Bounded;
 pub use choices::{Played, a_play_is_a_schedule, play};
 pub use cluster::Cluster;
-pub use faults::told;
+pub use faults::with_run_fault;
 pub use laws::{
     a_part_owns_the_members_of_its_number, a_part_sends_out_late, a_part_writes_in_row_order,
     a_run_is_a_schedule, a_safe_event_may_come_early, a_schedule_meets_the_states_of_the_run,

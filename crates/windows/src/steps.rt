@@ -150,9 +150,9 @@ fn deliver<Q: EventQueue<Event>>(
         OnOk result (map pair_of out.new.items ≡ map pair_of out.old.items ++ for_others own (map pair_of events.old.items)) }
 {
     if have_all(members, events) {
-        let_pend(queue, events)
+        push_pending(queue, events)
     } else {
-        part_them(members, queue, events, out)
+        split_events(members, queue, events, out)
     }
 }
 
@@ -164,7 +164,7 @@ fn have_all(members: &OwnMembers, events: &[Event]) -> bool
 }
 
 /// Lets events pend, the last first: so none of them moves but into the queue.
-fn let_pend<Q: EventQueue<Event>>(queue: &mut Q, events: &mut Vec<Event>) -> Result<(), Memory>
+fn push_pending<Q: EventQueue<Event>>(queue: &mut Q, events: &mut Vec<Event>) -> Result<(), Memory>
     requires new { AreNew (contents_in (Q.set queue.old)) (map pair_of events.old.items) }
     ensures { OnOk result (contents_in (Q.set queue.new) ≡ with_events (contents_in (Q.set queue.old)) (map pair_of events.old.items)) }
 {
@@ -198,7 +198,7 @@ pub(crate) fn in_parts(event: Event) -> Event
 }
 
 /// Lets the events for these members pend, and sends the others out, in order.
-fn part_them<Q: EventQueue<Event>>(
+fn split_events<Q: EventQueue<Event>>(
     members: &OwnMembers,
     queue: &mut Q,
     events: &mut Vec<Event>,

@@ -35,7 +35,7 @@ pub struct WorkerPool<'b, 'a, Q: EventQueue<Event>, G: Gate, J: Site, K: OfScena
 
 /// A task was handed back.
 #[derive(Drop)]
-struct Relay;
+struct HandedBack;
 
 /// The tickets of the parts that were dealt, and why no more were.
 struct Dealt<Q: EventQueue<Event>> {
@@ -163,7 +163,7 @@ impl<'b, 'a, Q: EventQueue<Event> + Drop, G: Gate, J: Site, K: OfScenario> Worke
     }
 
     /// Deals a task, unless it comes back.
-    fn hand(&mut self, rt: &impl Wait, task: WindowTask<'a, Q>) -> Result<(), Relay>
+    fn hand(&mut self, rt: &impl Wait, task: WindowTask<'a, Q>) -> Result<(), HandedBack>
         requires belongs { Belongs Q.set K.scenario G.awaits task }
         ensures same { self.new.windows ≡ self.old.windows }
     {
@@ -176,7 +176,7 @@ impl<'b, 'a, Q: EventQueue<Event> + Drop, G: Gate, J: Site, K: OfScenario> Worke
             }
             Err(_) => {
                 signals.wait_group.remove();
-                Err(Relay)
+                Err(HandedBack)
             }
         }
     }

@@ -13,7 +13,7 @@ use scenario::Scenario;
 use std::alloc::Global;
 use std::marker::PhantomData;
 use std::snapshot::Snapshot;
-use windows::{Done, Part, told};
+use windows::{Done, Part, with_run_fault};
 use worker_queue::EventQueue;
 
 /// What is asked: the window of a part.
@@ -120,7 +120,7 @@ impl<Q: EventQueue<Event> + Drop> Ticket<Q> {
     {
         let Ticket { mut end, .. } = self;
         match end.pop() {
-            Ok(Word::Came(came)) => told(came),
+            Ok(Word::Came(came)) => with_run_fault(came),
             Ok(Word::Asked(_)) => unreachable!(),
             Err(_) => Err(Fault::Relay),
         }

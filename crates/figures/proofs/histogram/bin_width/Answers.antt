@@ -1,6 +1,5 @@
-use Rattle.std.proofs.Common.{◌≡◌, ◌+◌, ◌/◌, ap, ◌∙◌}
+use Rattle.std.proofs.Common.{◌+◌, ◌/◌, ap, ◌∙◌}
 use Rattle.std.specs.Option.{unwrap_or}
-use Rattle.figures.specs.Histograms.{bin_width}
 use Rattle.figures.proofs.Bins.{all_within}
 use Rattle.figures.proofs.histogram.bin_width.Goals as goal
 
