@@ -102,17 +102,24 @@ pub fn simulate<T: Write, R: Write, W: Write>(
     ensures threads { IsErrOf result.2 Fault.Relay → 2 ≤ workers }
     ensures cause { IfErr result.2 (EndsRunBy scenario.now workers) }
 {
-    let mut report = Put::new(report);
     match watch {
         Some(out) => {
-            let trace = Put::new(trace);
+            let mut sink = Put::new(report);
             let (trace, outcome) = run_watched(
-                rt, alloc, scenario, division, workers, out, trace, &mut report,
+                rt,
+                alloc,
+                scenario,
+                division,
+                workers,
+                out,
+                Put::new(trace),
+                &mut sink,
             );
-            (trace, report, outcome)
+            (trace, sink, outcome)
         }
         None => {
             let mut trace = Put::new(trace);
+            let mut report = Put::new(report);
             let outcome = run_shared(
                 rt,
                 alloc,

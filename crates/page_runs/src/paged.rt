@@ -59,9 +59,7 @@ pub fn run_with_page<A: Sink, B: Sink, C: Sink, W: Write, R: Threads + Wait + Sy
 {
     let _end = scenario.end();
     the_run_is_one();
-    let (trace, outcome) = run_told(
-        rt, alloc, scenario, division, workers, watch, trace, report,
-    );
+    let (trace, outcome) = run_told(rt, alloc, scenario, division, workers, watch, trace, report);
     match outcome {
         Ok(told) => (trace, write_page(alloc, scenario, shown, &told, page)),
         Err(cause) => (trace, Err(cause)),
