@@ -19,11 +19,11 @@ returns-in_err-summary-in-Run-clause-failed g c =
 
 pub returns-in_ok-summary-in-Run-clause-unasked : goal.returns-in_ok-summary-in-Run-clause-unasked
 returns-in_ok-summary-in-Run-clause-unasked g c none =
-    c.in_ok-summary-in-Run.ensures.unasked (asked_run_untold _ _ _ c.in-Run.is c.in_ok-help.ensures.answer none)
+    c.run.ensures.unasked (asked_run_untold _ _ _ c.in-Run.is c.in_ok-help.ensures.answer none)
 
 pub returns-in_err-summary-in-Run-clause-unasked : goal.returns-in_err-summary-in-Run-clause-unasked
 returns-in_err-summary-in-Run-clause-unasked g c none =
-    c.in_err-summary-in-Run.ensures.unasked (asked_run_untold _ _ _ c.in-Run.is c.in_ok-help.ensures.answer none)
+    c.run.ensures.unasked (asked_run_untold _ _ _ c.in-Run.is c.in_ok-help.ensures.answer none)
 
 pub returns-in-Explain-clause-done : goal.returns-in-Explain-clause-done
 returns-in-Explain-clause-done g c =
