@@ -162,13 +162,11 @@ def check_untold(program, words):
     """Runs long with a standard error that takes no line of how far the run has come: all is done as without."""
     program.keep('s.toml', of('two-members', 'toml').replace(b'end = 3', b'end = 2100000000'))
     run = ['run', 's.toml', '--trace', '/dev/null', *words]
-    wanted = program.call(run)
-    expect_ran(wanted, 0, b'rows 8400002\n', b'')
+    expect_ran(program.call(run), 0, b'rows 8400002\n', b'')
     held = [program.held(name) for name in ('r.txt', 'p.html')]
-    for closed in ('2>/dev/full', '2>&-'):
-        program.keep('r.txt', 'an older report\n')
-        expect_ran(without(program, [*run, '--progress'], closed), 0, wanted.out, b'', f'{closed} ')
-        expect(f'{closed} files', [program.held(name) for name in ('r.txt', 'p.html')], held)
+    program.keep('r.txt', 'an older report\n')
+    expect_ran(without(program, [*run, '--progress'], '2>/dev/full'), 0, b'rows 8400002\n', b'')
+    expect('the files', [program.held(name) for name in ('r.txt', 'p.html')], held)
 
 
 def rooms(length):
