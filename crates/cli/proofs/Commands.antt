@@ -15,14 +15,14 @@ use Rattle.join_command.proofs.Causes.{join_item, join_memory, join_mistaken, jo
 use Rattle.explain_command.specs.Outcomes.{ExplainFails, PrintsMeaning}
 use Rattle.run_command.specs.Outcomes.{RunFails, RunsAll}
 use Rattle.run_command.proofs.Causes.{run_item, run_memory, run_mistaken, run_output, run_preset, run_usage}
-use Rattle.sweep_command.specs.Outcomes.{AsksForProgress, SweepFails, SweepsAll}
+use Rattle.sweep_command.specs.Outcomes.{SweepFails, SweepsAll}
 use Rattle.sweep_command.proofs.Causes.{sweep_memory, sweep_mistaken, sweep_output, sweep_preset, sweep_usage}
 use Rattle.pieces.specs.declared.piece.Piece.{Piece}
 use Rattle.pieces.specs.Pieces.{IsPiece}
 use Rattle.answers.specs.Wants.{IsBounded}
 use Rattle.answers.specs.Words.{AreWants}
 use Rattle.answers.specs.declared.want.Want.{Want}
-use Rattle.cli.specs.Outcomes.{CheckFails, EndsRunBy, HasDone, Fails}
+use Rattle.cli.specs.Outcomes.{AsksForProgress, CheckFails, EndsRunBy, HasDone, Fails}
 use Rattle.files.specs.Files.{Making}
 use Rattle.command_line.specs.Printed.{rows_line, PresetFails, PrintsPreset}
 use Rattle.command_line.specs.Words.{Answers, AsksForRun, AsksForCheck, AsksForExplain, AsksForInit, AsksForJoin, AsksForPiece, AsksForSweep, AsksForWidth, IsCommand, go_together}
@@ -163,6 +163,17 @@ asked_run_done release words before after making old new answer run count printe
     let asks : Answers words (asked.Run run) = subst (Answers words) is h in
     on_ok_weaker printed (λ appended. inl (count, (run, asks, ran), appended)) told
 
+-- where the words ask for nothing that tells how far it has come, this run doesn't
+pub asked_run_untold : (words : List Text) (answer : Asked) (run : RunWords) → answer ≡ asked.Run run → Answers words answer
+    → ¬ (AsksForProgress words) → run.progress ≡ false
+asked_run_untold words answer run is h none = go run.progress refl
+  where
+    go : (told : Bool) → run.progress ≡ told → run.progress ≡ false
+    go false e = e
+    go true e =
+        let asks : Answers words (asked.Run run) = subst (Answers words) is h in
+        absurd (none (inl (run, asks, e)))
+
 -- the same of an answer that is a sweep
 pub asked_sweep_fails : (words : List Text) (before after : Shelf) (making : Making) (old new : Option (List ℕ)) (answer : Asked) (sweep : SweepWords) (failure : Failure)
     → answer ≡ asked.Sweep sweep → Answers words answer → SweepFails before after making sweep failure → Fails words before after making old new failure
@@ -186,7 +197,7 @@ asked_sweep_done release words before after making old new answer sweep lines sh
     let asks : Answers words (asked.Sweep sweep) = subst (Answers words) is h in
     on_ok_weaker printed (λ appended. inr (inr (inr (inl (lines, (sweep, asks, swept), subst (Appends old new) same appended))))) told
 
--- where the words ask for no sweep that tells how far it has come, this one doesn't
+-- where the words ask for nothing that tells how far it has come, this sweep doesn't
 pub asked_untold : (words : List Text) (answer : Asked) (sweep : SweepWords) → answer ≡ asked.Sweep sweep → Answers words answer
     → ¬ (AsksForProgress words) → sweep.progress ≡ false
 asked_untold words answer sweep is h none = go sweep.progress refl
@@ -195,7 +206,7 @@ asked_untold words answer sweep is h none = go sweep.progress refl
     go false e = e
     go true e =
         let asks : Answers words (asked.Sweep sweep) = subst (Answers words) is h in
-        absurd (none (sweep, asks, e))
+        absurd (none (inr (sweep, asks, e)))
 
 -- the piece that a sweep names is sound
 piece_sound : (word : Option Text) (piece : Option Piece) → AsksForPiece word piece → (p : Piece) → piece ≡ Some p → IsPiece p

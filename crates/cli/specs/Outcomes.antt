@@ -21,8 +21,12 @@ use Rattle.scenario_files.specs.Shelves.{Shelf, IsRefused}
 use Rattle.scenario_files.specs.Loading.{HasVerdict, LoadFails}
 use Rattle.join_command.specs.Outcomes.{DoesJoin, DoesNotJoin}
 use Rattle.explain_command.specs.Outcomes.{ExplainFails, IsExplained, PrintsMeaning}
-use Rattle.run_command.specs.Outcomes.{DoesRun, RunFails}
-use Rattle.sweep_command.specs.Outcomes.{DoesSweep, DoesNotSweep}
+use Rattle.run_command.specs.Outcomes.{AsksForRunProgress, DoesRun, RunFails}
+use Rattle.sweep_command.specs.Outcomes.{AsksForProgress as AsksForSweepProgress, DoesSweep, DoesNotSweep}
+
+-- the words ask for a run or a sweep that tells how far it has come
+abbrev pub AsksForProgress : List Text → Type 0
+AsksForProgress words = AsksForRunProgress words ⊎ AsksForSweepProgress words
 
 -- ---- what was done
 

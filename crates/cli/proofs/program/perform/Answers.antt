@@ -1,6 +1,6 @@
 -- a run or a sweep that the words ask for, done and told or not done
 use Rattle.std.proofs.lemmas.Result.{IfErr-weaker, on_ok_weaker}
-use Rattle.cli.proofs.Commands.{asked_alone, asked_explain_done, asked_explain_failed, asked_init_done, asked_init_fails, asked_join_done, asked_join_fails, asked_join_unprinted, asked_piece, asked_run_done, asked_run_fails, asked_run_unprinted, asked_seeds, asked_sweep_done, asked_sweep_fails, asked_sweep_unprinted, asked_untold, asked_wants, asked_width, is_command}
+use Rattle.cli.proofs.Commands.{asked_alone, asked_explain_done, asked_explain_failed, asked_init_done, asked_init_fails, asked_join_done, asked_join_fails, asked_join_unprinted, asked_piece, asked_run_done, asked_run_fails, asked_run_unprinted, asked_run_untold, asked_seeds, asked_sweep_done, asked_sweep_fails, asked_sweep_unprinted, asked_untold, asked_wants, asked_width, is_command}
 use Rattle.scenario_files.proofs.Held.{handed_on}
 use Rattle.cli.proofs.program.perform.Goals as goal
 
@@ -16,6 +16,14 @@ pub returns-in_err-summary-in-Run-clause-failed : goal.returns-in_err-summary-in
 returns-in_err-summary-in-Run-clause-failed g c =
     handed_on _ _ _ c.from_residual-in_err-summary-in-Run.ensures.1
     (asked_run_fails _ _ _ _ _ _ _ _ _ _ c.in-Run.is c.in_ok-help.ensures.answer c.in_err-summary-in-Run.ensures.failed)
+
+pub returns-in_ok-summary-in-Run-clause-unasked : goal.returns-in_ok-summary-in-Run-clause-unasked
+returns-in_ok-summary-in-Run-clause-unasked g c none =
+    c.run.ensures.unasked (asked_run_untold _ _ _ c.in-Run.is c.in_ok-help.ensures.answer none)
+
+pub returns-in_err-summary-in-Run-clause-unasked : goal.returns-in_err-summary-in-Run-clause-unasked
+returns-in_err-summary-in-Run-clause-unasked g c none =
+    c.run.ensures.unasked (asked_run_untold _ _ _ c.in-Run.is c.in_ok-help.ensures.answer none)
 
 pub returns-in-Explain-clause-done : goal.returns-in-Explain-clause-done
 returns-in-Explain-clause-done g c =
