@@ -145,12 +145,18 @@ def note_of(figures):
     return ' '.join(map(str, [*told, *('-' if time is None else time for crash in times for time in crash)]))
 
 
-def piece_of(text, settings, words, cases, number, pieces):
-    """The table of a piece of a sweep over the bytes of a text; `words` are those of its seeds and settings."""
+def piece_of(text, settings, words, cases, number, pieces, until=None):
+    """The table of a piece of a sweep over the bytes of a text; `words` are those of its seeds, its width and its
+    settings. With a width a piece has whole cases, else runs."""
     header, *lines = table_of(settings, cases).splitlines(keepends=True)
     notes = [note_of(figures) for _, runs in cases for _, figures in runs]
     name = f'{number}/{pieces} {hashlib.sha256(text).hexdigest()} {" ".join(words)}'
-    first, past = ((number - 1) * len(lines) // pieces, number * len(lines) // pieces)
+    # how many lines stand ahead of each of the things that are shared out, and how many in all
+    ahead = range(len(lines) + 1)
+    if until is not None:
+        ahead = [0, *itertools.accumulate(len(runs) for _, runs in cases)]
+    shared = len(ahead) - 1
+    first, past = ahead[(number - 1) * shared // pieces], ahead[number * shared // pieces]
     return f'"{name}",{header}' + ''.join(f'{note},{line}' for note, line in zip(notes[first:past], lines[first:past]))
 
 

@@ -16,8 +16,10 @@ COUNTS = (1, 2, 3, 7, 61)
 def words_of(sweep):
     """The options of a sweep, and the words by which a piece names it."""
     seeds = ['--seeds', sweep['seeds']] if 'seeds' in sweep else []
+    until = ['--until', str(sweep['until'])] if 'until' in sweep else []
     settings = [word for setting in sweep['set'] for word in ('--set', setting)]
-    return [*seeds, *settings], [sweep.get('seeds', '-'), *sweep['set']]
+    width = [f'until={sweep["until"]}'] if 'until' in sweep else []
+    return [*seeds, *until, *settings], [sweep.get('seeds', '-'), *width, *sweep['set']]
 
 
 def check(program, sweep, count):
@@ -25,13 +27,14 @@ def check(program, sweep, count):
     text = text_of(DATA / sweep['base']).encode()
     options, words = words_of(sweep)
     settings = settings_of(sweep['set'])
-    _, cases = swept(document_of(text), settings, seeds_of(sweep.get('seeds')))
+    until = sweep.get('until')
+    _, cases = swept(document_of(text), settings, seeds_of(sweep.get('seeds')), until=until)
     program.keep('s.toml', text)
     names = [f'piece-{number}.csv' for number in range(1, count + 1)]
     for number, name in enumerate(names, 1):
         ran = program.call(['sweep', 's.toml', '--table', name, '--shard', f'{number}/{count}', *options])
         expect_ran(ran, 0, b'', b'', f'piece {number}')
-        expect(name, program.held(name), piece_of(text, settings, words, cases, number, count).encode())
+        expect(name, program.held(name), piece_of(text, settings, words, cases, number, count, until).encode())
     random.Random(count).shuffle(names)
     ran = program.call(['join', *names, '--table', 't.csv'])
     expect_ran(ran, 0, cases_text(settings, cases).encode(), b'', 'join')
@@ -84,11 +87,49 @@ def check_refused(program, sweep):
         expect('table', program.held('t.csv'), b'an older table\n')
 
 
+def check_widths_refused(program, sweep):
+    """Joins what isn't the pieces of one sweep with a width: cases that are cut short, go on, or are of another width."""
+    text = text_of(DATA / sweep['base'])
+    options, words = words_of(sweep)
+    program.keep('s.toml', text)
+    program.keep('t.csv', 'an older table\n')
+    for number in (1, 2):
+        program.call(['sweep', 's.toml', '--table', f'{number}.csv', '--shard', f'{number}/2', *options])
+    first, second = (program.held(f'{number}.csv').splitlines(keepends=True) for number in (1, 2))
+    width = words[1].encode()
+    program.keep('torn.csv', b''.join(second)[:-1])
+    program.keep('short.csv', b''.join(second[:-1]))
+    program.keep('long.csv', b''.join([*second, second[-1]]))
+    program.keep('more.csv', b''.join([*second, *first[1:]]))
+    program.keep('none.csv', second[0])
+    program.keep('wider.csv', b''.join(second).replace(width, b'until=100', 1))
+    program.keep('widest.csv', b''.join(second).replace(width, b'until=101', 1))
+    program.keep('whole.csv', b''.join(second).replace(b' ' + width, b'', 1))
+    for names, line in [
+        (['1.csv'], 'piece 2 missing'),
+        (['2.csv', '1.csv', '2.csv'], 'piece 2.csv twice'),
+        (['1.csv', 'torn.csv'], 'piece torn.csv torn'),
+        (['short.csv', '1.csv'], 'piece short.csv torn'),
+        (['1.csv', 'long.csv'], 'piece long.csv torn'),
+        (['1.csv', 'more.csv'], 'piece more.csv torn'),
+        (['1.csv', 'none.csv'], 'piece none.csv torn'),
+        (['1.csv', 'wider.csv'], 'piece wider.csv of another sweep'),
+        (['1.csv', 'whole.csv'], 'piece whole.csv of another sweep'),
+        (['1.csv', 'widest.csv'], 'piece widest.csv of another sweep'),
+        (['widest.csv'], 'no piece widest.csv'),
+    ]:
+        ran = program.call(['join', *names, '--table', 't.csv'])
+        expect_ran(ran, 3, b'', f'swimsim: {line}\n'.encode(), ' '.join(names))
+        expect('table', program.held('t.csv'), b'an older table\n')
+
+
 def cases():
     """Each sweep of the list, in each number of pieces."""
     listed = json.loads((FOLDER / 'sweeps.json').read_text())
     for sweep in listed:
         for count in COUNTS:
             yield Case(f'pieces: {sweep["about"]}, {count}', check, (sweep, count))
+    narrow = next(sweep for sweep in listed if 'until' in sweep)
     yield Case('pieces: what join refuses', check_refused, (listed[0],))
+    yield Case('pieces: what join refuses where there is a width', check_widths_refused, (narrow,))
     yield Case('pieces: one that was cut off', check_resumed, (listed[0],))

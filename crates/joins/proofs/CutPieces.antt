@@ -46,7 +46,7 @@ zipped_first R [] (y ∷ ys) (suc n) all = absurd all
 zipped_first R (x ∷ xs) [] (suc n) all = absurd all
 zipped_first R (x ∷ xs) (y ∷ ys) (suc n) all = (all.0, zipped_first R xs ys n all.1)
 
-zipped_both : {X Y : Type 0} (R : X → Y → Type 0) (xs zs : List X) (ys ws : List Y) → AllZip R xs ys → AllZip R zs ws → AllZip R (xs ++ zs) (ys ++ ws)
+pub zipped_both : {X Y : Type 0} (R : X → Y → Type 0) (xs zs : List X) (ys ws : List Y) → AllZip R xs ys → AllZip R zs ws → AllZip R (xs ++ zs) (ys ++ ws)
 zipped_both R [] zs [] ws a b = b
 zipped_both R [] zs (y ∷ ys) ws a b = absurd a
 zipped_both R (x ∷ xs) zs [] ws a b = absurd a

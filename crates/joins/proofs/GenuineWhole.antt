@@ -1,6 +1,6 @@
 -- Pieces of a sweep that was made, put together, are the whole.
 use Rattle.std.proofs.Common.{◌≡◌, ◌<◌, ◌≤◌, ◌+◌, ◌-◌, ◌*◌, ◌/◌, ℕ, zero, suc, Bool, true, List, [], ◌++◌, sym, ap, subst, refl, ◌∙◌, append_assoc, length, length-drop, map, take, drop, arith}
-use Rattle.std.specs.Prelude.{Option, All, Vec}
+use Rattle.std.specs.Prelude.{Option, None, All, Vec}
 use Rattle.std.specs.List.{flat_map}
 use Rattle.std.specs.declared.alloc.Global.{Global}
 use Rattle.std.specs.Io.KnownBytes.{Appends}
@@ -11,75 +11,55 @@ use Rattle.std.proofs.lemmas.List.Elements.{All-drop, All-take}
 use Rattle.toml.specs.Data.{Data}
 use Rattle.cases.specs.Sweep.{Sweep, case_count, run_count, seed_count}
 use Rattle.figures.specs.Lines.{header_line}
+use Rattle.figures.specs.declared.summary.CaseSummary.{CaseSummary}
 use Rattle.pieces.specs.declared.piece.Piece.{Piece}
 use Rattle.pieces.specs.Pieces.{IsPiece, first_run, past_run}
-use Rattle.pieces.specs.Names.{head_cell}
 use Rattle.pieces.proofs.Bounds.{share_grows, share_within, whole_share}
 use Rattle.sweep.specs.Runs.{Made, IsAskedFor, noted}
 use Rattle.sweep.specs.Table.{line_with, made_line, names_of, tells_revived}
-use Rattle.sweep.specs.Texts.{cases_text}
 use Rattle.sweep.specs.Summaries.{SumUp}
 use Rattle.sweep.specs.Pieces.{piece_header}
 use Rattle.joins.specs.Lines.{Line, IsLine, piece_line, plain_line, notes_of}
-use Rattle.joins.specs.Joined.{IsMark, Joins, lines_between, piece_at}
+use Rattle.joins.specs.Among.{IsAmongTexts, piece_at}
+use Rattle.joins.specs.Joined.{AreOf, AreOfRuns, IsMark, Joins, lines_between}
 use Rattle.joins.specs.Genuine.{ArePieces, IsTellable, IsWhole}
-use Rattle.joins.proofs.Columns.{behind_header, same_revived}
+use Rattle.joins.proofs.GenuineHeads.{body_there, one_column, one_sweep, the_piece}
 use Rattle.joins.proofs.PiecesMore.{no_share}
 use Rattle.joins.proofs.SameLines.{AreSameLines, same_lines}
-use Rattle.joins.proofs.SameSweep.{AreSameHeads, same_heads}
 
 abbrev made_between : List Made → ℕ → ℕ → List Made
 made_between made from till = take (till - from) (drop from made)
 
-module _ (texts : List (Vec ℕ Global)) (old new : Option (List ℕ)) (text mark : List ℕ) (tree : Data) (sweep : Sweep) (of : ℕ) (made : List Made)
-    (joins : Joins texts old new text) (marked : IsMark mark) (asked : IsAskedFor sweep) (long : length made ≡ run_count sweep) (told : All IsTellable made)
-    (genuine : ArePieces tree texts mark sweep of made) where
-  abbrev lines : List Line
-  lines = joins.lines
-
-  abbrev own : Sweep
-  own = joins.sweep
-
+module _ (texts : List (Vec ℕ Global)) (old new : Option (List ℕ)) (own : Sweep) (told_so : Bool) (cases : List CaseSummary) (mark : List ℕ) (tree : Data) (sweep : Sweep) (of : ℕ)
+    (made : List Made) (joins : Joins texts old new own told_so cases) (marked : IsMark mark) (asked : IsAskedFor sweep) (none : sweep.until ≡ None) (long : length made ≡ run_count sweep)
+    (told : All IsTellable made) (genuine : ArePieces tree texts mark sweep of made) where
   abbrev revived : Bool
   revived = tells_revived tree
 
-  the_piece : (number : ℕ) → number < joins.of → IsPiece (piece_at number joins.of)
-  the_piece number within = record { least = omega arith; most = omega (arith, within); few = joins.few }
+  -- what stands behind the first line of a piece that was made
+  abbrev body : Piece → List ℕ
+  body q = flat_map (line_with revived true) (made_between made (first_run q (run_count sweep)) (past_run q (run_count sweep)))
 
-  -- a piece of the texts is one of those that were made, of the same sweep
-  heads : (number : ℕ) (within : number < joins.of) → (q : Piece)
-      × AreSameHeads own sweep (piece_at number joins.of) q
-      (header_line joins.revived (names_of own.settings) ++ flat_map piece_line (lines_between lines (first_run (piece_at number joins.of) (run_count own)) (past_run (piece_at number joins.of) (run_count own))))
-      (header_line revived (names_of sweep.settings) ++ flat_map (line_with revived true) (made_between made (first_run q (run_count sweep)) (past_run q (run_count sweep))))
-  heads number within =
-      let p = piece_at number joins.of in
-      let sound = the_piece number within in
-      let its = genuine _ (joins.there p sound refl) in
-      let q = its.0 in
-      let body = flat_map piece_line (lines_between lines (first_run p (run_count own)) (past_run p (run_count own))) in
-      let true_body = flat_map (line_with revived true) (made_between made (first_run q (run_count sweep)) (past_run q (run_count sweep))) in (
-        q,
-        same_heads joins.mark mark own sweep p q _ _ joins.marked marked joins.asked asked sound its.1
-            (sym (append_assoc (head_cell joins.mark own p) (header_line joins.revived (names_of own.settings)) body) ∙ its.3
-            ∙ append_assoc (head_cell mark sweep q) (header_line revived (names_of sweep.settings)) true_body),
-      )
+  each_genuine : (text : List ℕ) → IsAmongTexts texts text → (q : Piece) × IsPiece q × (text ≡ piece_header revived mark sweep q ++ body q)
+  each_genuine text among = let its = genuine text among in (its.0, its.1, its.3)
 
-  one_sweep : own ≡ sweep
-  one_sweep = (heads 0 (omega (arith, joins.some))).1.sweep
+  same_own : own ≡ sweep
+  same_own = one_sweep texts old new own told_so cases mark tree sweep joins marked asked body each_genuine
+
+  same_column : told_so ≡ revived
+  same_column = one_column texts old new own told_so cases mark tree sweep joins marked asked body each_genuine
+
+  are : AreOfRuns own joins.of joins.put.body joins.put.table cases
+  are = subst (λ o. AreOf o own joins.of joins.put.body joins.put.table cases) (ap (λ (s : Sweep). s.until) same_own ∙ none) joins.put.are
+
+  abbrev lines : List Line
+  lines = are.lines
 
   abbrev runs : ℕ
   runs = run_count own
 
-  -- and it tells of members that were taken for alive again where that does
-  one_column : joins.revived ≡ revived
-  one_column =
-      let found = heads 0 (omega (arith, joins.some)) in
-      let rest = flat_map (line_with revived true) (made_between made (first_run found.0 (run_count sweep)) (past_run found.0 (run_count sweep))) in
-      same_revived joins.revived revived (names_of own.settings) _ rest
-      (found.1.rest ∙ ap (λ (s : Sweep). header_line revived (names_of s.settings) ++ rest) (sym found.1.sweep))
-
   counted : length made ≡ runs
-  counted = long ∙ sym (ap run_count one_sweep)
+  counted = long ∙ sym (ap run_count same_own)
 
   -- so its lines are those of the runs
   abbrev first_of : ℕ → ℕ
@@ -91,13 +71,10 @@ module _ (texts : List (Vec ℕ Global)) (old new : Option (List ℕ)) (text mar
   lines_there : (number : ℕ) → number < joins.of
       → flat_map piece_line (lines_between lines (first_of number) (past_of number)) ≡ flat_map (line_with revived true) (made_between made (first_of number) (past_of number))
   lines_there number within =
-      let found = heads number within in
-      let same = found.1 in
-      let body = flat_map piece_line (lines_between lines (first_of number) (past_of number)) in
-      let right : Piece → Sweep → List ℕ = λ q s. header_line revived (names_of s.settings) ++ flat_map (line_with revived true) (made_between made (first_run q (run_count s)) (past_run q (run_count s))) in
-      let whole : header_line joins.revived (names_of own.settings) ++ body ≡ right (piece_at number joins.of) own =
-      same.rest ∙ (λ i. right (sym same.piece i) (sym same.sweep i)) in
-      behind_header joins.revived revived (names_of own.settings) body _ whole
+      let p = piece_at number joins.of in
+      let sound = the_piece texts old new own told_so cases mark tree sweep joins marked asked body each_genuine number within in
+      sym (are.behind p sound refl) ∙ body_there texts old new own told_so cases mark tree sweep joins marked asked body each_genuine number within
+      ∙ ap (λ n. flat_map (line_with revived true) (made_between made (first_run p n) (past_run p n))) (sym (ap run_count same_own))
 
   between_long : {X : Type 0} (xs : List X) (from till : ℕ) → till ≤ length xs → length (take (till - from) (drop from xs)) ≡ till - from
   between_long xs from till le = length-take-le (till - from) (drop from xs) (omega (arith, le, length-drop from xs))
@@ -108,9 +85,9 @@ module _ (texts : List (Vec ℕ Global)) (old new : Option (List ℕ)) (text mar
   same_there : (number : ℕ) → number < joins.of → AreSameLines revived (lines_between lines (first_of number) (past_of number)) (made_between made (first_of number) (past_of number))
   same_there number within =
       let le = past_within number within in
-      same_lines revived _ _ (All-take IsLine (past_of number - first_of number) (drop (first_of number) lines) (All-drop IsLine (first_of number) lines joins.sound))
+      same_lines revived _ _ (All-take IsLine (past_of number - first_of number) (drop (first_of number) lines) (All-drop IsLine (first_of number) lines are.sound))
       (All-take IsTellable (past_of number - first_of number) (drop (first_of number) made) (All-drop IsTellable (first_of number) made told))
-      (between_long lines (first_of number) (past_of number) (omega (arith, le, joins.all)) ∙ sym (between_long made (first_of number) (past_of number) (omega (arith, le, counted))))
+      (between_long lines (first_of number) (past_of number) (omega (arith, le, are.all)) ∙ sym (between_long made (first_of number) (past_of number) (omega (arith, le, counted))))
       (lines_there number within)
 
   -- the first pieces have the lines of the first runs
@@ -149,16 +126,16 @@ module _ (texts : List (Vec ℕ Global)) (old new : Option (List ℕ)) (text mar
   same_all : AreSameLines revived lines made
   same_all =
       let all : upto joins.of ≡ runs = whole_share joins.of runs (omega (arith, joins.some)) in
-      let every_line : take (upto joins.of) lines ≡ lines = take_all (upto joins.of) lines (omega (arith, all, joins.all)) in
+      let every_line : take (upto joins.of) lines ≡ lines = take_all (upto joins.of) lines (omega (arith, all, are.all)) in
       let every_run : take (upto joins.of) made ≡ made = take_all (upto joins.of) made (omega (arith, all, counted)) in
       subst (λ l. AreSameLines revived l made) every_line (subst (AreSameLines revived (take (upto joins.of) lines)) every_run (same_first joins.of (omega arith)))
 
-  pub whole_of : IsWhole tree sweep made old new text
+  pub whole_of : IsWhole tree sweep made old new own told_so cases
   whole_of = record {
-    written = subst (Appends old new) (λ i. header_line (one_column i) (names_of (one_sweep i).settings) ++ same_all.table i) joins.written;
-    cases = joins.cases;
-    each = joins.each ∙ ap (λ (s : Sweep). case_count s.settings) one_sweep;
-    summed = subst (λ (s : Sweep). SumUp (seed_count s.seeds) (map noted made) joins.cases) one_sweep
-        (subst (λ notes. SumUp (seed_count own.seeds) notes joins.cases) same_all.notes joins.summed);
-    told = joins.told ∙ (λ i. cases_text (one_column i) (one_sweep i) joins.cases);
+    same = same_own;
+    column = same_column;
+    written = subst (Appends old new) (λ i. header_line (same_column i) (names_of (same_own i).settings) ++ (are.laid ∙ same_all.table) i) joins.put.written;
+    each = joins.put.each ∙ ap (λ (s : Sweep). case_count s.settings) same_own;
+    summed = subst (λ (s : Sweep). SumUp (seed_count s.seeds) (map noted made) cases) same_own
+        (subst (λ notes. SumUp (seed_count own.seeds) notes cases) same_all.notes are.summed);
   }

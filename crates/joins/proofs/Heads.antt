@@ -1,8 +1,9 @@
 -- What the name of a piece tells is that piece, of that sweep.
-use Rattle.std.proofs.Common.{◌≡◌, ◌<◌, ◌==◌, ◌^◌, ℕ, Bool, true, false, suc, List, [], ◌∷◌, ◌++◌, map, length, length-drop, get_or, take, drop, ◌-◌, codes, decimal, lit<, arith, refl, sym, ap, subst, ◌∙◌}
+use Rattle.std.proofs.Common.{◌≡◌, ◌<◌, ◌≤◌, ◌==◌, ◌^◌, ℕ, Bool, true, false, suc, List, [], ◌∷◌, ◌++◌, map, length, length-drop, get_or, take, drop, ◌-◌, codes, decimal, lit<, arith, refl, sym, ap, subst, ◌∙◌}
 use Rattle.std.specs.Prelude.{Option, Some, None, All, Result, Ok, Err, IfOk, IfErr, bytes_eq, option_map, if◌then◌else◌}
 use Rattle.std.specs.Borrow.{Bor}
-use Rattle.std.specs.Option.{ForSome}
+use Rattle.std.specs.Option.{ForSome, MatchOption}
+use Rattle.std.proofs.lemmas.Str.Pattern.{IsSplitOnceResult, split_after, split_parts}
 use Rattle.std.specs.List.{flat_map, slice_split, join_with_byte}
 use Rattle.std.proofs.lemmas.Fmt.{decimal_injective}
 use Rattle.std.proofs.lemmas.List.{append_cancel_left, length-map, take_all}
@@ -13,7 +14,7 @@ use Rattle.cases.specs.declared.fault.PlanFault.{PlanFault}
 use Rattle.cases.specs.declared.fault.PlanFault.TheVariants as unread
 use Rattle.cases.specs.declared.seeds.Seeds.{Seeds}
 use Rattle.cases.proofs.Names.{bytes_eq_false}
-use Rattle.cases.proofs.Words.{Lacks, cut_once, decimal_lacks, joined_split}
+use Rattle.cases.proofs.Words.{Lacks, cut_once, decimal_lacks, joined_split, unlike}
 use Rattle.pieces.specs.declared.piece.Piece.{Piece}
 use Rattle.pieces.specs.Pieces.{IsPiece, IsPieceWord, piece_text}
 use Rattle.pieces.specs.Names.{plan_text, seeds_word}
@@ -21,6 +22,7 @@ use Rattle.sweep.specs.Runs.{IsAskedFor}
 use Rattle.sweep.specs.Pieces.{piece_header}
 use Rattle.joins.specs.Joined.{IsMark}
 use Rattle.joins.specs.Reasons.{BeginsAs, BeginsAsNone, RefusesName, SaysWidth}
+use Rattle.joins.proofs.Bytes.{lacks_from_test}
 use Rattle.joins.proofs.SameSweep.{joined_is, no_dash, no_setting_says, same_rest, same_seeds, same_settings, until_words, words_lack, words_of}
 
 -- the piece of a word is one
@@ -239,3 +241,38 @@ told_number (x ∷ items) first value words sweep asked is says cut none =
     let rest : map (λ (word : Bor (List ℕ)). word.now) items ≡ (codes "until=" ++ value) ∷ says.1 = cc in
     width_told words sweep asked is first (map (λ (word : Bor (List ℕ)). word.now) (take (length (x ∷ items) - 1) (drop 1 (x ∷ items)))) (seeds_given first) cut refl value says.1
     (ap (map (λ (word : Bor (List ℕ)). word.now)) (behind_first (x ∷ items)) ∙ rest) none
+
+-- ---- what a word says of a width
+
+abbrev Parted : Type 0
+Parted = Option (Bor (List ℕ) × Bor (List ℕ))
+
+pub width_parts : (word value : List ℕ) (parted : Parted) → word ≡ codes "until=" ++ value → IsSplitOnceResult 61 word parted
+    → MatchOption parted ⊥ (λ x. (x.0.now ≡ codes "until") × (x.1.now ≡ value))
+width_parts word value parted is cut = split_after 61 word (codes "until") value parted cut (lit< tt) is (unlike 61 (codes "until") (lacks_from_test 61 (codes "until") refl))
+
+-- a name and a value behind an equals sign
+pub width_read : (word : List ℕ) (parted : Parted) (name value : Bor (List ℕ)) → parted ≡ Some (name, value) → IsSplitOnceResult 61 word parted → name.now ≡ codes "until"
+    → word ≡ codes "until=" ++ value.now
+width_read word parted name value some cut is =
+    let parts = rw some at (split_parts 61 word parted cut (lit< tt)) in
+    parts.0 ∙ ap (λ l. l ++ 61 ∷ value.now) is
+
+pub width_long : (items : List (Bor (List ℕ))) (value : List ℕ) → SaysWidth (map (λ (word : Bor (List ℕ)). word.now) items) value → 2 ≤ length items
+width_long items value says =
+    let long : length (map (λ (word : Bor (List ℕ)). word.now) items) ≡ suc (suc (length says.1)) = ap length says.2 in
+    omega (arith, long, length-map items (λ (word : Bor (List ℕ)). word.now))
+
+pub width_second : (items : List (Bor (List ℕ))) (d : Bor (List ℕ)) (value : List ℕ) → SaysWidth (map (λ (word : Bor (List ℕ)). word.now) items) value
+    → (get_or items 1 d).now ≡ codes "until=" ++ value
+width_second [] d value says = let none : 0 ≡ suc (suc (length says.1)) = ap length says.2 in absurd (omega arith)
+width_second (x ∷ []) d value says = let none : 1 ≡ suc (suc (length says.1)) = ap length says.2 in absurd (omega arith)
+width_second (x ∷ y ∷ items) d value says =
+    let whole : x.now ∷ y.now ∷ map (λ (word : Bor (List ℕ)). word.now) items ≡ says.0 ∷ (codes "until=" ++ value) ∷ says.1 = says.2 in
+    cc
+
+pub second_width : (items : List (Bor (List ℕ))) (d : Bor (List ℕ)) (value : List ℕ) → 2 ≤ length items → (get_or items 1 d).now ≡ codes "until=" ++ value
+    → SaysWidth (map (λ (word : Bor (List ℕ)). word.now) items) value
+second_width [] d value long is = absurd (omega (arith, long))
+second_width (x ∷ []) d value long is = absurd (omega (arith, long))
+second_width (x ∷ y ∷ items) d value long is = (x.now, map (λ (word : Bor (List ℕ)). word.now) items, ap (λ l. x.now ∷ l ∷ map (λ (word : Bor (List ℕ)). word.now) items) is)

@@ -12,3 +12,8 @@ pub mod LinesLeft
 pub mod Numbered
 pub mod Columns
 pub mod CutPieces
+pub mod CaseLines
+pub mod CasesRead
+pub mod CasePieces
+pub mod GenuineHeads
+pub mod GenuineCases

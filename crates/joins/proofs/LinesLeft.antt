@@ -18,7 +18,7 @@ abbrev Parted : Type 0
 Parted = Option (Bor (List ℕ) × Bor (List ℕ))
 
 -- a line and what comes behind it
-laid : (l : Line) (left : List ℕ) → piece_line l ++ left ≡ note_text l.note ++ 44 ∷ (l.body ++ 10 ∷ left)
+pub laid : (l : Line) (left : List ℕ) → piece_line l ++ left ≡ note_text l.note ++ 44 ∷ (l.body ++ 10 ∷ left)
 laid l left = append_assoc (note_text l.note) (44 ∷ (l.body ++ 10 ∷ [])) left ∙ ap (λ x. note_text l.note ++ 44 ∷ x) (append_assoc l.body (10 ∷ []) left)
 
 -- lines with which one text begins leave the same

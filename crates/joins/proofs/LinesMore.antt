@@ -20,11 +20,10 @@ abbrev Parted : Type 0
 Parted = Option (Bor (List ℕ) × Bor (List ℕ))
 
 -- a text is cut at its first comma, and the rest at its first line feed: the first line
-pub line_read : (text : List ℕ) (parted : Parted) (word rest : Bor (List ℕ)) (cut : Parted) (body left : Bor (List ℕ)) (note : Note) (old new : Option (List ℕ)) (before after : Gathering)
+pub line_read : (text : List ℕ) (parted : Parted) (word rest : Bor (List ℕ)) (cut : Parted) (body left : Bor (List ℕ)) (note : Note) (old new : Option (List ℕ)) (Gathers : Note → Type 0)
     → parted ≡ Some (word, rest) → IsSplitOnceResult 44 text parted → cut ≡ Some (body, left) → IsSplitOnceResult 10 rest.now cut → IsNoteWord word.now note
-    → Appends old new (body.now ++ 10 ∷ []) → ((each : ℕ) (notes : List Note) → IsGathered each notes before → IsGathered each (notes ++ note ∷ []) after)
-    → JoinsOne text left.now old new before after
-line_read text parted word rest cut body left note old new before after first is_first second is_second said put gathers =
+    → Appends old new (body.now ++ 10 ∷ []) → Gathers note → JoinsOne text left.now old new Gathers
+line_read text parted word rest cut body left note old new Gathers first is_first second is_second said put gathers =
     let comma = rw first at (split_parts 44 text parted is_first (lit< tt)) in
     let feed = rw second at (split_parts 10 rest.now cut is_second (lit< tt)) in
     record {
@@ -54,7 +53,7 @@ none_joined text held gathering = record {
 
 -- one line more
 pub one_joined : (text left rest : List ℕ) (count : ℕ) (old mid new : Option (List ℕ)) (before between after : Gathering)
-    → JoinsSome text left count old mid before between → JoinsOne left rest mid new between after → JoinsSome text rest (count + 1) old new before after
+    → JoinsSome text left count old mid before between → JoinsOne left rest mid new (λ note. (each : ℕ) (notes : List Note) → IsGathered each notes between → IsGathered each (notes ++ note ∷ []) after) → JoinsSome text rest (count + 1) old new before after
 one_joined text left rest count old mid new before between after so_far one =
     let lines = so_far.lines in
     let line = one.line in

@@ -7,7 +7,8 @@ use Rattle.sweep.specs.Pieces.{piece_header}
 use Rattle.sweep.specs.Runs.{IsAskedFor}
 use Rattle.joins.specs.declared.fault.JoinFault.{JoinFault}
 use Rattle.joins.specs.declared.fault.JoinFault.TheVariants as fault
-use Rattle.joins.specs.Joined.{IsMark, piece_at}
+use Rattle.joins.specs.Among.{piece_at}
+use Rattle.joins.specs.Joined.{IsMark}
 use Rattle.joins.specs.Reasons.{BeginsAs, RefusesText}
 
 pub memory_text : (text mark : List ℕ) (revived : Bool) (sweep : Sweep) (of place : ℕ) (f : JoinFault) → f ≡ fault.Memory → RefusesText text mark revived sweep of place f

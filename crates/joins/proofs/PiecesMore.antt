@@ -19,7 +19,8 @@ use Rattle.sweep.specs.Pieces.{piece_header}
 use Rattle.sweep.specs.Summaries.{IsGathered}
 use Rattle.sweep.specs.declared.gathering.Gathering.{Gathering}
 use Rattle.joins.specs.Lines.{Line, IsLine, JoinsLines, piece_line, plain_line, notes_of}
-use Rattle.joins.specs.Joined.{IsAmongTexts, JoinsPiece, JoinsPieces, lines_between, piece_at, piece_of}
+use Rattle.joins.specs.Among.{IsAmongTexts, piece_at}
+use Rattle.joins.specs.Joined.{JoinsPiece, JoinsPieces, lines_between, piece_of}
 
 -- no share of the runs is none of them
 pub no_share : (of runs : ℕ) → 0 < of → 0 * runs / of ≡ 0
@@ -29,10 +30,10 @@ no_share of runs some =
     omega (arith, below)
 
 -- lines between two numbers stay, whatever comes behind
-lines_kept : (lines more : List Line) (from till : ℕ) → till ≤ length lines → lines_between (lines ++ more) from till ≡ lines_between lines from till
+pub lines_kept : {X : Type 0} (lines more : List X) (from till : ℕ) → till ≤ length lines → take (till - from) (drop from (lines ++ more)) ≡ take (till - from) (drop from lines)
 lines_kept lines more from till le = by (nat_le from till) refl
   where
-    by : (b : Bool) → nat_le from till ≡ b → lines_between (lines ++ more) from till ≡ lines_between lines from till
+    by : (b : Bool) → nat_le from till ≡ b → take (till - from) (drop from (lines ++ more)) ≡ take (till - from) (drop from lines)
     by true e =
         let ordered : from ≤ till = grind (arith, nat_tests) in
         let left : till - from ≤ length (drop from lines) = omega (arith, le, length-drop from lines) in
@@ -43,7 +44,7 @@ lines_kept lines more from till le = by (nat_le from till) refl
         ap (λ n. take n (drop from (lines ++ more))) none ∙ sym (ap (λ n. take n (drop from lines)) none)
 
 -- those behind are the last
-lines_behind : (lines more : List Line) (from till : ℕ) → length lines ≡ from → length more ≡ till - from → lines_between (lines ++ more) from till ≡ more
+pub lines_behind : {X : Type 0} (lines more : List X) (from till : ℕ) → length lines ≡ from → length more ≡ till - from → take (till - from) (drop from (lines ++ more)) ≡ more
 lines_behind lines more from till at long =
     ap (take (till - from)) (drop_at lines more from at) ∙ take_all (till - from) more (omega (arith, long))
 

@@ -34,7 +34,7 @@ same_times (t ∷ ts) (u ∷ us) same =
     let more = same_times ts us rest in
     (λ i. record { suspected = first i; confirmed = second i; last = third i } ∷ more i)
 
-same_note : (m n : Note) → IsSmall m → IsSmall n → note_text m ≡ note_text n → m ≡ n
+pub same_note : (m n : Note) → IsSmall m → IsSmall n → note_text m ≡ note_text n → m ≡ n
 same_note m n low high same =
     let parts : map figure (note_figures m) ≡ map figure (note_figures n) =
     sym (figures_cut (note_figures m) (omega arith) low) ∙ ap (slice_split (λ byte. byte == 32)) same ∙ figures_cut (note_figures n) (omega arith) high in

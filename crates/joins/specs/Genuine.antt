@@ -14,10 +14,11 @@ use Rattle.pieces.specs.Pieces.{IsPiece, first_run, past_run}
 use Rattle.figures.specs.declared.summary.CaseSummary.{CaseSummary}
 use Rattle.sweep.specs.Runs.{Made, noted}
 use Rattle.sweep.specs.Table.{table_text, tells_revived}
-use Rattle.sweep.specs.Texts.{cases_text}
 use Rattle.sweep.specs.Summaries.{SumUp}
 use Rattle.sweep.specs.Pieces.{AreMadeIn, piece_table}
-use Rattle.joins.specs.Joined.{IsAmongTexts}
+use Rattle.sweep_until.specs.Pieces.{cases_in, first_case}
+use Rattle.sweep_until.specs.Until.{MakesUntil, all_of}
+use Rattle.joins.specs.Among.{IsAmongTexts}
 
 -- what a run tells is written in few digits: each of its values, its figures and those of its note is at most 2^63 - 1
 pub record IsTellable (m : Made) : Type 0 where
@@ -44,10 +45,27 @@ pub record IsCutPiece (tree : Data) (mark : List ℕ) (sweep : Sweep) (p : Piece
   pub rest : List ℕ
   pub written : text ++ rest ≡ piece_table (tells_revived tree) mark sweep p made
 
--- the table of the whole sweep was appended, and the text is that of its cases
-pub record IsWhole (tree : Data) (sweep : Sweep) (made : List Made) (old new : Option (List ℕ)) (text : List ℕ) : Type 0 where
+-- the table of the whole sweep was appended, what was read is this sweep and whether its tables tell of members taken for alive again, and each case is summed up
+pub record IsWhole (tree : Data) (sweep : Sweep) (made : List Made) (old new : Option (List ℕ)) (read : Sweep) (revived : Bool) (cases : List CaseSummary) : Type 0 where
+  pub same : read ≡ sweep
+  pub column : revived ≡ tells_revived tree
   pub written : Appends old new (table_text tree sweep made)
-  pub cases : List CaseSummary
   pub each : length cases ≡ case_count sweep.settings
   pub summed : SumUp (seed_count sweep.seeds) (map noted made) cases
-  pub told : text ≡ cases_text (tells_revived tree) sweep cases
+
+-- ---- where cases have as many runs as are enough
+
+-- the text is the piece, of these cases of the whole sweep of a document
+abbrev pub IsCasesText : Data → List ℕ → Sweep → List (List Made) → List ℕ → Piece → Type 0
+IsCasesText tree mark sweep made text p = text ≡ piece_table (tells_revived tree) mark sweep p (all_of (take (cases_in sweep p) (drop (first_case sweep p) made)))
+
+-- each of the texts is a piece of the sweep, of so many
+abbrev pub ArePiecesOfCases : Data → List (Vec ℕ Global) → List ℕ → Sweep → ℕ → List (List Made) → Type 0
+ArePiecesOfCases tree texts mark sweep of made =
+    (text : List ℕ) → IsAmongTexts texts text → (p : Piece) × IsPiece p × (p.of ≡ of) × IsCasesText tree mark sweep made text p
+
+-- what was read is this sweep and whether its tables tell of members taken for alive again, and the whole was made as if in one go
+pub record IsWholeUntil (tree : Data) (sweep : Sweep) (width : ℕ) (old new : Option (List ℕ)) (read : Sweep) (revived : Bool) (cases : List CaseSummary) : Type 0 where
+  pub same : read ≡ sweep
+  pub column : revived ≡ tells_revived tree
+  pub makes : MakesUntil tree sweep width old new cases

@@ -44,10 +44,10 @@ pub record JoinsSome (text left : List ℕ) (count : ℕ) (old new : Option (Lis
   pub put : Appends old new (flat_map plain_line lines)
   pub gathered : (each : ℕ) (notes : List Note) → IsGathered each notes before → IsGathered each (notes ++ notes_of lines) after
 
--- the text begins with one such line, and this is left
-pub record JoinsOne (text left : List ℕ) (old new : Option (List ℕ)) (before after : Gathering) : Type 0 where
+-- the text begins with one such line, and this is left; its note was gathered
+pub record JoinsOne (text left : List ℕ) (old new : Option (List ℕ)) (Gathers : Note → Type 0) : Type 0 where
   pub line : Line
   pub sound : IsLine line
   pub written : text ≡ piece_line line ++ left
   pub put : Appends old new (plain_line line)
-  pub gathered : (each : ℕ) (notes : List Note) → IsGathered each notes before → IsGathered each (notes ++ line.note ∷ []) after
+  pub gathered : Gathers line.note

@@ -3,15 +3,18 @@ use Rattle.std.specs.Prelude.{◌≡◌, ◌⊎◌, ◌-◌, ◌<◌, ◌≤◌,
 use Rattle.std.specs.List.{flat_map}
 use Rattle.std.specs.Str.{IsUtf8}
 use Rattle.std.specs.declared.alloc.Global.{Global}
-use Rattle.cases.specs.Sweep.{Sweep, run_count}
+use Rattle.cases.specs.Sweep.{Sweep, run_count, seed_count}
 use Rattle.cases.specs.declared.fault.PlanFault.{PlanFault}
 use Rattle.cases.specs.declared.fault.PlanFault.TheVariants as unread
 use Rattle.pieces.specs.declared.piece.Piece.{Piece}
 use Rattle.pieces.specs.Pieces.{IsPiece, first_run, past_run}
 use Rattle.sweep.specs.Pieces.{piece_header}
 use Rattle.sweep.specs.Runs.{IsAskedFor}
+use Rattle.sweep_until.specs.Pieces.{cases_in}
 use Rattle.joins.specs.Lines.{Line, IsLine, piece_line}
-use Rattle.joins.specs.Joined.{IsMark, piece_at}
+use Rattle.joins.specs.Among.{piece_at}
+use Rattle.joins.specs.ByCases.{AreCases, IsCase, piece_case}
+use Rattle.joins.specs.Joined.{IsMark}
 use Rattle.joins.specs.declared.fault.JoinFault.{JoinFault}
 use Rattle.joins.specs.declared.fault.JoinFault.TheVariants as fault
 
@@ -42,6 +45,11 @@ pub record AreLines (text : List ℕ) (count : ℕ) : Type 0 where
 -- how many runs the piece has
 abbrev pub runs_in : Sweep → Piece → ℕ
 runs_in sweep p = past_run p (run_count sweep) - first_run p (run_count sweep)
+
+-- what stands behind the first line of the piece is a line for each of its runs, or its cases
+abbrev pub AreIts : Option ℕ → Sweep → Piece → List ℕ → Type 0
+AreIts None sweep p text = AreLines text (runs_in sweep p)
+AreIts (Some width) sweep p text = AreCases width (seed_count sweep.seeds) text (cases_in sweep p)
 
 -- there is no text, or the one at this place isn't UTF-8, or begins as no piece
 abbrev pub IsNoPiece : List (Vec ℕ Global) → ℕ → Type 0
@@ -79,7 +87,7 @@ pub record IsDoubled (texts : List (Vec ℕ Global)) (place : ℕ) : Type 0 wher
   pub there_too : IsTextAt texts earlier other
   pub begins_too : BeginsAs other mark revived sweep p
 
--- the text at this place begins as a piece, but what comes after its first line isn't a line for each of its runs
+-- the text at this place begins as a piece, but what comes after its first line isn't that of its runs, or cases
 pub record IsTorn (texts : List (Vec ℕ Global)) (place : ℕ) : Type 0 where
   pub mark : List ℕ
   pub revived : Bool
@@ -88,7 +96,7 @@ pub record IsTorn (texts : List (Vec ℕ Global)) (place : ℕ) : Type 0 where
   pub text : List ℕ
   pub there : IsTextAt texts place text
   pub begins : BeginsAs text mark revived sweep p
-  pub torn : ¬ (AreLines begins.rest (runs_in sweep p))
+  pub torn : ¬ (AreIts sweep.until sweep p begins.rest)
 
 -- no text begins as the piece of this number of the sweep of the first, which has it
 pub record IsMissing (texts : List (Vec ℕ Global)) (number : ℕ) : Type 0 where
@@ -151,6 +159,27 @@ RefusesLine text place (fault.Torn at) = (at ≡ place) × ((line : Line) (left 
 RefusesLine text place fault.Write = Unit {0}
 RefusesLine text place fault.Memory = Unit {0}
 RefusesLine text place _ = ⊥
+
+-- a text doesn't begin with a case; the fault names this place
+abbrev pub RefusesCase : ℕ → ℕ → List ℕ → ℕ → JoinFault → Type 0
+RefusesCase width each text place (fault.Torn at) = (at ≡ place) × ((lines : List Line) (left : List ℕ) → IsCase width each lines → ¬ (text ≡ piece_case lines ++ left))
+RefusesCase width each text place fault.Write = Unit {0}
+RefusesCase width each text place fault.Memory = Unit {0}
+RefusesCase width each text place _ = ⊥
+
+-- a text isn't so many cases; the fault names this place
+abbrev pub RefusesCases : ℕ → ℕ → List ℕ → ℕ → ℕ → JoinFault → Type 0
+RefusesCases width each text count place (fault.Torn at) = (at ≡ place) × ¬ (AreCases width each text count)
+RefusesCases width each text count place fault.Write = Unit {0}
+RefusesCases width each text count place fault.Memory = Unit {0}
+RefusesCases width each text count place _ = ⊥
+
+-- the piece of this number has its text at this place, and these lines stand behind its first
+pub record IsBehind (texts : List (Vec ℕ Global)) (mark : List ℕ) (revived : Bool) (sweep : Sweep) (of : ℕ) (places : List (Option ℕ)) (number place : ℕ) (lines : List ℕ) : Type 0 where
+  pub found : get_or places number None ≡ Some place
+  pub text : List ℕ
+  pub there : IsTextAt texts place text
+  pub written : text ≡ piece_header revived mark sweep (piece_at number of) ++ lines
 
 -- what the texts before a place are: each of the places that are kept by the numbers of pieces is that of a text that begins as that piece,
 -- and each text before has its place

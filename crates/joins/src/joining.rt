@@ -1,45 +1,104 @@
 //! The pieces of a sweep put together.
-ghost use Rattle.std.specs.Prelude.{◌≡◌, ◌<◌, ◌-◌, ◌^◌, ◌++◌, IfOk, IfErr, OnOk, length, string_bytes};
+ghost use Rattle.std.specs.Prelude.{◌≡◌, ◌<◌, ◌-◌, ◌^◌, ◌++◌, [], None, All, IfOk, IfErr, OnOk, length};
 ghost use Rattle.std.specs.Io.KnownBytes.{Appends, Keeps};
 ghost use Rattle.figures.specs.Lines.{header_line};
 ghost use Rattle.sweep.specs.Table.{names_of};
-ghost use Rattle.joins.specs.Joined.{Joins, JoinsPiece, JoinsPieces};
+ghost use Rattle.answers.specs.Wants.{HasFewRuns};
+ghost use Rattle.joins.specs.Joined.{Joins, JoinsBehind, JoinsPiece, JoinsPieces};
 ghost use Rattle.joins.specs.Reasons.{ArePlaces, IsFirst, IsOfSink, IsReason};
 
+use crate::behind::lines_behind;
+use crate::by_cases::join_cases;
 use crate::fault::JoinFault;
-use crate::head::{Head, head_of, header_of};
+use crate::head::{Head, head_of};
 use crate::lines::join_lines;
-use crate::places::{place_of, places_of, text_at};
-use base::Memory;
+use crate::places::{places_of, text_at};
 use cases::Plan;
+use figures::CaseSummary;
 use pieces::Piece;
 use std::alloc::Global;
 use std::str::from_utf8;
-use sweep::{Gathering, lines_of_cases, write_names};
+use sweep::{Gathering, write_names};
 use trace::{Sink, Stopped, WriteError};
 
+/// What pieces that were put together are of.
+#[derive(Drop)]
+pub struct Joined {
+    /// The sweep.
+    pub plan: Plan,
+    /// Whether its tables tell of members that were taken for alive again.
+    pub revived: bool,
+    /// The summaries of its cases, in their order.
+    pub cases: Vec<CaseSummary>,
+}
+
 /// Puts the pieces of a sweep together, whose texts come in any order: the table of the whole sweep goes to the sink,
-/// and the text of its cases is given. After a fault the sink may have got lines.
+/// and what they are of is given. After a fault the sink may have got lines.
 ///
 /// Faults: `NoPiece`, `Other`, `Doubled` or `Torn` with the place of a text that isn't a piece, is one of another sweep
 /// than the first, is there already, or isn't whole; `Missing` with the number of a piece that isn't there; `Write` where
 /// the sink failed; `Memory`.
-pub fn join<S: Sink>(alloc: Global, texts: &[Vec<u8>], table: &mut S) -> Result<String, JoinFault>
+pub fn join<S: Sink>(alloc: Global, texts: &[Vec<u8>], table: &mut S) -> Result<Joined, JoinFault>
     requires { S.failed table.old < 2 ^ 63 }
-    ensures joined { IfOk result (λ text. Joins texts.now (S.held table.old) (S.held table.new) (string_bytes text)) }
+    ensures joined { IfOk result (λ joined. Joins texts.now (S.held table.old) (S.held table.new) joined.plan joined.revived joined.cases.items) }
+    ensures few { IfOk result (λ joined. All HasFewRuns joined.cases.items) }
     ensures refused { IfErr result (IsReason texts.now) }
 {
     let head = first_head(alloc, texts)?;
     let places = places_of(alloc, texts, &head)?;
-    let mut gathering = Gathering::new(alloc, head.plan.runs_of_case() as u64);
     put_names(alloc, &head.plan, head.revived, table)?;
-    join_pieces(alloc, texts, &head, &places, &mut gathering, table)?;
+    let cases = join_whole(alloc, texts, &head, &places, table)?;
     flush(table)?;
-    let cases = gathering.into_summaries();
-    match lines_of_cases(alloc, &head.plan, head.revived, &cases) {
-        Ok(text) => Ok(text),
-        Err(Memory) => Err(JoinFault::Memory),
+    let revived = head.revived;
+    Ok(Joined {
+        plan: head.plan,
+        revived,
+        cases,
+    })
+}
+
+/// Puts the lines of all pieces, and gives the summaries of the cases.
+fn join_whole<S: Sink>(
+    alloc: Global,
+    texts: &[Vec<u8>],
+    head: &Head<'_>,
+    places: &[Option<usize>],
+    table: &mut S,
+) -> Result<Vec<CaseSummary>, JoinFault>
+    requires first { IsFirst texts.now head.now.mark.now head.now.revived head.now.plan head.now.piece }
+    requires places { ArePlaces texts.now head.now.mark.now head.now.revived head.now.plan head.now.piece.of places.now (length texts.now) }
+    requires countable { S.failed table.old < 2 ^ 63 }
+    ensures whole { IfOk result (λ cases. JoinsBehind [] texts.now head.now.mark.now head.now.revived head.now.plan head.now.piece.of
+        (S.held table.old) (S.held table.new) head.now.plan.until cases.items) }
+    ensures same { OnOk result (S.failed table.new ≡ S.failed table.old) }
+    ensures refused { IfErr result (IsReason texts.now) }
+{
+    match head.plan.until() {
+        Some(width) => join_cases(alloc, texts, head, places, width, table),
+        None => join_runs(alloc, texts, head, places, table),
     }
+}
+
+/// Puts the lines of all pieces of a sweep of which each case runs with each seed, and gives the summaries of its cases.
+fn join_runs<S: Sink>(
+    alloc: Global,
+    texts: &[Vec<u8>],
+    head: &Head<'_>,
+    places: &[Option<usize>],
+    table: &mut S,
+) -> Result<Vec<CaseSummary>, JoinFault>
+    requires first { IsFirst texts.now head.now.mark.now head.now.revived head.now.plan head.now.piece }
+    requires places { ArePlaces texts.now head.now.mark.now head.now.revived head.now.plan head.now.piece.of places.now (length texts.now) }
+    requires wanted { head.now.plan.until ≡ None }
+    requires countable { S.failed table.old < 2 ^ 63 }
+    ensures whole { IfOk result (λ cases. JoinsBehind [] texts.now head.now.mark.now head.now.revived head.now.plan head.now.piece.of
+        (S.held table.old) (S.held table.new) None cases.items) }
+    ensures same { OnOk result (S.failed table.new ≡ S.failed table.old) }
+    ensures refused { IfErr result (IsReason texts.now) }
+{
+    let mut gathering = Gathering::new(alloc, head.plan.runs_of_case() as u64);
+    join_pieces(alloc, texts, head, places, &mut gathering, table)?;
+    Ok(gathering.into_summaries())
 }
 
 /// What the first text tells; there must be one.
@@ -105,6 +164,7 @@ fn join_pieces<S: Sink>(
 ) -> Result<(), JoinFault>
     requires first { IsFirst texts.now head.now.mark.now head.now.revived head.now.plan head.now.piece }
     requires places { ArePlaces texts.now head.now.mark.now head.now.revived head.now.plan head.now.piece.of places.now (length texts.now) }
+    requires wanted { head.now.plan.until ≡ None }
     requires countable { S.failed table.old < 2 ^ 63 }
     ensures whole { OnOk result (JoinsPieces texts.now head.now.mark.now head.now.revived head.now.plan head.now.piece.of head.now.piece.of
         (S.held table.old) (S.held table.new) gathering.old gathering.new) }
@@ -130,6 +190,7 @@ fn join_piece<S: Sink>(
 ) -> Result<(), JoinFault>
     requires first { IsFirst texts.now head.now.mark.now head.now.revived head.now.plan head.now.piece }
     requires places { ArePlaces texts.now head.now.mark.now head.now.revived head.now.plan head.now.piece.of places.now (length texts.now) }
+    requires wanted { head.now.plan.until ≡ None }
     requires within { number < head.now.piece.of }
     requires countable { S.failed table.old < 2 ^ 63 }
     ensures whole { OnOk result (JoinsPiece texts.now head.now.mark.now head.now.revived head.now.plan head.now.piece.of number
@@ -137,21 +198,12 @@ fn join_piece<S: Sink>(
     ensures same { OnOk result (S.failed table.new ≡ S.failed table.old) }
     ensures refused { IfErr result (IsReason texts.now) }
 {
-    let Some(place) = place_of(places, number) else {
-        return Err(JoinFault::Missing(number as u64 + 1));
-    };
+    let behind = lines_behind(alloc, texts, head, places, number)?;
     let piece = Piece {
         number: number as u64 + 1,
         of: head.piece.of,
     };
-    let header = header_of(alloc, head, piece)?;
-    let Some(rest) = text_at(texts, place).strip_prefix(header.as_slice()) else {
-        return Err(JoinFault::Other(place));
-    };
-    let Ok(lines) = from_utf8(rest) else {
-        return Err(JoinFault::Torn(place));
-    };
     let runs = head.plan.runs();
     let count = piece.past(runs) - piece.first(runs);
-    join_lines(alloc, lines, count, place, gathering, table)
+    join_lines(alloc, behind.lines, count, behind.place, gathering, table)
 }

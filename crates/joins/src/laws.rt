@@ -1,23 +1,35 @@
 //! What holds of pieces that are put together.
-ghost use Rattle.std.specs.Prelude.{◌≡◌, ℕ, List, Option, All, Vec, length};
+ghost use Rattle.std.specs.Prelude.{◌≡◌, ℕ, Bool, List, Option, Some, None, All, Vec, length};
 ghost use Rattle.std.specs.declared.alloc.Global.{Global};
 ghost use Rattle.toml.specs.Data.{Data};
-ghost use Rattle.cases.specs.Sweep.{Sweep, run_count};
+ghost use Rattle.cases.specs.Sweep.{Sweep, case_count, run_count};
 ghost use Rattle.sweep.specs.Runs.{Made, IsAskedFor};
+ghost use Rattle.figures.specs.declared.summary.CaseSummary.{CaseSummary};
+ghost use Rattle.sweep_until.specs.Until.{AreMadeUntil};
 ghost use Rattle.joins.specs.Joined.{IsMark, Joins};
 ghost use Rattle.pieces.specs.declared.piece.Piece.{Piece};
 ghost use Rattle.sweep.specs.Pieces.{WritesPiece};
 ghost use Rattle.sweep.specs.Resumed.{IsBegun, RefusesBegun, WritesRest};
 ghost use Rattle.sweep.specs.Table.{tells_revived};
 ghost use Rattle.sweep.specs.declared.begun.BegunFault.TheVariants as begun_fault;
-ghost use Rattle.joins.specs.Genuine.{ArePieces, IsCutPiece, IsTellable, IsWhole};
+ghost use Rattle.joins.specs.Genuine.{ArePieces, ArePiecesOfCases, IsCutPiece, IsTellable, IsWhole, IsWholeUntil};
 
-/// Where each of the texts is some piece of a sweep that was made, in whatever order they come and into however many pieces
-/// it was cut, what they are put together to is the table of the whole sweep, and the text of its cases.
+/// Where each of the texts is some piece of a sweep of which each case runs with each seed, in whatever order they come and
+/// into however many pieces it was cut, what they are put together to is that sweep, the table of the whole, and the summaries
+/// of its cases.
 pub fn all_pieces_are_the_whole()
-    ensures { (texts : List (Vec ℕ Global)) (old new : Option (List ℕ)) (text mark : List ℕ) (tree : Data) (sweep : Sweep) (of : ℕ) (made : List Made)
-        → Joins texts old new text → IsMark mark → IsAskedFor sweep → length made ≡ run_count sweep → All IsTellable made
-        → ArePieces tree texts mark sweep of made → IsWhole tree sweep made old new text }
+    ensures { (texts : List (Vec ℕ Global)) (old new : Option (List ℕ)) (read : Sweep) (revived : Bool) (cases : List CaseSummary) (mark : List ℕ) (tree : Data) (sweep : Sweep) (of : ℕ) (made : List Made)
+        → Joins texts old new read revived cases → IsMark mark → IsAskedFor sweep → sweep.until ≡ None → length made ≡ run_count sweep → All IsTellable made
+        → ArePieces tree texts mark sweep of made → IsWhole tree sweep made old new read revived cases }
+{}
+
+/// Where each of the texts is some piece of a sweep whose cases have as many runs as make their intervals narrow enough, they are
+/// put together to what is written, and told, where all its cases are made in one go.
+pub fn all_pieces_of_cases_are_the_whole()
+    ensures { (texts : List (Vec ℕ Global)) (old new : Option (List ℕ)) (read : Sweep) (revived : Bool) (cases : List CaseSummary) (mark : List ℕ) (tree : Data) (sweep : Sweep) (width of : ℕ)
+        (made : List (List Made)) → Joins texts old new read revived cases → IsMark mark → IsAskedFor sweep → sweep.until ≡ Some width
+        → AreMadeUntil tree sweep width (case_count sweep.settings) made → All (All IsTellable) made
+        → ArePiecesOfCases tree texts mark sweep of made → IsWholeUntil tree sweep width old new read revived cases }
 {}
 
 /// Where a text is a beginning of a piece that was made, it is taken for one, and the table that goes on behind its whole

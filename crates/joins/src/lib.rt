@@ -1,6 +1,8 @@
-//! The pieces of a sweep put together: the table of the whole, and the text of its cases.
+//! The pieces of a sweep put together: the table of the whole, and the summaries of its cases.
 #![tactic(auto)]
 
+mod behind;
+mod by_cases;
 mod fault;
 mod head;
 mod joining;
@@ -9,4 +11,4 @@ mod lines;
 mod places;
 
 pub use fault::JoinFault;
-pub use joining::join;
+pub use joining::{Joined, join};

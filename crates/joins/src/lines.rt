@@ -1,7 +1,7 @@
 //! The lines of a piece, one after the other.
-ghost use Rattle.std.specs.Prelude.{◌≡◌, ◌∷◌, ◌++◌, [], ◌<◌, ◌^◌, OnOk, IfOk, IfErr};
+ghost use Rattle.std.specs.Prelude.{ℕ, List, ◌≡◌, ◌∷◌, ◌++◌, [], ◌<◌, ◌^◌, OnOk, IfOk, IfErr};
 ghost use Rattle.std.specs.Io.KnownBytes.{Appends};
-ghost use Rattle.figures.specs.Notes.{IsNoteWord, RefusesNote};
+ghost use Rattle.figures.specs.Notes.{IsNoteWord, Note, RefusesNote};
 ghost use Rattle.joins.specs.Lines.{JoinsLines, JoinsOne};
 ghost use Rattle.joins.specs.Reasons.{IsOfSink, RefusesLine, RefusesLines};
 
@@ -37,15 +37,16 @@ pub(crate) fn join_lines<S: Sink>(
 }
 
 /// Puts the first line of a text into the table, gathers its note, and gives what is left of the text.
-fn join_line<'a, S: Sink>(
+pub(crate) fn join_line<'a, S: Sink, G: Gather>(
     alloc: Global,
     text: &'a str,
     place: usize,
-    gathering: &mut Gathering,
+    gathering: &mut G,
     table: &mut S,
 ) -> Result<&'a str, JoinFault>
     requires { S.failed table.old < 2 ^ 63 }
-    ensures whole { IfOk result (λ left. JoinsOne text.entry.now left.now (S.held table.old) (S.held table.new) gathering.old gathering.new) }
+    ensures whole { IfOk result (λ left. JoinsOne text.entry.now left.now (S.held table.old) (S.held table.new)
+        (λ note. (each : ℕ) (notes : List Note) → G.has gathering.old each notes → G.has gathering.new each (notes ++ note ∷ []))) }
     ensures same { OnOk result (S.failed table.new ≡ S.failed table.old) }
     ensures refused { IfErr result (RefusesLine text.entry.now place) }
 {

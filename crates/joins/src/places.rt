@@ -5,7 +5,8 @@ ghost use Rattle.cases.specs.Sweep.{Sweep};
 ghost use Rattle.pieces.specs.Pieces.{IsPiece};
 ghost use Rattle.sweep.specs.Pieces.{piece_header};
 ghost use Rattle.sweep.specs.Runs.{IsAskedFor};
-ghost use Rattle.joins.specs.Joined.{IsMark, piece_at};
+ghost use Rattle.joins.specs.Among.{piece_at};
+ghost use Rattle.joins.specs.Joined.{IsMark};
 ghost use Rattle.joins.specs.declared.fault.JoinFault.TheVariants as join;
 ghost use Rattle.joins.specs.Reasons.{ArePlaces, BeginsAs, IsFirst, IsReason, IsTextAt, RefusesPlace, RefusesText};
 

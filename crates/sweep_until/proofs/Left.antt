@@ -2,7 +2,7 @@
 use Rattle.std.proofs.Common.{◌≡◌, ◌∙◌, ◌<◌, ◌≤◌, ◌+◌, ◌*◌, ◌-◌, ◌⊎◌, ℕ, zero, suc, List, [], ◌∷◌, ◌++◌, Bool, true, false, Some, None, refl, sym, ap, subst, arith, get_or, inl, inr, length, length-append, map, take, drop, append-nil, append_assoc}
 use Rattle.std.specs.Prelude.{slice_get}
 use Rattle.std.specs.List.{AllZip, range_with_len}
-use Rattle.std.proofs.lemmas.List.{map-id}
+use Rattle.std.proofs.lemmas.List.{length-map, map-id}
 use Rattle.std.proofs.lemmas.List.FromFn.{map-range_with_len_more}
 use Rattle.std.proofs.lemmas.List.Elements.{All-get_or}
 use Rattle.std.proofs.Math.Nat.{suc-mul}
@@ -18,13 +18,13 @@ use Rattle.sweep.specs.Runs.{Planned, Made, IsMadeAs, AreMadeBetween, noted, pla
 use Rattle.sweep.specs.Judged.{IsAccepted, AreAccepted}
 use Rattle.sweep.proofs.Flat.{runs_counted}
 use Rattle.sweep.proofs.Steps.{are_more}
-use Rattle.sweep_until.specs.Until.{AreMadeUntil, IsMadeUntil, IsWide, is_narrow_of}
+use Rattle.sweep_until.specs.Until.{AreMadeFrom, IsMadeUntil, IsWide, is_narrow_of}
 use Rattle.sweep_until.proofs.Same.{OneRun}
 use Rattle.sweep_until.proofs.Wide.{wide_next}
 
-pub range_more : (k : ℕ) → range_with_len 0 (k + 1) ≡ range_with_len 0 k ++ k ∷ []
-range_more k =
-    sym (map-id (range_with_len 0 (k + 1))) ∙ map-range_with_len_more (λ (x : ℕ). x) 0 k k (omega arith) ∙ ap (λ xs. xs ++ k ∷ []) (map-id (range_with_len 0 k))
+pub range_more : (first k next : ℕ) → first + k ≡ next → range_with_len first (k + 1) ≡ range_with_len first k ++ next ∷ []
+range_more first k next is =
+    sym (map-id (range_with_len first (k + 1))) ∙ map-range_with_len_more (λ (x : ℕ). x) first k next is ∙ ap (λ xs. xs ++ next ∷ []) (map-id (range_with_len first k))
 
 -- the runs of a case are among all
 pub case_within : (cases each number : ℕ) → number < cases → number * each + each ≤ cases * each
@@ -32,11 +32,11 @@ case_within cases each number low =
     omega (arith, suc-mul number each, mul-le (suc number) each cases each (omega (arith, low)) (omega arith))
 
 -- one case more was made
-pub one_case : (tree : Data) (sweep : Sweep) (width number : ℕ) (made : List (List Made)) (case : List Made) → AreMadeUntil tree sweep width number made
-    → IsMadeUntil tree sweep width number case → AreMadeUntil tree sweep width (number + 1) (made ++ case ∷ [])
-one_case tree sweep width number made case before here =
-    subst (λ l. AllZip (IsMadeUntil tree sweep width) l (made ++ case ∷ [])) (sym (range_more number))
-    (all_zipped_more (IsMadeUntil tree sweep width) (range_with_len 0 number) made number case before here)
+pub one_case : (tree : Data) (sweep : Sweep) (width first count number : ℕ) (made : List (List Made)) (case : List Made) → first + count ≡ number
+    → AreMadeFrom tree sweep width first count made → IsMadeUntil tree sweep width number case → AreMadeFrom tree sweep width first (count + 1) (made ++ case ∷ [])
+one_case tree sweep width first count number made case is before here =
+    subst (λ l. AllZip (IsMadeUntil tree sweep width) l (made ++ case ∷ [])) (sym (range_more first count number is))
+    (all_zipped_more (IsMadeUntil tree sweep width) (range_with_len first count) made number case before here)
 
 module _ (tree : Data) (sweep : Sweep) (one : OneRun) (exists : (s : Setup) → IsSound s → (rows : List Row) × IsRunOf s rows) (ok : AreAccepted tree sweep) (width : ℕ) where
   -- the run of a number can be made
@@ -62,8 +62,16 @@ module _ (tree : Data) (sweep : Sweep) (one : OneRun) (exists : (s : Setup) → 
 
     enough : (made : List Made) → length made ≤ seed_count sweep.seeds → Are made → IsWide width (map noted made)
         → (is_narrow_of width (map noted made) ≡ true) ⊎ (length made ≡ seed_count sweep.seeds) → Filled made
-    enough made few are wide ends =
-        ([], subst (IsMadeUntil tree sweep width number) (sym (append-nil made)) (record { are = are; few = few; wide = wide; ends = ends }))
+    enough made few are wide ends = (
+      [],
+      subst (IsMadeUntil tree sweep width number) (sym (append-nil made))
+          (record { are = are; enough = record { few = omega (arith, few, length-map made noted); wide = wide; ends = counted made ends } }),
+    )
+      where
+        counted : (made : List Made) → (is_narrow_of width (map noted made) ≡ true) ⊎ (length made ≡ seed_count sweep.seeds)
+            → (is_narrow_of width (map noted made) ≡ true) ⊎ (length (map noted made) ≡ seed_count sweep.seeds)
+        counted made (inl narrow) = inl narrow
+        counted made (inr all) = inr (length-map made noted ∙ all)
 
     one_further : (left : ℕ) (made : List Made) → length made + suc left ≡ seed_count sweep.seeds → Are made → IsWide width (map noted made)
         → ((longer : List Made) → length longer + left ≡ seed_count sweep.seeds → Are longer → IsWide width (map noted longer) → Filled longer)
@@ -98,12 +106,12 @@ module _ (tree : Data) (sweep : Sweep) (one : OneRun) (exists : (s : Setup) → 
     fresh = filled [] (omega arith) none_made (λ n less. absurd (omega arith))
 
   -- and so can those of the cases that are left
-  pub cases_left : (left number : ℕ) (made : List (List Made)) → number + left ≡ case_count sweep.settings → AreMadeUntil tree sweep width number made
-      → (more : List (List Made)) × AreMadeUntil tree sweep width (case_count sweep.settings) (made ++ more)
-  cases_left zero number made full are =
-      let same : number ≡ case_count sweep.settings = omega (arith, full) in
-      ([], subst (λ l. AreMadeUntil tree sweep width (case_count sweep.settings) l) (sym (append-nil made)) (subst (λ n. AreMadeUntil tree sweep width n made) same are))
-  cases_left (suc left) number made full are =
-      let next = fresh number (omega (arith, full)) in
-      let rest = cases_left left (number + 1) (made ++ next.0 ∷ []) (omega (arith, full)) (one_case tree sweep width number made next.0 are next.1) in
-      (next.0 ∷ rest.0, subst (λ l. AreMadeUntil tree sweep width (case_count sweep.settings) l) (append_assoc made (next.0 ∷ []) rest.0) rest.1)
+  pub cases_left : (left first count all : ℕ) (made : List (List Made)) → count + left ≡ all → first + all ≤ case_count sweep.settings → AreMadeFrom tree sweep width first count made
+      → (more : List (List Made)) × AreMadeFrom tree sweep width first all (made ++ more)
+  cases_left zero first count all made full within are =
+      let same : count ≡ all = omega (arith, full) in
+      ([], subst (λ l. AreMadeFrom tree sweep width first all l) (sym (append-nil made)) (subst (λ n. AreMadeFrom tree sweep width first n made) same are))
+  cases_left (suc left) first count all made full within are =
+      let next = fresh (first + count) (omega (arith, full, within)) in
+      let rest = cases_left left first (count + 1) all (made ++ next.0 ∷ []) (omega (arith, full)) within (one_case tree sweep width first count (first + count) made next.0 refl are next.1) in
+      (next.0 ∷ rest.0, subst (λ l. AreMadeFrom tree sweep width first all l) (append_assoc made (next.0 ∷ []) rest.0) rest.1)

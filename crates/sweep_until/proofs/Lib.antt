@@ -3,3 +3,5 @@ pub mod Same
 pub mod Wide
 pub mod Left
 pub mod Cases
+pub mod PieceCases
+pub mod Enough

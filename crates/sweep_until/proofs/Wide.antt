@@ -16,7 +16,7 @@ use Rattle.sweep_until.specs.declared.runs.CaseRuns.{CaseRuns}
 use Rattle.sweep_until.proofs.Same.{OneRun, made_long, same_first}
 
 -- no fewer of some are narrow, nor are they: so are no fewer of their first
-up_to : (width n : ℕ) (runs : List Note) → IsWide width runs → is_narrow_of width runs ≡ false → n ≤ length runs → is_narrow_of width (take n runs) ≡ false
+pub up_to : (width n : ℕ) (runs : List Note) → IsWide width runs → is_narrow_of width runs ≡ false → n ≤ length runs → is_narrow_of width (take n runs) ≡ false
 up_to width n runs wide open_yet few = by (ltb n (length runs)) refl
   where
     by : (b : Bool) → ltb n (length runs) ≡ b → is_narrow_of width (take n runs) ≡ false

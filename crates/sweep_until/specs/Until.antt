@@ -1,5 +1,5 @@
 -- A sweep whose cases have as many runs as their 95 % intervals need to be narrow enough, and no more.
-use Rattle.std.specs.Prelude.{◌≡◌, ◌≤◌, ◌<◌, ◌⊎◌, ℕ, ◌+◌, ◌*◌, Bool, true, false, List, [], Option, flat_map, length, map, take}
+use Rattle.std.specs.Prelude.{◌≡◌, ◌≤◌, ◌<◌, ◌⊎◌, ℕ, ◌+◌, ◌*◌, Bool, true, false, List, [], ◌++◌, Option, flat_map, length, map, take}
 use Rattle.std.specs.List.{AllZip, range_with_len}
 use Rattle.std.specs.Io.KnownBytes.{Appends}
 use Rattle.toml.specs.Data.{Data}
@@ -9,7 +9,8 @@ use Rattle.figures.specs.declared.summary.CaseSummary.{CaseSummary}
 use Rattle.figures.specs.Cases.{IsSummaryOf, runs_with}
 use Rattle.figures.specs.Notes.{Note}
 use Rattle.sweep.specs.Runs.{Made, AreMadeBetween, noted}
-use Rattle.sweep.specs.Table.{Course, BeginsLines, made_line, table_text, tells_revived}
+use Rattle.figures.specs.Lines.{header_line}
+use Rattle.sweep.specs.Table.{Course, BeginsLines, line_with, names_of, table_text, tells_revived}
 use Rattle.sweep.specs.Summaries.{HasCome}
 use Rattle.widths.specs.Widths.{is_narrow}
 use Rattle.sweep_until.specs.Kept.{AreKept}
@@ -23,48 +24,79 @@ is_narrow_of width runs = is_narrow width (runs_with runs) (length runs)
 abbrev pub IsWide : ℕ → List Note → Type 0
 IsWide width runs = (n : ℕ) → n < length runs → is_narrow_of width (take n runs) ≡ false
 
--- The runs of the case of this number: its first ones, as few as make its interval narrow enough, or all that are asked for where none do.
+-- The notes of the runs of a case: of as few as make its interval narrow enough, or of all, so many, where none do.
+pub record AreEnough (width each : ℕ) (runs : List Note) : Type 0 where
+  pub few : length runs ≤ each
+  pub wide : IsWide width runs
+  pub ends : (is_narrow_of width runs ≡ true) ⊎ (length runs ≡ each)
+
+-- The runs of the case of this number: its first ones, as many as are enough.
 pub record IsMadeUntil (tree : Data) (sweep : Sweep) (width number : ℕ) (made : List Made) : Type 0 where
   pub are : AreMadeBetween tree sweep (number * seed_count sweep.seeds) (number * seed_count sweep.seeds + length made) made
-  pub few : length made ≤ seed_count sweep.seeds
-  pub wide : IsWide width (map noted made)
-  pub ends : (is_narrow_of width (map noted made) ≡ true) ⊎ (length made ≡ seed_count sweep.seeds)
+  pub enough : AreEnough width (seed_count sweep.seeds) (map noted made)
 
--- those of the first cases, in their order
+-- those of so many cases, from that of a number on, in their order
+abbrev pub AreMadeFrom : Data → Sweep → ℕ → ℕ → ℕ → List (List Made) → Type 0
+AreMadeFrom tree sweep width first cases made = AllZip (IsMadeUntil tree sweep width) (range_with_len first cases) made
+
+-- those of the first cases
 abbrev pub AreMadeUntil : Data → Sweep → ℕ → ℕ → List (List Made) → Type 0
-AreMadeUntil tree sweep width cases made = AllZip (IsMadeUntil tree sweep width) (range_with_len 0 cases) made
+AreMadeUntil tree sweep width cases made = AreMadeFrom tree sweep width 0 cases made
+
+-- the runs of cases, one case after the other
+abbrev pub all_of : List (List Made) → List Made
+all_of made = flat_map (λ case. case) made
 
 -- the table of the runs of some cases
 abbrev pub cases_table : Data → Sweep → List (List Made) → List ℕ
-cases_table tree sweep made = table_text tree sweep (flat_map (λ case. case) made)
+cases_table tree sweep made = table_text tree sweep (all_of made)
 
 -- the summary of a case's runs
 abbrev pub SumsUp : List Made → CaseSummary → Type 0
 SumsUp made case = IsSummaryOf case (map noted made)
 
--- the runs of the first cases were made, their table was appended, and each case is summed up
-pub record HasCases (tree : Data) (sweep : Sweep) (width : ℕ) (old new : Option (List ℕ)) (number : ℕ) (cases : List CaseSummary) : Type 0 where
+-- Which cases are put one after the other: what is put ahead of their lines, whether these have notes, the number of the first, and how many they are.
+pub record Stretch : Type 0 where
+  pub front : List ℕ
+  pub notes : Bool
+  pub first : ℕ
+  pub cases : ℕ
+
+-- all cases, behind the header
+abbrev pub all_cases : Data → Sweep → Stretch
+all_cases tree sweep = record { front = header_line (tells_revived tree) (names_of sweep.settings); notes = false; first = 0; cases = case_count sweep.settings }
+
+-- what is put, with the lines of the runs of these cases
+abbrev pub stretch_text : Data → Stretch → List (List Made) → List ℕ
+stretch_text tree stretch made = stretch.front ++ flat_map (line_with (tells_revived tree) stretch.notes) (all_of made)
+
+-- so many cases were made, their lines were appended, and each is summed up
+pub record HasCases (tree : Data) (sweep : Sweep) (width : ℕ) (stretch : Stretch) (old new : Option (List ℕ)) (number : ℕ) (cases : List CaseSummary) : Type 0 where
   pub made : List (List Made)
-  pub are : AreMadeUntil tree sweep width number made
-  pub written : Appends old new (cases_table tree sweep made)
+  pub are : AreMadeFrom tree sweep width stretch.first number made
+  pub written : Appends old new (stretch_text tree stretch made)
   pub told : AllZip SumsUp made cases
 
 -- those of all cases
 abbrev pub MakesUntil : Data → Sweep → ℕ → Option (List ℕ) → Option (List ℕ) → List CaseSummary → Type 0
-MakesUntil tree sweep width old new cases = HasCases tree sweep width old new (case_count sweep.settings) cases
+MakesUntil tree sweep width old new cases = HasCases tree sweep width (all_cases tree sweep) old new (case_count sweep.settings) cases
 
--- a beginning of their table was appended
-pub record BeginsUntil (tree : Data) (sweep : Sweep) (width : ℕ) (old new : Option (List ℕ)) : Type 0 where
+-- a beginning of the lines of all these cases was appended
+pub record BeginsCases (tree : Data) (sweep : Sweep) (width : ℕ) (stretch : Stretch) (old new : Option (List ℕ)) : Type 0 where
   pub made : List (List Made)
-  pub are : AreMadeUntil tree sweep width (case_count sweep.settings) made
-  pub written : AppendsBeginning old new (cases_table tree sweep made)
+  pub are : AreMadeFrom tree sweep width stretch.first stretch.cases made
+  pub written : AppendsBeginning old new (stretch_text tree stretch made)
+
+-- a beginning of the table was
+abbrev pub BeginsUntil : Data → Sweep → ℕ → Option (List ℕ) → Option (List ℕ) → Type 0
+BeginsUntil tree sweep width old new = BeginsCases tree sweep width (all_cases tree sweep) old new
 
 -- ---- how far a case has come
 
 -- the lines of the case of this number
-abbrev pub case_course : Sweep → ℕ → Option (List ℕ) → Course
-case_course sweep number start =
-    record { start = start; front = []; notes = false; from = number * seed_count sweep.seeds; till = number * seed_count sweep.seeds + seed_count sweep.seeds }
+abbrev pub case_course : Sweep → Bool → ℕ → Option (List ℕ) → Course
+case_course sweep noted number start =
+    record { start = start; front = []; notes = noted; from = number * seed_count sweep.seeds; till = number * seed_count sweep.seeds + seed_count sweep.seeds }
 
 -- the lines of the runs of a case to before the run of this number were appended, and no fewer of them are narrow enough
 pub record HasGone (tree : Data) (sweep : Sweep) (width : ℕ) (course : Course) (held : Option (List ℕ)) (kept : CaseRuns) (number : ℕ) : Type 0 where
@@ -89,9 +121,9 @@ pub record BeginsWide (tree : Data) (sweep : Sweep) (width : ℕ) (course : Cour
   pub begun : BeginsLines tree sweep course held
   pub wide : IsWide width (map noted begun.made)
 
--- the runs of a case were made, their lines were appended, and it is summed up
-pub record MakesCase (tree : Data) (sweep : Sweep) (width number : ℕ) (old new : Option (List ℕ)) (case : CaseSummary) : Type 0 where
+-- the runs of a case were made, their lines were appended, with notes or without, and it is summed up
+pub record MakesCase (tree : Data) (sweep : Sweep) (width : ℕ) (notes : Bool) (number : ℕ) (old new : Option (List ℕ)) (case : CaseSummary) : Type 0 where
   pub made : List Made
   pub are : IsMadeUntil tree sweep width number made
-  pub written : Appends old new (flat_map (made_line (tells_revived tree)) made)
+  pub written : Appends old new (flat_map (line_with (tells_revived tree) notes) made)
   pub told : SumsUp made case

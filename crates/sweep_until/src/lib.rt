@@ -3,10 +3,11 @@
 #![tactic(auto)]
 
 mod lots;
+mod parts;
+mod pieces;
 mod runs;
 mod until;
 
+pub use pieces::write_piece_until;
+pub use runs::CaseRuns;
 pub use until::sweep_until;
-
-#[cfg(test)]
-mod tests;

@@ -1,12 +1,12 @@
 //! The sweep, case by case.
-ghost use Rattle.std.specs.Prelude.{◌≡◌, ◌<◌, ◌≤◌, ◌^◌, ◌+◌, ◌*◌, ◌++◌, ◌∷◌, [], false, OnOk, OnErr, Option, List, ℕ, IfOk, IfErr};
+ghost use Rattle.std.specs.Prelude.{◌≡◌, ◌<◌, ◌≤◌, ◌^◌, ◌+◌, ◌-◌, ◌*◌, ◌++◌, ◌∷◌, [], OnOk, OnErr, Option, List, ℕ, IfOk, IfErr};
 ghost use Rattle.toml.specs.View.{view};
 ghost use Rattle.cases.specs.Sweep.{case_count, run_count, seed_count};
 ghost use Rattle.outputs.specs.Written.{sink_failures};
 ghost use Rattle.sweep.specs.Judged.{AreAccepted};
 ghost use Rattle.sweep.specs.Runs.{IsAskedFor};
 ghost use Rattle.sweep.specs.Table.{Course, HasCause};
-ghost use Rattle.sweep_until.specs.Until.{BeginsUntil, BeginsWide, GoesOn, HasCases, HasEnded, MakesCase, MakesUntil, case_course};
+ghost use Rattle.sweep_until.specs.Until.{BeginsCases, BeginsUntil, BeginsWide, GoesOn, HasCases, HasEnded, MakesCase, MakesUntil, Stretch, case_course};
 
 use crate::lots::make_lot;
 use crate::runs::CaseRuns;
@@ -61,20 +61,35 @@ pub fn sweep_until<S: Sink, P: Progress>(
     the_run_is_one();
     write_names(alloc, plan.settings(), tells_revived(document), table)?;
     make_cases(
-        rt, alloc, plan, width, document, workers, progress, &mut cases, table,
+        rt,
+        alloc,
+        plan,
+        width,
+        document,
+        workers,
+        false,
+        0,
+        plan.cases(),
+        progress,
+        &mut cases,
+        table,
     )?;
     flush(table)?;
     Ok(cases)
 }
 
-/// Makes the runs of all cases, and adds what is told of each.
-fn make_cases<S: Sink, P: Progress>(
+/// Makes the runs of the cases from one number to before another, and adds what is told of each. Their lines have notes, or
+/// don't.
+pub(crate) fn make_cases<S: Sink, P: Progress>(
     rt: &(impl Threads + Sync),
     alloc: Global,
     plan: &Plan,
     width: u64,
     document: &Value,
     workers: Workers,
+    notes: bool,
+    first: usize,
+    past: usize,
     progress: &mut P,
     cases: &mut Vec<CaseSummary>,
     table: &mut S,
@@ -82,19 +97,23 @@ fn make_cases<S: Sink, P: Progress>(
     requires asked { IsAskedFor plan.now }
     requires judged { AreAccepted (view document.now) plan.now }
     requires most { width ≤ 100 }
+    requires ordered { first ≤ past }
+    requires within { past ≤ case_count plan.now.settings }
     requires countable { S.failed table.old < 2 ^ 63 }
-    ensures whole { OnOk result ((start : Option (List ℕ)) → HasCases (view document.now) plan.now width start (S.held table.old) 0 cases.old.items
-        → HasCases (view document.now) plan.now width start (S.held table.new) (case_count plan.now.settings) cases.new.items) }
-    ensures part { OnErr result ((start : Option (List ℕ)) → HasCases (view document.now) plan.now width start (S.held table.old) 0 cases.old.items
-        → BeginsUntil (view document.now) plan.now width start (S.held table.new)) }
+    ensures whole { OnOk result ((stretch : Stretch) (start : Option (List ℕ)) → stretch.notes ≡ notes → stretch.first ≡ first
+        → HasCases (view document.now) plan.now width stretch start (S.held table.old) 0 cases.old.items
+        → HasCases (view document.now) plan.now width stretch start (S.held table.new) (past - first) cases.new.items) }
+    ensures part { OnErr result ((stretch : Stretch) (start : Option (List ℕ)) → stretch.notes ≡ notes → stretch.first ≡ first → stretch.cases ≡ past - first
+        → HasCases (view document.now) plan.now width stretch start (S.held table.old) 0 cases.old.items
+        → BeginsCases (view document.now) plan.now width stretch start (S.held table.new)) }
     ensures causes { IfErr result (HasCause (view document.now) plan.now) }
     ensures failures { S.failed table.new ≡ S.failed table.old + sink_failures result }
 {
     a_run_exists();
     the_run_is_one();
-    for number in 0..plan.cases() {
+    for number in first..past {
         let case = make_case(
-            rt, alloc, plan, width, document, workers, number, progress, table,
+            rt, alloc, plan, width, document, workers, notes, number, progress, table,
         )?;
         push_case(cases, case)?;
     }
@@ -109,7 +128,7 @@ fn push_case(cases: &mut Vec<CaseSummary>, case: CaseSummary) -> Result<(), Memo
     Ok(())
 }
 
-/// Makes the runs of the case of this number, writes their lines, and gives what is told of it.
+/// Makes the runs of the case of this number, writes their lines, with notes or without, and gives what is told of it.
 fn make_case<S: Sink, P: Progress>(
     rt: &(impl Threads + Sync),
     alloc: Global,
@@ -117,6 +136,7 @@ fn make_case<S: Sink, P: Progress>(
     width: u64,
     document: &Value,
     workers: Workers,
+    notes: bool,
     number: usize,
     progress: &mut P,
     table: &mut S,
@@ -126,8 +146,8 @@ fn make_case<S: Sink, P: Progress>(
     requires most { width ≤ 100 }
     requires within { number < case_count plan.now.settings }
     requires countable { S.failed table.old < 2 ^ 63 }
-    ensures whole { IfOk result (MakesCase (view document.now) plan.now width number (S.held table.old) (S.held table.new)) }
-    ensures part { OnErr result (BeginsWide (view document.now) plan.now width (case_course plan.now number (S.held table.old)) (S.held table.new)) }
+    ensures whole { IfOk result (MakesCase (view document.now) plan.now width notes number (S.held table.old) (S.held table.new)) }
+    ensures part { OnErr result (BeginsWide (view document.now) plan.now width (case_course plan.now notes number (S.held table.old)) (S.held table.new)) }
     ensures causes { IfErr result (HasCause (view document.now) plan.now) }
     ensures failures { S.failed table.new ≡ S.failed table.old + sink_failures result }
 {
@@ -136,7 +156,7 @@ fn make_case<S: Sink, P: Progress>(
     let past = first + plan.runs_of_case();
     let mut runs = CaseRuns::new(alloc);
     make_runs_of(
-        rt, alloc, plan, width, document, workers, first, past, progress, &mut runs, table,
+        rt, alloc, plan, width, document, workers, notes, first, past, progress, &mut runs, table,
     )?;
     progress.runs_made(past, plan.runs());
     let case = runs.into_summary()?;
@@ -162,6 +182,7 @@ fn make_runs_of<S: Sink, P: Progress>(
     width: u64,
     document: &Value,
     workers: Workers,
+    notes: bool,
     first: usize,
     past: usize,
     progress: &mut P,
@@ -174,9 +195,9 @@ fn make_runs_of<S: Sink, P: Progress>(
     requires some { first < past }
     requires within { past ≤ run_count plan.now }
     requires countable { S.failed table.old < 2 ^ 63 }
-    ensures whole { OnOk result ((course : Course) → course.notes ≡ false → GoesOn (view document.now) plan.now width course (S.held table.old) runs.old first
+    ensures whole { OnOk result ((course : Course) → course.notes ≡ notes → GoesOn (view document.now) plan.now width course (S.held table.old) runs.old first
         → HasEnded (view document.now) plan.now width course (S.held table.new) runs.new first past) }
-    ensures part { OnErr result ((course : Course) → course.notes ≡ false → past ≤ course.till → GoesOn (view document.now) plan.now width course (S.held table.old) runs.old first
+    ensures part { OnErr result ((course : Course) → course.notes ≡ notes → past ≤ course.till → GoesOn (view document.now) plan.now width course (S.held table.old) runs.old first
         → BeginsWide (view document.now) plan.now width course (S.held table.new)) }
     ensures causes { IfErr result (HasCause (view document.now) plan.now) }
     ensures failures { S.failed table.new ≡ S.failed table.old + sink_failures result }
@@ -187,7 +208,7 @@ fn make_runs_of<S: Sink, P: Progress>(
         let scenario = read_run(alloc, plan, document, next)?;
         let end = past.min(next + workers.count() * runs_of_a_worker(&scenario));
         let reached = make_lot(
-            rt, alloc, plan, width, document, workers, next, end, runs, table,
+            rt, alloc, plan, width, document, workers, notes, next, end, runs, table,
         )?;
         if runs.is_narrow(width) {
             return Ok(());

@@ -2,4 +2,5 @@ use Rattle.joins.proofs.GenuineWhole.{whole_of}
 use Rattle.joins.proofs.laws.all_pieces_are_the_whole.Goals as goal
 
 pub returns : goal.returns
-returns c texts old new text mark tree sweep of made joins marked asked long told genuine = whole_of texts old new text mark tree sweep of made joins marked asked long told genuine
+returns c texts old new read revived cases mark tree sweep of made joins marked asked none long told genuine =
+    whole_of texts old new read revived cases mark tree sweep of made joins marked asked none long told genuine

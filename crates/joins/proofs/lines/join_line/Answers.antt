@@ -18,7 +18,7 @@ returns-in_default-split_once-clause-refused g c = (
 
 pub returns-clause-whole : goal.returns-clause-whole
 returns-clause-whole g c =
-    line_read c.args.text.now c.split_once.result c.in-Some.word c.in-Some.rest c.split_once-2.result c.in-Some-split_once.body c.in-Some-split_once.left c.in-Ok.note _ _ _ _
+    line_read c.args.text.now c.split_once.result c.in-Some.word c.in-Some.rest c.split_once-2.result c.in-Some-split_once.body c.in-Some-split_once.left c.in-Ok.note _ _ _
     c.in-Some.is c.split_once.ensures.cases c.in-Some-split_once.is c.split_once-2.ensures.cases c.in-Ok.ensures.read c.in_ok-put_line.ensures.whole c.in-Ok-add.ensures
 
 pub returns-in-Err-Word-clause-refused : goal.returns-in-Err-Word-clause-refused

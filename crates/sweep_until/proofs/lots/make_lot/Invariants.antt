@@ -1,4 +1,4 @@
-use Rattle.std.proofs.Common.{◌≡◌, ◌≤◌, ◌-◌, false}
+use Rattle.std.proofs.Common.{◌≡◌, ◌≤◌, ◌-◌}
 use Rattle.std.specs.List.{AllZip, range_with_len}
 use Rattle.toml.specs.View.{view}
 use Rattle.sweep.specs.Table.{Course, IsMadeOf}
@@ -10,8 +10,8 @@ abbrev pub invariant-loop-made : goal.invariant-loop-made
 invariant-loop-made g l = record {
   low : l.from ≤ l.past;
   within : l.past ≤ l.till;
-  left : AllZip (IsMadeOf (view l.document) l.plan false) (range_with_len l.past (l.till - l.past)) l.made-iterator.rest.items;
-  goes : (course : Course) → course.notes ≡ false → GoesOn (view l.document) l.plan l.width course (g.S.Sink.held l.fn.table) l.fn.runs l.from
+  left : AllZip (IsMadeOf (view l.document) l.plan l.notes) (range_with_len l.past (l.till - l.past)) l.made-iterator.rest.items;
+  goes : (course : Course) → course.notes ≡ l.notes → GoesOn (view l.document) l.plan l.width course (g.S.Sink.held l.fn.table) l.fn.runs l.from
       → GoesOn (view l.document) l.plan l.width course (g.S.Sink.held l.table) l.runs l.past;
   same : g.S.Sink.failed l.table ≡ g.S.Sink.failed l.fn.table;
 }

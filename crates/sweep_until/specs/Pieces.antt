@@ -1,0 +1,43 @@
+-- The table of a piece of a sweep whose cases have as many runs as their intervals need: a piece is one of whole cases.
+use Rattle.std.specs.Prelude.{◌≡◌, ◌≤◌, ℕ, ◌-◌, List, Option, Some, true}
+use Rattle.std.specs.Io.KnownBytes.{Appends}
+use Rattle.toml.specs.Data.{Data}
+use Rattle.trace.specs.Sinks.{AppendsBeginning}
+use Rattle.cases.specs.Sweep.{Sweep, case_count}
+use Rattle.pieces.specs.declared.piece.Piece.{Piece}
+use Rattle.pieces.specs.Pieces.{first_run, past_run}
+use Rattle.sweep.specs.Runs.{Made}
+use Rattle.sweep.specs.Table.{tells_revived}
+use Rattle.sweep.specs.Pieces.{piece_header, piece_table}
+use Rattle.sweep_until.specs.Until.{AreMadeFrom, Stretch, all_of}
+
+-- the number of its first case, and how many it has: cases are shared out as runs are
+abbrev pub first_case : Sweep → Piece → ℕ
+first_case sweep p = first_run p (case_count sweep.settings)
+
+abbrev pub cases_in : Sweep → Piece → ℕ
+cases_in sweep p = past_run p (case_count sweep.settings) - first_run p (case_count sweep.settings)
+
+-- they come behind its first line, and their lines have notes
+abbrev pub piece_cases : Data → List ℕ → Sweep → Piece → Stretch
+piece_cases tree mark sweep p = record { front = piece_header (tells_revived tree) mark sweep p; notes = true; first = first_case sweep p; cases = cases_in sweep p }
+
+-- these are the runs of the cases of the piece
+abbrev pub AreCasesIn : Data → Sweep → ℕ → Piece → List (List Made) → Type 0
+AreCasesIn tree sweep width p made = AreMadeFrom tree sweep width (first_case sweep p) (cases_in sweep p) made
+
+-- the piece was appended
+pub record WritesPieceUntil (tree : Data) (sweep : Sweep) (mark : List ℕ) (p : Piece) (old new : Option (List ℕ)) : Type 0 where
+  pub width : ℕ
+  pub wanted : sweep.until ≡ Some width
+  pub made : List (List Made)
+  pub are : AreCasesIn tree sweep width p made
+  pub written : Appends old new (piece_table (tells_revived tree) mark sweep p (all_of made))
+
+-- a beginning of it was
+pub record BeginsPieceUntil (tree : Data) (sweep : Sweep) (mark : List ℕ) (p : Piece) (old new : Option (List ℕ)) : Type 0 where
+  pub width : ℕ
+  pub wanted : sweep.until ≡ Some width
+  pub made : List (List Made)
+  pub are : AreCasesIn tree sweep width p made
+  pub written : AppendsBeginning old new (piece_table (tells_revived tree) mark sweep p (all_of made))
