@@ -13,10 +13,7 @@ use Rattle.cases.specs.Sweep.{Sweep, case_count, run_count}
 use Rattle.cases.specs.Cases.{settings_text}
 use Rattle.cases.specs.declared.keys.SettingKey.{SettingKey}
 use Rattle.trace.specs.Sinks.{AppendsBeginning}
-use Rattle.answers.specs.Answers.{AddsAnswer}
-use Rattle.answers.specs.Front.{is_on_front}
-use Rattle.sweep_page.specs.Page.{page_text}
-use Rattle.case_json.specs.Objects.{TellsObjects}
+use Rattle.case_telling.specs.Telling.{IsSweepPage, TellsCases}
 use Rattle.pieces.specs.Pieces.{first_run, past_run}
 use Rattle.pieces.specs.declared.piece.Piece.{Piece}
 use Rattle.sweep.specs.Runs.{Made, Planned}
@@ -25,7 +22,6 @@ use Rattle.sweep.specs.Table.{tells_revived, HasCause}
 use Rattle.sweep.specs.Pieces.{AreMadeIn, BeginsPiece, WritesPiece, piece_table}
 use Rattle.sweep.specs.Resumed.{AreMadeBehind, BeginsRest, IsBegun, RefusesBegun, WritesRest, rest_text}
 use Rattle.sweep.specs.declared.begun.BegunFault.TheVariants as begun_fault
-use Rattle.sweep.specs.Texts.{cases_text}
 use Rattle.figures.specs.declared.summary.CaseSummary.{CaseSummary}
 use Rattle.command_line.specs.Words.{AsksForSweep}
 use Rattle.command_line.specs.Division.{AsksForWorkers}
@@ -53,23 +49,18 @@ pub record PassesSweepChecks (before : Shelf) (sweep : SweepWords) (workers : �
   pub there : missing_of tree sweep.plan.settings ≡ None
   pub accepted : AreAccepted tree sweep.plan
 
--- how cases are told: as JSON, an object a line, or in aligned columns, with what they answer
-abbrev pub TellsCases : Bool → Data → SweepWords → List CaseSummary → List ℕ → Type 0
-TellsCases true tree sweep cases text = TellsObjects (tells_revived tree) sweep.plan.settings sweep.wants.items cases text
-TellsCases false tree sweep cases text = AddsAnswer sweep.plan.settings sweep.wants.items cases (cases_text (tells_revived tree) sweep.plan cases) text
-
 -- this is what is told of all cases, by the summaries of their runs
 pub record AreLinesOf (tree : Data) (sweep : SweepWords) (made : RunsBy sweep.until) (lines : List ℕ) : Type 0 where
   pub cases : List CaseSummary
   pub all : length cases ≡ case_count sweep.plan.settings
   pub told : AreSummedUp sweep.until sweep.plan made cases
-  pub text : TellsCases sweep.jsonl tree sweep cases lines
+  pub text : TellsCases sweep.jsonl (tells_revived tree) sweep.plan sweep.wants.items cases lines
 
 -- the runs were made and their table was appended to what was held, and this is what is told of their cases
 pub record MakesLines (tree : Data) (sweep : SweepWords) (old new : Option (List ℕ)) (lines : List ℕ) : Type 0 where
   pub cases : List CaseSummary
   pub makes : MakesRuns sweep.until tree sweep.plan old new cases
-  pub text : TellsCases sweep.jsonl tree sweep cases lines
+  pub text : TellsCases sweep.jsonl (tells_revived tree) sweep.plan sweep.wants.items cases lines
 
 -- The runs were made: the file holds their table, no other file has changed, and this is what is told of their cases.
 pub record StoresTable (tree : Data) (sweep : SweepWords) (before after : Shelf) (lines : List ℕ) : Type 0 where
@@ -78,15 +69,6 @@ pub record StoresTable (tree : Data) (sweep : SweepWords) (before after : Shelf)
   pub stored : HoldsNow (before sweep.table.now) (after sweep.table.now) (runs_table sweep.until tree sweep.plan made)
   pub others : KeepsOthers before after sweep.table.now
   pub told : AreLinesOf tree sweep made lines
-
--- which cases no other beats
-abbrev pub front_of : List CaseSummary → List Bool
-front_of cases = map (λ case. is_on_front case cases) cases
-
--- the text is the page of these cases, made by a release
-abbrev pub IsSweepPage : SweepWords → List ℕ → List CaseSummary → List ℕ → Type 0
-IsSweepPage sweep release cases text =
-    text ≡ page_text sweep.file.now release sweep.plan cases (front_of cases)
 
 -- The runs were made, and this is what is told of their cases: the file of the table holds that, the file of this name a page of the cases, and no
 -- other file has changed.
@@ -97,9 +79,9 @@ pub record StoresPaged (tree : Data) (sweep : SweepWords) (release : List ℕ) (
   pub cases : List CaseSummary
   pub all : length cases ≡ case_count sweep.plan.settings
   pub told : AreSummedUp sweep.until sweep.plan made cases
-  pub text : TellsCases sweep.jsonl tree sweep cases lines
+  pub text : TellsCases sweep.jsonl (tells_revived tree) sweep.plan sweep.wants.items cases lines
   pub shown : List ℕ
-  pub is : IsSweepPage sweep release cases shown
+  pub is : IsSweepPage sweep.file.now release sweep.plan cases shown
   pub paged : HoldsNow (before page) (after page) shown
   pub others : KeepsAllOthers before after sweep.table.now page
 
@@ -110,21 +92,21 @@ StoresWhole (Some page) tree sweep release before after lines = StoresPaged tree
 
 -- a page of the cases was appended; or a beginning of one, or nothing
 abbrev pub WritesPage : SweepWords → List ℕ → List CaseSummary → Option (List ℕ) → Option (List ℕ) → Type 0
-WritesPage sweep release cases old new = (text : List ℕ) × IsSweepPage sweep release cases text × Appends old new text
+WritesPage sweep release cases old new = (text : List ℕ) × IsSweepPage sweep.file.now release sweep.plan cases text × Appends old new text
 
 abbrev pub BeginsPage : SweepWords → List ℕ → List CaseSummary → Option (List ℕ) → Option (List ℕ) → Type 0
-BeginsPage sweep release cases old new = Keeps old new ⊎ ((text : List ℕ) × IsSweepPage sweep release cases text × AppendsBeginning old new text)
+BeginsPage sweep release cases old new = Keeps old new ⊎ ((text : List ℕ) × IsSweepPage sweep.file.now release sweep.plan cases text × AppendsBeginning old new text)
 
 -- the same of what was appended to what was held
 pub record MakesPaged (tree : Data) (sweep : SweepWords) (release : List ℕ) (old new page_old page_new : Option (List ℕ)) (lines : List ℕ) : Type 0 where
   pub cases : List CaseSummary
   pub makes : MakesRuns sweep.until tree sweep.plan old new cases
-  pub text : TellsCases sweep.jsonl tree sweep cases lines
+  pub text : TellsCases sweep.jsonl (tells_revived tree) sweep.plan sweep.wants.items cases lines
   pub paged : WritesPage sweep release cases page_old page_new
 
 -- a text is a page of the cases of these runs
 abbrev pub IsPageOfRuns : (sweep : SweepWords) → RunsBy sweep.until → List ℕ → Type 0
-IsPageOfRuns sweep made text = (release : List ℕ) × (cases : List CaseSummary) × AreSummedUp sweep.until sweep.plan made cases × IsSweepPage sweep release cases text
+IsPageOfRuns sweep made text = (release : List ℕ) × (cases : List CaseSummary) × AreSummedUp sweep.until sweep.plan made cases × IsSweepPage sweep.file.now release sweep.plan cases text
 
 -- a beginning was appended: of the table, and nothing of a page; or the whole table, and a beginning of a page
 pub record BeginsPaged (tree : Data) (sweep : SweepWords) (old new page_old page_new : Option (List ℕ)) : Type 0 where

@@ -14,9 +14,10 @@ ghost use Rattle.sweep_command.specs.Runs.{BeginsRuns};
 use crate::checks::{PreparedSweep, prepare_sweep};
 use crate::making::make_runs;
 use crate::paging::store_paged;
+use crate::progressing::RunLines;
 use crate::resuming::{Standing, find_standing};
-use crate::telling::{RunLines, cases_told};
 use base::Fault;
+use case_telling::cases_told;
 use command_line::{Failure, Release, SweepWords};
 use files::Files;
 use pieces::Piece;
@@ -24,7 +25,7 @@ use scenario_files::{file_failure, run_told};
 use std::alloc::Global;
 use std::io::Write;
 use std::thread::Threads;
-use sweep::{Begun, NoProgress, Progress, write_piece, write_rest};
+use sweep::{Begun, NoProgress, Progress, tells_revived, write_piece, write_rest};
 use trace::{Put, Sink};
 
 /// Makes the runs that the words of a sweep ask for, and writes their table to a file, and a page of
@@ -288,6 +289,14 @@ fn tell_runs<S: Sink, P: Progress>(
         progress,
         table,
     )?;
-    let lines = cases_told(alloc, words, document, &cases)?;
+    let revived = tells_revived(document);
+    let lines = cases_told(
+        alloc,
+        &words.plan,
+        &words.wants,
+        words.jsonl,
+        revived,
+        &cases,
+    )?;
     Ok(lines)
 }
