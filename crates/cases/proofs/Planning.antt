@@ -43,14 +43,14 @@ some_seeds None (Some q) a = absurd a
 some_seeds (Some word) None a = absurd a
 some_seeds (Some word) (Some q) a = let ordered = a.ordered in omega arith
 
-module _ (words : List (List ℕ)) (word : Option (List ℕ)) (settings : List KeyValues) (seeds : Option Seeds) (are : AreSettings words settings) (asked : AsksForSeeds word seeds) where
+module _ (words : List (List ℕ)) (word : Option (List ℕ)) (until : Option ℕ) (settings : List KeyValues) (seeds : Option Seeds) (are : AreSettings words settings) (asked : AsksForSeeds word seeds) where
   module _ (cases each runs : ℕ) (counted : cases ≡ min (case_count settings) (2 ^ 64 - 1)) (often : each ≡ seed_count seeds) (multiplied : runs ≡ min (cases * each) (2 ^ 64 - 1)) where
     all_runs : runs ≡ min (case_count settings * seed_count seeds) (2 ^ 64 - 1)
     all_runs =
         multiplied ∙ ap (λ n. min (n * each) (2 ^ 64 - 1)) counted ∙ saturated (case_count settings) each (2 ^ 64 - 1)
         ∙ ap (λ n. min (case_count settings * n) (2 ^ 64 - 1)) often
 
-    pub too_many : 1000000 < runs → (sweep : Sweep) → IsSweepOf words word sweep → ⊥
+    pub too_many : 1000000 < runs → (sweep : Sweep) → IsSweepOf words word until sweep → ⊥
     too_many over sweep is =
         let sets = same_settings sweep.settings settings is.settings.sound are.sound (is.settings.written ∙ sym are.written) in
         let same = same_seeds word sweep.seeds seeds is.seeded asked in

@@ -2,6 +2,7 @@
 use Rattle.std.specs.Prelude.{◌≡◌, ◌≢◌, ℕ, ◌<◌, ◌≤◌, ◌^◌, List, ◌∷◌, ◌++◌, Option, Some, None, All, AllPairs, map, length}
 use Rattle.std.specs.Fmt.{decimal}
 use Rattle.std.specs.List.{join_with_byte}
+use Rattle.std.specs.Option.{ForSome}
 use Rattle.cases.specs.Keys.{key_name, MaySet}
 use Rattle.cases.specs.Values.{value_text, FitsToml}
 use Rattle.cases.specs.Sweep.{KeyValues, Sweep, run_count}
@@ -48,16 +49,23 @@ AsksForSeeds None (Some r) = ⊥
 AsksForSeeds (Some word) None = ⊥
 AsksForSeeds (Some word) (Some r) = IsRange word r
 
--- the words ask for the sweep, which has at most 1,000,000 runs
-pub record IsSweepOf (words : List (List ℕ)) (seeds : Option (List ℕ)) (sweep : Sweep) : Type 0 where
+-- an interval may be 1 to 100 hundredths wide
+pub record IsWidth (width : ℕ) : Type 0 where
+  pub least : 1 ≤ width
+  pub most : width ≤ 100
+
+-- the words ask for the sweep, which has at most 1,000,000 runs; the width, if there is one, is given as a number
+pub record IsSweepOf (words : List (List ℕ)) (seeds : Option (List ℕ)) (until : Option ℕ) (sweep : Sweep) : Type 0 where
   pub settings : AreSettings words sweep.settings
   pub seeded : AsksForSeeds seeds sweep.seeds
   pub few : run_count sweep ≤ 1000000
+  pub wanted : sweep.until ≡ until
+  pub width : ForSome sweep.until IsWidth
 
 -- the words ask for no sweep, or memory was refused
-abbrev pub RefusesSweep : List (List ℕ) → Option (List ℕ) → PlanFault → Type 0
-RefusesSweep words seeds Words = (sweep : Sweep) → ¬ (IsSweepOf words seeds sweep)
-RefusesSweep words seeds Memory = Unit {0}
+abbrev pub RefusesSweep : List (List ℕ) → Option (List ℕ) → Option ℕ → PlanFault → Type 0
+RefusesSweep words seeds until Words = (sweep : Sweep) → ¬ (IsSweepOf words seeds until sweep)
+RefusesSweep words seeds until Memory = Unit {0}
 
 -- the same of the settings alone
 abbrev pub RefusesSettings : List (List ℕ) → PlanFault → Type 0

@@ -9,10 +9,11 @@ pub record KeyValues : Type 0 where
   pub key : SettingKey
   pub values : List SettingValue
 
--- without seeds each case runs with the text's own
+-- without seeds each case runs with the text's own; without a width, which is in hundredths, each case runs with all seeds
 pub record Sweep : Type 0 where
   pub settings : List KeyValues
   pub seeds : Option Seeds
+  pub until : Option ℕ
 
 -- how many cases there are: one for each choice of a value for each key
 abbrev pub case_count : List KeyValues → ℕ

@@ -1,8 +1,8 @@
 //! What words ask a sweep for.
-ghost use Rattle.std.specs.Prelude.{◌≡◌, ◌≤◌, ◌<◌, ◌^◌, ◌*◌, ◌-◌, Some, All, map, min, slice_get, option_map, IfOk, IfErr};
+ghost use Rattle.std.specs.Prelude.{◌≡◌, ◌≤◌, ◌<◌, ◌^◌, ◌*◌, ◌-◌, Some, All, map, min, slice_get, option_map, true, false, IfOk, IfErr};
 ghost use Rattle.std.specs.Option.{ForSome};
 ghost use Rattle.cases.specs.Sweep.{case_count, seed_count, run_count};
-ghost use Rattle.cases.specs.Asked.{AreSettings, AsksForSeeds, IsSweepOf, RefusesSeeds, RefusesSettings, RefusesSweep, IsSetting};
+ghost use Rattle.cases.specs.Asked.{AreSettings, AsksForSeeds, IsSweepOf, RefusesSeeds, RefusesSettings, RefusesSweep, IsSetting, IsWidth};
 ghost use Rattle.cases.specs.Values.{FitsToml};
 ghost use Rattle.cases.specs.Cases.{cases_of};
 
@@ -26,6 +26,8 @@ pub struct Plan {
     cases: usize,
     /// How often each of them runs.
     each: usize,
+    /// How many hundredths the interval of a case may be wide, where only as many runs are wanted as make it so.
+    until: Option<u64>,
 }
 
 impl Model for Plan {
@@ -42,15 +44,24 @@ impl Model for Plan {
 
 impl Plan {
     /// The plan that words ask for: settings such as `swim.period=200,300`, each a key that may be set, an
-    /// equals sign and values with commas between them, and a range of seeds such as `1..200`. Whether a document has the
-    /// items of lists that keys name is asked by `missing_item`.
+    /// equals sign and values with commas between them, and a range of seeds such as `1..200`. Where each case is to have
+    /// only as many runs as make its interval so narrow, `until` is its width in hundredths. Whether a document has the items
+    /// of lists that keys name is asked by `missing_item`.
     ///
-    /// Failures: `Words` where a word is none of these, a key stands twice, or there are more than
+    /// Failures: `Words` where a word is none of these, a key stands twice, the width isn't 1 to 100, or there are more than
     /// 1,000,000 runs; `Memory`.
-    pub fn read(alloc: Global, settings: &[&str], seeds: Option<&str>) -> Result<Plan, PlanFault>
-        ensures read { IfOk result (IsSweepOf (map (λ word. word.now) settings.now) (option_map (λ text. text.now) seeds.entry)) }
-        ensures refused { IfErr result (RefusesSweep (map (λ word. word.now) settings.now) (option_map (λ text. text.now) seeds.entry)) }
+    pub fn read(
+        alloc: Global,
+        settings: &[&str],
+        seeds: Option<&str>,
+        until: Option<u64>,
+    ) -> Result<Plan, PlanFault>
+        ensures read { IfOk result (IsSweepOf (map (λ word. word.now) settings.now) (option_map (λ text. text.now) seeds.entry) until) }
+        ensures refused { IfErr result (RefusesSweep (map (λ word. word.now) settings.now) (option_map (λ text. text.now) seeds.entry) until) }
     {
+        if !may_be(until) {
+            return Err(PlanFault::Words);
+        }
         let chosen = match read_settings(alloc, settings) {
             Ok(chosen) => chosen,
             Err(fault) => return Err(fault),
@@ -70,6 +81,7 @@ impl Plan {
             seeds: range,
             cases,
             each,
+            until,
         })
     }
 
@@ -85,6 +97,15 @@ impl Plan {
         ensures { result ≡ self.now.seeds }
     {
         self.seeds
+    }
+
+    /// How many hundredths the 95 % interval of a case's share of runs in which members were thrown out may be wide, where
+    /// each case is to have only as many runs as make it so: 1 to 100.
+    pub fn until(&self) -> Option<u64>
+        ensures same { result ≡ self.now.until }
+        ensures width { ForSome result IsWidth }
+    {
+        self.until
     }
 
     /// How many cases there are: 1 where nothing is set.
@@ -181,6 +202,17 @@ fn read_seeds(word: Option<&str>) -> Result<Option<Seeds>, PlanFault>
             None => Err(PlanFault::Words),
         },
         None => Ok(None),
+    }
+}
+
+/// Whether an interval may be so many hundredths wide, if that is asked for.
+fn may_be(until: Option<u64>) -> bool
+    ensures may { result ≡ true → ForSome until IsWidth }
+    ensures not { result ≡ false → ¬ (ForSome until IsWidth) }
+{
+    match until {
+        Some(width) => width >= 1 && width <= 100,
+        None => true,
     }
 }
 

@@ -1,12 +1,14 @@
 -- What the name of a piece tells is that piece, of that sweep.
-use Rattle.std.proofs.Common.{◌≡◌, ◌<◌, ◌==◌, ℕ, Bool, true, false, suc, List, [], ◌∷◌, ◌++◌, map, length, length-drop, get_or, take, drop, ◌-◌, codes, decimal, lit<, arith, refl, sym, ap, subst, ◌∙◌}
+use Rattle.std.proofs.Common.{◌≡◌, ◌<◌, ◌==◌, ◌^◌, ℕ, Bool, true, false, suc, List, [], ◌∷◌, ◌++◌, map, length, length-drop, get_or, take, drop, ◌-◌, codes, decimal, lit<, arith, refl, sym, ap, subst, ◌∙◌}
 use Rattle.std.specs.Prelude.{Option, Some, None, All, Result, Ok, Err, IfOk, IfErr, bytes_eq, option_map, if◌then◌else◌}
 use Rattle.std.specs.Borrow.{Bor}
+use Rattle.std.specs.Option.{ForSome}
 use Rattle.std.specs.List.{flat_map, slice_split, join_with_byte}
 use Rattle.std.proofs.lemmas.Fmt.{decimal_injective}
-use Rattle.std.proofs.lemmas.List.{length-map, take_all}
+use Rattle.std.proofs.lemmas.List.{append_cancel_left, length-map, take_all}
+use Rattle.decimals.specs.Numbers.{IsDecimal}
 use Rattle.cases.specs.Sweep.{KeyValues, Sweep}
-use Rattle.cases.specs.Asked.{AreSettings, AsksForSeeds, IsSweepOf, RefusesSweep, seeds_text, setting_text}
+use Rattle.cases.specs.Asked.{AreSettings, AsksForSeeds, IsSweepOf, IsWidth, RefusesSweep, seeds_text, setting_text}
 use Rattle.cases.specs.declared.fault.PlanFault.{PlanFault}
 use Rattle.cases.specs.declared.fault.PlanFault.TheVariants as unread
 use Rattle.cases.specs.declared.seeds.Seeds.{Seeds}
@@ -18,8 +20,8 @@ use Rattle.pieces.specs.Names.{plan_text, seeds_word}
 use Rattle.sweep.specs.Runs.{IsAskedFor}
 use Rattle.sweep.specs.Pieces.{piece_header}
 use Rattle.joins.specs.Joined.{IsMark}
-use Rattle.joins.specs.Reasons.{BeginsAs, BeginsAsNone, RefusesName}
-use Rattle.joins.proofs.SameSweep.{joined_is, no_dash, same_seeds, same_settings, words_lack, words_of}
+use Rattle.joins.specs.Reasons.{BeginsAs, BeginsAsNone, RefusesName, SaysWidth}
+use Rattle.joins.proofs.SameSweep.{joined_is, no_dash, no_setting_says, same_rest, same_seeds, same_settings, until_words, words_lack, words_of}
 
 -- the piece of a word is one
 pub same_piece : (word : List ℕ) (q p : Piece) → IsPieceWord word q → word ≡ piece_text p → IsPiece p → q ≡ p
@@ -61,7 +63,7 @@ neither text untold told mark true sweep p = told mark sweep p
 
 pub words_are : (words : List ℕ) (sweep : Sweep) → IsAskedFor sweep → words ≡ plan_text sweep → slice_split (λ byte. byte == 32) words ≡ words_of sweep
 words_are words sweep asked is =
-    ap (slice_split (λ byte. byte == 32)) (is ∙ sym (joined_is (seeds_word sweep.seeds) sweep.settings)) ∙ joined_split 32 (words_of sweep) (omega arith) (words_lack sweep asked)
+    ap (slice_split (λ byte. byte == 32)) (is ∙ sym (joined_is sweep)) ∙ joined_split 32 (words_of sweep) (omega arith) (words_lack sweep asked)
 
 -- the word of seeds, where it is no dash
 abbrev pub seeds_given : List ℕ → Option (List ℕ)
@@ -86,10 +88,16 @@ one_seeds (Some word) None s asks also = absurd asks
 one_seeds (Some word) (Some r) None asks also = absurd also
 one_seeds (Some word) (Some r) (Some s) asks also = same_seeds (Some word) (Some word) (Some r) (Some s) asks also (asks.written ∙ sym also.written)
 
+-- the words behind the first are those of a width, or none, and of settings, none of which says a width where none is read
+record AreParted (rest : List (List ℕ)) (until : Option ℕ) (settings : List (List ℕ)) : Type 0 where
+  pub words : rest ≡ until_words until ++ settings
+  pub low : ForSome until (λ w. w < 2 ^ 64)
+  pub apart : until ≡ None → (value : List ℕ) (more : List (List ℕ)) → ¬ (settings ≡ (codes "until=" ++ value) ∷ more)
+
 -- the plan that was read of the words of a sweep is that sweep
 module _ (words : List ℕ) (sweep : Sweep) (asked : IsAskedFor sweep) (is : words ≡ plan_text sweep) (first : List ℕ) (rest : List (List ℕ)) (seeds : Option (List ℕ))
     (cut : slice_split (λ byte. byte == 32) words ≡ first ∷ rest) (given : seeds ≡ seeds_given first) where
-  parts : first ∷ rest ≡ seeds_word sweep.seeds ∷ map setting_text sweep.settings
+  parts : first ∷ rest ≡ seeds_word sweep.seeds ∷ (until_words sweep.until ++ map setting_text sweep.settings)
   parts = sym cut ∙ words_are words sweep asked is
 
   seeds_asked : AsksForSeeds seeds sweep.seeds
@@ -97,36 +105,58 @@ module _ (words : List ℕ) (sweep : Sweep) (asked : IsAskedFor sweep) (is : wor
       let same : first ≡ seeds_word sweep.seeds = (let all = parts in cc) in
       subst (λ o. AsksForSeeds o sweep.seeds) (sym (given ∙ ap seeds_given same)) (seeds_again asked.seeds sweep.seeds asked.asked.seeded)
 
-  settings_are : map setting_text sweep.settings ≡ rest
-  settings_are = let all = parts in cc
+  rest_is : until_words sweep.until ++ map setting_text sweep.settings ≡ rest
+  rest_is = let all = parts in cc
 
-  pub plan_is : (plan : Sweep) → IsSweepOf rest seeds plan → plan ≡ sweep
-  plan_is plan read =
-      let settings = same_settings plan.settings sweep.settings read.settings.sound asked.asked.settings.sound (read.settings.written ∙ sym settings_are) in
-      let one = one_seeds seeds plan.seeds sweep.seeds read.seeded seeds_asked in
-      (λ i. record { settings = settings i; seeds = one i })
+  module _ (until : Option ℕ) (settings : List (List ℕ)) (parted : AreParted rest until settings) where
+    both_are : (sweep.until ≡ until) × (map setting_text sweep.settings ≡ settings)
+    both_are = same_rest sweep.until until sweep.settings settings asked.asked.width parted.low asked.asked.settings.sound parted.apart (rest_is ∙ parted.words)
 
-  pub plan_there : (e : PlanFault) → RefusesSweep rest seeds e → e ≡ unread.Words → ⊥
-  plan_there unread.Memory refused same = cc
-  plan_there unread.Words refused same =
-      refused sweep (record {
-        settings = record { written = settings_are; sound = asked.asked.settings.sound; once = asked.asked.settings.once };
-        seeded = seeds_asked;
-        few = asked.asked.few;
-      })
+    pub plan_is : (plan : Sweep) → IsSweepOf settings seeds until plan → plan ≡ sweep
+    plan_is plan read =
+        let sets = same_settings plan.settings sweep.settings read.settings.sound asked.asked.settings.sound (read.settings.written ∙ sym both_are.1) in
+        let one = one_seeds seeds plan.seeds sweep.seeds read.seeded seeds_asked in
+        let wide : plan.until ≡ sweep.until = read.wanted ∙ sym both_are.0 in
+        (λ i. record { settings = sets i; seeds = one i; until = wide i })
+
+    pub plan_there : (e : PlanFault) → RefusesSweep settings seeds until e → e ≡ unread.Words → ⊥
+    plan_there unread.Memory refused same = cc
+    plan_there unread.Words refused same =
+        refused sweep (record {
+          settings = record { written = both_are.1; sound = asked.asked.settings.sound; once = asked.asked.settings.once };
+          seeded = seeds_asked;
+          few = asked.asked.few;
+          wanted = both_are.0;
+          width = asked.asked.width;
+        })
+
+  -- a width that is said is written as a number
+  pub width_told : (value : List ℕ) (more : List (List ℕ)) → rest ≡ (codes "until=" ++ value) ∷ more → ((n : ℕ) → ¬ (IsDecimal value n)) → ⊥
+  width_told value more says none = by sweep.until asked.asked.width (rest_is ∙ says)
+    where
+      by : (until : Option ℕ) → ForSome until IsWidth → until_words until ++ map setting_text sweep.settings ≡ (codes "until=" ++ value) ∷ more → ⊥
+      by None sound same = no_setting_says sweep.settings value more asked.asked.settings.sound same
+      by (Some w) sound same =
+          let most = (sound w refl).most in
+          let head : codes "until=" ++ decimal w ≡ codes "until=" ++ value = cc in
+          none w (record { written = append_cancel_left (codes "until=") (decimal w) value head; low = omega (arith, most) })
 
 -- the same of what reading the words gave, where these are the first and the rest of them
-pub plans_are : {E : Type 0} (words first : List ℕ) (rest : List (List ℕ)) (seeds : Option (List ℕ)) (r : Result Sweep E) → seeds ≡ seeds_given first
-    → ((sweep : Sweep) → IsAskedFor sweep → words ≡ plan_text sweep → slice_split (λ byte. byte == 32) words ≡ first ∷ rest) → IfOk r (IsSweepOf rest seeds)
-    → IfOk r (λ plan. (sweep : Sweep) → IsAskedFor sweep → words ≡ plan_text sweep → plan ≡ sweep)
-plans_are words first rest seeds (Ok plan) given cut read = λ sweep asked is. plan_is words sweep asked is first rest seeds (cut sweep asked is) given plan read
-plans_are words first rest seeds (Err e) given cut read = tt
+abbrev AreCut : List ℕ → List ℕ → List (List ℕ) → Type 0
+AreCut words first rest = (sweep : Sweep) → IsAskedFor sweep → words ≡ plan_text sweep → slice_split (λ byte. byte == 32) words ≡ first ∷ rest
 
-pub no_plans_are : {T : Type 0} (words first : List ℕ) (rest : List (List ℕ)) (seeds : Option (List ℕ)) (r : Result T PlanFault) → seeds ≡ seeds_given first
-    → ((sweep : Sweep) → IsAskedFor sweep → words ≡ plan_text sweep → slice_split (λ byte. byte == 32) words ≡ first ∷ rest) → IfErr r (RefusesSweep rest seeds)
+pub plans_are : {E : Type 0} (words first : List ℕ) (rest : List (List ℕ)) (seeds : Option (List ℕ)) (until : Option ℕ) (settings : List (List ℕ)) (r : Result Sweep E)
+    → seeds ≡ seeds_given first → AreCut words first rest → AreParted rest until settings → IfOk r (IsSweepOf settings seeds until)
+    → IfOk r (λ plan. (sweep : Sweep) → IsAskedFor sweep → words ≡ plan_text sweep → plan ≡ sweep)
+plans_are words first rest seeds until settings (Ok plan) given cut parted read = λ sweep asked is. plan_is words sweep asked is first rest seeds (cut sweep asked is) given until settings parted plan read
+plans_are words first rest seeds until settings (Err e) given cut parted read = tt
+
+pub no_plans_are : {T : Type 0} (words first : List ℕ) (rest : List (List ℕ)) (seeds : Option (List ℕ)) (until : Option ℕ) (settings : List (List ℕ)) (r : Result T PlanFault)
+    → seeds ≡ seeds_given first → AreCut words first rest → AreParted rest until settings → IfErr r (RefusesSweep settings seeds until)
     → IfErr r (λ fault. fault ≡ unread.Words → (sweep : Sweep) → IsAskedFor sweep → ¬ (words ≡ plan_text sweep))
-no_plans_are words first rest seeds (Ok x) given cut refused = tt
-no_plans_are words first rest seeds (Err e) given cut refused = λ word sweep asked is. plan_there words sweep asked is first rest seeds (cut sweep asked is) given e refused word
+no_plans_are words first rest seeds until settings (Ok x) given cut parted refused = tt
+no_plans_are words first rest seeds until settings (Err e) given cut parted refused =
+    λ word sweep asked is. plan_there words sweep asked is first rest seeds (cut sweep asked is) given until settings parted e refused word
 
 -- the first of the words, and those behind it
 pub split_first : (items : List (Bor (List ℕ))) (d : Bor (List ℕ)) (words : List ℕ) → 0 < length items
@@ -140,15 +170,15 @@ pub behind_first : (items : List (Bor (List ℕ))) → take (length items - 1) (
 behind_first items = take_all (length items - 1) (drop 1 items) (omega (arith, length-drop 1 items))
 
 -- words that ask for a sweep
-pub asked_by : (words : List (List ℕ)) (seeds : Option (List ℕ)) (plan : Sweep) → IsSweepOf words seeds plan → IsAskedFor plan
-asked_by words seeds plan is = record { settings = words; seeds = seeds; asked = is }
+pub asked_by : (words : List (List ℕ)) (seeds : Option (List ℕ)) (until : Option ℕ) (plan : Sweep) → IsSweepOf words seeds until plan → IsAskedFor plan
+asked_by words seeds until plan is = record { settings = words; seeds = seeds; until = until; asked = is }
 
 -- no words at all are those of no sweep
 pub none_split : (items : List (Bor (List ℕ))) (words : List ℕ) (sweep : Sweep) → IsAskedFor sweep → words ≡ plan_text sweep → length items ≡ 0
     → map (λ (word : Bor (List ℕ)). word.now) items ≡ slice_split (λ byte. byte == 32) words → ⊥
 none_split items words sweep asked is none same =
     let all = same ∙ words_are words sweep asked is in
-    let long : length (map (λ (word : Bor (List ℕ)). word.now) items) ≡ suc (length (map setting_text sweep.settings)) = ap length all in
+    let long : length (map (λ (word : Bor (List ℕ)). word.now) items) ≡ suc (length (until_words sweep.until ++ map setting_text sweep.settings)) = ap length all in
     omega (arith, long, length-map items (λ (word : Bor (List ℕ)). word.now), none)
 
 pub some_split : (items : List (Bor (List ℕ))) (words : List ℕ) (sweep : Sweep) → IsAskedFor sweep → words ≡ plan_text sweep
@@ -166,3 +196,46 @@ words_cut items listed first d words same is all sweep asked text =
     let behind : map (λ (word : Bor (List ℕ)). word.now) (take (length listed - 1) (drop 1 listed)) ≡ map (λ (word : Bor (List ℕ)). word.now) (drop 1 items) =
     ap (map (λ (word : Bor (List ℕ)). word.now)) (behind_first listed ∙ ap (drop 1) same) in
     split_first items d words (some_split items words sweep asked text all) all ∙ (λ i. sym head i ∷ sym behind i)
+
+-- ---- the words behind the first
+
+-- none says a width: all are settings
+pub none_parted : (items : List (Bor (List ℕ))) → ((value : List ℕ) → ¬ (SaysWidth (map (λ (word : Bor (List ℕ)). word.now) items) value))
+    → AreParted (map (λ (word : Bor (List ℕ)). word.now) (take (length items - 1) (drop 1 items))) None (map (λ (word : Bor (List ℕ)). word.now) (take (length items - 1) (drop 1 items)))
+none_parted items none = record { words = refl; low = (λ w is. cc); apart = (λ same value more says. by items none value more says) }
+  where
+    by : (all : List (Bor (List ℕ))) → ((value : List ℕ) → ¬ (SaysWidth (map (λ (word : Bor (List ℕ)). word.now) all) value)) → (value : List ℕ) (more : List (List ℕ))
+        → ¬ (map (λ (word : Bor (List ℕ)). word.now) (take (length all - 1) (drop 1 all)) ≡ (codes "until=" ++ value) ∷ more)
+    by [] none value more says = cc
+    by (x ∷ xs) none value more says =
+        none value (x.now, more, ap (λ l. x.now ∷ l) (sym (ap (map (λ (word : Bor (List ℕ)). word.now)) (behind_first (x ∷ xs))) ∙ says))
+
+-- the second says this width: those behind it are settings
+pub one_parted : (items : List (Bor (List ℕ))) (value : List ℕ) (width : ℕ) → SaysWidth (map (λ (word : Bor (List ℕ)). word.now) items) value → IsDecimal value width
+    → AreParted (map (λ (word : Bor (List ℕ)). word.now) (take (length items - 1) (drop 1 items))) (Some width) (map (λ (word : Bor (List ℕ)). word.now) (take (length items - 2) (drop 2 items)))
+one_parted [] value width says is = let none : 0 ≡ suc (suc (length says.1)) = ap length says.2 in absurd (omega arith)
+one_parted (x ∷ []) value width says is =
+    let none : 1 ≡ suc (suc (length says.1)) = ap length says.2 in
+    absurd (omega arith)
+one_parted (x ∷ y ∷ items) value width says is =
+    let low = is.low in
+    let whole : x.now ∷ y.now ∷ map (λ (word : Bor (List ℕ)). word.now) items ≡ says.0 ∷ (codes "until=" ++ value) ∷ says.1 = says.2 in
+    let second : y.now ≡ codes "until=" ++ value = cc in
+    let third : map (λ (word : Bor (List ℕ)). word.now) (take (length items) items) ≡ map (λ (word : Bor (List ℕ)). word.now) items = ap (map (λ (word : Bor (List ℕ)). word.now)) (take_all (length items) items (omega arith)) in
+    record {
+      words = ap (map (λ (word : Bor (List ℕ)). word.now)) (behind_first (x ∷ y ∷ items))
+          ∙ (λ i. (second ∙ ap (λ l. codes "until=" ++ l) (sym is.written)) i ∷ sym third i);
+      low = (λ w same. (let one : width ≡ w = cc in omega (arith, low, one)));
+      apart = (λ none. cc);
+    }
+
+-- what it says is a number
+pub told_number : (items : List (Bor (List ℕ))) (first value words : List ℕ) (sweep : Sweep) → IsAskedFor sweep → words ≡ plan_text sweep
+    → SaysWidth (map (λ (word : Bor (List ℕ)). word.now) items) value → slice_split (λ byte. byte == 32) words ≡ first ∷ map (λ (word : Bor (List ℕ)). word.now) (take (length items - 1) (drop 1 items))
+    → ((n : ℕ) → ¬ (IsDecimal value n)) → ⊥
+told_number [] first value words sweep asked is says cut none = let empty : 0 ≡ suc (suc (length says.1)) = ap length says.2 in absurd (omega arith)
+told_number (x ∷ items) first value words sweep asked is says cut none =
+    let whole : x.now ∷ map (λ (word : Bor (List ℕ)). word.now) items ≡ says.0 ∷ (codes "until=" ++ value) ∷ says.1 = says.2 in
+    let rest : map (λ (word : Bor (List ℕ)). word.now) items ≡ (codes "until=" ++ value) ∷ says.1 = cc in
+    width_told words sweep asked is first (map (λ (word : Bor (List ℕ)). word.now) (take (length (x ∷ items) - 1) (drop 1 (x ∷ items)))) (seeds_given first) cut refl value says.1
+    (ap (map (λ (word : Bor (List ℕ)). word.now)) (behind_first (x ∷ items)) ∙ rest) none

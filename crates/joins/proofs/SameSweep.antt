@@ -1,25 +1,34 @@
 -- First lines of pieces that are one text name the same piece of the same sweep.
-use Rattle.std.proofs.Common.{◌≡◌, ◌<◌, ◌≤◌, ◌^◌, ◌==◌, ℕ, suc, true, false, List, [], ◌∷◌, ◌++◌, map, length, get_or, codes, decimal, lit<, arith, refl, sym, ap, subst, ◌∙◌, append_assoc, append-nil}
+use Rattle.std.proofs.Common.{◌≡◌, ◌<◌, ◌≤◌, ◌^◌, ◌==◌, ℕ, suc, true, false, List, [], ◌∷◌, ◌++◌, map, length, get_or, codes, decimal, inl, inr, is_some, lit<, arith, refl, sym, ap, subst, ◌∙◌, append_assoc, append-nil}
 use Rattle.std.specs.Prelude.{Option, Some, None, All}
-use Rattle.std.specs.List.{flat_map, join_with_byte, slice_split}
+use Rattle.std.specs.List.{AllByRecursion, flat_map, join_with_byte, list_any, slice_split}
+use Rattle.std.specs.Option.{ForSome}
+use Rattle.std.proofs.lemmas.Bool.{false≢true}
+use Rattle.std.proofs.lemmas.Bool.Decides.{nat_tests}
+use Rattle.std.proofs.lemmas.List.{append_cancel_left}
 use Rattle.std.proofs.lemmas.Fmt.{decimal_injective, decimal_is_IsNumeral}
 use Rattle.std.proofs.lemmas.Str.Parse.{digit_at}
-use Rattle.std.proofs.lemmas.List.Elements.{All-cons, All-head, All-map, All-nil, All-tail, All-weaker}
-use Rattle.cases.specs.Items.{is_letter}
-use Rattle.cases.specs.Keys.{key_name}
+use Rattle.std.proofs.lemmas.List.Elements.{All-append, All-cons, All-contains, All-from_recursion, All-head, All-map, All-nil, All-tail, All-weaker}
+use Rattle.schema.specs.Schema.{key_rules_of, spelling_of}
+use Rattle.schema.specs.declared.schema.FormatKey.{FormatKey}
+use Rattle.cases.specs.Items.{is_letter, kept_name}
+use Rattle.cases.specs.Keys.{MaySet, item_part, key_name, key_named, listed, settable}
 use Rattle.cases.specs.Values.{value_text, FitsToml}
 use Rattle.cases.specs.Sweep.{KeyValues, Sweep}
-use Rattle.cases.specs.Asked.{AsksForSeeds, IsRange, IsSetting, seeds_text, setting_text}
+use Rattle.cases.specs.Asked.{AsksForSeeds, IsRange, IsSetting, IsWidth, seeds_text, setting_text}
+use Rattle.cases.specs.declared.items.ItemName.{ItemName}
+use Rattle.cases.specs.declared.keys.SettingKey.{SettingKey}
 use Rattle.cases.specs.declared.seeds.Seeds.{Seeds}
+use Rattle.cases.proofs.Apart.{named_itself}
 use Rattle.cases.proofs.Letters.{is_key_byte, name_lacks}
 use Rattle.cases.proofs.Words.{Lacks, cut_once, decimal_lacks, joined_split}
 use Rattle.cases.proofs.Written.{same_setting}
 use Rattle.pieces.specs.declared.piece.Piece.{Piece}
 use Rattle.pieces.specs.Pieces.{IsPiece, piece_text}
-use Rattle.pieces.specs.Names.{head_cell, piece_name, plan_text, seeds_word}
+use Rattle.pieces.specs.Names.{head_cell, piece_name, plan_text, seeds_word, until_text}
 use Rattle.sweep.specs.Runs.{IsAskedFor}
 use Rattle.joins.specs.Joined.{IsMark}
-use Rattle.joins.proofs.Bytes.{lacks_both, lacks_cons, lacks_joined, value_lacks}
+use Rattle.joins.proofs.Bytes.{lacks_both, lacks_cons, lacks_from_test, lacks_joined, value_lacks}
 
 -- ---- which bytes the words of a sweep don't have
 
@@ -43,24 +52,50 @@ seeds_lack c dash dot small (Some word) (Some r) asks =
 
 -- ---- the words of a sweep, with spaces between them
 
-pub joined_is : (first : List ℕ) (settings : List KeyValues) → join_with_byte 32 (first ∷ map setting_text settings) ≡ first ++ flat_map (λ s. 32 ∷ setting_text s) settings
-joined_is first [] = sym (append-nil first)
-joined_is first (s ∷ settings) = ap (λ l. first ++ 32 ∷ l) (joined_is (setting_text s) settings)
+settings_joined : (first : List ℕ) (settings : List KeyValues) → join_with_byte 32 (first ∷ map setting_text settings) ≡ first ++ flat_map (λ s. 32 ∷ setting_text s) settings
+settings_joined first [] = sym (append-nil first)
+settings_joined first (s ∷ settings) = ap (λ l. first ++ 32 ∷ l) (settings_joined (setting_text s) settings)
+
+-- the word of a width, and the words that there are of it
+abbrev pub until_word : ℕ → List ℕ
+until_word width = codes "until=" ++ decimal width
+
+abbrev pub until_words : Option ℕ → List (List ℕ)
+until_words None = []
+until_words (Some width) = until_word width ∷ []
+
+all_joined : (first : List ℕ) (until : Option ℕ) (settings : List KeyValues)
+    → join_with_byte 32 (first ∷ (until_words until ++ map setting_text settings)) ≡ first ++ until_text until ++ flat_map (λ s. 32 ∷ setting_text s) settings
+all_joined first None settings = settings_joined first settings ∙ ap (λ l. l ++ flat_map (λ s. 32 ∷ setting_text s) settings) (sym (append-nil first))
+all_joined first (Some width) settings =
+    ap (λ l. first ++ 32 ∷ l) (settings_joined (until_word width) settings) ∙ sym (append_assoc first (32 ∷ until_word width) (flat_map (λ s. 32 ∷ setting_text s) settings))
 
 abbrev pub words_of : Sweep → List (List ℕ)
-words_of sweep = seeds_word sweep.seeds ∷ map setting_text sweep.settings
+words_of sweep = seeds_word sweep.seeds ∷ (until_words sweep.until ++ map setting_text sweep.settings)
+
+pub joined_is : (sweep : Sweep) → join_with_byte 32 (words_of sweep) ≡ plan_text sweep
+joined_is sweep = all_joined (seeds_word sweep.seeds) sweep.until sweep.settings
+
+until_lack : (c : ℕ) → c < 48 → list_any (λ byte. byte == c) (codes "until=") ≡ false → (until : Option ℕ) → ForSome until IsWidth → All (Lacks c) (until_words until)
+until_lack c small none None sound = All-nil (Lacks c)
+until_lack c small none (Some width) sound =
+    let most = (sound width refl).most in
+    All-cons (Lacks c) (until_word width) [] (lacks_both c (codes "until=") (decimal width) (lacks_from_test c (codes "until=") none) (decimal_lacks width c (omega (arith, most)) small)) (All-nil (Lacks c))
+
+all_lack : (c : ℕ) → is_key_byte c ≡ false → is_letter c ≡ false → (61 == c) ≡ false → (44 == c) ≡ false → (45 == c) ≡ false → (46 == c) ≡ false → c < 48
+    → list_any (λ byte. byte == c) (codes "until=") ≡ false → (sweep : Sweep) → IsAskedFor sweep → All (Lacks c) (words_of sweep)
+all_lack c out also equals comma dash dot small none sweep asked =
+    All-cons (Lacks c) (seeds_word sweep.seeds) (until_words sweep.until ++ map setting_text sweep.settings) (seeds_lack c dash dot small asked.seeds sweep.seeds asked.asked.seeded)
+    (All-append (Lacks c) (until_words sweep.until) (map setting_text sweep.settings) (until_lack c small none sweep.until asked.asked.width)
+    (All-map (Lacks c) setting_text sweep.settings
+    (All-weaker IsSetting (λ s. Lacks c (setting_text s)) (setting_lacks c out also equals comma small) sweep.settings asked.asked.settings.sound)))
 
 pub words_lack : (sweep : Sweep) → IsAskedFor sweep → All (Lacks 32) (words_of sweep)
-words_lack sweep asked =
-    All-cons (Lacks 32) (seeds_word sweep.seeds) (map setting_text sweep.settings) (seeds_lack 32 refl refl (lit< tt) asked.seeds sweep.seeds asked.asked.seeded)
-    (All-map (Lacks 32) setting_text sweep.settings (All-weaker IsSetting (λ s. Lacks 32 (setting_text s)) (setting_lacks 32 refl refl refl refl (lit< tt)) sweep.settings asked.asked.settings.sound))
+words_lack = all_lack 32 refl refl refl refl refl refl (lit< tt) refl
 
 pub plan_lacks : (sweep : Sweep) → IsAskedFor sweep → Lacks 34 (plan_text sweep)
 plan_lacks sweep asked =
-    let words : All (Lacks 34) (words_of sweep) =
-    All-cons (Lacks 34) (seeds_word sweep.seeds) (map setting_text sweep.settings) (seeds_lack 34 refl refl (lit< tt) asked.seeds sweep.seeds asked.asked.seeded)
-    (All-map (Lacks 34) setting_text sweep.settings (All-weaker IsSetting (λ s. Lacks 34 (setting_text s)) (setting_lacks 34 refl refl refl refl (lit< tt)) sweep.settings asked.asked.settings.sound)) in
-    subst (Lacks 34) (joined_is (seeds_word sweep.seeds) sweep.settings) (lacks_joined 34 32 (words_of sweep) refl words)
+    subst (Lacks 34) (joined_is sweep) (lacks_joined 34 32 (words_of sweep) refl (all_lack 34 refl refl refl refl refl refl (lit< tt) refl sweep asked))
 
 pub no_dash : (r : Seeds) (word : List ℕ) → IsRange word r → seeds_text r ≡ 45 ∷ [] → ⊥
 no_dash r word range same =
@@ -109,18 +144,75 @@ same_settings (s ∷ ss) (t ∷ ts) sound also same =
     let more = same_settings ss ts (All-tail IsSetting s ss sound) (All-tail IsSetting t ts also) rest in
     (λ i. one i ∷ more i)
 
+-- ---- no word of a setting says a width
+
+unnamed : key_named (codes "until") ≡ None
+unfolding settable key_named key_rules_of spelling_of
+unnamed = refl
+
+tabled_each : AllByRecursion (λ j. is_some j.table ≡ true) listed
+unfolding listed key_rules_of spelling_of
+tabled_each = (refl, (refl, (refl, (refl, (refl, (refl, (refl, (refl, (refl, (refl, (refl, (refl, (refl, (refl, tt))))))))))))))
+
+not_within : (c : ℕ) (xs ys : List ℕ) → Lacks c (xs ++ c ∷ ys) → ⊥
+not_within c [] ys lacks = let here : (c == c) ≡ false = All-head (λ x. (x == c) ≡ false) c ys lacks in grind (arith, nat_tests)
+not_within c (x ∷ xs) ys lacks = not_within c xs ys (All-tail (λ y. (y == c) ≡ false) x (xs ++ c ∷ ys) lacks)
+
+-- a key of a table has a dot in its name
+not_of_table : (table : Option FormatKey) (item : Option ItemName) (k : FormatKey) → is_some table ≡ true → key_name (record { table = table; item = item; key = k }) ≡ codes "until" → ⊥
+not_of_table None item k some same = absurd (false≢true some)
+not_of_table (Some t) item k some same =
+    not_within 46 (spelling_of t ++ item_part item) (spelling_of k)
+    (subst (Lacks 46) (sym same ∙ sym (append_assoc (spelling_of t) (item_part item) (46 ∷ spelling_of k))) (lacks_from_test 46 (codes "until") refl))
+
+not_until : (k : SettingKey) → MaySet k → key_name k ≡ codes "until" → ⊥
+not_until k (inl known) same =
+    let one : None ≡ Some k = sym unnamed ∙ ap key_named (sym same) ∙ named_itself k known in
+    cc
+not_until k (inr is) same =
+    not_of_table is.key.table (Some (kept_name is.name)) is.key.key
+    (All-contains (λ (j : SettingKey). is_some j.table ≡ true) listed is.key (All-from_recursion (λ (j : SettingKey). is_some j.table ≡ true) listed tabled_each) is.known)
+    (sym (ap key_name is.is) ∙ same)
+
+pub setting_says_none : (s : KeyValues) (value : List ℕ) → IsSetting s → setting_text s ≡ codes "until=" ++ value → ⊥
+setting_says_none s value sound same =
+    let parts = cut_once 61 (key_name s.key) (codes "until") (join_with_byte 44 (map value_text s.values)) value (name_lacks 61 refl refl s.key) (lacks_from_test 61 (codes "until") refl) same in
+    not_until s.key sound.key parts.0
+
+pub no_setting_says : (settings : List KeyValues) (value : List ℕ) (more : List (List ℕ)) → All IsSetting settings → map setting_text settings ≡ (codes "until=" ++ value) ∷ more → ⊥
+no_setting_says [] value more sound same = let none : 0 ≡ suc (length more) = ap length same in absurd (omega arith)
+no_setting_says (s ∷ settings) value more sound same =
+    let first : setting_text s ≡ codes "until=" ++ value = cc in
+    setting_says_none s value (All-head IsSetting s settings sound) first
+
+-- so the words behind that of the seeds are those of one width, or none, and of settings
+pub same_rest : (v u : Option ℕ) (ss : List KeyValues) (settings : List (List ℕ)) → ForSome v IsWidth → ForSome u (λ w. w < 2 ^ 64) → All IsSetting ss
+    → (u ≡ None → (value : List ℕ) (more : List (List ℕ)) → ¬ (settings ≡ (codes "until=" ++ value) ∷ more)) → until_words v ++ map setting_text ss ≡ until_words u ++ settings
+    → (v ≡ u) × (map setting_text ss ≡ settings)
+same_rest None None ss settings sound low all none same = (refl, same)
+same_rest (Some a) None ss settings sound low all none same = absurd (none refl (decimal a) (map setting_text ss) (sym same))
+same_rest None (Some w) ss settings sound low all none same = absurd (no_setting_says ss (decimal w) settings all same)
+same_rest (Some a) (Some w) ss settings sound low all none same =
+    let most = (sound a refl).most in
+    let first : until_word a ≡ until_word w = cc in
+    let rest : map setting_text ss ≡ settings = cc in
+    let digits : decimal a ≡ decimal w = append_cancel_left (codes "until=") (decimal a) (decimal w) first in
+    (ap Some (decimal_injective a w (omega (arith, most)) (low w refl) digits), rest)
+
 -- sweeps of the same words are one
 pub same_sweep : (s t : Sweep) → IsAskedFor s → IsAskedFor t → plan_text s ≡ plan_text t → s ≡ t
 same_sweep s t asked also same =
     let words : words_of s ≡ words_of t =
     sym (joined_split 32 (words_of s) (omega arith) (words_lack s asked))
-    ∙ ap (slice_split (λ byte. byte == 32)) (joined_is (seeds_word s.seeds) s.settings ∙ same ∙ sym (joined_is (seeds_word t.seeds) t.settings))
+    ∙ ap (slice_split (λ byte. byte == 32)) (joined_is s ∙ same ∙ sym (joined_is t))
     ∙ joined_split 32 (words_of t) (omega arith) (words_lack t also) in
     let first : seeds_word s.seeds ≡ seeds_word t.seeds = cc in
-    let rest : map setting_text s.settings ≡ map setting_text t.settings = cc in
+    let rest : until_words s.until ++ map setting_text s.settings ≡ until_words t.until ++ map setting_text t.settings = cc in
+    let parts = same_rest s.until t.until s.settings (map setting_text t.settings) asked.asked.width (λ w is. omega (arith, (also.asked.width w is).most)) asked.asked.settings.sound
+    (λ none value more is. no_setting_says t.settings value more also.asked.settings.sound is) rest in
     let seeds = same_seeds asked.seeds also.seeds s.seeds t.seeds asked.asked.seeded also.asked.seeded first in
-    let settings = same_settings s.settings t.settings asked.asked.settings.sound also.asked.settings.sound rest in
-    (λ i. record { settings = settings i; seeds = seeds i })
+    let settings = same_settings s.settings t.settings asked.asked.settings.sound also.asked.settings.sound parts.1 in
+    (λ i. record { settings = settings i; seeds = seeds i; until = parts.0 i })
 
 -- what two texts name that begin with the first lines of pieces
 pub record AreSameHeads (s t : Sweep) (p q : Piece) (x y : List ℕ) : Type 0 where

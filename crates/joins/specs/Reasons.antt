@@ -1,5 +1,5 @@
 -- Why texts aren't the pieces of one sweep.
-use Rattle.std.specs.Prelude.{◌≡◌, ◌⊎◌, ◌-◌, ◌<◌, ◌≤◌, ℕ, Bool, List, [], ◌++◌, Option, Some, None, All, Vec, length, slice_get, get_or}
+use Rattle.std.specs.Prelude.{◌≡◌, ◌⊎◌, ◌-◌, ◌<◌, ◌≤◌, ℕ, Bool, List, [], ◌∷◌, ◌++◌, Option, Some, None, All, Vec, codes, length, slice_get, get_or}
 use Rattle.std.specs.List.{flat_map}
 use Rattle.std.specs.Str.{IsUtf8}
 use Rattle.std.specs.declared.alloc.Global.{Global}
@@ -110,6 +110,10 @@ IsReason texts (fault.Torn place) = IsTorn texts place
 IsReason texts (fault.Missing number) = IsMissing texts number
 IsReason texts fault.Write = Unit {0}
 IsReason texts fault.Memory = Unit {0}
+
+-- the second of some words says this of a width
+abbrev pub SaysWidth : List (List ℕ) → List ℕ → Type 0
+SaysWidth words value = (first : List ℕ) × (more : List (List ℕ)) × (words ≡ first ∷ (codes "until=" ++ value) ∷ more)
 
 -- the name of a text tells of no piece, or memory was refused
 abbrev pub RefusesName : List ℕ → PlanFault → Type 0

@@ -1,5 +1,5 @@
 //! What the first line of a piece tells.
-ghost use Rattle.std.specs.Prelude.{◌≡◌, ◌==◌, ◌≤◌, ◌++◌, ◌∷◌, All, List, ℕ, Bool, None, Some, option_map, true, false, if◌then◌else◌, IfOk, IfErr, IfSome, IsNone, bytes_eq, codes, get_or, map};
+ghost use Rattle.std.specs.Prelude.{◌≡◌, ◌==◌, ◌≤◌, ◌++◌, ◌∷◌, All, List, ℕ, Bool, None, Some, option_map, true, false, if◌then◌else◌, IfOk, IfErr, IfSome, IsNone, bytes_eq, codes, get_or, length, map};
 ghost use Rattle.std.specs.List.{slice_split};
 ghost use Rattle.cases.specs.Sweep.{Sweep};
 ghost use Rattle.cases.specs.declared.fault.PlanFault.TheVariants as unread;
@@ -10,10 +10,11 @@ ghost use Rattle.sweep.specs.Runs.{IsAskedFor};
 ghost use Rattle.joins.specs.Joined.{IsMark};
 ghost use Rattle.sweep.specs.Pieces.{piece_header};
 ghost use Rattle.joins.specs.declared.fault.JoinFault.TheVariants as join;
-ghost use Rattle.joins.specs.Reasons.{BeginsAs, BeginsAsNone, RefusesName};
+ghost use Rattle.joins.specs.Reasons.{BeginsAs, BeginsAsNone, RefusesName, SaysWidth};
 
 use crate::fault::JoinFault;
 use cases::{Plan, PlanFault};
+use decimals::number;
 use pieces::Piece;
 use std::alloc::Global;
 use sweep::write_front;
@@ -150,7 +151,8 @@ pub(crate) fn number_of(text: &str) -> Option<u64>
     Some(piece.number)
 }
 
-/// The sweep that these words ask for: the range of its seeds, or a dash, and its settings.
+/// The sweep that these words ask for: the range of its seeds, or a dash, the width of its cases' intervals where it has one,
+/// and its settings.
 fn read_plan(alloc: Global, words: &str) -> Result<Plan, PlanFault>
     ensures asked { IfOk result IsAskedFor }
     ensures only { IfOk result (λ plan. (sweep : Sweep) → IsAskedFor sweep → words.now ≡ plan_text sweep → plan ≡ sweep) }
@@ -162,7 +164,39 @@ fn read_plan(alloc: Global, words: &str) -> Result<Plan, PlanFault>
     }
     let listed = all.as_slice();
     let first = first_or(listed, words);
-    Plan::read(alloc, &listed[1..], seeds_of(first))
+    let Some(word) = width_behind(listed) else {
+        return Plan::read(alloc, &listed[1..], seeds_of(first), None);
+    };
+    let Some(width) = number(word) else {
+        return Err(PlanFault::Words);
+    };
+    Plan::read(alloc, &listed[2..], seeds_of(first), Some(width))
+}
+
+/// What the word behind the first says of a width, where it does.
+fn width_behind<'a>(listed: &[&'a str]) -> Option<&'a str>
+    ensures some { IfSome result (λ value. SaysWidth (map (λ word. word.now) listed.now) value.now) }
+    ensures long { IfSome result (λ value. 2 ≤ length listed.now) }
+    ensures none { IsNone result → (value : List ℕ) → ¬ (SaysWidth (map (λ word. word.now) listed.now) value) }
+{
+    if listed.len() < 2 {
+        return None;
+    }
+    width_in(listed[1])
+}
+
+/// What a word says of a width, where it does: what stands behind `until=`.
+fn width_in<'a>(word: &'a str) -> Option<&'a str>
+    ensures some { IfSome result (λ value. word.entry.now ≡ codes "until=" ++ value.now) }
+    ensures none { IsNone result → (value : List ℕ) → ¬ (word.entry.now ≡ codes "until=" ++ value) }
+{
+    let Some((name, value)) = word.split_once('=') else {
+        return None;
+    };
+    if name != "until" {
+        return None;
+    }
+    Some(value)
 }
 
 /// The first of some words; another where there is none.

@@ -1,5 +1,6 @@
 -- By which name a piece tells which it is of which sweep.
 use Rattle.std.specs.Prelude.{ℕ, List, [], ◌∷◌, ◌++◌, Option, Some, None, codes, flat_map}
+use Rattle.std.specs.Fmt.{decimal}
 use Rattle.cases.specs.Sweep.{Sweep}
 use Rattle.cases.specs.Asked.{seeds_text, setting_text}
 use Rattle.cases.specs.declared.seeds.Seeds.{Seeds}
@@ -11,9 +12,14 @@ abbrev pub seeds_word : Option Seeds → List ℕ
 seeds_word None = codes "-"
 seeds_word (Some r) = seeds_text r
 
--- the words that ask for a sweep: that of its seeds, and a space before that of each setting
+-- the word of a width, in hundredths, and a space before it; nothing where there is none
+abbrev pub until_text : Option ℕ → List ℕ
+until_text None = []
+until_text (Some width) = codes " until=" ++ decimal width
+
+-- the words that ask for a sweep: that of its seeds, and a space before that of its width and of each setting
 abbrev pub plan_text : Sweep → List ℕ
-plan_text sweep = seeds_word sweep.seeds ++ flat_map (λ s. 32 ∷ setting_text s) sweep.settings
+plan_text sweep = seeds_word sweep.seeds ++ until_text sweep.until ++ flat_map (λ s. 32 ∷ setting_text s) sweep.settings
 
 -- The name of a piece: which it is, the mark of the scenario's text, and the words that ask for the sweep, with spaces between them
 abbrev pub piece_name : List ℕ → Sweep → Piece → List ℕ

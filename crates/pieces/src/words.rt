@@ -3,18 +3,20 @@ ghost use Rattle.std.specs.Prelude.{◌≡◌, ◌++◌, ◌∷◌, ◌==◌, []
 ghost use Rattle.std.specs.List.{join_with_byte};
 ghost use Rattle.cases.specs.Asked.{setting_text};
 ghost use Rattle.cases.specs.Values.{value_text};
-ghost use Rattle.pieces.specs.Names.{seeds_word, plan_text};
+ghost use Rattle.pieces.specs.Names.{seeds_word, until_text, plan_text};
 
 use base::Memory;
 use cases::{Plan, Seeds, Setting, SettingValue};
 use std::alloc::Global;
 
-/// The words that ask for a sweep: the range of its seeds, or a dash where it has none, and each key that is set with its
-/// values, with spaces between them, as `1..200 swim.period=200,300`.
+/// The words that ask for a sweep: the range of its seeds, or a dash where it has none, the width of its cases' intervals where
+/// it has one, and each key that is set with its values, with spaces between them, as
+/// `1..200 until=5 swim.period=200,300`. No key of a setting is named `until`.
 pub fn plan_text(alloc: Global, plan: &Plan) -> Result<String, Memory>
     ensures { IfOk result (λ text. string_bytes text ≡ plan_text plan.now) }
 {
     let mut text = seeds_word(alloc, plan.seeds())?;
+    push_width(alloc, &mut text, plan.until())?;
     push_settings(alloc, &mut text, plan.settings())?;
     Ok(text)
 }
@@ -30,6 +32,20 @@ fn seeds_word(alloc: Global, seeds: Option<Seeds>) -> Result<String, Memory>
             Ok(format!(in alloc; "{first}..{last}")?)
         }
         None => Ok(String::from_str(alloc, "-")?),
+    }
+}
+
+/// Adds a space and the word of the width, where there is one.
+fn push_width(alloc: Global, text: &mut String, until: Option<u64>) -> Result<(), Memory>
+    ensures { OnOk result (string_bytes text.new ≡ string_bytes text.old ++ until_text until) }
+{
+    match until {
+        Some(width) => {
+            let word = format!(in alloc; " until={width}")?;
+            text.push_str(word.as_str())?;
+            Ok(())
+        }
+        None => Ok(()),
     }
 }
 

@@ -26,7 +26,8 @@ planned_as chosen seeded = record { case = chosen; seed = seeded }
 pub record IsAskedFor (sweep : Sweep) : Type 0 where
   pub settings : List (List ℕ)
   pub seeds : Option (List ℕ)
-  pub asked : IsSweepOf settings seeds sweep
+  pub until : Option ℕ
+  pub asked : IsSweepOf settings seeds until sweep
 
 -- the seeds with which each case runs, from the first to the last
 abbrev pub seeds_of : Option Seeds → List (Option ℕ)
