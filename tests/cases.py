@@ -17,6 +17,7 @@ from pathlib import Path
 
 import commands
 import draws
+import large_pages
 import pages
 import pieces
 import presets
@@ -27,7 +28,7 @@ import writes
 from program import Program, Wrong
 
 BUILT = Path(__file__).resolve().parent.parent / 'crates' / 'swimsim' / 'out' / 'swimsim'
-KINDS = (worked, draws, texts, commands, presets, sweeps, pieces, pages, writes)
+KINDS = (worked, draws, texts, commands, presets, sweeps, pieces, pages, large_pages, writes)
 
 
 def failure_of(path, room, case):

@@ -1,4 +1,5 @@
-"""The page of a sweep, a second time: what `sweep --page` writes of the objects that `sweep --jsonl` prints.
+"""The page of a sweep, a second time: what `sweep --page` writes of the objects that `sweep --jsonl` prints, and of
+what `spread_of` adds to them.
 
 Written from docs/PAGES.md ("The page of a sweep"); how it looks is the style's, which isn't modelled but taken as it stands.
 """
@@ -7,13 +8,17 @@ import itertools
 from collections import namedtuple
 
 from model_drawing import axis_across, axis_up, cells, escaped, figure, grouped, place, plot
+from model_sweep_times import times_figure
 
-STATISTICS = ('First suspected: median', 'First confirmed: median to 99th', 'Last confirmed: median to greatest')
+# what the figures of keys show of a case, and how its 5th percentile, median and 95th percentile are called in its JSON object
+STATISTICS = (('First suspected', 'suspect'), ('First confirmed', 'confirm'), ('Last confirmed', 'last'))
 # so many cases are told in words, and so many lines drawn in a plot, at the most
 MOST_TOLD, MOST_LINES = 12, 8
 
 # a case: its figures, and where it is on the front, of those with a median
 Front = namedtuple('Front', 'median place')
+# how times spread: their 5th percentile, median and 95th percentile, each in ticks or None
+Spread = namedtuple('Spread', 'early median late')
 
 
 class Shown:
@@ -23,6 +28,7 @@ class Shown:
         self.suspected, self.confirmed = told['suspect_p50'], told['confirm_p50']
         self.late, self.latest = told['confirm_p99'], told['confirm_greatest']
         self.last, self.last_latest = told['last_p50'], told['last_greatest']
+        self.spreads = [Spread(*(told[f'{name}_p{percent}'] for percent in (5, 50, 95))) for _, name in STATISTICS]
         self.runs, self.runs_with = told['runs'], told['runs_with']
         self.false, self.messages = hundredths(told['false_suspect']), hundredths(told['messages'])
         self.low, self.high = round(10 * told['share_low']), round(10 * told['share_high'])
@@ -66,10 +72,11 @@ FOLDED_END = '</tbody></table></div></details></section>\n'
 # ---- The page ----
 
 class Page:
-    """The page of a sweep of these settings, with so many seeds, over the cases in their order."""
+    """The page of a sweep of these settings, with so many seeds, or at most so many, over the cases in their order."""
 
-    def __init__(self, settings, seeds, cases):
+    def __init__(self, settings, seeds, at_most, cases):
         self.settings, self.seeds, self.cases = settings, seeds, [Shown(told) for told in cases]
+        self.at_most, self.all_told = at_most, cases
         self.choices = list(itertools.product(*(values for _, values in settings)))
         on_front = [Front(case.confirmed, at) for at, case in enumerate(self.cases)
                     if case.is_best and case.confirmed is not None]
@@ -87,7 +94,7 @@ class Page:
 
     def summary(self):
         text = (f'<p class="soft">Settings tried: {grouped(len(self.choices))}. '
-                f'Seeds for each: {grouped(self.seeds)}.</p>\n')
+                f'Seeds for each: {"at most " if self.at_most else ""}{grouped(self.seeds)}.</p>\n')
         if not self.front:
             return text + '<p class="lead">No case confirms half of its crashes.</p>\n'
         text += ('<p class="lead">Take one of these. Each other setting that confirms half of its crashes is no faster and no '
@@ -149,6 +156,11 @@ class Page:
                                           percent(case.share), interval(case), rate(case.messages))) + '</tr>'
         return text + FOLDED_END
 
+    # how the times of those on the front spread
+
+    def times_figure(self):
+        return times_figure([(at + 1, self.name(at), self.all_told[at]) for _, at in self.front])
+
     # what each key changes
 
     def key_figures(self):
@@ -202,65 +214,74 @@ class KeyFigure:
         return self.page.told(self.at(line, value), self.nth) or 'all else as in the scenario'
 
     def text(self):
-        text = figure(f'key-{self.nth}', f'What {self.key} changes') + '<ul class="legend">'
+        text = figure(f'key-{self.nth}', f'What {self.key} changes')
+        text += ('<p class="soft">Up: ticks since the crash. Each dot is a median over all crashes of all runs, and its bar goes '
+                 "from the 5th to the 95th percentile. A crash that wasn't detected counts as later than any: where more than "
+                 "5&nbsp;% weren't, the bar goes to the top of the plot; where more than half weren't, there is no dot.</p>")
+        text += '<ul class="legend">'
         for line in self.lines:
             text += (f'<li><svg class="sample" viewBox="0 0 20 10" aria-hidden="true"><path class="path s{line}" d="M0 5H20"/></svg>'
                      f'<code>{self.other_keys(line, 0)}</code></li>')
         text += '</ul>'
         if self.others > MOST_LINES:
             text += f'<p class="soft">Not drawn are {grouped(self.others - MOST_LINES)} more; the table of all settings has them.</p>'
-        text += '<div class="many">' + ''.join(self.plot(*them) for them in zip(STATISTICS, MEDIANS, REACHES)) + '</div>'
+        text += '<div class="many">' + ''.join(self.plot(nth, title) for nth, (title, _) in enumerate(STATISTICS)) + '</div>'
         return text + self.table()
 
-    def plot(self, title, median, reach):
-        all_cases = [self.case(line, value) for line in self.lines for value in range(len(self.values))]
-        most = max([1] + [max(median(case) or 0, reach(case) or 0) for case in all_cases])
+    def plot(self, nth, statistic):
+        """The plot of a statistic; a sixteenth and a tick are free above the last time, where only bars without an end come to."""
+        title = f'{statistic}: median, 5th to 95th'
+        spreads = {(line, value): self.case(line, value).spreads[nth] for line in self.lines for value in range(len(self.values))}
+        last = max([1] + [time for spread in spreads.values() for time in spread if time is not None])
+        most = last + last // 16 + 1
         text = f'<div><h3>{title}</h3><div class="chart">' + axis_up(most, grouped) + '<div class="plane">'
         text += plot('lines', 32 * len(self.values), most, title,
-                     'Ticks since the crash against the values of the key, a line for each value of the others.')
-        text += ''.join(self.path(line, median, most) + self.marks(line, median, reach, most) for line in self.lines)
+                     'Ticks since the crash against the values of the key: a line of medians for each value of the others, and over '
+                     'each value a bar from the 5th to the 95th percentile, or to the top where more than 5 % of the crashes '
+                     "weren't detected.")
+        for line in self.lines:
+            over = [spreads[line, value] for value in range(len(self.values))]
+            text += self.path(line, over, most) + self.marks(line, over, most)
         text += '</svg></div><div class="values" aria-hidden="true">'
-        for nth, value in enumerate(self.values):
-            if nth % (len(self.values) // 8 + 1) == 0:
-                text += f'<span style="left:{place(32 * nth + 16, 32 * len(self.values))}">{word(value)}</span>'
+        for at, value in enumerate(self.values):
+            if at % (len(self.values) // 8 + 1) == 0:
+                text += f'<span style="left:{place(32 * at + 16, 32 * len(self.values))}">{word(value)}</span>'
         return text + '</div></div></div>'
 
     def across(self, line, value):
         return 32 * value + 16 - (len(self.lines) - 1) + 2 * line
 
-    def path(self, line, median, most):
+    def path(self, line, spreads, most):
         text, is_joined = f'<path class="path s{line}" d="', False
-        for value in range(len(self.values)):
-            ticks = median(self.case(line, value))
-            if ticks is not None:
-                text += f'{"L" if is_joined else "M"}{self.across(line, value)} {most - ticks}'
-            is_joined = ticks is not None
+        for value, (_, median, _) in enumerate(spreads):
+            if median is not None:
+                text += f'{"L" if is_joined else "M"}{self.across(line, value)} {most - median}'
+            is_joined = median is not None
         return text + '"/>'
 
-    def marks(self, line, median, reach, most):
+    def marks(self, line, spreads, most):
+        """A bar over each value, open to the top where the times have no 95th percentile, and a dot."""
         text = ''
-        for value in range(len(self.values)):
-            case, across = self.case(line, value), self.across(line, value)
-            if median(case) is not None:
-                end = most if reach(case) is None else reach(case)
-                text += (f'<path class="reach s{line}" d="M{across} {most - median(case)}V{most - end}"/>'
-                         f'<path class="mark s{line}" d="M{across} {most - median(case)}h0"/>')
+        for value, (early, median, late) in enumerate(spreads):
+            across = self.across(line, value)
+            if early is not None:
+                text += f'<path class="reach s{line}" d="M{across} {most - early}V{0 if late is None else most - late}"/>'
+            if median is not None:
+                text += f'<path class="mark s{line}" d="M{across} {most - median}h0"/>'
         return text
 
     def table(self):
-        text = folded('These figures in numbers', ('value', 'other keys', 'suspected, median', 'confirmed, median',
-                                                   'confirmed, 99th percentile', 'last confirmed, median',
-                                                   'last confirmed, greatest'))
+        suspected, confirmed, last = (tuple(f'{what}, {which}' for which in ('5th percentile', 'median', '95th percentile'))
+                                      for what in ('suspected', 'confirmed', 'last confirmed'))
+        text = folded('These figures in numbers', ('value', 'other keys', *suspected, *confirmed, 'confirmed, 99th percentile',
+                                                   *last, 'last confirmed, greatest'))
         for line in self.lines:
             for nth, value in enumerate(self.values):
                 case = self.case(line, nth)
-                times = (case.suspected, case.confirmed, case.late, case.last, case.last_latest)
+                suspected, confirmed, last = case.spreads
+                times = (*suspected, *confirmed, case.late, *last, case.last_latest)
                 text += '<tr>' + cells('td', (word(value), self.other_keys(line, nth), *map(time, times))) + '</tr>'
         return text + FOLDED_END
-
-
-MEDIANS = (lambda case: case.suspected, lambda case: case.confirmed, lambda case: case.last)
-REACHES = (lambda case: case.suspected, lambda case: case.late, lambda case: case.last_latest)
 
 
 def word(value):
@@ -268,12 +289,12 @@ def word(value):
     return str(value).lower()
 
 
-def page_of(name, release, style, settings, seeds, cases):
+def page_of(name, release, style, settings, seeds, at_most, cases):
     """The page of the sweep of a file of this name."""
-    page = Page(settings, seeds, cases)
+    page = Page(settings, seeds, at_most, cases)
     head = ('<!DOCTYPE html>\n<html lang="en"><head><meta charset="utf-8">'
             '<meta name="viewport" content="width=device-width,initial-scale=1">'
             f'<title>{escaped(name)} - swimsim sweep</title><style>{style}</style></head>\n'
             f'<body><main><header><h1>Which setting of {escaped(name)}?</h1></header>\n')
     end = f'<footer class="soft">swimsim {escaped(release)}</footer></main></body></html>\n'
-    return head + page.summary() + page.front_figure() + page.key_figures() + page.table() + end
+    return head + page.summary() + page.front_figure() + page.times_figure() + page.key_figures() + page.table() + end

@@ -6,6 +6,7 @@ from math import prod
 
 import texts
 from model_sweep_page import page_of
+from model_sweep_times import spread_of
 from model_sweeps import answer_text, cases_text, swept, table_of
 from program import Case, DATA, Wrong, expect, expect_ran
 from scenarios import document_of
@@ -35,11 +36,12 @@ def seeds_of(words):
 
 
 def expected_of(text, sweep):
-    """The table and the lines of a sweep, as the model gives them."""
+    """The table and the lines of a sweep, as the model gives them, and how the times of each case spread."""
     settings = settings_of(sweep['set'])
     _, cases = swept(document_of(text.encode()), settings, seeds_of(sweep.get('seeds')), until=sweep.get('until'))
     lines = cases_text(settings, cases) + answer_text(sweep.get('want', []), settings, cases)
-    return table_of(settings, cases).encode(), lines.encode()
+    spreads = [spread_of([figures for _, figures in runs]) for _, runs in cases]
+    return table_of(settings, cases).encode(), lines.encode(), spreads
 
 
 def runs_of(sweep, table):
@@ -89,7 +91,7 @@ def check(program, sweep):
         words += ['--want', want]
     if 'until' in sweep:
         words += ['--until', str(sweep['until'])]
-    by_model = expected_of(text, sweep)
+    *by_model, spreads = expected_of(text, sweep)
     table, lines = ((FOLDER / sweep[key]).read_bytes() if key in sweep else modelled
                     for key, modelled in zip(('table', 'lines'), by_model))
     expect('table by the model', by_model[0], table)
@@ -107,19 +109,21 @@ def check(program, sweep):
     objects = objects_of(lines, keys)
     expect_ran(program.call([*words, '--jsonl']), 0, objects, b'', 'objects ')
     expect('table beside objects', program.held('t.csv'), table)
-    check_page(program, [*words, '--page', 'p.html'], sweep, lines, objects)
+    check_page(program, [*words, '--page', 'p.html'], sweep, lines, objects, spreads)
     expect('table beside the page', program.held('t.csv'), table)
 
 
-def check_page(program, words, sweep, lines, objects):
-    """Compares the page of a sweep with the model's, over these objects of its cases; its style is taken as it stands."""
+def check_page(program, words, sweep, lines, objects, spreads):
+    """Compares the page of a sweep with the model's, over these objects of its cases, and how their times spread; its style
+    is taken as it stands."""
     expect_ran(program.call(words), 0, lines, b'', 'page ')
     page = program.held('p.html')
     style = page.partition(b'<style>')[2].partition(b'</style>')[0].decode()
     release = program.call(['--version']).out.split()[1].decode()
-    told = [json.loads(line) for line in objects.splitlines()]
+    told = [{**json.loads(line), **spread} for line, spread in zip(objects.splitlines(), spreads, strict=True)]
     seeds = len(seeds_of(sweep.get('seeds')) or [0])
-    expect('page', page, page_of('s.toml', release, style, settings_of(sweep['set']), seeds, told).encode())
+    wanted = page_of('s.toml', release, style, settings_of(sweep['set']), seeds, 'until' in sweep, told)
+    expect('page', page, wanted.encode())
 
 
 def cases():

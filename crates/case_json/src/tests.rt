@@ -2,17 +2,28 @@
 use super::case_objects;
 use answers::Want;
 use cases::Plan;
-use figures::CaseSummary;
+use figures::{CaseSummary, Histogram};
 use std::test::Fail;
 
 /// Three runs, of which members were thrown out in two; not all crashes were confirmed.
 const THREE_RUNS: CaseSummary = CaseSummary {
     runs: 3,
+    crashes: 6,
+    suspect_p5: Some(0),
     suspect_p50: Some(150),
+    suspect_p95: Some(200),
+    confirm_p5: Some(400),
     confirm_p50: Some(500),
+    confirm_p95: None,
     confirm_p99: None,
     confirm_greatest: None,
+    confirm_times: Histogram {
+        width: 26,
+        bins: [0, 0, 0, 0, 0, 0, 0, 0, 0, 0, 0, 0, 0, 0, 0, 2, 0, 0, 0, 2],
+    },
+    last_p5: Some(500),
     last_p50: Some(950),
+    last_p95: None,
     last_greatest: None,
     false_suspect: 133,
     thrown_out: 2,
@@ -26,11 +37,22 @@ const THREE_RUNS: CaseSummary = CaseSummary {
 /// One run that ends at moment 0.
 const ONE_RUN: CaseSummary = CaseSummary {
     runs: 1,
+    crashes: 0,
+    suspect_p5: None,
     suspect_p50: None,
+    suspect_p95: None,
+    confirm_p5: None,
     confirm_p50: None,
+    confirm_p95: None,
     confirm_p99: None,
     confirm_greatest: None,
+    confirm_times: Histogram {
+        width: 1,
+        bins: [0; 20],
+    },
+    last_p5: None,
     last_p50: None,
+    last_p95: None,
     last_greatest: None,
     false_suspect: 0,
     thrown_out: 0,

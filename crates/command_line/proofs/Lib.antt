@@ -1,3 +1,4 @@
 mod App
 mod Parts
 mod RunRows
+mod Widths

@@ -1,12 +1,13 @@
 -- The command that the words met, by its name and its rows.
-use Rattle.std.proofs.Common.{◌≡◌, ◌∙◌, ℕ, List, [], length, get_or, arith, Option, Some, None, IfSome, IsNone, Bor, option_map, sym, ap, ap₂, codes}
+use Rattle.std.proofs.Common.{◌≡◌, ◌∙◌, ℕ, List, [], get_or, arith, Option, Some, None, IfSome, IsNone, Bor, option_map, sym, ap, ap₂, codes}
 use Rattle.std.proofs.lemmas.Option.{none-some, same_Some}
 use Rattle.std.specs.Box.{box_value}
 use Rattle.clap.specs.Words.{Row, Text, first_of, found_of, rows_of, subcommand_name_of, subcommand_rows_of}
 use Rattle.presets.specs.Presets.{word_of}
 use Rattle.presets.specs.declared.preset.Preset.{Preset}
-use Rattle.command_line.specs.Words.{IsCheckIn, IsInitIn, IsJoinIn, IsSplitIn, IsSweepIn, NamesNoPreset}
+use Rattle.command_line.specs.Words.{IsCheckIn, IsInitIn, IsJoinIn, IsPageIn, IsSplitIn, IsSweepIn, Meets, NamesNoPreset}
 use Rattle.command_line.specs.declared.joining.JoinWords.{JoinWords}
+use Rattle.command_line.specs.declared.paging.PageWords.{PageWords}
 use Rattle.command_line.specs.declared.words.SweepWords.{SweepWords}
 use Rattle.command_line.specs.declared.words.Split.{Split}
 use Rattle.command_line.specs.declared.words.Split.TheVariants as split
@@ -60,37 +61,50 @@ not_both rows parts list p l split.Workers h = none-some parts (sym h.0 ∙ p)
 not_both rows parts list p l (split.Parts word) h = none-some list (sym h.1 ∙ l)
 not_both rows parts list p l (split.List word) h = none-some parts (sym h.0 ∙ p)
 
--- ---- a preset that there isn't
+-- ---- words that meet one command ask for no other
 
-abbrev name_length : Option (Text × List Row) → ℕ
-name_length None = 0
-name_length (Some met) = length met.0
+abbrev name_first : Option (Text × List Row) → ℕ
+name_first None = 0
+name_first (Some met) = get_or met.0 0 0
+
+-- two names that begin otherwise aren't those of one command
+apart : (met : Option (Text × List Row)) (name other : Text) (rows given : List Row) → met ≡ Some (name, rows) → met ≡ Some (other, given)
+    → get_or name 0 0 ≡ get_or other 0 0
+apart met name other rows given is was = ap name_first (sym is ∙ was)
 
 abbrev rows_met : Option (Text × List Row) → List Row
 rows_met None = []
 rows_met (Some met) = met.1
 
--- `init` is no sweep
-init_no_sweep : (met : Option (Text × List Row)) (rows given : List Row) → met ≡ Some (codes "init", rows) → met ≡ Some (codes "sweep", given) → ⊥
-init_no_sweep met rows given init sweep =
-    let lengths : name_length (Some (codes "init", rows)) ≡ name_length (Some (codes "sweep", given)) = ap name_length (sym init ∙ sweep) in
-    omega (arith, lengths)
-
 -- words that name no preset ask for no sweep, and for no preset's scenario
 pub no_preset_no_sweep : (met : Option (Text × List Row)) → NamesNoPreset met → (sweep : SweepWords) → IsSweepIn met sweep → ⊥
-no_preset_no_sweep met names sweep h = init_no_sweep met names.rows h.rows names.met_init h.met_sweep
-
--- nor for pieces to be joined
-abbrev name_first : Option (Text × List Row) → ℕ
-name_first None = 0
-name_first (Some met) = get_or met.0 0 0
-
-pub no_preset_no_join : (met : Option (Text × List Row)) → NamesNoPreset met → (join : JoinWords) → IsJoinIn met join → ⊥
-no_preset_no_join met names join h =
-    let letter : name_first (Some (codes "init", names.rows)) ≡ name_first (Some (codes "join", h.rows)) = ap name_first (sym names.met_init ∙ h.met_join) in
+no_preset_no_sweep met names sweep h =
+    let letter = apart met (codes "init") (codes "sweep") names.rows h.rows names.met_init h.met_sweep in
     omega (arith, letter)
 
 pub no_preset_no_init : (met : Option (Text × List Row)) → NamesNoPreset met → (preset : Preset) → IsInitIn met preset → ⊥
 no_preset_no_init met names preset h =
     let same : h.rows ≡ names.rows = ap rows_met (sym h.met_init ∙ names.met_init) in
     names.unknown preset (same_Some (word_of preset) names.word (sym h.named ∙ (ap (first_of (codes "PRESET")) same ∙ names.given)))
+
+-- nor for pieces to be joined, nor for a page of them
+pub no_preset_no_join : (met : Option (Text × List Row)) → NamesNoPreset met → (join : JoinWords) → IsJoinIn met join → ⊥
+no_preset_no_join met names join h =
+    let letter = apart met (codes "init") (codes "join") names.rows h.rows names.met_init h.met_join in
+    omega (arith, letter)
+
+pub no_preset_no_page : (met : Option (Text × List Row)) → NamesNoPreset met → (page : PageWords) → IsPageIn met page → ⊥
+no_preset_no_page met names page h =
+    let letter = apart met (codes "init") (codes "page") names.rows h.rows names.met_init h.met_page in
+    omega (arith, letter)
+
+-- words that meet `join` ask for no page, and for no sweep
+pub no_join_no_page : (met : Option (Text × List Row)) → Meets (codes "join") met → (page : PageWords) → IsPageIn met page → ⊥
+no_join_no_page met meets page h =
+    let letter = apart met (codes "join") (codes "page") meets.0 h.rows meets.1 h.met_page in
+    omega (arith, letter)
+
+pub no_join_no_sweep : (met : Option (Text × List Row)) → Meets (codes "join") met → (sweep : SweepWords) → IsSweepIn met sweep → ⊥
+no_join_no_sweep met meets sweep h =
+    let letter = apart met (codes "join") (codes "sweep") meets.0 h.rows meets.1 h.met_sweep in
+    omega (arith, letter)

@@ -7,7 +7,7 @@ use Rattle.decimals.specs.Items.{list_items}
 use Rattle.scenario.specs.Division.{Deal}
 use Rattle.scenario.specs.declared.division.DivisionFault.{DivisionFault}
 use Rattle.scenario.specs.declared.division.DivisionFault.TheVariants as fault
-use Rattle.command_line.specs.Numbers.{IsNumber}
+use Rattle.arguments.specs.Numbers.{IsNumber}
 use Rattle.command_line.specs.declared.words.Split.{Split}
 use Rattle.command_line.specs.declared.words.Split.TheVariants as split
 

@@ -1,13 +1,8 @@
 -- What words ask for, as `clap` reads them by the commands below.
-use Rattle.std.specs.Prelude.{◌≡◌, ◌≢◌, ◌≤◌, ◌⊎◌, ◌&&◌, ℕ, List, Option, Some, None, [], Bool, true, false, not, codes, is_none, map, option_map, unwrap_or}
-use Rattle.std.specs.Option.{ForSome}
-use Rattle.std.specs.Str.{bytes_eq}
+use Rattle.std.specs.Prelude.{◌≡◌, ◌≢◌, ◌⊎◌, ◌&&◌, ◌||◌, ℕ, List, Option, Some, None, [], Bool, true, not, codes, is_none, is_some, map, option_map, unwrap_or}
 use Rattle.clap.specs.Lexer.{usize_max}
-use Rattle.clap.specs.Words.{App, Row, Rule, Text, app_of, new_app, new_rule, with_rule, with_subcommand}
+use Rattle.clap.specs.Words.{App, Row, Rule, Text, new_app, new_rule, with_rule, with_subcommand}
 use Rattle.clap.specs.Words.{all_of, first_of, fault_of, subcommand_of, kind_of, IsAmong}
-use Rattle.clap.specs.declared.builder.command.Command.{Command}
-use Rattle.clap.specs.declared.builder.command.Command.TheViews.{out-Command}
-use Rattle.clap.specs.declared.builder.action.ArgAction.TheVariants.{Append, SetTrue}
 use Rattle.clap.specs.declared.error.kind.ErrorKind.{ErrorKind}
 use Rattle.clap.specs.declared.error.kind.ErrorKind.TheVariants.{DisplayHelp, DisplayVersion}
 use Rattle.cases.specs.Sweep.{Sweep as Planned}
@@ -18,31 +13,17 @@ use Rattle.pieces.specs.Pieces.{IsPieceWord}
 use Rattle.pieces.specs.declared.piece.Piece.{Piece}
 use Rattle.presets.specs.Presets.{word_of}
 use Rattle.presets.specs.declared.preset.Preset.{Preset}
-use Rattle.command_line.specs.Numbers.{IsNumber}
+use Rattle.decimals.specs.Numbers.{IsDecimal}
+use Rattle.arguments.specs.Rules.{file_rule, flag_rule, is_given, option_rule, repeated_rule, required_rule}
 use Rattle.command_line.specs.declared.words.Asked.{Asked}
-use Rattle.command_line.specs.declared.words.Asked.TheVariants.{Run, Check, Explain, Sweep, Init, Join, Help, Version}
+use Rattle.command_line.specs.declared.words.Asked.TheVariants.{Run, Check, Explain, Sweep, Init, Join, Page, Help, Version}
 use Rattle.command_line.specs.declared.explaining.ExplainWords.{ExplainWords}
 use Rattle.command_line.specs.declared.joining.JoinWords.{JoinWords}
+use Rattle.command_line.specs.declared.paging.PageWords.{PageWords}
 use Rattle.command_line.specs.declared.words.RunWords.{RunWords}
 use Rattle.command_line.specs.declared.words.SweepWords.{SweepWords}
 use Rattle.command_line.specs.declared.words.Split.{Split}
 use Rattle.command_line.specs.declared.words.Split.TheVariants as split
-
--- the scenario's file
-abbrev pub file_rule : Rule
-file_rule = record (new_rule (codes "FILE")) { required = true }
-
--- an option with one value, which may be left out
-abbrev pub option_rule : Text → Rule
-option_rule name = record (new_rule name) { long = Some name; value_names = 1 }
-
--- one that must be given
-abbrev pub required_rule : Text → Rule
-required_rule name = record (option_rule name) { required = true }
-
--- one that may be given any number of times, with a value each time
-abbrev pub repeated_rule : Text → Rule
-repeated_rule name = record (option_rule name) { action = Some Append }
 
 -- a command, and what says which files a run is written to: the option --trace, which is required; --report and --page
 abbrev pub with_outputs : App → App
@@ -56,17 +37,13 @@ with_parting app =
     let worked = with_rule app (option_rule (codes "workers")) in
     with_rule (with_rule worked (option_rule (codes "parts"))) (option_rule (codes "division"))
 
--- the command `run`: a file, which is required, the options of where it is written and those of who runs it
+-- the command `run`: a file, which is required, the options of where it is written and those of who runs it, and the flag --progress
 abbrev pub run_app : App
-run_app = with_parting (with_outputs (with_rule (new_app (codes "run")) file_rule))
+run_app = with_rule (with_parting (with_outputs (with_rule (new_app (codes "run")) file_rule))) (flag_rule (codes "progress"))
 
 -- the command `check`: a file
 abbrev pub check_app : App
 check_app = with_rule (new_app (codes "check")) file_rule
-
--- a flag, which takes no value and may be left out
-abbrev pub flag_rule : Text → Rule
-flag_rule name = record (new_rule name) { long = Some name; action = Some SetTrue }
 
 -- the command `explain`: a file, and the flag --json
 abbrev pub explain_app : App
@@ -87,23 +64,30 @@ with_runs app =
     let sharded = with_rule cased (option_rule (codes "shard")) in
     with_rule (with_rule sharded (flag_rule (codes "resume"))) (option_rule (codes "workers"))
 
--- and what says what is told of them: the option --want, which may stand more than once; the flags --progress and --jsonl; and the option --page
+-- a command, and what says what is told of the cases of a sweep: the option --want, which may stand more than once; the flag --jsonl; and the
+-- option --page
 abbrev pub with_telling : App → App
 with_telling app =
     let wanted = with_rule app (repeated_rule (codes "want")) in
-    with_rule (with_rule (with_rule wanted (flag_rule (codes "progress"))) (flag_rule (codes "jsonl"))) (option_rule (codes "page"))
+    with_rule (with_rule wanted (flag_rule (codes "jsonl"))) (option_rule (codes "page"))
 
--- the command `sweep`: a file, which is required, the options of its runs and those of what is told of them
+-- the command `sweep`: a file, which is required, the options of its runs and those of what is told of its cases, and the flag --progress
 abbrev pub sweep_app : App
-sweep_app = with_telling (with_runs (with_rule (new_app (codes "sweep")) file_rule))
+sweep_app = with_rule (with_telling (with_runs (with_rule (new_app (codes "sweep")) file_rule))) (flag_rule (codes "progress"))
 
 -- the files of pieces: one or more
 abbrev pub pieces_rule : Rule
 pieces_rule = record (new_rule (codes "PIECE")) { required = true; range = Some (record { start_inclusive = 1; end_inclusive = usize_max }) }
 
--- the command `join`: files of pieces and the option --table, both required
+-- the command `join`: files of pieces and the option --table, both required, the options of what is told of the cases, and the option --name
 abbrev pub join_app : App
-join_app = with_rule (with_rule (new_app (codes "join")) pieces_rule) (required_rule (codes "table"))
+join_app =
+    let tabled = with_rule (with_rule (new_app (codes "join")) pieces_rule) (required_rule (codes "table")) in
+    with_rule (with_telling tabled) (option_rule (codes "name"))
+
+-- the command `page`: files of pieces and the option --out, both required, and the option --name
+abbrev pub page_app : App
+page_app = with_rule (with_rule (with_rule (new_app (codes "page")) pieces_rule) (required_rule (codes "out"))) (option_rule (codes "name"))
 
 -- the command `init`: the name of a preset
 abbrev pub preset_rule : Rule
@@ -121,11 +105,11 @@ abbrev pub swimsim_app : App
 swimsim_app =
     let checked = with_subcommand (with_subcommand bare_app run_app.top) check_app.top in
     let swept = with_subcommand (with_subcommand checked explain_app.top) sweep_app.top in
-    with_subcommand (with_subcommand swept init_app.top) join_app.top
+    with_subcommand (with_subcommand (with_subcommand swept init_app.top) join_app.top) page_app.top
 
--- what `clap` knows as this, with no argument that holds for what stands below it
-abbrev pub IsLocal : App → Command → Type 0
-IsLocal app command = (app_of command ≡ app) × ((out-Command command).has_globals ≡ false)
+-- the command that was met has this name
+abbrev pub Meets : Text → Option (Text × List Row) → Type 0
+Meets name met = (rows : List Row) × (met ≡ Some (name, rows))
 
 -- how the members are to be divided: by --parts, by --division or, with neither, by the number of workers
 abbrev pub IsSplitIn : List Row → Split → Type 0
@@ -143,17 +127,13 @@ pub record IsRunIn (met : Option (Text × List Row)) (run : RunWords) : Type 0 w
   pub page : first_of (codes "page") rows ≡ option_map (λ word. word.now) run.page
   pub workers : first_of (codes "workers") rows ≡ option_map (λ word. word.now) run.workers
   pub divided : IsSplitIn rows run.split
+  pub progress : is_given (first_of (codes "progress") rows) ≡ run.progress
 
 -- the command that was met is `check`, with this file
 pub record IsCheckIn (met : Option (Text × List Row)) (file : Text) : Type 0 where
   pub rows : List Row
   pub met_check : met ≡ Some (codes "check", rows)
   pub named : first_of (codes "FILE") rows ≡ Some file
-
--- a flag that was given has the value "true"
-abbrev pub is_given : Option Text → Bool
-is_given None = false
-is_given (Some word) = bytes_eq word (codes "true")
 
 -- the command that was met is `explain`, with these words
 pub record IsExplainIn (met : Option (Text × List Row)) (explain : ExplainWords) : Type 0 where
@@ -162,18 +142,19 @@ pub record IsExplainIn (met : Option (Text × List Row)) (explain : ExplainWords
   pub file : first_of (codes "FILE") rows ≡ Some explain.file.now
   pub json : is_given (first_of (codes "json") rows) ≡ explain.json
 
--- The words of all settings, in their order, and that of the seeds, if there is one, ask for this plan. Words that ask for none, as a
--- key that stands twice, make no sweep.
-abbrev pub IsPlanIn : List Row → Planned → Type 0
-IsPlanIn rows plan = IsSweepOf (unwrap_or (all_of (codes "set") rows) []) (first_of (codes "seeds") rows) plan
-
--- how wide, in hundredths, the interval of a case may be for it to get no more seeds: the number that the word is, 1 to 100; nothing is said
--- of it where there is no word
+-- the word is the number of hundredths that the interval of a case may be wide for it to get no more seeds; nothing is said of it where there
+-- is no word
 abbrev pub AsksForWidth : Option Text → Option ℕ → Type 0
 AsksForWidth None None = Unit {0}
 AsksForWidth None (Some width) = ⊥
 AsksForWidth (Some word) None = ⊥
-AsksForWidth (Some word) (Some width) = IsNumber 1 100 word width
+AsksForWidth (Some word) (Some width) = IsDecimal word width
+
+-- The words of all settings, in their order, that of the seeds and that of the width, if there are any, ask for this plan. Words that ask for
+-- none, as a key that stands twice, make no sweep.
+pub record IsPlanIn (rows : List Row) (plan : Planned) : Type 0 where
+  pub width : AsksForWidth (first_of (codes "until") rows) plan.until
+  pub planned : IsSweepOf (unwrap_or (all_of (codes "set") rows) []) (first_of (codes "seeds") rows) plan.until plan
 
 -- this piece is asked for; none, and so the whole, where there is no word
 abbrev pub AsksForPiece : Option Text → Option Piece → Type 0
@@ -182,10 +163,10 @@ AsksForPiece None (Some p) = ⊥
 AsksForPiece (Some word) None = ⊥
 AsksForPiece (Some word) (Some p) = IsPieceWord word p
 
--- only a piece goes on where it was cut off, and only a whole sweep tells its cases, has a page and may give a case fewer seeds
+-- only a piece goes on where it was cut off, and only one whose cases get all seeds; and only a whole sweep tells its cases and has a page
 abbrev pub go_together : Option Text → Option Text → Option Text → Bool → Bool → Bool
 go_together None page until resume jsonl = not resume
-go_together (Some piece) page until resume jsonl = is_none page && (is_none until && not jsonl)
+go_together (Some piece) page until resume jsonl = is_none page && (not jsonl && (is_none until || not resume))
 
 -- the words go together
 abbrev pub have_sense : List Row → Bool
@@ -204,9 +185,6 @@ pub record IsSweepIn (met : Option (Text × List Row)) (sweep : SweepWords) : Ty
   pub file : first_of (codes "FILE") rows ≡ Some sweep.file.now
   pub table : first_of (codes "table") rows ≡ Some sweep.table.now
   pub plan : IsPlanIn rows sweep.plan
-  pub until : AsksForWidth (first_of (codes "until") rows) sweep.until
-  pub least : ForSome sweep.until (λ width. 1 ≤ width)
-  pub most : ForSome sweep.until (λ width. width ≤ 100)
   pub piece : AsksForPiece (first_of (codes "shard") rows) sweep.piece
   pub wants : AreWantsIn rows sweep.wants.items
   pub workers : first_of (codes "workers") rows ≡ option_map (λ word. word.now) sweep.workers
@@ -230,12 +208,29 @@ pub record NamesNoPreset (met : Option (Text × List Row)) : Type 0 where
   pub given : first_of (codes "PRESET") rows ≡ Some word
   pub unknown : (preset : Preset) → ¬ (word_of preset ≡ word)
 
+-- a name for the scenario is told where there is a page that takes it
+abbrev pub may_name : Option Text → Option Text → Bool
+may_name page name = is_none name || is_some page
+
 -- the command that was met is `join`, with these words
 pub record IsJoinIn (met : Option (Text × List Row)) (join : JoinWords) : Type 0 where
   pub rows : List Row
   pub met_join : met ≡ Some (codes "join", rows)
   pub files : map (λ word. word.now) join.files.items ≡ unwrap_or (all_of (codes "PIECE") rows) []
   pub table : first_of (codes "table") rows ≡ Some join.table.now
+  pub wants : AreWantsIn rows join.wants.items
+  pub jsonl : is_given (first_of (codes "jsonl") rows) ≡ join.jsonl
+  pub page : first_of (codes "page") rows ≡ option_map (λ word. word.now) join.page
+  pub name : first_of (codes "name") rows ≡ option_map (λ word. word.now) join.name
+  pub sense : may_name (first_of (codes "page") rows) (first_of (codes "name") rows) ≡ true
+
+-- the command that was met is `page`, with these words
+pub record IsPageIn (met : Option (Text × List Row)) (wish : PageWords) : Type 0 where
+  pub rows : List Row
+  pub met_page : met ≡ Some (codes "page", rows)
+  pub files : map (λ word. word.now) wish.files.items ≡ unwrap_or (all_of (codes "PIECE") rows) []
+  pub page : first_of (codes "out") rows ≡ Some wish.page.now
+  pub name : first_of (codes "name") rows ≡ option_map (λ word. word.now) wish.name
 
 -- the words have no fault, and ask for this run
 abbrev pub AsksForRun : List Text → RunWords → Type 0
@@ -265,6 +260,10 @@ AsksForInit words preset = (fault_of swimsim_app words ≡ []) × IsInitIn (subc
 abbrev pub AsksForJoin : List Text → JoinWords → Type 0
 AsksForJoin words join = (fault_of swimsim_app words ≡ []) × IsJoinIn (subcommand_of swimsim_app words) join
 
+-- the words have no fault, and ask for this page
+abbrev pub AsksForPage : List Text → PageWords → Type 0
+AsksForPage words page = (fault_of swimsim_app words ≡ []) × IsPageIn (subcommand_of swimsim_app words) page
+
 -- the words ask for help
 abbrev pub AsksForHelp : List Text → Type 0
 AsksForHelp words = IsAmong DisplayHelp (fault_of swimsim_app words)
@@ -281,15 +280,16 @@ Answers words (Explain explain) = AsksForExplain words explain
 Answers words (Sweep sweep) = AsksForSweep words sweep
 Answers words (Init preset) = AsksForInit words preset
 Answers words (Join join) = AsksForJoin words join
+Answers words (Page page) = AsksForPage words page
 Answers words (Help help) = (kind_of help ≡ DisplayHelp) × AsksForHelp words
 Answers words Version = AsksForVersion words
 
--- the words have no fault, but ask for no run, no check, no explanation, no sweep, no preset's scenario and no joining
+-- the words have no fault, but ask for no run, no check, no explanation, no sweep, no preset's scenario, no joining and no page
 abbrev pub AsksForNone : List Text → Type 0
 AsksForNone words = (fault_of swimsim_app words ≡ []) × ((run : RunWords) → ¬ (AsksForRun words run))
     × ((file : Text) → ¬ (AsksForCheck words file)) × ((explain : ExplainWords) → ¬ (AsksForExplain words explain))
     × ((sweep : SweepWords) → ¬ (AsksForSweep words sweep)) × ((preset : Preset) → ¬ (AsksForInit words preset))
-    × ((join : JoinWords) → ¬ (AsksForJoin words join))
+    × ((join : JoinWords) → ¬ (AsksForJoin words join)) × ((page : PageWords) → ¬ (AsksForPage words page))
 
 -- the words have a fault that is no wish for help or for the version, or none but ask for nothing else that there is
 abbrev pub IsNoCommand : List Text → Type 0
@@ -299,10 +299,10 @@ IsNoCommand words = ((kind : ErrorKind) × (kind ≢ DisplayHelp) × (kind ≢ D
 abbrev pub AsksForNoPreset : List Text → Type 0
 AsksForNoPreset words = NamesNoPreset (subcommand_of swimsim_app words) × AsksForNone words
 
--- the words ask for a run, a check, an explanation, a sweep, a preset's scenario, a joining, help or the version
+-- the words ask for a run, a check, an explanation, a sweep, a preset's scenario, a joining, a page, help or the version
 abbrev pub IsCommand : List Text → Type 0
 IsCommand words = ((run : RunWords) × AsksForRun words run) ⊎ (((file : Text) × AsksForCheck words file)
     ⊎ (((explain : ExplainWords) × AsksForExplain words explain)
     ⊎ (((sweep : SweepWords) × AsksForSweep words sweep)
     ⊎ (((preset : Preset) × AsksForInit words preset) ⊎ (((join : JoinWords) × AsksForJoin words join)
-    ⊎ (AsksForHelp words ⊎ AsksForVersion words))))))
+    ⊎ (((page : PageWords) × AsksForPage words page) ⊎ (AsksForHelp words ⊎ AsksForVersion words)))))))

@@ -1,14 +1,16 @@
 //! The program's commands, as `clap` knows them.
 ghost use Rattle.std.specs.Prelude.{◌≡◌, IfOk};
 ghost use Rattle.clap.specs.Words.{app_of};
-ghost use Rattle.command_line.specs.Words.{check_app, swimsim_app, IsLocal};
+ghost use Rattle.arguments.specs.Rules.{IsLocal};
+ghost use Rattle.command_line.specs.Words.{check_app, swimsim_app};
 
-use crate::arguments::with_file;
 use crate::explaining::explain_command;
 use crate::initial::init_command;
 use crate::joining::join_command;
+use crate::paging::page_command;
 use crate::running::run_command;
 use crate::sweeping::sweep_command;
+use arguments::{new_command, with_file};
 use clap::Command;
 use std::alloc::{AllocError, Global};
 
@@ -28,15 +30,14 @@ pub(crate) fn program_command<'a>(alloc: Global) -> Result<Command<'a>, AllocErr
         .subcommand(explain_command(alloc)?)?
         .subcommand(sweep_command(alloc)?)?
         .subcommand(init_command(alloc)?)?
-        .subcommand(join_command(alloc)?)
+        .subcommand(join_command(alloc)?)?
+        .subcommand(page_command(alloc)?)
 }
 
 /// The command `check`.
 fn check_command<'a>(alloc: Global) -> Result<Command<'a>, AllocError>
     ensures { IfOk result (IsLocal check_app) }
 {
-    with_file(
-        alloc,
-        Command::new(alloc, "check").about("Reads a scenario, and prints how many members it has"),
-    )
+    let about = "Reads a scenario, and prints how many members it has";
+    with_file(alloc, new_command(alloc, "check", about))
 }

@@ -8,8 +8,8 @@ ghost use Rattle.command_line.specs.Division.{AreParts, AsksForWorkers, Divides,
 ghost use Rattle.command_line.specs.Failures.{IsFaultOf, RefusesDivision, RefusesItems, RefusesList, RefusesWorkers};
 
 use crate::failure::Failure;
-use crate::numbers::number_within;
 use crate::words::Split;
+use arguments::number_within;
 use scenario::{Division, DivisionFault, Scenario, Workers};
 use std::alloc::{AllocError, Global};
 

@@ -2,10 +2,10 @@
 ghost use Rattle.std.specs.Prelude.{◌≡◌, IfOk, IfSome, IsNone};
 ghost use Rattle.clap.specs.Words.{subcommand_rows_of};
 ghost use Rattle.command_line.specs.declared.explaining.ExplainWords.{ExplainWords as Wondered};
-ghost use Rattle.command_line.specs.Words.{explain_app, IsExplainIn, IsLocal};
+ghost use Rattle.arguments.specs.Rules.{IsLocal};
+ghost use Rattle.command_line.specs.Words.{explain_app, IsExplainIn};
 
-use crate::arguments::{with_file, with_flag};
-use crate::words::{is_given, value_of};
+use arguments::{is_given, new_command, value_of, with_file, with_flag};
 use clap::{ArgMatches, Command};
 use std::alloc::{AllocError, Global};
 
@@ -22,12 +22,9 @@ pub struct ExplainWords<'a> {
 pub(crate) fn explain_command<'a>(alloc: Global) -> Result<Command<'a>, AllocError>
     ensures { IfOk result (IsLocal explain_app) }
 {
-    let filed = with_file(
-        alloc,
-        Command::new(alloc, "explain").about(
-            "Tells all mistakes of a scenario that is refused, or what one that is accepted means",
-        ),
-    )?;
+    let about =
+        "Tells all mistakes of a scenario that is refused, or what one that is accepted means";
+    let filed = with_file(alloc, new_command(alloc, "explain", about))?;
     with_flag(
         alloc,
         filed,

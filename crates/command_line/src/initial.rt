@@ -2,10 +2,11 @@
 ghost use Rattle.std.specs.Prelude.{◌≡◌, Some, IfOk, IfErr, IfSome, IsNone, false};
 ghost use Rattle.clap.specs.Words.{App, rule_of, subcommand_rows_of, with_rule};
 ghost use Rattle.presets.specs.declared.preset.Preset.{Preset as Wanted};
-ghost use Rattle.command_line.specs.Words.{init_app, preset_rule, IsInitIn, IsLocal, NamesNoPreset};
+ghost use Rattle.arguments.specs.Rules.{IsLocal};
+ghost use Rattle.command_line.specs.Words.{init_app, preset_rule, IsInitIn, NamesNoPreset};
 
 use crate::failure::Failure;
-use crate::words::value_of;
+use arguments::{new_command, value_of};
 use clap::{Arg, ArgMatches, Command};
 use presets::Preset;
 use std::alloc::{AllocError, Global};
@@ -14,12 +15,8 @@ use std::alloc::{AllocError, Global};
 pub(crate) fn init_command<'a>(alloc: Global) -> Result<Command<'a>, AllocError>
     ensures { IfOk result (IsLocal init_app) }
 {
-    with_preset(
-        alloc,
-        Command::new(alloc, "init").about(
-            "Prints a scenario to begin with, with a comment on each key",
-        ),
-    )
+    let about = "Prints a scenario to begin with, with a comment on each key";
+    with_preset(alloc, new_command(alloc, "init", about))
 }
 
 /// A command with the name of a preset more.

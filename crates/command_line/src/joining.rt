@@ -1,12 +1,14 @@
 //! The command `join`: what it takes, and what its words ask for.
-ghost use Rattle.std.specs.Prelude.{◌≡◌, ℕ, Some, IfOk, IfErr, IfSome, IsNone, false};
-ghost use Rattle.clap.specs.Words.{App, rule_of, subcommand_rows_of, with_rule};
+ghost use Rattle.std.specs.Prelude.{◌≡◌, ◌⊎◌, ℕ, Some, map, unwrap_or, IfOk, IfErr, IfSome, IsErrOf, IsNone, [], codes, false};
+ghost use Rattle.clap.specs.Words.{App, all_of, first_of, found_of, rows_of, rule_of, subcommand_rows_of, with_rule};
+ghost use Rattle.arguments.specs.Rules.{IsLocal};
 ghost use Rattle.command_line.specs.declared.joining.JoinWords.{JoinWords as Wished};
-ghost use Rattle.command_line.specs.Words.{join_app, pieces_rule, IsJoinIn, IsLocal};
+ghost use Rattle.command_line.specs.Words.{join_app, may_name, pieces_rule, IsJoinIn, Meets};
 
-use crate::arguments::with_required;
 use crate::failure::Failure;
-use crate::words::{value_of, values_of};
+use crate::telling::{wants_asked, with_telling};
+use answers::Want;
+use arguments::{is_given, new_command, value_of, values_of, with_option, with_required};
 use clap::{Arg, ArgMatches, Command};
 use std::alloc::{AllocError, Global};
 
@@ -17,29 +19,44 @@ pub struct JoinWords<'a> {
     pub files: Vec<&'a str>,
     /// The name of the file that takes the table.
     pub table: &'a str,
+    /// What is wanted of the cases.
+    pub wants: Vec<Want<'a>>,
+    /// Whether the cases are told as JSON, an object a line, in place of aligned columns.
+    pub jsonl: bool,
+    /// The name of the file that takes the page, where one is asked for.
+    pub page: Option<&'a str>,
+    /// What the page calls the scenario, where that is said. Never without a page.
+    pub name: Option<&'a str>,
 }
 
 /// The command `join`.
 pub(crate) fn join_command<'a>(alloc: Global) -> Result<Command<'a>, AllocError>
     ensures { IfOk result (IsLocal join_app) }
 {
-    let filed = with_pieces(
-        alloc,
-        Command::new(alloc, "join").about(
-            "Puts the pieces of a sweep together, and writes the table of the whole",
-        ),
-    )?;
-    with_required(
+    let about = "Puts the pieces of a sweep together, and writes the table of the whole";
+    let filed = with_pieces(alloc, new_command(alloc, "join", about))?;
+    let tabled = with_required(
         alloc,
         filed,
         "table",
         "T",
         "The file that takes the table; one that is there is replaced",
+    )?;
+    let told = with_telling(alloc, tabled)?;
+    with_option(
+        alloc,
+        told,
+        "name",
+        "FILE",
+        "What the page calls the scenario [default: the name of the first PIECE]; only with --page",
     )
 }
 
 /// A command with the files of pieces more.
-fn with_pieces<'a>(alloc: Global, command: Command<'a>) -> Result<Command<'a>, AllocError>
+pub(crate) fn with_pieces<'a>(
+    alloc: Global,
+    command: Command<'a>,
+) -> Result<Command<'a>, AllocError>
     ensures { (app : App) → IsLocal app command.entry → IfOk result (IsLocal (with_rule app pieces_rule)) }
 {
     command.arg(pieces_argument(alloc))
@@ -58,14 +75,17 @@ fn pieces_argument<'a>(alloc: Global) -> Arg<'a>
 
 /// What words that `clap` took ask to join, if they do.
 ///
-/// Failure: `Memory`.
+/// Failures: `Usage` where they say what to join, but not so that it makes sense: something that is
+/// wanted is nothing, or a name stands there and no page; `Memory`.
 pub(crate) fn join_asked<'a>(
     alloc: Global,
     matches: &ArgMatches<'a>,
 ) -> Result<Option<JoinWords<'a>>, Failure<'a>>
     ensures some { IfOk result (λ asked. IfSome asked (IsJoinIn (subcommand_rows_of matches.now))) }
     ensures none { IfOk result (λ asked. IsNone asked → (join : Wished) → ¬ (IsJoinIn (subcommand_rows_of matches.now) join)) }
-    ensures failures { IfErr result (λ f. f ≡ Failure.Memory) }
+    ensures met { IfErr result (λ f. Meets (codes "join") (subcommand_rows_of matches.now)) }
+    ensures usage { IsErrOf result Failure.Usage → (join : Wished) → ¬ (IsJoinIn (subcommand_rows_of matches.now) join) }
+    ensures failures { IfErr result (λ f. (f ≡ Failure.Usage) ⊎ (f ≡ Failure.Memory)) }
 {
     let Some(join) = matches.subcommand_matches("join") else {
         return Ok(None);
@@ -73,8 +93,41 @@ pub(crate) fn join_asked<'a>(
     let Some(table) = value_of(join, "table") else {
         return Ok(None);
     };
-    match values_of(alloc, join, "PIECE") {
-        Ok(files) => Ok(Some(JoinWords { files, table })),
+    if !may_name(join) {
+        return Err(Failure::Usage);
+    }
+    let wants = wants_asked(alloc, join)?;
+    let files = pieces_named(alloc, join)?;
+    Ok(Some(JoinWords {
+        files,
+        table,
+        wants,
+        jsonl: is_given(join, "jsonl"),
+        page: value_of(join, "page"),
+        name: value_of(join, "name"),
+    }))
+}
+
+/// Whether a name for the scenario is said only where there is a page that takes it.
+fn may_name(join: &ArgMatches<'_>) -> bool
+    ensures { result ≡ may_name (first_of (codes "page") (rows_of (found_of join.now))) (first_of (codes "name") (rows_of (found_of join.now))) }
+{
+    value_of(join, "name").is_none() || value_of(join, "page").is_some()
+}
+
+/// The names of the files with pieces, in the order of the words.
+///
+/// Failure: `Memory`.
+pub(crate) fn pieces_named<'a>(
+    alloc: Global,
+    matches: &ArgMatches<'a>,
+) -> Result<Vec<&'a str>, Failure<'a>>
+    ensures files { IfOk result (λ files. map (λ word. word.now) files.items
+        ≡ unwrap_or (all_of (codes "PIECE") (rows_of (found_of matches.now))) []) }
+    ensures failures { IfErr result (λ f. f ≡ Failure.Memory) }
+{
+    match values_of(alloc, matches, "PIECE") {
+        Ok(files) => Ok(files),
         Err(_) => Err(Failure::Memory),
     }
 }

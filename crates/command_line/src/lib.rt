@@ -1,26 +1,27 @@
 //! What the words of a command line ask for, and what a command prints.
 #![tactic(auto)]
 
-mod arguments;
 mod commands;
 mod division;
 mod explaining;
 mod failure;
 mod initial;
 mod joining;
-mod numbers;
+mod paging;
 mod printing;
 mod release;
 mod running;
 mod shown;
 mod sweeping;
 pub mod system;
+mod telling;
 mod words;
 
 pub use division::{division_asked, workers_asked};
 pub use explaining::ExplainWords;
 pub use failure::{Failure, PieceFault, refuse};
 pub use joining::JoinWords;
+pub use paging::PageWords;
 pub use printing::{
     print_help, print_members, print_preset, print_release, print_rows, print_text,
 };

@@ -3,10 +3,13 @@ ghost use Rattle.std.specs.Prelude.{◌≡◌, IfOk, IfSome, IsNone};
 ghost use Rattle.clap.specs.Words.{App, found_of, rows_of, subcommand_rows_of};
 ghost use Rattle.command_line.specs.declared.words.RunWords.{RunWords as Wish};
 ghost use Rattle.command_line.specs.declared.words.Split.{Split as Wanted};
-ghost use Rattle.command_line.specs.Words.{run_app, with_outputs, with_parting, IsLocal, IsRunIn, IsSplitIn};
+ghost use Rattle.arguments.specs.Rules.{IsLocal};
+ghost use Rattle.command_line.specs.Words.{run_app, with_outputs, with_parting, IsRunIn, IsSplitIn};
 
-use crate::arguments::{with_file, with_option, with_required};
-use crate::words::{RunWords, Split, value_of};
+use crate::words::{RunWords, Split};
+use arguments::{
+    is_given, new_command, value_of, with_file, with_flag, with_option, with_required,
+};
 use clap::{ArgMatches, Command};
 use std::alloc::{AllocError, Global};
 
@@ -14,12 +17,16 @@ use std::alloc::{AllocError, Global};
 pub(crate) fn run_command<'a>(alloc: Global) -> Result<Command<'a>, AllocError>
     ensures { IfOk result (IsLocal run_app) }
 {
-    let filed = with_file(
-        alloc,
-        Command::new(alloc, "run").about("Runs a scenario, and writes its trace"),
-    )?;
+    let about = "Runs a scenario, and writes its trace";
+    let filed = with_file(alloc, new_command(alloc, "run", about))?;
     let written = with_outputs(alloc, filed)?;
-    with_parting(alloc, written)
+    let parted = with_parting(alloc, written)?;
+    with_flag(
+        alloc,
+        parted,
+        "progress",
+        "Tells on standard error how far the run has come",
+    )
 }
 
 /// A command with the options more that say which files a run is written to.
@@ -89,6 +96,7 @@ pub(crate) fn run_asked<'a>(matches: &ArgMatches<'a>) -> Option<RunWords<'a>>
     let page = value_of(run, "page");
     let workers = value_of(run, "workers");
     let split = split_asked(run)?;
+    let progress = is_given(run, "progress");
     Some(RunWords {
         file,
         trace,
@@ -96,6 +104,7 @@ pub(crate) fn run_asked<'a>(matches: &ArgMatches<'a>) -> Option<RunWords<'a>>
         page,
         workers,
         split,
+        progress,
     })
 }
 

@@ -1,22 +1,24 @@
 //! What the words of a command line ask for.
-ghost use Rattle.std.specs.Prelude.{◌≡◌, ◌⊎◌, map, option_map, unwrap_or, IfOk, IfErr, IfSome, IsNone, IsErrOf, List, [], ℕ, false};
-ghost use Rattle.clap.specs.Words.{FailsBy, all_of, fault_of, first_of, found_of, rows_of, subcommand_of, subcommand_rows_of};
-ghost use Rattle.command_line.specs.Words.{is_given, swimsim_app, Answers, AsksForNoPreset, IsCheckIn, IsNoCommand};
+ghost use Rattle.std.specs.Prelude.{◌≡◌, ◌⊎◌, map, IfOk, IfErr, IfSome, IsNone, IsErrOf, List, ℕ};
+ghost use Rattle.clap.specs.Words.{FailsBy, fault_of, subcommand_of, subcommand_rows_of};
+ghost use Rattle.command_line.specs.Words.{swimsim_app, Answers, AsksForNoPreset, IsCheckIn, IsNoCommand};
 
 use crate::commands::program_command;
 use crate::explaining::{ExplainWords, explain_asked};
 use crate::failure::Failure;
 use crate::initial::init_asked;
 use crate::joining::{JoinWords, join_asked};
+use crate::paging::{PageWords, page_asked};
 use crate::running::run_asked;
 use crate::sweeping::sweep_asked;
 use answers::Want;
+use arguments::value_of;
 use cases::Plan;
 use clap::error::ErrorKind;
 use clap::{ArgMatches, Error};
 use pieces::Piece;
 use presets::Preset;
-use std::alloc::{AllocError, Global};
+use std::alloc::Global;
 use std::convert::AsStr;
 
 /// How the members are to be divided into parts, in the words of the command line.
@@ -45,6 +47,8 @@ pub struct RunWords<'a> {
     pub workers: Option<&'a str>,
     /// How the members are to be divided.
     pub split: Split<'a>,
+    /// Whether to tell how far the run has come.
+    pub progress: bool,
 }
 
 /// The words of the command `sweep`.
@@ -54,15 +58,13 @@ pub struct SweepWords<'a> {
     pub file: &'a str,
     /// The name of the file that takes the table.
     pub table: &'a str,
-    /// Which keys of the scenario are set to which values, and by which seeds each case is run.
+    /// Which keys of the scenario are set to which values, by which seeds each case is run, and how
+    /// wide the interval of a case may be for it to get no more of them.
     pub plan: Plan,
-    /// How wide, in hundredths, the 95 % interval of the share of a case's runs in which a healthy
-    /// member was thrown out may be for the case to get no more seeds: 1 to 100. A case gets all
-    /// seeds where that isn't said. Never with a piece.
-    pub until: Option<u64>,
     /// Which piece of the sweep is made; all of it where none is named.
     pub piece: Option<Piece>,
-    /// Whether a piece goes on where its table was cut off. Never without a piece.
+    /// Whether a piece goes on where its table was cut off. Never without a piece, nor where cases
+    /// may get fewer seeds.
     pub resume: bool,
     /// What is wanted of the cases.
     pub wants: Vec<Want<'a>>,
@@ -89,6 +91,8 @@ pub enum Asked<'a> {
     Sweep(SweepWords<'a>),
     /// To put the pieces of a sweep together.
     Join(JoinWords<'a>),
+    /// To make a sweep's page of the pieces of its table.
+    Page(PageWords<'a>),
     /// To be given the scenario of a preset.
     Init(Preset),
     /// To be shown the help that is this answer's text.
@@ -117,7 +121,10 @@ pub fn parse<'a, S: AsStr>(alloc: Global, words: &'a [S]) -> Result<Asked<'a>, F
                         Some(preset) => Ok(Asked::Init(preset)),
                         None => match join_asked(alloc, &matches)? {
                             Some(join) => Ok(Asked::Join(join)),
-                            None => Ok(Asked::Sweep(sweep_asked(alloc, &matches)?)),
+                            None => match page_asked(alloc, &matches)? {
+                                Some(page) => Ok(Asked::Page(page)),
+                                None => Ok(Asked::Sweep(sweep_asked(alloc, &matches)?)),
+                            },
                         },
                     },
                 },
@@ -148,37 +155,4 @@ fn check_asked<'a>(matches: &ArgMatches<'a>) -> Option<&'a str>
 {
     let check = matches.subcommand_matches("check")?;
     value_of(check, "FILE")
-}
-
-/// Whether a flag is given.
-pub(crate) fn is_given(matches: &ArgMatches<'_>, id: &str) -> bool
-    ensures { result ≡ is_given (first_of id.now (rows_of (found_of matches.now))) }
-{
-    match value_of(matches, id) {
-        Some(word) => word == "true",
-        None => false,
-    }
-}
-
-/// All values of an argument, in the order of the words.
-pub(crate) fn values_of<'a>(
-    alloc: Global,
-    matches: &ArgMatches<'a>,
-    id: &str,
-) -> Result<Vec<&'a str>, AllocError>
-    ensures { IfOk result (λ words. map (λ word. word.now) words.items
-        ≡ unwrap_or (all_of id.now (rows_of (found_of matches.now))) []) }
-{
-    let mut words = Vec::new(alloc);
-    if let Some(given) = matches.get_strs(id) {
-        words.extend_from_slice(given)?;
-    }
-    Ok(words)
-}
-
-/// The first value of an argument, if it has one.
-pub(crate) fn value_of<'a>(matches: &ArgMatches<'a>, id: &str) -> Option<&'a str>
-    ensures { option_map (λ word. word.now) result ≡ first_of id.now (rows_of (found_of matches.now)) }
-{
-    matches.get_str(id)
 }

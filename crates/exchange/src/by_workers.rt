@@ -296,7 +296,7 @@ fn at_board<
     };
     let task = DriverTask {
         parts,
-        pool: WorkerPool::new(workers, own, &signals, gate),
+        pool: WorkerPool::new(own, &signals, gate),
         course,
         relay: writer.relay,
         seat: sender,

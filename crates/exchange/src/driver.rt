@@ -19,7 +19,7 @@ use std::marker::Sync;
 use std::snapshot::Snapshot;
 use std::sync::Wait;
 use std::thread::{Promise, Threads};
-use turns::{Course, Slice, Turned, bounded_by_horizons, exchanged, first_moment};
+use turns::{Course, TurnLimit, Turned, bounded_by_horizons, exchanged, first_moment};
 use windows::Part;
 use worker_queue::EventQueue;
 use workers::{Gate, OfScenario, TaskPost, WorkerPool};
@@ -132,7 +132,7 @@ fn turns_by_pool<
     turns_to_horizons(rt, alloc, parts, pool, row_sender, &horizons, course)
 }
 
-/// Runs them so, each part up to its own horizon, or as far as the slice of the turn goes.
+/// Runs them so, each part up to its own horizon, or as far as the limit of the turn lets it go.
 fn turns_to_horizons<
     'b,
     'a,
@@ -169,14 +169,14 @@ fn turns_to_horizons<
     ensures come { ComeTo course.now.cluster.scenario.now (rows_so_far row_sender.new) result }
 {
     let mut kept = Vec::new(alloc);
-    let mut slice = Slice::new();
+    let mut turn_limit = TurnLimit::new();
     let last = course.end.ticks();
     let mut from = 0;
     while from <= last {
         let Some(first) = first_moment(&parts, course.end) else {
             return Ok(());
         };
-        let limit = slice.end(first);
+        let limit = turn_limit.end(first);
         let bounded = bounded_by_horizons(alloc, parts, first, limit, horizons, course)?;
         let done = pool.run_windows(rt, alloc, bounded, course.cluster)?;
         let turned = exchanged(rt, alloc, done, kept, course.division)?;
@@ -185,7 +185,7 @@ fn turns_to_horizons<
             rows,
             kept: still_kept,
         } = turned;
-        slice.adapt(rows.len());
+        turn_limit.adapt(rows.len());
         row_sender.take(rows)?;
         parts = after;
         kept = still_kept;

@@ -4,6 +4,7 @@ pub mod Fields
 pub mod Runs
 pub mod RanksOfTimes
 pub mod Roots
+pub mod Bins
 pub mod Summaries
 mod Cells
 pub mod NoteTexts

@@ -4,6 +4,7 @@ use Rattle.std.specs.List.{filter_map, range_with_len, reduce}
 use Rattle.figures.specs.declared.crashes.CrashTimes.{CrashTimes}
 use Rattle.figures.specs.declared.summary.CaseSummary.{CaseSummary}
 use Rattle.figures.specs.Notes.{Note}
+use Rattle.figures.specs.Histograms.{IsHistogramOf}
 
 -- how the crashes of all runs were detected
 abbrev pub crashes_in : List Note → List CrashTimes
@@ -91,11 +92,19 @@ share_high k n = nearest_thousandth (200000 * k + 384160 + 49 * spread k n) n
 -- these are the figures of a case with these runs
 pub record IsSummaryOf (case : CaseSummary) (runs : List Note) : Type 0 where
   pub all : case.runs ≡ length runs
+  pub crashed : case.crashes ≡ length (crashes_in runs)
+  pub early_suspicion : case.suspect_p5 ≡ percentile 5 suspected_in (crashes_in runs)
   pub suspicion : case.suspect_p50 ≡ percentile 50 suspected_in (crashes_in runs)
+  pub late_suspicion : case.suspect_p95 ≡ percentile 95 suspected_in (crashes_in runs)
+  pub early_confirmation : case.confirm_p5 ≡ percentile 5 confirmed_in (crashes_in runs)
   pub confirmation : case.confirm_p50 ≡ percentile 50 confirmed_in (crashes_in runs)
+  pub rather_late_confirmation : case.confirm_p95 ≡ percentile 95 confirmed_in (crashes_in runs)
   pub late_confirmation : case.confirm_p99 ≡ percentile 99 confirmed_in (crashes_in runs)
   pub latest_confirmation : case.confirm_greatest ≡ percentile 100 confirmed_in (crashes_in runs)
+  pub confirmations : IsHistogramOf case.confirm_times (filter_map confirmed_in (crashes_in runs))
+  pub early_last : case.last_p5 ≡ percentile 5 last_in (crashes_in runs)
   pub last : case.last_p50 ≡ percentile 50 last_in (crashes_in runs)
+  pub late_last : case.last_p95 ≡ percentile 95 last_in (crashes_in runs)
   pub latest_last : case.last_greatest ≡ percentile 100 last_in (crashes_in runs)
   pub false_claims : case.false_suspect ≡ false_rate runs
   pub thrown : case.thrown_out ≡ thrown_out_in runs

@@ -2,6 +2,7 @@
 ghost use Rattle.std.specs.Prelude.{◌≡◌, ◌+◌, ◌<◌, ◌≤◌, ◌*◌, ◌/◌, ◌^◌, ◌==◌, ◌++◌, ◌∷◌, [], List, IfOk, if◌then◌else◌, length};
 ghost use Rattle.figures.specs.Notes.{Note};
 
+use crate::histogram::histogram_of;
 use crate::notes::RunNote;
 use crate::ranks::percentile;
 use crate::shares::{share_high, share_low};
@@ -97,6 +98,7 @@ impl CaseFigures {
         ensures { IfOk result (λ summary. (runs : List Note) → AreFiguresOf self runs → IsSummaryOf summary runs) }
     {
         let mut case = self;
+        let confirm_times = histogram_of(case.confirmed.as_slice());
         case.suspected.sort()?;
         case.confirmed.sort()?;
         case.last.sort()?;
@@ -105,11 +107,19 @@ impl CaseFigures {
         let last = case.last.as_slice();
         Ok(CaseSummary {
             runs: case.runs,
+            crashes: case.crashes,
+            suspect_p5: percentile(suspected, case.crashes, 5),
             suspect_p50: percentile(suspected, case.crashes, 50),
+            suspect_p95: percentile(suspected, case.crashes, 95),
+            confirm_p5: percentile(confirmed, case.crashes, 5),
             confirm_p50: percentile(confirmed, case.crashes, 50),
+            confirm_p95: percentile(confirmed, case.crashes, 95),
             confirm_p99: percentile(confirmed, case.crashes, 99),
             confirm_greatest: percentile(confirmed, case.crashes, 100),
+            confirm_times,
+            last_p5: percentile(last, case.crashes, 5),
             last_p50: percentile(last, case.crashes, 50),
+            last_p95: percentile(last, case.crashes, 95),
             last_greatest: percentile(last, case.crashes, 100),
             false_suspect: case.false_suspect * 100 / u128::from(case.runs),
             thrown_out: case.thrown_out,

@@ -4,6 +4,7 @@
 mod case;
 mod columns;
 mod crashes;
+mod histogram;
 mod lines;
 mod messages;
 mod note_text;
@@ -21,6 +22,7 @@ mod times;
 pub use case::CaseFigures;
 pub use columns::{push_case_header, push_case_line};
 pub use crashes::CrashTimes;
+pub use histogram::Histogram;
 pub use note_words::NoteFault;
 pub use notes::RunNote;
 pub use run::RunFigures;

@@ -1,5 +1,7 @@
 //! What is told of a case.
 
+use crate::histogram::Histogram;
+
 /// The figures of a case: of runs of one scenario that differ in their seed alone. Times are in
 /// ticks since the crash, by the nearest rank over all crashes of all runs, of which one that was
 /// not detected counts as later than any: `None` stands where such a crash has the rank, and where
@@ -8,16 +10,33 @@
 pub struct CaseSummary {
     /// How many runs there are.
     pub runs: u64,
-    /// The median of the times until a crash was first suspected.
+    /// How many members crashed, each counted in each run.
+    pub crashes: u128,
+    /// The 5th percentile of the times until a crash was first suspected.
+    pub suspect_p5: Option<u64>,
+    /// The median of these.
     pub suspect_p50: Option<u64>,
-    /// The median of the times until a crash was first confirmed.
+    /// The 95th percentile of these.
+    pub suspect_p95: Option<u64>,
+    /// The 5th percentile of the times until a crash was first confirmed.
+    pub confirm_p5: Option<u64>,
+    /// The median of these.
     pub confirm_p50: Option<u64>,
+    /// The 95th percentile of these.
+    pub confirm_p95: Option<u64>,
     /// The 99th percentile of these.
     pub confirm_p99: Option<u64>,
     /// The greatest of these.
     pub confirm_greatest: Option<u64>,
-    /// The median of the times until a crash was last confirmed.
+    /// How the times until a crash was first confirmed spread, over the crashes that were: the
+    /// others are `crashes` less all that its bins count.
+    pub confirm_times: Histogram,
+    /// The 5th percentile of the times until a crash was last confirmed.
+    pub last_p5: Option<u64>,
+    /// The median of these.
     pub last_p50: Option<u64>,
+    /// The 95th percentile of these.
+    pub last_p95: Option<u64>,
     /// The greatest of these.
     pub last_greatest: Option<u64>,
     /// Suspicions a run that were false positives, in hundredths, rounded down.

@@ -39,10 +39,13 @@ use Rattle.member.specs.declared.member.Phase.{Phase}
 use Rattle.member.specs.declared.member.Phase.TheVariants.{Waiting, Joining, Running}
 use Rattle.member.specs.declared.content.Content.{Content}
 use Rattle.member.specs.declared.content.Content.TheVariants.{Start, Crash, Leave, JoinTimer, PeriodTimer, TimeoutTimer, NackTimer, SuspicionTimer, Join, Welcome, Ping, PingReq, Ack, Nack, Bye, DeadlineTimer, GossipTimer, PushTimer, Call, Answer, Gossip, Push, Pull}
+use Rattle.member.specs.declared.telling.Telling.{Telling}
+use Rattle.member.specs.declared.telling.Telling.TheVariants.{Aloud, Quietly}
+use Rattle.member.specs.Telling.{is_aloud}
 use Rattle.member.specs.State.{State, is_probed}
 use Rattle.incarnation.specs.Refutations.{does_refute}
 use Rattle.membership.specs.Table.{is_confirm, does_override, live_count}
-use Rattle.member.specs.Turn.{Effect, on_state, unchanged, with_row, with_number, with_event, with_timer}
+use Rattle.member.specs.Effects.{Effect, on_state, unchanged, with_row, with_number, with_event, with_timer}
 use Rattle.member.specs.Send.{posted, sent, sent_off, sent_to_each, carried, gossip_sent, call_sent, answer_sent, push_sent, pull_sent, ping_sent, ping_req_sent, ack_sent, nack_sent, join_sent, join_sent_to, welcome_sent, bye_sent}
 use Rattle.member.specs.Apply.{gossip_set, with_put, passed_on, with_health, refuted, heard_dead, is_own_death, own_applied, with_told, claim_kept, without_suspicion, alive_heard, suspect_heard, death_kept, confirm_heard, claim_heard, news_heard, accusation_counted, accusation_heard, is_repeated, is_heeded, other_applied, applied, all_applied}
 use Rattle.member.specs.Step.{push_begun, first_push_set, push_period, doublings_to, pushed, first_period_set, suspected_at, timed_probe_failed, probe_settled, timed_probe_begun, timed_target_probed, next_timed_probed, waiting_probed, has_time, period_beaten, is_under_way, probed_in_turn, deadline_over, timed_answered, timed_ack_heard, sampled_help, called, timed_out_timed, answer_heard, is_told_out, gossip_spread, gossip_set_again, gossip_due, merged, push_due, push_heard, timed_handled, handled_by, began, join_asked, joining_begun, started, crashed, join_handled, joined, suspected, probe_failed, probe_ended, probe_begun, target_probed, next_probed, period_begun, help_asked, timed_out, nack_heard, ping_heard, ping_req_heard, ack_taken, ack_heard, nack_due, confirmed, suspicion_over, withdrawn, byes_said, departed, plain_handled, handled, step}
@@ -326,9 +329,9 @@ module _ (s : Setup) (sound : IsSound s) (k : Key) (n : ℕ) where
   unfolding with_put
   fair_put u o fair = fair_gossip_set s.gossip _ sound.gossip (fair_state _ o refl fair)
 
-  fair_passed_on : (loud : Bool) (u : Update) (o : Effect) → IsWellMade s k n o → IsWellMade s k n (passed_on s k loud u o)
+  fair_passed_on : (telling : Telling) (u : Update) (o : Effect) → IsWellMade s k n o → IsWellMade s k n (passed_on s k telling u o)
   unfolding passed_on
-  fair_passed_on loud u o fair = fair_choice loud _ _ (fair_put u o fair) fair
+  fair_passed_on telling u o fair = fair_choice (is_aloud telling) _ _ (fair_put u o fair) fair
 
   fair_health : (h : LocalHealth) (o : Effect) → IsWellMade s k n o → IsWellMade s k n (with_health k h o)
   unfolding with_health
@@ -349,8 +352,8 @@ module _ (s : Setup) (sound : IsSound s) (k : Key) (n : ℕ) where
       fair_choice (does_refute (profile_of s) o.state.incarnation claim number) _ _ (fair_refuted (number + 1) o fair)
       (fair_choice (is_own_death (profile_of s) claim o.state.heard_dead) _ _ (fair_dead number o fair) fair)
 
-  fair_told : (loud : Bool) (tells : What) (subject value : ℕ) (o : Effect) → IsWellMade s k n o → IsWellMade s k n (with_told loud k tells subject value o)
-  fair_told loud tells subject value o fair = fair_choice loud _ _ (fair_row _ _ _ _ o fair) fair
+  fair_told : (telling : Telling) (tells : What) (subject value : ℕ) (o : Effect) → IsWellMade s k n o → IsWellMade s k n (with_told telling k tells subject value o)
+  fair_told telling tells subject value o fair = fair_choice (is_aloud telling) _ _ (fair_row _ _ _ _ o fair) fair
 
   same_choice : (b : Bool) (t v : State) (number : ℕ) → t.next_number ≡ number → v.next_number ≡ number → (cond b t v).next_number ≡ number
   same_choice true t v number a b = a
@@ -366,40 +369,40 @@ module _ (s : Setup) (sound : IsSound s) (k : Key) (n : ℕ) where
   same_death Papers subject now t = refl
   same_death Memberlist subject now t = refl
 
-  fair_claim : (loud : Bool) (u : Update) (claim : Claim) (o : Effect) → IsWellMade s k n o → IsWellMade s k n (claim_heard s loud k u claim o)
+  fair_claim : (telling : Telling) (u : Update) (claim : Claim) (o : Effect) → IsWellMade s k n o → IsWellMade s k n (claim_heard s telling k u claim o)
   unfolding alive_heard suspect_heard confirm_heard
-  fair_claim loud u Alive o fair = fair_told loud _ _ _ _ (fair_state _ o refl fair)
-  fair_claim loud u Suspect o fair =
-      fair_own _ _ _ (omega (arith, min-le-timeout (terms_of s) (live_count o.state.table) 0 (terms_sound s sound))) (fair_told loud _ _ _ _ (fair_state _ o refl fair))
-  fair_claim loud u Confirm o fair = fair_told loud _ _ _ _ (fair_state _ o (same_death (profile_of s) u.subject k.at (without_suspicion u.subject o.state)) fair)
+  fair_claim telling u Alive o fair = fair_told telling _ _ _ _ (fair_state _ o refl fair)
+  fair_claim telling u Suspect o fair =
+      fair_own _ _ _ (omega (arith, min-le-timeout (terms_of s) (live_count o.state.table) 0 (terms_sound s sound))) (fair_told telling _ _ _ _ (fair_state _ o refl fair))
+  fair_claim telling u Confirm o fair = fair_told telling _ _ _ _ (fair_state _ o (same_death (profile_of s) u.subject k.at (without_suspicion u.subject o.state)) fair)
 
-  fair_news : (loud : Bool) (u : Update) (o : Effect) → IsWellMade s k n o → IsWellMade s k n (news_heard s loud k u o)
+  fair_news : (telling : Telling) (u : Update) (o : Effect) → IsWellMade s k n o → IsWellMade s k n (news_heard s telling k u o)
   unfolding news_heard
-  fair_news loud u o fair = fair_passed_on loud u _ (fair_claim loud u u.claim _ (fair_kept u o fair))
+  fair_news telling u o fair = fair_passed_on telling u _ (fair_claim telling u u.claim _ (fair_kept u o fair))
 
-  fair_counted : (loud : Bool) (u : Update) (found : Option HeldSuspicion) (o : Effect) → IsWellMade s k n o → IsWellMade s k n (accusation_counted s loud k u (option_map (answer_to k.at) found) o)
-  fair_counted loud u None o fair = fair
-  fair_counted loud u (Some suspicion) o fair = fair_passed_on loud u _ (fair_own _ _ _ (omega arith) (fair_told loud _ _ _ o fair))
+  fair_counted : (telling : Telling) (u : Update) (found : Option HeldSuspicion) (o : Effect) → IsWellMade s k n o → IsWellMade s k n (accusation_counted s telling k u (option_map (answer_to k.at) found) o)
+  fair_counted telling u None o fair = fair
+  fair_counted telling u (Some suspicion) o fair = fair_passed_on telling u _ (fair_own _ _ _ (omega arith) (fair_told telling _ _ _ o fair))
 
-  fair_accusation : (loud : Bool) (u : Update) (o : Effect) → IsWellMade s k n o → IsWellMade s k n (accusation_heard s loud k u o)
+  fair_accusation : (telling : Telling) (u : Update) (o : Effect) → IsWellMade s k n o → IsWellMade s k n (accusation_heard s telling k u o)
   unfolding accusation_heard
-  fair_accusation loud u o fair =
-      fair_counted loud u (accused_of o.state.suspicions u.subject u.accuser o.state.next_number) _ (fair_state _ o refl fair)
+  fair_accusation telling u o fair =
+      fair_counted telling u (accused_of o.state.suspicions u.subject u.accuser o.state.next_number) _ (fair_state _ o refl fair)
 
-  fair_other : (loud : Bool) (u : Update) (held : Option (Claim × ℕ)) (o : Effect) → IsWellMade s k n o → IsWellMade s k n (other_applied s loud k u held o)
-  fair_other loud u None o fair = fair_choice (is_heeded (profile_of s) loud u.claim) _ _ (fair_news loud u o fair) fair
-  fair_other loud u (Some held) o fair =
-      fair_choice (does_override (profile_of s) (u.claim, u.inc) held) _ _ (fair_news loud u o fair) (fair_choice (is_repeated (profile_of s) u held) _ _ (fair_accusation loud u o fair) fair)
+  fair_other : (telling : Telling) (u : Update) (held : Option (Claim × ℕ)) (o : Effect) → IsWellMade s k n o → IsWellMade s k n (other_applied s telling k u held o)
+  fair_other telling u None o fair = fair_choice (is_heeded (profile_of s) telling u.claim) _ _ (fair_news telling u o fair) fair
+  fair_other telling u (Some held) o fair =
+      fair_choice (does_override (profile_of s) (u.claim, u.inc) held) _ _ (fair_news telling u o fair) (fair_choice (is_repeated (profile_of s) u held) _ _ (fair_accusation telling u o fair) fair)
 
-  fair_applied : (loud : Bool) (u : Update) (o : Effect) → IsWellMade s k n o → IsWellMade s k n (applied s loud k u o)
+  fair_applied : (telling : Telling) (u : Update) (o : Effect) → IsWellMade s k n o → IsWellMade s k n (applied s telling k u o)
   unfolding applied
-  fair_applied loud u o fair =
-      fair_choice (nat_eq u.subject k.to) _ _ (fair_own_applied u.claim u.inc o fair) (fair_other loud u (get o.state.table u.subject) o fair)
+  fair_applied telling u o fair =
+      fair_choice (nat_eq u.subject k.to) _ _ (fair_own_applied u.claim u.inc o fair) (fair_other telling u (get o.state.table u.subject) o fair)
 
-  fair_all : (loud : Bool) (us : List Update) (o : Effect) → IsWellMade s k n o → IsWellMade s k n (all_applied s loud k us o)
+  fair_all : (telling : Telling) (us : List Update) (o : Effect) → IsWellMade s k n o → IsWellMade s k n (all_applied s telling k us o)
   unfolding all_applied
-  fair_all loud [] o fair = fair
-  fair_all loud (u ∷ us) o fair = fair_all loud us _ (fair_applied loud u o fair)
+  fair_all telling [] o fair = fair
+  fair_all telling (u ∷ us) o fair = fair_all telling us _ (fair_applied telling u o fair)
 
   -- ---- joins
 
@@ -428,17 +431,17 @@ module _ (s : Setup) (sound : IsSound s) (k : Key) (n : ℕ) where
 
   fair_join_handled : (o : Effect) → IsWellMade s k n o → IsWellMade s k n (join_handled s k o)
   unfolding join_handled
-  fair_join_handled o fair = fair_welcome k.from _ (fair_applied true _ o fair)
+  fair_join_handled o fair = fair_welcome k.from _ (fair_applied Aloud _ o fair)
 
   fair_joined : (entries : List Update) (o : Effect) → IsWellMade s k n o → IsWellMade s k n (joined s k entries o)
   unfolding joined
-  fair_joined entries o fair = fair_first_period _ (fair_all false entries _ (fair_row _ _ _ _ _ (fair_state _ o refl fair)))
+  fair_joined entries o fair = fair_first_period _ (fair_all Quietly entries _ (fair_row _ _ _ _ _ (fair_state _ o refl fair)))
 
   -- ---- probes
 
   fair_suspected : (target : ℕ) (held : Option (Claim × ℕ)) (o : Effect) → IsWellMade s k n o → IsWellMade s k n (suspected s k target held o)
   fair_suspected target None o fair = fair
-  fair_suspected target (Some held) o fair = fair_choice (is_confirm held.0) _ _ fair (fair_applied true _ o fair)
+  fair_suspected target (Some held) o fair = fair_choice (is_confirm held.0) _ _ fair (fair_applied Aloud _ o fair)
 
   fair_failed : (probe : Probe) (o : Effect) → IsWellMade s k n o → IsWellMade s k n (probe_failed s k probe o)
   unfolding probe_failed
@@ -478,12 +481,12 @@ module _ (s : Setup) (sound : IsSound s) (k : Key) (n : ℕ) where
 
   fair_ping_heard : (initiator seq : ℕ) (us : List Update) (o : Effect) → IsWellMade s k n o → IsWellMade s k n (ping_heard s k initiator seq us o)
   unfolding ping_heard
-  fair_ping_heard initiator seq us o fair = fair_ack k.from initiator seq _ (fair_all true us o fair)
+  fair_ping_heard initiator seq us o fair = fair_ack k.from initiator seq _ (fair_all Aloud us o fair)
 
   fair_ping_req_heard : (seq target : ℕ) (us : List Update) (o : Effect) → IsWellMade s k n o → IsWellMade s k n (ping_req_heard s k seq target us o)
   unfolding ping_req_heard
   fair_ping_req_heard seq target us o fair =
-      let pinged = fair_ping target k.from seq _ (fair_all true us o fair) in
+      let pinged = fair_ping target k.from seq _ (fair_all Aloud us o fair) in
       fair_choice s.lifeguard.probe _ _ (fair_timer _ _ _ (omega arith) (fair_state _ _ refl pinged)) pinged
 
   fair_taken : (initiator seq : ℕ) (o : Effect) → IsWellMade s k n o → IsWellMade s k n (ack_taken s k initiator seq o)
@@ -492,7 +495,7 @@ module _ (s : Setup) (sound : IsSound s) (k : Key) (n : ℕ) where
 
   fair_ack_heard : (initiator seq : ℕ) (us : List Update) (o : Effect) → IsWellMade s k n o → IsWellMade s k n (ack_heard s k initiator seq us o)
   unfolding ack_heard
-  fair_ack_heard initiator seq us o fair = fair_taken initiator seq _ (fair_all true us o fair)
+  fair_ack_heard initiator seq us o fair = fair_taken initiator seq _ (fair_all Aloud us o fair)
 
   fair_nack_due : (initiator seq : ℕ) (o : Effect) → IsWellMade s k n o → IsWellMade s k n (nack_due s k initiator seq o)
   unfolding nack_due
@@ -505,7 +508,7 @@ module _ (s : Setup) (sound : IsSound s) (k : Key) (n : ℕ) where
 
   fair_confirmed : (subject : ℕ) (held : Option (Claim × ℕ)) (o : Effect) → IsWellMade s k n o → IsWellMade s k n (confirmed s k subject held o)
   fair_confirmed subject None o fair = fair
-  fair_confirmed subject (Some held) o fair = fair_applied true _ o fair
+  fair_confirmed subject (Some held) o fair = fair_applied Aloud _ o fair
 
   fair_over : (subject : ℕ) (o : Effect) → IsWellMade s k n o → IsWellMade s k n (suspicion_over s k subject o)
   unfolding suspicion_over
@@ -530,7 +533,7 @@ module _ (s : Setup) (sound : IsSound s) (k : Key) (n : ℕ) where
 
   fair_suspected_at : (probe : Probe) (held : Option (Claim × ℕ)) (o : Effect) → IsWellMade s k n o → IsWellMade s k n (suspected_at s k probe held o)
   fair_suspected_at probe None o fair = fair
-  fair_suspected_at probe (Some held) o fair = fair_choice (is_confirm held.0) _ _ fair (fair_applied true _ o fair)
+  fair_suspected_at probe (Some held) o fair = fair_choice (is_confirm held.0) _ _ fair (fair_applied Aloud _ o fair)
 
   fair_timed_failed : (probe : Probe) (o : Effect) → IsWellMade s k n o → IsWellMade s k n (timed_probe_failed s k probe o)
   unfolding timed_probe_failed
@@ -578,7 +581,7 @@ module _ (s : Setup) (sound : IsSound s) (k : Key) (n : ℕ) where
   fair_timed_ack : (initiator seq : ℕ) (us : List Update) (o : Effect) → IsWellMade s k n o → IsWellMade s k n (timed_ack_heard s k initiator seq us o)
   unfolding timed_ack_heard
   fair_timed_ack initiator seq us o fair =
-      let heard = fair_all true us o fair in
+      let heard = fair_all Aloud us o fair in
       fair_choice (nat_eq initiator k.to) _ _ (fair_timed_answered seq _ heard) (fair_taken initiator seq _ heard)
 
   fair_sampled : (probe : Probe) (o : Effect) → IsWellMade s k n o → IsWellMade s k n (sampled_help s k probe o)
@@ -617,7 +620,7 @@ module _ (s : Setup) (sound : IsSound s) (k : Key) (n : ℕ) where
 
   fair_merged : (us : List Update) (o : Effect) → IsWellMade s k n o → IsWellMade s k n (merged s k us o)
   unfolding merged
-  fair_merged us o fair = fair_all true _ o fair
+  fair_merged us o fair = fair_all Aloud _ o fair
 
   fair_pushed : (push : ℕ) (o : Effect) → 0 < push → IsWellMade s k n o → IsWellMade s k n (pushed s k push o)
   unfolding pushed
@@ -668,7 +671,7 @@ module _ (s : Setup) (sound : IsSound s) (k : Key) (n : ℕ) where
   fair_timed_handled (Call seq) o fair = fair_answer k.from seq o fair
   fair_timed_handled (Answer seq) o fair = fair_answer_heard seq o fair
   fair_timed_handled GossipTimer o fair = fair_gossip_due s.gossip o fair
-  fair_timed_handled (Gossip us) o fair = fair_all true us o fair
+  fair_timed_handled (Gossip us) o fair = fair_all Aloud us o fair
   fair_timed_handled PushTimer o fair = fair_push_due s.gossip o fair
   fair_timed_handled (Push us) o fair = fair_push_heard us o fair
   fair_timed_handled (Pull us) o fair = fair_merged us o fair

@@ -1,10 +1,11 @@
 -- Updates applied and messages sent one after another.
-use Rattle.std.proofs.Common.{◌≡◌, ℕ, ◌+◌, ◌<◌, Bool, List, [], ◌∷◌, ◌++◌, length, get_or, take, drop, map, refl, sym, ap, subst, ◌∙◌}
+use Rattle.std.proofs.Common.{◌≡◌, ℕ, ◌+◌, ◌<◌, List, [], ◌∷◌, ◌++◌, length, get_or, take, drop, map, refl, sym, ap, subst, ◌∙◌}
 use Rattle.std.proofs.lemmas.List.{take_more, take-append-drop, map-append}
 use Rattle.base.specs.declared.key.Key.{Key}
 use Rattle.scenario.specs.Setup.{Setup}
 use Rattle.incarnation.specs.declared.Update.{Update}
-use Rattle.member.specs.Turn.{Effect}
+use Rattle.member.specs.declared.telling.Telling.{Telling}
+use Rattle.member.specs.Effects.{Effect}
 use Rattle.member.specs.Apply.{applied, all_applied}
 use Rattle.member.specs.Send.{sent_to_each}
 use Rattle.member.specs.Worn.{IsWorn}
@@ -14,45 +15,45 @@ use Rattle.member.proofs.Worn.{kept_all, kept_each}
 take_item : {A : Type 0} (xs : List A) (i : ℕ) (x : A) → i < length xs → x ≡ get_or xs i x → take (i + 1) xs ≡ take i xs ++ x ∷ []
 take_item xs i x h is = take_more xs i x h ∙ ap (λ y. take i xs ++ y ∷ []) (sym is)
 
-module _ (s : Setup) (loud : Bool) (k : Key) where
-  all_append : (us vs : List Update) (o : Effect) → all_applied s loud k (us ++ vs) o ≡ all_applied s loud k vs (all_applied s loud k us o)
+module _ (s : Setup) (telling : Telling) (k : Key) where
+  all_append : (us vs : List Update) (o : Effect) → all_applied s telling k (us ++ vs) o ≡ all_applied s telling k vs (all_applied s telling k us o)
   unfolding all_applied
   all_append [] vs o = refl
-  all_append (u ∷ us) vs o = all_append us vs (applied s loud k u o)
+  all_append (u ∷ us) vs o = all_append us vs (applied s telling k u o)
 
-  one_more : (us : List Update) (u : Update) (o : Effect) → all_applied s loud k (us ++ u ∷ []) o ≡ applied s loud k u (all_applied s loud k us o)
+  one_more : (us : List Update) (u : Update) (o : Effect) → all_applied s telling k (us ++ u ∷ []) o ≡ applied s telling k u (all_applied s telling k us o)
   unfolding all_applied
   one_more us u o = all_append us (u ∷ []) o
 
   -- the next update is applied
   pub applied_next : (us : List Update) (i : ℕ) (u : Update) (o p q : Effect) → i < length us → u ≡ get_or us i u
-      → p ≡ all_applied s loud k (take i us) o → q ≡ applied s loud k u p → q ≡ all_applied s loud k (take (i + 1) us) o
+      → p ≡ all_applied s telling k (take i us) o → q ≡ applied s telling k u p → q ≡ all_applied s telling k (take (i + 1) us) o
   applied_next us i u o p q h is so_far next =
-      next ∙ ap (applied s loud k u) so_far ∙ sym (one_more (take i us) u o) ∙ ap (λ l. all_applied s loud k l o) (sym (take_item us i u h is))
+      next ∙ ap (applied s telling k u) so_far ∙ sym (one_more (take i us) u o) ∙ ap (λ l. all_applied s telling k l o) (sym (take_item us i u h is))
 
   -- a counter that is worn by one of the updates is worn by all
   pub applied_worn : (us : List Update) (i : ℕ) (u : Update) (o p : Effect) → i < length us → u ≡ get_or us i u
-      → p ≡ all_applied s loud k (take i us) o → IsWorn (applied s loud k u p).state → IsWorn (all_applied s loud k us o).state
+      → p ≡ all_applied s telling k (take i us) o → IsWorn (applied s telling k u p).state → IsWorn (all_applied s telling k us o).state
   applied_worn us i u o p h is so_far worn =
-      let there : IsWorn (all_applied s loud k (take (i + 1) us) o).state = subst (λ (q : Effect). IsWorn q.state) (applied_next us i u o p _ h is so_far refl) worn in
-      subst (λ l. IsWorn (all_applied s loud k l o).state) (take-append-drop (i + 1) us)
-      (subst (λ (q : Effect). IsWorn q.state) (sym (all_append (take (i + 1) us) (drop (i + 1) us) o)) (kept_all s loud k (drop (i + 1) us) _ there))
+      let there : IsWorn (all_applied s telling k (take (i + 1) us) o).state = subst (λ (q : Effect). IsWorn q.state) (applied_next us i u o p _ h is so_far refl) worn in
+      subst (λ l. IsWorn (all_applied s telling k l o).state) (take-append-drop (i + 1) us)
+      (subst (λ (q : Effect). IsWorn q.state) (sym (all_append (take (i + 1) us) (drop (i + 1) us) o)) (kept_all s telling k (drop (i + 1) us) _ there))
 
   module _ (f : Update → Update) where
     -- the next update is applied as it is taken
     pub turned_next : (us : List Update) (i : ℕ) (u : Update) (o p q : Effect) → i < length us → u ≡ get_or us i u
-        → p ≡ all_applied s loud k (map f (take i us)) o → q ≡ applied s loud k (f u) p → q ≡ all_applied s loud k (map f (take (i + 1) us)) o
+        → p ≡ all_applied s telling k (map f (take i us)) o → q ≡ applied s telling k (f u) p → q ≡ all_applied s telling k (map f (take (i + 1) us)) o
     turned_next us i u o p q h is so_far next =
-        next ∙ ap (applied s loud k (f u)) so_far ∙ sym (one_more (map f (take i us)) (f u) o)
-        ∙ ap (λ l. all_applied s loud k l o) (sym (map-append f (take i us) (u ∷ [])) ∙ ap (map f) (sym (take_item us i u h is)))
+        next ∙ ap (applied s telling k (f u)) so_far ∙ sym (one_more (map f (take i us)) (f u) o)
+        ∙ ap (λ l. all_applied s telling k l o) (sym (map-append f (take i us) (u ∷ [])) ∙ ap (map f) (sym (take_item us i u h is)))
 
     -- a counter that is worn by one of them is worn by all
     pub turned_worn : (us : List Update) (i : ℕ) (u : Update) (o p : Effect) → i < length us → u ≡ get_or us i u
-        → p ≡ all_applied s loud k (map f (take i us)) o → IsWorn (applied s loud k (f u) p).state → IsWorn (all_applied s loud k (map f us) o).state
+        → p ≡ all_applied s telling k (map f (take i us)) o → IsWorn (applied s telling k (f u) p).state → IsWorn (all_applied s telling k (map f us) o).state
     turned_worn us i u o p h is so_far worn =
-        let there : IsWorn (all_applied s loud k (map f (take (i + 1) us)) o).state = subst (λ (q : Effect). IsWorn q.state) (turned_next us i u o p _ h is so_far refl) worn in
-        subst (λ l. IsWorn (all_applied s loud k l o).state) (sym (map-append f (take (i + 1) us) (drop (i + 1) us)) ∙ ap (map f) (take-append-drop (i + 1) us))
-        (subst (λ (q : Effect). IsWorn q.state) (sym (all_append (map f (take (i + 1) us)) (map f (drop (i + 1) us)) o)) (kept_all s loud k (map f (drop (i + 1) us)) _ there))
+        let there : IsWorn (all_applied s telling k (map f (take (i + 1) us)) o).state = subst (λ (q : Effect). IsWorn q.state) (turned_next us i u o p _ h is so_far refl) worn in
+        subst (λ l. IsWorn (all_applied s telling k l o).state) (sym (map-append f (take (i + 1) us) (drop (i + 1) us)) ∙ ap (map f) (take-append-drop (i + 1) us))
+        (subst (λ (q : Effect). IsWorn q.state) (sym (all_append (map f (take (i + 1) us)) (map f (drop (i + 1) us)) o)) (kept_all s telling k (map f (drop (i + 1) us)) _ there))
 
 module _ (send : ℕ → Effect → Effect) where
   each_append : (hs gs : List ℕ) (o : Effect) → sent_to_each send (hs ++ gs) o ≡ sent_to_each send gs (sent_to_each send hs o)

@@ -13,14 +13,17 @@ use Rattle.scenario.specs.declared.settings.Gossip as settings
 use Rattle.streams.specs.Draw.{Words}
 use Rattle.trace.specs.declared.row.What.{What}
 use Rattle.member.specs.declared.content.Content.{Content}
+use Rattle.member.specs.declared.telling.Telling.{Telling}
+use Rattle.member.specs.declared.telling.Telling.TheVariants.{Aloud}
+use Rattle.member.specs.Telling.{is_aloud}
 use Rattle.member.specs.declared.event.Effects.{Effects}
 use Rattle.member.specs.declared.here.Here.{Here}
 use Rattle.member.specs.declared.member.Member.{Member}
-use Rattle.member.specs.declared.turn.StepError.{StepError}
-use Rattle.member.specs.declared.turn.StepError.TheVariants.{Worn}
+use Rattle.member.specs.declared.step_error.StepError.{StepError}
+use Rattle.member.specs.declared.step_error.StepError.TheVariants.{Worn}
 use Rattle.member.specs.Makes.{Makes}
 use Rattle.member.specs.State.{State, is_probed}
-use Rattle.member.specs.Turn.{Effect, on_state, with_row, with_number, with_event, with_timer}
+use Rattle.member.specs.Effects.{Effect, on_state, with_row, with_number, with_event, with_timer}
 use Rattle.member.specs.Send.{posted, sent, sent_off, sent_to_each, ping_sent, ping_req_sent, ack_sent, join_sent, join_sent_to, welcome_sent, bye_sent, carried, gossip_sent, call_sent, push_sent}
 use Rattle.incarnation.specs.declared.Claim.{Claim}
 use Rattle.incarnation.specs.declared.Claim.TheVariants.{Alive, Suspect, Confirm}
@@ -158,9 +161,9 @@ pub kept_put : (s : Setup) (k : Key) (u : Update) (o : Effect) → IsWorn o.stat
 unfolding with_put
 kept_put s k u o worn = kept_gossip_set s k s.gossip _ worn
 
-pub kept_passed_on : (s : Setup) (k : Key) (loud : Bool) (u : Update) (o : Effect) → IsWorn o.state → IsWorn (passed_on s k loud u o).state
+pub kept_passed_on : (s : Setup) (k : Key) (telling : Telling) (u : Update) (o : Effect) → IsWorn o.state → IsWorn (passed_on s k telling u o).state
 unfolding passed_on
-kept_passed_on s k loud u o worn = kept_choice loud _ _ (kept_put s k u o worn) worn
+kept_passed_on s k telling u o worn = kept_choice (is_aloud telling) _ _ (kept_put s k u o worn) worn
 
 pub kept_health : (k : Key) (h : LocalHealth) (o : Effect) → IsWorn o.state → IsWorn (with_health k h o).state
 unfolding with_health
@@ -197,8 +200,8 @@ kept_own s k claim number o worn =
     (λ refutes. kept_refuted s k number o (refutes_over (profile_of s) o.state.incarnation claim number refutes) worn)
     (kept_choice (is_own_death (profile_of s) claim o.state.heard_dead) _ _ (kept_dead k number o worn) worn)
 
-kept_told : (loud : Bool) (k : Key) (tells : What) (subject value : ℕ) (o : Effect) → IsWorn o.state → IsWorn (with_told loud k tells subject value o).state
-kept_told loud k tells subject value o worn = kept_choice loud _ _ (kept_row k _ _ _ _ _ worn) worn
+kept_told : (telling : Telling) (k : Key) (tells : What) (subject value : ℕ) (o : Effect) → IsWorn o.state → IsWorn (with_told telling k tells subject value o).state
+kept_told telling k tells subject value o worn = kept_choice (is_aloud telling) _ _ (kept_row k _ _ _ _ _ worn) worn
 
 kept_state : (b : Bool) (t v : State) → IsWorn t → IsWorn v → IsWorn (cond b t v)
 kept_state true t v a b = a
@@ -212,49 +215,49 @@ pub kept_death : (profile : Profile) (subject now : ℕ) (t : State) → IsWorn 
 kept_death Papers subject now t worn = worn
 kept_death Memberlist subject now t worn = worn
 
-pub kept_claim_heard : (s : Setup) (loud : Bool) (k : Key) (u : Update) (claim : Claim) (o : Effect) → IsWorn o.state → IsWorn (claim_heard s loud k u claim o).state
+pub kept_claim_heard : (s : Setup) (telling : Telling) (k : Key) (u : Update) (claim : Claim) (o : Effect) → IsWorn o.state → IsWorn (claim_heard s telling k u claim o).state
 unfolding alive_heard suspect_heard confirm_heard
-kept_claim_heard s loud k u Alive o worn = kept_told loud k _ _ _ _ worn
-kept_claim_heard s loud k u Suspect o worn = kept_event s k _ _ _ _ (kept_told loud k _ _ _ _ worn)
-kept_claim_heard s loud k u Confirm o worn = kept_told loud k _ _ _ _ (kept_death (profile_of s) u.subject k.at (without_suspicion u.subject o.state) worn)
+kept_claim_heard s telling k u Alive o worn = kept_told telling k _ _ _ _ worn
+kept_claim_heard s telling k u Suspect o worn = kept_event s k _ _ _ _ (kept_told telling k _ _ _ _ worn)
+kept_claim_heard s telling k u Confirm o worn = kept_told telling k _ _ _ _ (kept_death (profile_of s) u.subject k.at (without_suspicion u.subject o.state) worn)
 
-kept_news : (s : Setup) (loud : Bool) (k : Key) (u : Update) (o : Effect) → IsWorn o.state → IsWorn (news_heard s loud k u o).state
+kept_news : (s : Setup) (telling : Telling) (k : Key) (u : Update) (o : Effect) → IsWorn o.state → IsWorn (news_heard s telling k u o).state
 unfolding news_heard
-kept_news s loud k u o worn = kept_passed_on s k loud u _ (kept_claim_heard s loud k u u.claim _ (kept_claim u o.state worn))
+kept_news s telling k u o worn = kept_passed_on s k telling u _ (kept_claim_heard s telling k u u.claim _ (kept_claim u o.state worn))
 
-kept_counted : (s : Setup) (loud : Bool) (k : Key) (u : Update) (accused : Option Accused) (o : Effect) → IsWorn o.state → IsWorn (accusation_counted s loud k u accused o).state
-kept_counted s loud k u None o worn = worn
-kept_counted s loud k u (Some accused) o worn = kept_passed_on s k loud u _ (kept_event s k _ _ _ _ (kept_told loud k _ _ _ _ worn))
+kept_counted : (s : Setup) (telling : Telling) (k : Key) (u : Update) (accused : Option Accused) (o : Effect) → IsWorn o.state → IsWorn (accusation_counted s telling k u accused o).state
+kept_counted s telling k u None o worn = worn
+kept_counted s telling k u (Some accused) o worn = kept_passed_on s k telling u _ (kept_event s k _ _ _ _ (kept_told telling k _ _ _ _ worn))
 
-kept_accusation : (s : Setup) (loud : Bool) (k : Key) (u : Update) (o : Effect) → IsWorn o.state → IsWorn (accusation_heard s loud k u o).state
+kept_accusation : (s : Setup) (telling : Telling) (k : Key) (u : Update) (o : Effect) → IsWorn o.state → IsWorn (accusation_heard s telling k u o).state
 unfolding accusation_heard
-kept_accusation s loud k u o worn = kept_counted s loud k u _ _ worn
+kept_accusation s telling k u o worn = kept_counted s telling k u _ _ worn
 
-kept_other : (s : Setup) (loud : Bool) (k : Key) (u : Update) (held : Option (Claim × ℕ)) (o : Effect) → IsWorn o.state → IsWorn (other_applied s loud k u held o).state
-kept_other s loud k u None o worn = kept_choice (is_heeded (profile_of s) loud u.claim) _ _ (kept_news s loud k u o worn) worn
-kept_other s loud k u (Some held) o worn =
-    kept_choice (does_override (profile_of s) (u.claim, u.inc) held) _ _ (kept_news s loud k u o worn)
-    (kept_choice (is_repeated (profile_of s) u held) _ _ (kept_accusation s loud k u o worn) worn)
+kept_other : (s : Setup) (telling : Telling) (k : Key) (u : Update) (held : Option (Claim × ℕ)) (o : Effect) → IsWorn o.state → IsWorn (other_applied s telling k u held o).state
+kept_other s telling k u None o worn = kept_choice (is_heeded (profile_of s) telling u.claim) _ _ (kept_news s telling k u o worn) worn
+kept_other s telling k u (Some held) o worn =
+    kept_choice (does_override (profile_of s) (u.claim, u.inc) held) _ _ (kept_news s telling k u o worn)
+    (kept_choice (is_repeated (profile_of s) u held) _ _ (kept_accusation s telling k u o worn) worn)
 
-pub kept_applied : (s : Setup) (loud : Bool) (k : Key) (u : Update) (o : Effect) → IsWorn o.state → IsWorn (applied s loud k u o).state
+pub kept_applied : (s : Setup) (telling : Telling) (k : Key) (u : Update) (o : Effect) → IsWorn o.state → IsWorn (applied s telling k u o).state
 unfolding applied
-kept_applied s loud k u o worn =
-    kept_choice (nat_eq u.subject k.to) _ _ (kept_own s k u.claim u.inc o worn) (kept_other s loud k u (get o.state.table u.subject) o worn)
+kept_applied s telling k u o worn =
+    kept_choice (nat_eq u.subject k.to) _ _ (kept_own s k u.claim u.inc o worn) (kept_other s telling k u (get o.state.table u.subject) o worn)
 
-pub kept_all : (s : Setup) (loud : Bool) (k : Key) (us : List Update) (o : Effect) → IsWorn o.state → IsWorn (all_applied s loud k us o).state
+pub kept_all : (s : Setup) (telling : Telling) (k : Key) (us : List Update) (o : Effect) → IsWorn o.state → IsWorn (all_applied s telling k us o).state
 unfolding all_applied
-kept_all s loud k [] o worn = worn
-kept_all s loud k (u ∷ us) o worn = kept_all s loud k us (applied s loud k u o) (kept_applied s loud k u o worn)
+kept_all s telling k [] o worn = worn
+kept_all s telling k (u ∷ us) o worn = kept_all s telling k us (applied s telling k u o) (kept_applied s telling k u o worn)
 
 pub kept_merged : (s : Setup) (k : Key) (us : List Update) (o : Effect) → IsWorn o.state → IsWorn (merged s k us o).state
 unfolding merged
-kept_merged s k us o worn = kept_all s true k _ o worn
+kept_merged s k us o worn = kept_all s Aloud k _ o worn
 
 -- ---- probes
 
 kept_suspected : (s : Setup) (k : Key) (target : ℕ) (held : Option (Claim × ℕ)) (o : Effect) → IsWorn o.state → IsWorn (suspected s k target held o).state
 kept_suspected s k target None o worn = worn
-kept_suspected s k target (Some held) o worn = kept_choice (is_confirm held.0) _ _ worn (kept_applied s true k _ o worn)
+kept_suspected s k target (Some held) o worn = kept_choice (is_confirm held.0) _ _ worn (kept_applied s Aloud k _ o worn)
 
 kept_failed : (s : Setup) (k : Key) (probe : Probe) (o : Effect) → IsWorn o.state → IsWorn (probe_failed s k probe o).state
 unfolding probe_failed
@@ -318,7 +321,7 @@ kept_first_period s k o worn = kept_first_push s k _ s.gossip _ (kept_timer s k 
 
 kept_suspected_at : (s : Setup) (k : Key) (probe : Probe) (held : Option (Claim × ℕ)) (o : Effect) → IsWorn o.state → IsWorn (suspected_at s k probe held o).state
 kept_suspected_at s k probe None o worn = worn
-kept_suspected_at s k probe (Some held) o worn = kept_choice (is_confirm held.0) _ _ worn (kept_applied s true k _ o worn)
+kept_suspected_at s k probe (Some held) o worn = kept_choice (is_confirm held.0) _ _ worn (kept_applied s Aloud k _ o worn)
 
 kept_timed_failed : (s : Setup) (k : Key) (probe : Probe) (o : Effect) → IsWorn o.state → IsWorn (timed_probe_failed s k probe o).state
 unfolding timed_probe_failed

@@ -4,7 +4,7 @@ use Rattle.std.specs.List.{AllByRecursion, range_with_len}
 use Rattle.base.specs.declared.key.Key.{Key}
 use Rattle.base.specs.Rising.{IsRising}
 use Rattle.scenario.specs.Setup.{Setup, link_between}
-use Rattle.member.specs.Turn.{Effect}
+use Rattle.member.specs.Effects.{Effect}
 use Rattle.member.specs.Places.{place_of}
 
 -- n is the member's next number at the beginning

@@ -1,6 +1,7 @@
 pub mod State
-pub mod Turn
+pub mod Effects
 pub mod Send
+pub mod Telling
 pub mod Apply
 pub mod Step
 pub mod Opening

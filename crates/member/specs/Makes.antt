@@ -6,10 +6,10 @@ use Rattle.streams.specs.Draw.{Words}
 use Rattle.member.specs.declared.event.Effects.{Effects}
 use Rattle.member.specs.declared.here.Here.{Here}
 use Rattle.member.specs.declared.member.Member.{Member}
-use Rattle.member.specs.declared.turn.StepError.{StepError}
-use Rattle.member.specs.declared.turn.StepError.TheVariants.{Memory, Worn}
+use Rattle.member.specs.declared.step_error.StepError.{StepError}
+use Rattle.member.specs.declared.step_error.StepError.TheVariants.{Memory, Worn}
 use Rattle.member.specs.Here.{HoldsMembers}
-use Rattle.member.specs.Turn.{Effect}
+use Rattle.member.specs.Effects.{Effect}
 use Rattle.member.specs.StateOf.{state_of, effect_of}
 use Rattle.member.specs.Worn.{IsWorn}
 

@@ -19,7 +19,7 @@ use Rattle.member.specs.declared.content.Content.{Content}
 use Rattle.member.specs.declared.content.Content.TheVariants.{Join, Welcome, Ping, PingReq, Ack, Nack, Bye, Gossip, Call, Answer, Push, Pull}
 use Rattle.member.specs.State.{State}
 use Rattle.membership.specs.Table.{Known, is_suspect, live_count, updates_by}
-use Rattle.member.specs.Turn.{Effect, on_state, with_row, with_number, with_event}
+use Rattle.member.specs.Effects.{Effect, on_state, with_row, with_number, with_event}
 
 -- a message arrives, or is lost: it takes a number all the same
 abbrev pub sent_off : Setup → Key → ℕ → Content → Option ℕ → Effect → Effect

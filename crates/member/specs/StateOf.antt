@@ -1,4 +1,4 @@
--- What a member in memory, and a turn of it, stand for.
+-- What a member in memory, and the effects of its step, stand for.
 use Rattle.std.specs.Prelude.{map}
 use Rattle.base.specs.declared.key.Key.{Key}
 use Rattle.membership.specs.Deaths.{since_of}
@@ -8,7 +8,7 @@ use Rattle.member.specs.declared.event.Effects.{Effects}
 use Rattle.member.specs.declared.event.Event.{Event}
 use Rattle.member.specs.declared.member.Member.{Member}
 use Rattle.member.specs.State.{State}
-use Rattle.member.specs.Turn.{Effect}
+use Rattle.member.specs.Effects.{Effect}
 
 -- the state of a member in memory
 abbrev pub state_of : Member → State
@@ -36,6 +36,6 @@ state_of m = record {
 abbrev pub pair_of : Event → Key × Content
 pair_of e = (e.key, e.content)
 
--- what a member and its turn have made so far
+-- what a member and the effects of its step have made so far
 abbrev pub effect_of : Member → Effects → Effect
-effect_of m turn = record { state = state_of m; events = map pair_of turn.events.items; rows = turn.rows.items }
+effect_of m effects = record { state = state_of m; events = map pair_of effects.events.items; rows = effects.rows.items }

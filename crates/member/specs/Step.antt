@@ -29,13 +29,14 @@ use Rattle.member.specs.declared.member.Phase.{Phase}
 use Rattle.member.specs.declared.member.Phase.TheVariants.{Waiting, Joining, Running, Down}
 use Rattle.member.specs.declared.content.Content.{Content}
 use Rattle.member.specs.declared.content.Content.TheVariants.{Start, Crash, Leave, JoinTimer, PeriodTimer, TimeoutTimer, NackTimer, SuspicionTimer, Join, Welcome, Ping, PingReq, Ack, Nack, Bye, DeadlineTimer, GossipTimer, PushTimer, Call, Answer, Gossip, Push, Pull}
+use Rattle.member.specs.declared.telling.Telling.TheVariants.{Aloud, Quietly}
 use Rattle.membership.specs.declared.candidates.Candidate.{Candidate}
 use Rattle.membership.specs.declared.candidates.Fitting.{Fitting}
 use Rattle.membership.specs.declared.candidates.Fitting.TheVariants.{AliveBut, Reachable}
 use Rattle.membership.specs.Candidates.{does_fit, candidates_of}
 use Rattle.membership.specs.Table.{is_alive, is_confirm, live_count, alive_but, all_alive}
 use Rattle.member.specs.State.{State}
-use Rattle.member.specs.Turn.{Effect, unchanged, on_state, with_row, with_event, with_timer}
+use Rattle.member.specs.Effects.{Effect, unchanged, on_state, with_row, with_event, with_timer}
 use Rattle.member.specs.Send.{sent_to_each, ping_sent, ping_req_sent, ack_sent, nack_sent, join_sent, welcome_sent, bye_sent, gossip_sent, call_sent, answer_sent, push_sent, pull_sent}
 use Rattle.member.specs.Apply.{with_health, gossip_set, applied, all_applied}
 
@@ -105,7 +106,7 @@ crashed k o = with_row k what.Crash None 0 false (on_state (λ t. record t { pha
 -- A member that asks to join is alive at number 0, and is told all that one knows.
 unfoldable pub join_handled : Setup → Key → Effect → Effect
 join_handled s k o =
-    welcome_sent s k k.from (applied s true k (record { subject = k.from; claim = Alive; inc = 0; accuser = k.to }) o)
+    welcome_sent s k k.from (applied s Aloud k (record { subject = k.from; claim = Alive; inc = 0; accuser = k.to }) o)
 
 -- The entries of a welcome about others than oneself.
 abbrev pub about_others : ℕ → List Update → List Update
@@ -115,7 +116,7 @@ about_others me entries = filter (λ e. not (nat_eq e.subject me)) entries
 unfoldable pub joined : Setup → Key → List Update → Effect → Effect
 joined s k entries o =
     let running = on_state (λ t. record t { phase = Running }) o in
-    first_period_set s k (all_applied s false k entries (with_row k what.Joined (Some k.from) (length (about_others k.to entries)) false running))
+    first_period_set s k (all_applied s Quietly k entries (with_row k what.Joined (Some k.from) (length (about_others k.to entries)) false running))
 
 -- ---- a member's own probe (SWIM, sections 3.1 and 4.3)
 
@@ -123,7 +124,7 @@ joined s k entries o =
 abbrev pub suspected : Setup → Key → ℕ → Option (Claim × ℕ) → Effect → Effect
 suspected s k target None o = o
 suspected s k target (Some held) o =
-    if is_confirm held.0 then o else applied s true k (record { subject = target; claim = Suspect; inc = held.1; accuser = k.to }) o
+    if is_confirm held.0 then o else applied s Aloud k (record { subject = target; claim = Suspect; inc = held.1; accuser = k.to }) o
 
 -- A probe without an ack has failed.
 unfoldable pub probe_failed : Setup → Key → Probe → Effect → Effect
@@ -206,7 +207,7 @@ nack_heard seq o = on_state (λ t. record t { probe = nacked seq t.probe }) o
 
 -- A ping is answered, after what rides on it is applied.
 unfoldable pub ping_heard : Setup → Key → ℕ → ℕ → List Update → Effect → Effect
-ping_heard s k initiator seq updates o = ack_sent s k k.from initiator seq (all_applied s true k updates o)
+ping_heard s k initiator seq updates o = ack_sent s k k.from initiator seq (all_applied s Aloud k updates o)
 
 -- LHA-Probe: a helper owes the initiator an answer: the ack that it passes on, or a nack once the nack delay is over.
 abbrev pub with_relay : Setup → Key → ℕ → Effect → Effect
@@ -217,7 +218,7 @@ with_relay s k seq o =
 -- A helper pings the target on behalf of the initiator.
 unfoldable pub ping_req_heard : Setup → Key → ℕ → ℕ → List Update → Effect → Effect
 ping_req_heard s k seq target updates o =
-    let pinged = ping_sent s k target k.from seq (all_applied s true k updates o) in
+    let pinged = ping_sent s k target k.from seq (all_applied s Aloud k updates o) in
     if s.lifeguard.probe then with_relay s k seq pinged else pinged
 
 -- An ack reaches the initiator, or is passed on to it: then no answer is owed any more.
@@ -229,7 +230,7 @@ ack_taken s k initiator seq o =
 
 -- An ack, after what rides on it is applied.
 unfoldable pub ack_heard : Setup → Key → ℕ → ℕ → List Update → Effect → Effect
-ack_heard s k initiator seq updates o = ack_taken s k initiator seq (all_applied s true k updates o)
+ack_heard s k initiator seq updates o = ack_taken s k initiator seq (all_applied s Aloud k updates o)
 
 -- The target has not answered the helper in time (LHA-Probe).
 unfoldable pub nack_due : Setup → Key → ℕ → ℕ → Effect → Effect
@@ -243,7 +244,7 @@ nack_due s k initiator seq o =
 -- Confirm of a member at the number at which the table holds it
 abbrev pub confirmed : Setup → Key → ℕ → Option (Claim × ℕ) → Effect → Effect
 confirmed s k subject None o = o
-confirmed s k subject (Some held) o = applied s true k (record { subject = subject; claim = Confirm; inc = held.1; accuser = k.to }) o
+confirmed s k subject (Some held) o = applied s Aloud k (record { subject = subject; claim = Confirm; inc = held.1; accuser = k.to }) o
 
 -- The time of a suspicion is over, unless this timer is an older one (SWIM, section 4.2).
 unfoldable pub suspicion_over : Setup → Key → ℕ → Effect → Effect
@@ -281,7 +282,7 @@ bye_heard s k o = confirmed s k k.from (get o.state.table k.from) o
 abbrev pub suspected_at : Setup → Key → Probe → Option (Claim × ℕ) → Effect → Effect
 suspected_at s k probe None o = o
 suspected_at s k probe (Some held) o =
-    if is_confirm held.0 then o else applied s true k (record { subject = probe.target; claim = Suspect; inc = probe.number; accuser = k.to }) o
+    if is_confirm held.0 then o else applied s Aloud k (record { subject = probe.target; claim = Suspect; inc = probe.number; accuser = k.to }) o
 
 -- A probe that nothing reached has failed.
 unfoldable pub timed_probe_failed : Setup → Key → Probe → Effect → Effect
@@ -362,7 +363,7 @@ timed_ack_taken s k initiator seq o = if nat_eq initiator k.to then timed_answer
 
 -- An ack, after what rides on it is applied.
 unfoldable pub timed_ack_heard : Setup → Key → ℕ → ℕ → List Update → Effect → Effect
-timed_ack_heard s k initiator seq updates o = timed_ack_taken s k initiator seq (all_applied s true k updates o)
+timed_ack_heard s k initiator seq updates o = timed_ack_taken s k initiator seq (all_applied s Aloud k updates o)
 
 -- those whom a member may choose for something
 abbrev pub candidates_for : Key → Fitting → State → List Candidate
@@ -427,7 +428,7 @@ merged_claim me u = if is_alive u.claim then u else record u { claim = Suspect; 
 
 -- All that another knows, in the order of the subjects.
 unfoldable pub merged : Setup → Key → List Update → Effect → Effect
-merged s k entries o = all_applied s true k (map (merged_claim k.to) entries) o
+merged s k entries o = all_applied s Aloud k (map (merged_claim k.to) entries) o
 
 -- All that is known goes to one who is chosen, and again after a push period.
 unfoldable pub pushed : Setup → Key → ℕ → Effect → Effect
@@ -492,7 +493,7 @@ timed_handled s k (Ack initiator seq updates) o = timed_ack_heard s k initiator 
 timed_handled s k (Call seq) o = answer_sent s k k.from seq o
 timed_handled s k (Answer seq) o = answer_heard seq o
 timed_handled s k GossipTimer o = gossip_due s k s.gossip o
-timed_handled s k (Gossip updates) o = all_applied s true k updates o
+timed_handled s k (Gossip updates) o = all_applied s Aloud k updates o
 timed_handled s k PushTimer o = push_due s k s.gossip o
 timed_handled s k (Push entries) o = push_heard s k entries o
 timed_handled s k (Pull entries) o = merged s k entries o

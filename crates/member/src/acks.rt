@@ -6,7 +6,8 @@ ghost use Rattle.member.specs.StateOf.{effect_of, state_of};
 use crate::event::Effects;
 use crate::here::Here;
 use crate::member::Member;
-use crate::turn::StepError;
+use crate::step_error::StepError;
+use crate::telling::Telling;
 use base::MemberId;
 use incarnation::Update;
 
@@ -35,28 +36,28 @@ impl Member {
     #[tactic(auto, unfolding(crate::specs::Step::ack_taken))]
     pub(crate) fn take_ack(
         &mut self,
-        turn: &mut Effects,
+        effects: &mut Effects,
         here: &Here,
         initiator: MemberId,
         seq: u64,
     ) -> Result<(), StepError>
         requires known { KnowsMembers here.now self.old }
         requires initiator { IsMember here.now initiator }
-        ensures { Makes here.now result self.old turn.old self.new turn.new (ack_taken here.now.scenario.now here.now.key initiator seq) }
+        ensures { Makes here.now result self.old effects.old self.new effects.new (ack_taken here.now.scenario.now here.now.key initiator seq) }
     {
         if initiator == here.key.to {
             self.answer(here, seq);
             return Ok(());
         }
         let _owed = self.relays.remove(initiator, seq);
-        self.send_ack(turn, here, initiator, initiator, seq)
+        self.send_ack(effects, here, initiator, initiator, seq)
     }
 
     /// An ack, after what rides on it is applied.
     #[tactic(auto, unfolding(crate::specs::Step::ack_heard))]
     pub(crate) fn hear_ack(
         &mut self,
-        turn: &mut Effects,
+        effects: &mut Effects,
         here: &Here,
         initiator: MemberId,
         seq: u64,
@@ -65,17 +66,17 @@ impl Member {
         requires known { KnowsMembers here.now self.old }
         requires initiator { IsMember here.now initiator }
         requires updates { AreAboutMembers here.now updates.now }
-        ensures { Makes here.now result self.old turn.old self.new turn.new (ack_heard here.now.scenario.now here.now.key initiator seq updates.now) }
+        ensures { Makes here.now result self.old effects.old self.new effects.new (ack_heard here.now.scenario.now here.now.key initiator seq updates.now) }
     {
-        self.apply_all(turn, here, true, updates)?;
-        self.take_ack(turn, here, initiator, seq)
+        self.apply_all(effects, here, Telling::Aloud, updates)?;
+        self.take_ack(effects, here, initiator, seq)
     }
 
     /// A nack of a helper counts for the probe that is under way, if it has its number.
     #[tactic(auto, unfolding(crate::specs::Step::nack_heard))]
-    pub(crate) fn hear_nack(&mut self, turn: &Effects, here: &Here, seq: u64)
+    pub(crate) fn hear_nack(&mut self, effects: &Effects, here: &Here, seq: u64)
         requires { KnowsMembers here.now self.old }
-        ensures state { effect_of self.new turn.now ≡ nack_heard seq (effect_of self.old turn.now) }
+        ensures state { effect_of self.new effects.now ≡ nack_heard seq (effect_of self.old effects.now) }
         ensures kept { KnowsMembers here.now self.new }
     {
         self.count_nack(seq);

@@ -7,7 +7,8 @@ use crate::event::Effects;
 use crate::here::Here;
 use crate::member::Member;
 use crate::news::is_alive;
-use crate::turn::StepError;
+use crate::step_error::StepError;
+use crate::telling::{Telling, is_aloud};
 use base::Profile;
 use base::limits::COUNTER_LIMIT;
 use incarnation::{Claim, Update, refutes};
@@ -20,19 +21,19 @@ impl Member {
     #[tactic(auto, unfolding(crate::specs::Apply::with_health))]
     pub(crate) fn set_health(
         &mut self,
-        turn: &mut Effects,
+        effects: &mut Effects,
         here: &Here,
         health: Health,
     ) -> Result<(), StepError>
         requires { KnowsMembers here.now self.old }
-        ensures made { IsMade result (effect_of self.new turn.new) (with_health here.now.key health (effect_of self.old turn.old)) }
+        ensures made { IsMade result (effect_of self.new effects.new) (with_health here.now.key health (effect_of self.old effects.old)) }
         ensures kept { OnOk result (KnowsMembers here.now self.new) }
     {
         let changed = health.counter() != self.health.counter();
         self.health = health;
         if changed {
             let counter = u64::from(health.counter());
-            self.write_row(turn, here, What::Health, None, counter, false)
+            self.write_row(effects, here, What::Health, None, counter, false)
         } else {
             Ok(())
         }
@@ -41,54 +42,66 @@ impl Member {
     /// Refutes a claim about oneself by the incarnation number after the claim's (SWIM, section 4.2). Worn
     /// where that number stands at its limit.
     #[tactic(auto, unfolding(crate::specs::Apply::refuted))]
-    fn refute(&mut self, turn: &mut Effects, here: &Here, claimed: u64) -> Result<(), StepError>
+    fn refute(&mut self, effects: &mut Effects, here: &Here, claimed: u64) -> Result<(), StepError>
         requires { KnowsMembers here.now self.old }
-        ensures { Makes here.now result self.old turn.old self.new turn.new (refuted here.now.scenario.now here.now.key (claimed + 1)) }
+        ensures { Makes here.now result self.old effects.old self.new effects.new (refuted here.now.scenario.now here.now.key (claimed + 1)) }
     {
         if claimed >= COUNTER_LIMIT {
             return Err(StepError::Worn);
         }
         let number = claimed + 1;
         self.incarnation = number;
-        self.write_row(turn, here, What::Refute, Some(here.key.to), number, false)?;
+        self.write_row(
+            effects,
+            here,
+            What::Refute,
+            Some(here.key.to),
+            number,
+            false,
+        )?;
         let mut health = self.health;
         health.refuted();
-        self.set_health(turn, here, health)?;
+        self.set_health(effects, here, health)?;
         let claim = Update {
             subject: here.key.to,
             claim: Claim::Alive,
             inc: number,
             accuser: here.key.to,
         };
-        self.put(turn, here, claim)
+        self.put(effects, here, claim)
     }
 
     /// Hears for the first time that one was confirmed to have failed.
     #[tactic(auto, unfolding(crate::specs::Apply::heard_dead))]
-    fn hear_dead(&mut self, turn: &mut Effects, here: &Here, number: u64) -> Result<(), StepError>
+    fn hear_dead(
+        &mut self,
+        effects: &mut Effects,
+        here: &Here,
+        number: u64,
+    ) -> Result<(), StepError>
         requires { KnowsMembers here.now self.old }
-        ensures { Makes here.now result self.old turn.old self.new turn.new (heard_dead here.now.key number) }
+        ensures { Makes here.now result self.old effects.old self.new effects.new (heard_dead here.now.key number) }
     {
         self.heard_dead = true;
-        self.write_row(turn, here, What::Dead, Some(here.key.to), number, false)
+        self.write_row(effects, here, What::Dead, Some(here.key.to), number, false)
     }
 
     /// Applies a claim about oneself.
     fn apply_own(
         &mut self,
-        turn: &mut Effects,
+        effects: &mut Effects,
         here: &Here,
         claim: Claim,
         number: u64,
     ) -> Result<(), StepError>
         requires { KnowsMembers here.now self.old }
-        ensures { Makes here.now result self.old turn.old self.new turn.new (own_applied here.now.scenario.now here.now.key claim number) }
+        ensures { Makes here.now result self.old effects.old self.new effects.new (own_applied here.now.scenario.now here.now.key claim number) }
     {
         let profile = here.scenario.profile();
         if refutes(profile, self.incarnation, claim, number) {
-            self.refute(turn, here, number)
+            self.refute(effects, here, number)
         } else if is_own_death(profile, claim, self.heard_dead) {
-            self.hear_dead(turn, here, number)
+            self.hear_dead(effects, here, number)
         } else {
             Ok(())
         }
@@ -97,18 +110,18 @@ impl Member {
     /// Applies an update about a member that isn't known, if it is heeded.
     fn hear_unknown(
         &mut self,
-        turn: &mut Effects,
+        effects: &mut Effects,
         here: &Here,
-        loud: bool,
+        telling: Telling,
         update: &Update,
     ) -> Result<(), StepError>
         requires known { KnowsMembers here.now self.old }
         requires member { IsMember here.now update.now.subject }
         requires other { update.now.subject ≢ here.now.key.to }
-        ensures { Makes here.now result self.old turn.old self.new turn.new (other_applied here.now.scenario.now loud here.now.key update.now None) }
+        ensures { Makes here.now result self.old effects.old self.new effects.new (other_applied here.now.scenario.now telling here.now.key update.now None) }
     {
-        if is_heeded(here.scenario.profile(), loud, update.claim) {
-            self.hear_news(turn, here, loud, update)
+        if is_heeded(here.scenario.profile(), telling, update.claim) {
+            self.hear_news(effects, here, telling, update)
         } else {
             Ok(())
         }
@@ -117,25 +130,25 @@ impl Member {
     /// Applies an update about another member, of which the table has this.
     fn apply_other(
         &mut self,
-        turn: &mut Effects,
+        effects: &mut Effects,
         here: &Here,
-        loud: bool,
+        telling: Telling,
         update: &Update,
         held: Option<(Claim, u64)>,
     ) -> Result<(), StepError>
         requires known { KnowsMembers here.now self.old }
         requires member { IsMember here.now update.now.subject }
         requires other { update.now.subject ≢ here.now.key.to }
-        ensures { Makes here.now result self.old turn.old self.new turn.new (other_applied here.now.scenario.now loud here.now.key update.now held) }
+        ensures { Makes here.now result self.old effects.old self.new effects.new (other_applied here.now.scenario.now telling here.now.key update.now held) }
     {
         let profile = here.scenario.profile();
         let Some(held) = held else {
-            return self.hear_unknown(turn, here, loud, update);
+            return self.hear_unknown(effects, here, telling, update);
         };
         if does_override(profile, (update.claim, update.inc), held) {
-            self.hear_news(turn, here, loud, update)
+            self.hear_news(effects, here, telling, update)
         } else if is_repeated(profile, update, held) {
-            self.hear_accusation(turn, here, loud, update)
+            self.hear_accusation(effects, here, telling, update)
         } else {
             Ok(())
         }
@@ -145,36 +158,36 @@ impl Member {
     #[tactic(auto, unfolding(crate::specs::Apply::applied))]
     pub(crate) fn apply(
         &mut self,
-        turn: &mut Effects,
+        effects: &mut Effects,
         here: &Here,
-        loud: bool,
+        telling: Telling,
         update: &Update,
     ) -> Result<(), StepError>
         requires known { KnowsMembers here.now self.old }
         requires member { IsMember here.now update.now.subject }
-        ensures { Makes here.now result self.old turn.old self.new turn.new (applied here.now.scenario.now loud here.now.key update.now) }
+        ensures { Makes here.now result self.old effects.old self.new effects.new (applied here.now.scenario.now telling here.now.key update.now) }
     {
         if update.subject == here.key.to {
-            return self.apply_own(turn, here, update.claim, update.inc);
+            return self.apply_own(effects, here, update.claim, update.inc);
         }
         let held = self.table.get(update.subject);
-        self.apply_other(turn, here, loud, update, held)
+        self.apply_other(effects, here, telling, update, held)
     }
 
     /// Applies updates in their order.
     pub(crate) fn apply_all(
         &mut self,
-        turn: &mut Effects,
+        effects: &mut Effects,
         here: &Here,
-        loud: bool,
+        telling: Telling,
         updates: &[Update],
     ) -> Result<(), StepError>
         requires known { KnowsMembers here.now self.old }
         requires members { AreAboutMembers here.now updates.now }
-        ensures { Makes here.now result self.old turn.old self.new turn.new (all_applied here.now.scenario.now loud here.now.key updates.now) }
+        ensures { Makes here.now result self.old effects.old self.new effects.new (all_applied here.now.scenario.now telling here.now.key updates.now) }
     {
         for update in updates {
-            self.apply(turn, here, loud, update)?;
+            self.apply(effects, here, telling, update)?;
         }
         Ok(())
     }
@@ -200,12 +213,12 @@ fn is_of_number(profile: Profile, number: u64, held: u64) -> bool
 
 // Whether a claim about a member that isn't known is heeded: by memberlist's rules Alive alone, but for
 // what a welcome brings.
-fn is_heeded(profile: Profile, loud: bool, claim: Claim) -> bool
-    ensures { result ≡ is_heeded profile loud claim }
+fn is_heeded(profile: Profile, telling: Telling, claim: Claim) -> bool
+    ensures { result ≡ is_heeded profile telling claim }
 {
     match profile {
         Profile::Papers => true,
-        Profile::Memberlist => !loud || is_alive(claim),
+        Profile::Memberlist => !is_aloud(telling) || is_alive(claim),
     }
 }
 

@@ -9,7 +9,7 @@ use crate::content::Content;
 use crate::event::Effects;
 use crate::here::Here;
 use crate::member::Member;
-use crate::turn::StepError;
+use crate::step_error::StepError;
 use base::{MemberId, Moment};
 use lifeguard::Probe;
 use membership::Fitting;
@@ -43,18 +43,18 @@ impl Member {
     #[tactic(auto, unfolding(crate::specs::Send::call_sent, crate::specs::Send::posted))]
     fn send_call(
         &mut self,
-        turn: &mut Effects,
+        effects: &mut Effects,
         here: &Here,
         to: MemberId,
         seq: u64,
     ) -> Result<(), StepError>
         requires to { IsMember here.now to }
         requires known { KnowsMembers here.now self.old }
-        ensures { Makes here.now result self.old turn.old self.new turn.new (call_sent here.now.scenario.now here.now.key to seq) }
+        ensures { Makes here.now result self.old effects.old self.new effects.new (call_sent here.now.scenario.now here.now.key to seq) }
     {
         let arrival = self.call_arrival(here, to);
         self.post(
-            turn,
+            effects,
             here,
             What::Call,
             to,
@@ -68,28 +68,28 @@ impl Member {
     #[tactic(auto, unfolding(crate::specs::Send::answer_sent, crate::specs::Send::posted))]
     pub(crate) fn send_answer(
         &mut self,
-        turn: &mut Effects,
+        effects: &mut Effects,
         here: &Here,
         to: MemberId,
         seq: u64,
     ) -> Result<(), StepError>
         requires to { IsMember here.now to }
         requires known { KnowsMembers here.now self.old }
-        ensures { Makes here.now result self.old turn.old self.new turn.new (answer_sent here.now.scenario.now here.now.key to seq) }
+        ensures { Makes here.now result self.old effects.old self.new effects.new (answer_sent here.now.scenario.now here.now.key to seq) }
     {
         let arrival = self.answer_arrival(here, to);
         let answer = Content::Answer { seq };
-        self.post(turn, here, What::Answer, to, seq, answer, arrival)
+        self.post(effects, here, What::Answer, to, seq, answer, arrival)
     }
 
     /// Calls the target of a probe over a stream, where that is wanted.
-    fn call(&mut self, turn: &mut Effects, here: &Here, probe: &Probe) -> Result<(), StepError>
+    fn call(&mut self, effects: &mut Effects, here: &Here, probe: &Probe) -> Result<(), StepError>
         requires known { KnowsMembers here.now self.old }
         requires target { IsMember here.now probe.now.target }
-        ensures { Makes here.now result self.old turn.old self.new turn.new (called here.now.scenario.now here.now.key probe.now) }
+        ensures { Makes here.now result self.old effects.old self.new effects.new (called here.now.scenario.now here.now.key probe.now) }
     {
         if here.scenario.swim().fallback {
-            self.send_call(turn, here, probe.target, probe.seq)
+            self.send_call(effects, here, probe.target, probe.seq)
         } else {
             Ok(())
         }
@@ -99,18 +99,18 @@ impl Member {
     #[tactic(auto, unfolding(crate::specs::Step::sampled_help))]
     fn ask_sample(
         &mut self,
-        turn: &mut Effects,
+        effects: &mut Effects,
         here: &Here,
         probe: &Probe,
     ) -> Result<(), StepError>
         requires known { KnowsMembers here.now self.old }
         requires target { IsMember here.now probe.now.target }
-        ensures { Makes here.now result self.old turn.old self.new turn.new (sampled_help here.now.scenario.now here.now.key probe.now) }
+        ensures { Makes here.now result self.old effects.old self.new effects.new (sampled_help here.now.scenario.now here.now.key probe.now) }
     {
         let count = here.scenario.swim().helpers;
         let helpers = self.draw_sample(here, &Fitting::AliveBut(probe.target), count)?;
-        self.ask_all(turn, here, probe.target, probe.seq, &helpers)?;
-        self.expect(turn, here, probe, helpers.len() as u8);
+        self.ask_all(effects, here, probe.target, probe.seq, &helpers)?;
+        self.expect(effects, here, probe, helpers.len() as u8);
         Ok(())
     }
 
@@ -118,31 +118,36 @@ impl Member {
     #[tactic(auto, unfolding(crate::specs::Step::timed_out_timed))]
     pub(crate) fn time_out_timed(
         &mut self,
-        turn: &mut Effects,
+        effects: &mut Effects,
         here: &Here,
         seq: u64,
     ) -> Result<(), StepError>
         requires { KnowsMembers here.now self.old }
-        ensures { Makes here.now result self.old turn.old self.new turn.new (timed_out_timed here.now.scenario.now here.now.key seq (state_of self.old).probe) }
+        ensures { Makes here.now result self.old effects.old self.new effects.new (timed_out_timed here.now.scenario.now here.now.key seq (state_of self.old).probe) }
     {
         let Some(probe) = self.probe else {
             return Ok(());
         };
         if probe.seq == seq {
-            self.help_and_call(turn, here, &probe)
+            self.help_and_call(effects, here, &probe)
         } else {
             Ok(())
         }
     }
 
     /// Asks helpers, where there are to be any.
-    fn ask_any(&mut self, turn: &mut Effects, here: &Here, probe: &Probe) -> Result<(), StepError>
+    fn ask_any(
+        &mut self,
+        effects: &mut Effects,
+        here: &Here,
+        probe: &Probe,
+    ) -> Result<(), StepError>
         requires known { KnowsMembers here.now self.old }
         requires target { IsMember here.now probe.now.target }
-        ensures { Makes here.now result self.old turn.old self.new turn.new (helped here.now.scenario.now here.now.key probe.now) }
+        ensures { Makes here.now result self.old effects.old self.new effects.new (helped here.now.scenario.now here.now.key probe.now) }
     {
         if here.scenario.swim().helpers > 0 {
-            self.ask_sample(turn, here, probe)
+            self.ask_sample(effects, here, probe)
         } else {
             Ok(())
         }
@@ -151,23 +156,23 @@ impl Member {
     /// Asks helpers, and calls the target.
     fn help_and_call(
         &mut self,
-        turn: &mut Effects,
+        effects: &mut Effects,
         here: &Here,
         probe: &Probe,
     ) -> Result<(), StepError>
         requires known { KnowsMembers here.now self.old }
         requires target { IsMember here.now probe.now.target }
-        ensures { Makes here.now result self.old turn.old self.new turn.new (λ o. called here.now.scenario.now here.now.key probe.now (helped here.now.scenario.now here.now.key probe.now o)) }
+        ensures { Makes here.now result self.old effects.old self.new effects.new (λ o. called here.now.scenario.now here.now.key probe.now (helped here.now.scenario.now here.now.key probe.now o)) }
     {
-        self.ask_any(turn, here, probe)?;
-        self.call(turn, here, probe)
+        self.ask_any(effects, here, probe)?;
+        self.call(effects, here, probe)
     }
 
     /// The answer to a call: the probe that is under way reached its target, if it has that number.
     #[tactic(auto, unfolding(crate::specs::Step::answer_heard))]
-    pub(crate) fn hear_answer(&mut self, turn: &Effects, here: &Here, seq: u64)
+    pub(crate) fn hear_answer(&mut self, effects: &Effects, here: &Here, seq: u64)
         requires { KnowsMembers here.now self.old }
-        ensures state { effect_of self.new turn.now ≡ answer_heard seq (effect_of self.old turn.now) }
+        ensures state { effect_of self.new effects.now ≡ answer_heard seq (effect_of self.old effects.now) }
         ensures kept { KnowsMembers here.now self.new }
     {
         self.mark_reached(seq);

@@ -6,7 +6,8 @@ ghost use Rattle.member.specs.StateOf.{state_of};
 use crate::event::Effects;
 use crate::here::Here;
 use crate::member::Member;
-use crate::turn::StepError;
+use crate::step_error::StepError;
+use crate::telling::Telling;
 use base::MemberId;
 use incarnation::{Claim, Update};
 
@@ -14,12 +15,12 @@ impl Member {
     /// Confirms a member at the number at which the table holds it.
     pub(crate) fn confirm(
         &mut self,
-        turn: &mut Effects,
+        effects: &mut Effects,
         here: &Here,
         subject: MemberId,
     ) -> Result<(), StepError>
         requires { KnowsMembers here.now self.old }
-        ensures { Makes here.now result self.old turn.old self.new turn.new (confirmed here.now.scenario.now here.now.key subject (get (state_of self.old).table subject)) }
+        ensures { Makes here.now result self.old effects.old self.new effects.new (confirmed here.now.scenario.now here.now.key subject (get (state_of self.old).table subject)) }
     {
         let Some(held) = self.table.get(subject) else {
             return Ok(());
@@ -30,22 +31,22 @@ impl Member {
             inc: held.1,
             accuser: here.key.to,
         };
-        self.apply(turn, here, true, &claim)
+        self.apply(effects, here, Telling::Aloud, &claim)
     }
 
     /// The time of a suspicion is over, unless the timer is an older one (SWIM, section 4.2).
     #[tactic(auto, unfolding(crate::specs::Step::suspicion_over))]
     pub(crate) fn end_suspicion(
         &mut self,
-        turn: &mut Effects,
+        effects: &mut Effects,
         here: &Here,
         subject: MemberId,
     ) -> Result<(), StepError>
         requires { KnowsMembers here.now self.old }
-        ensures { Makes here.now result self.old turn.old self.new turn.new (suspicion_over here.now.scenario.now here.now.key subject) }
+        ensures { Makes here.now result self.old effects.old self.new effects.new (suspicion_over here.now.scenario.now here.now.key subject) }
     {
         if self.suspicions.due(subject, here.key.number) {
-            self.confirm(turn, here, subject)
+            self.confirm(effects, here, subject)
         } else {
             Ok(())
         }

@@ -11,7 +11,7 @@ use crate::content::Content;
 use crate::event::Effects;
 use crate::here::Here;
 use crate::member::Member;
-use crate::turn::StepError;
+use crate::step_error::StepError;
 use base::{MemberId, next_in_step};
 use membership::Fitting;
 use probing::laws::samples_are_of_those_that_fit;
@@ -47,27 +47,27 @@ impl Member {
 
     /// Sets the gossip timer, where members gossip and it isn't set: at the next moment of gossip, in
     /// step with the periods.
-    pub(crate) fn set_gossip(&mut self, turn: &mut Effects, here: &Here) -> Result<(), StepError>
+    pub(crate) fn set_gossip(&mut self, effects: &mut Effects, here: &Here) -> Result<(), StepError>
         requires { KnowsMembers here.now self.old }
-        ensures { Makes here.now result self.old turn.old self.new turn.new (gossip_set here.now.scenario.now here.now.key here.now.scenario.now.gossip) }
+        ensures { Makes here.now result self.old effects.old self.new effects.new (gossip_set here.now.scenario.now here.now.key here.now.scenario.now.gossip) }
     {
         let settings = here.scenario.gossip();
         let Some(gossip) = settings else {
             return Ok(());
         };
-        self.set_gossip_by(turn, here, gossip)
+        self.set_gossip_by(effects, here, gossip)
     }
 
     /// Sets the gossip timer by these settings, unless it is set.
     fn set_gossip_by(
         &mut self,
-        turn: &mut Effects,
+        effects: &mut Effects,
         here: &Here,
         gossip: Gossip,
     ) -> Result<(), StepError>
         requires known { KnowsMembers here.now self.old }
         requires sound { IsSoundGossip gossip }
-        ensures { Makes here.now result self.old turn.old self.new turn.new (gossip_set here.now.scenario.now here.now.key (Some gossip)) }
+        ensures { Makes here.now result self.old effects.old self.new effects.new (gossip_set here.now.scenario.now here.now.key (Some gossip)) }
     {
         if self.gossips {
             return Ok(());
@@ -75,41 +75,48 @@ impl Member {
         let phase = self.beat.ticks().saturating_sub(1);
         let next = next_in_step(phase, gossip.interval, here.key.at);
         self.gossips = true;
-        self.make_event(turn, here, next, here.key.to, Content::GossipTimer)
+        self.make_event(effects, here, next, here.key.to, Content::GossipTimer)
     }
 
     /// Sends updates by themselves to a member, if any are left to send.
     #[tactic(auto, unfolding(crate::specs::Send::gossip_sent))]
     fn send_gossip(
         &mut self,
-        turn: &mut Effects,
+        effects: &mut Effects,
         here: &Here,
         to: MemberId,
     ) -> Result<(), StepError>
         requires to { IsMember here.now to }
         requires known { KnowsMembers here.now self.old }
-        ensures { Makes here.now result self.old turn.old self.new turn.new (gossip_sent here.now.scenario.now here.now.key to) }
+        ensures { Makes here.now result self.old effects.old self.new effects.new (gossip_sent here.now.scenario.now here.now.key to) }
     {
         let updates = self.pick(here, None)?;
         if updates.as_slice().len() == 0 {
             return Ok(());
         }
-        self.send(turn, here, What::Gossip, to, 0, Content::Gossip { updates })
+        self.send(
+            effects,
+            here,
+            What::Gossip,
+            to,
+            0,
+            Content::Gossip { updates },
+        )
     }
 
     /// Sends updates to members, one after another.
     fn gossip_to(
         &mut self,
-        turn: &mut Effects,
+        effects: &mut Effects,
         here: &Here,
         them: &[MemberId],
     ) -> Result<(), StepError>
         requires known { KnowsMembers here.now self.old }
         requires members { All (IsMember here.now) them.now }
-        ensures { Makes here.now result self.old turn.old self.new turn.new (sent_to_each (gossip_sent here.now.scenario.now here.now.key) them.now) }
+        ensures { Makes here.now result self.old effects.old self.new effects.new (sent_to_each (gossip_sent here.now.scenario.now here.now.key) them.now) }
     {
         for to in them {
-            self.send_gossip(turn, here, *to)?;
+            self.send_gossip(effects, here, *to)?;
         }
         Ok(())
     }
@@ -118,66 +125,66 @@ impl Member {
     #[tactic(auto, unfolding(crate::specs::Step::gossip_spread))]
     fn spread_gossip(
         &mut self,
-        turn: &mut Effects,
+        effects: &mut Effects,
         here: &Here,
         gossip: Gossip,
     ) -> Result<(), StepError>
         requires known { KnowsMembers here.now self.old }
         requires sound { IsSoundGossip gossip }
-        ensures { Makes here.now result self.old turn.old self.new turn.new (gossip_spread here.now.scenario.now here.now.key gossip) }
+        ensures { Makes here.now result self.old effects.old self.new effects.new (gossip_spread here.now.scenario.now here.now.key gossip) }
     {
         let fitting = Fitting::Reachable {
             now: here.key.at,
             dead: gossip.dead,
         };
         let them = self.draw_sample(here, &fitting, gossip.nodes)?;
-        self.gossip_to(turn, here, &them)
+        self.gossip_to(effects, here, &them)
     }
 
     /// The gossip timer is due: updates go out, and it is set again as long as there is something to send.
-    pub(crate) fn gossip(&mut self, turn: &mut Effects, here: &Here) -> Result<(), StepError>
+    pub(crate) fn gossip(&mut self, effects: &mut Effects, here: &Here) -> Result<(), StepError>
         requires { KnowsMembers here.now self.old }
-        ensures { Makes here.now result self.old turn.old self.new turn.new (gossip_due here.now.scenario.now here.now.key here.now.scenario.now.gossip) }
+        ensures { Makes here.now result self.old effects.old self.new effects.new (gossip_due here.now.scenario.now here.now.key here.now.scenario.now.gossip) }
     {
         let settings = here.scenario.gossip();
         let Some(gossip) = settings else {
             return Ok(());
         };
         self.gossips = false;
-        self.tell_round(turn, here, gossip)
+        self.tell_round(effects, here, gossip)
     }
 
     /// Sends updates to some, as long as there is something to send.
     fn tell_round(
         &mut self,
-        turn: &mut Effects,
+        effects: &mut Effects,
         here: &Here,
         gossip: Gossip,
     ) -> Result<(), StepError>
         requires known { KnowsMembers here.now self.old }
         requires sound { IsSoundGossip gossip }
-        ensures { Makes here.now result self.old turn.old self.new turn.new (gossip_round here.now.scenario.now here.now.key gossip) }
+        ensures { Makes here.now result self.old effects.old self.new effects.new (gossip_round here.now.scenario.now here.now.key gossip) }
     {
         if self.is_told_out() {
             Ok(())
         } else {
-            self.tell_some(turn, here, gossip)
+            self.tell_some(effects, here, gossip)
         }
     }
 
     /// Sends updates to some, and again later.
     fn tell_some(
         &mut self,
-        turn: &mut Effects,
+        effects: &mut Effects,
         here: &Here,
         gossip: Gossip,
     ) -> Result<(), StepError>
         requires known { KnowsMembers here.now self.old }
         requires sound { IsSoundGossip gossip }
-        ensures { Makes here.now result self.old turn.old self.new turn.new (λ o. gossip_set_again here.now.scenario.now here.now.key (gossip_spread here.now.scenario.now here.now.key gossip o)) }
+        ensures { Makes here.now result self.old effects.old self.new effects.new (λ o. gossip_set_again here.now.scenario.now here.now.key (gossip_spread here.now.scenario.now here.now.key gossip o)) }
     {
-        self.spread_gossip(turn, here, gossip)?;
-        self.set_gossip_again(turn, here)
+        self.spread_gossip(effects, here, gossip)?;
+        self.set_gossip_again(effects, here)
     }
 
     /// Whether nothing is left to send.
@@ -188,14 +195,14 @@ impl Member {
     }
 
     /// Sets the gossip timer, as long as there is something to send.
-    fn set_gossip_again(&mut self, turn: &mut Effects, here: &Here) -> Result<(), StepError>
+    fn set_gossip_again(&mut self, effects: &mut Effects, here: &Here) -> Result<(), StepError>
         requires { KnowsMembers here.now self.old }
-        ensures { Makes here.now result self.old turn.old self.new turn.new (gossip_set_again here.now.scenario.now here.now.key) }
+        ensures { Makes here.now result self.old effects.old self.new effects.new (gossip_set_again here.now.scenario.now here.now.key) }
     {
         if self.is_told_out() {
             Ok(())
         } else {
-            self.set_gossip(turn, here)
+            self.set_gossip(effects, here)
         }
     }
 }

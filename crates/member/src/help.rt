@@ -8,7 +8,7 @@ ghost use Rattle.member.specs.StateOf.{effect_of, state_of};
 use crate::event::Effects;
 use crate::here::Here;
 use crate::member::Member;
-use crate::turn::StepError;
+use crate::step_error::StepError;
 use base::MemberId;
 use lifeguard::Probe;
 use probing::helpers;
@@ -37,7 +37,7 @@ impl Member {
     /// Asks helpers, one after another, to ping the target.
     pub(crate) fn ask_all(
         &mut self,
-        turn: &mut Effects,
+        effects: &mut Effects,
         here: &Here,
         target: MemberId,
         seq: u64,
@@ -45,34 +45,39 @@ impl Member {
     ) -> Result<(), StepError>
         requires known { KnowsMembers here.now self.old }
         requires members { All (IsMember here.now) helpers.now }
-        ensures { Makes here.now result self.old turn.old self.new turn.new (all_asked here.now.scenario.now here.now.key target seq helpers.now) }
+        ensures { Makes here.now result self.old effects.old self.new effects.new (all_asked here.now.scenario.now here.now.key target seq helpers.now) }
     {
         for helper in helpers {
-            self.send_ping_req(turn, here, target, seq, *helper)?;
+            self.send_ping_req(effects, here, target, seq, *helper)?;
         }
         Ok(())
     }
 
     /// Asks helpers to ping the target. With LHA-Probe the probe expects an answer of each.
     #[tactic(auto, unfolding(crate::specs::Step::help_asked))]
-    fn ask_help(&mut self, turn: &mut Effects, here: &Here, probe: &Probe) -> Result<(), StepError>
+    fn ask_help(
+        &mut self,
+        effects: &mut Effects,
+        here: &Here,
+        probe: &Probe,
+    ) -> Result<(), StepError>
         requires known { KnowsMembers here.now self.old }
         requires target { IsMember here.now probe.now.target }
-        ensures { Makes here.now result self.old turn.old self.new turn.new (help_asked here.now.scenario.now here.now.key probe.now) }
+        ensures { Makes here.now result self.old effects.old self.new effects.new (help_asked here.now.scenario.now here.now.key probe.now) }
     {
         let count = here.scenario.swim().helpers;
         let helpers = self.draw_helpers(here, probe.target, count)?;
-        self.ask_all(turn, here, probe.target, probe.seq, &helpers)?;
-        self.expect(turn, here, probe, helpers.len() as u8);
+        self.ask_all(effects, here, probe.target, probe.seq, &helpers)?;
+        self.expect(effects, here, probe, helpers.len() as u8);
         Ok(())
     }
 
     /// With LHA-Probe the probe expects an answer of each helper that was asked.
     #[tactic(auto, using(crate::proofs::Holds::holds_probe))]
-    pub(crate) fn expect(&mut self, turn: &Effects, here: &Here, probe: &Probe, count: u8)
+    pub(crate) fn expect(&mut self, effects: &Effects, here: &Here, probe: &Probe, count: u8)
         requires known { KnowsMembers here.now self.old }
         requires target { IsMember here.now probe.now.target }
-        ensures state { effect_of self.new turn.now ≡ with_expected here.now.scenario.now probe.now count (effect_of self.old turn.now) }
+        ensures state { effect_of self.new effects.now ≡ with_expected here.now.scenario.now probe.now count (effect_of self.old effects.now) }
         ensures kept { KnowsMembers here.now self.new }
     {
         if !here.scenario.lifeguard().probe {
@@ -87,18 +92,18 @@ impl Member {
     #[tactic(auto, unfolding(crate::specs::Step::timed_out))]
     pub(crate) fn time_out(
         &mut self,
-        turn: &mut Effects,
+        effects: &mut Effects,
         here: &Here,
         seq: u64,
     ) -> Result<(), StepError>
         requires { KnowsMembers here.now self.old }
-        ensures { Makes here.now result self.old turn.old self.new turn.new (timed_out here.now.scenario.now here.now.key seq (state_of self.old).probe) }
+        ensures { Makes here.now result self.old effects.old self.new effects.new (timed_out here.now.scenario.now here.now.key seq (state_of self.old).probe) }
     {
         let Some(probe) = self.probe else {
             return Ok(());
         };
         if probe.seq == seq && !probe.acked && here.scenario.swim().helpers > 0 {
-            self.ask_help(turn, here, &probe)
+            self.ask_help(effects, here, &probe)
         } else {
             Ok(())
         }

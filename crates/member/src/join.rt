@@ -8,7 +8,8 @@ use crate::event::Effects;
 use crate::here::Here;
 use crate::member::{Member, Phase};
 use crate::opening::empty_rota;
-use crate::turn::StepError;
+use crate::step_error::StepError;
+use crate::telling::Telling;
 use base::{MemberId, Moment};
 use incarnation::{Claim, Update};
 use membership::Table;
@@ -21,21 +22,21 @@ impl Member {
     /// The first period begins at a moment that chance decides, from which memberlist's rules count the
     /// others.
     #[tactic(auto, unfolding(crate::specs::Step::first_period_set))]
-    fn set_first_period(&mut self, turn: &mut Effects, here: &Here) -> Result<(), StepError>
+    fn set_first_period(&mut self, effects: &mut Effects, here: &Here) -> Result<(), StepError>
         requires { KnowsMembers here.now self.old }
-        ensures { Makes here.now result self.old turn.old self.new turn.new (first_period_set here.now.scenario.now here.now.key) }
+        ensures { Makes here.now result self.old effects.old self.new effects.new (first_period_set here.now.scenario.now here.now.key) }
     {
         let spread = here.scenario.swim().spread as u32;
         let ticks = 1 + u64::from(self.stream.below(spread));
         let beat = Moment(here.key.at.ticks() + ticks);
-        self.set_periods(turn, here, ticks, beat)
+        self.set_periods(effects, here, ticks, beat)
     }
 
     /// Sets the timer of the first period, so many ticks from now, at the beat from which the others are
     /// counted, and the first push.
     fn set_periods(
         &mut self,
-        turn: &mut Effects,
+        effects: &mut Effects,
         here: &Here,
         ticks: u64,
         beat: Moment,
@@ -43,18 +44,18 @@ impl Member {
         requires ticks_within { ticks ≤ 2 ^ 41 }
         requires early { beat ≤ 2 ^ 41 }
         requires known { KnowsMembers here.now self.old }
-        ensures { Makes here.now result self.old turn.old self.new turn.new (periods_set here.now.scenario.now here.now.key ticks beat) }
+        ensures { Makes here.now result self.old effects.old self.new effects.new (periods_set here.now.scenario.now here.now.key ticks beat) }
     {
         self.beat = beat;
-        self.set_timer(turn, here, ticks, Content::PeriodTimer)?;
-        self.set_first_push(turn, here, beat)
+        self.set_timer(effects, here, ticks, Content::PeriodTimer)?;
+        self.set_first_push(effects, here, beat)
     }
 
     /// A member that starts at moment 0 knows all others that do, and probes them.
     #[tactic(auto, unfolding(crate::specs::Step::began))]
-    fn begin(&mut self, turn: &mut Effects, here: &Here) -> Result<(), StepError>
+    fn begin(&mut self, effects: &mut Effects, here: &Here) -> Result<(), StepError>
         requires { KnowsMembers here.now self.old }
-        ensures { Makes here.now result self.old turn.old self.new turn.new (began here.now.scenario.now here.now.key) }
+        ensures { Makes here.now result self.old effects.old self.new effects.new (began here.now.scenario.now here.now.key) }
     {
         let others = first_others(here.alloc, here.scenario, here.key.to)?;
         let table = Table::of_alive(here.alloc, &others)?;
@@ -63,61 +64,61 @@ impl Member {
         self.incarnation = 0;
         self.table = table;
         self.rota = rota;
-        self.set_first_period(turn, here)
+        self.set_first_period(effects, here)
     }
 
     /// Asks the contact to let the member join, and again after a period.
     #[tactic(auto, unfolding(crate::specs::Step::join_asked))]
-    pub(crate) fn ask_join(&mut self, turn: &mut Effects, here: &Here) -> Result<(), StepError>
+    pub(crate) fn ask_join(&mut self, effects: &mut Effects, here: &Here) -> Result<(), StepError>
         requires { KnowsMembers here.now self.old }
-        ensures { Makes here.now result self.old turn.old self.new turn.new (join_asked here.now.scenario.now here.now.key) }
+        ensures { Makes here.now result self.old effects.old self.new effects.new (join_asked here.now.scenario.now here.now.key) }
     {
-        self.send_join(turn, here)?;
-        self.set_timer(turn, here, here.scenario.period(), Content::JoinTimer)
+        self.send_join(effects, here)?;
+        self.set_timer(effects, here, here.scenario.period(), Content::JoinTimer)
     }
 
     /// A member that starts later knows nobody, and joins.
     #[tactic(auto, unfolding(crate::specs::Step::joining_begun))]
-    fn begin_joining(&mut self, turn: &mut Effects, here: &Here) -> Result<(), StepError>
+    fn begin_joining(&mut self, effects: &mut Effects, here: &Here) -> Result<(), StepError>
         requires { KnowsMembers here.now self.old }
-        ensures { Makes here.now result self.old turn.old self.new turn.new (joining_begun here.now.scenario.now here.now.key) }
+        ensures { Makes here.now result self.old effects.old self.new effects.new (joining_begun here.now.scenario.now here.now.key) }
     {
         let rota = empty_rota(here.alloc)?;
         self.phase = Phase::Joining;
         self.table = Table::new(here.alloc);
         self.rota = rota;
-        self.ask_join(turn, here)
+        self.ask_join(effects, here)
     }
 
     /// The member starts.
     #[tactic(auto, unfolding(crate::specs::Step::started))]
-    pub(crate) fn start(&mut self, turn: &mut Effects, here: &Here) -> Result<(), StepError>
+    pub(crate) fn start(&mut self, effects: &mut Effects, here: &Here) -> Result<(), StepError>
         requires { KnowsMembers here.now self.old }
-        ensures { Makes here.now result self.old turn.old self.new turn.new (started here.now.scenario.now here.now.key) }
+        ensures { Makes here.now result self.old effects.old self.new effects.new (started here.now.scenario.now here.now.key) }
     {
-        self.write_row(turn, here, What::Start, None, 0, false)?;
+        self.write_row(effects, here, What::Start, None, 0, false)?;
         if here.scenario.start(here.key.to) == Moment(0) {
-            self.begin(turn, here)
+            self.begin(effects, here)
         } else {
-            self.begin_joining(turn, here)
+            self.begin_joining(effects, here)
         }
     }
 
     /// The member crashes, for good.
     #[tactic(auto, unfolding(crate::specs::Step::crashed))]
-    pub(crate) fn crash(&mut self, turn: &mut Effects, here: &Here) -> Result<(), StepError>
+    pub(crate) fn crash(&mut self, effects: &mut Effects, here: &Here) -> Result<(), StepError>
         requires { KnowsMembers here.now self.old }
-        ensures { Makes here.now result self.old turn.old self.new turn.new (crashed here.now.key) }
+        ensures { Makes here.now result self.old effects.old self.new effects.new (crashed here.now.key) }
     {
         self.phase = Phase::Down;
-        self.write_row(turn, here, What::Crash, None, 0, false)
+        self.write_row(effects, here, What::Crash, None, 0, false)
     }
 
     /// A member that asks to join is alive, and is told all that one knows.
     #[tactic(auto, unfolding(crate::specs::Step::join_handled))]
-    pub(crate) fn hear_join(&mut self, turn: &mut Effects, here: &Here) -> Result<(), StepError>
+    pub(crate) fn hear_join(&mut self, effects: &mut Effects, here: &Here) -> Result<(), StepError>
         requires { KnowsMembers here.now self.old }
-        ensures { Makes here.now result self.old turn.old self.new turn.new (join_handled here.now.scenario.now here.now.key) }
+        ensures { Makes here.now result self.old effects.old self.new effects.new (join_handled here.now.scenario.now here.now.key) }
     {
         let claim = Update {
             subject: here.key.from,
@@ -125,27 +126,34 @@ impl Member {
             inc: 0,
             accuser: here.key.to,
         };
-        self.apply(turn, here, true, &claim)?;
-        self.send_welcome(turn, here, here.key.from)
+        self.apply(effects, here, Telling::Aloud, &claim)?;
+        self.send_welcome(effects, here, here.key.from)
     }
 
     /// A member that is welcomed runs, and takes over what it is told, quietly.
     #[tactic(auto, unfolding(crate::specs::Step::joined))]
     pub(crate) fn join(
         &mut self,
-        turn: &mut Effects,
+        effects: &mut Effects,
         here: &Here,
         entries: &[Update],
     ) -> Result<(), StepError>
         requires known { KnowsMembers here.now self.old }
         requires entries { AreAboutMembers here.now entries.now }
-        ensures { Makes here.now result self.old turn.old self.new turn.new (joined here.now.scenario.now here.now.key entries.now) }
+        ensures { Makes here.now result self.old effects.old self.new effects.new (joined here.now.scenario.now here.now.key entries.now) }
     {
         self.phase = Phase::Running;
         let others = count_others(entries, here.key.to);
-        self.write_row(turn, here, What::Joined, Some(here.key.from), others, false)?;
-        self.apply_all(turn, here, false, entries)?;
-        self.set_first_period(turn, here)
+        self.write_row(
+            effects,
+            here,
+            What::Joined,
+            Some(here.key.from),
+            others,
+            false,
+        )?;
+        self.apply_all(effects, here, Telling::Quietly, entries)?;
+        self.set_first_period(effects, here)
     }
 }
 

@@ -6,18 +6,18 @@ ghost use Rattle.member.specs.Step.{withdrawn, byes_said, departed};
 use crate::event::Effects;
 use crate::here::Here;
 use crate::member::{Member, Phase};
-use crate::turn::StepError;
+use crate::step_error::StepError;
 use base::MemberId;
 use trace::What;
 
 impl Member {
     /// A member that joins leaves, for good. Nobody has to be told.
     #[tactic(auto, unfolding(crate::specs::Step::withdrawn))]
-    pub(crate) fn withdraw(&mut self, turn: &mut Effects, here: &Here) -> Result<(), StepError>
+    pub(crate) fn withdraw(&mut self, effects: &mut Effects, here: &Here) -> Result<(), StepError>
         requires { KnowsMembers here.now self.old }
-        ensures { Makes here.now result self.old turn.old self.new turn.new (withdrawn here.now.key) }
+        ensures { Makes here.now result self.old effects.old self.new effects.new (withdrawn here.now.key) }
     {
-        self.write_row(turn, here, What::Leave, None, 0, false)?;
+        self.write_row(effects, here, What::Leave, None, 0, false)?;
         self.phase = Phase::Down;
         Ok(())
     }
@@ -25,39 +25,39 @@ impl Member {
     /// Says bye to members, one after another.
     fn send_byes(
         &mut self,
-        turn: &mut Effects,
+        effects: &mut Effects,
         here: &Here,
         others: &[MemberId],
     ) -> Result<(), StepError>
         requires known { KnowsMembers here.now self.old }
         requires members { All (IsMember here.now) others.now }
-        ensures { Makes here.now result self.old turn.old self.new turn.new (sent_to_each (bye_sent here.now.scenario.now here.now.key) others.now) }
+        ensures { Makes here.now result self.old effects.old self.new effects.new (sent_to_each (bye_sent here.now.scenario.now here.now.key) others.now) }
     {
         for other in others {
-            self.send_bye(turn, here, *other)?;
+            self.send_bye(effects, here, *other)?;
         }
         Ok(())
     }
 
     /// Says bye to members that are held to be alive: as many as help with a probe, but one at least.
     #[tactic(auto, unfolding(crate::specs::Step::byes_said))]
-    fn say_byes(&mut self, turn: &mut Effects, here: &Here) -> Result<(), StepError>
+    fn say_byes(&mut self, effects: &mut Effects, here: &Here) -> Result<(), StepError>
         requires { KnowsMembers here.now self.old }
-        ensures { Makes here.now result self.old turn.old self.new turn.new (byes_said here.now.scenario.now here.now.key) }
+        ensures { Makes here.now result self.old effects.old self.new effects.new (byes_said here.now.scenario.now here.now.key) }
     {
         let count = here.scenario.swim().helpers.max(1);
         let others = self.draw_helpers(here, here.key.to, count)?;
-        self.send_byes(turn, here, &others)
+        self.send_byes(effects, here, &others)
     }
 
     /// A member that runs says bye, and leaves for good.
     #[tactic(auto, unfolding(crate::specs::Step::departed))]
-    pub(crate) fn depart(&mut self, turn: &mut Effects, here: &Here) -> Result<(), StepError>
+    pub(crate) fn depart(&mut self, effects: &mut Effects, here: &Here) -> Result<(), StepError>
         requires { KnowsMembers here.now self.old }
-        ensures { Makes here.now result self.old turn.old self.new turn.new (departed here.now.scenario.now here.now.key) }
+        ensures { Makes here.now result self.old effects.old self.new effects.new (departed here.now.scenario.now here.now.key) }
     {
-        self.write_row(turn, here, What::Leave, None, 0, false)?;
-        self.say_byes(turn, here)?;
+        self.write_row(effects, here, What::Leave, None, 0, false)?;
+        self.say_byes(effects, here)?;
         self.phase = Phase::Down;
         Ok(())
     }

@@ -12,7 +12,8 @@ use crate::content::Content;
 use crate::event::Effects;
 use crate::here::Here;
 use crate::member::Member;
-use crate::turn::StepError;
+use crate::step_error::StepError;
+use crate::telling::{Telling, is_aloud};
 use base::{MemberId, Profile};
 use incarnation::{Claim, Update};
 use membership::is_confirm;
@@ -24,31 +25,31 @@ impl Member {
     #[tactic(auto, unfolding(crate::specs::Apply::with_put))]
     pub(crate) fn put(
         &mut self,
-        turn: &mut Effects,
+        effects: &mut Effects,
         here: &Here,
         update: Update,
     ) -> Result<(), StepError>
         requires { KnowsMembers here.now self.old }
-        ensures { Makes here.now result self.old turn.old self.new turn.new (with_put here.now.scenario.now here.now.key update) }
+        ensures { Makes here.now result self.old effects.old self.new effects.new (with_put here.now.scenario.now here.now.key update) }
     {
         self.buffer.put(update)?;
-        self.set_gossip(turn, here)
+        self.set_gossip(effects, here)
     }
 
     /// Passes an update on, unless the application is quiet.
     #[tactic(auto, unfolding(crate::specs::Apply::passed_on))]
     fn pass_on(
         &mut self,
-        turn: &mut Effects,
+        effects: &mut Effects,
         here: &Here,
-        loud: bool,
+        telling: Telling,
         update: &Update,
     ) -> Result<(), StepError>
         requires { KnowsMembers here.now self.old }
-        ensures { Makes here.now result self.old turn.old self.new turn.new (passed_on here.now.scenario.now here.now.key loud update.now) }
+        ensures { Makes here.now result self.old effects.old self.new effects.new (passed_on here.now.scenario.now here.now.key telling update.now) }
     {
-        if loud {
-            self.put(turn, here, *update)
+        if is_aloud(telling) {
+            self.put(effects, here, *update)
         } else {
             Ok(())
         }
@@ -57,17 +58,17 @@ impl Member {
     /// Writes a row about another member, unless the application is quiet.
     fn tell(
         &self,
-        turn: &mut Effects,
+        effects: &mut Effects,
         here: &Here,
-        loud: bool,
+        telling: Telling,
         what: What,
         subject: MemberId,
         value: u64,
     ) -> Result<(), StepError>
-        ensures { IsMade result (effect_of self.now turn.new) (with_told loud here.now.key what subject value (effect_of self.now turn.old)) }
+        ensures { IsMade result (effect_of self.now effects.new) (with_told telling here.now.key what subject value (effect_of self.now effects.old)) }
     {
-        if loud {
-            self.write_row(turn, here, what, Some(subject), value, false)
+        if is_aloud(telling) {
+            self.write_row(effects, here, what, Some(subject), value, false)
         } else {
             Ok(())
         }
@@ -137,29 +138,36 @@ impl Member {
     #[tactic(auto, unfolding(crate::specs::Apply::alive_heard))]
     fn hear_alive(
         &mut self,
-        turn: &mut Effects,
+        effects: &mut Effects,
         here: &Here,
-        loud: bool,
+        telling: Telling,
         update: &Update,
     ) -> Result<(), StepError>
         requires { KnowsMembers here.now self.old }
-        ensures { Makes here.now result self.old turn.old self.new turn.new (alive_heard loud here.now.key update.now) }
+        ensures { Makes here.now result self.old effects.old self.new effects.new (alive_heard telling here.now.key update.now) }
     {
         self.suspicions.clear(update.subject);
-        self.tell(turn, here, loud, What::Alive, update.subject, update.inc)
+        self.tell(
+            effects,
+            here,
+            telling,
+            What::Alive,
+            update.subject,
+            update.inc,
+        )
     }
 
     /// Suspect starts a suspicion anew, and sets its timer (SWIM, section 4.2).
     #[tactic(auto, unfolding(crate::specs::Apply::suspect_heard))]
     fn hear_suspect(
         &mut self,
-        turn: &mut Effects,
+        effects: &mut Effects,
         here: &Here,
-        loud: bool,
+        telling: Telling,
         update: &Update,
     ) -> Result<(), StepError>
         requires { KnowsMembers here.now self.old }
-        ensures { Makes here.now result self.old turn.old self.new turn.new (suspect_heard here.now.scenario.now loud here.now.key update.now) }
+        ensures { Makes here.now result self.old effects.old self.new effects.new (suspect_heard here.now.scenario.now telling here.now.key update.now) }
     {
         let members = self.live_members(here);
         let due = self.suspicions.start(
@@ -171,11 +179,18 @@ impl Member {
             self.next_number,
             here.scenario,
         )?;
-        self.tell(turn, here, loud, What::Suspect, update.subject, update.inc)?;
+        self.tell(
+            effects,
+            here,
+            telling,
+            What::Suspect,
+            update.subject,
+            update.inc,
+        )?;
         let timer = Content::SuspicionTimer {
             subject: update.subject,
         };
-        self.make_event(turn, here, due, here.key.to, timer)
+        self.make_event(effects, here, due, here.key.to, timer)
     }
 
     /// Keeps since when a member is confirmed, where memberlist's rules ask for it.
@@ -197,34 +212,41 @@ impl Member {
     #[tactic(auto, unfolding(crate::specs::Apply::confirm_heard))]
     fn hear_confirm(
         &mut self,
-        turn: &mut Effects,
+        effects: &mut Effects,
         here: &Here,
-        loud: bool,
+        telling: Telling,
         update: &Update,
     ) -> Result<(), StepError>
         requires { KnowsMembers here.now self.old }
-        ensures { Makes here.now result self.old turn.old self.new turn.new (confirm_heard (profile_of here.now.scenario.now) loud here.now.key update.now) }
+        ensures { Makes here.now result self.old effects.old self.new effects.new (confirm_heard (profile_of here.now.scenario.now) telling here.now.key update.now) }
     {
         self.suspicions.clear(update.subject);
         self.keep_death(here, update.subject)?;
-        self.tell(turn, here, loud, What::Confirm, update.subject, update.inc)
+        self.tell(
+            effects,
+            here,
+            telling,
+            What::Confirm,
+            update.subject,
+            update.inc,
+        )
     }
 
     /// Acts upon a claim about another member.
     fn hear_claim(
         &mut self,
-        turn: &mut Effects,
+        effects: &mut Effects,
         here: &Here,
-        loud: bool,
+        telling: Telling,
         update: &Update,
     ) -> Result<(), StepError>
         requires { KnowsMembers here.now self.old }
-        ensures { Makes here.now result self.old turn.old self.new turn.new (claim_heard here.now.scenario.now loud here.now.key update.now update.now.claim) }
+        ensures { Makes here.now result self.old effects.old self.new effects.new (claim_heard here.now.scenario.now telling here.now.key update.now update.now.claim) }
     {
         match update.claim {
-            Claim::Alive => self.hear_alive(turn, here, loud, update),
-            Claim::Suspect => self.hear_suspect(turn, here, loud, update),
-            Claim::Confirm => self.hear_confirm(turn, here, loud, update),
+            Claim::Alive => self.hear_alive(effects, here, telling, update),
+            Claim::Suspect => self.hear_suspect(effects, here, telling, update),
+            Claim::Confirm => self.hear_confirm(effects, here, telling, update),
         }
     }
 
@@ -232,40 +254,40 @@ impl Member {
     #[tactic(auto, unfolding(crate::specs::Apply::news_heard))]
     pub(crate) fn hear_news(
         &mut self,
-        turn: &mut Effects,
+        effects: &mut Effects,
         here: &Here,
-        loud: bool,
+        telling: Telling,
         update: &Update,
     ) -> Result<(), StepError>
         requires known { KnowsMembers here.now self.old }
         requires member { IsMember here.now update.now.subject }
         requires other { update.now.subject ≢ here.now.key.to }
-        ensures { Makes here.now result self.old turn.old self.new turn.new (news_heard here.now.scenario.now loud here.now.key update.now) }
+        ensures { Makes here.now result self.old effects.old self.new effects.new (news_heard here.now.scenario.now telling here.now.key update.now) }
     {
         self.keep_claim(here, update)?;
-        self.hear_claim(turn, here, loud, update)?;
-        self.pass_on(turn, here, loud, update)
+        self.hear_claim(effects, here, telling, update)?;
+        self.pass_on(effects, here, telling, update)
     }
 
     /// Tells of an accusation that counts, sets the suspicion's timer again, and passes it on.
     fn count_accusation(
         &mut self,
-        turn: &mut Effects,
+        effects: &mut Effects,
         here: &Here,
-        loud: bool,
+        telling: Telling,
         update: &Update,
         accused: Option<Accused>,
     ) -> Result<(), StepError>
         requires { KnowsMembers here.now self.old }
-        ensures { Makes here.now result self.old turn.old self.new turn.new (accusation_counted here.now.scenario.now loud here.now.key update.now accused) }
+        ensures { Makes here.now result self.old effects.old self.new effects.new (accusation_counted here.now.scenario.now telling here.now.key update.now accused) }
     {
         let Some(accused) = accused else {
             return Ok(());
         };
         self.tell(
-            turn,
+            effects,
             here,
-            loud,
+            telling,
             What::Accuse,
             update.subject,
             accused.count,
@@ -273,21 +295,21 @@ impl Member {
         let timer = Content::SuspicionTimer {
             subject: update.subject,
         };
-        self.make_event(turn, here, accused.due, here.key.to, timer)?;
-        self.pass_on(turn, here, loud, update)
+        self.make_event(effects, here, accused.due, here.key.to, timer)?;
+        self.pass_on(effects, here, telling, update)
     }
 
     /// A further accuser of a suspect, where it counts, shortens the suspicion (LHA-Suspicion).
     #[tactic(auto, unfolding(crate::specs::Apply::accusation_heard))]
     pub(crate) fn hear_accusation(
         &mut self,
-        turn: &mut Effects,
+        effects: &mut Effects,
         here: &Here,
-        loud: bool,
+        telling: Telling,
         update: &Update,
     ) -> Result<(), StepError>
         requires { KnowsMembers here.now self.old }
-        ensures { Makes here.now result self.old turn.old self.new turn.new (accusation_heard here.now.scenario.now loud here.now.key update.now) }
+        ensures { Makes here.now result self.old effects.old self.new effects.new (accusation_heard here.now.scenario.now telling here.now.key update.now) }
     {
         let accused = self.suspicions.accuse(
             update.subject,
@@ -295,7 +317,7 @@ impl Member {
             here.key.at,
             self.next_number,
         )?;
-        self.count_accusation(turn, here, loud, update, accused)
+        self.count_accusation(effects, here, telling, update, accused)
     }
 }
 

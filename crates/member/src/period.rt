@@ -9,7 +9,8 @@ use crate::content::Content;
 use crate::event::Effects;
 use crate::here::Here;
 use crate::member::Member;
-use crate::turn::StepError;
+use crate::step_error::StepError;
+use crate::telling::Telling;
 use base::MemberId;
 use base::limits::COUNTER_LIMIT;
 use incarnation::{Claim, Update};
@@ -20,48 +21,55 @@ use trace::What;
 impl Member {
     /// What the end of a period says of its probe, if there was one.
     #[tactic(auto, unfolding(crate::specs::Step::probe_ended))]
-    fn end_probe(&mut self, turn: &mut Effects, here: &Here) -> Result<(), StepError>
+    fn end_probe(&mut self, effects: &mut Effects, here: &Here) -> Result<(), StepError>
         requires { KnowsMembers here.now self.old }
-        ensures { Makes here.now result self.old turn.old self.new turn.new (probe_ended here.now.scenario.now here.now.key (state_of self.old).probe) }
+        ensures { Makes here.now result self.old effects.old self.new effects.new (probe_ended here.now.scenario.now here.now.key (state_of self.old).probe) }
     {
         let Some(probe) = self.probe else {
             return Ok(());
         };
         if !probe.acked {
-            return self.fail_probe(turn, here, &probe);
+            return self.fail_probe(effects, here, &probe);
         }
         let mut health = self.health;
         health.probe_ended(&probe);
-        self.set_health(turn, here, health)
+        self.set_health(effects, here, health)
     }
 
     /// A probe without an ack has failed: the member may be slow, and the target may be down.
     #[tactic(auto, unfolding(crate::specs::Step::probe_failed))]
     fn fail_probe(
         &mut self,
-        turn: &mut Effects,
+        effects: &mut Effects,
         here: &Here,
         probe: &Probe,
     ) -> Result<(), StepError>
         requires { KnowsMembers here.now self.old }
-        ensures { Makes here.now result self.old turn.old self.new turn.new (probe_failed here.now.scenario.now here.now.key probe.now) }
+        ensures { Makes here.now result self.old effects.old self.new effects.new (probe_failed here.now.scenario.now here.now.key probe.now) }
     {
-        self.write_row(turn, here, What::Fail, Some(probe.target), probe.seq, false)?;
+        self.write_row(
+            effects,
+            here,
+            What::Fail,
+            Some(probe.target),
+            probe.seq,
+            false,
+        )?;
         let mut health = self.health;
         health.probe_ended(probe);
-        self.set_health(turn, here, health)?;
-        self.suspect(turn, here, probe.target)
+        self.set_health(effects, here, health)?;
+        self.suspect(effects, here, probe.target)
     }
 
     /// Suspects the target of a failed probe, unless it is unknown or confirmed (SWIM, section 4.2).
     fn suspect(
         &mut self,
-        turn: &mut Effects,
+        effects: &mut Effects,
         here: &Here,
         target: MemberId,
     ) -> Result<(), StepError>
         requires { KnowsMembers here.now self.old }
-        ensures { Makes here.now result self.old turn.old self.new turn.new (suspected here.now.scenario.now here.now.key target (get (state_of self.old).table target)) }
+        ensures { Makes here.now result self.old effects.old self.new effects.new (suspected here.now.scenario.now here.now.key target (get (state_of self.old).table target)) }
     {
         let Some(held) = self.table.get(target) else {
             return Ok(());
@@ -75,7 +83,7 @@ impl Member {
             inc: held.1,
             accuser: here.key.to,
         };
-        self.apply(turn, here, true, &claim)
+        self.apply(effects, here, Telling::Aloud, &claim)
     }
 
     /// The next member to probe, in the turn of the rota.
@@ -95,13 +103,13 @@ impl Member {
     #[tactic(auto, unfolding(crate::specs::Step::probe_begun))]
     fn begin_probe(
         &mut self,
-        turn: &mut Effects,
+        effects: &mut Effects,
         here: &Here,
         target: MemberId,
     ) -> Result<(), StepError>
         requires known { KnowsMembers here.now self.old }
         requires member { IsMember here.now target }
-        ensures { Makes here.now result self.old turn.old self.new turn.new (probe_begun here.now.scenario.now here.now.key target) }
+        ensures { Makes here.now result self.old effects.old self.new effects.new (probe_begun here.now.scenario.now here.now.key target) }
     {
         if self.sequence >= COUNTER_LIMIT {
             return Err(StepError::Worn);
@@ -109,19 +117,19 @@ impl Member {
         let seq = self.sequence + 1;
         self.sequence = seq;
         self.probe = Some(Probe::new(seq, target));
-        self.send_ping(turn, here, target, here.key.to, seq)?;
+        self.send_ping(effects, here, target, here.key.to, seq)?;
         let ticks = self.health.scaled(here.scenario.swim().timeout);
-        self.set_timer(turn, here, ticks, Content::TimeoutTimer { seq })
+        self.set_timer(effects, here, ticks, Content::TimeoutTimer { seq })
     }
 
     /// Probes the next member, where there is one.
     #[tactic(auto, using(crate::proofs::Holds::holds_no_probe), unfolding(crate::specs::Step::next_probed))]
-    fn probe_next(&mut self, turn: &mut Effects, here: &Here) -> Result<(), StepError>
+    fn probe_next(&mut self, effects: &mut Effects, here: &Here) -> Result<(), StepError>
         requires { KnowsMembers here.now self.old }
-        ensures { Makes here.now result self.old turn.old self.new turn.new (next_probed here.now.scenario.now here.now.key) }
+        ensures { Makes here.now result self.old effects.old self.new effects.new (next_probed here.now.scenario.now here.now.key) }
     {
         match self.next_target(here) {
-            Some(target) => self.begin_probe(turn, here, target),
+            Some(target) => self.begin_probe(effects, here, target),
             None => {
                 self.probe = None;
                 Ok(())
@@ -132,13 +140,17 @@ impl Member {
     /// A protocol period: the last probe ends, the next begins, and a timer is set for the next period,
     /// which LHA-Probe scales.
     #[tactic(auto, unfolding(crate::specs::Step::period_begun))]
-    pub(crate) fn begin_period(&mut self, turn: &mut Effects, here: &Here) -> Result<(), StepError>
+    pub(crate) fn begin_period(
+        &mut self,
+        effects: &mut Effects,
+        here: &Here,
+    ) -> Result<(), StepError>
         requires { KnowsMembers here.now self.old }
-        ensures { Makes here.now result self.old turn.old self.new turn.new (period_begun here.now.scenario.now here.now.key) }
+        ensures { Makes here.now result self.old effects.old self.new effects.new (period_begun here.now.scenario.now here.now.key) }
     {
-        self.end_probe(turn, here)?;
-        self.probe_next(turn, here)?;
+        self.end_probe(effects, here)?;
+        self.probe_next(effects, here)?;
         let ticks = self.health.scaled(here.scenario.period());
-        self.set_timer(turn, here, ticks, Content::PeriodTimer)
+        self.set_timer(effects, here, ticks, Content::PeriodTimer)
     }
 }

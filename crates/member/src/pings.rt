@@ -6,7 +6,8 @@ use crate::content::Content;
 use crate::event::Effects;
 use crate::here::Here;
 use crate::member::Member;
-use crate::turn::StepError;
+use crate::step_error::StepError;
+use crate::telling::Telling;
 use base::MemberId;
 use incarnation::Update;
 use lifeguard::nack_delay;
@@ -16,7 +17,7 @@ impl Member {
     #[tactic(auto, unfolding(crate::specs::Step::ping_heard))]
     pub(crate) fn hear_ping(
         &mut self,
-        turn: &mut Effects,
+        effects: &mut Effects,
         here: &Here,
         initiator: MemberId,
         seq: u64,
@@ -24,16 +25,16 @@ impl Member {
     ) -> Result<(), StepError>
         requires known { KnowsMembers here.now self.old }
         requires updates { AreAboutMembers here.now updates.now }
-        ensures { Makes here.now result self.old turn.old self.new turn.new (ping_heard here.now.scenario.now here.now.key initiator seq updates.now) }
+        ensures { Makes here.now result self.old effects.old self.new effects.new (ping_heard here.now.scenario.now here.now.key initiator seq updates.now) }
     {
-        self.apply_all(turn, here, true, updates)?;
-        self.send_ack(turn, here, here.key.from, initiator, seq)
+        self.apply_all(effects, here, Telling::Aloud, updates)?;
+        self.send_ack(effects, here, here.key.from, initiator, seq)
     }
 
     /// Owes the initiator an answer, which comes before its time is up (LHA-Probe).
-    fn add_relay(&mut self, turn: &mut Effects, here: &Here, seq: u64) -> Result<(), StepError>
+    fn add_relay(&mut self, effects: &mut Effects, here: &Here, seq: u64) -> Result<(), StepError>
         requires { KnowsMembers here.now self.old }
-        ensures { Makes here.now result self.old turn.old self.new turn.new (with_relay here.now.scenario.now here.now.key seq) }
+        ensures { Makes here.now result self.old effects.old self.new effects.new (with_relay here.now.scenario.now here.now.key seq) }
     {
         self.relays.add(here.key.from, seq)?;
         let percent = here.scenario.lifeguard().nack_percent as u32;
@@ -42,14 +43,14 @@ impl Member {
             initiator: here.key.from,
             seq,
         };
-        self.set_timer(turn, here, ticks, timer)
+        self.set_timer(effects, here, ticks, timer)
     }
 
     /// A helper pings the target on behalf of the initiator (SWIM, section 3.1).
     #[tactic(auto, unfolding(crate::specs::Step::ping_req_heard))]
     pub(crate) fn hear_ping_req(
         &mut self,
-        turn: &mut Effects,
+        effects: &mut Effects,
         here: &Here,
         seq: u64,
         target: MemberId,
@@ -58,12 +59,12 @@ impl Member {
         requires known { KnowsMembers here.now self.old }
         requires target { IsMember here.now target }
         requires updates { AreAboutMembers here.now updates.now }
-        ensures { Makes here.now result self.old turn.old self.new turn.new (ping_req_heard here.now.scenario.now here.now.key seq target updates.now) }
+        ensures { Makes here.now result self.old effects.old self.new effects.new (ping_req_heard here.now.scenario.now here.now.key seq target updates.now) }
     {
-        self.apply_all(turn, here, true, updates)?;
-        self.send_ping(turn, here, target, here.key.from, seq)?;
+        self.apply_all(effects, here, Telling::Aloud, updates)?;
+        self.send_ping(effects, here, target, here.key.from, seq)?;
         if here.scenario.lifeguard().probe {
-            self.add_relay(turn, here, seq)
+            self.add_relay(effects, here, seq)
         } else {
             Ok(())
         }
@@ -73,19 +74,19 @@ impl Member {
     #[tactic(auto, unfolding(crate::specs::Step::nack_due))]
     pub(crate) fn end_relay(
         &mut self,
-        turn: &mut Effects,
+        effects: &mut Effects,
         here: &Here,
         initiator: MemberId,
         seq: u64,
     ) -> Result<(), StepError>
         requires known { KnowsMembers here.now self.old }
         requires initiator { IsMember here.now initiator }
-        ensures { Makes here.now result self.old turn.old self.new turn.new (nack_due here.now.scenario.now here.now.key initiator seq) }
+        ensures { Makes here.now result self.old effects.old self.new effects.new (nack_due here.now.scenario.now here.now.key initiator seq) }
     {
         if !self.relays.has(initiator, seq) {
             return Ok(());
         }
         let _owed = self.relays.remove(initiator, seq);
-        self.send_nack(turn, here, initiator, seq)
+        self.send_nack(effects, here, initiator, seq)
     }
 }

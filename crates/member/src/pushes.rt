@@ -1,8 +1,9 @@
-ghost use Rattle.std.specs.Prelude.{◌≡◌, ◌≤◌, ◌<◌, ◌^◌, true, All};
+ghost use Rattle.std.specs.Prelude.{◌≡◌, ◌≤◌, ◌<◌, ◌^◌, All};
 ghost use Rattle.links.specs.Trips.{kept_arrival_of};
 ghost use Rattle.membership.specs.Table.{live_count};
+ghost use Rattle.member.specs.declared.telling.Telling.TheVariants.{Aloud};
 ghost use Rattle.member.specs.Makes.{AreAboutMembers, Draws, IsMember, KnowsMembers, Makes};
-ghost use Rattle.member.specs.Turn.{with_timer};
+ghost use Rattle.member.specs.Effects.{with_timer};
 ghost use Rattle.member.specs.Send.{sent_to_each, push_sent, pull_sent};
 ghost use Rattle.member.specs.Apply.{applied};
 ghost use Rattle.member.specs.Step.{doublings_to, push_period, push_begun, first_push_set, merged_claim, merged, pushed, push_due, push_heard};
@@ -13,7 +14,8 @@ use crate::event::Effects;
 use crate::here::Here;
 use crate::member::Member;
 use crate::news::is_alive;
-use crate::turn::StepError;
+use crate::step_error::StepError;
+use crate::telling::Telling;
 use base::{MemberId, Moment};
 use incarnation::{Claim, Update};
 use membership::Fitting;
@@ -34,15 +36,20 @@ impl Member {
 
     /// Sends all that is known, and oneself.
     #[tactic(auto, unfolding(crate::specs::Send::push_sent, crate::specs::Send::posted))]
-    fn send_push(&mut self, turn: &mut Effects, here: &Here, to: MemberId) -> Result<(), StepError>
+    fn send_push(
+        &mut self,
+        effects: &mut Effects,
+        here: &Here,
+        to: MemberId,
+    ) -> Result<(), StepError>
         requires to { IsMember here.now to }
         requires known { KnowsMembers here.now self.old }
-        ensures { Makes here.now result self.old turn.old self.new turn.new (push_sent here.now.scenario.now here.now.key to) }
+        ensures { Makes here.now result self.old effects.old self.new effects.new (push_sent here.now.scenario.now here.now.key to) }
     {
         let entries = self.whole_table(here)?;
         let arrival = self.kept_arrival(here, to);
         self.post(
-            turn,
+            effects,
             here,
             What::Push,
             to,
@@ -54,15 +61,20 @@ impl Member {
 
     /// Answers a push by the same.
     #[tactic(auto, unfolding(crate::specs::Send::pull_sent, crate::specs::Send::posted))]
-    fn send_pull(&mut self, turn: &mut Effects, here: &Here, to: MemberId) -> Result<(), StepError>
+    fn send_pull(
+        &mut self,
+        effects: &mut Effects,
+        here: &Here,
+        to: MemberId,
+    ) -> Result<(), StepError>
         requires to { IsMember here.now to }
         requires known { KnowsMembers here.now self.old }
-        ensures { Makes here.now result self.old turn.old self.new turn.new (pull_sent here.now.scenario.now here.now.key to) }
+        ensures { Makes here.now result self.old effects.old self.new effects.new (pull_sent here.now.scenario.now here.now.key to) }
     {
         let entries = self.whole_table(here)?;
         let arrival = self.kept_arrival(here, to);
         self.post(
-            turn,
+            effects,
             here,
             What::Pull,
             to,
@@ -75,16 +87,16 @@ impl Member {
     /// Sends all that is known to members, one after another.
     fn push_to(
         &mut self,
-        turn: &mut Effects,
+        effects: &mut Effects,
         here: &Here,
         them: &[MemberId],
     ) -> Result<(), StepError>
         requires known { KnowsMembers here.now self.old }
         requires members { All (IsMember here.now) them.now }
-        ensures { Makes here.now result self.old turn.old self.new turn.new (sent_to_each (push_sent here.now.scenario.now here.now.key) them.now) }
+        ensures { Makes here.now result self.old effects.old self.new effects.new (sent_to_each (push_sent here.now.scenario.now here.now.key) them.now) }
     {
         for to in them {
-            self.send_push(turn, here, *to)?;
+            self.send_push(effects, here, *to)?;
         }
         Ok(())
     }
@@ -105,7 +117,7 @@ impl Member {
     #[tactic(auto, unfolding(crate::specs::Step::push_begun))]
     fn begin_push(
         &mut self,
-        turn: &mut Effects,
+        effects: &mut Effects,
         here: &Here,
         beat: Moment,
         push: u64,
@@ -114,23 +126,23 @@ impl Member {
         requires some { 0 < push }
         requires short { push ≤ 2 ^ 24 }
         requires known { KnowsMembers here.now self.old }
-        ensures { Makes here.now result self.old turn.old self.new turn.new (push_begun here.now.scenario.now here.now.key beat push) }
+        ensures { Makes here.now result self.old effects.old self.new effects.new (push_begun here.now.scenario.now here.now.key beat push) }
     {
         let wait = u64::from(self.stream.below(push as u32));
         let at = Moment(beat.ticks() + wait + self.push_period(here, push));
-        self.make_event(turn, here, at, here.key.to, Content::PushTimer)
+        self.make_event(effects, here, at, here.key.to, Content::PushTimer)
     }
 
     /// Sets the first push timer after the beat of the periods, where members push.
     pub(crate) fn set_first_push(
         &mut self,
-        turn: &mut Effects,
+        effects: &mut Effects,
         here: &Here,
         beat: Moment,
     ) -> Result<(), StepError>
         requires early { beat ≤ 2 ^ 41 }
         requires known { KnowsMembers here.now self.old }
-        ensures { Makes here.now result self.old turn.old self.new turn.new (first_push_set here.now.scenario.now here.now.key beat here.now.scenario.now.gossip) }
+        ensures { Makes here.now result self.old effects.old self.new effects.new (first_push_set here.now.scenario.now here.now.key beat here.now.scenario.now.gossip) }
     {
         let settings = here.scenario.gossip();
         let Some(gossip) = settings else {
@@ -139,25 +151,25 @@ impl Member {
         if gossip.push == 0 {
             return Ok(());
         }
-        self.begin_push(turn, here, beat, gossip.push)
+        self.begin_push(effects, here, beat, gossip.push)
     }
 
     /// Tells one who is chosen all that is known, and again after a push period.
     #[tactic(auto, unfolding(crate::specs::Step::pushed))]
-    fn push(&mut self, turn: &mut Effects, here: &Here, push: u64) -> Result<(), StepError>
+    fn push(&mut self, effects: &mut Effects, here: &Here, push: u64) -> Result<(), StepError>
         requires short { push ≤ 2 ^ 24 }
         requires known { KnowsMembers here.now self.old }
-        ensures { Makes here.now result self.old turn.old self.new turn.new (pushed here.now.scenario.now here.now.key push) }
+        ensures { Makes here.now result self.old effects.old self.new effects.new (pushed here.now.scenario.now here.now.key push) }
     {
         let period = self.push_period(here, push);
         let them = self.draw_sample(here, &Fitting::AliveBut(here.key.to), 1)?;
-        self.push_on(turn, here, period, &them)
+        self.push_on(effects, here, period, &them)
     }
 
     /// Sets the next push timer, and tells members all that is known.
     fn push_on(
         &mut self,
-        turn: &mut Effects,
+        effects: &mut Effects,
         here: &Here,
         period: u64,
         them: &[MemberId],
@@ -165,16 +177,16 @@ impl Member {
         requires ticks_within { period ≤ 2 ^ 41 }
         requires known { KnowsMembers here.now self.old }
         requires members { All (IsMember here.now) them.now }
-        ensures { Makes here.now result self.old turn.old self.new turn.new (λ o. sent_to_each (push_sent here.now.scenario.now here.now.key) them.now (with_timer here.now.scenario.now here.now.key period Content.PushTimer o)) }
+        ensures { Makes here.now result self.old effects.old self.new effects.new (λ o. sent_to_each (push_sent here.now.scenario.now here.now.key) them.now (with_timer here.now.scenario.now here.now.key period Content.PushTimer o)) }
     {
-        self.set_timer(turn, here, period, Content::PushTimer)?;
-        self.push_to(turn, here, them)
+        self.set_timer(effects, here, period, Content::PushTimer)?;
+        self.push_to(effects, here, them)
     }
 
     /// The push timer is due, where members push.
-    pub(crate) fn end_push(&mut self, turn: &mut Effects, here: &Here) -> Result<(), StepError>
+    pub(crate) fn end_push(&mut self, effects: &mut Effects, here: &Here) -> Result<(), StepError>
         requires { KnowsMembers here.now self.old }
-        ensures { Makes here.now result self.old turn.old self.new turn.new (push_due here.now.scenario.now here.now.key here.now.scenario.now.gossip) }
+        ensures { Makes here.now result self.old effects.old self.new effects.new (push_due here.now.scenario.now here.now.key here.now.scenario.now.gossip) }
     {
         let settings = here.scenario.gossip();
         let Some(gossip) = settings else {
@@ -183,23 +195,23 @@ impl Member {
         if gossip.push == 0 {
             return Ok(());
         }
-        self.push(turn, here, gossip.push)
+        self.push(effects, here, gossip.push)
     }
 
     /// Heeds all that another knows.
     #[tactic(auto, unfolding(crate::specs::Step::merged))]
     pub(crate) fn merge(
         &mut self,
-        turn: &mut Effects,
+        effects: &mut Effects,
         here: &Here,
         entries: &[Update],
     ) -> Result<(), StepError>
         requires known { KnowsMembers here.now self.old }
         requires members { AreAboutMembers here.now entries.now }
-        ensures { Makes here.now result self.old turn.old self.new turn.new (merged here.now.scenario.now here.now.key entries.now) }
+        ensures { Makes here.now result self.old effects.old self.new effects.new (merged here.now.scenario.now here.now.key entries.now) }
     {
         for entry in entries {
-            self.apply_merged(turn, here, entry)?;
+            self.apply_merged(effects, here, entry)?;
         }
         Ok(())
     }
@@ -207,32 +219,32 @@ impl Member {
     /// Applies what is made of an entry of another's table.
     fn apply_merged(
         &mut self,
-        turn: &mut Effects,
+        effects: &mut Effects,
         here: &Here,
         entry: &Update,
     ) -> Result<(), StepError>
         requires known { KnowsMembers here.now self.old }
         requires member { IsMember here.now entry.now.subject }
-        ensures { Makes here.now result self.old turn.old self.new turn.new (applied here.now.scenario.now true here.now.key (merged_claim here.now.key.to entry.now)) }
+        ensures { Makes here.now result self.old effects.old self.new effects.new (applied here.now.scenario.now Aloud here.now.key (merged_claim here.now.key.to entry.now)) }
     {
         let claim = merged_claim(here.key.to, entry);
-        self.apply(turn, here, true, &claim)
+        self.apply(effects, here, Telling::Aloud, &claim)
     }
 
     /// A push is answered by all that one knows, and then heeded.
     #[tactic(auto, unfolding(crate::specs::Step::push_heard))]
     pub(crate) fn hear_push(
         &mut self,
-        turn: &mut Effects,
+        effects: &mut Effects,
         here: &Here,
         entries: &[Update],
     ) -> Result<(), StepError>
         requires known { KnowsMembers here.now self.old }
         requires members { AreAboutMembers here.now entries.now }
-        ensures { Makes here.now result self.old turn.old self.new turn.new (push_heard here.now.scenario.now here.now.key entries.now) }
+        ensures { Makes here.now result self.old effects.old self.new effects.new (push_heard here.now.scenario.now here.now.key entries.now) }
     {
-        self.send_pull(turn, here, here.key.from)?;
-        self.merge(turn, here, entries)
+        self.send_pull(effects, here, here.key.from)?;
+        self.merge(effects, here, entries)
     }
 }
 

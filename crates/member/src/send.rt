@@ -9,7 +9,7 @@ use crate::content::Content;
 use crate::event::Effects;
 use crate::here::Here;
 use crate::member::Member;
-use crate::turn::StepError;
+use crate::step_error::StepError;
 use crate::updates::Updates;
 use base::{MemberId, Moment, digits};
 use incarnation::{Claim, Update};
@@ -31,7 +31,7 @@ impl Member {
     /// A message arrives, or is lost.
     fn send_off(
         &mut self,
-        turn: &mut Effects,
+        effects: &mut Effects,
         here: &Here,
         to: MemberId,
         content: Content,
@@ -39,10 +39,10 @@ impl Member {
     ) -> Result<(), StepError>
         requires to { IsMember here.now to }
         requires known { KnowsMembers here.now self.old }
-        ensures { Makes here.now result self.old turn.old self.new turn.new (sent_off here.now.scenario.now here.now.key to content arrival) }
+        ensures { Makes here.now result self.old effects.old self.new effects.new (sent_off here.now.scenario.now here.now.key to content arrival) }
     {
         match arrival {
-            Some(at) => self.make_event(turn, here, at, to, content),
+            Some(at) => self.make_event(effects, here, at, to, content),
             None => self.use_number(here),
         }
     }
@@ -50,7 +50,7 @@ impl Member {
     /// Tells of a message, which arrives or is lost.
     pub(crate) fn post(
         &mut self,
-        turn: &mut Effects,
+        effects: &mut Effects,
         here: &Here,
         what: What,
         to: MemberId,
@@ -60,17 +60,17 @@ impl Member {
     ) -> Result<(), StepError>
         requires to { IsMember here.now to }
         requires known { KnowsMembers here.now self.old }
-        ensures { Makes here.now result self.old turn.old self.new turn.new (told_of here.now.scenario.now here.now.key what to value content arrival) }
+        ensures { Makes here.now result self.old effects.old self.new effects.new (told_of here.now.scenario.now here.now.key what to value content arrival) }
     {
-        self.write_row(turn, here, what, Some(to), value, arrival.is_none())?;
-        self.send_off(turn, here, to, content, arrival)
+        self.write_row(effects, here, what, Some(to), value, arrival.is_none())?;
+        self.send_off(effects, here, to, content, arrival)
     }
 
     /// Sends a message: its row, and its arrival unless it is lost.
     #[tactic(auto, unfolding(crate::specs::Send::posted))]
     pub(crate) fn send(
         &mut self,
-        turn: &mut Effects,
+        effects: &mut Effects,
         here: &Here,
         what: What,
         to: MemberId,
@@ -79,10 +79,10 @@ impl Member {
     ) -> Result<(), StepError>
         requires to { IsMember here.now to }
         requires known { KnowsMembers here.now self.old }
-        ensures { Makes here.now result self.old turn.old self.new turn.new (sent here.now.scenario.now here.now.key what to value content) }
+        ensures { Makes here.now result self.old effects.old self.new effects.new (sent here.now.scenario.now here.now.key what to value content) }
     {
         let arrival = self.arrival(here, to);
-        self.post(turn, here, what, to, value, content, arrival)
+        self.post(effects, here, what, to, value, content, arrival)
     }
 
     /// How many members are not confirmed, oneself included.
@@ -137,7 +137,7 @@ impl Member {
     #[tactic(auto, unfolding(crate::specs::Send::ping_sent))]
     pub(crate) fn send_ping(
         &mut self,
-        turn: &mut Effects,
+        effects: &mut Effects,
         here: &Here,
         to: MemberId,
         initiator: MemberId,
@@ -145,7 +145,7 @@ impl Member {
     ) -> Result<(), StepError>
         requires to { IsMember here.now to }
         requires known { KnowsMembers here.now self.old }
-        ensures { Makes here.now result self.old turn.old self.new turn.new (ping_sent here.now.scenario.now here.now.key to initiator seq) }
+        ensures { Makes here.now result self.old effects.old self.new effects.new (ping_sent here.now.scenario.now here.now.key to initiator seq) }
     {
         let buddy = self.buddy(here, to);
         let updates = self.pick(here, buddy)?;
@@ -154,14 +154,14 @@ impl Member {
             seq,
             updates,
         };
-        self.send(turn, here, What::Ping, to, seq, ping)
+        self.send(effects, here, What::Ping, to, seq, ping)
     }
 
     /// Asks a helper to ping the target (SWIM, section 3.1).
     #[tactic(auto, unfolding(crate::specs::Send::ping_req_sent))]
     pub(crate) fn send_ping_req(
         &mut self,
-        turn: &mut Effects,
+        effects: &mut Effects,
         here: &Here,
         target: MemberId,
         seq: u64,
@@ -169,7 +169,7 @@ impl Member {
     ) -> Result<(), StepError>
         requires to { IsMember here.now to }
         requires known { KnowsMembers here.now self.old }
-        ensures { Makes here.now result self.old turn.old self.new turn.new (ping_req_sent here.now.scenario.now here.now.key target seq to) }
+        ensures { Makes here.now result self.old effects.old self.new effects.new (ping_req_sent here.now.scenario.now here.now.key target seq to) }
     {
         let updates = self.pick(here, None)?;
         let request = Content::PingReq {
@@ -177,14 +177,14 @@ impl Member {
             seq,
             updates,
         };
-        self.send(turn, here, What::PingReq, to, seq, request)
+        self.send(effects, here, What::PingReq, to, seq, request)
     }
 
     /// Sends an ack on its way to the initiator of the probe (SWIM, section 3.1).
     #[tactic(auto, unfolding(crate::specs::Send::ack_sent))]
     pub(crate) fn send_ack(
         &mut self,
-        turn: &mut Effects,
+        effects: &mut Effects,
         here: &Here,
         to: MemberId,
         initiator: MemberId,
@@ -192,7 +192,7 @@ impl Member {
     ) -> Result<(), StepError>
         requires to { IsMember here.now to }
         requires known { KnowsMembers here.now self.old }
-        ensures { Makes here.now result self.old turn.old self.new turn.new (ack_sent here.now.scenario.now here.now.key to initiator seq) }
+        ensures { Makes here.now result self.old effects.old self.new effects.new (ack_sent here.now.scenario.now here.now.key to initiator seq) }
     {
         let updates = self.pick(here, None)?;
         let ack = Content::Ack {
@@ -200,34 +200,34 @@ impl Member {
             seq,
             updates,
         };
-        self.send(turn, here, What::Ack, to, seq, ack)
+        self.send(effects, here, What::Ack, to, seq, ack)
     }
 
     /// Tells an initiator that the target has not answered in time (LHA-Probe).
     #[tactic(auto, unfolding(crate::specs::Send::nack_sent))]
     pub(crate) fn send_nack(
         &mut self,
-        turn: &mut Effects,
+        effects: &mut Effects,
         here: &Here,
         to: MemberId,
         seq: u64,
     ) -> Result<(), StepError>
         requires to { IsMember here.now to }
         requires known { KnowsMembers here.now self.old }
-        ensures { Makes here.now result self.old turn.old self.new turn.new (nack_sent here.now.scenario.now here.now.key to seq) }
+        ensures { Makes here.now result self.old effects.old self.new effects.new (nack_sent here.now.scenario.now here.now.key to seq) }
     {
-        self.send(turn, here, What::Nack, to, seq, Content::Nack { seq })
+        self.send(effects, here, What::Nack, to, seq, Content::Nack { seq })
     }
 
     /// Asks the contact, where there is one, to let the member join.
     #[tactic(auto, unfolding(crate::specs::Send::join_sent))]
-    pub(crate) fn send_join(&mut self, turn: &mut Effects, here: &Here) -> Result<(), StepError>
+    pub(crate) fn send_join(&mut self, effects: &mut Effects, here: &Here) -> Result<(), StepError>
         requires { KnowsMembers here.now self.old }
-        ensures { Makes here.now result self.old turn.old self.new turn.new (join_sent here.now.scenario.now here.now.key) }
+        ensures { Makes here.now result self.old effects.old self.new effects.new (join_sent here.now.scenario.now here.now.key) }
     {
         match here.scenario.contact(here.key.to) {
             None => Ok(()),
-            Some(contact) => self.send(turn, here, What::Join, contact, 0, Content::Join),
+            Some(contact) => self.send(effects, here, What::Join, contact, 0, Content::Join),
         }
     }
 
@@ -249,17 +249,17 @@ impl Member {
     #[tactic(auto, unfolding(crate::specs::Send::welcome_sent))]
     pub(crate) fn send_welcome(
         &mut self,
-        turn: &mut Effects,
+        effects: &mut Effects,
         here: &Here,
         to: MemberId,
     ) -> Result<(), StepError>
         requires to { IsMember here.now to }
         requires known { KnowsMembers here.now self.old }
-        ensures { Makes here.now result self.old turn.old self.new turn.new (welcome_sent here.now.scenario.now here.now.key to) }
+        ensures { Makes here.now result self.old effects.old self.new effects.new (welcome_sent here.now.scenario.now here.now.key to) }
     {
         let entries = self.whole_table(here)?;
         self.send(
-            turn,
+            effects,
             here,
             What::Welcome,
             to,
@@ -272,14 +272,14 @@ impl Member {
     #[tactic(auto, unfolding(crate::specs::Send::bye_sent))]
     pub(crate) fn send_bye(
         &mut self,
-        turn: &mut Effects,
+        effects: &mut Effects,
         here: &Here,
         to: MemberId,
     ) -> Result<(), StepError>
         requires to { IsMember here.now to }
         requires known { KnowsMembers here.now self.old }
-        ensures { Makes here.now result self.old turn.old self.new turn.new (bye_sent here.now.scenario.now here.now.key to) }
+        ensures { Makes here.now result self.old effects.old self.new effects.new (bye_sent here.now.scenario.now here.now.key to) }
     {
-        self.send(turn, here, What::Bye, to, 0, Content::Bye)
+        self.send(effects, here, What::Bye, to, 0, Content::Bye)
     }
 }

@@ -15,7 +15,8 @@ use crate::content::Content;
 use crate::event::{Effects, Event};
 use crate::here::Here;
 use crate::member::{Member, Phase};
-use crate::turn::StepError;
+use crate::step_error::StepError;
+use crate::telling::Telling;
 use base::Profile;
 use links::Links;
 use scenario::Scenario;
@@ -27,15 +28,15 @@ impl Member {
     #[tactic(auto, unfolding(crate::specs::Step::handled, crate::specs::Step::plain_handled))]
     fn handle_waiting(
         &mut self,
-        turn: &mut Effects,
+        effects: &mut Effects,
         here: &Here,
         content: &Content,
     ) -> Result<(), StepError>
         requires { KnowsMembers here.now self.old }
-        ensures { Makes here.now result self.old turn.old self.new turn.new (handled here.now.scenario.now here.now.key content.now Phase.Waiting) }
+        ensures { Makes here.now result self.old effects.old self.new effects.new (handled here.now.scenario.now here.now.key content.now Phase.Waiting) }
     {
         match content {
-            Content::Start => self.start(turn, here),
+            Content::Start => self.start(effects, here),
             _ => Ok(()),
         }
     }
@@ -44,19 +45,19 @@ impl Member {
     #[tactic(auto, unfolding(crate::specs::Step::handled, crate::specs::Step::plain_handled))]
     fn handle_joining(
         &mut self,
-        turn: &mut Effects,
+        effects: &mut Effects,
         here: &Here,
         content: &Content,
     ) -> Result<(), StepError>
         requires known { KnowsMembers here.now self.old }
         requires names { MentionsMembers (member_count here.now.scenario.now) content.now }
-        ensures { Makes here.now result self.old turn.old self.new turn.new (handled here.now.scenario.now here.now.key content.now Phase.Joining) }
+        ensures { Makes here.now result self.old effects.old self.new effects.new (handled here.now.scenario.now here.now.key content.now Phase.Joining) }
     {
         match content {
-            Content::Crash => self.crash(turn, here),
-            Content::Leave => self.withdraw(turn, here),
-            Content::JoinTimer => self.ask_join(turn, here),
-            Content::Welcome { entries } => self.join(turn, here, entries.as_slice()),
+            Content::Crash => self.crash(effects, here),
+            Content::Leave => self.withdraw(effects, here),
+            Content::JoinTimer => self.ask_join(effects, here),
+            Content::Welcome { entries } => self.join(effects, here, entries.as_slice()),
             _ => Ok(()),
         }
     }
@@ -65,58 +66,60 @@ impl Member {
     #[tactic(auto, unfolding(crate::specs::Step::handled, crate::specs::Step::plain_handled))]
     fn handle_running(
         &mut self,
-        turn: &mut Effects,
+        effects: &mut Effects,
         here: &Here,
         content: &Content,
     ) -> Result<(), StepError>
         requires known { KnowsMembers here.now self.old }
         requires names { MentionsMembers (member_count here.now.scenario.now) content.now }
-        ensures { Makes here.now result self.old turn.old self.new turn.new (handled here.now.scenario.now here.now.key content.now Phase.Running) }
+        ensures { Makes here.now result self.old effects.old self.new effects.new (handled here.now.scenario.now here.now.key content.now Phase.Running) }
     {
         match content {
-            Content::Crash => self.crash(turn, here),
-            Content::Leave => self.depart(turn, here),
-            Content::PeriodTimer => self.begin_period(turn, here),
-            Content::TimeoutTimer { seq } => self.time_out(turn, here, *seq),
-            Content::NackTimer { initiator, seq } => self.end_relay(turn, here, *initiator, *seq),
-            Content::SuspicionTimer { subject } => self.end_suspicion(turn, here, *subject),
-            Content::Join => self.hear_join(turn, here),
+            Content::Crash => self.crash(effects, here),
+            Content::Leave => self.depart(effects, here),
+            Content::PeriodTimer => self.begin_period(effects, here),
+            Content::TimeoutTimer { seq } => self.time_out(effects, here, *seq),
+            Content::NackTimer { initiator, seq } => self.end_relay(
+                effects, here, *initiator, *seq,
+            ),
+            Content::SuspicionTimer { subject } => self.end_suspicion(effects, here, *subject),
+            Content::Join => self.hear_join(effects, here),
             Content::Nack { seq } => {
-                self.hear_nack(turn, here, *seq);
+                self.hear_nack(effects, here, *seq);
                 Ok(())
             }
-            Content::Bye => self.confirm(turn, here, here.key.from),
-            _ => self.handle_probing(turn, here, content),
+            Content::Bye => self.confirm(effects, here, here.key.from),
+            _ => self.handle_probing(effects, here, content),
         }
     }
 
     /// The messages of a probe, on which updates ride.
     fn handle_probing(
         &mut self,
-        turn: &mut Effects,
+        effects: &mut Effects,
         here: &Here,
         content: &Content,
     ) -> Result<(), StepError>
         requires known { KnowsMembers here.now self.old }
         requires names { MentionsMembers (member_count here.now.scenario.now) content.now }
-        ensures { Makes here.now result self.old turn.old self.new turn.new (probing_handled here.now.scenario.now here.now.key content.now) }
+        ensures { Makes here.now result self.old effects.old self.new effects.new (probing_handled here.now.scenario.now here.now.key content.now) }
     {
         match content {
             Content::Ping {
                 initiator,
                 seq,
                 updates,
-            } => self.hear_ping(turn, here, *initiator, *seq, updates.as_slice()),
+            } => self.hear_ping(effects, here, *initiator, *seq, updates.as_slice()),
             Content::PingReq {
                 target,
                 seq,
                 updates,
-            } => self.hear_ping_req(turn, here, *seq, *target, updates.as_slice()),
+            } => self.hear_ping_req(effects, here, *seq, *target, updates.as_slice()),
             Content::Ack {
                 initiator,
                 seq,
                 updates,
-            } => self.hear_ack(turn, here, *initiator, *seq, updates.as_slice()),
+            } => self.hear_ack(effects, here, *initiator, *seq, updates.as_slice()),
             _ => Ok(()),
         }
     }
@@ -125,51 +128,56 @@ impl Member {
     #[tactic(auto, unfolding(crate::specs::Step::timed_handled))]
     fn handle_timed(
         &mut self,
-        turn: &mut Effects,
+        effects: &mut Effects,
         here: &Here,
         content: &Content,
     ) -> Result<(), StepError>
         requires known { KnowsMembers here.now self.old }
         requires names { MentionsMembers (member_count here.now.scenario.now) content.now }
-        ensures { Makes here.now result self.old turn.old self.new turn.new (timed_handled here.now.scenario.now here.now.key content.now) }
+        ensures { Makes here.now result self.old effects.old self.new effects.new (timed_handled here.now.scenario.now here.now.key content.now) }
     {
         match content {
-            Content::PeriodTimer => self.beat_period(turn, here),
-            Content::TimeoutTimer { seq } => self.time_out_timed(turn, here, *seq),
-            Content::DeadlineTimer { seq } => self.end_deadline(turn, here, *seq),
+            Content::PeriodTimer => self.beat_period(effects, here),
+            Content::TimeoutTimer { seq } => self.time_out_timed(effects, here, *seq),
+            Content::DeadlineTimer { seq } => self.end_deadline(effects, here, *seq),
             Content::Ack {
                 initiator,
                 seq,
                 updates,
-            } => self.hear_timed_ack(turn, here, *initiator, *seq, updates.as_slice()),
-            Content::Call { seq } => self.send_answer(turn, here, here.key.from, *seq),
+            } => self.hear_timed_ack(effects, here, *initiator, *seq, updates.as_slice()),
+            Content::Call { seq } => self.send_answer(effects, here, here.key.from, *seq),
             Content::Answer { seq } => {
-                self.hear_answer(turn, here, *seq);
+                self.hear_answer(effects, here, *seq);
                 Ok(())
             }
-            Content::GossipTimer => self.gossip(turn, here),
-            Content::Gossip { updates } => self.apply_all(turn, here, true, updates.as_slice()),
-            Content::PushTimer => self.end_push(turn, here),
-            Content::Push { entries } => self.hear_push(turn, here, entries.as_slice()),
-            Content::Pull { entries } => self.merge(turn, here, entries.as_slice()),
-            _ => self.handle_running(turn, here, content),
+            Content::GossipTimer => self.gossip(effects, here),
+            Content::Gossip { updates } => self.apply_all(
+                effects,
+                here,
+                Telling::Aloud,
+                updates.as_slice(),
+            ),
+            Content::PushTimer => self.end_push(effects, here),
+            Content::Push { entries } => self.hear_push(effects, here, entries.as_slice()),
+            Content::Pull { entries } => self.merge(effects, here, entries.as_slice()),
+            _ => self.handle_running(effects, here, content),
         }
     }
 
     /// A member that runs, by the rules of its profile.
     fn handle_by_profile(
         &mut self,
-        turn: &mut Effects,
+        effects: &mut Effects,
         here: &Here,
         content: &Content,
     ) -> Result<(), StepError>
         requires known { KnowsMembers here.now self.old }
         requires names { MentionsMembers (member_count here.now.scenario.now) content.now }
-        ensures { Makes here.now result self.old turn.old self.new turn.new (handled_by Phase.Running (profile_of here.now.scenario.now) here.now.scenario.now here.now.key content.now) }
+        ensures { Makes here.now result self.old effects.old self.new effects.new (handled_by Phase.Running (profile_of here.now.scenario.now) here.now.scenario.now here.now.key content.now) }
     {
         match here.scenario.profile() {
-            Profile::Papers => self.handle_running(turn, here, content),
-            Profile::Memberlist => self.handle_timed(turn, here, content),
+            Profile::Papers => self.handle_running(effects, here, content),
+            Profile::Memberlist => self.handle_timed(effects, here, content),
         }
     }
 
@@ -177,18 +185,18 @@ impl Member {
     #[tactic(auto, unfolding(crate::specs::Step::handled, crate::specs::Step::plain_handled))]
     fn handle(
         &mut self,
-        turn: &mut Effects,
+        effects: &mut Effects,
         here: &Here,
         content: &Content,
     ) -> Result<(), StepError>
         requires known { KnowsMembers here.now self.old }
         requires names { MentionsMembers (member_count here.now.scenario.now) content.now }
-        ensures { Makes here.now result self.old turn.old self.new turn.new (handled_by (state_of self.old).phase (profile_of here.now.scenario.now) here.now.scenario.now here.now.key content.now) }
+        ensures { Makes here.now result self.old effects.old self.new effects.new (handled_by (state_of self.old).phase (profile_of here.now.scenario.now) here.now.scenario.now here.now.key content.now) }
     {
         match self.phase {
-            Phase::Waiting => self.handle_waiting(turn, here, content),
-            Phase::Joining => self.handle_joining(turn, here, content),
-            Phase::Running => self.handle_by_profile(turn, here, content),
+            Phase::Waiting => self.handle_waiting(effects, here, content),
+            Phase::Joining => self.handle_joining(effects, here, content),
+            Phase::Running => self.handle_by_profile(effects, here, content),
             Phase::Down => Ok(()),
         }
     }

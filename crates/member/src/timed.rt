@@ -1,7 +1,6 @@
 ghost use Rattle.std.specs.Prelude.{◌≡◌, ◌+◌, ◌^◌, ◌≤◌, ◌<◌};
 ghost use Rattle.lifeguard.specs.Health.{scaled};
-ghost use Rattle.member.specs.Turn.{with_event};
-ghost use Rattle.std.specs.Option.{option_map_or};
+ghost use Rattle.member.specs.Effects.{with_event};
 ghost use Rattle.std.specs.FinMap.{get};
 ghost use Rattle.member.specs.Makes.{AreAboutMembers, IsMember, KnowsMembers, Makes};
 ghost use Rattle.member.specs.Step.{suspected_at, timed_probe_failed, probe_settled, probe_timers_set, timed_probe_begun, next_timed_probed, waiting_probed, has_time, is_under_way, next_after_settled, probed_in_turn, period_beaten, waiting_after_settled, deadline_over, timed_answered, timed_ack_taken, timed_ack_heard};
@@ -11,7 +10,8 @@ use crate::content::Content;
 use crate::event::Effects;
 use crate::here::Here;
 use crate::member::Member;
-use crate::turn::StepError;
+use crate::step_error::StepError;
+use crate::telling::Telling;
 use base::limits::COUNTER_LIMIT;
 use base::{MemberId, Moment, next_in_step};
 use incarnation::{Claim, Update};
@@ -25,12 +25,12 @@ impl Member {
     /// unless it is unknown or confirmed.
     fn suspect_at(
         &mut self,
-        turn: &mut Effects,
+        effects: &mut Effects,
         here: &Here,
         probe: &Probe,
     ) -> Result<(), StepError>
         requires { KnowsMembers here.now self.old }
-        ensures { Makes here.now result self.old turn.old self.new turn.new (suspected_at here.now.scenario.now here.now.key probe.now (get (state_of self.old).table probe.now.target)) }
+        ensures { Makes here.now result self.old effects.old self.new effects.new (suspected_at here.now.scenario.now here.now.key probe.now (get (state_of self.old).table probe.now.target)) }
     {
         let Some(held) = self.table.get(probe.target) else {
             return Ok(());
@@ -44,43 +44,50 @@ impl Member {
             inc: probe.number,
             accuser: here.key.to,
         };
-        self.apply(turn, here, true, &claim)
+        self.apply(effects, here, Telling::Aloud, &claim)
     }
 
     /// A probe that nothing reached has failed.
     #[tactic(auto, unfolding(crate::specs::Step::timed_probe_failed))]
     fn fail_timed_probe(
         &mut self,
-        turn: &mut Effects,
+        effects: &mut Effects,
         here: &Here,
         probe: &Probe,
     ) -> Result<(), StepError>
         requires { KnowsMembers here.now self.old }
-        ensures { Makes here.now result self.old turn.old self.new turn.new (timed_probe_failed here.now.scenario.now here.now.key probe.now) }
+        ensures { Makes here.now result self.old effects.old self.new effects.new (timed_probe_failed here.now.scenario.now here.now.key probe.now) }
     {
-        self.write_row(turn, here, What::Fail, Some(probe.target), probe.seq, false)?;
+        self.write_row(
+            effects,
+            here,
+            What::Fail,
+            Some(probe.target),
+            probe.seq,
+            false,
+        )?;
         let mut health = self.health;
         health.deadline_passed(probe);
-        self.set_health(turn, here, health)?;
-        self.suspect_at(turn, here, probe)
+        self.set_health(effects, here, health)?;
+        self.suspect_at(effects, here, probe)
     }
 
     /// Ends the probe that is under way, if there is one.
     #[tactic(auto, using(crate::proofs::Holds::holds_no_probe), unfolding(crate::specs::Step::probe_settled))]
-    fn settle_probe(&mut self, turn: &mut Effects, here: &Here) -> Result<(), StepError>
+    fn settle_probe(&mut self, effects: &mut Effects, here: &Here) -> Result<(), StepError>
         requires { KnowsMembers here.now self.old }
-        ensures { Makes here.now result self.old turn.old self.new turn.new (probe_settled here.now.scenario.now here.now.key (state_of self.old).probe) }
+        ensures { Makes here.now result self.old effects.old self.new effects.new (probe_settled here.now.scenario.now here.now.key (state_of self.old).probe) }
     {
         let Some(probe) = self.probe else {
             return Ok(());
         };
         self.probe = None;
         if !probe.reached {
-            return self.fail_timed_probe(turn, here, &probe);
+            return self.fail_timed_probe(effects, here, &probe);
         }
         let mut health = self.health;
         health.deadline_passed(&probe);
-        self.set_health(turn, here, health)
+        self.set_health(effects, here, health)
     }
 
     /// Probes a target: a ping, the timer for a direct answer, and the deadline. Worn where the sequence
@@ -88,26 +95,26 @@ impl Member {
     #[tactic(auto, unfolding(crate::specs::Step::timed_probe_begun))]
     fn begin_timed_probe(
         &mut self,
-        turn: &mut Effects,
+        effects: &mut Effects,
         here: &Here,
         target: MemberId,
     ) -> Result<(), StepError>
         requires known { KnowsMembers here.now self.old }
         requires member { IsMember here.now target }
-        ensures { Makes here.now result self.old turn.old self.new turn.new (timed_probe_begun here.now.scenario.now here.now.key target) }
+        ensures { Makes here.now result self.old effects.old self.new effects.new (timed_probe_begun here.now.scenario.now here.now.key target) }
     {
         if self.sequence >= COUNTER_LIMIT {
             return Err(StepError::Worn);
         }
         let seq = self.sequence + 1;
         let deadline = self.next_deadline(here);
-        let number = self.number_of(target);
+        let number = self.table.number_of(target);
         let probe = Probe::timed(seq, target, number, deadline);
         self.sequence = seq;
         self.probe = Some(probe);
-        self.send_ping(turn, here, target, here.key.to, seq)?;
+        self.send_ping(effects, here, target, here.key.to, seq)?;
         let timeout = here.scenario.swim().timeout;
-        self.set_probe_timers(turn, here, seq, timeout, deadline)
+        self.set_probe_timers(effects, here, seq, timeout, deadline)
     }
 
     /// When a probe that begins now has its deadline: after a period, as long as health makes it.
@@ -120,7 +127,7 @@ impl Member {
     /// Sets the timer for a direct answer to a probe, and the timer of its deadline.
     fn set_probe_timers(
         &mut self,
-        turn: &mut Effects,
+        effects: &mut Effects,
         here: &Here,
         seq: u64,
         timeout: u64,
@@ -128,31 +135,21 @@ impl Member {
     ) -> Result<(), StepError>
         requires ticks_within { timeout ≤ 2 ^ 41 }
         requires known { KnowsMembers here.now self.old }
-        ensures { Makes here.now result self.old turn.old self.new turn.new (probe_timers_set here.now.scenario.now here.now.key seq timeout deadline) }
+        ensures { Makes here.now result self.old effects.old self.new effects.new (probe_timers_set here.now.scenario.now here.now.key seq timeout deadline) }
     {
-        self.set_timer(turn, here, timeout, Content::TimeoutTimer { seq })?;
+        self.set_timer(effects, here, timeout, Content::TimeoutTimer { seq })?;
         let timer = Content::DeadlineTimer { seq };
-        self.make_event(turn, here, deadline, here.key.to, timer)
-    }
-
-    /// The incarnation number at which a member is held, 0 where it isn't known.
-    fn number_of(&self, member: MemberId) -> u64
-        ensures { result ≡ option_map_or (λ held. held.1) (get (state_of self.now).table member) 0 }
-    {
-        match self.table.get(member) {
-            Some(held) => held.1,
-            None => 0,
-        }
+        self.make_event(effects, here, deadline, here.key.to, timer)
     }
 
     /// Probes the next member, where there is one.
     #[tactic(auto, using(crate::proofs::Holds::holds_no_probe), unfolding(crate::specs::Step::next_timed_probed))]
-    fn probe_next_timed(&mut self, turn: &mut Effects, here: &Here) -> Result<(), StepError>
+    fn probe_next_timed(&mut self, effects: &mut Effects, here: &Here) -> Result<(), StepError>
         requires { KnowsMembers here.now self.old }
-        ensures { Makes here.now result self.old turn.old self.new turn.new (next_timed_probed here.now.scenario.now here.now.key) }
+        ensures { Makes here.now result self.old effects.old self.new effects.new (next_timed_probed here.now.scenario.now here.now.key) }
     {
         match self.next_target(here) {
-            Some(target) => self.begin_timed_probe(turn, here, target),
+            Some(target) => self.begin_timed_probe(effects, here, target),
             None => {
                 self.probe = None;
                 Ok(())
@@ -161,90 +158,99 @@ impl Member {
     }
 
     /// Probes the next member, if that was kept waiting.
-    fn probe_waiting(&mut self, turn: &mut Effects, here: &Here) -> Result<(), StepError>
+    fn probe_waiting(&mut self, effects: &mut Effects, here: &Here) -> Result<(), StepError>
         requires { KnowsMembers here.now self.old }
-        ensures { Makes here.now result self.old turn.old self.new turn.new (waiting_probed here.now.scenario.now here.now.key) }
+        ensures { Makes here.now result self.old effects.old self.new effects.new (waiting_probed here.now.scenario.now here.now.key) }
     {
         if !self.waits {
             return Ok(());
         }
         self.waits = false;
-        self.probe_next_timed(turn, here)
+        self.probe_next_timed(effects, here)
     }
 
     /// The beat of the periods: the next one is set; the next probe begins, or waits for one that still
     /// has time.
     #[tactic(auto, unfolding(crate::specs::Step::period_beaten))]
-    pub(crate) fn beat_period(&mut self, turn: &mut Effects, here: &Here) -> Result<(), StepError>
+    pub(crate) fn beat_period(
+        &mut self,
+        effects: &mut Effects,
+        here: &Here,
+    ) -> Result<(), StepError>
         requires { KnowsMembers here.now self.old }
-        ensures { Makes here.now result self.old turn.old self.new turn.new (period_beaten here.now.scenario.now here.now.key) }
+        ensures { Makes here.now result self.old effects.old self.new effects.new (period_beaten here.now.scenario.now here.now.key) }
     {
         let next = next_in_step(self.beat.ticks(), here.scenario.period(), here.key.at);
-        self.go_on(turn, here, next)
+        self.go_on(effects, here, next)
     }
 
     /// Sets the timer of the next period for a moment, and probes in turn.
-    fn go_on(&mut self, turn: &mut Effects, here: &Here, next: Moment) -> Result<(), StepError>
+    fn go_on(&mut self, effects: &mut Effects, here: &Here, next: Moment) -> Result<(), StepError>
         requires { KnowsMembers here.now self.old }
-        ensures { Makes here.now result self.old turn.old self.new turn.new (λ o. probed_in_turn here.now.scenario.now here.now.key (with_event here.now.scenario.now here.now.key next here.now.key.to Content.PeriodTimer o)) }
+        ensures { Makes here.now result self.old effects.old self.new effects.new (λ o. probed_in_turn here.now.scenario.now here.now.key (with_event here.now.scenario.now here.now.key next here.now.key.to Content.PeriodTimer o)) }
     {
-        self.make_event(turn, here, next, here.key.to, Content::PeriodTimer)?;
-        self.probe_in_turn(turn, here)
+        self.make_event(effects, here, next, here.key.to, Content::PeriodTimer)?;
+        self.probe_in_turn(effects, here)
     }
 
     /// The next probe waits for one that still has time, or else begins once that one has ended.
-    fn probe_in_turn(&mut self, turn: &mut Effects, here: &Here) -> Result<(), StepError>
+    fn probe_in_turn(&mut self, effects: &mut Effects, here: &Here) -> Result<(), StepError>
         requires { KnowsMembers here.now self.old }
-        ensures { Makes here.now result self.old turn.old self.new turn.new (probed_in_turn here.now.scenario.now here.now.key) }
+        ensures { Makes here.now result self.old effects.old self.new effects.new (probed_in_turn here.now.scenario.now here.now.key) }
     {
         if has_time(here.key.at, self.probe) {
             self.waits = true;
             return Ok(());
         }
-        self.probe_after_settled(turn, here)
+        self.probe_after_settled(effects, here)
     }
 
     /// Ends the probe that is under way, if there is one, and begins the next.
-    fn probe_after_settled(&mut self, turn: &mut Effects, here: &Here) -> Result<(), StepError>
+    fn probe_after_settled(&mut self, effects: &mut Effects, here: &Here) -> Result<(), StepError>
         requires { KnowsMembers here.now self.old }
-        ensures { Makes here.now result self.old turn.old self.new turn.new (next_after_settled here.now.scenario.now here.now.key) }
+        ensures { Makes here.now result self.old effects.old self.new effects.new (next_after_settled here.now.scenario.now here.now.key) }
     {
-        self.settle_probe(turn, here)?;
-        self.probe_next_timed(turn, here)
+        self.settle_probe(effects, here)?;
+        self.probe_next_timed(effects, here)
     }
 
     /// The time of a probe is over, if it is still under way.
     #[tactic(auto, unfolding(crate::specs::Step::deadline_over))]
     pub(crate) fn end_deadline(
         &mut self,
-        turn: &mut Effects,
+        effects: &mut Effects,
         here: &Here,
         seq: u64,
     ) -> Result<(), StepError>
         requires { KnowsMembers here.now self.old }
-        ensures { Makes here.now result self.old turn.old self.new turn.new (deadline_over here.now.scenario.now here.now.key seq) }
+        ensures { Makes here.now result self.old effects.old self.new effects.new (deadline_over here.now.scenario.now here.now.key seq) }
     {
         if is_under_way(seq, self.probe) {
-            self.end_timed_probe(turn, here)
+            self.end_timed_probe(effects, here)
         } else {
             Ok(())
         }
     }
 
     /// Ends the probe that is under way, and begins the next, if it was kept waiting.
-    fn end_timed_probe(&mut self, turn: &mut Effects, here: &Here) -> Result<(), StepError>
+    fn end_timed_probe(&mut self, effects: &mut Effects, here: &Here) -> Result<(), StepError>
         requires { KnowsMembers here.now self.old }
-        ensures { Makes here.now result self.old turn.old self.new turn.new (waiting_after_settled here.now.scenario.now here.now.key) }
+        ensures { Makes here.now result self.old effects.old self.new effects.new (waiting_after_settled here.now.scenario.now here.now.key) }
     {
-        self.settle_probe(turn, here)?;
-        self.probe_waiting(turn, here)
+        self.settle_probe(effects, here)?;
+        self.probe_waiting(effects, here)
     }
 
     /// An ack ends the probe that is under way, if it has its number.
     #[tactic(auto, using(crate::proofs::Holds::holds_no_probe), unfolding(crate::specs::Step::timed_answered))]
-    fn answer_timed(&mut self, turn: &mut Effects, here: &Here, seq: u64) -> Result<(), StepError>
+    fn answer_timed(
+        &mut self,
+        effects: &mut Effects,
+        here: &Here,
+        seq: u64,
+    ) -> Result<(), StepError>
         requires { KnowsMembers here.now self.old }
-        ensures { Makes here.now result self.old turn.old self.new turn.new (timed_answered here.now.scenario.now here.now.key seq) }
+        ensures { Makes here.now result self.old effects.old self.new effects.new (timed_answered here.now.scenario.now here.now.key seq) }
     {
         if !is_under_way(seq, self.probe) {
             return Ok(());
@@ -252,15 +258,15 @@ impl Member {
         self.probe = None;
         let mut health = self.health;
         health.good();
-        self.set_health(turn, here, health)?;
-        self.probe_waiting(turn, here)
+        self.set_health(effects, here, health)?;
+        self.probe_waiting(effects, here)
     }
 
     /// An ack, after what rides on it is applied: of one's own probe, or passed on.
     #[tactic(auto, unfolding(crate::specs::Step::timed_ack_heard))]
     pub(crate) fn hear_timed_ack(
         &mut self,
-        turn: &mut Effects,
+        effects: &mut Effects,
         here: &Here,
         initiator: MemberId,
         seq: u64,
@@ -269,28 +275,28 @@ impl Member {
         requires known { KnowsMembers here.now self.old }
         requires initiator { IsMember here.now initiator }
         requires updates { AreAboutMembers here.now updates.now }
-        ensures { Makes here.now result self.old turn.old self.new turn.new (timed_ack_heard here.now.scenario.now here.now.key initiator seq updates.now) }
+        ensures { Makes here.now result self.old effects.old self.new effects.new (timed_ack_heard here.now.scenario.now here.now.key initiator seq updates.now) }
     {
-        self.apply_all(turn, here, true, updates)?;
-        self.take_timed_ack(turn, here, initiator, seq)
+        self.apply_all(effects, here, Telling::Aloud, updates)?;
+        self.take_timed_ack(effects, here, initiator, seq)
     }
 
     /// An ack reaches the initiator, or is passed on to it.
     fn take_timed_ack(
         &mut self,
-        turn: &mut Effects,
+        effects: &mut Effects,
         here: &Here,
         initiator: MemberId,
         seq: u64,
     ) -> Result<(), StepError>
         requires known { KnowsMembers here.now self.old }
         requires initiator { IsMember here.now initiator }
-        ensures { Makes here.now result self.old turn.old self.new turn.new (timed_ack_taken here.now.scenario.now here.now.key initiator seq) }
+        ensures { Makes here.now result self.old effects.old self.new effects.new (timed_ack_taken here.now.scenario.now here.now.key initiator seq) }
     {
         if initiator == here.key.to {
-            self.answer_timed(turn, here, seq)
+            self.answer_timed(effects, here, seq)
         } else {
-            self.take_ack(turn, here, initiator, seq)
+            self.take_ack(effects, here, initiator, seq)
         }
     }
 }

@@ -21,7 +21,7 @@ use Rattle.member.specs.declared.content.Content.{Content}
 use Rattle.member.specs.declared.content.Content.TheVariants.{Crash, Leave, Bye}
 use Rattle.membership.specs.Table.{Known}
 use Rattle.member.specs.State.{State}
-use Rattle.member.specs.Turn.{Effect, unchanged, with_row, with_event}
+use Rattle.member.specs.Effects.{Effect, unchanged, with_row, with_event}
 use Rattle.member.specs.Opening.{opening, numbers, ending_event, script_of}
 use Rattle.member.specs.Step.{plain_handled, handled, handled_by, plain_step, step}
 use Rattle.member_laws.specs.Runs.{Cluster, IsRunOf, IsPlainRunOf, IsReached}

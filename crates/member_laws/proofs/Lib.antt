@@ -18,3 +18,4 @@ pub mod Reached
 pub mod Moments
 pub mod Opened
 pub mod Leaves
+pub mod Whole

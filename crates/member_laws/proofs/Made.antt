@@ -28,6 +28,9 @@ use Rattle.member.specs.declared.member.Phase.{Phase}
 use Rattle.member.specs.declared.member.Phase.TheVariants.{Waiting, Joining, Running, Down}
 use Rattle.member.specs.declared.content.Content.{Content}
 use Rattle.member.specs.declared.content.Content.TheVariants.{Start, Crash, Leave, JoinTimer, PeriodTimer, TimeoutTimer, NackTimer, SuspicionTimer, Join, Welcome, Ping, PingReq, Ack, Nack, Bye, DeadlineTimer, GossipTimer, PushTimer, Call, Answer, Gossip, Push, Pull}
+use Rattle.member.specs.declared.telling.Telling.{Telling}
+use Rattle.member.specs.declared.telling.Telling.TheVariants.{Aloud, Quietly}
+use Rattle.member.specs.Telling.{is_aloud}
 use Rattle.member.specs.State.{State}
 use Rattle.base.specs.Beats.{next_in_step}
 use Rattle.base.specs.declared.profile.Profile.{Profile}
@@ -40,7 +43,7 @@ use Rattle.membership.specs.declared.candidates.Fitting.TheVariants.{AliveBut, R
 use Rattle.probing.specs.Samples.{sample_of}
 use Rattle.membership.specs.Table.{is_confirm, does_override, live_count, alive_but}
 use Rattle.member.specs.Send.{whole_table, carried, sent_off, posted, sent, gossip_sent, call_sent, answer_sent, push_sent, pull_sent, sent_to_each, with_picks, buddy_of, ping_sent, ping_req_sent, ack_sent, nack_sent, join_sent_to, join_sent, welcome_sent, bye_sent}
-use Rattle.member.specs.Turn.{Effect, unchanged, on_state, with_row, with_number, with_event, with_timer}
+use Rattle.member.specs.Effects.{Effect, unchanged, on_state, with_row, with_number, with_event, with_timer}
 use Rattle.member.specs.Apply.{gossip_set, with_put, with_health, with_told, passed_on, own_claim, refuted, heard_dead, is_own_death, own_applied, suspicion_begun, claim_kept, without_suspicion, alive_heard, suspect_heard, death_kept, confirm_heard, claim_heard, news_heard, accusation_counted, accusation_heard, is_repeated, is_heeded, other_applied, applied, all_applied}
 use Rattle.member.specs.Step.{push_begun, first_push_set, push_period, suspected_at, timed_probe_failed, probe_settled, timed_probe_begun, timed_target_probed, next_timed_probed, waiting_probed, has_time, probed_in_turn, period_beaten, is_under_way, deadline_over, timed_answered, timed_ack_heard, candidates_for, sampled_help, helped, called, timed_out_timed, answer_heard, is_told_out, gossip_spread, gossip_round, gossip_due, merged_claim, merged, pushed, push_due, push_heard, timed_handled, handled_by, about_others, first_period_set, began, join_asked, joining_begun, started, crashed, join_handled, joined, suspected, probe_failed, probe_ended, probe_begun, target_probed, next_probed, period_begun, with_expected, help_asked, timed_out, nack_heard, answered, ping_heard, with_relay, ping_req_heard, ack_taken, ack_heard, nack_due, confirmed, suspicion_over, withdrawn, byes_said, departed, plain_handled, handled, step}
 use Rattle.member_laws.proofs.Moves.{IsNews, NewsMoves, Moves, at_once, at_late, kept_either, death_either}
@@ -241,9 +244,9 @@ module _ (s : Setup) (k : Key) (Named : ℕ → Type 0) (R : State → Type 0) (
       by_either (nat_eq h.counter o.state.health.counter) (on_state (λ t. record t { health = h }) o) _ (λ _. after)
       (λ differs. makes.row _ None h.counter false (on_state (λ t. record t { health = h }) o) (may.healths o.state h r r' differs) tt after)
 
-  by_told : (loud : Bool) (tells : What) (subject value : ℕ) (o : Effect) → Tells tells → Named subject → P o → P (with_told loud k tells subject value o)
-  by_told true tells subject value o told named h = makes.row tells (Some subject) value false o told named h
-  by_told false tells subject value o told named h = h
+  by_told : (telling : Telling) (tells : What) (subject value : ℕ) (o : Effect) → Tells tells → Named subject → P o → P (with_told telling k tells subject value o)
+  by_told Aloud tells subject value o told named h = makes.row tells (Some subject) value false o told named h
+  by_told Quietly tells subject value o told named h = h
 
   by_gossip_set : (gossip : Option settings.Gossip) (o : Effect) → s.gossip ≡ gossip → P o → P (gossip_set s k gossip o)
   by_gossip_set None o is h = h
@@ -255,9 +258,9 @@ module _ (s : Setup) (k : Key) (Named : ℕ → Type 0) (R : State → Type 0) (
   unfolding with_put
   by_put u o h = by_gossip_set s.gossip _ refl (makes.state _ o refl h)
 
-  by_passed : (loud : Bool) (u : Update) (o : Effect) → P o → P (passed_on s k loud u o)
+  by_passed : (telling : Telling) (u : Update) (o : Effect) → P o → P (passed_on s k telling u o)
   unfolding passed_on
-  by_passed loud u o h = by_either loud (with_put s k u o) o (λ _. by_put u o h) (λ _. h)
+  by_passed telling u o h = by_either (is_aloud telling) (with_put s k u o) o (λ _. by_put u o h) (λ _. h)
 
   by_refuted : (claim : Claim) (number : ℕ) (o : Effect) → does_refute (profile_of s) o.state.incarnation claim number ≡ true → R o.state → P o → P (refuted s k (number + 1) o)
   unfolding refuted
@@ -276,51 +279,51 @@ module _ (s : Setup) (k : Key) (Named : ℕ → Type 0) (R : State → Type 0) (
       (λ _. by_either (is_own_death (profile_of s) claim o.state.heard_dead) (heard_dead k number o) o
       (λ _. makes.row _ (Some k.to) number false _ (may.plain _ tt) moves.own (makes.state _ o refl h)) (λ _. h))
 
-  by_claim : (loud : Bool) (u : Update) (claim : Claim) (o : Effect) → Named u.subject → IsNews (profile_of s) k.to o.state u → u.claim ≡ claim → R o.state → P o
-      → P (claim_heard s loud k u claim (on_state (claim_kept u) o))
+  by_claim : (telling : Telling) (u : Update) (claim : Claim) (o : Effect) → Named u.subject → IsNews (profile_of s) k.to o.state u → u.claim ≡ claim → R o.state → P o
+      → P (claim_heard s telling k u claim (on_state (claim_kept u) o))
   unfolding alive_heard suspect_heard confirm_heard
-  by_claim loud u Alive o named says e r h = by_told loud _ u.subject u.inc _ (may.plain _ tt) named (makes.state _ o (kept_number u o.state) h)
-  by_claim loud u Suspect o named says e r h =
+  by_claim telling u Alive o named says e r h = by_told telling _ u.subject u.inc _ (may.plain _ tt) named (makes.state _ o (kept_number u o.state) h)
+  by_claim telling u Suspect o named says e r h =
       let begun = suspicion_begun s k u (claim_kept u o.state) in
       let there = news.suspect o.state u begun named says e (record { terms = refl; since = refl; members = refl }) r in
       makes.event _ k.to (SuspicionTimer u.subject) _ (times.suspicion_timer (record (claim_kept u o.state) { suspicions = insert (claim_kept u o.state).suspicions u.subject begun }) there) moves.own tt
-      (by_told loud _ u.subject u.inc _ (may.plain _ tt) named (makes.state _ o (kept_number u o.state) h))
-  by_claim loud u Confirm o named says e r h =
-      by_told loud _ u.subject u.inc _ (may.plain _ tt) named (makes.state _ o (death_number (profile_of s) u.subject k.at (without_suspicion u.subject (claim_kept u o.state)) ∙ kept_number u o.state) h)
+      (by_told telling _ u.subject u.inc _ (may.plain _ tt) named (makes.state _ o (kept_number u o.state) h))
+  by_claim telling u Confirm o named says e r h =
+      by_told telling _ u.subject u.inc _ (may.plain _ tt) named (makes.state _ o (death_number (profile_of s) u.subject k.at (without_suspicion u.subject (claim_kept u o.state)) ∙ kept_number u o.state) h)
 
-  by_news : (loud : Bool) (u : Update) (o : Effect) → Named u.subject → IsNews (profile_of s) k.to o.state u → R o.state → P o → P (news_heard s loud k u o)
+  by_news : (telling : Telling) (u : Update) (o : Effect) → Named u.subject → IsNews (profile_of s) k.to o.state u → R o.state → P o → P (news_heard s telling k u o)
   unfolding news_heard
-  by_news loud u o named says r h = by_passed loud u _ (by_claim loud u u.claim o named says refl r h)
+  by_news telling u o named says r h = by_passed telling u _ (by_claim telling u u.claim o named says refl r h)
 
-  by_counted : (loud : Bool) (u : Update) (accused : Option HeldSuspicion) (o : Effect) → ((x : HeldSuspicion) → accused ≡ Some x → Tells what.Accuse) → ((x : HeldSuspicion) → accused ≡ Some x → Timed (due_of x k.at)) → Named u.subject → P o
-      → P (accusation_counted s loud k u (option_map (answer_to k.at) accused) o)
-  by_counted loud u None o told timed named h = h
-  by_counted loud u (Some x) o told timed named h = by_passed loud u _ (makes.event _ k.to (SuspicionTimer u.subject) _ (timed x refl) moves.own tt (by_told loud _ u.subject _ o (told x refl) named h))
+  by_counted : (telling : Telling) (u : Update) (accused : Option HeldSuspicion) (o : Effect) → ((x : HeldSuspicion) → accused ≡ Some x → Tells what.Accuse) → ((x : HeldSuspicion) → accused ≡ Some x → Timed (due_of x k.at)) → Named u.subject → P o
+      → P (accusation_counted s telling k u (option_map (answer_to k.at) accused) o)
+  by_counted telling u None o told timed named h = h
+  by_counted telling u (Some x) o told timed named h = by_passed telling u _ (makes.event _ k.to (SuspicionTimer u.subject) _ (timed x refl) moves.own tt (by_told telling _ u.subject _ o (told x refl) named h))
 
-  by_accusation : (loud : Bool) (u : Update) (o : Effect) → Named u.subject → R o.state → P o → P (accusation_heard s loud k u o)
+  by_accusation : (telling : Telling) (u : Update) (o : Effect) → Named u.subject → R o.state → P o → P (accusation_heard s telling k u o)
   unfolding accusation_heard
-  by_accusation loud u o named r h =
-      by_counted loud u (accused_of o.state.suspicions u.subject u.accuser o.state.next_number) _
+  by_accusation telling u o named r h =
+      by_counted telling u (accused_of o.state.suspicions u.subject u.accuser o.state.next_number) _
       (λ x is. may.accuses o.state u x r is) (λ x is. times.accusation_timer o.state u x r is) named (makes.state _ o refl h)
 
-  by_other : (loud : Bool) (u : Update) (held : Option (Claim × ℕ)) (o : Effect) → Named u.subject → ¬ (u.subject ≡ k.to) → get o.state.table u.subject ≡ held → R o.state → P o → P (other_applied s loud k u held o)
-  by_other loud u None o named other none r h =
-      by_either (is_heeded (profile_of s) loud u.claim) (news_heard s loud k u o) o (λ _. by_news loud u o named (record { other = other; news = rw none refl }) r h) (λ _. h)
-  by_other loud u (Some held) o named other here r h =
-      by_either (does_override (profile_of s) (u.claim, u.inc) held) (news_heard s loud k u o) (cond (is_repeated (profile_of s) u held) (accusation_heard s loud k u o) o)
-      (λ e. by_news loud u o named (record { other = other; news = rw here e }) r h)
-      (λ _. by_either (is_repeated (profile_of s) u held) (accusation_heard s loud k u o) o (λ _. by_accusation loud u o named r h) (λ _. h))
+  by_other : (telling : Telling) (u : Update) (held : Option (Claim × ℕ)) (o : Effect) → Named u.subject → ¬ (u.subject ≡ k.to) → get o.state.table u.subject ≡ held → R o.state → P o → P (other_applied s telling k u held o)
+  by_other telling u None o named other none r h =
+      by_either (is_heeded (profile_of s) telling u.claim) (news_heard s telling k u o) o (λ _. by_news telling u o named (record { other = other; news = rw none refl }) r h) (λ _. h)
+  by_other telling u (Some held) o named other here r h =
+      by_either (does_override (profile_of s) (u.claim, u.inc) held) (news_heard s telling k u o) (cond (is_repeated (profile_of s) u held) (accusation_heard s telling k u o) o)
+      (λ e. by_news telling u o named (record { other = other; news = rw here e }) r h)
+      (λ _. by_either (is_repeated (profile_of s) u held) (accusation_heard s telling k u o) o (λ _. by_accusation telling u o named r h) (λ _. h))
 
-  by_applied : (loud : Bool) (u : Update) (o : Effect) → Named u.subject → R o.state → P o → P (applied s loud k u o)
+  by_applied : (telling : Telling) (u : Update) (o : Effect) → Named u.subject → R o.state → P o → P (applied s telling k u o)
   unfolding applied
-  by_applied loud u o named r h =
-      by_either (nat_eq u.subject k.to) (own_applied s k u.claim u.inc o) (other_applied s loud k u (get o.state.table u.subject) o)
-      (λ _. by_own u.claim u.inc o r h) (λ e. by_other loud u (get o.state.table u.subject) o named (eqb-false u.subject k.to e) refl r h)
+  by_applied telling u o named r h =
+      by_either (nat_eq u.subject k.to) (own_applied s k u.claim u.inc o) (other_applied s telling k u (get o.state.table u.subject) o)
+      (λ _. by_own u.claim u.inc o r h) (λ e. by_other telling u (get o.state.table u.subject) o named (eqb-false u.subject k.to e) refl r h)
 
-  by_all : (loud : Bool) (us : List Update) (o : Effect) → AllNamed Named us → R o.state → P o → P (all_applied s loud k us o)
+  by_all : (telling : Telling) (us : List Update) (o : Effect) → AllNamed Named us → R o.state → P o → P (all_applied s telling k us o)
   unfolding all_applied
-  by_all loud [] o named r h = h
-  by_all loud (u ∷ us) o named r h = by_all loud us (applied s loud k u o) named.1 (on_applied s k Named R news moves loud u o named.0 r) (by_applied loud u o named.0 r h)
+  by_all telling [] o named r h = h
+  by_all telling (u ∷ us) o named r h = by_all telling us (applied s telling k u o) named.1 (on_applied s k Named R news moves telling u o named.0 r) (by_applied telling u o named.0 r h)
 
   -- ---- start, crash and join
 
@@ -365,13 +368,13 @@ module _ (s : Setup) (k : Key) (Named : ℕ → Type 0) (R : State → Type 0) (
 
   by_join_handled : (o : Effect) → Named k.from → R o.state → P o → P (join_handled s k o)
   unfolding join_handled
-  by_join_handled o sender r h = by_welcome k.from _ sender (on_applied s k Named R news moves true _ o sender r) (by_applied true _ o sender r h)
+  by_join_handled o sender r h = by_welcome k.from _ sender (on_applied s k Named R news moves Aloud _ o sender r) (by_applied Aloud _ o sender r h)
 
   by_joined : (entries : List Update) (o : Effect) → Named k.from → AllNamed Named entries → R o.state → P o → P (joined s k entries o)
   unfolding joined
   by_joined entries o sender named r h =
       let there = on_row s k Named R news what.Joined (Some k.from) (length (about_others k.to entries)) false (on_state (λ t. record t { phase = Running }) o) (moves.welcomed o.state r) in
-      by_first_period _ (on_all s k Named R news moves false entries _ named there) (by_all false entries _ named there
+      by_first_period _ (on_all s k Named R news moves Quietly entries _ named there) (by_all Quietly entries _ named there
       (makes.row _ (Some k.from) _ false _ (may.plain _ tt) sender (makes.state _ o refl h)))
 
   -- ---- probes
@@ -379,8 +382,8 @@ module _ (s : Setup) (k : Key) (Named : ℕ → Type 0) (R : State → Type 0) (
   by_suspected : (target : ℕ) (held : Option (Claim × ℕ)) (o : Effect) → get o.state.table target ≡ held → R o.state → P o → P (suspected s k target held o)
   by_suspected target None o none r h = h
   by_suspected target (Some held) o here r h =
-      by_either (is_confirm held.0) o (applied s true k (record { subject = target; claim = Suspect; inc = held.1; accuser = k.to }) o)
-      (λ _. h) (λ _. by_applied true _ o (moves.known o.state target held r here) r h)
+      by_either (is_confirm held.0) o (applied s Aloud k (record { subject = target; claim = Suspect; inc = held.1; accuser = k.to }) o)
+      (λ _. h) (λ _. by_applied Aloud _ o (moves.known o.state target held r here) r h)
 
   by_failed : (probe : Probe) (o : Effect) → Named probe.target → R o.state → P o → P (probe_failed s k probe o)
   unfolding probe_failed
@@ -441,7 +444,7 @@ module _ (s : Setup) (k : Key) (Named : ℕ → Type 0) (R : State → Type 0) (
   by_ping_heard : (initiator seq : ℕ) (updates : List Update) (o : Effect) → Named k.from → Named initiator → AllNamed Named updates → R o.state → P o → P (ping_heard s k initiator seq updates o)
   unfolding ping_heard
   by_ping_heard initiator seq updates o sender begun named r h =
-      by_ack k.from initiator seq _ sender begun (on_all s k Named R news moves true updates o named r) (by_all true updates o named r h)
+      by_ack k.from initiator seq _ sender begun (on_all s k Named R news moves Aloud updates o named r) (by_all Aloud updates o named r h)
 
   by_relay : (seq : ℕ) (o : Effect) → Named k.from → P o → P (with_relay s k seq o)
   by_relay seq o sender h = by_timer _ (NackTimer k.from seq) _ times.nack_timer sender (makes.state _ o refl h)
@@ -449,8 +452,8 @@ module _ (s : Setup) (k : Key) (Named : ℕ → Type 0) (R : State → Type 0) (
   by_ping_req_heard : (seq target : ℕ) (updates : List Update) (o : Effect) → Named k.from → Named target → AllNamed Named updates → R o.state → P o → P (ping_req_heard s k seq target updates o)
   unfolding ping_req_heard
   by_ping_req_heard seq target updates o sender there named r h =
-      let pinged = by_ping target k.from seq _ there sender (on_all s k Named R news moves true updates o named r) (by_all true updates o named r h) in
-      by_either s.lifeguard.probe (with_relay s k seq (ping_sent s k target k.from seq (all_applied s true k updates o))) _ (λ _. by_relay seq _ sender pinged) (λ _. pinged)
+      let pinged = by_ping target k.from seq _ there sender (on_all s k Named R news moves Aloud updates o named r) (by_all Aloud updates o named r h) in
+      by_either s.lifeguard.probe (with_relay s k seq (ping_sent s k target k.from seq (all_applied s Aloud k updates o))) _ (λ _. by_relay seq _ sender pinged) (λ _. pinged)
 
   by_taken : (initiator seq : ℕ) (o : Effect) → Named initiator → R o.state → P o → P (ack_taken s k initiator seq o)
   unfolding ack_taken
@@ -461,7 +464,7 @@ module _ (s : Setup) (k : Key) (Named : ℕ → Type 0) (R : State → Type 0) (
   by_ack_heard : (initiator seq : ℕ) (updates : List Update) (o : Effect) → Named initiator → AllNamed Named updates → R o.state → P o → P (ack_heard s k initiator seq updates o)
   unfolding ack_heard
   by_ack_heard initiator seq updates o begun named r h =
-      by_taken initiator seq _ begun (on_all s k Named R news moves true updates o named r) (by_all true updates o named r h)
+      by_taken initiator seq _ begun (on_all s k Named R news moves Aloud updates o named r) (by_all Aloud updates o named r h)
 
   by_nack_due : (initiator seq : ℕ) (o : Effect) → Named initiator → R o.state → P o → P (nack_due s k initiator seq o)
   unfolding nack_due
@@ -473,7 +476,7 @@ module _ (s : Setup) (k : Key) (Named : ℕ → Type 0) (R : State → Type 0) (
 
   by_confirmed : (subject : ℕ) (held : Option (Claim × ℕ)) (o : Effect) → get o.state.table subject ≡ held → R o.state → P o → P (confirmed s k subject held o)
   by_confirmed subject None o none r h = h
-  by_confirmed subject (Some held) o here r h = by_applied true _ o (moves.known o.state subject held r here) r h
+  by_confirmed subject (Some held) o here r h = by_applied Aloud _ o (moves.known o.state subject held r here) r h
 
   by_over : (subject : ℕ) (o : Effect) → R o.state → P o → P (suspicion_over s k subject o)
   unfolding suspicion_over
@@ -503,8 +506,8 @@ module _ (s : Setup) (k : Key) (Named : ℕ → Type 0) (R : State → Type 0) (
   by_suspected_at : (probe : Probe) (held : Option (Claim × ℕ)) (o : Effect) → get o.state.table probe.target ≡ held → R o.state → P o → P (suspected_at s k probe held o)
   by_suspected_at probe None o none r h = h
   by_suspected_at probe (Some held) o here r h =
-      by_either (is_confirm held.0) o (applied s true k (record { subject = probe.target; claim = Suspect; inc = probe.number; accuser = k.to }) o)
-      (λ _. h) (λ _. by_applied true _ o (moves.known o.state probe.target held r here) r h)
+      by_either (is_confirm held.0) o (applied s Aloud k (record { subject = probe.target; claim = Suspect; inc = probe.number; accuser = k.to }) o)
+      (λ _. h) (λ _. by_applied Aloud _ o (moves.known o.state probe.target held r here) r h)
 
   by_timed_failed : (probe : Probe) (o : Effect) → Named probe.target → R o.state → P o → P (timed_probe_failed s k probe o)
   unfolding timed_probe_failed
@@ -573,8 +576,8 @@ module _ (s : Setup) (k : Key) (Named : ℕ → Type 0) (R : State → Type 0) (
   by_timed_ack : (initiator seq : ℕ) (updates : List Update) (o : Effect) → Named initiator → AllNamed Named updates → R o.state → P o → P (timed_ack_heard s k initiator seq updates o)
   unfolding timed_ack_heard
   by_timed_ack initiator seq updates o begun named r h =
-      let there = on_all s k Named R news moves true updates o named r in
-      let heard = by_all true updates o named r h in
+      let there = on_all s k Named R news moves Aloud updates o named r in
+      let heard = by_all Aloud updates o named r h in
       by_either (nat_eq initiator k.to) _ _ (λ _. by_timed_answered seq _ there heard) (λ _. by_taken initiator seq _ begun there heard)
 
   by_sampled : (probe : Probe) (o : Effect) → Named probe.target → R o.state → P o → P (sampled_help s k probe o)
@@ -618,7 +621,7 @@ module _ (s : Setup) (k : Key) (Named : ℕ → Type 0) (R : State → Type 0) (
 
   by_merged : (us : List Update) (o : Effect) → AllNamed Named us → R o.state → P o → P (merged s k us o)
   unfolding merged
-  by_merged us o named r h = by_all true (map (merged_claim k.to) us) o (merged_named s k Named R news moves us named) r h
+  by_merged us o named r h = by_all Aloud (map (merged_claim k.to) us) o (merged_named s k Named R news moves us named) r h
 
   by_pushed : (gossip : settings.Gossip) (o : Effect) → s.gossip ≡ Some gossip → R o.state → P o → P (pushed s k gossip.push o)
   unfolding pushed
@@ -722,7 +725,7 @@ module _ (s : Setup) (k : Key) (Named : ℕ → Type 0) (R : State → Type 0) (
   by_timed (Call seq) o sender named r h = by_answer k.from seq o sender r h
   by_timed (Answer seq) o sender named r h = by_answer_heard seq o h
   by_timed GossipTimer o sender named r h = by_gossip_due s.gossip o r h
-  by_timed (Gossip updates) o sender named r h = by_all true updates o named r h
+  by_timed (Gossip updates) o sender named r h = by_all Aloud updates o named r h
   by_timed PushTimer o sender named r h = by_push_due s.gossip o refl r h
   by_timed (Push entries) o sender named r h = by_push_heard entries o sender named r h
   by_timed (Pull entries) o sender named r h = by_merged entries o named r h

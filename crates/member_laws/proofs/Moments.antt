@@ -39,7 +39,7 @@ use Rattle.member.specs.declared.content.Content.TheVariants.{Crash, Leave}
 use Rattle.member.specs.State.{State}
 use Rattle.membership.specs.Table.{live_count}
 use Rattle.membership.proofs.Few.{live_count-le, live_count-positive}
-use Rattle.member.specs.Turn.{Effect, with_row, with_event}
+use Rattle.member.specs.Effects.{Effect, with_row, with_event}
 use Rattle.member.proofs.Members.{few_members}
 use Rattle.member.proofs.Fair.{positive}
 use Rattle.member.specs.Apply.{claim_kept, without_suspicion}

@@ -20,7 +20,8 @@ use Rattle.member.specs.declared.member.Phase.{Phase}
 use Rattle.member.specs.declared.member.Phase.TheVariants.{Waiting}
 use Rattle.member.specs.State.{State}
 use Rattle.member.specs.declared.content.Content.TheVariants.{GossipTimer}
-use Rattle.member.specs.Turn.{Effect, on_state, with_row, with_event}
+use Rattle.member.specs.declared.telling.Telling.{Telling}
+use Rattle.member.specs.Effects.{Effect, on_state, with_row, with_event}
 use Rattle.member.specs.Opening.{opening_state}
 use Rattle.member.specs.Apply.{gossip_set, with_put, with_health, refuted, heard_dead, is_own_death, own_applied, other_applied, applied}
 use Rattle.member.specs.Step.{step}
@@ -82,23 +83,23 @@ not_true : (b : Bool) → ¬ (b ≡ true) → b ≡ false
 not_true true never = absurd (never refl)
 not_true false never = refl
 
-pub refutes : (s : Setup) (loud : Bool) (k : Key) (u : Update) (o : Effect) → IsRefuted (profile_of s) k.to o.state u
-    → (applied s loud k u o).state.incarnation ≡ u.inc + 1
+pub refutes : (s : Setup) (telling : Telling) (k : Key) (u : Update) (o : Effect) → IsRefuted (profile_of s) k.to o.state u
+    → (applied s telling k u o).state.incarnation ≡ u.inc + 1
 unfolding applied
-refutes s loud k u o is = rw (eq-eqb u.subject k.to is.own, is.refutes) (one_more s k (u.inc + 1) o)
+refutes s telling k u o is = rw (eq-eqb u.subject k.to is.own, is.refutes) (one_more s k (u.inc + 1) o)
 
-pub else_same : (s : Setup) (loud : Bool) (k : Key) (u : Update) (o : Effect) → ¬ (IsRefuted (profile_of s) k.to o.state u)
-    → (applied s loud k u o).state.incarnation ≡ o.state.incarnation
+pub else_same : (s : Setup) (telling : Telling) (k : Key) (u : Update) (o : Effect) → ¬ (IsRefuted (profile_of s) k.to o.state u)
+    → (applied s telling k u o).state.incarnation ≡ o.state.incarnation
 unfolding applied
-else_same s loud k u o other = either (nat_eq u.subject k.to) refl
+else_same s telling k u o other = either (nat_eq u.subject k.to) refl
   where
     either : (b : Bool) → nat_eq u.subject k.to ≡ b
-        → (cond b (own_applied s k u.claim u.inc o) (other_applied s loud k u (get o.state.table u.subject) o)).state.incarnation ≡ o.state.incarnation
+        → (cond b (own_applied s k u.claim u.inc o) (other_applied s telling k u (get o.state.table u.subject) o)).state.incarnation ≡ o.state.incarnation
     either true e =
         own_either s k u.claim u.inc (does_refute (profile_of s) o.state.incarnation u.claim u.inc) o
         (not_true _ (λ yes. other (record { own = eqb-true u.subject k.to e; refutes = yes })))
     either false e =
-        on_other s k Anyone (FactOf (Same o.state.incarnation)) (same_news s k o.state.incarnation) loud u (get o.state.table u.subject) o tt (eqb-false u.subject k.to e) refl refl
+        on_other s k Anyone (FactOf (Same o.state.incarnation)) (same_news s k o.state.incarnation) telling u (get o.state.table u.subject) o tt (eqb-false u.subject k.to e) refl refl
 
 -- by the papers' rules what is refuted is a suspicion at one's present number
 pub refuted_by_papers : (me : ℕ) (t : State) (u : Update) → AccusesOneself me t u → IsRefuted Papers me t u

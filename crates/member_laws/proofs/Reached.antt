@@ -33,7 +33,7 @@ use Rattle.member.specs.Here.{MentionsMembers}
 use Rattle.member.proofs.Members.{few_members}
 use Rattle.member.specs.State.{State}
 use Rattle.membership.specs.Table.{is_suspect, alive_but, is_alive}
-use Rattle.member.specs.Turn.{Effect, with_row, with_event}
+use Rattle.member.specs.Effects.{Effect, with_row, with_event}
 use Rattle.member.specs.Send.{limit_of, suspicion_told, buddy_of}
 use Rattle.member.specs.Opening.{opening_state, opening, numbers, ending_event, script_of}
 use Rattle.member.specs.Step.{step, candidates_for}

@@ -6,7 +6,7 @@ use Rattle.member.specs.declared.member.Phase.TheVariants.{Waiting, Down}
 use Rattle.member.specs.declared.content.Content.{Content}
 use Rattle.member.specs.declared.content.Content.TheVariants.{Start, Crash, Leave, JoinTimer, PeriodTimer, TimeoutTimer, NackTimer, SuspicionTimer, Join, Welcome, Ping, PingReq, Ack, Nack, Bye, DeadlineTimer, GossipTimer, PushTimer, Call, Answer, Gossip, Push, Pull}
 use Rattle.member.specs.State.{State}
-use Rattle.member.specs.Turn.{Effect, unchanged}
+use Rattle.member.specs.Effects.{Effect, unchanged}
 use Rattle.scenario.specs.Profile.{profile_of}
 use Rattle.member.specs.Step.{plain_handled, handled, handled_by, step}
 

@@ -21,7 +21,7 @@ use Rattle.suspicion.specs.Settings.{terms_of}
 use Rattle.suspicion.specs.Suspicions.{HeldSuspicion, HeldSuspicions, counts, with_accuser, accused}
 use Rattle.member.specs.declared.content.Content.{Content}
 use Rattle.member.specs.State.{State}
-use Rattle.member.specs.Turn.{Effect, with_row, with_event}
+use Rattle.member.specs.Effects.{Effect, with_row, with_event}
 use Rattle.member.specs.Send.{suspicion_told, buddy_of}
 use Rattle.scenario.specs.Profile.{profile_of}
 use Rattle.member.specs.Apply.{claim_kept, without_suspicion, death_kept}

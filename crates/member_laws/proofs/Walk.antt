@@ -24,6 +24,9 @@ use Rattle.member.specs.declared.member.Phase.{Phase}
 use Rattle.member.specs.declared.member.Phase.TheVariants.{Waiting, Joining, Running, Down}
 use Rattle.member.specs.declared.content.Content.{Content}
 use Rattle.member.specs.declared.content.Content.TheVariants.{Start, Crash, Leave, JoinTimer, PeriodTimer, TimeoutTimer, NackTimer, SuspicionTimer, Join, Welcome, Ping, PingReq, Ack, Nack, Bye, DeadlineTimer, GossipTimer, PushTimer, Call, Answer, Gossip, Push, Pull}
+use Rattle.member.specs.declared.telling.Telling.{Telling}
+use Rattle.member.specs.declared.telling.Telling.TheVariants.{Aloud, Quietly}
+use Rattle.member.specs.Telling.{is_aloud}
 use Rattle.member.specs.State.{State}
 use Rattle.base.specs.Beats.{next_in_step}
 use Rattle.base.specs.declared.profile.Profile.{Profile}
@@ -32,7 +35,7 @@ use Rattle.scenario.specs.Profile.{profile_of}
 use Rattle.scenario.specs.declared.settings.Gossip as settings
 use Rattle.incarnation.specs.Refutations.{does_refute}
 use Rattle.membership.specs.Table.{is_alive, is_confirm, does_override, alive_but}
-use Rattle.member.specs.Turn.{Effect, unchanged, on_state, with_row, with_number, with_event, with_timer}
+use Rattle.member.specs.Effects.{Effect, unchanged, on_state, with_row, with_number, with_event, with_timer}
 use Rattle.member.specs.Send.{sent_off, posted, sent, sent_to_each, carried, gossip_sent, call_sent, answer_sent, push_sent, pull_sent, with_picks, buddy_of, ping_sent, ping_req_sent, ack_sent, nack_sent, join_sent_to, join_sent, welcome_sent, bye_sent}
 use Rattle.member.specs.Apply.{gossip_set, with_put, with_health, with_told, passed_on, refuted, heard_dead, is_own_death, own_applied, claim_kept, alive_heard, suspect_heard, confirm_heard, claim_heard, news_heard, accusation_counted, accusation_heard, is_repeated, is_heeded, other_applied, applied, all_applied}
 use Rattle.member.specs.Step.{push_begun, first_push_set, suspected_at, timed_probe_failed, probe_settled, probe_timers_set, timed_probe_begun, timed_target_probed, next_timed_probed, waiting_probed, has_time, probed_in_turn, period_beaten, is_under_way, deadline_over, timed_answered, timed_ack_heard, sampled_help, helped, called, timed_out_timed, reached, answer_heard, is_told_out, gossip_spread, gossip_set_again, gossip_round, gossip_due, merged_claim, merged, pushed, push_due, push_heard, timed_handled, handled_by, first_period_set, began, join_asked, joining_begun, started, crashed, join_handled, joined, suspected, probe_failed, probe_ended, probe_begun, target_probed, next_probed, period_begun, with_expected, help_asked, timed_out, nack_heard, nacked, answered, ping_heard, with_relay, ping_req_heard, ack_taken, ack_heard, nack_due, confirmed, suspicion_over, withdrawn, byes_said, departed, plain_handled, handled, step}
@@ -127,8 +130,8 @@ module _ (s : Setup) (k : Key) (Named : ℕ → Type 0) (R : State → Type 0) (
   unfolding with_event
   on_event at to content o h = news.counted o.state h
 
-  pub on_told : (loud : Bool) (tells : What) (subject value : ℕ) (o : Effect) → R o.state → R (with_told loud k tells subject value o).state
-  on_told loud tells subject value o h = on_either loud (with_row k tells (Some subject) value false o) o (on_row tells (Some subject) value false o h) h
+  pub on_told : (telling : Telling) (tells : What) (subject value : ℕ) (o : Effect) → R o.state → R (with_told telling k tells subject value o).state
+  on_told telling tells subject value o h = on_either (is_aloud telling) (with_row k tells (Some subject) value false o) o (on_row tells (Some subject) value false o h) h
 
   pub on_gossip_set : (gossip : Option settings.Gossip) (o : Effect) → R o.state → R (gossip_set s k gossip o).state
   on_gossip_set None o h = h
@@ -140,43 +143,43 @@ module _ (s : Setup) (k : Key) (Named : ℕ → Type 0) (R : State → Type 0) (
   unfolding with_put
   on_put u o named h = on_gossip_set s.gossip _ (news.put o.state u named h)
 
-  pub on_passed : (loud : Bool) (u : Update) (o : Effect) → Named u.subject → R o.state → R (passed_on s k loud u o).state
+  pub on_passed : (telling : Telling) (u : Update) (o : Effect) → Named u.subject → R o.state → R (passed_on s k telling u o).state
   unfolding passed_on
-  on_passed loud u o named h = on_either loud (with_put s k u o) o (on_put u o named h) h
+  on_passed telling u o named h = on_either (is_aloud telling) (with_put s k u o) o (on_put u o named h) h
 
-  pub on_claim : (loud : Bool) (u : Update) (claim : Claim) (o : Effect) → Named u.subject → IsNews (profile_of s) k.to o.state u → u.claim ≡ claim → R o.state
-      → R (claim_heard s loud k u claim (on_state (claim_kept u) o)).state
+  pub on_claim : (telling : Telling) (u : Update) (claim : Claim) (o : Effect) → Named u.subject → IsNews (profile_of s) k.to o.state u → u.claim ≡ claim → R o.state
+      → R (claim_heard s telling k u claim (on_state (claim_kept u) o)).state
   unfolding alive_heard suspect_heard confirm_heard
-  on_claim loud u Alive o named says e h = on_told loud _ u.subject u.inc _ (news.alive o.state u named says e h)
-  on_claim loud u Suspect o named says e h =
-      on_event _ k.to _ _ (on_told loud _ u.subject u.inc _ (news.suspect o.state u _ named says e (record { terms = refl; since = refl; members = refl }) h))
-  on_claim loud u Confirm o named says e h = on_told loud _ u.subject u.inc _ (news.confirm o.state u named says e h)
+  on_claim telling u Alive o named says e h = on_told telling _ u.subject u.inc _ (news.alive o.state u named says e h)
+  on_claim telling u Suspect o named says e h =
+      on_event _ k.to _ _ (on_told telling _ u.subject u.inc _ (news.suspect o.state u _ named says e (record { terms = refl; since = refl; members = refl }) h))
+  on_claim telling u Confirm o named says e h = on_told telling _ u.subject u.inc _ (news.confirm o.state u named says e h)
 
-  pub on_news : (loud : Bool) (u : Update) (o : Effect) → Named u.subject → IsNews (profile_of s) k.to o.state u → R o.state → R (news_heard s loud k u o).state
+  pub on_news : (telling : Telling) (u : Update) (o : Effect) → Named u.subject → IsNews (profile_of s) k.to o.state u → R o.state → R (news_heard s telling k u o).state
   unfolding news_heard
-  on_news loud u o named says h = on_passed loud u (claim_heard s loud k u u.claim (on_state (claim_kept u) o)) named (on_claim loud u u.claim o named says refl h)
+  on_news telling u o named says h = on_passed telling u (claim_heard s telling k u u.claim (on_state (claim_kept u) o)) named (on_claim telling u u.claim o named says refl h)
 
-  pub on_accusation_counted : (loud : Bool) (u : Update) (accused : Option Accused) (o : Effect) → Named u.subject → R o.state → R (accusation_counted s loud k u accused o).state
-  on_accusation_counted loud u None o named h = h
-  on_accusation_counted loud u (Some accused) o named h =
-      on_passed loud u (with_event s k accused.due k.to (SuspicionTimer u.subject) (with_told loud k _ u.subject accused.count o)) named (on_event _ k.to _ _ (on_told loud _ u.subject accused.count o h))
+  pub on_accusation_counted : (telling : Telling) (u : Update) (accused : Option Accused) (o : Effect) → Named u.subject → R o.state → R (accusation_counted s telling k u accused o).state
+  on_accusation_counted telling u None o named h = h
+  on_accusation_counted telling u (Some accused) o named h =
+      on_passed telling u (with_event s k accused.due k.to (SuspicionTimer u.subject) (with_told telling k _ u.subject accused.count o)) named (on_event _ k.to _ _ (on_told telling _ u.subject accused.count o h))
 
-  pub on_accusation : (loud : Bool) (u : Update) (o : Effect) → Named u.subject → R o.state → R (accusation_heard s loud k u o).state
+  pub on_accusation : (telling : Telling) (u : Update) (o : Effect) → Named u.subject → R o.state → R (accusation_heard s telling k u o).state
   unfolding accusation_heard
-  on_accusation loud u o named h =
-      on_accusation_counted loud u (option_map (answer_to k.at) (accused_of o.state.suspicions u.subject u.accuser o.state.next_number)) _ named (news.accused o.state u h)
+  on_accusation telling u o named h =
+      on_accusation_counted telling u (option_map (answer_to k.at) (accused_of o.state.suspicions u.subject u.accuser o.state.next_number)) _ named (news.accused o.state u h)
 
-  pub on_known : (loud : Bool) (u : Update) (held : Claim × ℕ) (b : Bool) (o : Effect) → Named u.subject → ¬ (u.subject ≡ k.to) → get o.state.table u.subject ≡ Some held
+  pub on_known : (telling : Telling) (u : Update) (held : Claim × ℕ) (b : Bool) (o : Effect) → Named u.subject → ¬ (u.subject ≡ k.to) → get o.state.table u.subject ≡ Some held
       → does_override (profile_of s) (u.claim, u.inc) held ≡ b → R o.state
-      → R (cond b (news_heard s loud k u o) (cond (is_repeated (profile_of s) u held) (accusation_heard s loud k u o) o)).state
-  on_known loud u held true o named other here e h = on_news loud u o named (record { other = other; news = rw here e }) h
-  on_known loud u held false o named other here e h = on_either (is_repeated (profile_of s) u held) (accusation_heard s loud k u o) o (on_accusation loud u o named h) h
+      → R (cond b (news_heard s telling k u o) (cond (is_repeated (profile_of s) u held) (accusation_heard s telling k u o) o)).state
+  on_known telling u held true o named other here e h = on_news telling u o named (record { other = other; news = rw here e }) h
+  on_known telling u held false o named other here e h = on_either (is_repeated (profile_of s) u held) (accusation_heard s telling k u o) o (on_accusation telling u o named h) h
 
-  pub on_other : (loud : Bool) (u : Update) (held : Option (Claim × ℕ)) (o : Effect) → Named u.subject → ¬ (u.subject ≡ k.to) → get o.state.table u.subject ≡ held → R o.state
-      → R (other_applied s loud k u held o).state
-  on_other loud u None o named other none h =
-      on_either (is_heeded (profile_of s) loud u.claim) (news_heard s loud k u o) o (on_news loud u o named (record { other = other; news = rw none refl }) h) h
-  on_other loud u (Some held) o named other here h = on_known loud u held (does_override (profile_of s) (u.claim, u.inc) held) o named other here refl h
+  pub on_other : (telling : Telling) (u : Update) (held : Option (Claim × ℕ)) (o : Effect) → Named u.subject → ¬ (u.subject ≡ k.to) → get o.state.table u.subject ≡ held → R o.state
+      → R (other_applied s telling k u held o).state
+  on_other telling u None o named other none h =
+      on_either (is_heeded (profile_of s) telling u.claim) (news_heard s telling k u o) o (on_news telling u o named (record { other = other; news = rw none refl }) h) h
+  on_other telling u (Some held) o named other here h = on_known telling u held (does_override (profile_of s) (u.claim, u.inc) held) o named other here refl h
 
   module _ (moves : Moves s k Named R) where
     pub on_timer : (ticks : ℕ) (content : Content) (o : Effect) → R o.state → R (with_timer s k ticks content o).state
@@ -282,19 +285,19 @@ module _ (s : Setup) (k : Key) (Named : ℕ → Type 0) (R : State → Type 0) (
     pub on_own : (claim : Claim) (number : ℕ) (o : Effect) → R o.state → R (own_applied s k claim number o).state
     on_own claim number o h = on_own_claim claim number (does_refute (profile_of s) o.state.incarnation claim number) o refl h
 
-    pub on_subject : (loud : Bool) (u : Update) (b : Bool) (o : Effect) → Named u.subject → nat_eq u.subject k.to ≡ b → R o.state
-        → R (cond b (own_applied s k u.claim u.inc o) (other_applied s loud k u (get o.state.table u.subject) o)).state
-    on_subject loud u true o named e h = on_own u.claim u.inc o h
-    on_subject loud u false o named e h = on_other loud u (get o.state.table u.subject) o named (eqb-false u.subject k.to e) refl h
+    pub on_subject : (telling : Telling) (u : Update) (b : Bool) (o : Effect) → Named u.subject → nat_eq u.subject k.to ≡ b → R o.state
+        → R (cond b (own_applied s k u.claim u.inc o) (other_applied s telling k u (get o.state.table u.subject) o)).state
+    on_subject telling u true o named e h = on_own u.claim u.inc o h
+    on_subject telling u false o named e h = on_other telling u (get o.state.table u.subject) o named (eqb-false u.subject k.to e) refl h
 
-    pub on_applied : (loud : Bool) (u : Update) (o : Effect) → Named u.subject → R o.state → R (applied s loud k u o).state
+    pub on_applied : (telling : Telling) (u : Update) (o : Effect) → Named u.subject → R o.state → R (applied s telling k u o).state
     unfolding applied
-    on_applied loud u o named h = on_subject loud u (nat_eq u.subject k.to) o named refl h
+    on_applied telling u o named h = on_subject telling u (nat_eq u.subject k.to) o named refl h
 
-    pub on_all : (loud : Bool) (us : List Update) (o : Effect) → AllNamed Named us → R o.state → R (all_applied s loud k us o).state
+    pub on_all : (telling : Telling) (us : List Update) (o : Effect) → AllNamed Named us → R o.state → R (all_applied s telling k us o).state
     unfolding all_applied
-    on_all loud [] o named h = h
-    on_all loud (u ∷ us) o named h = on_all loud us (applied s loud k u o) named.1 (on_applied loud u o named.0 h)
+    on_all telling [] o named h = h
+    on_all telling (u ∷ us) o named h = on_all telling us (applied s telling k u o) named.1 (on_applied telling u o named.0 h)
 
     -- ---- start, crash and join
 
@@ -336,20 +339,20 @@ module _ (s : Setup) (k : Key) (Named : ℕ → Type 0) (R : State → Type 0) (
 
     pub on_join_handled : (o : Effect) → Named k.from → R o.state → R (join_handled s k o).state
     unfolding join_handled
-    on_join_handled o sender h = on_welcome k.from _ (on_applied true _ o sender h)
+    on_join_handled o sender h = on_welcome k.from _ (on_applied Aloud _ o sender h)
 
     pub on_joined : (entries : List Update) (o : Effect) → AllNamed Named entries → R o.state → R (joined s k entries o).state
     unfolding joined
     on_joined entries o named h =
-        on_first_period _ (on_all false entries _ named (on_row _ (Some k.from) _ false _ (moves.welcomed o.state h)))
+        on_first_period _ (on_all Quietly entries _ named (on_row _ (Some k.from) _ false _ (moves.welcomed o.state h)))
 
     -- ---- probes
 
     pub on_suspected : (target : ℕ) (held : Option (Claim × ℕ)) (o : Effect) → get o.state.table target ≡ held → R o.state → R (suspected s k target held o).state
     on_suspected target None o none h = h
     on_suspected target (Some held) o here h =
-        on_either (is_confirm held.0) o (applied s true k (record { subject = target; claim = Suspect; inc = held.1; accuser = k.to }) o)
-        h (on_applied true _ o (moves.known o.state target held h here) h)
+        on_either (is_confirm held.0) o (applied s Aloud k (record { subject = target; claim = Suspect; inc = held.1; accuser = k.to }) o)
+        h (on_applied Aloud _ o (moves.known o.state target held h here) h)
 
     -- the health after a probe, whatever came of it
     pub on_weighed : (b : Bool) (failures : ℕ) (t : State) → R t → R (record t { health = cond b (lowered t.health) (raised t.health failures) })
@@ -409,7 +412,7 @@ module _ (s : Setup) (k : Key) (Named : ℕ → Type 0) (R : State → Type 0) (
 
     pub on_ping_heard : (initiator seq : ℕ) (updates : List Update) (o : Effect) → AllNamed Named updates → R o.state → R (ping_heard s k initiator seq updates o).state
     unfolding ping_heard
-    on_ping_heard initiator seq updates o named h = on_ack k.from initiator seq _ (on_all true updates o named h)
+    on_ping_heard initiator seq updates o named h = on_ack k.from initiator seq _ (on_all Aloud updates o named h)
 
     pub on_relay : (b : Bool) (seq : ℕ) (o : Effect) → s.lifeguard.probe ≡ b → R o.state → R (cond b (with_relay s k seq o) o).state
     on_relay true seq o on h = on_timer _ _ _ (moves.relay_added o.state (k.from, seq) on h)
@@ -417,7 +420,7 @@ module _ (s : Setup) (k : Key) (Named : ℕ → Type 0) (R : State → Type 0) (
 
     pub on_ping_req_heard : (seq target : ℕ) (updates : List Update) (o : Effect) → AllNamed Named updates → R o.state → R (ping_req_heard s k seq target updates o).state
     unfolding ping_req_heard
-    on_ping_req_heard seq target updates o named h = on_relay s.lifeguard.probe seq _ refl (on_ping target k.from seq _ (on_all true updates o named h))
+    on_ping_req_heard seq target updates o named h = on_relay s.lifeguard.probe seq _ refl (on_ping target k.from seq _ (on_all Aloud updates o named h))
 
     pub on_taken : (initiator seq : ℕ) (o : Effect) → R o.state → R (ack_taken s k initiator seq o).state
     unfolding ack_taken
@@ -428,7 +431,7 @@ module _ (s : Setup) (k : Key) (Named : ℕ → Type 0) (R : State → Type 0) (
 
     pub on_ack_heard : (initiator seq : ℕ) (updates : List Update) (o : Effect) → AllNamed Named updates → R o.state → R (ack_heard s k initiator seq updates o).state
     unfolding ack_heard
-    on_ack_heard initiator seq updates o named h = on_taken initiator seq _ (on_all true updates o named h)
+    on_ack_heard initiator seq updates o named h = on_taken initiator seq _ (on_all Aloud updates o named h)
 
     pub on_nack_due : (initiator seq : ℕ) (o : Effect) → R o.state → R (nack_due s k initiator seq o).state
     unfolding nack_due
@@ -439,7 +442,7 @@ module _ (s : Setup) (k : Key) (Named : ℕ → Type 0) (R : State → Type 0) (
 
     pub on_confirmed : (subject : ℕ) (held : Option (Claim × ℕ)) (o : Effect) → get o.state.table subject ≡ held → R o.state → R (confirmed s k subject held o).state
     on_confirmed subject None o none h = h
-    on_confirmed subject (Some held) o here h = on_applied true _ o (moves.known o.state subject held h here) h
+    on_confirmed subject (Some held) o here h = on_applied Aloud _ o (moves.known o.state subject held h here) h
 
     pub on_over : (subject : ℕ) (o : Effect) → R o.state → R (suspicion_over s k subject o).state
     unfolding suspicion_over
@@ -465,8 +468,8 @@ module _ (s : Setup) (k : Key) (Named : ℕ → Type 0) (R : State → Type 0) (
     pub on_suspected_at : (probe : Probe) (held : Option (Claim × ℕ)) (o : Effect) → get o.state.table probe.target ≡ held → R o.state → R (suspected_at s k probe held o).state
     on_suspected_at probe None o none h = h
     on_suspected_at probe (Some held) o here h =
-        on_either (is_confirm held.0) o (applied s true k (record { subject = probe.target; claim = Suspect; inc = probe.number; accuser = k.to }) o)
-        h (on_applied true _ o (moves.known o.state probe.target held h here) h)
+        on_either (is_confirm held.0) o (applied s Aloud k (record { subject = probe.target; claim = Suspect; inc = probe.number; accuser = k.to }) o)
+        h (on_applied Aloud _ o (moves.known o.state probe.target held h here) h)
 
     pub on_timed_failed : (probe : Probe) (o : Effect) → R o.state → R (timed_probe_failed s k probe o).state
     unfolding timed_probe_failed
@@ -526,7 +529,7 @@ module _ (s : Setup) (k : Key) (Named : ℕ → Type 0) (R : State → Type 0) (
     pub on_timed_ack : (initiator seq : ℕ) (updates : List Update) (o : Effect) → AllNamed Named updates → R o.state → R (timed_ack_heard s k initiator seq updates o).state
     unfolding timed_ack_heard
     on_timed_ack initiator seq updates o named h =
-        let heard = on_all true updates o named h in
+        let heard = on_all Aloud updates o named h in
         on_either (nat_eq initiator k.to) _ _ (on_timed_answered seq _ heard) (on_taken initiator seq _ heard)
 
     pub on_sampled : (probe : Probe) (o : Effect) → Named probe.target → R o.state → R (sampled_help s k probe o).state
@@ -577,7 +580,7 @@ module _ (s : Setup) (k : Key) (Named : ℕ → Type 0) (R : State → Type 0) (
 
     pub on_merged : (us : List Update) (o : Effect) → AllNamed Named us → R o.state → R (merged s k us o).state
     unfolding merged
-    on_merged us o named h = on_all true (map (merged_claim k.to) us) o (merged_named us named) h
+    on_merged us o named h = on_all Aloud (map (merged_claim k.to) us) o (merged_named us named) h
 
     pub on_pushed : (push : ℕ) (o : Effect) → R o.state → R (pushed s k push o).state
     unfolding pushed
@@ -674,7 +677,7 @@ module _ (s : Setup) (k : Key) (Named : ℕ → Type 0) (R : State → Type 0) (
     on_timed (Call seq) o is sender named h = on_answer k.from seq o h
     on_timed (Answer seq) o is sender named h = on_answer_heard seq o h
     on_timed GossipTimer o is sender named h = on_gossip_due s.gossip o h
-    on_timed (Gossip updates) o is sender named h = on_all true updates o named h
+    on_timed (Gossip updates) o is sender named h = on_all Aloud updates o named h
     on_timed PushTimer o is sender named h = on_push_due s.gossip o h
     on_timed (Push entries) o is sender named h = on_push_heard entries o named h
     on_timed (Pull entries) o is sender named h = on_merged entries o named h

@@ -1,6 +1,7 @@
 //! What holds of every step, stated over the definitions alone.
 
-ghost use Rattle.std.specs.Prelude.{◌≡◌, ◌≢◌, ◌<◌, ◌≤◌, ◌+◌, ◌^◌, ℕ, Bool, false, Some, None, List, [], All};
+ghost use Rattle.std.specs.Prelude.{◌≡◌, ◌≢◌, ◌<◌, ◌≤◌, ◌+◌, ◌^◌, ℕ, false, Some, None, List, [], map, All};
+ghost use Rattle.std.specs.List.Sorted.{IsStrictlyIncreasing};
 ghost use Rattle.std.specs.FinMap.{get};
 ghost use Rattle.std.specs.FinSet as set;
 ghost use Rattle.base.specs.declared.key.Key.{Key};
@@ -11,16 +12,17 @@ ghost use Rattle.base.specs.declared.profile.Profile.TheVariants.{Papers, Member
 ghost use Rattle.trace.specs.declared.row.Row.{Row};
 ghost use Rattle.trace.specs.declared.row.What.TheVariants as what;
 ghost use Rattle.trace.specs.Text.{NamesMembers};
-ghost use Rattle.incarnation.specs.declared.Claim.{Claim};
 ghost use Rattle.incarnation.specs.declared.Claim.TheVariants.{Alive, Confirm};
 ghost use Rattle.incarnation.specs.declared.Update.{Update};
+ghost use Rattle.membership.specs.Table.{Known};
 ghost use Rattle.member.specs.declared.content.Content.{Content};
 ghost use Rattle.member.specs.declared.content.Content.TheVariants.{Start, Leave, Bye};
 ghost use Rattle.member.specs.declared.member.Phase.TheVariants.{Waiting, Down};
 ghost use Rattle.member.specs.State.{State};
 ghost use Rattle.member.specs.Opening.{opening_state, opening};
-ghost use Rattle.member.specs.Turn.{Effect, unchanged};
-ghost use Rattle.member.specs.Send.{buddy_of};
+ghost use Rattle.member.specs.declared.telling.Telling.{Telling};
+ghost use Rattle.member.specs.Effects.{Effect, unchanged};
+ghost use Rattle.member.specs.Send.{whole_table, buddy_of};
 ghost use Rattle.member.specs.Apply.{applied};
 ghost use Rattle.member.specs.Step.{step, plain_step};
 ghost use Rattle.member_laws.specs.Words.{AccusesOneself, IsRefuted, WaitsAsOpened, IsWithinCeiling, IsTimely, IsConsistent, IsAmongMembers};
@@ -31,18 +33,18 @@ ghost use Rattle.member_laws.specs.Runs.{Cluster, IsRunOf, IsPlainRunOf, LeadsTo
 /// whatever else it hears. By the papers' rules it so rises by one where it hears itself suspected at
 /// its present number, and stays at all else. No step lowers it.
 pub fn an_incarnation_rises_to_refute_alone()
-    ensures refuted { (s : Setup) (loud : Bool) (k : Key) (u : Update) (o : Effect)
+    ensures refuted { (s : Setup) (telling : Telling) (k : Key) (u : Update) (o : Effect)
         → IsRefuted (profile_of s) k.to o.state u
-        → (applied s loud k u o).state.incarnation ≡ u.inc + 1 }
-    ensures stays { (s : Setup) (loud : Bool) (k : Key) (u : Update) (o : Effect)
+        → (applied s telling k u o).state.incarnation ≡ u.inc + 1 }
+    ensures stays { (s : Setup) (telling : Telling) (k : Key) (u : Update) (o : Effect)
         → ¬ IsRefuted (profile_of s) k.to o.state u
-        → (applied s loud k u o).state.incarnation ≡ o.state.incarnation }
-    ensures refuted_by_papers { (s : Setup) (loud : Bool) (k : Key) (u : Update) (o : Effect)
+        → (applied s telling k u o).state.incarnation ≡ o.state.incarnation }
+    ensures refuted_by_papers { (s : Setup) (telling : Telling) (k : Key) (u : Update) (o : Effect)
         → profile_of s ≡ Papers → AccusesOneself k.to o.state u
-        → (applied s loud k u o).state.incarnation ≡ o.state.incarnation + 1 }
-    ensures stays_by_papers { (s : Setup) (loud : Bool) (k : Key) (u : Update) (o : Effect)
+        → (applied s telling k u o).state.incarnation ≡ o.state.incarnation + 1 }
+    ensures stays_by_papers { (s : Setup) (telling : Telling) (k : Key) (u : Update) (o : Effect)
         → profile_of s ≡ Papers → ¬ AccusesOneself k.to o.state u
-        → (applied s loud k u o).state.incarnation ≡ o.state.incarnation }
+        → (applied s telling k u o).state.incarnation ≡ o.state.incarnation }
     ensures never_falls { (s : Setup) (k : Key) (c : Content) (t : State) → WaitsAsOpened s k.to t
         → t.incarnation ≤ (step s k c t).state.incarnation }
 {}
@@ -111,6 +113,15 @@ pub fn what_is_off_is_not_done()
         → (relay : ℕ × ℕ) → set.contains t.relays relay ≡ false }
     ensures buddy { (s : Setup) (to : ℕ) (t : State) → s.lifeguard.buddy ≡ false
         → buddy_of s to t ≡ None }
+{}
+
+/// What a welcome holds, and a push and a pull, is told in the sender's own name: the sender is the
+/// accuser of each entry. The entries come in the order of the members' numbers, one for a member.
+pub fn a_whole_table_is_told_in_ones_own_name()
+    ensures accuser { (me incarnation : ℕ) (table : Known)
+        → All (λ (u : Update). u.accuser ≡ me) (whole_table me incarnation table) }
+    ensures order { (me incarnation : ℕ) (table : Known)
+        → IsStrictlyIncreasing (map (λ (u : Update). u.subject) (whole_table me incarnation table)) }
 {}
 
 /// Through a run a member's incarnation number never falls.

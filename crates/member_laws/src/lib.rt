@@ -8,6 +8,7 @@ pub use laws::{
     a_run_keeps_states_consistent, a_run_lowers_no_incarnation, a_run_names_members,
     a_run_revives_by_higher_numbers_alone, a_run_revives_nobody, a_run_tells_only_of_what_is_on,
     a_silent_member_keeps_silent, a_waiting_member_is_as_opened,
-    an_incarnation_rises_to_refute_alone, health_stays_within_its_ceiling, states_stay_consistent,
-    what_is_off_is_not_done,
+    a_whole_table_is_told_in_ones_own_name, an_incarnation_rises_to_refute_alone,
+    health_stays_within_its_ceiling, states_stay_consistent, what_is_off_is_not_done,
+    where_nobody_leaves_runs_are_plain,
 };

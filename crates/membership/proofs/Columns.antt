@@ -1,6 +1,6 @@
 -- Columns of claims and numbers as a table.
 use Rattle.std.proofs.Common.{◌≡◌, ◌≢◌, ℕ, zero, suc, ◌+◌, ◌<◌, ◌≤◌, Bool, true, false, cond, not, eqb, nat_eq, ◌&&◌, List, [], ◌∷◌, ◌++◌, map, filter, length, replicate, set, get_or, take, Option, Some, None, Result, Ok, Err, IfOk, OnErr, count_by, sum_by, slice_index, ap, ◌∙◌, sym, refl, arith}
-use Rattle.std.specs.Option.{option_map}
+use Rattle.std.specs.Option.{option_map, option_map_or}
 use Rattle.std.specs.List.{AllByRecursion}
 use Rattle.std.specs.List.Sorted.{IsStrictlySortedBy}
 use Rattle.std.specs.Map.{keys_of}
@@ -54,6 +54,14 @@ module _ (incs : List ℕ) where
   -- what is held of a member
   pub get_held : (claims : List (Option Claim)) (q : ℕ) → get (known_of (entries_from 0 claims incs)) q ≡ held_at claims incs q
   get_held claims q = get-from_entries nat_cmp_total (entries_from 0 claims incs) q ∙ find_held claims 0 q q (omega arith)
+
+  -- at a place with no number nobody is held at one
+  no_number : (claim : Option Claim) (q : ℕ) → slice_index incs q ≡ 0 → option_map_or (λ held. held.1) (held_from q claim) 0 ≡ 0
+  no_number None q is = refl
+  no_number (Some c) q is = is
+
+  pub held_at_none : (claims : List (Option Claim)) (q : ℕ) → slice_index incs q ≡ 0 → option_map_or (λ held. held.1) (get (known_of (entries_from 0 claims incs)) q) 0 ≡ 0
+  held_at_none claims q is = ap (λ x. option_map_or (λ held. held.1) x 0) (get_held claims q) ∙ no_number (claim_at claims q) q is
 
 -- ---- tables that hold the same, and changes at one place
 

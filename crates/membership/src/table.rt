@@ -84,6 +84,20 @@ impl Table {
         Some((claim, number_at(&self.incs, place)))
     }
 
+    /// The incarnation number at which a member is held, 0 where nothing is held of it. The numbers are
+    /// looked at first: as long as nobody has refuted anything there are none, and no claim is read.
+    pub fn number_of(&self, member: MemberId) -> u64
+        ensures { result ≡ option_map_or (λ held. held.1) (get self.now member) 0 }
+    {
+        if number_at(&self.incs, member.index()) == 0 {
+            return 0;
+        }
+        match self.get(member) {
+            Some(held) => held.1,
+            None => 0,
+        }
+    }
+
     /// Holds this of a member from now on. A refusal leaves the table as it was.
     pub fn set(&mut self, member: MemberId, held: (Claim, u64)) -> Result<(), Memory>
         ensures ok { OnOk result (self.new ≡ insert self.old member held) }

@@ -13,7 +13,7 @@ use Rattle.drawing.specs.Escaped.{escaped, markup}
 use Rattle.drawing.specs.Numbers.{grouped, place as place_on}
 use Rattle.drawing.specs.Shapes.{figure_opening, figure_end, plot_opening, plot_end}
 use Rattle.figures.specs.declared.summary.CaseSummary.{CaseSummary}
-use Rattle.sweep_keys.specs.Lines.{key_lines, case_place, width, middle, across, shared_out, statistic_words, median, reach}
+use Rattle.sweep_keys.specs.Lines.{key_lines, case_place, width, middle, across, shared_out, statistic_words, early, median, late}
 use Rattle.sweep_cells.specs.Paths.{path_start, path_step}
 use Rattle.sweep_cells.specs.Cells.{cell, time_cell}
 use Rattle.sweep_cells.specs.Words.{settings_words}
@@ -63,9 +63,13 @@ case_over cases k line value = slice_get cases (case_place k line value)
 abbrev pub time_over : List CaseSummary → KeyLines → Statistic → ℕ → ℕ → Option ℕ
 time_over cases k s line value = option_map_or (median s) (case_over cases k line value) None
 
--- the greatest time that is drawn of it; 0 where there is none
+-- the greatest time that is drawn of a case; 0 where there is none
+unfoldable pub greatest_in : Statistic → CaseSummary → ℕ
+greatest_in s case = max (unwrap_or (early s case) 0) (max (unwrap_or (median s case) 0) (unwrap_or (late s case) 0))
+
+-- that of a line's case over the value at a place
 unfoldable pub greatest_over : List CaseSummary → KeyLines → Statistic → ℕ → ℕ → ℕ
-greatest_over cases k s line value = option_map_or (λ case. max (unwrap_or (median s case) 0) (unwrap_or (reach s case) 0)) (case_over cases k line value) 0
+greatest_over cases k s line value = option_map_or (greatest_in s) (case_over cases k line value) 0
 
 -- that of a line
 unfoldable pub greatest_of : List CaseSummary → KeyLines → Statistic → ℕ → ℕ
@@ -75,9 +79,13 @@ greatest_of cases k s line = fold (λ most value. max most (greatest_over cases 
 unfoldable pub greatest_of_all : List CaseSummary → KeyLines → Statistic → ℕ
 greatest_of_all cases k s = fold (λ most line. max most (greatest_of cases k s line)) 1 (range_with_len 0 k.lines)
 
--- how high a plot is: an axis reaches a billion billions at most
-unfoldable pub greatest : List CaseSummary → KeyLines → Statistic → ℕ
-greatest cases k s = min (greatest_of_all cases k s) (10 ^ 18)
+-- room above a time, by which a bar to the top is told from one that ends at this time
+abbrev pub with_room : ℕ → ℕ
+with_room time = time + time / 16 + 1
+
+-- how high a plot is; a time of more than a billion billions isn't told from that
+unfoldable pub plot_height : List CaseSummary → KeyLines → Statistic → ℕ
+plot_height cases k s = with_room (min (greatest_of_all cases k s) (10 ^ 18))
 
 -- a line has a time over the value before the one at a place
 abbrev pub goes_on : List CaseSummary → KeyLines → Statistic → ℕ → ℕ → Bool
@@ -92,32 +100,39 @@ unfoldable pub corner_over : List CaseSummary → KeyLines → Statistic → ℕ
 corner_over cases k s most line value =
     option_map_or (λ time. corner (goes_on cases k s line value) (across k line value) (most - time)) (time_over cases k s line value) []
 
--- a bar from the median of a case as far as the statistic reaches; heights count from the top
+-- an upright bar between two heights, in the colour of a line; heights count from the top
 unfoldable pub reach_bar : ℕ → ℕ → ℕ → ℕ → List ℕ
-reach_bar line at middle_height top =
-    codes "<path class=\"reach s" ++ decimal line ++ codes "\" d=\"M" ++ decimal at ++ codes " " ++ decimal middle_height ++ codes "V" ++ decimal top ++ codes "\"/>"
+reach_bar line at foot top =
+    codes "<path class=\"reach s" ++ decimal line ++ codes "\" d=\"M" ++ decimal at ++ codes " " ++ decimal foot ++ codes "V" ++ decimal top ++ codes "\"/>"
 
--- a dot at the median
+-- a dot at a height
 unfoldable pub median_dot : ℕ → ℕ → ℕ → List ℕ
 median_dot line at height = codes "<path class=\"mark s" ++ decimal line ++ codes "\" d=\"M" ++ decimal at ++ codes " " ++ decimal height ++ codes "h0\"/>"
 
--- both of a case, where it has a median; where it has no reach, the bar goes to the top
+-- the bar of a case goes from its 5th to its 95th percentile: to the top where it has no 95th, and there is none where it has no 5th
+unfoldable pub bar_of : Statistic → ℕ → ℕ → ℕ → CaseSummary → List ℕ
+bar_of s most line at case = option_map_or (λ time. reach_bar line at (most - time) (most - unwrap_or (late s case) most)) (early s case) []
+
+-- its dot stands at its median, where it has one
 unfoldable pub dot_of : Statistic → ℕ → ℕ → ℕ → CaseSummary → List ℕ
-dot_of s most line at case =
-    option_map_or (λ time. reach_bar line at (most - time) (most - unwrap_or (reach s case) most) ++ median_dot line at (most - time)) (median s case) []
+dot_of s most line at case = option_map_or (λ time. median_dot line at (most - time)) (median s case) []
+
+-- both of a case
+unfoldable pub marks_of : Statistic → ℕ → ℕ → ℕ → CaseSummary → List ℕ
+marks_of s most line at case = bar_of s most line at case ++ dot_of s most line at case
 
 -- those of the case of a line over a value
-unfoldable pub dot_over : List CaseSummary → KeyLines → Statistic → ℕ → ℕ → ℕ → List ℕ
-dot_over cases k s most line value = option_map_or (dot_of s most line (across k line value)) (case_over cases k line value) []
+unfoldable pub marks_over : List CaseSummary → KeyLines → Statistic → ℕ → ℕ → ℕ → List ℕ
+marks_over cases k s most line value = option_map_or (marks_of s most line (across k line value)) (case_over cases k line value) []
 
 -- a line begins, in its colour
 unfoldable pub path_line : ℕ → List ℕ
 path_line line = codes "<path class=\"path s" ++ decimal line ++ codes "\" d=\""
 
--- a line over the values, and then its dots and bars
+-- a line over the values, and then its bars and dots
 unfoldable pub line_over : List CaseSummary → KeyLines → Statistic → ℕ → ℕ → List ℕ
 line_over cases k s most line =
-    path_line line ++ flat_map (corner_over cases k s most line) (range_with_len 0 k.values) ++ markup (codes "\"/>") ++ flat_map (dot_over cases k s most line) (range_with_len 0 k.values)
+    path_line line ++ flat_map (corner_over cases k s most line) (range_with_len 0 k.values) ++ markup (codes "\"/>") ++ flat_map (marks_over cases k s most line) (range_with_len 0 k.values)
 
 -- a value under a plot, in the middle of its room
 unfoldable pub value_word : KeyLines → ℕ → SettingValue → List ℕ
@@ -135,9 +150,13 @@ values_under k values = markup (codes "<div class=\"values\" aria-hidden=\"true\
 unfoldable pub chart_opening : Statistic → List ℕ
 chart_opening s = markup (codes "<div><h3>") ++ markup (statistic_words s) ++ markup (codes "</h3><div class=\"chart\">")
 
+-- what a screen reader tells of a plot
+unfoldable pub lines_words : List ℕ
+lines_words = codes "Ticks since the crash against the values of the key: a line of medians for each value of the others, and over each value a bar from the 5th to the 95th percentile, or to the top where more than 5 % of the crashes weren't detected."
+
 -- its plot begins, so wide as the values want and so high
 unfoldable pub lines_opening : KeyLines → ℕ → Statistic → List ℕ
-lines_opening k most s = plot_opening (codes "lines") (width k) most (statistic_words s) (codes "Ticks since the crash against the values of the key, a line for each value of the others.")
+lines_opening k most s = plot_opening (codes "lines") (width k) most (statistic_words s) lines_words
 
 -- the lines of the plot
 unfoldable pub lines_plane : List CaseSummary → KeyLines → Statistic → ℕ → List ℕ
@@ -147,11 +166,15 @@ lines_plane cases k s most =
 -- a chart of a statistic over the key's values
 unfoldable pub key_chart : List CaseSummary → KeyLines → List SettingValue → Statistic → List ℕ
 key_chart cases k values s =
-    chart_opening s ++ axis_up (greatest cases k s) ++ lines_plane cases k s (greatest cases k s) ++ values_under k values ++ markup (codes "</div></div>")
+    chart_opening s ++ axis_up (plot_height cases k s) ++ lines_plane cases k s (plot_height cases k s) ++ values_under k values ++ markup (codes "</div></div>")
+
+-- what is drawn of a case, in cells
+unfoldable pub drawn_times : Statistic → CaseSummary → List ℕ
+drawn_times s case = time_cell (early s case) ++ time_cell (median s case) ++ time_cell (late s case)
 
 -- the times of a case, in cells
 unfoldable pub times_of : CaseSummary → List ℕ
-times_of case = time_cell case.suspect_p50 ++ time_cell case.confirm_p50 ++ time_cell case.confirm_p99 ++ time_cell case.last_p50 ++ time_cell case.last_greatest
+times_of case = drawn_times Suspected case ++ drawn_times Confirmed case ++ time_cell case.confirm_p99 ++ drawn_times Last case ++ time_cell case.last_greatest
 
 -- those of a line's case with the value at a place
 unfoldable pub times_over : List CaseSummary → KeyLines → ℕ → ℕ → List ℕ
@@ -169,7 +192,7 @@ line_row settings cases k key values line place = option_map_or (key_row setting
 
 -- what the columns are
 unfoldable pub key_heads : List ℕ
-key_heads = codes "<details><summary>These figures in numbers</summary><div class=\"wide\"><table><thead><tr><th>value</th><th>other keys</th><th>suspected, median</th><th>confirmed, median</th><th>confirmed, 99th percentile</th><th>last confirmed, median</th><th>last confirmed, greatest</th></tr></thead><tbody>"
+key_heads = codes "<details><summary>These figures in numbers</summary><div class=\"wide\"><table><thead><tr><th>value</th><th>other keys</th><th>suspected, 5th percentile</th><th>suspected, median</th><th>suspected, 95th percentile</th><th>confirmed, 5th percentile</th><th>confirmed, median</th><th>confirmed, 95th percentile</th><th>confirmed, 99th percentile</th><th>last confirmed, 5th percentile</th><th>last confirmed, median</th><th>last confirmed, 95th percentile</th><th>last confirmed, greatest</th></tr></thead><tbody>"
 
 -- the rows of a line
 unfoldable pub line_rows : List KeyValues → List CaseSummary → KeyLines → ℕ → List SettingValue → ℕ → List ℕ
@@ -188,9 +211,13 @@ key_id key = codes "key-" ++ decimal key
 abbrev pub key_heading : KeyValues → List ℕ
 key_heading setting = codes "What " ++ key_name setting.key ++ codes " changes"
 
+-- what its plots show, in words
+unfoldable pub marks_words : List ℕ
+marks_words = codes "<p class=\"soft\">Up: ticks since the crash. Each dot is a median over all crashes of all runs, and its bar goes from the 5th to the 95th percentile. A crash that wasn't detected counts as later than any: where more than 5&nbsp;% weren't, the bar goes to the top of the plot; where more than half weren't, there is no dot.</p>"
+
 -- it begins
 unfoldable pub key_opening : ℕ → KeyValues → List ℕ
-key_opening key setting = figure_opening (key_id key) (key_heading setting)
+key_opening key setting = figure_opening (key_id key) (key_heading setting) ++ marks_words
 
 -- its charts
 unfoldable pub key_charts : List CaseSummary → KeyLines → List SettingValue → List ℕ

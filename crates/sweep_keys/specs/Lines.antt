@@ -36,9 +36,15 @@ across k line value = held (middle value - (k.lines - 1) + line * 2)
 
 -- what is drawn of a case, in words
 unfoldable pub statistic_words : Statistic → List ℕ
-statistic_words Suspected = codes "First suspected: median"
-statistic_words Confirmed = codes "First confirmed: median to 99th"
-statistic_words Last = codes "Last confirmed: median to greatest"
+statistic_words Suspected = codes "First suspected: median, 5th to 95th"
+statistic_words Confirmed = codes "First confirmed: median, 5th to 95th"
+statistic_words Last = codes "Last confirmed: median, 5th to 95th"
+
+-- its 5th percentile
+unfoldable pub early : Statistic → CaseSummary → Option ℕ
+early Suspected case = case.suspect_p5
+early Confirmed case = case.confirm_p5
+early Last case = case.last_p5
 
 -- its median
 unfoldable pub median : Statistic → CaseSummary → Option ℕ
@@ -46,8 +52,8 @@ median Suspected case = case.suspect_p50
 median Confirmed case = case.confirm_p50
 median Last case = case.last_p50
 
--- how far its bar reaches
-unfoldable pub reach : Statistic → CaseSummary → Option ℕ
-reach Suspected case = case.suspect_p50
-reach Confirmed case = case.confirm_p99
-reach Last case = case.last_greatest
+-- its 95th percentile
+unfoldable pub late : Statistic → CaseSummary → Option ℕ
+late Suspected case = case.suspect_p95
+late Confirmed case = case.confirm_p95
+late Last case = case.last_p95

@@ -2,7 +2,7 @@
 ghost use Rattle.std.specs.Prelude.{◌≡◌, ◌<◌, ◌^◌, ◌++◌, OnOk, length};
 ghost use Rattle.std.specs.List.{flat_map, range_with_len};
 ghost use Rattle.std.specs.String.{string_bytes};
-ghost use Rattle.sweep_keys.specs.Keys.{greatest_over, greatest_of, greatest_of_all, greatest, line_over, value_word, value_at, values_under, chart_opening, lines_opening, lines_plane, key_chart};
+ghost use Rattle.sweep_keys.specs.Keys.{greatest_in, greatest_over, greatest_of, greatest_of_all, plot_height, line_over, value_word, value_at, values_under, chart_opening, lines_words, lines_opening, lines_plane, key_chart};
 
 use crate::line::{Plot, case_over, push_line};
 use crate::lines::{KeyLines, middle};
@@ -13,7 +13,7 @@ use drawing::{close_plot, open_plot, push_escaped, push_markup, push_place, push
 use figures::CaseSummary;
 use std::alloc::{AllocError, Global};
 
-/// The greatest number that an axis reaches.
+/// The greatest time that a plot shows.
 const MOST: u64 = 1_000_000_000_000_000_000;
 
 /// Appends a plot of a statistic over the key's values.
@@ -29,7 +29,7 @@ pub(crate) fn push_chart(
     ensures { OnOk result (string_bytes text.new ≡ string_bytes text.old
         ++ key_chart cases.now lines.now values.now statistic) }
 {
-    let most = greatest(cases, lines, statistic);
+    let most = plot_height(cases, lines, statistic);
     push_chart_opening(text, statistic)?;
     push_up(text, most)?;
     let plot = Plot {
@@ -75,15 +75,19 @@ fn open_lines(text: &mut String, plot: &Plot<'_>) -> Result<(), AllocError>
         ++ lines_opening plot.now.lines plot.now.most plot.now.statistic) }
 {
     let words = plot.statistic.words();
+    let description = lines_words();
     let width = plot.lines.width();
-    open_plot(
-        text,
-        "lines",
-        width,
-        plot.most,
-        words,
-        "Ticks since the crash against the values of the key, a line for each value of the others.",
-    )
+    open_plot(text, "lines", width, plot.most, words, description)
+}
+
+/// What a screen reader tells of it.
+#[tactic(auto, unfolding(crate::specs::Keys::lines_words))]
+fn lines_words() -> &'static str
+    ensures { result.now ≡ lines_words }
+{
+    "Ticks since the crash against the values of the key: a line of medians for each value of the \
+     others, and over each value a bar from the 5th to the 95th percentile, or to the top where \
+     more than 5 % of the crashes weren't detected."
 }
 
 /// Appends each line.
@@ -98,13 +102,15 @@ fn push_lines(text: &mut String, plot: &Plot<'_>) -> Result<(), AllocError>
     Ok(())
 }
 
-/// How high a plot is: the greatest time that it shows, and 1 at least.
-#[tactic(auto, unfolding(crate::specs::Keys::greatest))]
-fn greatest(cases: &[CaseSummary], lines: &KeyLines, statistic: Statistic) -> u64
-    ensures is { result ≡ greatest cases.now lines.now statistic }
+/// How high a plot is: the greatest time that it shows, and some room above it, so that a bar to
+/// the top is told from one to that time.
+#[tactic(auto, unfolding(crate::specs::Keys::plot_height))]
+fn plot_height(cases: &[CaseSummary], lines: &KeyLines, statistic: Statistic) -> u64
+    ensures is { result ≡ plot_height cases.now lines.now statistic }
     ensures low { result < 2 ^ 63 }
 {
-    greatest_of_all(cases, lines, statistic).min(MOST)
+    let time = greatest_of_all(cases, lines, statistic).min(MOST);
+    time + time / 16 + 1
 }
 
 /// The greatest time of all lines; 1 at least.
@@ -131,7 +137,7 @@ fn greatest_of(cases: &[CaseSummary], lines: &KeyLines, statistic: Statistic, li
     most
 }
 
-/// The greatest time of its case over the value at a place; 0 where there is none.
+/// The greatest time that is drawn of its case over the value at a place; 0 where there is none.
 #[tactic(auto, unfolding(crate::specs::Keys::greatest_over))]
 fn greatest_over(
     cases: &[CaseSummary],
@@ -143,13 +149,20 @@ fn greatest_over(
     ensures { result ≡ greatest_over cases.now lines.now statistic line value }
 {
     match case_over(cases, lines, line, value) {
-        Some(case) => {
-            let median = statistic.median(&case).unwrap_or(0);
-            let reach = statistic.reach(&case).unwrap_or(0);
-            median.max(reach)
-        }
+        Some(case) => greatest_in(statistic, &case),
         None => 0,
     }
+}
+
+/// The greatest time that is drawn of a case; 0 where there is none.
+#[tactic(auto, unfolding(crate::specs::Keys::greatest_in))]
+fn greatest_in(statistic: Statistic, case: &CaseSummary) -> u64
+    ensures { result ≡ greatest_in statistic case.now }
+{
+    let early = statistic.early(case).unwrap_or(0);
+    let median = statistic.median(case).unwrap_or(0);
+    let late = statistic.late(case).unwrap_or(0);
+    early.max(median.max(late))
 }
 
 /// Appends the key's values under a plot; where there are many, some of them.

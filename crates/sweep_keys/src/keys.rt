@@ -1,7 +1,7 @@
 //! What each key that is set changes.
 ghost use Rattle.std.specs.Prelude.{◌≡◌, ◌++◌, IfOk, OnOk};
 ghost use Rattle.std.specs.String.{string_bytes};
-ghost use Rattle.sweep_keys.specs.Keys.{key_id, key_heading, key_opening, key_charts, key_figure, key_figure_of, key_figure_at, key_figures, lines_of};
+ghost use Rattle.sweep_keys.specs.Keys.{key_id, key_heading, marks_words, key_opening, key_charts, key_figure, key_figure_of, key_figure_at, key_figures, lines_of};
 
 use crate::charts::push_chart;
 use crate::legend::push_legend;
@@ -12,7 +12,7 @@ use base::Memory;
 use cases::{Plan, Setting, SettingValue};
 use drawing::{close_figure, open_figure, push_markup};
 use figures::CaseSummary;
-use std::alloc::Global;
+use std::alloc::{AllocError, Global};
 
 /// Appends a figure for each key that has more values than one. It takes the summary of each case
 /// of the plan, in their order, and fails only where memory is refused.
@@ -102,7 +102,7 @@ fn push_figure(
     Ok(())
 }
 
-/// Begins the figure of a key by its name.
+/// Begins the figure of a key by its name, and by what its plots show.
 #[tactic(auto, unfolding(crate::specs::Keys::key_opening))]
 fn push_opening(
     alloc: Global,
@@ -115,7 +115,21 @@ fn push_opening(
     let id = key_id(alloc, key)?;
     let heading = key_heading(alloc, setting)?;
     open_figure(text, id.as_str(), heading.as_str())?;
+    push_marks_words(text)?;
     Ok(())
+}
+
+/// Appends what the plots show, in words.
+#[tactic(auto, unfolding(crate::specs::Keys::marks_words))]
+fn push_marks_words(text: &mut String) -> Result<(), AllocError>
+    ensures { OnOk result (string_bytes text.new ≡ string_bytes text.old ++ marks_words) }
+{
+    text.push_str(
+        "<p class=\"soft\">Up: ticks since the crash. Each dot is a median over all crashes of all \
+         runs, and its bar goes from the 5th to the 95th percentile. A crash that wasn't detected \
+         counts as later than any: where more than 5&nbsp;% weren't, the bar goes to the top of \
+         the plot; where more than half weren't, there is no dot.</p>",
+    )
 }
 
 /// The name of the figure of the key at a place.

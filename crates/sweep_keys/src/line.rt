@@ -1,8 +1,8 @@
-//! A line over a key's values, with a dot and a bar over each.
+//! A line over a key's values, with a bar and a dot over each.
 ghost use Rattle.std.specs.Prelude.{◌≡◌, ◌++◌, OnOk};
 ghost use Rattle.std.specs.List.{flat_map, range_with_len};
 ghost use Rattle.std.specs.String.{string_bytes};
-ghost use Rattle.sweep_keys.specs.Keys.{case_over, time_over, goes_on, corner, corner_over, reach_bar, median_dot, dot_of, dot_over, path_line, line_over};
+ghost use Rattle.sweep_keys.specs.Keys.{case_over, time_over, goes_on, corner, corner_over, reach_bar, median_dot, bar_of, dot_of, marks_of, marks_over, path_line, line_over};
 
 use crate::lines::KeyLines;
 use crate::statistic::Statistic;
@@ -24,7 +24,7 @@ pub(crate) struct Plot<'a> {
     pub(crate) most: u64,
 }
 
-/// Appends a line, and a dot with its bar over each value.
+/// Appends a line, and a bar with its dot over each value.
 #[tactic(auto, unfolding(crate::specs::Keys::line_over))]
 pub(crate) fn push_line(text: &mut String, plot: &Plot<'_>, line: usize) -> Result<(), AllocError>
     ensures { OnOk result (string_bytes text.new ≡ string_bytes text.old
@@ -33,7 +33,7 @@ pub(crate) fn push_line(text: &mut String, plot: &Plot<'_>, line: usize) -> Resu
     push_path(text, line)?;
     push_corners(text, plot, line)?;
     push_markup(text, "\"/>")?;
-    push_dots(text, plot, line)
+    push_all_marks(text, plot, line)
 }
 
 /// Begins the path of a line.
@@ -116,37 +116,75 @@ pub(crate) fn case_over(
     case_at(cases, lines.place(line, value))
 }
 
-/// Appends its dots.
-fn push_dots(text: &mut String, plot: &Plot<'_>, line: usize) -> Result<(), AllocError>
+/// Appends its bars and dots.
+fn push_all_marks(text: &mut String, plot: &Plot<'_>, line: usize) -> Result<(), AllocError>
     ensures { OnOk result (string_bytes text.new ≡ string_bytes text.old
-        ++ flat_map (dot_over plot.now.cases.now plot.now.lines plot.now.statistic plot.now.most line)
+        ++ flat_map (marks_over plot.now.cases.now plot.now.lines plot.now.statistic plot.now.most line)
         (range_with_len 0 plot.now.lines.values)) }
 {
     for value in 0..plot.lines.values {
-        push_dot_over(text, plot, line, value)?;
+        push_marks_over(text, plot, line, value)?;
     }
     Ok(())
 }
 
-/// Appends the dot over the value at a place.
-#[tactic(auto, unfolding(crate::specs::Keys::dot_over))]
-fn push_dot_over(
+/// Appends the bar and the dot over the value at a place.
+#[tactic(auto, unfolding(crate::specs::Keys::marks_over))]
+fn push_marks_over(
     text: &mut String,
     plot: &Plot<'_>,
     line: usize,
     value: usize,
 ) -> Result<(), AllocError>
     ensures { OnOk result (string_bytes text.new ≡ string_bytes text.old
-        ++ dot_over plot.now.cases.now plot.now.lines plot.now.statistic plot.now.most line value) }
+        ++ marks_over plot.now.cases.now plot.now.lines plot.now.statistic plot.now.most line value) }
 {
     let at = plot.lines.across(line, value);
     match case_over(plot.cases, &plot.lines, line, value) {
-        Some(case) => push_dot(text, plot, line, at, &case),
+        Some(case) => push_marks(text, plot, line, at, &case),
         None => Ok(()),
     }
 }
 
-/// Appends a dot at the median of a case, and a bar from it as far as the statistic reaches.
+/// Appends the bar and the dot of a case.
+#[tactic(auto, unfolding(crate::specs::Keys::marks_of))]
+fn push_marks(
+    text: &mut String,
+    plot: &Plot<'_>,
+    line: usize,
+    at: u64,
+    case: &CaseSummary,
+) -> Result<(), AllocError>
+    ensures { OnOk result (string_bytes text.new ≡ string_bytes text.old
+        ++ marks_of plot.now.statistic plot.now.most line at case.now) }
+{
+    push_bar(text, plot, line, at, case)?;
+    push_dot(text, plot, line, at, case)
+}
+
+/// Appends a bar from the 5th to the 95th percentile of a case, or to the top of the plot where it
+/// has no 95th; nothing where it has no 5th.
+#[tactic(auto, unfolding(crate::specs::Keys::bar_of))]
+fn push_bar(
+    text: &mut String,
+    plot: &Plot<'_>,
+    line: usize,
+    at: u64,
+    case: &CaseSummary,
+) -> Result<(), AllocError>
+    ensures { OnOk result (string_bytes text.new ≡ string_bytes text.old
+        ++ bar_of plot.now.statistic plot.now.most line at case.now) }
+{
+    let Some(time) = plot.statistic.early(case) else {
+        return Ok(());
+    };
+    let foot = plot.most.saturating_sub(time);
+    let late = plot.statistic.late(case).unwrap_or(plot.most);
+    let top = plot.most.saturating_sub(late);
+    push_reach_bar(text, line, at, foot, top)
+}
+
+/// Appends a dot at the median of a case, where it has one.
 #[tactic(auto, unfolding(crate::specs::Keys::dot_of))]
 fn push_dot(
     text: &mut String,
@@ -162,30 +200,27 @@ fn push_dot(
         return Ok(());
     };
     let height = plot.most.saturating_sub(time);
-    let reach = plot.statistic.reach(case).unwrap_or(plot.most);
-    let top = plot.most.saturating_sub(reach);
-    push_reach_bar(text, line, at, height, top)?;
     push_median_dot(text, line, at, height)
 }
 
-/// Appends the bar.
+/// Appends a bar between two heights.
 #[tactic(auto, unfolding(crate::specs::Keys::reach_bar))]
 fn push_reach_bar(
     text: &mut String,
     line: usize,
     at: u64,
-    height: u64,
+    foot: u64,
     top: u64,
 ) -> Result<(), AllocError>
-    ensures { OnOk result (string_bytes text.new ≡ string_bytes text.old ++ reach_bar line at height top) }
+    ensures { OnOk result (string_bytes text.new ≡ string_bytes text.old ++ reach_bar line at foot top) }
 {
     write!(
         text,
-        "<path class=\"reach s{line}\" d=\"M{at} {height}V{top}\"/>"
+        "<path class=\"reach s{line}\" d=\"M{at} {foot}V{top}\"/>"
     )
 }
 
-/// Appends the dot.
+/// Appends a dot at a height.
 #[tactic(auto, unfolding(crate::specs::Keys::median_dot))]
 fn push_median_dot(text: &mut String, line: usize, at: u64, height: u64) -> Result<(), AllocError>
     ensures { OnOk result (string_bytes text.new ≡ string_bytes text.old ++ median_dot line at height) }

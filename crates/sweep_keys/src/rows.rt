@@ -2,11 +2,12 @@
 ghost use Rattle.std.specs.Prelude.{◌≡◌, ◌++◌, OnOk, length};
 ghost use Rattle.std.specs.List.{flat_map, range_with_len};
 ghost use Rattle.std.specs.String.{string_bytes};
-ghost use Rattle.sweep_keys.specs.Keys.{times_of, times_over, key_row, key_heads, line_row, line_rows, key_table};
+ghost use Rattle.sweep_keys.specs.Keys.{drawn_times, times_of, times_over, key_row, key_heads, line_row, line_rows, key_table};
 
 use crate::legend::push_others_at;
 use crate::line::case_over;
 use crate::lines::KeyLines;
+use crate::statistic::Statistic;
 use base::Memory;
 use cases::{Plan, SettingValue};
 use drawing::push_markup;
@@ -63,9 +64,13 @@ fn push_heads(text: &mut String) -> Result<(), AllocError>
 {
     text.push_str(
         "<details><summary>These figures in numbers</summary><div class=\"wide\"><table><thead><tr>\
-         <th>value</th><th>other keys</th><th>suspected, median</th><th>confirmed, median</th>\
-         <th>confirmed, 99th percentile</th><th>last confirmed, median</th>\
-         <th>last confirmed, greatest</th></tr></thead><tbody>",
+         <th>value</th><th>other keys</th><th>suspected, 5th percentile</th>\
+         <th>suspected, median</th><th>suspected, 95th percentile</th>\
+         <th>confirmed, 5th percentile</th><th>confirmed, median</th>\
+         <th>confirmed, 95th percentile</th><th>confirmed, 99th percentile</th>\
+         <th>last confirmed, 5th percentile</th><th>last confirmed, median</th>\
+         <th>last confirmed, 95th percentile</th><th>last confirmed, greatest</th>\
+         </tr></thead><tbody>",
     )
 }
 
@@ -169,9 +174,23 @@ fn push_times_over(
 fn push_times(text: &mut String, case: &CaseSummary) -> Result<(), AllocError>
     ensures { OnOk result (string_bytes text.new ≡ string_bytes text.old ++ times_of case.now) }
 {
-    push_time_cell(text, case.suspect_p50)?;
-    push_time_cell(text, case.confirm_p50)?;
+    push_drawn_times(text, Statistic::Suspected, case)?;
+    push_drawn_times(text, Statistic::Confirmed, case)?;
     push_time_cell(text, case.confirm_p99)?;
-    push_time_cell(text, case.last_p50)?;
+    push_drawn_times(text, Statistic::Last, case)?;
     push_time_cell(text, case.last_greatest)
+}
+
+/// Appends what is drawn of a case.
+#[tactic(auto, unfolding(crate::specs::Keys::drawn_times))]
+fn push_drawn_times(
+    text: &mut String,
+    statistic: Statistic,
+    case: &CaseSummary,
+) -> Result<(), AllocError>
+    ensures { OnOk result (string_bytes text.new ≡ string_bytes text.old ++ drawn_times statistic case.now) }
+{
+    push_time_cell(text, statistic.early(case))?;
+    push_time_cell(text, statistic.median(case))?;
+    push_time_cell(text, statistic.late(case))
 }

@@ -1,6 +1,6 @@
 //! What is drawn of a case.
 ghost use Rattle.std.specs.Prelude.{◌≡◌};
-ghost use Rattle.sweep_keys.specs.Lines.{statistic_words, median, reach};
+ghost use Rattle.sweep_keys.specs.Lines.{statistic_words, early, median, late};
 
 use figures::CaseSummary;
 
@@ -22,9 +22,21 @@ impl Statistic {
         ensures { result.now ≡ statistic_words self }
     {
         match self {
-            Statistic::Suspected => "First suspected: median",
-            Statistic::Confirmed => "First confirmed: median to 99th",
-            Statistic::Last => "Last confirmed: median to greatest",
+            Statistic::Suspected => "First suspected: median, 5th to 95th",
+            Statistic::Confirmed => "First confirmed: median, 5th to 95th",
+            Statistic::Last => "Last confirmed: median, 5th to 95th",
+        }
+    }
+
+    /// Its 5th percentile, where a case has one.
+    #[tactic(auto, unfolding(crate::specs::Lines::early))]
+    pub(crate) fn early(self, case: &CaseSummary) -> Option<u64>
+        ensures { result ≡ early self case.now }
+    {
+        match self {
+            Statistic::Suspected => case.suspect_p5,
+            Statistic::Confirmed => case.confirm_p5,
+            Statistic::Last => case.last_p5,
         }
     }
 
@@ -40,15 +52,15 @@ impl Statistic {
         }
     }
 
-    /// How far its bar reaches, where it has one.
-    #[tactic(auto, unfolding(crate::specs::Lines::reach))]
-    pub(crate) fn reach(self, case: &CaseSummary) -> Option<u64>
-        ensures { result ≡ reach self case.now }
+    /// Its 95th percentile, where a case has one.
+    #[tactic(auto, unfolding(crate::specs::Lines::late))]
+    pub(crate) fn late(self, case: &CaseSummary) -> Option<u64>
+        ensures { result ≡ late self case.now }
     {
         match self {
-            Statistic::Suspected => case.suspect_p50,
-            Statistic::Confirmed => case.confirm_p99,
-            Statistic::Last => case.last_greatest,
+            Statistic::Suspected => case.suspect_p95,
+            Statistic::Confirmed => case.confirm_p95,
+            Statistic::Last => case.last_p95,
         }
     }
 }

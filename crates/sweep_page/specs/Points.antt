@@ -1,5 +1,5 @@
 -- The cases on the front.
-use Rattle.std.specs.Prelude.{ℕ, Bool, false, ◌==◌, ◌&&◌, ◌||◌, nat_lt, List, [], ◌∷◌, Option, None, if◌then◌else◌, length, option_map, option_to_list, slice_get, unwrap_or}
+use Rattle.std.specs.Prelude.{ℕ, Bool, false, ◌==◌, ◌&&◌, ◌||◌, nat_lt, List, [], ◌∷◌, Option, None, if◌then◌else◌, length, map, option_map, option_to_list, slice_get, unwrap_or}
 use Rattle.std.specs.List.{flat_map, range_with_len}
 use Rattle.std.specs.Option.{option_map_or}
 use Rattle.figures.specs.declared.summary.CaseSummary.{CaseSummary}
@@ -44,6 +44,10 @@ placed p (q ∷ more) = if comes_before p q then p ∷ q ∷ more else q ∷ pla
 abbrev pub by_speed : List FrontPoint → List FrontPoint
 by_speed [] = []
 by_speed (p ∷ more) = placed p (by_speed more)
+
+-- where these stand among all cases
+abbrev pub places_of : List FrontPoint → List ℕ
+places_of points = map (λ (p : FrontPoint). p.place) points
 
 -- the cases on the front in their order
 unfoldable pub front_points : List CaseSummary → List Bool → List FrontPoint

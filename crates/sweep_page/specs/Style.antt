@@ -6,7 +6,7 @@ unfoldable pub page_style : List ℕ
 page_style =
     codes "*{box-sizing:border-box}body{margin:0;background:var(--page);color:var(--ink);font:16px/1.5 system-ui,sans-serif}"
     ++ codes "main{max-width:72rem;margin:0 auto;padding:1rem}h1{font-size:1.5rem;margin:.2em 0;overflow-wrap:anywhere}"
-    ++ codes "h2{font-size:1.15rem;margin:2em 0 .2em}h3{font-size:1rem;margin:1em 0 .2em}p{margin:.3em 0;max-width:48rem}"
+    ++ codes "h2{font-size:1.15rem;margin:2em 0 .2em}h3{font-size:1rem;margin:1em 0 .2em;overflow-wrap:anywhere}p{margin:.3em 0;max-width:48rem}"
     ++ codes ".lead{font-size:1.1rem}.unit{max-width:none}.soft{color:var(--soft);font-size:.9rem}footer{margin:2em 0 1em}"
     ++ codes ".answers{list-style:none;padding:0;margin:.8em 0}"
     ++ codes ".answers li{display:flex;flex-wrap:wrap;align-items:center;gap:.1rem 1.2rem;background:var(--field);border-left:5px solid var(--one);padding:.35rem .8rem;margin:.3rem 0}"

@@ -1,5 +1,5 @@
 -- The answer in words: the cases on the front, the fastest first.
-use Rattle.std.specs.Prelude.{ℕ, ◌-◌, ◌==◌, if◌then◌else◌, min, List, [], ◌++◌, codes, length, slice_get}
+use Rattle.std.specs.Prelude.{ℕ, ◌-◌, ◌==◌, if◌then◌else◌, min, List, [], ◌++◌, Option, codes, length, slice_get}
 use Rattle.std.specs.List.{flat_map, range_with_len}
 use Rattle.std.specs.Option.{option_map_or}
 use Rattle.cases.specs.Sweep.{KeyValues, Sweep, case_count, seed_count}
@@ -8,10 +8,14 @@ use Rattle.drawing.specs.Numbers.{grouped}
 use Rattle.sweep_cells.specs.Words.{interval_words, number_words, settings_at}
 use Rattle.sweep_page.specs.declared.front_points.FrontPoint.{FrontPoint}
 
+-- a case may have fewer seeds where its runs end once its interval is so narrow
+unfoldable pub at_most : Option ℕ → List ℕ
+at_most until = option_map_or (λ width. markup (codes "at most ")) until []
+
 -- how many cases there are, and how often each ran
 unfoldable pub size_words : Sweep → List ℕ
 size_words sweep =
-    markup (codes "<p class=\"soft\">Settings tried: ") ++ grouped (case_count sweep.settings) ++ markup (codes ". Seeds for each: ") ++ grouped (seed_count sweep.seeds) ++ markup (codes ".</p>\n")
+    markup (codes "<p class=\"soft\">Settings tried: ") ++ grouped (case_count sweep.settings) ++ markup (codes ". Seeds for each: ") ++ at_most sweep.until ++ grouped (seed_count sweep.seeds) ++ markup (codes ".</p>\n")
 
 -- how fast a case is, and how safe
 unfoldable pub speed_words : FrontPoint → List ℕ

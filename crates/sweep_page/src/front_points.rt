@@ -1,6 +1,6 @@
 //! The cases on the front, by their times.
 ghost use Rattle.std.specs.Prelude.{◌≡◌, ◌++◌, IfOk, OnOk};
-ghost use Rattle.sweep_page.specs.Points.{is_marked, front_cases, front_points, front_point, point_at, points_at};
+ghost use Rattle.sweep_page.specs.Points.{is_marked, front_cases, front_points, front_point, places_of, point_at, points_at};
 
 use base::Memory;
 use figures::CaseSummary;
@@ -67,6 +67,17 @@ fn push_point(
         points.push(point)?;
     }
     Ok(())
+}
+
+/// Where these stand among all cases.
+pub(crate) fn places_of(alloc: Global, points: &[FrontPoint]) -> Result<Vec<usize>, Memory>
+    ensures { IfOk result (λ places. places.items ≡ places_of points.now) }
+{
+    let mut places = Vec::new(alloc);
+    for point in points {
+        places.push(point.place)?;
+    }
+    Ok(places)
 }
 
 /// Whether the case at a place is on the front.

@@ -2,7 +2,7 @@
 ghost use Rattle.std.specs.Prelude.{◌≡◌, ◌-◌, ◌++◌, OnOk, length, min};
 ghost use Rattle.std.specs.List.{flat_map, range_with_len};
 ghost use Rattle.std.specs.String.{string_bytes};
-ghost use Rattle.sweep_page.specs.Summary.{size_words, speed_words, more_words, answer, answer_at, answers_opening, untold_words, answers, no_answers, summary};
+ghost use Rattle.sweep_page.specs.Summary.{at_most, size_words, speed_words, more_words, answer, answer_at, answers_opening, untold_words, answers, no_answers, summary};
 
 use crate::front_points::FrontPoint;
 use base::Memory;
@@ -41,8 +41,20 @@ fn push_size(text: &mut String, plan: &Plan) -> Result<(), AllocError>
     push_markup(text, "<p class=\"soft\">Settings tried: ")?;
     push_grouped(text, plan.cases() as u64)?;
     push_markup(text, ". Seeds for each: ")?;
+    push_at_most(text, plan)?;
     push_grouped(text, plan.runs_of_case() as u64)?;
     push_markup(text, ".</p>\n")
+}
+
+/// Appends that a case may have fewer seeds, where its runs end once its interval is narrow enough.
+#[tactic(auto, unfolding(crate::specs::Summary::at_most))]
+fn push_at_most(text: &mut String, plan: &Plan) -> Result<(), AllocError>
+    ensures { OnOk result (string_bytes text.new ≡ string_bytes text.old ++ at_most plan.now.until) }
+{
+    match plan.until() {
+        Some(_) => push_markup(text, "at most "),
+        None => Ok(()),
+    }
 }
 
 /// Appends that no case is on the front.

@@ -3,9 +3,11 @@ ghost use Rattle.std.specs.Prelude.{◌≡◌, ◌++◌, IfOk, OnOk, length};
 ghost use Rattle.std.specs.String.{string_bytes};
 ghost use Rattle.cases.specs.Sweep.{case_count};
 ghost use Rattle.sweep_page.specs.Page.{page_head, page_end, page_over, page_text};
+ghost use Rattle.sweep_page.specs.Points.{places_of};
+ghost use Rattle.sweep_times.specs.Times.{times_figure};
 
 use crate::front::push_front;
-use crate::front_points::{FrontPoint, front_points};
+use crate::front_points::{FrontPoint, front_points, places_of};
 use crate::layout::page_style;
 use crate::summary::push_summary;
 use crate::table::push_table;
@@ -15,6 +17,7 @@ use drawing::{drawing_style, push_escaped, push_markup};
 use figures::CaseSummary;
 use std::alloc::{AllocError, Global};
 use sweep_keys::push_keys;
+use sweep_times::push_times;
 
 /// What is told beside the figures.
 #[derive(Clone, Copy)]
@@ -62,9 +65,26 @@ fn push_page(
     push_head(text, shown.name)?;
     push_summary(alloc, text, plan, points)?;
     push_front(alloc, text, plan, cases, front, points)?;
+    push_times_of(alloc, text, plan, cases, points)?;
     push_keys(alloc, text, plan, cases)?;
     push_table(alloc, text, plan, cases, front)?;
     push_end(text, shown.release)?;
+    Ok(())
+}
+
+/// Appends how the times to confirm of the cases on the front spread.
+fn push_times_of(
+    alloc: Global,
+    text: &mut String,
+    plan: &Plan,
+    cases: &[CaseSummary],
+    points: &[FrontPoint],
+) -> Result<(), Memory>
+    ensures { OnOk result (string_bytes text.new ≡ string_bytes text.old
+        ++ times_figure plan.now.settings cases.now (places_of points.now)) }
+{
+    let places = places_of(alloc, points)?;
+    push_times(alloc, text, plan, cases, &places)?;
     Ok(())
 }
 

@@ -286,7 +286,7 @@ fn at_board<'a, G: Gate, J: Site + Send, K: OfScenario + Send + Sync, R: Threads
     let Some(own) = posts.pop() else {
         return Err(Fault::Relay);
     };
-    let pool = WorkerPool::new(workers, own, &signals, gate);
+    let pool = WorkerPool::new(own, &signals, gate);
     let (rows, posts) = match within(
         rt, alloc, workers, posts, pool, &signals, gate, cluster, watch,
     ) {

@@ -1,6 +1,6 @@
 //! What is told of cases whose runs no scenario has, worked out by hand.
 use crate::figures_tests::{RUN, THREE, Told, tallies_of};
-use figures::{CaseFigures, CaseSummary, RunFigures, RunNote};
+use figures::{CaseFigures, CaseSummary, Histogram, RunFigures, RunNote};
 use scenario::Scenario;
 use std::process::Abort;
 use std::test::Fail;
@@ -8,11 +8,22 @@ use std::test::Fail;
 /// Two runs with three crashes each, of which two were detected, and one in which nothing happens.
 const THREE_RUNS: CaseSummary = CaseSummary {
     runs: 3,
+    crashes: 6,
+    suspect_p5: Some(0),
     suspect_p50: Some(150),
+    suspect_p95: Some(200),
+    confirm_p5: Some(400),
     confirm_p50: Some(500),
+    confirm_p95: None,
     confirm_p99: None,
     confirm_greatest: None,
+    confirm_times: Histogram {
+        width: 26,
+        bins: [0, 0, 0, 0, 0, 0, 0, 0, 0, 0, 0, 0, 0, 0, 0, 2, 0, 0, 0, 2],
+    },
+    last_p5: Some(500),
     last_p50: Some(950),
+    last_p95: None,
     last_greatest: None,
     false_suspect: 133,
     thrown_out: 2,
@@ -26,11 +37,22 @@ const THREE_RUNS: CaseSummary = CaseSummary {
 /// One run in which nothing happens.
 const ONE_RUN: CaseSummary = CaseSummary {
     runs: 1,
+    crashes: 0,
+    suspect_p5: None,
     suspect_p50: None,
+    suspect_p95: None,
+    confirm_p5: None,
     confirm_p50: None,
+    confirm_p95: None,
     confirm_p99: None,
     confirm_greatest: None,
+    confirm_times: Histogram {
+        width: 1,
+        bins: [0; 20],
+    },
+    last_p5: None,
     last_p50: None,
+    last_p95: None,
     last_greatest: None,
     false_suspect: 0,
     thrown_out: 0,

@@ -14,8 +14,9 @@ use Rattle.member.specs.declared.member.Phase.{Phase}
 use Rattle.member.specs.declared.member.Phase.TheVariants.{Waiting, Joining, Running, Down}
 use Rattle.member.specs.declared.content.Content.{Content}
 use Rattle.member.specs.declared.content.Content.TheVariants.{Start, Crash, Leave, JoinTimer, PeriodTimer, TimeoutTimer, NackTimer, SuspicionTimer, Join, Welcome, Ping, PingReq, Ack, Nack, Bye, DeadlineTimer, GossipTimer, PushTimer, Call, Answer, Gossip, Push, Pull}
+use Rattle.member.specs.declared.telling.Telling.TheVariants.{Aloud, Quietly}
 use Rattle.member.specs.State.{State}
-use Rattle.member.specs.Turn.{Effect, unchanged}
+use Rattle.member.specs.Effects.{Effect, unchanged}
 use Rattle.member.specs.Send.{ping_req_sent, nack_sent, bye_sent, gossip_sent, answer_sent, push_sent, pull_sent}
 use Rattle.member.specs.Opening.{opening_state}
 use Rattle.member.specs.Step.{period_beaten, is_under_way, deadline_over, timed_ack_heard, sampled_help, timed_out_timed, answer_heard, is_told_out, gossip_spread, gossip_due, pushed, push_due, push_heard, timed_handled, handled_by, crashed, join_asked, join_handled, joined, period_begun, timed_out, help_asked, ping_heard, ping_req_heard, ack_heard, nack_due, nack_heard, confirmed, suspicion_over, withdrawn, byes_said, departed, plain_handled, handled, step}
@@ -37,11 +38,11 @@ kept_join_asked s k o worn = kept_timer s k _ _ _ (kept_join s k o worn)
 
 kept_join_handled : (s : Setup) (k : Key) (o : Effect) → IsWorn o.state → IsWorn (join_handled s k o).state
 unfolding join_handled
-kept_join_handled s k o worn = kept_welcome s k _ _ (kept_applied s true k _ o worn)
+kept_join_handled s k o worn = kept_welcome s k _ _ (kept_applied s Aloud k _ o worn)
 
 kept_joined : (s : Setup) (k : Key) (entries : List Update) (o : Effect) → IsWorn o.state → IsWorn (joined s k entries o).state
 unfolding joined
-kept_joined s k entries o worn = kept_first_period s k _ (kept_all s false k entries _ (kept_row k _ _ _ _ _ worn))
+kept_joined s k entries o worn = kept_first_period s k _ (kept_all s Quietly k entries _ (kept_row k _ _ _ _ _ worn))
 
 kept_period : (s : Setup) (k : Key) (o : Effect) → IsWorn o.state → IsWorn (period_begun s k o).state
 unfolding period_begun
@@ -61,15 +62,15 @@ kept_timed_out s k seq (Some probe) o worn = either_worn _ _ _ (kept_help s k pr
 
 kept_ping_heard : (s : Setup) (k : Key) (initiator seq : ℕ) (updates : List Update) (o : Effect) → IsWorn o.state → IsWorn (ping_heard s k initiator seq updates o).state
 unfolding ping_heard
-kept_ping_heard s k initiator seq updates o worn = kept_ack s k _ _ _ _ (kept_all s true k updates o worn)
+kept_ping_heard s k initiator seq updates o worn = kept_ack s k _ _ _ _ (kept_all s Aloud k updates o worn)
 
 kept_ping_req_heard : (s : Setup) (k : Key) (seq target : ℕ) (updates : List Update) (o : Effect) → IsWorn o.state → IsWorn (ping_req_heard s k seq target updates o).state
 unfolding ping_req_heard
-kept_ping_req_heard s k seq target updates o worn = kept_owed s k seq _ (kept_ping s k _ _ _ _ (kept_all s true k updates o worn))
+kept_ping_req_heard s k seq target updates o worn = kept_owed s k seq _ (kept_ping s k _ _ _ _ (kept_all s Aloud k updates o worn))
 
 kept_ack_heard : (s : Setup) (k : Key) (initiator seq : ℕ) (updates : List Update) (o : Effect) → IsWorn o.state → IsWorn (ack_heard s k initiator seq updates o).state
 unfolding ack_heard
-kept_ack_heard s k initiator seq updates o worn = kept_taken s k _ _ _ (kept_all s true k updates o worn)
+kept_ack_heard s k initiator seq updates o worn = kept_taken s k _ _ _ (kept_all s Aloud k updates o worn)
 
 kept_nack_due : (s : Setup) (k : Key) (initiator seq : ℕ) (o : Effect) → IsWorn o.state → IsWorn (nack_due s k initiator seq o).state
 unfolding nack_due nack_sent
@@ -81,7 +82,7 @@ kept_nack_heard seq o worn = worn
 
 kept_confirmed : (s : Setup) (k : Key) (subject : ℕ) (held : Option (Claim × ℕ)) (o : Effect) → IsWorn o.state → IsWorn (confirmed s k subject held o).state
 kept_confirmed s k subject None o worn = worn
-kept_confirmed s k subject (Some held) o worn = kept_applied s true k _ o worn
+kept_confirmed s k subject (Some held) o worn = kept_applied s Aloud k _ o worn
 
 kept_suspicion_over : (s : Setup) (k : Key) (subject : ℕ) (o : Effect) → IsWorn o.state → IsWorn (suspicion_over s k subject o).state
 unfolding suspicion_over
@@ -136,7 +137,7 @@ kept_deadline s k seq o worn = either_worn (is_under_way seq o.state.probe) _ _ 
 
 kept_timed_ack : (s : Setup) (k : Key) (initiator seq : ℕ) (updates : List Update) (o : Effect) → IsWorn o.state → IsWorn (timed_ack_heard s k initiator seq updates o).state
 unfolding timed_ack_heard
-kept_timed_ack s k initiator seq updates o worn = kept_timed_taken s k initiator seq _ (kept_all s true k updates o worn)
+kept_timed_ack s k initiator seq updates o worn = kept_timed_taken s k initiator seq _ (kept_all s Aloud k updates o worn)
 
 kept_sampled : (s : Setup) (k : Key) (probe : Probe) (o : Effect) → IsWorn o.state → IsWorn (sampled_help s k probe o).state
 unfolding sampled_help
@@ -188,7 +189,7 @@ kept_timed s k (Ack initiator seq updates) o worn = kept_timed_ack s k initiator
 kept_timed s k (Call seq) o worn = kept_answered s k k.from seq o worn
 kept_timed s k (Answer seq) o worn = kept_answer_heard seq o worn
 kept_timed s k GossipTimer o worn = kept_gossip_due s k s.gossip o worn
-kept_timed s k (Gossip updates) o worn = kept_all s true k updates o worn
+kept_timed s k (Gossip updates) o worn = kept_all s Aloud k updates o worn
 kept_timed s k PushTimer o worn = kept_push_due s k s.gossip o worn
 kept_timed s k (Push entries) o worn = kept_push_heard s k entries o worn
 kept_timed s k (Pull entries) o worn = kept_merged s k entries o worn

@@ -6,11 +6,11 @@ mod bounds;
 mod opening;
 mod parts;
 mod rows;
-mod slice;
+mod turn_limit;
 mod turns;
 
 pub use bounds::{bounded_by_horizons, bounded_in_common, first_moment};
 pub use opening::{open_parts, open_wheels};
 pub use rows::join;
-pub use slice::Slice;
+pub use turn_limit::TurnLimit;
 pub use turns::{Course, Turned, course_of, exchanged};

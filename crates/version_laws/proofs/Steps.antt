@@ -9,7 +9,7 @@ use Rattle.links.specs.Arrival.{arrival_of, uncut_arrival_of}
 use Rattle.member.specs.declared.member.Phase.{Phase}
 use Rattle.member.specs.declared.member.Phase.TheVariants.{Waiting, Joining, Running, Down}
 use Rattle.member.specs.declared.content.Content.{Content}
-use Rattle.member.specs.Turn.{Effect, unchanged, with_event, with_timer}
+use Rattle.member.specs.Effects.{Effect, unchanged, with_event, with_timer}
 use Rattle.member.specs.Send.{posted, buddy_of, ping_sent, ping_req_sent, ack_sent, nack_sent, join_sent, welcome_sent, bye_sent}
 use Rattle.member.specs.Apply.{with_put, passed_on, refuted, suspect_heard, news_heard, accusation_heard, applied, all_applied}
 use Rattle.member.specs.Step.{push_begun, first_period_set, first_others, began, join_asked, joining_begun, started, join_handled, joined, probe_failed, probe_ended, probe_begun, next_probed, period_begun, help_asked, timed_out, ping_heard, ping_req_heard, ack_taken, ack_heard, nack_due, suspicion_over, byes_said, departed, plain_handled, handled, handled_by, step}

@@ -4,8 +4,8 @@ use Rattle.std.specs.Result.{IsErrOf}
 use Rattle.base.specs.declared.fault.Fault.{Fault}
 use Rattle.base.specs.declared.fault.Fault.TheVariants.{Memory, Worn}
 use Rattle.member.specs.Faults.{fault_of}
-use Rattle.member.specs.declared.turn.StepError.{StepError}
-use Rattle.member.specs.declared.turn.StepError.TheVariants as step_error
+use Rattle.member.specs.declared.step_error.StepError.{StepError}
+use Rattle.member.specs.declared.step_error.StepError.TheVariants as step_error
 
 memory≢worn : Memory ≢ Worn
 memory≢worn is = cc

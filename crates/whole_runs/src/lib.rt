@@ -5,8 +5,8 @@ mod in_turn;
 mod laws;
 mod one_queue;
 mod sequential;
-mod slices;
 mod streaming;
+mod stretches;
 mod tallying;
 
 pub use in_turn::run_in_turn;

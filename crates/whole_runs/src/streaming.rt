@@ -4,7 +4,7 @@ ghost use Rattle.trace.specs.Text.{trace_text};
 ghost use Rattle.member_laws.specs.Runs.{IsRunOf, WearsOut};
 ghost use Rattle.outputs.specs.Promise.{BeginsTrace, WearsOutReport};
 
-use crate::slices::run_slices;
+use crate::stretches::run_stretches;
 use base::Fault;
 use links::Links;
 use member::Event;
@@ -16,7 +16,7 @@ use windows::{Cluster, Part};
 use worker_queue::WheelQueue;
 
 /// Runs the scenario on this thread, and takes the rows of its run as they come, in the order made. None is kept for
-/// longer than a slice of the run, and nothing is flushed. After a fault the place has got a beginning of the trace.
+/// longer than a stretch of the run, and nothing is flushed. After a fault the place has got a beginning of the trace.
 ///
 /// Faults: `Memory`; `Worn` where a counter of the run or of the report would pass 2^63; `Write` where the place
 /// failed.
@@ -46,5 +46,5 @@ pub(crate) fn stream_run<T: TakeRows<P>, P>(
     let part = Part::whole(alloc, scenario, wheel)?;
     T::begin(place)?;
     let cluster = Cluster { scenario, links };
-    run_slices::<T, P, WheelQueue<Event>>(alloc, part, cluster, place)
+    run_stretches::<T, P, WheelQueue<Event>>(alloc, part, cluster, place)
 }

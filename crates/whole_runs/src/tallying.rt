@@ -11,7 +11,7 @@ use scenario::Scenario;
 use std::alloc::Global;
 
 /// Runs the scenario on this thread, and tallies the rows of its run as they come, in the order made. None is
-/// kept for longer than a slice of the run, and none is written. `reports::report` makes of the tallies the
+/// kept for longer than a stretch of the run, and none is written. `reports::report` makes of the tallies the
 /// report that `run_one` writes.
 ///
 /// Faults: `Memory`; `Worn` where a counter of the run, or a count of the tallies, would pass 2^63.

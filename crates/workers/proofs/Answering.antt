@@ -4,7 +4,7 @@ use Rattle.std.specs.FinMap.{FinMap}
 use Rattle.base.specs.Order.{key_cmp}
 use Rattle.scenario.specs.Setup.{Setup}
 use Rattle.member.specs.declared.event.Event.{Event}
-use Rattle.member.specs.declared.turn.StepError.{StepError}
+use Rattle.member.specs.declared.step_error.StepError.{StepError}
 use Rattle.windows.specs.declared.part.Part.{Part}
 use Rattle.windows.specs.declared.part.Done.{Done}
 use Rattle.workers.specs.Answers.{ComesOf}

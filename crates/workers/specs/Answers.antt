@@ -4,8 +4,8 @@ use Rattle.std.specs.FinMap.{FinMap}
 use Rattle.base.specs.Order.{key_cmp}
 use Rattle.scenario.specs.Setup.{Setup}
 use Rattle.member.specs.declared.event.Event.{Event}
-use Rattle.member.specs.declared.turn.StepError.{StepError}
-use Rattle.member.specs.declared.turn.StepError.TheVariants as step_error
+use Rattle.member.specs.declared.step_error.StepError.{StepError}
+use Rattle.member.specs.declared.step_error.StepError.TheVariants as step_error
 use Rattle.windows.specs.declared.part.Part.{Part}
 use Rattle.windows.specs.declared.part.Done.{Done}
 use Rattle.windows.specs.WorldOf.{world_of}

@@ -20,7 +20,7 @@ use member::Event;
 use scenario::Scenario;
 use std::alloc::Global;
 use std::sync::Wait;
-use windows::{Bounded, Cluster, Done, told};
+use windows::{Bounded, Cluster, Done};
 use worker_queue::EventQueue;
 
 /// The driver's hold on its workers. Once it is dropped or has left they end.
@@ -28,7 +28,6 @@ use worker_queue::EventQueue;
 pub struct WorkerPool<'b, 'a, Q: EventQueue<Event>, G: Gate, J: Site, K: OfScenario> {
     /// How many windows were begun.
     pub windows: u64,
-    workers: usize,
     post: TaskPost<'b, 'a, Q, G, J, K>,
     hold: StopGuard<'b>,
     gate: &'b G,
@@ -52,19 +51,12 @@ impl<'b, 'a, Q: EventQueue<Event> + Drop, G: Gate, J: Site, K: OfScenario> Worke
     J,
     K,
 > {
-    /// A pool of so many workers, which take what is dealt from the post. The driver is worker 0; where there is
-    /// no other, nothing is dealt.
-    pub fn new(
-        workers: usize,
-        post: TaskPost<'b, 'a, Q, G, J, K>,
-        signals: &'b Signals,
-        gate: &'b G,
-    ) -> Self
+    /// A pool of the workers that take what is dealt from the post. The driver is worker 0, and takes from it too.
+    pub fn new(post: TaskPost<'b, 'a, Q, G, J, K>, signals: &'b Signals, gate: &'b G) -> Self
         ensures windows { result.windows ≡ 0 }
     {
         WorkerPool {
             windows: 0,
-            workers,
             post,
             hold: StopGuard(signals),
             gate,
@@ -103,9 +95,6 @@ impl<'b, 'a, Q: EventQueue<Event> + Drop, G: Gate, J: Site, K: OfScenario> Worke
     {
         self.windows += 1;
         let window = self.windows;
-        if self.workers == 1 {
-            return run_alone(alloc, self.gate, parts, window, cluster);
-        }
         let dealt = self.deal(rt, alloc, parts, window, cluster);
         self.help(rt, alloc);
         self.hold.0.wait_group.wait(rt);
@@ -246,30 +235,4 @@ fn room_for<T: Drop>(alloc: Global, count: usize) -> Result<Vec<T>, Fault>
         Ok(none) => Ok(none),
         Err(_) => Err(Fault::Memory),
     }
-}
-
-/// Runs the window of each part below its bound, one after another, as worker 0.
-fn run_alone<Q: EventQueue<Event> + Drop, G: Gate>(
-    alloc: Global,
-    gate: &G,
-    parts: Vec<Bounded<Q>>,
-    window: u64,
-    cluster: Cluster,
-) -> Result<Vec<Done<Q>>, Fault>
-    requires sound { IsSound cluster.scenario.now }
-    requires in_time { AllByRecursion (λ (b : ABounded Q). b.bound ≤ cluster.scenario.now.end + 1) parts.items }
-    requires consistent { AllByRecursion (λ (b : ABounded Q). IsConsistentPart cluster.scenario.now (world_of Q.set b.part)) parts.items }
-    requires worker { G.knows 0 }
-    requires awaited { AllByRecursion (λ (b : ABounded Q). G.awaits window b.part.number) parts.items }
-    ensures ok { IfOk result (λ done. RanWindows Q.set cluster.entry.scenario.now parts.items done.items) }
-    ensures worn { IsErrOf result Fault.Worn → OneWears Q.set cluster.entry.scenario.now parts.items }
-    ensures write { IfErr result (λ fault. fault ≢ Fault.Write) }
-{
-    let mut so_far = room_for(alloc, parts.len());
-    for bounded in parts {
-        let Bounded { part, bound } = bounded;
-        gate.enter(0, window, part.number);
-        so_far = joined(so_far, told(part.run(alloc, bound, cluster)));
-    }
-    so_far
 }

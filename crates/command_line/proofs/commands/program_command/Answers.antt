@@ -32,5 +32,7 @@ returns c =
     ∙ ap₂ with_subcommand explains (ap (λ (a : App). a.top) c.in_ok-sweep_command.ensures.0) in
     let inits = c.in_ok-subcommand-5.ensures.shape c.in_ok-init_command.ensures.1
     ∙ ap₂ with_subcommand sweeps (ap (λ (a : App). a.top) c.in_ok-init_command.ensures.0) in
-    IfOk-weaker c.subcommand-6.result _ _ (λ command h. h.shape c.in_ok-join_command.ensures.1
-    ∙ ap₂ with_subcommand inits (ap (λ (a : App). a.top) c.in_ok-join_command.ensures.0)) c.subcommand-6.ensures
+    let joins = c.in_ok-subcommand-6.ensures.shape c.in_ok-join_command.ensures.1
+    ∙ ap₂ with_subcommand inits (ap (λ (a : App). a.top) c.in_ok-join_command.ensures.0) in
+    IfOk-weaker c.subcommand-7.result _ _ (λ command h. h.shape c.in_ok-page_command.ensures.1
+    ∙ ap₂ with_subcommand joins (ap (λ (a : App). a.top) c.in_ok-page_command.ensures.0)) c.subcommand-7.ensures

@@ -1,16 +1,4 @@
-use Rattle.std.proofs.Common.{◌∙◌, ap, Bool, codes}
-use Rattle.clap.specs.Words.{new_app}
-use Rattle.clap.specs.Simple.{app_of_fields}
-use Rattle.clap.specs.declared.builder.command.Command.{Command}
-use Rattle.clap.specs.declared.builder.command.Command.TheOpen.{Command-F}
-use Rattle.command_line.specs.Words.{IsLocal}
 use Rattle.command_line.proofs.initial.init_command.Goals as goal
 
-abbrev globals : Command-F Command → Bool
-globals fields = fields.has_globals
-
 pub returns : goal.returns
-returns c =
-    let bare : IsLocal (new_app (codes "init")) c.about.result
-    = (ap app_of_fields c.about.ensures ∙ c.new.ensures.app, ap globals c.about.ensures ∙ c.new.ensures.local) in
-    c.with_preset.ensures (new_app (codes "init")) bare
+returns c = c.with_preset.ensures _ c.new_command.ensures

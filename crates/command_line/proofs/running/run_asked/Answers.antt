@@ -18,6 +18,7 @@ returns-clause-some c =
       page = search rules;
       workers = search rules;
       divided = search rules;
+      progress = search rules;
     }
 
 pub returns-in_err-file-clause-none : goal.returns-in_err-file-clause-none

@@ -10,12 +10,12 @@ pub returns-clause-stays : goal.returns-clause-stays
 returns-clause-stays c = else_same
 
 pub returns-clause-refuted_by_papers : goal.returns-clause-refuted_by_papers
-returns-clause-refuted_by_papers c = λ s loud k u o papers own.
-    refutes s loud k u o (subst (λ profile. IsRefuted profile k.to o.state u) (sym papers) (refuted_by_papers k.to o.state u own)) ∙ ap (λ n. n + 1) own.present
+returns-clause-refuted_by_papers c = λ s telling k u o papers own.
+    refutes s telling k u o (subst (λ profile. IsRefuted profile k.to o.state u) (sym papers) (refuted_by_papers k.to o.state u own)) ∙ ap (λ n. n + 1) own.present
 
 pub returns-clause-stays_by_papers : goal.returns-clause-stays_by_papers
-returns-clause-stays_by_papers c = λ s loud k u o papers other.
-    else_same s loud k u o (λ is. other (papers_refute k.to o.state u (subst (λ profile. IsRefuted profile k.to o.state u) papers is)))
+returns-clause-stays_by_papers c = λ s telling k u o papers other.
+    else_same s telling k u o (λ is. other (papers_refute k.to o.state u (subst (λ profile. IsRefuted profile k.to o.state u) papers is)))
 
 pub returns-clause-never_falls : goal.returns-clause-never_falls
 returns-clause-never_falls c = never_falls

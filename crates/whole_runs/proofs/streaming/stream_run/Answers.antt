@@ -26,10 +26,10 @@ returns-in_err-begin-clause-worn g c = λ h.
     absurd (omega (arith, many))
 
 pub returns-clause-whole : goal.returns-clause-whole
-returns-clause-whole g c = c.run_slices.ensures.whole _ (c.in_ok-begin.ensures.written c.args.scenario.now)
+returns-clause-whole g c = c.run_stretches.ensures.whole _ (c.in_ok-begin.ensures.written c.args.scenario.now)
 
 pub returns-clause-part : goal.returns-clause-part
-returns-clause-part g c = c.run_slices.ensures.part _ (c.in_ok-begin.ensures.written c.args.scenario.now)
+returns-clause-part g c = c.run_stretches.ensures.part _ (c.in_ok-begin.ensures.written c.args.scenario.now)
 
-pub run_slices-requires-clause-none_gathered : goal.run_slices-requires-clause-none_gathered
-run_slices-requires-clause-none_gathered g c = c.in_ok-begin.ensures.gathered c.args.scenario.now [] c.requires.none_gathered
+pub run_stretches-requires-clause-none_gathered : goal.run_stretches-requires-clause-none_gathered
+run_stretches-requires-clause-none_gathered g c = c.in_ok-begin.ensures.gathered c.args.scenario.now [] c.requires.none_gathered

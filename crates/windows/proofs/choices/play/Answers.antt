@@ -1,5 +1,5 @@
 use Rattle.std.proofs.Common.{Result, IfOk, refl, subst}
-use Rattle.member.specs.declared.turn.StepError.{StepError}
+use Rattle.member.specs.declared.step_error.StepError.{StepError}
 use Rattle.trace.specs.contracts.row.RowOrd.TheImpl.Laws.{total-law}
 use Rattle.windows.specs.Play.{IsPlayOf}
 use Rattle.windows.specs.declared.choices.Played.{Played}

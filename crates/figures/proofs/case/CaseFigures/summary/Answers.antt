@@ -1,5 +1,6 @@
-use Rattle.std.proofs.Common.{length, sym, subst, IsPermutation}
+use Rattle.std.proofs.Common.{length, sym, subst, ◌∙◌, IsPermutation}
 use Rattle.figures.specs.Cases.{crashes_in, suspected_in, confirmed_in, last_in, runs_with}
+use Rattle.figures.specs.Histograms.{IsHistogramOf}
 use Rattle.figures.proofs.Summaries.{of_rank, false_rate_of, low_of, high_of, rate_of}
 use Rattle.figures.proofs.case.CaseFigures.summary.Goals as goal
 
@@ -11,12 +12,20 @@ returns c runs are =
     let last = subst (IsPermutation case.last.items) (sym c.as_slice-last.ensures.value) c.in_ok-sort-3.ensures.permutation in
     record {
       all = are.all;
-      suspicion = of_rank 50 suspected_in (crashes_in runs) _ case.suspected.items case.crashes (c.percentile.ensures case.suspected.items suspected) are.crashed are.suspicions;
-      confirmation = of_rank 50 confirmed_in (crashes_in runs) _ case.confirmed.items case.crashes (c.percentile-2.ensures case.confirmed.items confirmed) are.crashed are.confirmations;
-      late_confirmation = of_rank 99 confirmed_in (crashes_in runs) _ case.confirmed.items case.crashes (c.percentile-3.ensures case.confirmed.items confirmed) are.crashed are.confirmations;
-      latest_confirmation = of_rank 100 confirmed_in (crashes_in runs) _ case.confirmed.items case.crashes (c.percentile-4.ensures case.confirmed.items confirmed) are.crashed are.confirmations;
-      last = of_rank 50 last_in (crashes_in runs) _ case.last.items case.crashes (c.percentile-5.ensures case.last.items last) are.crashed are.lasts;
-      latest_last = of_rank 100 last_in (crashes_in runs) _ case.last.items case.crashes (c.percentile-6.ensures case.last.items last) are.crashed are.lasts;
+      crashed = are.crashed;
+      early_suspicion = of_rank 5 suspected_in (crashes_in runs) _ case.suspected.items case.crashes (c.percentile.ensures case.suspected.items suspected) are.crashed are.suspicions;
+      suspicion = of_rank 50 suspected_in (crashes_in runs) _ case.suspected.items case.crashes (c.percentile-2.ensures case.suspected.items suspected) are.crashed are.suspicions;
+      late_suspicion = of_rank 95 suspected_in (crashes_in runs) _ case.suspected.items case.crashes (c.percentile-3.ensures case.suspected.items suspected) are.crashed are.suspicions;
+      early_confirmation = of_rank 5 confirmed_in (crashes_in runs) _ case.confirmed.items case.crashes (c.percentile-4.ensures case.confirmed.items confirmed) are.crashed are.confirmations;
+      confirmation = of_rank 50 confirmed_in (crashes_in runs) _ case.confirmed.items case.crashes (c.percentile-5.ensures case.confirmed.items confirmed) are.crashed are.confirmations;
+      rather_late_confirmation = of_rank 95 confirmed_in (crashes_in runs) _ case.confirmed.items case.crashes (c.percentile-6.ensures case.confirmed.items confirmed) are.crashed are.confirmations;
+      late_confirmation = of_rank 99 confirmed_in (crashes_in runs) _ case.confirmed.items case.crashes (c.percentile-7.ensures case.confirmed.items confirmed) are.crashed are.confirmations;
+      latest_confirmation = of_rank 100 confirmed_in (crashes_in runs) _ case.confirmed.items case.crashes (c.percentile-8.ensures case.confirmed.items confirmed) are.crashed are.confirmations;
+      confirmations = subst (IsHistogramOf c.histogram_of-confirm_times.result) (c.as_slice.ensures.value ∙ are.confirmations) c.histogram_of-confirm_times.ensures;
+      early_last = of_rank 5 last_in (crashes_in runs) _ case.last.items case.crashes (c.percentile-9.ensures case.last.items last) are.crashed are.lasts;
+      last = of_rank 50 last_in (crashes_in runs) _ case.last.items case.crashes (c.percentile-10.ensures case.last.items last) are.crashed are.lasts;
+      late_last = of_rank 95 last_in (crashes_in runs) _ case.last.items case.crashes (c.percentile-11.ensures case.last.items last) are.crashed are.lasts;
+      latest_last = of_rank 100 last_in (crashes_in runs) _ case.last.items case.crashes (c.percentile-12.ensures case.last.items last) are.crashed are.lasts;
       false_claims = false_rate_of runs case.false_suspect case.runs c.from.result are.false_claims c.from.ensures are.all;
       thrown = are.thrown;
       returned = are.returned;

@@ -11,12 +11,12 @@ loop-update-init c = record { effect = refl; known = c.requires.known }
 pub loop-update-preserved : goal.loop-update-preserved
 loop-update-preserved c = record {
   effect =
-      applied_next c.args.here.now.scenario.now c.args.loud c.args.here.now.key c.args.updates.now c.loop-update.update-index c.update-item.result
+      applied_next c.args.here.now.scenario.now c.args.telling c.args.here.now.key c.args.updates.now c.loop-update.update-index c.update-item.result
       _ _ _ c.loop-update-test.true c.update-item.is c.loop-update.invariant.effect c.in_ok-apply.ensures.ok;
   known = c.in_ok-apply.ensures.kept;
 }
 
 pub returns-in_err-apply : goal.returns-in_err-apply
 returns-in_err-apply c =
-    refused _ _ c.from_residual.ensures.1 (λ h. applied_worn c.args.here.now.scenario.now c.args.loud c.args.here.now.key c.args.updates.now c.loop-update.update-index c.update-item.result
+    refused _ _ c.from_residual.ensures.1 (λ h. applied_worn c.args.here.now.scenario.now c.args.telling c.args.here.now.key c.args.updates.now c.loop-update.update-index c.update-item.result
     _ _ c.loop-update-test.true c.update-item.is c.loop-update.invariant.effect (c.in_err-apply.ensures.worn h))

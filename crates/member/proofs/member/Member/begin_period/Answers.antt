@@ -1,5 +1,5 @@
 use Rattle.std.proofs.Common.{subst}
-use Rattle.member.specs.Turn.{Effect}
+use Rattle.member.specs.Effects.{Effect}
 use Rattle.member.specs.Step.{next_probed, period_begun}
 use Rattle.member.specs.Worn.{IsWorn}
 use Rattle.member.proofs.Worn.{kept_timer, kept_next, refused}

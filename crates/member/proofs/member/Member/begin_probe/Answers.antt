@@ -9,7 +9,7 @@ use Rattle.member.proofs.member.Member.begin_probe.Goals as goal
 pub returns-then-self-ge-COUNTER_LIMIT :
     goal.returns-then-self-ge-COUNTER_LIMIT
 returns-then-self-ge-COUNTER_LIMIT c =
-    worn_out (worn_probe c.args.here.now.scenario.now c.args.here.now.key c.args.target (effect_of c.args.self.now c.args.turn.now) c.if-self-ge-COUNTER_LIMIT.true)
+    worn_out (worn_probe c.args.here.now.scenario.now c.args.here.now.key c.args.target (effect_of c.args.self.now c.args.effects.now) c.if-self-ge-COUNTER_LIMIT.true)
 
 pub send_ping-requires-clause-known : goal.send_ping-requires-clause-known
 send_ping-requires-clause-known c =
@@ -19,4 +19,4 @@ send_ping-requires-clause-known c =
 
 pub returns-in_err-send_ping : goal.returns-in_err-send_ping
 returns-in_err-send_ping c =
-    refused _ _ c.from_residual.ensures.1 (λ h. worn_pinged c.args.here.now.scenario.now c.args.here.now.key c.args.target (effect_of c.args.self.now c.args.turn.now) _ c.new.ensures (c.in_err-send_ping.ensures.worn h))
+    refused _ _ c.from_residual.ensures.1 (λ h. worn_pinged c.args.here.now.scenario.now c.args.here.now.key c.args.target (effect_of c.args.self.now c.args.effects.now) _ c.new.ensures (c.in_err-send_ping.ensures.worn h))

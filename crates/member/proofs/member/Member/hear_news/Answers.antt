@@ -12,7 +12,7 @@ returns-in_err-hear_claim c =
     let s = c.args.here.now.scenario.now in
     let k = c.args.here.now.key in
     let u = c.args.update.now in
-    let turn = c.args.turn.now in
-    refused _ _ c.from_residual-in_err-hear_claim.ensures.1 (λ h. kept_passed_on s k c.args.loud u _
-    (subst (λ (t : State). IsWorn (claim_heard s c.args.loud k u u.claim (record { state = t; events = map pair_of turn.events.items; rows = turn.rows.items })).state)
+    let effects = c.args.effects.now in
+    refused _ _ c.from_residual-in_err-hear_claim.ensures.1 (λ h. kept_passed_on s k c.args.telling u _
+    (subst (λ (t : State). IsWorn (claim_heard s c.args.telling k u u.claim (record { state = t; events = map pair_of effects.events.items; rows = effects.rows.items })).state)
     c.in_ok-keep_claim.ensures.made.ok (c.in_err-hear_claim.ensures.worn h)))

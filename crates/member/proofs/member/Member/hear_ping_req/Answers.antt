@@ -1,5 +1,5 @@
 use Rattle.std.proofs.Common.{subst}
-use Rattle.member.specs.Turn.{Effect}
+use Rattle.member.specs.Effects.{Effect}
 use Rattle.member.specs.Send.{ping_sent}
 use Rattle.member.specs.Step.{ping_req_heard}
 use Rattle.member.specs.Worn.{IsWorn}

@@ -6,6 +6,6 @@ use Rattle.member.proofs.member.Member.push_to.Given as goal
 
 abbrev pub invariant-loop-to : goal.invariant-loop-to
 invariant-loop-to l = record {
-  effect : effect_of l.self l.turn ≡ sent_to_each (push_sent l.here.scenario.now l.here.key) (take l.to-index l.them) (effect_of l.fn.self l.fn.turn);
+  effect : effect_of l.self l.effects ≡ sent_to_each (push_sent l.here.scenario.now l.here.key) (take l.to-index l.them) (effect_of l.fn.self l.fn.effects);
   known : HoldsMembers l.here.scenario.now l.here.key.to (state_of l.self);
 }

@@ -1,8 +1,0 @@
-use Rattle.std.proofs.Common.{◌∙◌, ◌||◌, ap₂}
-use Rattle.std.proofs.lemmas.Result.{IfOk-weaker}
-use Rattle.clap.specs.Words.{with_rule}
-use Rattle.command_line.proofs.arguments.with_file.Goals as goal
-
-pub returns : goal.returns
-returns c app is =
-    IfOk-weaker c.arg.result _ _ (λ more h. (h.shape c.file_argument.ensures.local ∙ ap₂ with_rule is.0 c.file_argument.ensures.rule, h.globals ∙ ap₂ ◌||◌ is.1 c.file_argument.ensures.local)) c.arg.ensures

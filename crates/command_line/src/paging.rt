@@ -1,0 +1,67 @@
+//! The command `page`: what it takes, and what its words ask for.
+ghost use Rattle.std.specs.Prelude.{◌≡◌, IfOk, IfErr, IfSome, IsNone};
+ghost use Rattle.clap.specs.Words.{subcommand_rows_of};
+ghost use Rattle.arguments.specs.Rules.{IsLocal};
+ghost use Rattle.command_line.specs.declared.paging.PageWords.{PageWords as Wished};
+ghost use Rattle.command_line.specs.Words.{page_app, IsPageIn};
+
+use crate::failure::Failure;
+use crate::joining::{pieces_named, with_pieces};
+use arguments::{new_command, value_of, with_option, with_required};
+use clap::{ArgMatches, Command};
+use std::alloc::{AllocError, Global};
+
+/// The words of the command `page`.
+#[derive(Debug, Drop)]
+pub struct PageWords<'a> {
+    /// The names of the files with the pieces, in any order.
+    pub files: Vec<&'a str>,
+    /// The name of the file that takes the page.
+    pub page: &'a str,
+    /// What the page calls the scenario, where that is said.
+    pub name: Option<&'a str>,
+}
+
+/// The command `page`.
+pub(crate) fn page_command<'a>(alloc: Global) -> Result<Command<'a>, AllocError>
+    ensures { IfOk result (IsLocal page_app) }
+{
+    let about = "Makes a sweep's page of the pieces of its table";
+    let filed = with_pieces(alloc, new_command(alloc, "page", about))?;
+    let made = with_required(
+        alloc,
+        filed,
+        "out",
+        "P",
+        "The file that takes the page, in HTML; one that is there is replaced",
+    )?;
+    with_option(
+        alloc,
+        made,
+        "name",
+        "FILE",
+        "What the page calls the scenario [default: the name of the first PIECE]",
+    )
+}
+
+/// The page that is asked for by words that `clap` took, if they ask for one.
+///
+/// Failure: `Memory`.
+pub(crate) fn page_asked<'a>(
+    alloc: Global,
+    matches: &ArgMatches<'a>,
+) -> Result<Option<PageWords<'a>>, Failure<'a>>
+    ensures some { IfOk result (λ asked. IfSome asked (IsPageIn (subcommand_rows_of matches.now))) }
+    ensures none { IfOk result (λ asked. IsNone asked → (page : Wished) → ¬ (IsPageIn (subcommand_rows_of matches.now) page)) }
+    ensures failures { IfErr result (λ f. f ≡ Failure.Memory) }
+{
+    let Some(words) = matches.subcommand_matches("page") else {
+        return Ok(None);
+    };
+    let Some(page) = value_of(words, "out") else {
+        return Ok(None);
+    };
+    let files = pieces_named(alloc, words)?;
+    let name = value_of(words, "name");
+    Ok(Some(PageWords { files, page, name }))
+}

@@ -1,0 +1,63 @@
+//! What is told of the cases of a sweep: the options that say so, and what their words ask for.
+ghost use Rattle.std.specs.Prelude.{◌≡◌, ◌⊎◌, map, unwrap_or, IfOk, IfErr, IsErrOf, List, []};
+ghost use Rattle.clap.specs.Words.{App, found_of, rows_of};
+ghost use Rattle.answers.specs.declared.want.Want.{Want as Wanting};
+ghost use Rattle.arguments.specs.Rules.{IsLocal};
+ghost use Rattle.command_line.specs.Words.{with_telling, AreWantsIn};
+
+use crate::failure::Failure;
+use answers::{Want, WantFault, read_wants};
+use arguments::{values_of, with_flag, with_option, with_repeated};
+use clap::{ArgMatches, Command};
+use std::alloc::{AllocError, Global};
+
+/// A command with the options more that say what is told of the cases of a sweep.
+pub(crate) fn with_telling<'a>(
+    alloc: Global,
+    command: Command<'a>,
+) -> Result<Command<'a>, AllocError>
+    ensures { (app : App) → IsLocal app command.entry → IfOk result (IsLocal (with_telling app)) }
+{
+    let wanted = with_repeated(
+        alloc,
+        command,
+        "want",
+        "STATISTIC<=N",
+        "What cases are to meet, as out<=0.01 or confirm_p99<=20000; for any number of statistics",
+    )?;
+    let objects = with_flag(
+        alloc,
+        wanted,
+        "jsonl",
+        "Prints a JSON object for each case, a line each, in place of columns",
+    )?;
+    with_option(
+        alloc,
+        objects,
+        "page",
+        "P",
+        "The file that takes a page of the cases, in HTML; one that is there is replaced",
+    )
+}
+
+/// What is wanted of the cases by the words of a command.
+///
+/// Failures: `Usage` where one of them wants nothing; `Memory`.
+pub(crate) fn wants_asked<'a>(
+    alloc: Global,
+    matches: &ArgMatches<'a>,
+) -> Result<Vec<Want<'a>>, Failure<'a>>
+    ensures wants { IfOk result (λ wants. AreWantsIn (rows_of (found_of matches.now)) wants.items) }
+    ensures usage { IsErrOf result Failure.Usage → (wants : List Wanting) → ¬ (AreWantsIn (rows_of (found_of matches.now)) wants) }
+    ensures failures { IfErr result (λ f. (f ≡ Failure.Usage) ⊎ (f ≡ Failure.Memory)) }
+{
+    let words = match values_of(alloc, matches, "want") {
+        Ok(words) => words,
+        Err(_) => return Err(Failure::Memory),
+    };
+    match read_wants(alloc, &words) {
+        Ok(wants) => Ok(wants),
+        Err(WantFault::Words) => Err(Failure::Usage),
+        Err(WantFault::Memory) => Err(Failure::Memory),
+    }
+}

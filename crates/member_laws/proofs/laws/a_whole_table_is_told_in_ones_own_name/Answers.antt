@@ -1,0 +1,8 @@
+use Rattle.member_laws.proofs.Whole.{accused_by_sender, subjects_rise}
+use Rattle.member_laws.proofs.laws.a_whole_table_is_told_in_ones_own_name.Goals as goal
+
+pub returns-clause-accuser : goal.returns-clause-accuser
+returns-clause-accuser c = accused_by_sender
+
+pub returns-clause-order : goal.returns-clause-order
+returns-clause-order c = subjects_rise

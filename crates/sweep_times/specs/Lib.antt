@@ -1,0 +1,3 @@
+pub mod Bins
+pub mod Charts
+pub mod Times

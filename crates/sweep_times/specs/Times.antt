@@ -1,0 +1,79 @@
+-- The figure of times: for each case on the front, after how many ticks its crashes were first confirmed.
+use Rattle.std.specs.Prelude.{ℕ, ◌-◌, ◌==◌, if◌then◌else◌, List, [], ◌++◌, codes, length, slice_get, take}
+use Rattle.std.specs.List.{flat_map, range_with_len}
+use Rattle.std.specs.Option.{option_map_or}
+use Rattle.cases.specs.Sweep.{KeyValues}
+use Rattle.drawing.specs.Escaped.{markup}
+use Rattle.drawing.specs.Numbers.{grouped}
+use Rattle.drawing.specs.Shapes.{figure_opening, figure_end}
+use Rattle.figures.specs.declared.histogram.Histogram.{Histogram}
+use Rattle.figures.specs.declared.summary.CaseSummary.{CaseSummary}
+use Rattle.sweep_cells.specs.Words.{number_words}
+use Rattle.sweep_times.specs.Bins.{axis_reach, bin_start, bin_end, never_confirmed}
+use Rattle.sweep_times.specs.Charts.{charts}
+
+-- a row begins with the number of its case
+unfoldable pub row_opening : ℕ → List ℕ
+row_opening place = markup (codes "<tr><td>") ++ number_words place ++ markup (codes "</td><td>")
+
+-- it ends with how many crashes it counts
+unfoldable pub row_end : ℕ → List ℕ
+row_end count = markup (codes "</td><td>") ++ grouped count ++ markup (codes "</td></tr>")
+
+-- the row of a bin: its first tick and its last, and how many times are in it
+unfoldable pub filled_row : Histogram → ℕ → ℕ → ℕ → List ℕ
+filled_row times place bin count = row_opening place ++ grouped (bin_start times bin) ++ markup (codes " to ") ++ grouped (bin_end times bin - 1) ++ row_end count
+
+-- nothing where no times are in it
+unfoldable pub bin_row : Histogram → ℕ → ℕ → ℕ → List ℕ
+bin_row times place bin count = if count == 0 then [] else filled_row times place bin count
+
+-- the row of the bin at a place
+unfoldable pub row_at : Histogram → ℕ → ℕ → List ℕ
+row_at times place bin = option_map_or (bin_row times place bin) (slice_get times.bins bin) []
+
+-- the rows of all bins of a case
+unfoldable pub bin_rows : Histogram → ℕ → List ℕ
+bin_rows times place = flat_map (row_at times place) (range_with_len 0 20)
+
+-- the row of the crashes that were never confirmed
+unfoldable pub never_row : ℕ → CaseSummary → List ℕ
+never_row place case = row_opening place ++ markup (codes "never") ++ row_end (never_confirmed case)
+
+-- the rows of a case
+unfoldable pub case_rows : ℕ → CaseSummary → List ℕ
+case_rows place case = bin_rows case.confirm_times place ++ never_row place case
+
+-- those of the case at a place
+unfoldable pub rows_at : List CaseSummary → ℕ → List ℕ
+rows_at cases place = option_map_or (case_rows place) (slice_get cases place) []
+
+-- what the columns are
+unfoldable pub times_heads : List ℕ
+times_heads = codes "<details><summary>These times in numbers</summary><div class=\"wide\"><table><thead><tr><th>setting</th><th>ticks until first confirmed</th><th>crashes</th></tr></thead><tbody>"
+
+-- the bins of the cases at these places in numbers, folded
+unfoldable pub times_table : List CaseSummary → List ℕ → List ℕ
+times_table cases places = times_heads ++ flat_map (rows_at cases) places ++ markup (codes "</tbody></table></div></details>")
+
+-- what the charts show
+unfoldable pub times_words : List ℕ
+times_words = codes "<p class=\"soft\">For each setting on the front: how many crashes of all its runs were first confirmed after how many ticks. A bar is as wide as the span of ticks that it counts, and all charts reach as far as the latest of these times; the upright rule is the median.</p>"
+
+-- so many more are on the front
+unfoldable pub more_words : ℕ → List ℕ
+more_words more = markup (codes "<p class=\"soft\">And more on the front, not drawn: ") ++ grouped more ++ markup (codes ".</p>")
+
+-- nothing where all are drawn
+unfoldable pub undrawn_words : ℕ → List ℕ
+undrawn_words more = if more == 0 then [] else more_words more
+
+-- the figure of the cases at these places, with how many more there are
+unfoldable pub figure_of : List KeyValues → List CaseSummary → List ℕ → ℕ → List ℕ
+figure_of settings cases places more =
+    figure_opening (codes "times") (codes "How the times to confirm spread") ++ times_words ++ charts settings cases (axis_reach cases places) places ++ undrawn_words more
+    ++ times_table cases places ++ figure_end
+
+-- that of the first twelve of these; nothing where there are none
+unfoldable pub times_figure : List KeyValues → List CaseSummary → List ℕ → List ℕ
+times_figure settings cases places = if length places == 0 then [] else figure_of settings cases (take 12 places) (length places - 12)

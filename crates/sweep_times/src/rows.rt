@@ -1,0 +1,162 @@
+//! What the charts show, in numbers.
+ghost use Rattle.std.specs.Prelude.{◌≡◌, ◌++◌, OnOk};
+ghost use Rattle.std.specs.List.{flat_map};
+ghost use Rattle.std.specs.String.{string_bytes};
+ghost use Rattle.sweep_times.specs.Times.{row_opening, row_end, filled_row, bin_row, row_at, bin_rows, never_row, case_rows, rows_at, times_heads, times_table};
+
+use crate::bins::{bin_end, bin_start, count_at, never_confirmed};
+use drawing::{push_grouped, push_markup};
+use figures::{CaseSummary, Histogram};
+use std::alloc::AllocError;
+use sweep_cells::{case_at, push_number};
+
+/// Appends the bins of the cases at these places, folded.
+#[tactic(auto, unfolding(crate::specs::Times::times_table))]
+pub(crate) fn push_rows(
+    text: &mut String,
+    cases: &[CaseSummary],
+    places: &[usize],
+) -> Result<(), AllocError>
+    ensures { OnOk result (string_bytes text.new ≡ string_bytes text.old ++ times_table cases.now places.now) }
+{
+    push_heads(text)?;
+    push_rows_of(text, cases, places)?;
+    push_markup(text, "</tbody></table></div></details>")
+}
+
+/// Appends what the columns are.
+#[tactic(auto, unfolding(crate::specs::Times::times_heads))]
+fn push_heads(text: &mut String) -> Result<(), AllocError>
+    ensures { OnOk result (string_bytes text.new ≡ string_bytes text.old ++ times_heads) }
+{
+    text.push_str(
+        "<details><summary>These times in numbers</summary><div class=\"wide\"><table><thead><tr>\
+         <th>setting</th><th>ticks until first confirmed</th><th>crashes</th></tr></thead><tbody>",
+    )
+}
+
+/// Appends the rows of these cases.
+fn push_rows_of(
+    text: &mut String,
+    cases: &[CaseSummary],
+    places: &[usize],
+) -> Result<(), AllocError>
+    ensures { OnOk result (string_bytes text.new ≡ string_bytes text.old ++ flat_map (rows_at cases.now) places.now) }
+{
+    for place in places {
+        push_rows_at(text, cases, *place)?;
+    }
+    Ok(())
+}
+
+/// Appends the rows of the case at a place.
+#[tactic(auto, unfolding(crate::specs::Times::rows_at))]
+fn push_rows_at(text: &mut String, cases: &[CaseSummary], place: usize) -> Result<(), AllocError>
+    ensures { OnOk result (string_bytes text.new ≡ string_bytes text.old ++ rows_at cases.now place) }
+{
+    match case_at(cases, place) {
+        Some(case) => push_case_rows(text, place, &case),
+        None => Ok(()),
+    }
+}
+
+/// Appends the rows of a case: of its bins, and of the crashes that were never confirmed.
+#[tactic(auto, unfolding(crate::specs::Times::case_rows))]
+fn push_case_rows(text: &mut String, place: usize, case: &CaseSummary) -> Result<(), AllocError>
+    ensures { OnOk result (string_bytes text.new ≡ string_bytes text.old ++ case_rows place case.now) }
+{
+    push_bin_rows(text, &case.confirm_times, place)?;
+    push_never_row(text, place, case)
+}
+
+/// Appends the rows of its bins.
+#[tactic(auto, unfolding(crate::specs::Times::bin_rows))]
+fn push_bin_rows(text: &mut String, times: &Histogram, place: usize) -> Result<(), AllocError>
+    ensures { OnOk result (string_bytes text.new ≡ string_bytes text.old ++ bin_rows times.now place) }
+{
+    for bin in 0..times.bins.len() {
+        push_row_at(text, times, place, bin)?;
+    }
+    Ok(())
+}
+
+/// Appends the row of the bin at a place.
+#[tactic(auto, unfolding(crate::specs::Times::row_at))]
+fn push_row_at(
+    text: &mut String,
+    times: &Histogram,
+    place: usize,
+    bin: usize,
+) -> Result<(), AllocError>
+    ensures { OnOk result (string_bytes text.new ≡ string_bytes text.old ++ row_at times.now place bin) }
+{
+    match count_at(times, bin) {
+        Some(count) => push_bin_row(text, times, place, bin, count),
+        None => Ok(()),
+    }
+}
+
+/// Appends the row of a bin with so many times, if it has any.
+#[tactic(auto, unfolding(crate::specs::Times::bin_row))]
+fn push_bin_row(
+    text: &mut String,
+    times: &Histogram,
+    place: usize,
+    bin: usize,
+    count: u64,
+) -> Result<(), AllocError>
+    ensures { OnOk result (string_bytes text.new ≡ string_bytes text.old ++ bin_row times.now place bin count) }
+{
+    if count == 0 {
+        return Ok(());
+    }
+    push_filled_row(text, times, place, bin, count)
+}
+
+/// Appends the row of a bin: its first tick and its last, and how many times are in it.
+#[tactic(auto, unfolding(crate::specs::Times::filled_row))]
+fn push_filled_row(
+    text: &mut String,
+    times: &Histogram,
+    place: usize,
+    bin: usize,
+    count: u64,
+) -> Result<(), AllocError>
+    ensures { OnOk result (string_bytes text.new ≡ string_bytes text.old ++ filled_row times.now place bin count) }
+{
+    push_row_opening(text, place)?;
+    push_grouped(text, bin_start(times, bin))?;
+    push_markup(text, " to ")?;
+    push_grouped(text, bin_end(times, bin).saturating_sub(1))?;
+    push_row_end(text, count)
+}
+
+/// Appends the row of the crashes of a case that were never confirmed.
+#[tactic(auto, unfolding(crate::specs::Times::never_row))]
+fn push_never_row(text: &mut String, place: usize, case: &CaseSummary) -> Result<(), AllocError>
+    ensures { OnOk result (string_bytes text.new ≡ string_bytes text.old ++ never_row place case.now) }
+{
+    push_row_opening(text, place)?;
+    push_markup(text, "never")?;
+    push_row_end(text, never_confirmed(case))
+}
+
+/// Begins a row with the number of its case.
+#[tactic(auto, unfolding(crate::specs::Times::row_opening))]
+fn push_row_opening(text: &mut String, place: usize) -> Result<(), AllocError>
+    ensures { OnOk result (string_bytes text.new ≡ string_bytes text.old ++ row_opening place) }
+{
+    push_markup(text, "<tr><td>")?;
+    push_number(text, place)?;
+    push_markup(text, "</td><td>")
+}
+
+/// Ends a row with how many crashes it counts.
+#[tactic(auto, unfolding(crate::specs::Times::row_end))]
+fn push_row_end(text: &mut String, count: u64) -> Result<(), AllocError>
+    ensures { OnOk result (string_bytes text.new ≡ string_bytes text.old ++ row_end count) }
+{
+    push_markup(text, "</td><td>")?;
+    push_grouped(text, count)?;
+    push_markup(text, "</td></tr>")
+}
