@@ -68,12 +68,12 @@ page_cause tree plan (Err f) is = subst (HasCause tree plan) (sym is) tt
 
 -- what was begun of both where the table broke off, and where it is whole
 module _ (tree : Data) (sweep : SweepWords) (release : List ℕ) (old new page_old page_new : Option (List ℕ)) where
-  pub table_broke : BeginsRuns sweep.until tree sweep.plan old new → Keeps page_old page_new → BeginsPaged tree sweep old new page_old page_new
+  pub table_broke : BeginsRuns sweep.plan.until tree sweep.plan old new → Keeps page_old page_new → BeginsPaged tree sweep old new page_old page_new
   table_broke begins keeps = record { made = begins.made; are = begins.are; written = inl (begins.written, keeps) }
 
-  pub page_broke : (cases all : List CaseSummary) → all ≡ cases → MakesRuns sweep.until tree sweep.plan old new cases → BeginsPage sweep release all page_old page_new → BeginsPaged tree sweep old new page_old page_new
+  pub page_broke : (cases all : List CaseSummary) → all ≡ cases → MakesRuns sweep.plan.until tree sweep.plan old new cases → BeginsPage sweep release all page_old page_new → BeginsPaged tree sweep old new page_old page_new
   page_broke cases all same makes begins = by (subst (λ (l : List CaseSummary). BeginsPage sweep release l page_old page_new) same begins)
     where
       by : BeginsPage sweep release cases page_old page_new → BeginsPaged tree sweep old new page_old page_new
-      by (inl keeps) = record { made = makes.made; are = makes.are; written = inl (beginning-whole old new (runs_table sweep.until tree sweep.plan makes.made) makes.written, keeps) }
+      by (inl keeps) = record { made = makes.made; are = makes.are; written = inl (beginning-whole old new (runs_table sweep.plan.until tree sweep.plan makes.made) makes.written, keeps) }
       by (inr some) = record { made = makes.made; are = makes.are; written = inr (makes.written, (some.0, (release, cases, makes.told, some.1), some.2)) }

@@ -41,7 +41,7 @@ module _ (sweep : SweepWords) (start made between end : Shelf) (page : Text) (ap
   paged_stored tree release lines makes = record {
     made = makes.makes.made;
     are = makes.makes.are;
-    stored = table_holds (runs_table sweep.until tree sweep.plan makes.makes.made) makes.makes.written;
+    stored = table_holds (runs_table sweep.plan.until tree sweep.plan makes.makes.made) makes.makes.written;
     cases = makes.cases;
     all = makes.makes.all;
     told = makes.makes.told;
@@ -57,7 +57,7 @@ module _ (sweep : SweepWords) (start made between end : Shelf) (page : Text) (ap
   paged_begun tree cause begins caused = record { made = begins.made; are = begins.are; written = by begins.written; others = kept; caused = caused }
     where
       text : List ℕ
-      text = runs_table sweep.until tree sweep.plan begins.made
+      text = runs_table sweep.plan.until tree sweep.plan begins.made
 
       by : (AppendsBeginning old new text × Keeps page_old page_new) ⊎ (Appends old new text × ((told : List ℕ) × IsPageOfRuns sweep begins.made told × AppendsBeginning page_old page_new told))
           → (HoldsBeginning (start sweep.table.now) (end sweep.table.now) text × HoldsNow (start page) (end page) [])

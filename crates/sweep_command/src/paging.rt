@@ -40,7 +40,6 @@ pub(crate) fn store_paged<'a, F: Files, P: Write>(
     progress: &mut P,
 ) -> Result<String, Failure<'a>>
     requires asked { IsAskedFor words.now.plan }
-    requires width { ForSome words.now.until (λ width. width ≤ 100) }
     requires wants { All IsBounded words.now.wants.items }
     requires judged { AreAccepted (view prepared.now.marked.document) words.now.plan }
     ensures done { IfOk result (λ lines. StoresPaged (view prepared.now.marked.document) words.now release.now.version.now page.entry.now
@@ -77,7 +76,6 @@ fn fill_both<T: Write, U: Write, P: Write>(
     progress: &mut P,
 ) -> (Put<T>, Put<U>, Result<String, Fault>)
     requires asked { IsAskedFor words.now.plan }
-    requires width { ForSome words.now.until (λ width. width ≤ 100) }
     requires wants { All IsBounded words.now.wants.items }
     requires judged { AreAccepted (view prepared.now.marked.document) words.now.plan }
     ensures whole { IfOk result.2 (λ lines. MakesPaged (view prepared.now.marked.document) words.now release.now.version.now
@@ -122,7 +120,6 @@ fn tell_both<S: Sink, U: Sink, P: Progress>(
     page: &mut U,
 ) -> Result<String, Fault>
     requires asked { IsAskedFor words.now.plan }
-    requires width { ForSome words.now.until (λ width. width ≤ 100) }
     requires wants { All IsBounded words.now.wants.items }
     requires judged { AreAccepted (view prepared.now.marked.document) words.now.plan }
     requires countable { S.failed table.old < 2 ^ 63 }

@@ -43,11 +43,10 @@ pub fn sweep_file<'a, F: Files, P: Write>(
     progress: &mut P,
 ) -> Result<String, Failure<'a>>
     requires asked { IsAskedFor words.now.plan }
-    requires width { ForSome words.now.until (λ width. width ≤ 100) }
     requires piece { ForSome words.now.piece IsPiece }
     requires wants { All IsBounded words.now.wants.items }
     requires alone { ForSome words.now.page (λ _. words.now.piece ≡ None) }
-    requires seeds { ForSome words.now.piece (λ _. words.now.until ≡ None) }
+    requires seeds { words.now.resume ≡ true → words.now.plan.until ≡ None }
     ensures done { IfOk result
         (λ lines. SweepsAll release.now.version.now (F.known files.old) (F.known files.new) (F.making files.old) words.now (string_bytes lines)) }
     ensures failed { IfErr result (SweepFails (F.known files.old) (F.known files.new) (F.making files.old) words.now) }
@@ -72,7 +71,6 @@ fn store_asked<'a, F: Files, P: Write>(
     progress: &mut P,
 ) -> Result<String, Failure<'a>>
     requires asked { IsAskedFor words.now.plan }
-    requires width { ForSome words.now.until (λ width. width ≤ 100) }
     requires piece { ForSome words.now.piece IsPiece }
     requires wants { All IsBounded words.now.wants.items }
     requires alone { ForSome words.now.page (λ _. words.now.piece ≡ None) }
@@ -102,7 +100,6 @@ fn store_table<'a, F: Files, P: Write>(
     progress: &mut P,
 ) -> Result<String, Failure<'a>>
     requires asked { IsAskedFor words.now.plan }
-    requires width { ForSome words.now.until (λ width. width ≤ 100) }
     requires piece { ForSome words.now.piece IsPiece }
     requires wants { All IsBounded words.now.wants.items }
     requires judged { AreAccepted (view prepared.now.marked.document) words.now.plan }
@@ -134,7 +131,6 @@ fn fill_table<T: Write, P: Write>(
     progress: &mut P,
 ) -> (Put<T>, Result<String, Fault>)
     requires asked { IsAskedFor words.now.plan }
-    requires width { ForSome words.now.until (λ width. width ≤ 100) }
     requires piece { ForSome words.now.piece IsPiece }
     requires wants { All IsBounded words.now.wants.items }
     requires judged { AreAccepted (view prepared.now.marked.document) words.now.plan }
@@ -175,7 +171,6 @@ fn tell_asked<S: Sink, P: Progress>(
     table: &mut S,
 ) -> Result<String, Fault>
     requires asked { IsAskedFor words.now.plan }
-    requires width { ForSome words.now.until (λ width. width ≤ 100) }
     requires piece { ForSome words.now.piece IsPiece }
     requires wants { All IsBounded words.now.wants.items }
     requires judged { AreAccepted (view prepared.now.marked.document) words.now.plan }
@@ -272,11 +267,10 @@ fn tell_runs<S: Sink, P: Progress>(
 ) -> Result<String, Fault>
     requires wants { All IsBounded words.now.wants.items }
     requires asked { IsAskedFor words.now.plan }
-    requires width { ForSome words.now.until (λ width. width ≤ 100) }
     requires judged { AreAccepted (view prepared.now.marked.document) words.now.plan }
     requires countable { S.failed table.old < 2 ^ 63 }
     ensures whole { IfOk result (λ lines. MakesLines (view prepared.now.marked.document) words.now (S.held table.old) (S.held table.new) (string_bytes lines)) }
-    ensures part { OnErr result (BeginsRuns words.now.until (view prepared.now.marked.document) words.now.plan (S.held table.old) (S.held table.new)) }
+    ensures part { OnErr result (BeginsRuns words.now.plan.until (view prepared.now.marked.document) words.now.plan (S.held table.old) (S.held table.new)) }
     ensures causes { IfErr result (HasCause (view prepared.now.marked.document) words.now.plan) }
 {
     let document = &prepared.marked.document;
