@@ -94,15 +94,18 @@ DoesJoin release words before after making lines = (join : JoinWords) × AsksFor
 abbrev pub IsPiecesPage : List ℕ → PageWords → Sweep → List CaseSummary → List ℕ → Type 0
 IsPiecesPage release page plan cases text = IsSweepPage (scenario_name page.name (name_at page.files.items page.page 0)).now release plan cases text
 
--- the pieces in the files were put together, and a page of the cases was stored; the table was not
+-- a page of the cases was stored
+abbrev pub StoresPage : List ℕ → Shelf → Shelf → Making → PageWords → Sweep → List CaseSummary → Type 0
+StoresPage release before after making page plan cases = (shown : List ℕ) × IsPiecesPage release page plan cases shown
+    × Stores before after making (name_at page.files.items page.page 0).now page.page.now shown
+
+-- the pieces in the files were put together, and a page of the cases was stored; their table was not
 pub record PagesAll (release : List ℕ) (before after : Shelf) (making : Making) (page : PageWords) : Type 0 where
   pub plan : Sweep
   pub revived : Bool
   pub cases : List CaseSummary
   pub gathered : GathersCases before page.files.items None None plan revived cases
-  pub shown : List ℕ
-  pub is : IsPiecesPage release page plan cases shown
-  pub stored : Stores before after making (name_at page.files.items page.page 0).now page.page.now shown
+  pub stored : StoresPage release before after making page plan cases
 
 -- the page that the words ask for was made
 abbrev pub DoesPage : List ℕ → List Text → Shelf → Shelf → Making → Type 0
@@ -196,16 +199,20 @@ JoinFails before after making join failure =
 abbrev pub DoesNotJoin : List Text → Shelf → Shelf → Making → Failure → Type 0
 DoesNotJoin words before after making failure = (join : JoinWords) × AsksForJoin words join × JoinFails before after making join failure
 
--- the pieces were put together, but memory was refused to a page of their cases, or it was not stored
+-- no page of the cases was stored whole: memory was refused to it, or so
+abbrev pub FailsToStorePage : List ℕ → Shelf → Shelf → Making → PageWords → Sweep → List CaseSummary → Failure → Type 0
+FailsToStorePage release before after making page plan cases failure = IsWant before after failure
+    ⊎ ((shown : List ℕ) × IsPiecesPage release page plan cases shown
+    × FailsToStore before after making (name_at page.files.items page.page 0).now page.page.now shown failure)
+
+-- the pieces were put together, but no page of their cases was stored
 pub record PagesNone (before after : Shelf) (making : Making) (page : PageWords) (failure : Failure) : Type 0 where
   pub release : List ℕ
   pub plan : Sweep
   pub revived : Bool
   pub cases : List CaseSummary
   pub gathered : GathersCases before page.files.items None None plan revived cases
-  pub failed : IsWant before after failure
-      ⊎ ((shown : List ℕ) × IsPiecesPage release page plan cases shown
-      × FailsToStore before after making (name_at page.files.items page.page 0).now page.page.now shown failure)
+  pub failed : FailsToStorePage release before after making page plan cases failure
 
 -- why no page was made of pieces: the first cause
 abbrev pub PageFails : Shelf → Shelf → Making → PageWords → Failure → Type 0

@@ -52,6 +52,7 @@ fn gather_whole<'a, F: Files>(
     ensures gathered { IfOk result
         (λ whole. GathersCases (F.known files.old) words.now.files.items (Some []) (Some whole.table.items)
         whole.joined.plan whole.joined.revived whole.joined.cases.items) }
+    ensures few { IfOk result (λ whole. All HasFewRuns whole.joined.cases.items) }
     ensures failed { IfErr result (FailsToGather (F.known files.old) words.now.files.items words.now.table) }
     ensures same { F.known files.new ≡ F.known files.old }
     ensures making { F.making files.new ≡ F.making files.old }

@@ -2,7 +2,7 @@
 ghost use Rattle.std.specs.Prelude.{◌≡◌, IfOk, IfErr, OnOk, length, string_bytes};
 ghost use Rattle.cases.specs.Sweep.{case_count};
 ghost use Rattle.case_telling.specs.Telling.{IsSweepPage};
-ghost use Rattle.join_command.specs.Outcomes.{PageFails, PagesAll, scenario_name};
+ghost use Rattle.join_command.specs.Outcomes.{FailsToStorePage, PageFails, PagesAll, StoresPage, scenario_name};
 
 use crate::reading::{gather, name_at};
 use crate::storing::store;
@@ -27,10 +27,32 @@ pub fn page_files<'a, F: Files>(
     ensures failed { IfErr result (PageFails (F.known files.old) (F.known files.new) (F.making files.old) words.now) }
 {
     let mut nowhere = Put::new(io::sink());
-    let names = words.files.as_slice();
-    let joined = gather(alloc, names, words.page, files, &mut nowhere)?;
-    let source = name_at(names, words.page, 0);
-    let text = page_of(alloc, release, words.name, source, &joined)?;
+    let joined = gather(
+        alloc,
+        words.files.as_slice(),
+        words.page,
+        files,
+        &mut nowhere,
+    )?;
+    store_page(alloc, release, words, &joined, files)
+}
+
+/// Writes a page of the cases to the file that the words name.
+fn store_page<'a, F: Files>(
+    alloc: Global,
+    release: &Release<'_>,
+    words: &PageWords<'a>,
+    joined: &Joined,
+    files: &mut F,
+) -> Result<(), Failure<'a>>
+    requires all { length joined.now.cases.items ≡ case_count joined.now.plan.settings }
+    ensures done { OnOk result (StoresPage release.now.version.now (F.known files.old) (F.known files.new) (F.making files.old) words.now
+        joined.now.plan joined.now.cases.items) }
+    ensures failed { IfErr result (FailsToStorePage release.now.version.now (F.known files.old) (F.known files.new) (F.making files.old) words.now
+        joined.now.plan joined.now.cases.items) }
+{
+    let source = name_at(words.files.as_slice(), words.page, 0);
+    let text = page_of(alloc, release, words.name, source, joined)?;
     store(source, words.page, text.as_bytes(), files)
 }
 
@@ -44,7 +66,7 @@ pub(crate) fn page_of(
 ) -> Result<String, Failure<'static>>
     requires all { length joined.now.cases.items ≡ case_count joined.now.plan.settings }
     ensures page { IfOk result
-        (λ text. IsSweepPage (scenario_name name source).now release.now.version.now joined.now.plan joined.now.cases.items (string_bytes text)) }
+        (λ text. IsSweepPage (scenario_name name.entry source.entry).now release.now.version.now joined.now.plan joined.now.cases.items (string_bytes text)) }
     ensures refused { IfErr result (λ failure. failure ≡ Failure.Memory) }
 {
     let shown = SweepShown {

@@ -1,5 +1,6 @@
 //! The pieces in files, put together.
-ghost use Rattle.std.specs.Prelude.{◌≡◌, ◌<◌, ◌^◌, IfOk, IfErr};
+ghost use Rattle.std.specs.Prelude.{◌≡◌, ◌<◌, ◌^◌, All, IfOk, IfErr};
+ghost use Rattle.answers.specs.Wants.{HasFewRuns};
 ghost use Rattle.joins.specs.Joined.{Joins};
 ghost use Rattle.join_command.specs.Outcomes.{FailsToGather, FailsToRead, GathersCases, HoldTexts, RefusesPieces, name_at, piece_failure};
 
@@ -22,6 +23,7 @@ pub(crate) fn gather<'a, F: Files, S: Sink>(
     requires countable { S.failed table.old < 2 ^ 63 }
     ensures gathered { IfOk result
         (λ joined. GathersCases (F.known files.old) names.now (S.held table.old) (S.held table.new) joined.plan joined.revived joined.cases.items) }
+    ensures few { IfOk result (λ joined. All HasFewRuns joined.cases.items) }
     ensures failed { IfErr result (FailsToGather (F.known files.old) names.now otherwise.entry) }
     ensures same { F.known files.new ≡ F.known files.old }
     ensures making { F.making files.new ≡ F.making files.old }
@@ -62,6 +64,7 @@ fn join_texts<'a, S: Sink>(
     requires countable { S.failed table.old < 2 ^ 63 }
     ensures joined { IfOk result
         (λ joined. Joins texts.now (S.held table.old) (S.held table.new) joined.plan joined.revived joined.cases.items) }
+    ensures few { IfOk result (λ joined. All HasFewRuns joined.cases.items) }
     ensures refused { IfErr result (RefusesPieces names.now otherwise.entry texts.now) }
 {
     match join(alloc, texts, table) {

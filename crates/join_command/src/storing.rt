@@ -1,5 +1,5 @@
 //! The files that take the table of a whole sweep and a page of its cases.
-ghost use Rattle.std.specs.Prelude.{◌≡◌, ◌×◌, ◌<◌, ◌^◌, IfErr, OnErr, OnOk};
+ghost use Rattle.std.specs.Prelude.{◌≡◌, ◌<◌, ◌^◌, IfErr, OnErr, OnOk};
 ghost use Rattle.std.specs.Io.KnownBytes.{Appends};
 ghost use Rattle.base.specs.declared.fault.Fault.TheVariants as cause;
 ghost use Rattle.trace.specs.Sinks.{AppendsBeginning};
