@@ -12,7 +12,7 @@ use command_line::{
 };
 use explain_command::explain_file;
 use files::Files;
-use join_command::join_files;
+use join_command::{join_files, page_files};
 use run_command::run;
 use scenario_files::load;
 use std::alloc::Global;
@@ -43,8 +43,8 @@ pub fn command<S: AsStr, F: Files, O: Write, E: Write, P: Write>(
     // Status 0: what the words ask for was done. A run has left its trace in the file of that name, its
     // report and its page where they are asked for, and told standard output the number of its rows; a check, the number
     // of members; an explanation, what the scenario means; a sweep has left its table and its page, and told the lines of its cases, unless it
-    // is a piece; a preset's scenario was told; pieces that were joined have left the table of the whole, and told those lines; who
-    // asks for the version was told the line of this release.
+    // is a piece; a preset's scenario was told; pieces that were joined have left the table of the whole and its page, and told those
+    // lines; a page of pieces was left, and nothing told; who asks for the version was told the line of this release.
     ensures done { result ≡ 0 → HasDone release.now (map S.text words.now) (F.known files.old) (F.known files.new) (F.making files.old)
         (O.contents out.old) (O.contents out.new) }
 
@@ -113,8 +113,9 @@ fn perform<'a, S: AsStr, F: Files, O: Write, P: Write>(
         }
         Asked::Init(preset) => print_preset(alloc, preset, out),
         Asked::Join(words) => {
-            let joined = join_files(alloc, &words, files)?;
+            let joined = join_files(alloc, release, &words, files)?;
             print_text(joined.as_str(), out)
         }
+        Asked::Page(words) => page_files(alloc, release, &words, files),
     }
 }
