@@ -158,6 +158,17 @@ def check_error(program, words, status):
     expect('status without standard error', without(program, words, '2>&-').status, status)
 
 
+def check_untold(program, words):
+    """Runs long with a standard error that takes no line of how far the run has come: all is done as without."""
+    program.keep('s.toml', of('two-members', 'toml').replace(b'end = 3', b'end = 2100000000'))
+    run = ['run', 's.toml', '--trace', '/dev/null', *words]
+    expect_ran(program.call(run), 0, b'rows 8400002\n', b'')
+    held = [program.held(name) for name in ('r.txt', 'p.html')]
+    program.keep('r.txt', 'an older report\n')
+    expect_ran(without(program, [*run, '--progress'], '2>/dev/full'), 0, b'rows 8400002\n', b'')
+    expect('the files', [program.held(name) for name in ('r.txt', 'p.html')], held)
+
+
 def rooms(length):
     """The sizes from 0 to past the length, some at a time."""
     for start in range(0, length + 2, STEP):
@@ -209,6 +220,8 @@ def output_cases():
     for words, status in ((['check', 'absent'], 1), (['check'], 2), ([*run, '--workers', '0'], 4),
                           (['run', 's.toml', '--trace', '/dev/full'], 5), (['check', 's.toml'], 0)):
         yield Case(f'writes: error output of {words}', check_error, (words, status))
+    for words in (['--report', 'r.txt'], ['--report', 'r.txt', '--page', 'p.html', '--workers', '2']):
+        yield Case(f'writes: untold, {words}', check_untold, (words,))
 
 
 def cases():

@@ -4,34 +4,37 @@ use Rattle.std.proofs.lemmas.Bool.{false≢true}
 use Rattle.std.proofs.lemmas.Option.{none-some, same_Some}
 use Rattle.std.proofs.lemmas.Result.{on_ok_weaker, IfErr-weaker}
 use Rattle.std.proofs.lemmas.List.Elements.{All-cons, All-nil}
-use Rattle.std.specs.Prelude.{◌≤◌, ◌&&◌, All, is_none, not, unwrap_or}
+use Rattle.std.specs.Prelude.{◌≤◌, ◌||◌, All, is_none, not, unwrap_or}
 use Rattle.std.specs.Result.{OnOk, IfErr}
 use Rattle.std.specs.Option.{ForSome}
 use Rattle.std.specs.Io.KnownBytes.{Appends}
 use Rattle.clap.specs.Words.{Text, all_of, first_of}
 use Rattle.scenario_files.specs.Shelves.{Shelf}
-use Rattle.join_command.specs.Outcomes.{JoinFails, JoinsAll}
-use Rattle.join_command.proofs.Causes.{join_item, join_memory, join_mistaken, join_output, join_preset, join_usage}
+use Rattle.trace.proofs.Beginnings.{Keeps-same}
+use Rattle.arguments.specs.Rules.{is_given}
+use Rattle.join_command.specs.Outcomes.{JoinFails, JoinsAll, PageFails, PagesAll}
+use Rattle.join_command.proofs.Causes.{join_ends, join_memory, page_ends, page_memory}
 use Rattle.explain_command.specs.Outcomes.{ExplainFails, PrintsMeaning}
 use Rattle.run_command.specs.Outcomes.{RunFails, RunsAll}
 use Rattle.run_command.proofs.Causes.{run_item, run_memory, run_mistaken, run_output, run_preset, run_usage}
-use Rattle.sweep_command.specs.Outcomes.{AsksForProgress, SweepFails, SweepsAll}
+use Rattle.sweep_command.specs.Outcomes.{SweepFails, SweepsAll}
 use Rattle.sweep_command.proofs.Causes.{sweep_memory, sweep_mistaken, sweep_output, sweep_preset, sweep_usage}
 use Rattle.pieces.specs.declared.piece.Piece.{Piece}
 use Rattle.pieces.specs.Pieces.{IsPiece}
 use Rattle.answers.specs.Wants.{IsBounded}
 use Rattle.answers.specs.Words.{AreWants}
 use Rattle.answers.specs.declared.want.Want.{Want}
-use Rattle.cli.specs.Outcomes.{CheckFails, EndsRunBy, HasDone, Fails}
+use Rattle.cli.specs.Outcomes.{AsksForProgress, CheckFails, EndsRunBy, HasDone, Fails}
 use Rattle.files.specs.Files.{Making}
 use Rattle.command_line.specs.Printed.{rows_line, PresetFails, PrintsPreset}
-use Rattle.command_line.specs.Words.{Answers, AsksForRun, AsksForCheck, AsksForExplain, AsksForInit, AsksForJoin, AsksForPiece, AsksForSweep, AsksForWidth, IsCommand, go_together}
+use Rattle.command_line.specs.Words.{Answers, AsksForRun, AsksForCheck, AsksForExplain, AsksForInit, AsksForJoin, AsksForPage, AsksForPiece, AsksForSweep, AsksForWidth, IsCommand, go_together}
 use Rattle.command_line.specs.declared.release.Release.{Release}
 use Rattle.command_line.specs.declared.words.Asked.{Asked}
 use Rattle.command_line.specs.declared.words.Asked.TheVariants as asked
 use Rattle.presets.specs.declared.preset.Preset.{Preset}
 use Rattle.command_line.specs.declared.explaining.ExplainWords.{ExplainWords}
 use Rattle.command_line.specs.declared.joining.JoinWords.{JoinWords}
+use Rattle.command_line.specs.declared.paging.PageWords.{PageWords}
 use Rattle.command_line.specs.declared.words.RunWords.{RunWords}
 use Rattle.command_line.specs.declared.words.SweepWords.{SweepWords}
 use Rattle.command_line.specs.declared.failure.Failure.{Failure}
@@ -46,8 +49,9 @@ is_command words (asked.Explain explain) h = inr (inr (inl (explain, h)))
 is_command words (asked.Sweep sweep) h = inr (inr (inr (inl (sweep, h))))
 is_command words (asked.Init preset) h = inr (inr (inr (inr (inl (preset, h)))))
 is_command words (asked.Join join) h = inr (inr (inr (inr (inr (inl (join, h))))))
-is_command words (asked.Help help) h = inr (inr (inr (inr (inr (inr (inl h.1))))))
-is_command words asked.Version h = inr (inr (inr (inr (inr (inr (inr h))))))
+is_command words (asked.Page page) h = inr (inr (inr (inr (inr (inr (inl (page, h)))))))
+is_command words (asked.Help help) h = inr (inr (inr (inr (inr (inr (inr (inl h.1)))))))
+is_command words asked.Version h = inr (inr (inr (inr (inr (inr (inr (inr h)))))))
 
 -- why a run that the words ask for was not done
 pub run_fails : (words : List Text) (before after : Shelf) (making : Making) (old new : Option (List ℕ)) (run : RunWords) (version : List ℕ) (failure : Failure)
@@ -163,6 +167,17 @@ asked_run_done release words before after making old new answer run count printe
     let asks : Answers words (asked.Run run) = subst (Answers words) is h in
     on_ok_weaker printed (λ appended. inl (count, (run, asks, ran), appended)) told
 
+-- where the words ask for nothing that tells how far it has come, this run doesn't
+pub asked_run_untold : (words : List Text) (answer : Asked) (run : RunWords) → answer ≡ asked.Run run → Answers words answer
+    → ¬ (AsksForProgress words) → run.progress ≡ false
+asked_run_untold words answer run is h none = go run.progress refl
+  where
+    go : (told : Bool) → run.progress ≡ told → run.progress ≡ false
+    go false e = e
+    go true e =
+        let asks : Answers words (asked.Run run) = subst (Answers words) is h in
+        absurd (none (inl (run, asks, e)))
+
 -- the same of an answer that is a sweep
 pub asked_sweep_fails : (words : List Text) (before after : Shelf) (making : Making) (old new : Option (List ℕ)) (answer : Asked) (sweep : SweepWords) (failure : Failure)
     → answer ≡ asked.Sweep sweep → Answers words answer → SweepFails before after making sweep failure → Fails words before after making old new failure
@@ -186,7 +201,7 @@ asked_sweep_done release words before after making old new answer sweep lines sh
     let asks : Answers words (asked.Sweep sweep) = subst (Answers words) is h in
     on_ok_weaker printed (λ appended. inr (inr (inr (inl (lines, (sweep, asks, swept), subst (Appends old new) same appended))))) told
 
--- where the words ask for no sweep that tells how far it has come, this one doesn't
+-- where the words ask for nothing that tells how far it has come, this sweep doesn't
 pub asked_untold : (words : List Text) (answer : Asked) (sweep : SweepWords) → answer ≡ asked.Sweep sweep → Answers words answer
     → ¬ (AsksForProgress words) → sweep.progress ≡ false
 asked_untold words answer sweep is h none = go sweep.progress refl
@@ -195,7 +210,7 @@ asked_untold words answer sweep is h none = go sweep.progress refl
     go false e = e
     go true e =
         let asks : Answers words (asked.Sweep sweep) = subst (Answers words) is h in
-        absurd (none (sweep, asks, e))
+        absurd (none (inr (sweep, asks, e)))
 
 -- the piece that a sweep names is sound
 piece_sound : (word : Option Text) (piece : Option Piece) → AsksForPiece word piece → (p : Piece) → piece ≡ Some p → IsPiece p
@@ -223,30 +238,25 @@ asked_alone words answer sweep is h page named =
     alone (first_of (codes "shard") asks.1.rows) (first_of (codes "page") asks.1.rows) _ _ _ sweep.piece asks.1.sense page.now
     (asks.1.page ∙ ap (option_map (λ (word : Bor Text). word.now)) named) asks.1.piece
 
--- of no piece is it asked to give cases fewer seeds
-no_width : (until : Option Text) (jsonl : Bool) (width : Option ℕ) → (is_none until && not jsonl) ≡ true → AsksForWidth until width → width ≡ None
-no_width None jsonl None sense asks = refl
-no_width None jsonl (Some w) sense asks = absurd asks
-no_width (Some word) jsonl width sense asks = absurd (false≢true sense)
+-- no piece goes on whose cases may get fewer seeds
+no_width : (until : Option Text) (width : Option ℕ) → (is_none until || false) ≡ true → AsksForWidth until width → width ≡ None
+no_width None None sense asks = refl
+no_width None (Some w) sense asks = absurd asks
+no_width (Some word) width sense asks = absurd (false≢true sense)
 
-all_seeds : (shard page until : Option Text) (resume jsonl : Bool) (piece : Option Piece) (width : Option ℕ) → go_together shard page until resume jsonl ≡ true
-    → AsksForPiece shard piece → AsksForWidth until width → (p : Piece) → piece ≡ Some p → width ≡ None
-all_seeds None page until resume jsonl None width sense asks wide p is = absurd (none-some p is)
-all_seeds None page until resume jsonl (Some q) width sense asks wide p is = absurd asks
-all_seeds (Some word) None until resume jsonl piece width sense asks wide p is = no_width until jsonl width sense wide
-all_seeds (Some word) (Some page) until resume jsonl piece width sense asks wide p is = absurd (false≢true sense)
+all_seeds : (shard page until : Option Text) (jsonl : Bool) (width : Option ℕ) → go_together shard page until true jsonl ≡ true → AsksForWidth until width → width ≡ None
+all_seeds None page until jsonl width sense wide = absurd (false≢true sense)
+all_seeds (Some word) (Some page) until jsonl width sense wide = absurd (false≢true sense)
+all_seeds (Some word) None until true width sense wide = absurd (false≢true sense)
+all_seeds (Some word) None until false width sense wide = no_width until width sense wide
 
-pub asked_seeds : (words : List Text) (answer : Asked) (sweep : SweepWords) → answer ≡ asked.Sweep sweep → Answers words answer → ForSome sweep.piece (λ _. sweep.until ≡ None)
-asked_seeds words answer sweep is h p named =
+pub asked_seeds : (words : List Text) (answer : Asked) (sweep : SweepWords) → answer ≡ asked.Sweep sweep → Answers words answer → sweep.resume ≡ true → sweep.plan.until ≡ None
+asked_seeds words answer sweep is h resumed =
     let asks : Answers words (asked.Sweep sweep) = subst (Answers words) is h in
-    all_seeds (first_of (codes "shard") asks.1.rows) (first_of (codes "page") asks.1.rows) (first_of (codes "until") asks.1.rows) _ _ sweep.piece sweep.until asks.1.sense
-    asks.1.piece asks.1.until p named
-
--- how wide an interval may be is bounded
-pub asked_width : (words : List Text) (answer : Asked) (sweep : SweepWords) → answer ≡ asked.Sweep sweep → Answers words answer → ForSome sweep.until (λ width. width ≤ 100)
-asked_width words answer sweep is h =
-    let asks : Answers words (asked.Sweep sweep) = subst (Answers words) is h in
-    asks.1.most
+    all_seeds (first_of (codes "shard") asks.1.rows) (first_of (codes "page") asks.1.rows) (first_of (codes "until") asks.1.rows) _ sweep.plan.until
+    (subst (λ (b : Bool). go_together (first_of (codes "shard") asks.1.rows) (first_of (codes "page") asks.1.rows) (first_of (codes "until") asks.1.rows) b (is_given (first_of (codes "jsonl") asks.1.rows)) ≡ true)
+    (asks.1.resume ∙ resumed) asks.1.sense)
+    asks.1.plan.width
 
 -- what a sweep wants is bounded
 wants_bounded : (words : List Text) (wants : List Want) → AreWants words wants → All IsBounded wants
@@ -260,21 +270,26 @@ asked_wants words answer sweep is h =
     let asks : Answers words (asked.Sweep sweep) = subst (Answers words) is h in
     wants_bounded (unwrap_or (all_of (codes "want") asks.1.rows) []) sweep.wants.items asks.1.wants
 
+pub joined_wants : (words : List Text) (answer : Asked) (join : JoinWords) → answer ≡ asked.Join join → Answers words answer → All IsBounded join.wants.items
+joined_wants words answer join is h =
+    let asks : Answers words (asked.Join join) = subst (Answers words) is h in
+    wants_bounded (unwrap_or (all_of (codes "want") asks.1.rows) []) join.wants.items asks.1.wants
+
 -- why pieces that the words ask to join were not put together
 join_fails : (words : List Text) (before after : Shelf) (making : Making) (old new : Option (List ℕ)) (join : JoinWords) (failure : Failure)
     → AsksForJoin words join → JoinFails before after making join failure → Fails words before after making old new failure
-join_fails words before after making old new join (File name) asks fails = inr (inr (inr (inr (join, asks, fails))))
-join_fails words before after making old new join (Rule rule) asks fails = inr (inr (inr (inr (join, asks, fails))))
-join_fails words before after making old new join (Mistaken rule) asks fails = absurd (join_mistaken before after making join rule fails)
-join_fails words before after making old new join (Case rule settings) asks fails = inr (inr (inr (inr (join, asks, fails))))
-join_fails words before after making old new join (Pieces cause) asks fails = inr (inr (inr (inr (join, asks, fails))))
-join_fails words before after making old new join Workers asks fails = inr (inr (inr (inr (join, asks, fails))))
-join_fails words before after making old new join (Division cause) asks fails = inr (inr (inr (inr (join, asks, fails))))
-join_fails words before after making old new join (Run cause) asks fails = inr (inr (inr (inr (join, asks, fails))))
-join_fails words before after making old new join failing.Preset asks fails = absurd (join_preset before after making join fails)
-join_fails words before after making old new join Usage asks fails = absurd (join_usage before after making join fails)
-join_fails words before after making old new join (NoItem key) asks fails = absurd (join_item before after making join key fails)
-join_fails words before after making old new join Output asks fails = absurd (join_output before after making join fails)
+join_fails words before after making old new join (File name) asks fails = inr (inr (inr (inr (inl (join, asks, fails)))))
+join_fails words before after making old new join (Rule rule) asks fails = inr (inr (inr (inr (inl (join, asks, fails)))))
+join_fails words before after making old new join (Case rule settings) asks fails = inr (inr (inr (inr (inl (join, asks, fails)))))
+join_fails words before after making old new join (Pieces cause) asks fails = inr (inr (inr (inr (inl (join, asks, fails)))))
+join_fails words before after making old new join Workers asks fails = inr (inr (inr (inr (inl (join, asks, fails)))))
+join_fails words before after making old new join (Division cause) asks fails = inr (inr (inr (inr (inl (join, asks, fails)))))
+join_fails words before after making old new join (Run cause) asks fails = inr (inr (inr (inr (inl (join, asks, fails)))))
+join_fails words before after making old new join (Mistaken rule) asks fails = absurd (join_ends before after making join (Mistaken rule) fails)
+join_fails words before after making old new join failing.Preset asks fails = absurd (join_ends before after making join failing.Preset fails)
+join_fails words before after making old new join Usage asks fails = absurd (join_ends before after making join Usage fails)
+join_fails words before after making old new join (NoItem key) asks fails = absurd (join_ends before after making join (NoItem key) fails)
+join_fails words before after making old new join Output asks fails = absurd (join_ends before after making join Output fails)
 join_fails words before after making old new join Memory asks fails = join_memory before after making join fails
 
 -- the same of an answer that asks to join
@@ -286,19 +301,52 @@ asked_join_fails words before after making old new answer join failure is h fail
 
 -- pieces that the words ask to join were put together, and the lines of the cases printed
 pub asked_join_done : {E : Type 0} (release : Release) (words : List Text) (before after : Shelf) (making : Making) (old new : Option (List ℕ)) (answer : Asked) (join : JoinWords)
-    (lines shown : List ℕ) (printed : Result (Unit {0}) E) → answer ≡ asked.Join join → Answers words answer → JoinsAll before after making join lines
+    (lines shown : List ℕ) (printed : Result (Unit {0}) E) → answer ≡ asked.Join join → Answers words answer → JoinsAll release.version.now before after making join lines
     → shown ≡ lines → OnOk printed (Appends old new shown) → OnOk printed (HasDone release words before after making old new)
 asked_join_done release words before after making old new answer join lines shown printed is h joined same told =
     let asks : Answers words (asked.Join join) = subst (Answers words) is h in
     on_ok_weaker printed (λ appended. inr (inr (inr (inr (inr (inl (lines, (join, asks, joined), subst (Appends old new) same appended))))))) told
 
 -- or not printed
-pub asked_join_unprinted : (words : List Text) (before after : Shelf) (making : Making) (old new : Option (List ℕ)) (answer : Asked) (join : JoinWords) (lines : List ℕ)
-    (printed : Result (Unit {0}) Failure) → answer ≡ asked.Join join → Answers words answer → JoinsAll before after making join lines
+pub asked_join_unprinted : (version : List ℕ) (words : List Text) (before after : Shelf) (making : Making) (old new : Option (List ℕ)) (answer : Asked) (join : JoinWords) (lines : List ℕ)
+    (printed : Result (Unit {0}) Failure) → answer ≡ asked.Join join → Answers words answer → JoinsAll version before after making join lines
     → IfErr printed (λ failure. failure ≡ Output) → IfErr printed (Fails words before after making old new)
-asked_join_unprinted words before after making old new answer join lines printed is h joined told =
+asked_join_unprinted version words before after making old new answer join lines printed is h joined told =
     let asks : Answers words (asked.Join join) = subst (Answers words) is h in
-    IfErr-weaker printed _ _ (λ failure same. subst (Fails words before after making old new) (sym same) (inr (inr (inr (inr (inr (inl (lines, (join, asks, joined))))))))) told
+    IfErr-weaker printed _ _ (λ failure same. subst (Fails words before after making old new) (sym same) (inr (inr (inr (inr (inr (inl (version, lines, (join, asks, joined))))))))) told
+
+-- why the page that the words ask for was not made
+page_fails : (words : List Text) (before after : Shelf) (making : Making) (old new : Option (List ℕ)) (page : PageWords) (failure : Failure)
+    → AsksForPage words page → PageFails before after making page failure → Fails words before after making old new failure
+page_fails words before after making old new page (File name) asks fails = inr (inr (inr (inr (inr (page, asks, fails)))))
+page_fails words before after making old new page (Rule rule) asks fails = inr (inr (inr (inr (inr (page, asks, fails)))))
+page_fails words before after making old new page (Case rule settings) asks fails = inr (inr (inr (inr (inr (page, asks, fails)))))
+page_fails words before after making old new page (Pieces cause) asks fails = inr (inr (inr (inr (inr (page, asks, fails)))))
+page_fails words before after making old new page Workers asks fails = inr (inr (inr (inr (inr (page, asks, fails)))))
+page_fails words before after making old new page (Division cause) asks fails = inr (inr (inr (inr (inr (page, asks, fails)))))
+page_fails words before after making old new page (Run cause) asks fails = inr (inr (inr (inr (inr (page, asks, fails)))))
+page_fails words before after making old new page (Mistaken rule) asks fails = absurd (page_ends before after making page (Mistaken rule) fails)
+page_fails words before after making old new page failing.Preset asks fails = absurd (page_ends before after making page failing.Preset fails)
+page_fails words before after making old new page Usage asks fails = absurd (page_ends before after making page Usage fails)
+page_fails words before after making old new page (NoItem key) asks fails = absurd (page_ends before after making page (NoItem key) fails)
+page_fails words before after making old new page Output asks fails = absurd (page_ends before after making page Output fails)
+page_fails words before after making old new page Memory asks fails = page_memory before after making page fails
+
+-- the same of whatever came of it
+pub asked_page_failed : (words : List Text) (before after : Shelf) (making : Making) (old new : Option (List ℕ)) (answer : Asked) (page : PageWords)
+    (done : Result (Unit {0}) Failure) → answer ≡ asked.Page page → Answers words answer → IfErr done (PageFails before after making page)
+    → IfErr done (Fails words before after making old new)
+asked_page_failed words before after making old new answer page done is h failed =
+    let asks : Answers words (asked.Page page) = subst (Answers words) is h in
+    IfErr-weaker done _ _ (λ failure fails. page_fails words before after making old new page failure asks fails) failed
+
+-- the page was made, and nothing was printed
+pub asked_page_done : {E : Type 0} (release : Release) (words : List Text) (before after : Shelf) (making : Making) (held : Option (List ℕ)) (answer : Asked) (page : PageWords)
+    (done : Result (Unit {0}) E) → answer ≡ asked.Page page → Answers words answer → OnOk done (PagesAll release.version.now before after making page)
+    → OnOk done (HasDone release words before after making held held)
+asked_page_done release words before after making held answer page done is h paged =
+    let asks : Answers words (asked.Page page) = subst (Answers words) is h in
+    on_ok_weaker done (λ pages. inr (inr (inr (inr (inr (inr (inl ((page, asks, pages), Keeps-same held)))))))) paged
 
 -- the scenario of a preset that the words ask for was printed
 pub asked_init_done : {E : Type 0} (release : Release) (words : List Text) (before : Shelf) (making : Making) (old new : Option (List ℕ)) (answer : Asked) (preset : Preset)

@@ -1,6 +1,6 @@
 -- What a command has done once it ends: on standard output, and in the files as far as they tell.
 use Rattle.std.specs.Prelude.{◌≡◌, ◌≢◌, ◌⊎◌, ℕ, ◌≤◌, List, Option, Ok}
-use Rattle.std.specs.Io.KnownBytes.{Appends}
+use Rattle.std.specs.Io.KnownBytes.{Appends, Keeps}
 use Rattle.base.specs.declared.fault.Fault.{Fault}
 use Rattle.base.specs.declared.fault.Fault.TheVariants as fault
 use Rattle.scenario.specs.Setup.{Setup, member_count}
@@ -19,10 +19,14 @@ use Rattle.command_line.specs.declared.failure.Failure.TheVariants.{Usage, Prese
 use Rattle.presets.specs.declared.preset.Preset.{Preset as AnyPreset}
 use Rattle.scenario_files.specs.Shelves.{Shelf, IsRefused}
 use Rattle.scenario_files.specs.Loading.{HasVerdict, LoadFails}
-use Rattle.join_command.specs.Outcomes.{DoesJoin, DoesNotJoin}
+use Rattle.join_command.specs.Outcomes.{DoesJoin, DoesNotJoin, DoesNotPage, DoesPage}
 use Rattle.explain_command.specs.Outcomes.{ExplainFails, IsExplained, PrintsMeaning}
-use Rattle.run_command.specs.Outcomes.{DoesRun, RunFails}
-use Rattle.sweep_command.specs.Outcomes.{DoesSweep, DoesNotSweep}
+use Rattle.run_command.specs.Outcomes.{AsksForRunProgress, DoesRun, RunFails}
+use Rattle.sweep_command.specs.Outcomes.{AsksForProgress as AsksForSweepProgress, DoesSweep, DoesNotSweep}
+
+-- the words ask for a run or a sweep that tells how far it has come
+abbrev pub AsksForProgress : List Text → Type 0
+AsksForProgress words = AsksForRunProgress words ⊎ AsksForSweepProgress words
 
 -- ---- what was done
 
@@ -57,16 +61,17 @@ DoesVersion words before after = AsksForVersion words × (after ≡ before)
 
 -- what the words ask for was done: a run, and the number of its rows printed; a check, and the number of members
 -- printed; what a scenario means printed; a sweep, and the lines of its cases printed; a preset's scenario printed; pieces joined, and the lines of
--- the cases printed; help was printed; or the line that tells of this release
+-- the cases printed; a page of pieces made, and nothing printed; help was printed; or the line that tells of this release
 abbrev pub HasDone : Release → List Text → Shelf → Shelf → Making → Option (List ℕ) → Option (List ℕ) → Type 0
 HasDone release words before after making old new = ((count : ℕ) × DoesRun release.version.now words before after making count × Appends old new (rows_line count))
     ⊎ (((members : ℕ) × DoesCheck words before after members × Appends old new (members_line members))
     ⊎ (DoesExplain words before after old new
     ⊎ (((lines : List ℕ) × DoesSweep release.version.now words before after making lines × Appends old new lines)
     ⊎ (DoesInit words before after old new
-    ⊎ (((lines : List ℕ) × DoesJoin words before after making lines × Appends old new lines)
+    ⊎ (((lines : List ℕ) × DoesJoin release.version.now words before after making lines × Appends old new lines)
+    ⊎ ((DoesPage release.version.now words before after making × Keeps old new)
     ⊎ (DoesHelp words before after
-    ⊎ (DoesVersion words before after × Appends old new (release_line release))))))))
+    ⊎ (DoesVersion words before after × Appends old new (release_line release)))))))))
 
 -- a text tells of the scenario of the file that the words ask to explain
 abbrev pub Explains : List Text → Shelf → Shelf → Type 0
@@ -80,7 +85,7 @@ DoneUnprinted words before after making = ((version : List ℕ) × (count : ℕ)
     ⊎ (Explains words before after
     ⊎ (((version : List ℕ) × (lines : List ℕ) × DoesSweep version words before after making lines)
     ⊎ (HasPreset words before after
-    ⊎ (((lines : List ℕ) × DoesJoin words before after making lines)
+    ⊎ (((version : List ℕ) × (lines : List ℕ) × DoesJoin version words before after making lines)
     ⊎ (DoesHelp words before after ⊎ DoesVersion words before after))))))
 
 -- ---- what was not done
@@ -99,14 +104,15 @@ abbrev pub DoesNotExplain : List Text → Shelf → Shelf → Option (List ℕ) 
 DoesNotExplain words before after old new failure = (explain : ExplainWords) × AsksForExplain words explain
     × IsRefused before after (ExplainFails (before explain.file.now) explain old new failure)
 
--- why a run, a check, an explanation, a sweep or a joining that the words ask for was not done
+-- why a run, a check, an explanation, a sweep, a joining or a page of pieces that the words ask for was not done
 abbrev pub DoesNot : List Text → Shelf → Shelf → Making → Option (List ℕ) → Option (List ℕ) → Failure → Type 0
 DoesNot words before after making old new failure =
     ((run : RunWords) × AsksForRun words run × ((version : List ℕ) × RunFails EndsRunBy version before after making run failure))
     ⊎ (((file : Text) × AsksForCheck words file × CheckFails before after file failure)
     ⊎ (DoesNotExplain words before after old new failure
     ⊎ (DoesNotSweep words before after making failure
-    ⊎ DoesNotJoin words before after making failure)))
+    ⊎ (DoesNotJoin words before after making failure
+    ⊎ DoesNotPage words before after making failure))))
 
 -- why what the words ask for wasn't done
 abbrev pub Fails : List Text → Shelf → Shelf → Making → Option (List ℕ) → Option (List ℕ) → Failure → Type 0

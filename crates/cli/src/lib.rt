@@ -7,8 +7,8 @@ mod simulation;
 pub mod system;
 
 pub use command_line::{
-    Asked, ExplainWords, Failure, JoinWords, PieceFault, Release, RunWords, Split, SweepWords,
-    division_asked, parse, refuse, workers_asked,
+    Asked, ExplainWords, Failure, JoinWords, PageWords, PieceFault, Release, RunWords, Split,
+    SweepWords, division_asked, parse, refuse, workers_asked,
 };
 pub use files::{FileFault, Files, PairFault, ReadFault, TripleFault, testing};
 pub use page_runs::RunShown;

@@ -2,8 +2,8 @@
 ghost use Rattle.std.specs.Prelude.{◌≡◌, ◌≢◌, ◌⊎◌, ◌≤◌, map, IfErr, OnOk, IsErrOf};
 ghost use Rattle.command_line.specs.Failures.{IsMistaken};
 ghost use Rattle.command_line.specs.Words.{AsksToExplain, IsCommand, IsNoCommand};
-ghost use Rattle.sweep_command.specs.Outcomes.{AsksForProgress, SetsNoItem};
-ghost use Rattle.cli.specs.Outcomes.{HasDone, Fails, Ends};
+ghost use Rattle.sweep_command.specs.Outcomes.{SetsNoItem};
+ghost use Rattle.cli.specs.Outcomes.{AsksForProgress, HasDone, Fails, Ends};
 
 use crate::simulation::ByThreads;
 use command_line::{
@@ -12,7 +12,7 @@ use command_line::{
 };
 use explain_command::explain_file;
 use files::Files;
-use join_command::join_files;
+use join_command::{join_files, page_files};
 use run_command::run;
 use scenario_files::load;
 use std::alloc::Global;
@@ -26,7 +26,8 @@ use sweep_command::sweep_file;
 ///
 /// `rt` starts the threads of a run and lets them wait. `release` is what the program tells of itself. `words` are
 /// those of the command line without the program's name. A failure is told in one line on `err`, and `out` then gets nothing, unless it
-/// failed itself or gets the mistakes of a scenario. A sweep that is to tell how far it has come does so on `progress`, as far as that takes its lines.
+/// failed itself or gets the mistakes of a scenario. A run or a sweep that is to tell how far it has come does so on `progress`, as far as that takes
+/// its lines.
 pub fn command<S: AsStr, F: Files, O: Write, E: Write, P: Write>(
     rt: &(impl Threads + Wait + Sync),
     alloc: Global,
@@ -42,8 +43,8 @@ pub fn command<S: AsStr, F: Files, O: Write, E: Write, P: Write>(
     // Status 0: what the words ask for was done. A run has left its trace in the file of that name, its
     // report and its page where they are asked for, and told standard output the number of its rows; a check, the number
     // of members; an explanation, what the scenario means; a sweep has left its table and its page, and told the lines of its cases, unless it
-    // is a piece; a preset's scenario was told; pieces that were joined have left the table of the whole, and told those lines; who
-    // asks for the version was told the line of this release.
+    // is a piece; a preset's scenario was told; pieces that were joined have left the table of the whole and its page, and told those
+    // lines; a page of pieces was left, and nothing told; who asks for the version was told the line of this release.
     ensures done { result ≡ 0 → HasDone release.now (map S.text words.now) (F.known files.old) (F.known files.new) (F.making files.old)
         (O.contents out.old) (O.contents out.new) }
 
@@ -62,7 +63,7 @@ pub fn command<S: AsStr, F: Files, O: Write, E: Write, P: Write>(
     ensures silent { 2 ≤ result → ¬ (AsksToExplain (map S.text words.now)) ⊎ (result ≢ 3) → out.new ≡ out.old }
     ensures quiet { result ≡ 0 → err.new ≡ err.old }
 
-    // No words but those of a sweep that is to tell of it write to `progress`.
+    // No words but those of a run or a sweep that is to tell of it write to `progress`.
     ensures unasked { ¬ (AsksForProgress (map S.text words.now)) → progress.new ≡ progress.old }
 {
     match perform(rt, alloc, release, words, files, out, progress) {
@@ -98,7 +99,7 @@ fn perform<'a, S: AsStr, F: Files, O: Write, P: Write>(
         Asked::Help(help) => print_help(&help, out),
         Asked::Version => print_release(release, out),
         Asked::Run(words) => {
-            let summary = run(&ByThreads { rt }, alloc, release, words, files)?;
+            let summary = run(&ByThreads { rt }, alloc, release, words, files, progress)?;
             print_rows(summary.rows, out)
         }
         Asked::Check(file) => {
@@ -112,8 +113,9 @@ fn perform<'a, S: AsStr, F: Files, O: Write, P: Write>(
         }
         Asked::Init(preset) => print_preset(alloc, preset, out),
         Asked::Join(words) => {
-            let joined = join_files(alloc, &words, files)?;
+            let joined = join_files(alloc, release, &words, files)?;
             print_text(joined.as_str(), out)
         }
+        Asked::Page(words) => page_files(alloc, release, &words, files),
     }
 }

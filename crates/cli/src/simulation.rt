@@ -19,6 +19,7 @@ use std::io::Write;
 use std::sync::Wait;
 use std::thread::Threads;
 use trace::Put;
+use watched_runs::run_watched;
 
 /// What simulates a scenario by threads of the runtime.
 #[derive(Drop)]
@@ -34,44 +35,50 @@ impl<H: Threads + Wait + Sync> Simulator for ByThreads<'_, H> {
 
     ghost ends_by = { EndsRunBy };
 
-    fn simulate<T: Write, R: Write>(
+    fn simulate<T: Write, R: Write, W: Write>(
         &self,
         alloc: Global,
         scenario: &Scenario,
         division: &Division,
         workers: Workers,
+        watch: Option<&mut W>,
         trace: T,
         report: R,
     ) -> (Put<T>, Put<R>, Result<Summary, Fault>) {
-        simulate(self.rt, alloc, scenario, division, workers, trace, report)
+        simulate(
+            self.rt, alloc, scenario, division, workers, watch, trace, report,
+        )
     }
 
-    fn simulate_with_page<T: Write, R: Write, P: Write>(
+    fn simulate_with_page<T: Write, R: Write, P: Write, W: Write>(
         &self,
         alloc: Global,
         scenario: &Scenario,
         division: &Division,
         workers: Workers,
         shown: &RunShown<'_>,
+        watch: Option<&mut W>,
         trace: T,
         report: R,
         page: P,
     ) -> (Put<T>, Put<R>, Put<P>, Result<Summary, Fault>) {
         simulate_with_page(
-            self.rt, alloc, scenario, division, workers, shown, trace, report, page,
+            self.rt, alloc, scenario, division, workers, shown, watch, trace, report, page,
         )
     }
 }
 
 /// Runs a scenario by the parts of a division of its members and so many workers, writes its trace to one
 /// writer and then its report to the other, and gives both back, with the failures that were counted. After a
-/// fault they have got a beginning of that.
-pub fn simulate<T: Write, R: Write>(
+/// fault they have got a beginning of that. Where there is a `watch` it is told how far the run has come, as far as it takes
+/// that.
+pub fn simulate<T: Write, R: Write, W: Write>(
     rt: &(impl Threads + Wait + Sync),
     alloc: Global,
     scenario: &Scenario,
     division: &Division,
     workers: Workers,
+    watch: Option<&mut W>,
     trace: T,
     report: R,
 ) -> (Put<T>, Put<R>, Result<Summary, Fault>)
@@ -95,29 +102,48 @@ pub fn simulate<T: Write, R: Write>(
     ensures threads { IsErrOf result.2 Fault.Relay → 2 ≤ workers }
     ensures cause { IfErr result.2 (EndsRunBy scenario.now workers) }
 {
-    let mut trace = Put::new(trace);
-    let mut report = Put::new(report);
-    let outcome = run_shared(
-        rt,
-        alloc,
-        scenario,
-        division,
-        workers,
-        &mut trace,
-        &mut report,
-    );
-    (trace, report, outcome)
+    match watch {
+        Some(out) => {
+            let mut sink = Put::new(report);
+            let (trace, outcome) = run_watched(
+                rt,
+                alloc,
+                scenario,
+                division,
+                workers,
+                out,
+                Put::new(trace),
+                &mut sink,
+            );
+            (trace, sink, outcome)
+        }
+        None => {
+            let mut trace = Put::new(trace);
+            let mut report = Put::new(report);
+            let outcome = run_shared(
+                rt,
+                alloc,
+                scenario,
+                division,
+                workers,
+                &mut trace,
+                &mut report,
+            );
+            (trace, report, outcome)
+        }
+    }
 }
 
 /// Runs a scenario as `simulate` does, writes its page, which tells what `shown` says, to a third writer once the other two
 /// are whole, and gives all three back, with the failures that were counted. After a fault they have got a beginning of that.
-pub fn simulate_with_page<T: Write, R: Write, P: Write>(
+pub fn simulate_with_page<T: Write, R: Write, P: Write, W: Write>(
     rt: &(impl Threads + Wait + Sync),
     alloc: Global,
     scenario: &Scenario,
     division: &Division,
     workers: Workers,
     shown: &RunShown<'_>,
+    watch: Option<&mut W>,
     trace: T,
     report: R,
     page: P,
@@ -156,6 +182,7 @@ pub fn simulate_with_page<T: Write, R: Write, P: Write>(
         division,
         workers,
         shown,
+        watch,
         Put::new(trace),
         &mut reported,
         &mut paged,

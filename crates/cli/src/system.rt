@@ -13,8 +13,8 @@ use std::sync::Wait;
 use std::thread::Threads;
 
 /// Does what the words of the program's command line ask for, and answers the status that the program ends with.
-/// `release` is what it tells of itself; `out` and `err` are its streams; how far a sweep has come goes to
-/// `progress`, where that is asked for.
+/// `release` is what it tells of itself; `out` and `err` are its streams; how far a run or a sweep has come
+/// goes to `progress`, where that is asked for.
 pub fn run_program<
     R: Threads + Wait + Sync + Env + Files + AllocGlobal,
     O: Write,

@@ -12,7 +12,7 @@ use Rattle.command_line.specs.Failures.{IsFaultOf}
 use Rattle.command_line.specs.declared.failure.Failure.{Failure}
 use Rattle.command_line.specs.declared.failure.Failure.TheVariants as failure
 use Rattle.command_line.specs.Division.{AreParts, in_turn, past_greatest}
-use Rattle.command_line.specs.Numbers.{IsNumber}
+use Rattle.arguments.specs.Numbers.{IsNumber}
 
 -- a division of as many members as there are numbers, which are all below the number of parts
 fits : (members parts : ℕ) (xs : List ℕ) → 1 ≤ parts → parts ≤ 64 → length xs ≡ members → has_part_past parts xs ≡ false

@@ -1,103 +1,131 @@
--- By what no joining fails, and what holds where memory was refused.
-use Rattle.std.proofs.Common.{◌≡◌, ℕ, inl, inr, sym, subst}
-use Rattle.std.specs.Prelude.{String}
-use Rattle.std.specs.declared.alloc.Global.{Global}
-use Rattle.scenario_files.specs.Shelves.{Shelf}
-use Rattle.files.specs.Files.{Making}
+-- By what putting pieces together, or making a page of them, may fail, and what holds where memory was refused.
+use Rattle.std.proofs.Common.{◌≡◌, ◌⊎◌, ℕ, List, Option, Some, None, inl, inr, sym, subst}
+use Rattle.std.specs.Borrow.{Bor}
+use Rattle.clap.specs.Words.{Text}
+use Rattle.cases.specs.Sweep.{Sweep}
+use Rattle.figures.specs.declared.summary.CaseSummary.{CaseSummary}
+use Rattle.files.specs.Files.{KnownFile, Making}
 use Rattle.command_line.specs.declared.joining.JoinWords.{JoinWords}
+use Rattle.command_line.specs.declared.paging.PageWords.{PageWords}
 use Rattle.command_line.specs.declared.failure.Failure.{Failure}
-use Rattle.command_line.specs.declared.failure.Failure.TheVariants.{Usage, Preset, NoItem, Mistaken, Memory, Output}
+use Rattle.command_line.specs.declared.failure.Failure.TheVariants as failing
+use Rattle.scenario_files.specs.Shelves.{Shelf, IsUnread}
 use Rattle.joins.specs.declared.fault.JoinFault.{JoinFault}
 use Rattle.joins.specs.declared.fault.JoinFault.TheVariants as fault
-use Rattle.join_command.specs.Outcomes.{FailsJoinCheck, JoinFails, piece_failure}
+use Rattle.join_command.specs.Outcomes.{FailsToGather, FailsToStore, FailsToStoreAsked, FailsToStoreBoth, FailsToStorePage, IsWant, JoinFails, PageFails, piece_failure}
 
--- no fault is told by the words, by an item of a sweep, by standard output or by what is explained
-no_usage : (join : JoinWords) (f : JoinFault) → Usage ≡ piece_failure join f → ⊥
-no_usage join (fault.NoPiece at) same = cc
-no_usage join (fault.Other at) same = cc
-no_usage join (fault.Doubled at) same = cc
-no_usage join (fault.Torn at) same = cc
-no_usage join (fault.Missing number) same = cc
-no_usage join fault.Write same = cc
-no_usage join fault.Memory same = cc
+-- the failures by which either may end
+abbrev pub EndsJoin : Failure → Type 0
+EndsJoin (failing.File name) = Unit {0}
+EndsJoin (failing.Pieces cause) = Unit {0}
+EndsJoin (failing.Run cause) = Unit {0}
+EndsJoin failing.Memory = Unit {0}
+EndsJoin _ = ⊥
 
-no_preset : (join : JoinWords) (f : JoinFault) → Preset ≡ piece_failure join f → ⊥
-no_preset join (fault.NoPiece at) same = cc
-no_preset join (fault.Other at) same = cc
-no_preset join (fault.Doubled at) same = cc
-no_preset join (fault.Torn at) same = cc
-no_preset join (fault.Missing number) same = cc
-no_preset join fault.Write same = cc
-no_preset join fault.Memory same = cc
+by_fault : (names : List (Bor Text)) (otherwise : Bor Text) (f : JoinFault) → EndsJoin (piece_failure names otherwise f)
+by_fault names otherwise (fault.NoPiece at) = tt
+by_fault names otherwise (fault.Other at) = tt
+by_fault names otherwise (fault.Doubled at) = tt
+by_fault names otherwise (fault.Torn at) = tt
+by_fault names otherwise (fault.Missing number) = tt
+by_fault names otherwise fault.Write = tt
+by_fault names otherwise fault.Memory = tt
 
-no_item : (join : JoinWords) (key : String Global) (f : JoinFault) → NoItem key ≡ piece_failure join f → ⊥
-no_item join key (fault.NoPiece at) same = cc
-no_item join key (fault.Other at) same = cc
-no_item join key (fault.Doubled at) same = cc
-no_item join key (fault.Torn at) same = cc
-no_item join key (fault.Missing number) same = cc
-no_item join key fault.Write same = cc
-no_item join key fault.Memory same = cc
+by_reading : (known : KnownFile) (file : Text) (f : Failure) → IsUnread known file f → EndsJoin f
+by_reading known file (failing.File name) h = tt
+by_reading known file failing.Memory h = tt
+by_reading known file (failing.Pieces cause) h = absurd h
+by_reading known file (failing.Run cause) h = absurd h
+by_reading known file failing.Usage h = absurd h
+by_reading known file failing.Preset h = absurd h
+by_reading known file (failing.NoItem key) h = absurd h
+by_reading known file (failing.Rule rule) h = absurd h
+by_reading known file (failing.Mistaken rule) h = absurd h
+by_reading known file (failing.Case rule settings) h = absurd h
+by_reading known file failing.Workers h = absurd h
+by_reading known file (failing.Division cause) h = absurd h
+by_reading known file failing.Output h = absurd h
 
-no_output : (join : JoinWords) (f : JoinFault) → Output ≡ piece_failure join f → ⊥
-no_output join (fault.NoPiece at) same = cc
-no_output join (fault.Other at) same = cc
-no_output join (fault.Doubled at) same = cc
-no_output join (fault.Torn at) same = cc
-no_output join (fault.Missing number) same = cc
-no_output join fault.Write same = cc
-no_output join fault.Memory same = cc
+by_gathering : (before : Shelf) (names : List (Bor Text)) (otherwise : Bor Text) (f : Failure) → FailsToGather before names otherwise f → EndsJoin f
+by_gathering before names otherwise f (inl read) = by_reading (before read.1.now) read.1.now f read.3
+by_gathering before names otherwise f (inr pieces) = subst EndsJoin (sym pieces.2.1) (by_fault names otherwise pieces.2.0)
 
-no_mistaken : (join : JoinWords) (rule : ℕ) (f : JoinFault) → Mistaken rule ≡ piece_failure join f → ⊥
-no_mistaken join rule (fault.NoPiece at) same = cc
-no_mistaken join rule (fault.Other at) same = cc
-no_mistaken join rule (fault.Doubled at) same = cc
-no_mistaken join rule (fault.Torn at) same = cc
-no_mistaken join rule (fault.Missing number) same = cc
-no_mistaken join rule fault.Write same = cc
-no_mistaken join rule fault.Memory same = cc
+by_storing : (before after : Shelf) (making : Making) (source name : Text) (text : List ℕ) (f : Failure) → FailsToStore before after making source name text f → EndsJoin f
+by_storing before after making source name text (failing.File told) h = tt
+by_storing before after making source name text failing.Memory h = tt
+by_storing before after making source name text (failing.Pieces cause) h = absurd h
+by_storing before after making source name text (failing.Run cause) h = tt
+by_storing before after making source name text failing.Usage h = absurd h
+by_storing before after making source name text failing.Preset h = absurd h
+by_storing before after making source name text (failing.NoItem key) h = absurd h
+by_storing before after making source name text (failing.Rule rule) h = absurd h
+by_storing before after making source name text (failing.Mistaken rule) h = absurd h
+by_storing before after making source name text (failing.Case rule settings) h = absurd h
+by_storing before after making source name text failing.Workers h = absurd h
+by_storing before after making source name text (failing.Division cause) h = absurd h
+by_storing before after making source name text failing.Output h = absurd h
 
-pub join_usage : (before after : Shelf) (making : Making) (join : JoinWords) → JoinFails before after making join Usage → ⊥
-join_usage before after making join (inl refused) = by refused.cause
+by_storing_both : (before after : Shelf) (making : Making) (source name page : Text) (table shown : List ℕ) (f : Failure)
+    → FailsToStoreBoth before after making source name page table shown f → EndsJoin f
+by_storing_both before after making source name page table shown (failing.File told) h = tt
+by_storing_both before after making source name page table shown failing.Memory h = tt
+by_storing_both before after making source name page table shown (failing.Pieces cause) h = absurd h
+by_storing_both before after making source name page table shown (failing.Run cause) h = tt
+by_storing_both before after making source name page table shown failing.Usage h = absurd h
+by_storing_both before after making source name page table shown failing.Preset h = absurd h
+by_storing_both before after making source name page table shown (failing.NoItem key) h = absurd h
+by_storing_both before after making source name page table shown (failing.Rule rule) h = absurd h
+by_storing_both before after making source name page table shown (failing.Mistaken rule) h = absurd h
+by_storing_both before after making source name page table shown (failing.Case rule settings) h = absurd h
+by_storing_both before after making source name page table shown failing.Workers h = absurd h
+by_storing_both before after making source name page table shown (failing.Division cause) h = absurd h
+by_storing_both before after making source name page table shown failing.Output h = absurd h
+
+by_want : (before after : Shelf) (f : Failure) → IsWant before after f → EndsJoin f
+by_want before after f want = subst EndsJoin (sym want.0) tt
+
+module _ (release : List ℕ) (before after : Shelf) (making : Making) (join : JoinWords) (plan : Sweep) (cases : List CaseSummary) (table : List ℕ) where
+  by_storing_asked : (asked : Option (Bor Text)) (f : Failure) → FailsToStoreAsked asked release before after making join plan cases table f → EndsJoin f
+  by_storing_asked None f h = by_storing before after making _ _ table f h
+  by_storing_asked (Some page) f (inl want) = by_want before after f want
+  by_storing_asked (Some page) f (inr h) = by_storing_both before after making _ _ page.now table h.0 f h.2
+
+  none_changed : (asked : Option (Bor Text)) → FailsToStoreAsked asked release before after making join plan cases table failing.Memory → after ≡ before
+  none_changed None h = h
+  none_changed (Some page) (inl want) = want.1
+  none_changed (Some page) (inr h) = h.2
+
+-- putting pieces together ends by one of these
+pub join_ends : (before after : Shelf) (making : Making) (join : JoinWords) (f : Failure) → JoinFails before after making join f → EndsJoin f
+join_ends before after making join f (inl refused) = by_gathering before join.files.items join.table f refused.cause
+join_ends before after making join f (inr none) = by none.failed
   where
-    by : FailsJoinCheck before join Usage → ⊥
-    by (inl read) = read.3
-    by (inr pieces) = no_usage join pieces.2.0 pieces.2.1
-join_usage before after making join (inr none) = none.failed
-
-pub join_preset : (before after : Shelf) (making : Making) (join : JoinWords) → JoinFails before after making join Preset → ⊥
-join_preset before after making join (inl refused) = by refused.cause
-  where
-    by : FailsJoinCheck before join Preset → ⊥
-    by (inl read) = read.3
-    by (inr pieces) = no_preset join pieces.2.0 pieces.2.1
-join_preset before after making join (inr none) = none.failed
-
-pub join_item : (before after : Shelf) (making : Making) (join : JoinWords) (key : String Global) → JoinFails before after making join (NoItem key) → ⊥
-join_item before after making join key (inl refused) = by refused.cause
-  where
-    by : FailsJoinCheck before join (NoItem key) → ⊥
-    by (inl read) = read.3
-    by (inr pieces) = no_item join key pieces.2.0 pieces.2.1
-join_item before after making join key (inr none) = none.failed
-
-pub join_output : (before after : Shelf) (making : Making) (join : JoinWords) → JoinFails before after making join Output → ⊥
-join_output before after making join (inl refused) = by refused.cause
-  where
-    by : FailsJoinCheck before join Output → ⊥
-    by (inl read) = read.3
-    by (inr pieces) = no_output join pieces.2.0 pieces.2.1
-join_output before after making join (inr none) = none.failed
-
-pub join_mistaken : (before after : Shelf) (making : Making) (join : JoinWords) (rule : ℕ) → JoinFails before after making join (Mistaken rule) → ⊥
-join_mistaken before after making join rule (inl refused) = by refused.cause
-  where
-    by : FailsJoinCheck before join (Mistaken rule) → ⊥
-    by (inl read) = read.3
-    by (inr pieces) = no_mistaken join rule pieces.2.0 pieces.2.1
-join_mistaken before after making join rule (inr none) = none.failed
+    by : IsWant before after f ⊎ FailsToStoreAsked join.page none.release before after making join none.plan none.cases none.table f → EndsJoin f
+    by (inl want) = by_want before after f want
+    by (inr failed) = by_storing_asked none.release before after making join none.plan none.cases none.table join.page f failed
 
 -- where memory was refused, no file has changed
-pub join_memory : (before after : Shelf) (making : Making) (join : JoinWords) → JoinFails before after making join Memory → after ≡ before
+pub join_memory : (before after : Shelf) (making : Making) (join : JoinWords) → JoinFails before after making join failing.Memory → after ≡ before
 join_memory before after making join (inl refused) = refused.same
-join_memory before after making join (inr none) = none.failed
+join_memory before after making join (inr none) = by none.failed
+  where
+    by : IsWant before after failing.Memory ⊎ FailsToStoreAsked join.page none.release before after making join none.plan none.cases none.table failing.Memory → after ≡ before
+    by (inl want) = want.1
+    by (inr failed) = none_changed none.release before after making join none.plan none.cases none.table join.page failed
+
+-- and so does making a page
+pub page_ends : (before after : Shelf) (making : Making) (page : PageWords) (f : Failure) → PageFails before after making page f → EndsJoin f
+page_ends before after making page f (inl refused) = by_gathering before page.files.items page.page f refused.cause
+page_ends before after making page f (inr none) = by none.failed
+  where
+    by : FailsToStorePage none.release before after making page none.plan none.cases f → EndsJoin f
+    by (inl want) = by_want before after f want
+    by (inr failed) = by_storing before after making _ _ failed.0 f failed.2
+
+pub page_memory : (before after : Shelf) (making : Making) (page : PageWords) → PageFails before after making page failing.Memory → after ≡ before
+page_memory before after making page (inl refused) = refused.same
+page_memory before after making page (inr none) = by none.failed
+  where
+    by : FailsToStorePage none.release before after making page none.plan none.cases failing.Memory → after ≡ before
+    by (inl want) = want.1
+    by (inr failed) = failed.2

@@ -1,29 +1,31 @@
--- What the file of the table holds.
-use Rattle.std.proofs.Common.{◌≡◌, ◌∙◌, ℕ, List, [], Option, Some, Result, Ok, Err, IfSome, IfErr, OnErr, OnOk, false, sym, subst}
-use Rattle.std.specs.Io.KnownBytes.{Appends}
+-- What the files hold of a text, or of a table and a page.
+use Rattle.std.proofs.Common.{◌≡◌, ◌≢◌, ◌∙◌, ◌⊎◌, ℕ, List, [], Option, Some, Result, Ok, Err, IfSome, IfErr, OnErr, OnOk, false, inl, inr, sym, subst}
+use Rattle.std.specs.Io.KnownBytes.{Appends, Keeps}
 use Rattle.clap.specs.Words.{Text}
 use Rattle.base.specs.declared.fault.Fault.{Fault}
 use Rattle.base.specs.declared.fault.Fault.TheVariants as cause
 use Rattle.trace.specs.Sinks.{AppendsBeginning}
-use Rattle.files.specs.Files.{HoldsNow, ClosesAs, KeepsOthers, Making}
-use Rattle.command_line.specs.declared.joining.JoinWords.{JoinWords}
+use Rattle.trace.proofs.Beginnings.{Appends-none}
+use Rattle.files.specs.Files.{HoldsNow, ClosesAs, KeepsOthers, KeepsAllOthers, AreThreeFiles, Making}
 use Rattle.command_line.specs.declared.failure.Failure.{Failure}
 use Rattle.command_line.specs.declared.failure.Failure.TheVariants.{Run}
-use Rattle.scenario_files.specs.Shelves.{Shelf}
+use Rattle.scenario_files.specs.Shelves.{Shelf, HoldsBeginning}
 use Rattle.scenario_files.specs.Told.{run_told}
 use Rattle.scenario_files.proofs.Held.{holds_beginning, holds_text}
-use Rattle.join_command.specs.Outcomes.{FailsToStore, Stores, name_at}
+use Rattle.case_telling.proofs.Pairs.{first_begins, first_holds, others_kept, second_begins, second_holds}
+use Rattle.join_command.specs.Outcomes.{AppendsBoth, BeginsBoth, FailsToStore, FailsToStoreBoth, Stores, StoresBoth}
 
 -- what a success gives, from what holds of it
 pub each_on_ok : {T E A B : Type 0} (r : Result T E) → OnOk r A → (A → B) → OnOk r B
 each_on_ok (Ok x) a turn = turn a
 each_on_ok (Err e) a turn = tt
 
--- what holds anyway holds of a success, and of an error
-pub on_ok_of : {T E P : Type 0} (r : Result T E) → P → OnOk r P
-on_ok_of (Ok x) h = h
-on_ok_of (Err e) h = tt
+-- the same of an error
+pub each_on_err : {T E A B : Type 0} (r : Result T E) → OnErr r A → (A → B) → OnErr r B
+each_on_err (Ok x) a turn = tt
+each_on_err (Err e) a turn = turn a
 
+-- what holds anyway holds of an error
 pub on_err_of : {T E P : Type 0} (r : Result T E) → P → OnErr r P
 on_err_of (Ok x) h = tt
 on_err_of (Err e) h = h
@@ -41,27 +43,62 @@ told_on_ok {T} P outcome told is done = subst (λ r. OnOk r P) (sym is) (go outc
     go (Ok x) h = h
     go (Err e) h = tt
 
-module _ (join : JoinWords) (making : Making) (start made end : Shelf) (old new held : Option (List ℕ))
-    (apart : making.are_one (name_at join 0).now join.table.now ≡ false) (table_made : KeepsOthers start made join.table.now) (table_closed : KeepsOthers made end join.table.now)
-    (empty : HoldsNow (start join.table.now) (made join.table.now) []) (fresh : IfSome (start join.table.now) (λ _. old ≡ Some []))
-    (closed : ClosesAs (made join.table.now) (end join.table.now) held) (same : held ≡ new) where
-  others_kept : KeepsOthers start end join.table.now
-  others_kept other differs = table_closed other differs ∙ table_made other differs
+module _ (source name : Text) (making : Making) (start made end : Shelf) (old new held : Option (List ℕ))
+    (apart : making.are_one source name ≡ false) (file_made : KeepsOthers start made name) (file_closed : KeepsOthers made end name)
+    (empty : HoldsNow (start name) (made name) []) (fresh : IfSome (start name) (λ _. old ≡ Some []))
+    (closed : ClosesAs (made name) (end name) held) (same : held ≡ new) where
+  others : KeepsOthers start end name
+  others other differs = file_closed other differs ∙ file_made other differs
 
-  closes : ClosesAs (made join.table.now) (end join.table.now) new
-  closes = subst (λ h. ClosesAs (made join.table.now) (end join.table.now) h) same closed
+  closes : ClosesAs (made name) (end name) new
+  closes = subst (λ h. ClosesAs (made name) (end name) h) same closed
 
-  pub stored : (table : List ℕ) → Appends old new table → Stores start end making join table
-  stored table written = record {
+  pub stored : (text : List ℕ) → Appends old new text → Stores start end making source name text
+  stored text written = record {
     apart = apart;
-    stored = holds_text (start join.table.now) (made join.table.now) (end join.table.now) old new table empty fresh written closes;
-    others = others_kept;
+    stored = holds_text (start name) (made name) (end name) old new text empty fresh written closes;
+    others = others;
   }
 
-  pub begun : (table : List ℕ) (f : Fault) → f ≡ cause.Write → AppendsBeginning old new table → FailsToStore start end making join table (Run f)
-  begun table f is written =
-      subst (λ g. FailsToStore start end making join table (Run g)) (sym is) (
+  pub begun : (text : List ℕ) (f : Fault) → f ≡ cause.Write → AppendsBeginning old new text → FailsToStore start end making source name text (Run f)
+  begun text f is written =
+      subst (λ g. FailsToStore start end making source name text (Run g)) (sym is) (
         apart,
-        holds_beginning (start join.table.now) (made join.table.now) (end join.table.now) old new table empty fresh written closes,
-        others_kept,
+        holds_beginning (start name) (made name) (end name) old new text empty fresh written closes,
+        others,
       )
+
+module _ (source name page : Text) (making : Making) (start made between end : Shelf) (files : AreThreeFiles making source name page)
+    (differ : IfSome (start name) (λ _. page ≢ name)) (both_made : KeepsAllOthers start made name page) (first_closed : KeepsOthers made between name)
+    (second_closed : KeepsOthers between end page) (old new held page_old page_new page_held : Option (List ℕ))
+    (empty : HoldsNow (start name) (made name) []) (fresh : IfSome (start name) (λ _. old ≡ Some []))
+    (page_empty : HoldsNow (start page) (made page) []) (page_fresh : IfSome (start page) (λ _. page_old ≡ Some []))
+    (closed : ClosesAs (made name) (between name) held) (page_ends : ClosesAs (between page) (end page) page_held)
+    (same : held ≡ new) (page_same : page_held ≡ page_new) (table shown : List ℕ) where
+  kept : KeepsAllOthers start end name page
+  kept = others_kept name page start made between end differ both_made first_closed second_closed
+
+  table_holds : Appends old new table → HoldsNow (start name) (end name) table
+  table_holds = first_holds name page start made between end differ both_made first_closed second_closed old new held empty fresh closed same table
+
+  page_holds : (text : List ℕ) → Appends page_old page_new text → HoldsNow (start page) (end page) text
+  page_holds = second_holds name page start made between end differ both_made first_closed second_closed page_old page_new page_held page_empty page_fresh page_ends page_same
+
+  pub both_stored : AppendsBoth old new table page_old page_new shown → StoresBoth start end making source name page table shown
+  both_stored written = record { apart = files; stored = table_holds written.0; paged = page_holds shown written.1; others = kept }
+
+  both_written : BeginsBoth old new table page_old page_new shown
+      → (HoldsBeginning (start name) (end name) table × HoldsNow (start page) (end page) []) ⊎ (HoldsNow (start name) (end name) table × HoldsBeginning (start page) (end page) shown)
+  both_written (inl none) = inl (
+    first_begins name page start made between end differ both_made first_closed second_closed old new held empty fresh closed same table none.0,
+    page_holds [] (Appends-none page_old page_new none.1),
+  )
+  both_written (inr some) = inr (
+    table_holds some.0,
+    second_begins name page start made between end differ both_made first_closed second_closed page_old page_new page_held page_empty page_fresh page_ends page_same shown some.1,
+  )
+
+  pub both_begun : (f : Fault) → f ≡ cause.Write → BeginsBoth old new table page_old page_new shown → FailsToStoreBoth start end making source name page table shown (Run f)
+  both_begun f is written =
+      subst (λ g. FailsToStoreBoth start end making source name page table shown (Run g)) (sym is)
+      (record { apart = files; written = both_written written; others = kept })

@@ -1,13 +1,19 @@
--- What putting pieces together has done once it ends, and why it wasn't done.
-use Rattle.std.specs.Prelude.{◌≡◌, ◌⊎◌, ℕ, List, [], Option, Some, Vec, false, get_or, slice_get}
+-- What putting pieces together, or making a page of them, has done once it ends, and why it wasn't done.
+use Rattle.std.specs.Prelude.{◌≡◌, ◌⊎◌, ℕ, Bool, List, [], Option, Some, None, Vec, false, get_or, slice_get}
 use Rattle.std.specs.Borrow.{Bor}
+use Rattle.std.specs.Io.KnownBytes.{Appends, Keeps}
 use Rattle.std.specs.List.{AllZip}
 use Rattle.std.specs.declared.alloc.Global.{Global}
 use Rattle.clap.specs.Words.{Text}
 use Rattle.base.specs.declared.fault.Fault.TheVariants as cause
-use Rattle.files.specs.Files.{Making, Holds, HoldsNow, KeepsOthers, CannotMake}
-use Rattle.command_line.specs.Words.{AsksForJoin}
+use Rattle.trace.specs.Sinks.{AppendsBeginning}
+use Rattle.cases.specs.Sweep.{Sweep}
+use Rattle.figures.specs.declared.summary.CaseSummary.{CaseSummary}
+use Rattle.case_telling.specs.Telling.{IsSweepPage, TellsCases}
+use Rattle.files.specs.Files.{Making, Holds, HoldsNow, KeepsOthers, KeepsAllOthers, CannotMake, CannotMakeSecond, AreThreeFiles}
+use Rattle.command_line.specs.Words.{AsksForJoin, AsksForPage}
 use Rattle.command_line.specs.declared.joining.JoinWords.{JoinWords}
+use Rattle.command_line.specs.declared.paging.PageWords.{PageWords}
 use Rattle.command_line.specs.declared.failure.Failure.{Failure}
 use Rattle.command_line.specs.declared.failure.Failure.TheVariants.{File, Pieces, Run, Memory}
 use Rattle.command_line.specs.declared.failure.PieceFault.TheVariants as piece
@@ -17,9 +23,14 @@ use Rattle.joins.specs.declared.fault.JoinFault.{JoinFault}
 use Rattle.joins.specs.declared.fault.JoinFault.TheVariants as fault
 use Rattle.scenario_files.specs.Shelves.{Shelf, IsRefused, IsUnread, HoldsBeginning}
 
--- the name at a place of the words; that of the table where there is none
-abbrev pub name_at : JoinWords → ℕ → Bor Text
-name_at join place = get_or join.files.items place join.table
+-- the name at a place among these; the other one where there is none
+abbrev pub name_at : List (Bor Text) → Bor Text → ℕ → Bor Text
+name_at names otherwise place = get_or names place otherwise
+
+-- what a page calls the scenario: the name that is given, or that of the source
+abbrev pub scenario_name : Option (Bor Text) → Bor Text → Bor Text
+scenario_name None source = source
+scenario_name (Some name) source = name
 
 -- ---- what was done
 
@@ -27,23 +38,78 @@ name_at join place = get_or join.files.items place join.table
 abbrev pub HoldTexts : Shelf → List (Bor Text) → List (Vec ℕ Global) → Type 0
 HoldTexts before names texts = AllZip (λ name held. Holds (before name.now) held.items) names texts
 
--- the file of the table, which isn't that of the first piece, holds this, and no other file has changed
-pub record Stores (before after : Shelf) (making : Making) (join : JoinWords) (table : List ℕ) : Type 0 where
-  pub apart : making.are_one (name_at join 0).now join.table.now ≡ false
-  pub stored : HoldsNow (before join.table.now) (after join.table.now) table
-  pub others : KeepsOthers before after join.table.now
-
--- the texts of the files were put together: their table was stored, and these are the lines of the cases
-pub record JoinsAll (before after : Shelf) (making : Making) (join : JoinWords) (lines : List ℕ) : Type 0 where
+-- the texts of the files are the pieces of this sweep, and its cases came to this; the table of the whole was appended
+pub record GathersCases (before : Shelf) (names : List (Bor Text)) (old new : Option (List ℕ)) (plan : Sweep) (revived : Bool) (cases : List CaseSummary) : Type 0 where
   pub texts : List (Vec ℕ Global)
-  pub held : HoldTexts before join.files.items texts
+  pub held : HoldTexts before names texts
+  pub joined : Joins texts old new plan revived cases
+
+-- the file of this name, which isn't the source, holds this, and no other file has changed
+pub record Stores (before after : Shelf) (making : Making) (source name : Text) (text : List ℕ) : Type 0 where
+  pub apart : making.are_one source name ≡ false
+  pub stored : HoldsNow (before name) (after name) text
+  pub others : KeepsOthers before after name
+
+-- the files of these names, which are two and not the source, hold a table and a page, and no other file has changed
+pub record StoresBoth (before after : Shelf) (making : Making) (source name page : Text) (table shown : List ℕ) : Type 0 where
+  pub apart : AreThreeFiles making source name page
+  pub stored : HoldsNow (before name) (after name) table
+  pub paged : HoldsNow (before page) (after page) shown
+  pub others : KeepsAllOthers before after name page
+
+-- the same of what was appended
+abbrev pub AppendsBoth : Option (List ℕ) → Option (List ℕ) → List ℕ → Option (List ℕ) → Option (List ℕ) → List ℕ → Type 0
+AppendsBoth old new table page_old page_new shown = Appends old new table × Appends page_old page_new shown
+
+-- the text is a page of the cases, which calls the scenario as the words say
+abbrev pub IsJoinPage : List ℕ → JoinWords → Sweep → List CaseSummary → List ℕ → Type 0
+IsJoinPage release join plan cases text = IsSweepPage (scenario_name join.name (name_at join.files.items join.table 0)).now release plan cases text
+
+-- the table and a page of the cases were stored
+abbrev pub StoresPaged : List ℕ → Text → Shelf → Shelf → Making → JoinWords → Sweep → List CaseSummary → List ℕ → Type 0
+StoresPaged release page before after making join plan cases table = (shown : List ℕ) × IsJoinPage release join plan cases shown
+    × StoresBoth before after making (name_at join.files.items join.table 0).now join.table.now page table shown
+
+-- the table was stored, with a page where one is asked for
+abbrev pub StoresAsked : Option (Bor Text) → List ℕ → Shelf → Shelf → Making → JoinWords → Sweep → List CaseSummary → List ℕ → Type 0
+StoresAsked None release before after making join plan cases table =
+    Stores before after making (name_at join.files.items join.table 0).now join.table.now table
+StoresAsked (Some page) release before after making join plan cases table = StoresPaged release page.now before after making join plan cases table
+
+-- the pieces in the files were put together: their table was stored, with a page where one is asked for, and this is what is told of the cases
+pub record JoinsAll (release : List ℕ) (before after : Shelf) (making : Making) (join : JoinWords) (lines : List ℕ) : Type 0 where
+  pub plan : Sweep
+  pub revived : Bool
+  pub cases : List CaseSummary
   pub table : List ℕ
-  pub joined : Joins texts (Some []) (Some table) lines
-  pub stored : Stores before after making join table
+  pub gathered : GathersCases before join.files.items (Some []) (Some table) plan revived cases
+  pub told : TellsCases join.jsonl revived plan join.wants.items cases lines
+  pub stored : StoresAsked join.page release before after making join plan cases table
 
 -- pieces that the words ask to join were
-abbrev pub DoesJoin : List Text → Shelf → Shelf → Making → List ℕ → Type 0
-DoesJoin words before after making lines = (join : JoinWords) × AsksForJoin words join × JoinsAll before after making join lines
+abbrev pub DoesJoin : List ℕ → List Text → Shelf → Shelf → Making → List ℕ → Type 0
+DoesJoin release words before after making lines = (join : JoinWords) × AsksForJoin words join × JoinsAll release before after making join lines
+
+-- the text is a page of the cases, which calls the scenario as the words say
+abbrev pub IsPiecesPage : List ℕ → PageWords → Sweep → List CaseSummary → List ℕ → Type 0
+IsPiecesPage release page plan cases text = IsSweepPage (scenario_name page.name (name_at page.files.items page.page 0)).now release plan cases text
+
+-- a page of the cases was stored
+abbrev pub StoresPage : List ℕ → Shelf → Shelf → Making → PageWords → Sweep → List CaseSummary → Type 0
+StoresPage release before after making page plan cases = (shown : List ℕ) × IsPiecesPage release page plan cases shown
+    × Stores before after making (name_at page.files.items page.page 0).now page.page.now shown
+
+-- the pieces in the files were put together, and a page of the cases was stored; their table was not
+pub record PagesAll (release : List ℕ) (before after : Shelf) (making : Making) (page : PageWords) : Type 0 where
+  pub plan : Sweep
+  pub revived : Bool
+  pub cases : List CaseSummary
+  pub gathered : GathersCases before page.files.items None None plan revived cases
+  pub stored : StoresPage release before after making page plan cases
+
+-- the page that the words ask for was made
+abbrev pub DoesPage : List ℕ → List Text → Shelf → Shelf → Making → Type 0
+DoesPage release words before after making = (page : PageWords) × AsksForPage words page × PagesAll release before after making page
 
 -- ---- what was not done
 
@@ -52,47 +118,107 @@ abbrev pub FailsToRead : Shelf → List (Bor Text) → Failure → Type 0
 FailsToRead before names failure = (place : ℕ) × (name : Bor Text) × (slice_get names place ≡ Some name) × IsUnread (before name.now) name.now failure
 
 -- by which failure it is told why texts aren't the pieces of one sweep: a file by its name; a table in memory fails by want of that
-abbrev pub piece_failure : JoinWords → JoinFault → Failure
-piece_failure join (fault.NoPiece at) = Pieces (piece.NoPiece (name_at join at))
-piece_failure join (fault.Other at) = Pieces (piece.Other (name_at join at))
-piece_failure join (fault.Doubled at) = Pieces (piece.Doubled (name_at join at))
-piece_failure join (fault.Torn at) = Pieces (piece.Torn (name_at join at))
-piece_failure join (fault.Missing number) = Pieces (piece.Missing number)
-piece_failure join fault.Write = Memory
-piece_failure join fault.Memory = Memory
+abbrev pub piece_failure : List (Bor Text) → Bor Text → JoinFault → Failure
+piece_failure names otherwise (fault.NoPiece at) = Pieces (piece.NoPiece (name_at names otherwise at))
+piece_failure names otherwise (fault.Other at) = Pieces (piece.Other (name_at names otherwise at))
+piece_failure names otherwise (fault.Doubled at) = Pieces (piece.Doubled (name_at names otherwise at))
+piece_failure names otherwise (fault.Torn at) = Pieces (piece.Torn (name_at names otherwise at))
+piece_failure names otherwise (fault.Missing number) = Pieces (piece.Missing number)
+piece_failure names otherwise fault.Write = Memory
+piece_failure names otherwise fault.Memory = Memory
 
--- the texts aren't the pieces of one sweep, and this is why
-abbrev pub RefusesPieces : JoinWords → List (Vec ℕ Global) → Failure → Type 0
-RefusesPieces join texts failure = (f : JoinFault) × (failure ≡ piece_failure join f) × IsReason texts f
+-- the texts aren't the pieces of one sweep, and this is why; or memory was refused
+abbrev pub RefusesPieces : List (Bor Text) → Bor Text → List (Vec ℕ Global) → Failure → Type 0
+RefusesPieces names otherwise texts failure = (f : JoinFault) × (failure ≡ piece_failure names otherwise f) × IsReason texts f
 
--- what failed before the table's file was made: reading a file, or putting the texts together
-abbrev pub FailsJoinCheck : Shelf → JoinWords → Failure → Type 0
-FailsJoinCheck before join failure =
-    FailsToRead before join.files.items failure ⊎ ((texts : List (Vec ℕ Global)) × HoldTexts before join.files.items texts × RefusesPieces join texts failure)
+-- reading a file failed, or putting the texts together
+abbrev pub FailsToGather : Shelf → List (Bor Text) → Bor Text → Failure → Type 0
+FailsToGather before names otherwise failure =
+    FailsToRead before names failure ⊎ ((texts : List (Vec ℕ Global)) × HoldTexts before names texts × RefusesPieces names otherwise texts failure)
 
--- the table was not stored whole: its file can't be made, memory was refused, or the file has a beginning of it
-abbrev pub FailsToStore : Shelf → Shelf → Making → JoinWords → List ℕ → Failure → Type 0
-FailsToStore before after making join table (File name) =
-    (name.now ≡ join.table.now) × CannotMake making (name_at join 0).now join.table.now × (after ≡ before)
-FailsToStore before after making join table Memory = after ≡ before
-FailsToStore before after making join table (Run cause.Write) =
-    (making.are_one (name_at join 0).now join.table.now ≡ false) × HoldsBeginning (before join.table.now) (after join.table.now) table × KeepsOthers before after join.table.now
-FailsToStore before after making join table _ = ⊥
+-- a text was not stored whole: its file can't be made, memory was refused, or the file has a beginning of it
+abbrev pub FailsToStore : Shelf → Shelf → Making → Text → Text → List ℕ → Failure → Type 0
+FailsToStore before after making source name text (File told) = (told.now ≡ name) × CannotMake making source name × (after ≡ before)
+FailsToStore before after making source name text Memory = after ≡ before
+FailsToStore before after making source name text (Run cause.Write) =
+    (making.are_one source name ≡ false) × HoldsBeginning (before name) (after name) text × KeepsOthers before after name
+FailsToStore before after making source name text _ = ⊥
 
--- the texts were put together, but their table was not stored
+-- a beginning was appended: of a table, and nothing of a page; or the whole table, and a beginning of the page
+abbrev pub BeginsBoth : Option (List ℕ) → Option (List ℕ) → List ℕ → Option (List ℕ) → Option (List ℕ) → List ℕ → Type 0
+BeginsBoth old new table page_old page_new shown =
+    (AppendsBeginning old new table × Keeps page_old page_new) ⊎ (Appends old new table × AppendsBeginning page_old page_new shown)
+
+-- the files hold that
+pub record BreaksOffBoth (before after : Shelf) (making : Making) (source name page : Text) (table shown : List ℕ) : Type 0 where
+  pub apart : AreThreeFiles making source name page
+  pub written : (HoldsBeginning (before name) (after name) table × HoldsNow (before page) (after page) [])
+      ⊎ (HoldsNow (before name) (after name) table × HoldsBeginning (before page) (after page) shown)
+  pub others : KeepsAllOthers before after name page
+
+-- a table and a page were not stored whole: a file can't be made, memory was refused, or it broke off
+abbrev pub FailsToStoreBoth : Shelf → Shelf → Making → Text → Text → Text → List ℕ → List ℕ → Failure → Type 0
+FailsToStoreBoth before after making source name page table shown (File told) =
+    (((told.now ≡ name) × CannotMake making source name) ⊎ ((told.now ≡ page) × CannotMakeSecond making source name page)) × (after ≡ before)
+FailsToStoreBoth before after making source name page table shown Memory = after ≡ before
+FailsToStoreBoth before after making source name page table shown (Run cause.Write) = BreaksOffBoth before after making source name page table shown
+FailsToStoreBoth before after making source name page table shown _ = ⊥
+
+-- memory was refused to a text, and no file has changed
+abbrev pub IsWant : Shelf → Shelf → Failure → Type 0
+IsWant before after failure = (failure ≡ Memory) × (after ≡ before)
+
+-- the table and a page of the cases were not stored whole: memory was refused to the page, or so
+abbrev pub FailsToStorePaged : List ℕ → Text → Shelf → Shelf → Making → JoinWords → Sweep → List CaseSummary → List ℕ → Failure → Type 0
+FailsToStorePaged release page before after making join plan cases table failure = IsWant before after failure
+    ⊎ ((shown : List ℕ) × IsJoinPage release join plan cases shown
+    × FailsToStoreBoth before after making (name_at join.files.items join.table 0).now join.table.now page table shown failure)
+
+abbrev pub FailsToStoreAsked : Option (Bor Text) → List ℕ → Shelf → Shelf → Making → JoinWords → Sweep → List CaseSummary → List ℕ → Failure → Type 0
+FailsToStoreAsked None release before after making join plan cases table failure =
+    FailsToStore before after making (name_at join.files.items join.table 0).now join.table.now table failure
+FailsToStoreAsked (Some page) release before after making join plan cases table failure =
+    FailsToStorePaged release page.now before after making join plan cases table failure
+
+-- the pieces were put together, but memory was refused to what is told, or their table was not stored
 pub record StoresNone (before after : Shelf) (making : Making) (join : JoinWords) (failure : Failure) : Type 0 where
-  pub texts : List (Vec ℕ Global)
-  pub held : HoldTexts before join.files.items texts
+  pub release : List ℕ
+  pub plan : Sweep
+  pub revived : Bool
+  pub cases : List CaseSummary
   pub table : List ℕ
-  pub lines : List ℕ
-  pub joined : Joins texts (Some []) (Some table) lines
-  pub failed : FailsToStore before after making join table failure
+  pub gathered : GathersCases before join.files.items (Some []) (Some table) plan revived cases
+  pub failed : IsWant before after failure ⊎ FailsToStoreAsked join.page release before after making join plan cases table failure
 
 -- why pieces were not put together: the first cause
 abbrev pub JoinFails : Shelf → Shelf → Making → JoinWords → Failure → Type 0
 JoinFails before after making join failure =
-    IsRefused before after (FailsJoinCheck before join failure) ⊎ StoresNone before after making join failure
+    IsRefused before after (FailsToGather before join.files.items join.table failure) ⊎ StoresNone before after making join failure
 
 -- why pieces that the words ask to join were not put together
 abbrev pub DoesNotJoin : List Text → Shelf → Shelf → Making → Failure → Type 0
 DoesNotJoin words before after making failure = (join : JoinWords) × AsksForJoin words join × JoinFails before after making join failure
+
+-- no page of the cases was stored whole: memory was refused to it, or so
+abbrev pub FailsToStorePage : List ℕ → Shelf → Shelf → Making → PageWords → Sweep → List CaseSummary → Failure → Type 0
+FailsToStorePage release before after making page plan cases failure = IsWant before after failure
+    ⊎ ((shown : List ℕ) × IsPiecesPage release page plan cases shown
+    × FailsToStore before after making (name_at page.files.items page.page 0).now page.page.now shown failure)
+
+-- the pieces were put together, but no page of their cases was stored
+pub record PagesNone (before after : Shelf) (making : Making) (page : PageWords) (failure : Failure) : Type 0 where
+  pub release : List ℕ
+  pub plan : Sweep
+  pub revived : Bool
+  pub cases : List CaseSummary
+  pub gathered : GathersCases before page.files.items None None plan revived cases
+  pub failed : FailsToStorePage release before after making page plan cases failure
+
+-- why no page was made of pieces: the first cause
+abbrev pub PageFails : Shelf → Shelf → Making → PageWords → Failure → Type 0
+PageFails before after making page failure =
+    IsRefused before after (FailsToGather before page.files.items page.page failure) ⊎ PagesNone before after making page failure
+
+-- why the page that the words ask for was not made
+abbrev pub DoesNotPage : List Text → Shelf → Shelf → Making → Failure → Type 0
+DoesNotPage words before after making failure = (page : PageWords) × AsksForPage words page × PageFails before after making page failure

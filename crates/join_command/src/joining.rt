@@ -1,101 +1,142 @@
-//! The pieces of a sweep in files, put together.
-ghost use Rattle.std.specs.Prelude.{◌≡◌, Some, [], IfOk, IfErr, string_bytes};
-ghost use Rattle.joins.specs.Joined.{Joins};
-ghost use Rattle.join_command.specs.Outcomes.{FailsToRead, HoldTexts, JoinFails, JoinsAll, RefusesPieces, name_at, piece_failure};
+//! The pieces of a sweep in files, put together into the table of the whole.
+ghost use Rattle.std.specs.Prelude.{◌≡◌, All, Some, [], IfOk, IfErr, OnOk, length, string_bytes};
+ghost use Rattle.answers.specs.Wants.{HasFewRuns, IsBounded};
+ghost use Rattle.cases.specs.Sweep.{case_count};
+ghost use Rattle.case_telling.specs.Telling.{TellsCases};
+ghost use Rattle.join_command.specs.Outcomes.{FailsToGather, FailsToStoreAsked, FailsToStorePaged, GathersCases, JoinFails, JoinsAll, StoresAsked, StoresPaged};
 
-use crate::storing::store;
-use command_line::{Failure, JoinWords, PieceFault};
+use crate::paging::page_of;
+use crate::reading::{gather, name_at};
+use crate::storing::{store, store_both};
+use base::Memory;
+use case_telling::cases_told;
+use command_line::{Failure, JoinWords, Release};
 use files::Files;
-use joins::{JoinFault, join};
-use scenario_files::load_bytes;
+use joins::Joined;
 use std::alloc::Global;
 use trace::Put;
 
-/// Puts the pieces in the files of the words together, and writes the table of the whole to a file, which is made once
-/// they are. Answers the lines of the cases.
+/// Puts the pieces in the files of the words together, and writes the table of the whole to a file, and a page of the cases to
+/// another where one is asked for; they are made once the pieces are put together. Answers what is told of the cases.
+/// `release` is what the page tells of the program.
 pub fn join_files<'a, F: Files>(
     alloc: Global,
+    release: &Release<'_>,
     words: &JoinWords<'a>,
     files: &mut F,
 ) -> Result<String, Failure<'a>>
+    requires wants { All IsBounded words.now.wants.items }
     ensures done { IfOk result
-        (λ lines. JoinsAll (F.known files.old) (F.known files.new) (F.making files.old) words.now (string_bytes lines)) }
+        (λ lines. JoinsAll release.now.version.now (F.known files.old) (F.known files.new) (F.making files.old) words.now (string_bytes lines)) }
     ensures failed { IfErr result (JoinFails (F.known files.old) (F.known files.new) (F.making files.old) words.now) }
 {
-    let names = words.files.as_slice();
-    let texts = load_texts(alloc, names, files)?;
-    let whole = join_texts(alloc, words, &texts)?;
-    store(words, &whole.table, files)?;
-    Ok(whole.lines)
+    let whole = gather_whole(alloc, words, files)?;
+    let lines = tell(alloc, words, &whole.joined)?;
+    store_asked(alloc, release, words, &whole, files)?;
+    Ok(lines)
 }
 
-/// The table of a whole sweep, and the lines of its cases.
+/// The table of a whole sweep, and what its cases came to.
 #[derive(Drop)]
 struct Whole {
     table: Vec<u8>,
-    lines: String,
+    joined: Joined,
 }
 
-/// The bytes of all files, in the order of their names.
-fn load_texts<'a, F: Files>(
+/// The pieces in the files of the words, put together.
+fn gather_whole<'a, F: Files>(
     alloc: Global,
-    names: &[&'a str],
+    words: &JoinWords<'a>,
     files: &mut F,
-) -> Result<Vec<Vec<u8>>, Failure<'a>>
-    ensures read { IfOk result (λ texts. HoldTexts (F.known files.old) names.now texts.items) }
-    ensures failed { IfErr result (FailsToRead (F.known files.old) names.now) }
+) -> Result<Whole, Failure<'a>>
+    ensures gathered { IfOk result
+        (λ whole. GathersCases (F.known files.old) words.now.files.items (Some []) (Some whole.table.items)
+        whole.joined.plan whole.joined.revived whole.joined.cases.items) }
+    ensures few { IfOk result (λ whole. All HasFewRuns whole.joined.cases.items) }
+    ensures failed { IfErr result (FailsToGather (F.known files.old) words.now.files.items words.now.table) }
     ensures same { F.known files.new ≡ F.known files.old }
     ensures making { F.making files.new ≡ F.making files.old }
 {
-    let mut texts = Vec::new(alloc);
-    for name in names {
-        let bytes = load_bytes(alloc, *name, files)?;
-        if texts.push(bytes).is_err() {
-            return Err(Failure::Memory);
+    let mut table = Put::new(Vec::new(alloc));
+    let joined = gather(alloc, words.files.as_slice(), words.table, files, &mut table)?;
+    Ok(Whole {
+        table: table.into_inner(),
+        joined,
+    })
+}
+
+/// What is told of the cases.
+fn tell(
+    alloc: Global,
+    words: &JoinWords<'_>,
+    joined: &Joined,
+) -> Result<String, Failure<'static>>
+    requires wants { All IsBounded words.now.wants.items }
+    requires few { All HasFewRuns joined.now.cases.items }
+    requires all { length joined.now.cases.items ≡ case_count joined.now.plan.settings }
+    ensures told { IfOk result
+        (λ lines. TellsCases words.now.jsonl joined.now.revived joined.now.plan words.now.wants.items joined.now.cases.items (string_bytes lines)) }
+    ensures refused { IfErr result (λ failure. failure ≡ Failure.Memory) }
+{
+    match cases_told(
+        alloc,
+        &joined.plan,
+        words.wants.as_slice(),
+        words.jsonl,
+        joined.revived,
+        joined.cases.as_slice(),
+    ) {
+        Ok(lines) => Ok(lines),
+        Err(Memory) => Err(Failure::Memory),
+    }
+}
+
+/// Writes the table to the file that the words name, and a page of the cases to another where one is asked for.
+fn store_asked<'a, F: Files>(
+    alloc: Global,
+    release: &Release<'_>,
+    words: &JoinWords<'a>,
+    whole: &Whole,
+    files: &mut F,
+) -> Result<(), Failure<'a>>
+    requires all { length whole.now.joined.cases.items ≡ case_count whole.now.joined.plan.settings }
+    ensures done { OnOk result (StoresAsked words.now.page release.now.version.now (F.known files.old) (F.known files.new) (F.making files.old) words.now
+        whole.now.joined.plan whole.now.joined.cases.items whole.now.table.items) }
+    ensures failed { IfErr result (FailsToStoreAsked words.now.page release.now.version.now (F.known files.old) (F.known files.new) (F.making files.old) words.now
+        whole.now.joined.plan whole.now.joined.cases.items whole.now.table.items) }
+{
+    match words.page {
+        Some(page) => store_paged(alloc, release, words, whole, page, files),
+        None => {
+            let source = name_at(words.files.as_slice(), words.table, 0);
+            store(source, words.table, whole.table.as_slice(), files)
         }
     }
-    Ok(texts)
 }
 
-/// The pieces put together.
-fn join_texts<'a>(
+/// Writes the table and a page of the cases to files of these names. Either both are made or neither is.
+fn store_paged<'a, F: Files>(
     alloc: Global,
+    release: &Release<'_>,
     words: &JoinWords<'a>,
-    texts: &[Vec<u8>],
-) -> Result<Whole, Failure<'a>>
-    ensures joined { IfOk result (λ whole. Joins texts.now (Some []) (Some whole.table.items) (string_bytes whole.lines)) }
-    ensures refused { IfErr result (RefusesPieces words.now texts.now) }
+    whole: &Whole,
+    page: &'a str,
+    files: &mut F,
+) -> Result<(), Failure<'a>>
+    requires all { length whole.now.joined.cases.items ≡ case_count whole.now.joined.plan.settings }
+    ensures done { OnOk result (StoresPaged release.now.version.now page.entry.now (F.known files.old) (F.known files.new) (F.making files.old) words.now
+        whole.now.joined.plan whole.now.joined.cases.items whole.now.table.items) }
+    ensures failed { IfErr result (FailsToStorePaged release.now.version.now page.entry.now (F.known files.old) (F.known files.new) (F.making files.old) words.now
+        whole.now.joined.plan whole.now.joined.cases.items whole.now.table.items) }
 {
-    let mut table = Put::new(Vec::new(alloc));
-    match join(alloc, texts, &mut table) {
-        Ok(lines) => Ok(Whole {
-            table: table.into_inner(),
-            lines,
-        }),
-        Err(fault) => Err(failure_of(words, fault)),
-    }
-}
-
-/// The failure that a fault is told by. A table in memory fails by want of that.
-fn failure_of<'a>(words: &JoinWords<'a>, fault: JoinFault) -> Failure<'a>
-    ensures { result ≡ piece_failure words.now fault }
-{
-    match fault {
-        JoinFault::NoPiece(place) => Failure::Pieces(PieceFault::NoPiece(name_at(words, place))),
-        JoinFault::Other(place) => Failure::Pieces(PieceFault::Other(name_at(words, place))),
-        JoinFault::Doubled(place) => Failure::Pieces(PieceFault::Doubled(name_at(words, place))),
-        JoinFault::Torn(place) => Failure::Pieces(PieceFault::Torn(name_at(words, place))),
-        JoinFault::Missing(number) => Failure::Pieces(PieceFault::Missing(number)),
-        JoinFault::Write | JoinFault::Memory => Failure::Memory,
-    }
-}
-
-/// The name of the file at a place of the words; that of the table where there is none.
-fn name_at<'a>(words: &JoinWords<'a>, place: usize) -> &'a str
-    ensures { result ≡ name_at words.now place }
-{
-    if place < words.files.len() {
-        return words.files[place];
-    }
-    words.table
+    let source = name_at(words.files.as_slice(), words.table, 0);
+    let text = page_of(alloc, release, words.name, source, &whole.joined)?;
+    store_both(
+        source,
+        words.table,
+        whole.table.as_slice(),
+        page,
+        text.as_bytes(),
+        files,
+    )
 }

@@ -15,24 +15,27 @@ use page_series::PageSeries;
 use scenario::{Division, Scenario, Workers};
 use sharing::run_shared_gathered;
 use std::alloc::Global;
+use std::io::Write;
 use std::marker::Sync;
 use std::sync::Wait;
 use std::thread::Threads;
 use trace::Sink;
+use watched_runs::Watched;
 use whole_runs::the_run_is_one;
 
 /// Runs the scenario as `sharing::run_shared` does, and once the trace and the report are whole and their sinks flushed writes
 /// the page of the run, whose sink is flushed too. The trace's sink is given back. After a fault the sinks have got a beginning
-/// of that.
+/// of that. Where there is a `watch` it is told how far the run has come, as far as it takes that.
 ///
 /// Faults: as of `run_shared`; `Write` also where the page's sink failed.
-pub fn run_with_page<A: Sink, B: Sink, C: Sink, R: Threads + Wait + Sync>(
+pub fn run_with_page<A: Sink, B: Sink, C: Sink, W: Write, R: Threads + Wait + Sync>(
     rt: &R,
     alloc: Global,
     scenario: &Scenario,
     division: &Division,
     workers: Workers,
     shown: &RunShown<'_>,
+    watch: Option<&mut W>,
     trace: A,
     report: &mut B,
     page: &mut C,
@@ -56,7 +59,7 @@ pub fn run_with_page<A: Sink, B: Sink, C: Sink, R: Threads + Wait + Sync>(
 {
     let _end = scenario.end();
     the_run_is_one();
-    let (trace, outcome) = run_told(rt, alloc, scenario, division, workers, trace, report);
+    let (trace, outcome) = run_told(rt, alloc, scenario, division, workers, watch, trace, report);
     match outcome {
         Ok(told) => (trace, write_page(alloc, scenario, shown, &told, page)),
         Err(cause) => (trace, Err(cause)),
@@ -64,12 +67,13 @@ pub fn run_with_page<A: Sink, B: Sink, C: Sink, R: Threads + Wait + Sync>(
 }
 
 /// Runs the scenario, writes its trace and its report, and tells what its page goes by.
-fn run_told<A: Sink, B: Sink, R: Threads + Wait + Sync>(
+fn run_told<A: Sink, B: Sink, W: Write, R: Threads + Wait + Sync>(
     rt: &R,
     alloc: Global,
     scenario: &Scenario,
     division: &Division,
     workers: Workers,
+    watch: Option<&mut W>,
     trace: A,
     report: &mut B,
 ) -> (A, Result<RunTold, Fault>)
@@ -85,10 +89,15 @@ fn run_told<A: Sink, B: Sink, R: Threads + Wait + Sync>(
 {
     let _end = scenario.end();
     match PageSeries::new(alloc, scenario) {
-        Ok(gathered) => {
-            let place = TraceAndGathered { trace, gathered };
-            run_gathering(rt, alloc, scenario, division, workers, place, report)
-        }
+        Ok(gathered) => match watch {
+            Some(out) => run_watching(
+                rt, alloc, scenario, division, workers, out, gathered, trace, report,
+            ),
+            None => {
+                let place = TraceAndGathered { trace, gathered };
+                run_gathering(rt, alloc, scenario, division, workers, place, report)
+            }
+        },
         Err(Memory) => (trace, Err(Fault::Memory)),
     }
 }
@@ -116,6 +125,40 @@ fn run_gathering<A: Sink, B: Sink, R: Threads + Wait + Sync>(
 {
     let outcome = run_shared_gathered(rt, alloc, scenario, division, workers, &mut place, report);
     let TraceAndGathered { trace, gathered } = place;
+    match outcome {
+        Ok(tallies) => (trace, Ok(RunTold { tallies, gathered })),
+        Err(fault) => (trace, Err(fault)),
+    }
+}
+
+/// Runs the scenario, gathers what its page goes by, and tells on `out` how far it has come.
+fn run_watching<A: Sink, B: Sink, W: Write, R: Threads + Wait + Sync>(
+    rt: &R,
+    alloc: Global,
+    scenario: &Scenario,
+    division: &Division,
+    workers: Workers,
+    out: &mut W,
+    gathered: PageSeries,
+    trace: A,
+    report: &mut B,
+) -> (A, Result<RunTold, Fault>)
+    requires divides { length division.now.part_of ≡ member_count scenario.now }
+    requires countable { A.failed trace < 2 ^ 63 }
+    requires countable_report { B.failed report.old < 2 ^ 63 }
+    requires none_gathered { AreSeriesOf scenario.now gathered.series [] }
+    ensures promise { KeepsPromise A.held A.failed B.held B.failed scenario.now trace result.0 report.old report.new (summed (rows_told result.1)) }
+    ensures told { IfOk result.1 (TellsRun scenario.now) }
+    ensures lasts_report { OnOk result.1 (¬ (WearsOutReport scenario.now)) }
+    ensures worn { IsErrOf result.1 Fault.Worn → WearsOut scenario.now ⊎ WearsOutReport scenario.now }
+    ensures others { IsErrOf result.1 Fault.Relay → A.failed result.0 ≡ A.failed trace }
+    ensures threads { IsErrOf result.1 Fault.Relay → 2 ≤ workers }
+{
+    let gathered = Watched::new(out, gathered);
+    let mut place = TraceAndGathered { trace, gathered };
+    let outcome = run_shared_gathered(rt, alloc, scenario, division, workers, &mut place, report);
+    let TraceAndGathered { trace, gathered } = place;
+    let gathered = gathered.into_gathered();
     match outcome {
         Ok(tallies) => (trace, Ok(RunTold { tallies, gathered })),
         Err(fault) => (trace, Err(fault)),

@@ -1,5 +1,5 @@
 -- What a run has done once it ends, in the files as far as they tell, and why one was not done.
-use Rattle.std.specs.Prelude.{◌≡◌, ◌≢◌, ◌⊎◌, ℕ, List, false, [], Option, Some, None, IfSome, length}
+use Rattle.std.specs.Prelude.{◌≡◌, ◌≢◌, ◌⊎◌, ℕ, List, false, true, [], Option, Some, None, IfSome, length}
 use Rattle.std.specs.Borrow.{Bor}
 use Rattle.base.specs.declared.fault.Fault.{Fault}
 use Rattle.base.specs.declared.fault.Fault.TheVariants as fault
@@ -19,6 +19,10 @@ use Rattle.command_line.specs.declared.failure.Failure.{Failure}
 use Rattle.command_line.specs.declared.failure.Failure.TheVariants.{File, Run, Memory}
 use Rattle.scenario_files.specs.Shelves.{Shelf, word_given, IsRefused, HoldsBeginning}
 use Rattle.scenario_files.specs.Checks.{PassesChecks, FailsCheck}
+
+-- the words ask for a run that tells how far it has come
+abbrev pub AsksForRunProgress : List Text → Type 0
+AsksForRunProgress words = (run : RunWords) × AsksForRun words run × (run.progress ≡ true)
 
 -- ---- what was done
 

@@ -12,16 +12,18 @@ use page_runs::RunShown;
 use scenario_files::{PreparedRun, run_told};
 use std::alloc::Global;
 use std::io;
+use std::io::Write;
 
 /// Runs a scenario, and writes its trace to the file that the words name, its page to another, and its report to a third where
-/// they ask for it. Either all are made or none is.
-pub(crate) fn store_paged<'a, M: Simulator, F: Files>(
+/// they ask for it. Either all are made or none is. The `watch`, where there is one, is told how far the run has come.
+pub(crate) fn store_paged<'a, M: Simulator, F: Files, P: Write>(
     simulator: &M,
     alloc: Global,
     release: &Release<'_>,
     prepared: &PreparedRun,
     words: RunWords<'a>,
     page: &'a str,
+    watch: Option<&mut P>,
     files: &mut F,
 ) -> Result<Summary, Failure<'a>>
     requires ready { M.ready }
@@ -38,20 +40,23 @@ pub(crate) fn store_paged<'a, M: Simulator, F: Files>(
     };
     match words.report {
         Some(report) => store_three(
-            simulator, alloc, prepared, words, &shown, report, page, files,
+            simulator, alloc, prepared, words, &shown, report, page, watch, files,
         ),
-        None => store_two(simulator, alloc, prepared, words, &shown, page, files),
+        None => store_two(
+            simulator, alloc, prepared, words, &shown, page, watch, files,
+        ),
     }
 }
 
 /// The same without a report, which goes nowhere.
-fn store_two<'a, M: Simulator, F: Files>(
+fn store_two<'a, M: Simulator, F: Files, P: Write>(
     simulator: &M,
     alloc: Global,
     prepared: &PreparedRun,
     words: RunWords<'a>,
     shown: &RunShown<'_>,
     page: &'a str,
+    watch: Option<&mut P>,
     files: &mut F,
 ) -> Result<Summary, Failure<'a>>
     requires ready { M.ready }
@@ -75,6 +80,7 @@ fn store_two<'a, M: Simulator, F: Files>(
         &prepared.division,
         prepared.workers,
         shown,
+        watch,
         made_trace,
         io::sink(),
         made_page,
@@ -85,7 +91,7 @@ fn store_two<'a, M: Simulator, F: Files>(
 }
 
 /// The same with a report.
-fn store_three<'a, M: Simulator, F: Files>(
+fn store_three<'a, M: Simulator, F: Files, P: Write>(
     simulator: &M,
     alloc: Global,
     prepared: &PreparedRun,
@@ -93,6 +99,7 @@ fn store_three<'a, M: Simulator, F: Files>(
     shown: &RunShown<'_>,
     report: &'a str,
     page: &'a str,
+    watch: Option<&mut P>,
     files: &mut F,
 ) -> Result<Summary, Failure<'a>>
     requires ready { M.ready }
@@ -122,6 +129,7 @@ fn store_three<'a, M: Simulator, F: Files>(
         &prepared.division,
         prepared.workers,
         shown,
+        watch,
         made_trace,
         made_report,
         made_page,

@@ -1,6 +1,7 @@
 //! The run of the scenario of a file.
-ghost use Rattle.std.specs.Prelude.{IfOk, IfErr};
-ghost use Rattle.run_command.specs.Outcomes.{RunsAll, RunFails};
+ghost use Rattle.std.specs.Prelude.{◌≡◌, false, length, IfOk, IfErr, OnOk};
+ghost use Rattle.scenario.specs.Setup.{member_count};
+ghost use Rattle.run_command.specs.Outcomes.{AreApart, FailsAsked, RunsAll, RunFails, StoresAsked};
 
 use crate::paging::store_paged;
 use crate::simulator::Simulator;
@@ -8,27 +9,67 @@ use crate::storing::store_run;
 use command_line::{Failure, Release, RunWords};
 use files::Files;
 use outputs::Summary;
-use scenario_files::prepare;
+use scenario_files::{PreparedRun, prepare};
 use std::alloc::Global;
+use std::io::Write;
 
 /// Runs the scenario of one file, and writes its trace, its report and its page to others, which are made once all
-/// checks have passed. The page tells the release.
-pub fn run<'a, M: Simulator, F: Files>(
+/// checks have passed. The page tells the release. How far the run has come is told on `progress` where the words ask
+/// for that, as far as it takes the lines.
+pub fn run<'a, M: Simulator, F: Files, P: Write>(
     simulator: &M,
     alloc: Global,
     release: &Release<'_>,
     words: RunWords<'a>,
     files: &mut F,
+    progress: &mut P,
 ) -> Result<Summary, Failure<'a>>
     requires { M.ready }
     ensures done { IfOk result
         (λ summary. RunsAll release.now.version.now (F.known files.old) (F.known files.new) (F.making files.old) words.entry summary.rows) }
     ensures failed { IfErr result
         (RunFails M.ends_by release.now.version.now (F.known files.old) (F.known files.new) (F.making files.old) words.entry) }
+
+    // Who doesn't ask for lines gets none.
+    ensures unasked { words.entry.progress ≡ false → progress.new ≡ progress.old }
 {
     let prepared = prepare(alloc, words, files)?;
+    if words.progress {
+        let watch = Some(progress);
+        return store_asked(simulator, alloc, release, &prepared, words, watch, files);
+    }
+    let watch = nobody(progress);
+    store_asked(simulator, alloc, release, &prepared, words, watch, files)
+}
+
+/// Nobody who is told: for as long as the writer that isn't.
+fn nobody<'p, P: Write>(_progress: &'p P) -> Option<&'p mut P> {
+    None
+}
+
+/// Runs a scenario, and writes its trace, its report and its page to the files that the words name. The `watch`, where
+/// there is one, is told how far the run has come.
+fn store_asked<'a, M: Simulator, F: Files, P: Write>(
+    simulator: &M,
+    alloc: Global,
+    release: &Release<'_>,
+    prepared: &PreparedRun,
+    words: RunWords<'a>,
+    watch: Option<&mut P>,
+    files: &mut F,
+) -> Result<Summary, Failure<'a>>
+    requires ready { M.ready }
+    requires divided { length prepared.now.division.part_of ≡ member_count prepared.now.scenario }
+    ensures done { IfOk result (λ summary. StoresAsked words.entry.page prepared.now.scenario release.now.version.now
+        (F.known files.old) (F.known files.new) words.entry summary.rows) }
+    ensures apart { OnOk result (AreApart words.entry.page (F.making files.old) words.entry) }
+    ensures failed { IfErr result (FailsAsked words.entry.page (M.ends_by prepared.now.scenario prepared.now.workers) prepared.now.scenario
+        release.now.version.now (F.known files.old) (F.known files.new) (F.making files.old) words.entry) }
+{
     match words.page {
-        Some(page) => store_paged(simulator, alloc, release, &prepared, words, page, files),
-        None => store_run(simulator, alloc, &prepared, words, files),
+        Some(page) => store_paged(
+            simulator, alloc, release, prepared, words, page, watch, files,
+        ),
+        None => store_run(simulator, alloc, prepared, words, watch, files),
     }
 }

@@ -29,13 +29,14 @@ pub trait Simulator {
 
     /// Runs a scenario by the parts of a division of its members and so many workers, writes its trace to one
     /// writer and then its report to the other, and gives both back. After a fault they have got a beginning of
-    /// that.
-    fn simulate<T: Write, R: Write>(
+    /// that. Where there is a `watch` it is told how far the run has come, as far as it takes that.
+    fn simulate<T: Write, R: Write, W: Write>(
         &self,
         alloc: Global,
         scenario: &Scenario,
         division: &Division,
         workers: Workers,
+        watch: Option<&mut W>,
         trace: T,
         report: R,
     ) -> (Put<T>, Put<R>, Result<Summary, Fault>)
@@ -56,13 +57,14 @@ pub trait Simulator {
 
     /// Runs a scenario as `simulate` does, writes its page to a third writer once the other two are whole, and gives all
     /// three back. After a fault they have got a beginning of that.
-    fn simulate_with_page<T: Write, R: Write, P: Write>(
+    fn simulate_with_page<T: Write, R: Write, P: Write, W: Write>(
         &self,
         alloc: Global,
         scenario: &Scenario,
         division: &Division,
         workers: Workers,
         shown: &RunShown<'_>,
+        watch: Option<&mut W>,
         trace: T,
         report: R,
         page: P,

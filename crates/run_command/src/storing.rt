@@ -11,13 +11,16 @@ use outputs::Summary;
 use scenario_files::{PreparedRun, file_failure, run_told};
 use std::alloc::Global;
 use std::io;
+use std::io::Write;
 
-/// Runs a scenario, and writes its trace to the file that the words name, and its report to one where they ask for it.
-pub(crate) fn store_run<'a, M: Simulator, F: Files>(
+/// Runs a scenario, and writes its trace to the file that the words name, and its report to one where they ask for it. The
+/// `watch`, where there is one, is told how far the run has come.
+pub(crate) fn store_run<'a, M: Simulator, F: Files, P: Write>(
     simulator: &M,
     alloc: Global,
     prepared: &PreparedRun,
     words: RunWords<'a>,
+    watch: Option<&mut P>,
     files: &mut F,
 ) -> Result<Summary, Failure<'a>>
     requires ready { M.ready }
@@ -29,17 +32,18 @@ pub(crate) fn store_run<'a, M: Simulator, F: Files>(
         (F.making files.old) words.entry.file.now words.entry.trace.now (word_given words.entry.report)) }
 {
     match words.report {
-        Some(report) => store_both(simulator, alloc, prepared, words, report, files),
-        None => store_trace(simulator, alloc, prepared, words, files),
+        Some(report) => store_both(simulator, alloc, prepared, words, report, watch, files),
+        None => store_trace(simulator, alloc, prepared, words, watch, files),
     }
 }
 
 /// Runs a scenario, and writes its trace to the file that the words name. Its report goes nowhere.
-fn store_trace<'a, M: Simulator, F: Files>(
+fn store_trace<'a, M: Simulator, F: Files, P: Write>(
     simulator: &M,
     alloc: Global,
     prepared: &PreparedRun,
     words: RunWords<'a>,
+    watch: Option<&mut P>,
     files: &mut F,
 ) -> Result<Summary, Failure<'a>>
     requires ready { M.ready }
@@ -59,6 +63,7 @@ fn store_trace<'a, M: Simulator, F: Files>(
         &prepared.scenario,
         &prepared.division,
         prepared.workers,
+        watch,
         made,
         io::sink(),
     );
@@ -68,12 +73,13 @@ fn store_trace<'a, M: Simulator, F: Files>(
 
 /// Runs a scenario, and writes its trace to the file that the words name and its report to another. Either both
 /// are made or neither is.
-fn store_both<'a, M: Simulator, F: Files>(
+fn store_both<'a, M: Simulator, F: Files, P: Write>(
     simulator: &M,
     alloc: Global,
     prepared: &PreparedRun,
     words: RunWords<'a>,
     report: &'a str,
+    watch: Option<&mut P>,
     files: &mut F,
 ) -> Result<Summary, Failure<'a>>
     requires ready { M.ready }
@@ -96,6 +102,7 @@ fn store_both<'a, M: Simulator, F: Files>(
         &prepared.scenario,
         &prepared.division,
         prepared.workers,
+        watch,
         made_trace,
         made_report,
     );

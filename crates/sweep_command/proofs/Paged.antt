@@ -61,30 +61,19 @@ pub plain_apart : {T E : Type 0} (told : Result T E) (making : Making) (file tab
     → OnOk told (AreApart None making file table) → OnOk told (AreApart asked making file table)
 plain_apart told making file table asked none apart = subst (λ (o : Option (Bor (List ℕ))). OnOk told (AreApart o making file table)) (sym none) apart
 
--- a page of the cases
-pub page_is : {T E : Type 0} (bytes : T → List ℕ) (told : Result T E) (sweep : SweepWords) (name release : List ℕ) (cases : List CaseSummary) (front : List Bool)
-    → name ≡ sweep.file.now → front ≡ front_of cases → IfOk told (λ text. bytes text ≡ page_text name release sweep.plan cases front) → IfOk told (λ text. IsSweepPage sweep release cases (bytes text))
-page_is bytes told sweep name release cases front named are is =
-    each_ok told is (λ text h.
-    h ∙ ap (λ n. page_text n release sweep.plan cases front) named ∙ ap (page_text sweep.file.now release sweep.plan cases) are)
-
--- what failed while a page was written has its cause
-write_cause : (tree : Data) (plan : Sweep) (e : WriteError) → HasCause tree plan (fault_of_write e)
-write_cause tree plan write_error.Memory = tt
-write_cause tree plan write_error.Stopped = tt
-
-pub page_cause : {T : Type 0} (tree : Data) (plan : Sweep) (told : Result T Fault) (e : WriteError) → IsErrAnd told (λ f. f ≡ fault_of_write e) → IfErr told (HasCause tree plan)
-page_cause tree plan (Ok x) e is = tt
-page_cause tree plan (Err f) e is = subst (HasCause tree plan) (sym is) (write_cause tree plan e)
+-- what failed while a page was made has its cause
+pub page_cause : (tree : Data) (plan : Sweep) (told : Result (Unit {0}) Fault) → IsErrAnd told (λ f. f ≡ cause.Memory) → IfErr told (HasCause tree plan)
+page_cause tree plan (Ok x) is = tt
+page_cause tree plan (Err f) is = subst (HasCause tree plan) (sym is) tt
 
 -- what was begun of both where the table broke off, and where it is whole
 module _ (tree : Data) (sweep : SweepWords) (release : List ℕ) (old new page_old page_new : Option (List ℕ)) where
-  pub table_broke : BeginsRuns sweep.until tree sweep.plan old new → Keeps page_old page_new → BeginsPaged tree sweep old new page_old page_new
+  pub table_broke : BeginsRuns sweep.plan.until tree sweep.plan old new → Keeps page_old page_new → BeginsPaged tree sweep old new page_old page_new
   table_broke begins keeps = record { made = begins.made; are = begins.are; written = inl (begins.written, keeps) }
 
-  pub page_broke : (cases all : List CaseSummary) → all ≡ cases → MakesRuns sweep.until tree sweep.plan old new cases → BeginsPage sweep release all page_old page_new → BeginsPaged tree sweep old new page_old page_new
+  pub page_broke : (cases all : List CaseSummary) → all ≡ cases → MakesRuns sweep.plan.until tree sweep.plan old new cases → BeginsPage sweep release all page_old page_new → BeginsPaged tree sweep old new page_old page_new
   page_broke cases all same makes begins = by (subst (λ (l : List CaseSummary). BeginsPage sweep release l page_old page_new) same begins)
     where
       by : BeginsPage sweep release cases page_old page_new → BeginsPaged tree sweep old new page_old page_new
-      by (inl keeps) = record { made = makes.made; are = makes.are; written = inl (beginning-whole old new (runs_table sweep.until tree sweep.plan makes.made) makes.written, keeps) }
+      by (inl keeps) = record { made = makes.made; are = makes.are; written = inl (beginning-whole old new (runs_table sweep.plan.until tree sweep.plan makes.made) makes.written, keeps) }
       by (inr some) = record { made = makes.made; are = makes.are; written = inr (makes.written, (some.0, (release, cases, makes.told, some.1), some.2)) }

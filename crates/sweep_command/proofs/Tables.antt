@@ -48,7 +48,7 @@ module _ {T E : Type 0} (bytes : T → List ℕ) (tree : Data) (sweep : SweepWor
   pub piece_begun : (p : Piece) → asked ≡ Some p → OnErr told (BeginsPart sweep.resume tree sweep mark p stood runs old new) → OnErr told (BeginsAsked asked tree sweep mark stood runs old new)
   piece_begun p is begun = subst (λ (o : Option Piece). OnErr told (BeginsAsked o tree sweep mark stood runs old new)) (sym is) begun
 
-  pub whole_begun : asked ≡ None → OnErr told (BeginsRuns sweep.until tree sweep.plan old new) → OnErr told (BeginsAsked asked tree sweep mark stood runs old new)
+  pub whole_begun : asked ≡ None → OnErr told (BeginsRuns sweep.plan.until tree sweep.plan old new) → OnErr told (BeginsAsked asked tree sweep mark stood runs old new)
   whole_begun is begun = subst (λ (o : Option Piece). OnErr told (BeginsAsked o tree sweep mark stood runs old new)) (sym is) begun
 
 -- a piece that goes on has no fewer runs than are made
@@ -103,7 +103,7 @@ module _ (tree : Data) (sweep : SweepWords) (mark : List ℕ) (start made end : 
   table_stored None lines goes tells = record {
     made = tells.makes.made;
     are = tells.makes.are;
-    stored = text_held (runs_table sweep.until tree sweep.plan tells.makes.made) tells.makes.written;
+    stored = text_held (runs_table sweep.plan.until tree sweep.plan tells.makes.made) tells.makes.written;
     others = others_kept;
     told = record { cases = tells.cases; all = tells.makes.all; told = tells.makes.told; text = tells.text };
   }
@@ -134,7 +134,7 @@ module _ (tree : Data) (sweep : SweepWords) (mark : List ℕ) (start made end : 
   table_begun None cause goes begins caused = record {
     made = begins.made;
     are = begins.are;
-    begun = beginning_held (runs_table sweep.until tree sweep.plan begins.made) begins.written;
+    begun = beginning_held (runs_table sweep.plan.until tree sweep.plan begins.made) begins.written;
     others = others_kept;
     caused = caused;
   }

@@ -13,10 +13,7 @@ use Rattle.cases.specs.Sweep.{Sweep, case_count, run_count}
 use Rattle.cases.specs.Cases.{settings_text}
 use Rattle.cases.specs.declared.keys.SettingKey.{SettingKey}
 use Rattle.trace.specs.Sinks.{AppendsBeginning}
-use Rattle.answers.specs.Answers.{AddsAnswer}
-use Rattle.answers.specs.Front.{is_on_front}
-use Rattle.sweep_page.specs.Page.{page_text}
-use Rattle.case_json.specs.Objects.{TellsObjects}
+use Rattle.case_telling.specs.Telling.{IsSweepPage, TellsCases}
 use Rattle.pieces.specs.Pieces.{first_run, past_run}
 use Rattle.pieces.specs.declared.piece.Piece.{Piece}
 use Rattle.sweep.specs.Runs.{Made, Planned}
@@ -25,7 +22,6 @@ use Rattle.sweep.specs.Table.{tells_revived, HasCause}
 use Rattle.sweep.specs.Pieces.{AreMadeIn, BeginsPiece, WritesPiece, piece_table}
 use Rattle.sweep.specs.Resumed.{AreMadeBehind, BeginsRest, IsBegun, RefusesBegun, WritesRest, rest_text}
 use Rattle.sweep.specs.declared.begun.BegunFault.TheVariants as begun_fault
-use Rattle.sweep.specs.Texts.{cases_text}
 use Rattle.figures.specs.declared.summary.CaseSummary.{CaseSummary}
 use Rattle.command_line.specs.Words.{AsksForSweep}
 use Rattle.command_line.specs.Division.{AsksForWorkers}
@@ -53,53 +49,39 @@ pub record PassesSweepChecks (before : Shelf) (sweep : SweepWords) (workers : �
   pub there : missing_of tree sweep.plan.settings ≡ None
   pub accepted : AreAccepted tree sweep.plan
 
--- how cases are told: as JSON, an object a line, or in aligned columns, with what they answer
-abbrev pub TellsCases : Bool → Data → SweepWords → List CaseSummary → List ℕ → Type 0
-TellsCases true tree sweep cases text = TellsObjects (tells_revived tree) sweep.plan.settings sweep.wants.items cases text
-TellsCases false tree sweep cases text = AddsAnswer sweep.plan.settings sweep.wants.items cases (cases_text (tells_revived tree) sweep.plan cases) text
-
 -- this is what is told of all cases, by the summaries of their runs
-pub record AreLinesOf (tree : Data) (sweep : SweepWords) (made : RunsBy sweep.until) (lines : List ℕ) : Type 0 where
+pub record AreLinesOf (tree : Data) (sweep : SweepWords) (made : RunsBy sweep.plan.until) (lines : List ℕ) : Type 0 where
   pub cases : List CaseSummary
   pub all : length cases ≡ case_count sweep.plan.settings
-  pub told : AreSummedUp sweep.until sweep.plan made cases
-  pub text : TellsCases sweep.jsonl tree sweep cases lines
+  pub told : AreSummedUp sweep.plan.until sweep.plan made cases
+  pub text : TellsCases sweep.jsonl (tells_revived tree) sweep.plan sweep.wants.items cases lines
 
 -- the runs were made and their table was appended to what was held, and this is what is told of their cases
 pub record MakesLines (tree : Data) (sweep : SweepWords) (old new : Option (List ℕ)) (lines : List ℕ) : Type 0 where
   pub cases : List CaseSummary
-  pub makes : MakesRuns sweep.until tree sweep.plan old new cases
-  pub text : TellsCases sweep.jsonl tree sweep cases lines
+  pub makes : MakesRuns sweep.plan.until tree sweep.plan old new cases
+  pub text : TellsCases sweep.jsonl (tells_revived tree) sweep.plan sweep.wants.items cases lines
 
 -- The runs were made: the file holds their table, no other file has changed, and this is what is told of their cases.
 pub record StoresTable (tree : Data) (sweep : SweepWords) (before after : Shelf) (lines : List ℕ) : Type 0 where
-  pub made : RunsBy sweep.until
-  pub are : AreRuns sweep.until tree sweep.plan made
-  pub stored : HoldsNow (before sweep.table.now) (after sweep.table.now) (runs_table sweep.until tree sweep.plan made)
+  pub made : RunsBy sweep.plan.until
+  pub are : AreRuns sweep.plan.until tree sweep.plan made
+  pub stored : HoldsNow (before sweep.table.now) (after sweep.table.now) (runs_table sweep.plan.until tree sweep.plan made)
   pub others : KeepsOthers before after sweep.table.now
   pub told : AreLinesOf tree sweep made lines
-
--- which cases no other beats
-abbrev pub front_of : List CaseSummary → List Bool
-front_of cases = map (λ case. is_on_front case cases) cases
-
--- the text is the page of these cases, made by a release
-abbrev pub IsSweepPage : SweepWords → List ℕ → List CaseSummary → List ℕ → Type 0
-IsSweepPage sweep release cases text =
-    text ≡ page_text sweep.file.now release sweep.plan cases (front_of cases)
 
 -- The runs were made, and this is what is told of their cases: the file of the table holds that, the file of this name a page of the cases, and no
 -- other file has changed.
 pub record StoresPaged (tree : Data) (sweep : SweepWords) (release : List ℕ) (page : Text) (before after : Shelf) (lines : List ℕ) : Type 0 where
-  pub made : RunsBy sweep.until
-  pub are : AreRuns sweep.until tree sweep.plan made
-  pub stored : HoldsNow (before sweep.table.now) (after sweep.table.now) (runs_table sweep.until tree sweep.plan made)
+  pub made : RunsBy sweep.plan.until
+  pub are : AreRuns sweep.plan.until tree sweep.plan made
+  pub stored : HoldsNow (before sweep.table.now) (after sweep.table.now) (runs_table sweep.plan.until tree sweep.plan made)
   pub cases : List CaseSummary
   pub all : length cases ≡ case_count sweep.plan.settings
-  pub told : AreSummedUp sweep.until sweep.plan made cases
-  pub text : TellsCases sweep.jsonl tree sweep cases lines
+  pub told : AreSummedUp sweep.plan.until sweep.plan made cases
+  pub text : TellsCases sweep.jsonl (tells_revived tree) sweep.plan sweep.wants.items cases lines
   pub shown : List ℕ
-  pub is : IsSweepPage sweep release cases shown
+  pub is : IsSweepPage sweep.file.now release sweep.plan cases shown
   pub paged : HoldsNow (before page) (after page) shown
   pub others : KeepsAllOthers before after sweep.table.now page
 
@@ -110,28 +92,28 @@ StoresWhole (Some page) tree sweep release before after lines = StoresPaged tree
 
 -- a page of the cases was appended; or a beginning of one, or nothing
 abbrev pub WritesPage : SweepWords → List ℕ → List CaseSummary → Option (List ℕ) → Option (List ℕ) → Type 0
-WritesPage sweep release cases old new = (text : List ℕ) × IsSweepPage sweep release cases text × Appends old new text
+WritesPage sweep release cases old new = (text : List ℕ) × IsSweepPage sweep.file.now release sweep.plan cases text × Appends old new text
 
 abbrev pub BeginsPage : SweepWords → List ℕ → List CaseSummary → Option (List ℕ) → Option (List ℕ) → Type 0
-BeginsPage sweep release cases old new = Keeps old new ⊎ ((text : List ℕ) × IsSweepPage sweep release cases text × AppendsBeginning old new text)
+BeginsPage sweep release cases old new = Keeps old new ⊎ ((text : List ℕ) × IsSweepPage sweep.file.now release sweep.plan cases text × AppendsBeginning old new text)
 
 -- the same of what was appended to what was held
 pub record MakesPaged (tree : Data) (sweep : SweepWords) (release : List ℕ) (old new page_old page_new : Option (List ℕ)) (lines : List ℕ) : Type 0 where
   pub cases : List CaseSummary
-  pub makes : MakesRuns sweep.until tree sweep.plan old new cases
-  pub text : TellsCases sweep.jsonl tree sweep cases lines
+  pub makes : MakesRuns sweep.plan.until tree sweep.plan old new cases
+  pub text : TellsCases sweep.jsonl (tells_revived tree) sweep.plan sweep.wants.items cases lines
   pub paged : WritesPage sweep release cases page_old page_new
 
 -- a text is a page of the cases of these runs
-abbrev pub IsPageOfRuns : (sweep : SweepWords) → RunsBy sweep.until → List ℕ → Type 0
-IsPageOfRuns sweep made text = (release : List ℕ) × (cases : List CaseSummary) × AreSummedUp sweep.until sweep.plan made cases × IsSweepPage sweep release cases text
+abbrev pub IsPageOfRuns : (sweep : SweepWords) → RunsBy sweep.plan.until → List ℕ → Type 0
+IsPageOfRuns sweep made text = (release : List ℕ) × (cases : List CaseSummary) × AreSummedUp sweep.plan.until sweep.plan made cases × IsSweepPage sweep.file.now release sweep.plan cases text
 
 -- a beginning was appended: of the table, and nothing of a page; or the whole table, and a beginning of a page
 pub record BeginsPaged (tree : Data) (sweep : SweepWords) (old new page_old page_new : Option (List ℕ)) : Type 0 where
-  pub made : RunsBy sweep.until
-  pub are : AreRuns sweep.until tree sweep.plan made
-  pub written : (AppendsBeginning old new (runs_table sweep.until tree sweep.plan made) × Keeps page_old page_new)
-      ⊎ (Appends old new (runs_table sweep.until tree sweep.plan made) × ((text : List ℕ) × IsPageOfRuns sweep made text × AppendsBeginning page_old page_new text))
+  pub made : RunsBy sweep.plan.until
+  pub are : AreRuns sweep.plan.until tree sweep.plan made
+  pub written : (AppendsBeginning old new (runs_table sweep.plan.until tree sweep.plan made) × Keeps page_old page_new)
+      ⊎ (Appends old new (runs_table sweep.plan.until tree sweep.plan made) × ((text : List ℕ) × IsPageOfRuns sweep made text × AppendsBeginning page_old page_new text))
 
 -- The runs of a piece were made: the file holds its table, and no other file has changed.
 pub record StoresPiece (tree : Data) (sweep : SweepWords) (mark : List ℕ) (p : Piece) (before after : Shelf) : Type 0 where
@@ -196,7 +178,7 @@ BeginsPart false tree sweep mark p stood runs old new = BeginsPiece tree sweep.p
 BeginsPart true tree sweep mark p stood runs old new = BeginsRest tree sweep.plan mark p stood runs old new
 
 abbrev pub BeginsAsked : Option Piece → Data → SweepWords → List ℕ → List ℕ → ℕ → Option (List ℕ) → Option (List ℕ) → Type 0
-BeginsAsked None tree sweep mark stood runs old new = BeginsRuns sweep.until tree sweep.plan old new
+BeginsAsked None tree sweep mark stood runs old new = BeginsRuns sweep.plan.until tree sweep.plan old new
 BeginsAsked (Some p) tree sweep mark stood runs old new = BeginsPart sweep.resume tree sweep mark p stood runs old new
 
 -- the piece that goes on, if one does
@@ -272,9 +254,9 @@ CannotGoOn tree sweep mark known failure = (p : Piece) × (piece_resumed sweep.r
 
 -- the runs were ended by the fault, which has its cause: the file holds a beginning of their table, and no other has changed
 pub record BreaksOffTable (tree : Data) (sweep : SweepWords) (before after : Shelf) (cause : Fault) : Type 0 where
-  pub made : RunsBy sweep.until
-  pub are : AreRuns sweep.until tree sweep.plan made
-  pub begun : HoldsBeginning (before sweep.table.now) (after sweep.table.now) (runs_table sweep.until tree sweep.plan made)
+  pub made : RunsBy sweep.plan.until
+  pub are : AreRuns sweep.plan.until tree sweep.plan made
+  pub begun : HoldsBeginning (before sweep.table.now) (after sweep.table.now) (runs_table sweep.plan.until tree sweep.plan made)
   pub others : KeepsOthers before after sweep.table.now
   pub caused : HasCause tree sweep.plan cause
 
@@ -317,10 +299,10 @@ TableFails tree mark before after making sweep _ = ⊥
 
 -- of a table and a page: the one has a beginning while the other is empty, or the one is whole and the other has a beginning
 pub record BreaksOffPaged (tree : Data) (sweep : SweepWords) (page : Text) (before after : Shelf) (cause : Fault) : Type 0 where
-  pub made : RunsBy sweep.until
-  pub are : AreRuns sweep.until tree sweep.plan made
-  pub written : (HoldsBeginning (before sweep.table.now) (after sweep.table.now) (runs_table sweep.until tree sweep.plan made) × HoldsNow (before page) (after page) [])
-      ⊎ (HoldsNow (before sweep.table.now) (after sweep.table.now) (runs_table sweep.until tree sweep.plan made)
+  pub made : RunsBy sweep.plan.until
+  pub are : AreRuns sweep.plan.until tree sweep.plan made
+  pub written : (HoldsBeginning (before sweep.table.now) (after sweep.table.now) (runs_table sweep.plan.until tree sweep.plan made) × HoldsNow (before page) (after page) [])
+      ⊎ (HoldsNow (before sweep.table.now) (after sweep.table.now) (runs_table sweep.plan.until tree sweep.plan made)
       × ((text : List ℕ) × IsPageOfRuns sweep made text × HoldsBeginning (before page) (after page) text))
   pub others : KeepsAllOthers before after sweep.table.now page
   pub caused : HasCause tree sweep.plan cause

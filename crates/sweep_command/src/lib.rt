@@ -4,8 +4,8 @@
 mod checks;
 mod making;
 mod paging;
+mod progressing;
 mod resuming;
 mod sweeping;
-mod telling;
 
 pub use sweeping::sweep_file;

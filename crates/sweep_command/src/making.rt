@@ -35,17 +35,16 @@ pub(crate) fn make_runs<S: Sink, P: Progress>(
     table: &mut S,
 ) -> Result<Vec<CaseSummary>, Fault>
     requires asked { IsAskedFor words.now.plan }
-    requires width { ForSome words.now.until (λ width. width ≤ 100) }
     requires judged { AreAccepted (view document.now) words.now.plan }
     requires countable { S.failed table.old < 2 ^ 63 }
     ensures whole { IfOk result
-        (λ cases. MakesRuns words.now.until (view document.now) words.now.plan (S.held table.old) (S.held table.new) cases.items) }
+        (λ cases. MakesRuns words.now.plan.until (view document.now) words.now.plan (S.held table.old) (S.held table.new) cases.items) }
     ensures part { OnErr result
-        (BeginsRuns words.now.until (view document.now) words.now.plan (S.held table.old) (S.held table.new)) }
+        (BeginsRuns words.now.plan.until (view document.now) words.now.plan (S.held table.old) (S.held table.new)) }
     ensures causes { IfErr result (HasCause (view document.now) words.now.plan) }
 {
     let plan = &words.plan;
-    match words.until {
+    match plan.until() {
         Some(width) => sweep_until(rt, alloc, plan, width, document, workers, progress, table),
         None => sweep(rt, alloc, plan, document, workers, progress, table),
     }

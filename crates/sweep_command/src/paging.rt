@@ -1,35 +1,31 @@
 //! A whole sweep, and the files that take its table and its page.
 ghost use Rattle.std.specs.Prelude.{◌≡◌, ◌<◌, ◌≤◌, ◌^◌, All, false, length, IfOk, IfErr, OnOk, OnErr, string_bytes};
 ghost use Rattle.std.specs.Option.{ForSome};
-ghost use Rattle.std.specs.Io.KnownBytes.{Appends};
 ghost use Rattle.toml.specs.Data.{Data};
 ghost use Rattle.toml.specs.View.{view};
 ghost use Rattle.answers.specs.Wants.{IsBounded};
 ghost use Rattle.cases.specs.Sweep.{Sweep, case_count};
 ghost use Rattle.files.specs.Files.{AreThreeFiles};
-ghost use Rattle.trace.specs.Sinks.{AppendsBeginning};
 ghost use Rattle.trace.specs.Writers.{writer_under};
 ghost use Rattle.sweep.specs.Runs.{IsAskedFor};
 ghost use Rattle.sweep.specs.Judged.{AreAccepted};
 ghost use Rattle.sweep.specs.Table.{HasCause};
-ghost use Rattle.sweep_command.specs.Outcomes.{BeginsPage, BeginsPaged, IsSweepPage, MakesPaged, PagedFails, StoresPaged, WritesPage, front_of};
+ghost use Rattle.sweep_command.specs.Outcomes.{BeginsPage, BeginsPaged, MakesPaged, PagedFails, StoresPaged, WritesPage};
 
 use crate::checks::PreparedSweep;
 use crate::making::make_runs;
-use crate::telling::{RunLines, cases_told};
-use answers::is_on_front;
-use base::{Fault, Memory};
+use crate::progressing::RunLines;
+use base::Fault;
+use case_telling::{SweepShown, cases_page, cases_told, put_text};
 use command_line::{Failure, Release, SweepWords};
 use figures::CaseSummary;
 use files::{Files, PairFault};
-use outputs::flush;
 use scenario_files::run_told;
 use std::alloc::Global;
 use std::io::Write;
 use std::thread::Threads;
-use sweep::{NoProgress, Progress};
-use sweep_page::{SweepShown, page};
-use trace::{Put, Sink, WriteError, put_all};
+use sweep::{NoProgress, Progress, tells_revived};
+use trace::{Put, Sink, Stopped};
 
 /// Makes the runs, and writes their table to the file that the words name and a page of their cases
 /// to another. Either both files are made or neither is.
@@ -44,7 +40,6 @@ pub(crate) fn store_paged<'a, F: Files, P: Write>(
     progress: &mut P,
 ) -> Result<String, Failure<'a>>
     requires asked { IsAskedFor words.now.plan }
-    requires width { ForSome words.now.until (λ width. width ≤ 100) }
     requires wants { All IsBounded words.now.wants.items }
     requires judged { AreAccepted (view prepared.now.marked.document) words.now.plan }
     ensures done { IfOk result (λ lines. StoresPaged (view prepared.now.marked.document) words.now release.now.version.now page.entry.now
@@ -81,7 +76,6 @@ fn fill_both<T: Write, U: Write, P: Write>(
     progress: &mut P,
 ) -> (Put<T>, Put<U>, Result<String, Fault>)
     requires asked { IsAskedFor words.now.plan }
-    requires width { ForSome words.now.until (λ width. width ≤ 100) }
     requires wants { All IsBounded words.now.wants.items }
     requires judged { AreAccepted (view prepared.now.marked.document) words.now.plan }
     ensures whole { IfOk result.2 (λ lines. MakesPaged (view prepared.now.marked.document) words.now release.now.version.now
@@ -126,7 +120,6 @@ fn tell_both<S: Sink, U: Sink, P: Progress>(
     page: &mut U,
 ) -> Result<String, Fault>
     requires asked { IsAskedFor words.now.plan }
-    requires width { ForSome words.now.until (λ width. width ≤ 100) }
     requires wants { All IsBounded words.now.wants.items }
     requires judged { AreAccepted (view prepared.now.marked.document) words.now.plan }
     requires countable { S.failed table.old < 2 ^ 63 }
@@ -147,7 +140,15 @@ fn tell_both<S: Sink, U: Sink, P: Progress>(
         progress,
         table,
     )?;
-    let lines = cases_told(alloc, words, document, &cases)?;
+    let revived = tells_revived(document);
+    let lines = cases_told(
+        alloc,
+        &words.plan,
+        &words.wants,
+        words.jsonl,
+        revived,
+        &cases,
+    )?;
     write_page(alloc, release, words, &cases, page)?;
     Ok(lines)
 }
@@ -166,46 +167,13 @@ fn write_page<U: Sink>(
     ensures part { OnErr result (BeginsPage words.now release.now.version.now cases.now (U.held out.old) (U.held out.new)) }
     ensures causes { (tree : Data) (plan : Sweep) → IfErr result (HasCause tree plan) }
 {
-    let text = page_of(alloc, release, words, cases)?;
-    put_page(text.as_bytes(), out)?;
-    Ok(())
-}
-
-/// Puts a whole text, and flushes the sink.
-fn put_page<U: Sink>(text: &[u8], out: &mut U) -> Result<(), WriteError>
-    requires countable { U.failed out.old < 2 ^ 63 }
-    ensures whole { OnOk result (Appends (U.held out.old) (U.held out.new) text.now) }
-    ensures part { OnErr result (AppendsBeginning (U.held out.old) (U.held out.new) text.now) }
-{
-    put_all(text, out)?;
-    flush(out)
-}
-
-/// The page of the cases.
-fn page_of(
-    alloc: Global,
-    release: &Release<'_>,
-    words: &SweepWords<'_>,
-    cases: &[CaseSummary],
-) -> Result<String, Memory>
-    requires all { length cases.now ≡ case_count words.now.plan.settings }
-    ensures { IfOk result (λ text. IsSweepPage words.now release.now.version.now cases.now (string_bytes text)) }
-{
-    let front = front_of(alloc, cases)?;
     let shown = SweepShown {
         name: words.file,
         release: release.version,
     };
-    page(alloc, &shown, &words.plan, cases, &front)
-}
-
-/// Which cases no other beats.
-fn front_of(alloc: Global, cases: &[CaseSummary]) -> Result<Vec<bool>, Memory>
-    ensures { IfOk result (λ front. front.items ≡ front_of cases.now) }
-{
-    let mut front = Vec::new(alloc);
-    for case in cases {
-        front.push(is_on_front(case, cases))?;
+    let text = cases_page(alloc, &shown, &words.plan, cases)?;
+    match put_text(text.as_bytes(), out) {
+        Ok(()) => Ok(()),
+        Err(Stopped) => Err(Fault::Write),
     }
-    Ok(front)
 }

@@ -14,9 +14,10 @@ ghost use Rattle.sweep_command.specs.Runs.{BeginsRuns};
 use crate::checks::{PreparedSweep, prepare_sweep};
 use crate::making::make_runs;
 use crate::paging::store_paged;
+use crate::progressing::RunLines;
 use crate::resuming::{Standing, find_standing};
-use crate::telling::{RunLines, cases_told};
 use base::Fault;
+use case_telling::cases_told;
 use command_line::{Failure, Release, SweepWords};
 use files::Files;
 use pieces::Piece;
@@ -24,7 +25,7 @@ use scenario_files::{file_failure, run_told};
 use std::alloc::Global;
 use std::io::Write;
 use std::thread::Threads;
-use sweep::{Begun, NoProgress, Progress, write_piece, write_rest};
+use sweep::{Begun, NoProgress, Progress, tells_revived, write_piece, write_rest};
 use trace::{Put, Sink};
 
 /// Makes the runs that the words of a sweep ask for, and writes their table to a file, and a page of
@@ -42,11 +43,10 @@ pub fn sweep_file<'a, F: Files, P: Write>(
     progress: &mut P,
 ) -> Result<String, Failure<'a>>
     requires asked { IsAskedFor words.now.plan }
-    requires width { ForSome words.now.until (λ width. width ≤ 100) }
     requires piece { ForSome words.now.piece IsPiece }
     requires wants { All IsBounded words.now.wants.items }
     requires alone { ForSome words.now.page (λ _. words.now.piece ≡ None) }
-    requires seeds { ForSome words.now.piece (λ _. words.now.until ≡ None) }
+    requires seeds { words.now.resume ≡ true → words.now.plan.until ≡ None }
     ensures done { IfOk result
         (λ lines. SweepsAll release.now.version.now (F.known files.old) (F.known files.new) (F.making files.old) words.now (string_bytes lines)) }
     ensures failed { IfErr result (SweepFails (F.known files.old) (F.known files.new) (F.making files.old) words.now) }
@@ -71,7 +71,6 @@ fn store_asked<'a, F: Files, P: Write>(
     progress: &mut P,
 ) -> Result<String, Failure<'a>>
     requires asked { IsAskedFor words.now.plan }
-    requires width { ForSome words.now.until (λ width. width ≤ 100) }
     requires piece { ForSome words.now.piece IsPiece }
     requires wants { All IsBounded words.now.wants.items }
     requires alone { ForSome words.now.page (λ _. words.now.piece ≡ None) }
@@ -101,7 +100,6 @@ fn store_table<'a, F: Files, P: Write>(
     progress: &mut P,
 ) -> Result<String, Failure<'a>>
     requires asked { IsAskedFor words.now.plan }
-    requires width { ForSome words.now.until (λ width. width ≤ 100) }
     requires piece { ForSome words.now.piece IsPiece }
     requires wants { All IsBounded words.now.wants.items }
     requires judged { AreAccepted (view prepared.now.marked.document) words.now.plan }
@@ -133,7 +131,6 @@ fn fill_table<T: Write, P: Write>(
     progress: &mut P,
 ) -> (Put<T>, Result<String, Fault>)
     requires asked { IsAskedFor words.now.plan }
-    requires width { ForSome words.now.until (λ width. width ≤ 100) }
     requires piece { ForSome words.now.piece IsPiece }
     requires wants { All IsBounded words.now.wants.items }
     requires judged { AreAccepted (view prepared.now.marked.document) words.now.plan }
@@ -174,7 +171,6 @@ fn tell_asked<S: Sink, P: Progress>(
     table: &mut S,
 ) -> Result<String, Fault>
     requires asked { IsAskedFor words.now.plan }
-    requires width { ForSome words.now.until (λ width. width ≤ 100) }
     requires piece { ForSome words.now.piece IsPiece }
     requires wants { All IsBounded words.now.wants.items }
     requires judged { AreAccepted (view prepared.now.marked.document) words.now.plan }
@@ -271,11 +267,10 @@ fn tell_runs<S: Sink, P: Progress>(
 ) -> Result<String, Fault>
     requires wants { All IsBounded words.now.wants.items }
     requires asked { IsAskedFor words.now.plan }
-    requires width { ForSome words.now.until (λ width. width ≤ 100) }
     requires judged { AreAccepted (view prepared.now.marked.document) words.now.plan }
     requires countable { S.failed table.old < 2 ^ 63 }
     ensures whole { IfOk result (λ lines. MakesLines (view prepared.now.marked.document) words.now (S.held table.old) (S.held table.new) (string_bytes lines)) }
-    ensures part { OnErr result (BeginsRuns words.now.until (view prepared.now.marked.document) words.now.plan (S.held table.old) (S.held table.new)) }
+    ensures part { OnErr result (BeginsRuns words.now.plan.until (view prepared.now.marked.document) words.now.plan (S.held table.old) (S.held table.new)) }
     ensures causes { IfErr result (HasCause (view prepared.now.marked.document) words.now.plan) }
 {
     let document = &prepared.marked.document;
@@ -288,6 +283,14 @@ fn tell_runs<S: Sink, P: Progress>(
         progress,
         table,
     )?;
-    let lines = cases_told(alloc, words, document, &cases)?;
+    let revived = tells_revived(document);
+    let lines = cases_told(
+        alloc,
+        &words.plan,
+        &words.wants,
+        words.jsonl,
+        revived,
+        &cases,
+    )?;
     Ok(lines)
 }

@@ -1,3 +1,1 @@
-pub mod Firsts
-pub mod Folds
 pub mod Held

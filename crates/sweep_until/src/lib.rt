@@ -2,12 +2,12 @@
 //! thrown out narrow enough.
 #![tactic(auto)]
 
+mod case_pieces;
 mod lots;
 mod parts;
-mod pieces;
 mod runs;
 mod until;
 
-pub use pieces::write_piece_until;
+pub use case_pieces::write_piece_until;
 pub use runs::CaseRuns;
 pub use until::sweep_until;

@@ -1,6 +1,6 @@
 -- a run or a sweep that the words ask for, done and told or not done
 use Rattle.std.proofs.lemmas.Result.{IfErr-weaker, on_ok_weaker}
-use Rattle.cli.proofs.Commands.{asked_alone, asked_explain_done, asked_explain_failed, asked_init_done, asked_init_fails, asked_join_done, asked_join_fails, asked_join_unprinted, asked_piece, asked_run_done, asked_run_fails, asked_run_unprinted, asked_seeds, asked_sweep_done, asked_sweep_fails, asked_sweep_unprinted, asked_untold, asked_wants, asked_width, is_command}
+use Rattle.cli.proofs.Commands.{asked_alone, asked_explain_done, asked_explain_failed, asked_init_done, asked_init_fails, asked_join_done, asked_join_fails, asked_join_unprinted, asked_page_done, asked_page_failed, asked_piece, asked_run_done, asked_run_fails, asked_run_unprinted, asked_run_untold, asked_seeds, asked_sweep_done, asked_sweep_fails, asked_sweep_unprinted, asked_untold, asked_wants, is_command, joined_wants}
 use Rattle.scenario_files.proofs.Held.{handed_on}
 use Rattle.cli.proofs.program.perform.Goals as goal
 
@@ -16,6 +16,14 @@ pub returns-in_err-summary-in-Run-clause-failed : goal.returns-in_err-summary-in
 returns-in_err-summary-in-Run-clause-failed g c =
     handed_on _ _ _ c.from_residual-in_err-summary-in-Run.ensures.1
     (asked_run_fails _ _ _ _ _ _ _ _ _ _ c.in-Run.is c.in_ok-help.ensures.answer c.in_err-summary-in-Run.ensures.failed)
+
+pub returns-in_ok-summary-in-Run-clause-unasked : goal.returns-in_ok-summary-in-Run-clause-unasked
+returns-in_ok-summary-in-Run-clause-unasked g c none =
+    c.run.ensures.unasked (asked_run_untold _ _ _ c.in-Run.is c.in_ok-help.ensures.answer none)
+
+pub returns-in_err-summary-in-Run-clause-unasked : goal.returns-in_err-summary-in-Run-clause-unasked
+returns-in_err-summary-in-Run-clause-unasked g c none =
+    c.run.ensures.unasked (asked_run_untold _ _ _ c.in-Run.is c.in_ok-help.ensures.answer none)
 
 pub returns-in-Explain-clause-done : goal.returns-in-Explain-clause-done
 returns-in-Explain-clause-done g c =
@@ -68,9 +76,6 @@ sweep_file-requires-clause-alone g c _ _ = asked_alone _ _ _ c.in-Sweep.is c.in_
 pub sweep_file-requires-clause-seeds : goal.sweep_file-requires-clause-seeds
 sweep_file-requires-clause-seeds g c _ _ = asked_seeds _ _ _ c.in-Sweep.is c.in_ok-help.ensures.answer
 
-pub sweep_file-requires-clause-width : goal.sweep_file-requires-clause-width
-sweep_file-requires-clause-width g c _ _ = asked_width _ _ _ c.in-Sweep.is c.in_ok-help.ensures.answer
-
 pub sweep_file-requires-clause-wants : goal.sweep_file-requires-clause-wants
 sweep_file-requires-clause-wants g c _ _ = asked_wants _ _ _ c.in-Sweep.is c.in_ok-help.ensures.answer
 
@@ -80,7 +85,7 @@ returns-in_ok-joined-in-Join-clause-done g c =
 
 pub returns-in_ok-joined-in-Join-clause-failed : goal.returns-in_ok-joined-in-Join-clause-failed
 returns-in_ok-joined-in-Join-clause-failed g c =
-    asked_join_unprinted _ _ _ _ _ _ _ _ _ c.print_text-in-Join.result c.in-Join.is c.in_ok-help.ensures.answer c.in_ok-joined-in-Join.ensures.done c.print_text-in-Join.ensures.failure
+    asked_join_unprinted _ _ _ _ _ _ _ _ _ _ c.print_text-in-Join.result c.in-Join.is c.in_ok-help.ensures.answer c.in_ok-joined-in-Join.ensures.done c.print_text-in-Join.ensures.failure
 
 pub returns-in_ok-joined-in-Join-clause-command : goal.returns-in_ok-joined-in-Join-clause-command
 returns-in_ok-joined-in-Join-clause-command g c =
@@ -96,6 +101,20 @@ returns-in_err-joined-in-Join-clause-failed g c =
 
 pub returns-in_err-joined-in-Join-clause-other : goal.returns-in_err-joined-in-Join-clause-other
 returns-in_err-joined-in-Join-clause-other g c none = absurd (none (is_command _ _ c.in_ok-help.ensures.answer))
+
+pub join_files-requires : goal.join_files-requires
+join_files-requires g c _ _ = joined_wants _ _ _ c.in-Join.is c.in_ok-help.ensures.answer
+
+pub returns-in-Page-clause-done : goal.returns-in-Page-clause-done
+returns-in-Page-clause-done g c =
+    asked_page_done c.args.release.now _ _ _ _ _ _ _ c.page_files.result c.in-Page.is c.in_ok-help.ensures.answer c.page_files.ensures.done
+
+pub returns-in-Page-clause-failed : goal.returns-in-Page-clause-failed
+returns-in-Page-clause-failed g c =
+    asked_page_failed _ _ _ _ _ _ _ _ c.page_files.result c.in-Page.is c.in_ok-help.ensures.answer c.page_files.ensures.failed
+
+pub returns-in-Page-clause-other : goal.returns-in-Page-clause-other
+returns-in-Page-clause-other g c none = absurd (none (is_command _ _ c.in_ok-help.ensures.answer))
 
 pub returns-in-Init-clause-done : goal.returns-in-Init-clause-done
 returns-in-Init-clause-done g c =

@@ -1,7 +1,7 @@
 use Rattle.std.proofs.Common.{◌≡◌, ℕ, max, fold, ◌∙◌, ap, arith}
 use Rattle.std.specs.List.{range_with_len}
 use Rattle.sweep_keys.specs.Keys.{greatest_over, greatest_of}
-use Rattle.sweep_keys.proofs.Folds.{greatest_more}
+use Rattle.sweep_cells.proofs.Folds.{greatest_more}
 use Rattle.sweep_keys.proofs.charts.greatest_of.Goals as goal
 
 pub loop-value-preserved : goal.loop-value-preserved

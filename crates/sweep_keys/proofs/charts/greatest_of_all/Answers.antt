@@ -1,7 +1,7 @@
 use Rattle.std.proofs.Common.{◌≡◌, ℕ, max, fold, ◌∙◌, ap, arith}
 use Rattle.std.specs.List.{range_with_len}
 use Rattle.sweep_keys.specs.Keys.{greatest_of, greatest_of_all}
-use Rattle.sweep_keys.proofs.Folds.{greatest_more}
+use Rattle.sweep_cells.proofs.Folds.{greatest_more}
 use Rattle.sweep_keys.proofs.charts.greatest_of_all.Goals as goal
 
 pub loop-line-preserved : goal.loop-line-preserved

@@ -1,6 +1,6 @@
 use Rattle.std.proofs.Common.{◌/◌, length, max, take, ◌∙◌, ap}
 use Rattle.sweep_keys.specs.Lines.{key_lines, shared_out}
-use Rattle.sweep_keys.proofs.Firsts.{firsts}
+use Rattle.sweep_cells.proofs.Firsts.{firsts}
 use Rattle.sweep_keys.proofs.keys.lines_of.Goals as goal
 
 pub returns : goal.returns

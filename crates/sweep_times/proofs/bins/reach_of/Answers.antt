@@ -1,7 +1,7 @@
 use Rattle.std.proofs.Common.{◌≡◌, ℕ, max, fold, ◌∙◌, ap, arith}
 use Rattle.std.specs.List.{range_with_len}
 use Rattle.sweep_times.specs.Bins.{end_at, reach_of}
-use Rattle.sweep_times.proofs.Folds.{greatest_more}
+use Rattle.sweep_cells.proofs.Folds.{greatest_more}
 use Rattle.sweep_times.proofs.bins.reach_of.Goals as goal
 
 pub loop-bin-preserved : goal.loop-bin-preserved

@@ -1,4 +1,4 @@
-use Rattle.sweep_times.proofs.Firsts.{firsts}
+use Rattle.sweep_cells.proofs.Firsts.{firsts}
 use Rattle.sweep_times.proofs.times.first_places.Goals as goal
 
 pub returns : goal.returns

@@ -10,7 +10,7 @@ use Rattle.sweep_until.specs.Until.{HasCases}
 use Rattle.sweep_until.specs.Pieces.{cases_in, first_case, piece_cases}
 use Rattle.sweep_until.proofs.Cases.{begins_cases, begins_front, cases_kept, no_case}
 use Rattle.sweep_until.proofs.PieceCases.{a_width, begun_piece, cases_within, few_cases, whole_piece}
-use Rattle.sweep_until.proofs.pieces.write_piece_until.Goals as goal
+use Rattle.sweep_until.proofs.case_pieces.write_piece_until.Goals as goal
 
 pub first-from-requires-clause-few : goal.first-from-requires-clause-few
 first-from-requires-clause-few g c = omega (arith, few_cases c.args.plan.now c.requires.asked, c.cases-count.ensures)

@@ -2,7 +2,7 @@
 use Rattle.std.proofs.Common.{◌≡◌, ◌∙◌, ◌∷◌, ◌++◌, [], rules, subst}
 use Rattle.scenario_files.proofs.Held.{handed_on}
 use Rattle.join_command.proofs.Told.{memory_at, text_more, unread_at}
-use Rattle.join_command.proofs.joining.load_texts.Goals as goal
+use Rattle.join_command.proofs.reading.load_texts.Goals as goal
 
 pub loop-name-preserved : goal.loop-name-preserved
 loop-name-preserved g c =

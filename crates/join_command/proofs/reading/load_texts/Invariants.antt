@@ -1,6 +1,6 @@
 use Rattle.std.proofs.Common.{◌≡◌, take}
 use Rattle.join_command.specs.Outcomes.{HoldTexts}
-use Rattle.join_command.proofs.joining.load_texts.Given as goal
+use Rattle.join_command.proofs.reading.load_texts.Given as goal
 
 -- the texts so far are those of the first files, and no file has changed
 abbrev pub invariant-loop-name : goal.invariant-loop-name

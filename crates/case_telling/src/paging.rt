@@ -1,0 +1,50 @@
+//! The page of the cases of a sweep.
+ghost use Rattle.std.specs.Prelude.{◌≡◌, ◌<◌, ◌^◌, IfOk, OnOk, OnErr, length, string_bytes};
+ghost use Rattle.std.specs.Io.KnownBytes.{Appends};
+ghost use Rattle.cases.specs.Sweep.{case_count};
+ghost use Rattle.trace.specs.Sinks.{AppendsBeginning};
+ghost use Rattle.case_telling.specs.Telling.{IsSweepPage, front_of};
+
+use answers::is_on_front;
+use base::Memory;
+use cases::Plan;
+use figures::CaseSummary;
+use std::alloc::Global;
+use sweep_page::{SweepShown, page};
+use trace::{Sink, Stopped, put_all};
+
+/// The page of the cases of a sweep, which tells of the scenario and the release what `shown` says. There must be a summary
+/// for each case, in their order.
+pub fn cases_page(
+    alloc: Global,
+    shown: &SweepShown<'_>,
+    plan: &Plan,
+    cases: &[CaseSummary],
+) -> Result<String, Memory>
+    requires all { length cases.now ≡ case_count plan.now.settings }
+    ensures { IfOk result (λ text. IsSweepPage shown.now.name.now shown.now.release.now plan.now cases.now (string_bytes text)) }
+{
+    let front = front_of(alloc, cases)?;
+    page(alloc, shown, plan, cases, front.as_slice())
+}
+
+/// Which cases no other beats.
+fn front_of(alloc: Global, cases: &[CaseSummary]) -> Result<Vec<bool>, Memory>
+    ensures { IfOk result (λ front. front.items ≡ front_of cases.now) }
+{
+    let mut front = Vec::new(alloc);
+    for case in cases {
+        front.push(is_on_front(case, cases))?;
+    }
+    Ok(front)
+}
+
+/// Puts a whole text, and has the sink hand it on. Where it stops it has got a beginning of the text.
+pub fn put_text<U: Sink>(text: &[u8], out: &mut U) -> Result<(), Stopped>
+    requires countable { U.failed out.old < 2 ^ 63 }
+    ensures whole { OnOk result (Appends (U.held out.old) (U.held out.new) text.now) }
+    ensures part { OnErr result (AppendsBeginning (U.held out.old) (U.held out.new) text.now) }
+{
+    put_all(text, out)?;
+    out.flush()
+}

@@ -1,0 +1,80 @@
+//! A page of the cases that the pieces of a sweep came to.
+ghost use Rattle.std.specs.Prelude.{◌≡◌, IfOk, IfErr, OnOk, length, string_bytes};
+ghost use Rattle.cases.specs.Sweep.{case_count};
+ghost use Rattle.case_telling.specs.Telling.{IsSweepPage};
+ghost use Rattle.join_command.specs.Outcomes.{FailsToStorePage, PageFails, PagesAll, StoresPage, scenario_name};
+
+use crate::reading::{gather, name_at};
+use crate::storing::store;
+use base::Memory;
+use case_telling::{SweepShown, cases_page};
+use command_line::{Failure, PageWords, Release};
+use files::Files;
+use joins::Joined;
+use std::alloc::Global;
+use std::io;
+use trace::Put;
+
+/// Puts the pieces in the files of the words together, and writes a page of the cases to a file, which is made once they are.
+/// `release` is what the page tells of the program.
+pub fn page_files<'a, F: Files>(
+    alloc: Global,
+    release: &Release<'_>,
+    words: &PageWords<'a>,
+    files: &mut F,
+) -> Result<(), Failure<'a>>
+    ensures done { OnOk result (PagesAll release.now.version.now (F.known files.old) (F.known files.new) (F.making files.old) words.now) }
+    ensures failed { IfErr result (PageFails (F.known files.old) (F.known files.new) (F.making files.old) words.now) }
+{
+    let mut nowhere = Put::new(io::sink());
+    let joined = gather(
+        alloc,
+        words.files.as_slice(),
+        words.page,
+        files,
+        &mut nowhere,
+    )?;
+    store_page(alloc, release, words, &joined, files)
+}
+
+/// Writes a page of the cases to the file that the words name.
+fn store_page<'a, F: Files>(
+    alloc: Global,
+    release: &Release<'_>,
+    words: &PageWords<'a>,
+    joined: &Joined,
+    files: &mut F,
+) -> Result<(), Failure<'a>>
+    requires all { length joined.now.cases.items ≡ case_count joined.now.plan.settings }
+    ensures done { OnOk result (StoresPage release.now.version.now (F.known files.old) (F.known files.new) (F.making files.old) words.now
+        joined.now.plan joined.now.cases.items) }
+    ensures failed { IfErr result (FailsToStorePage release.now.version.now (F.known files.old) (F.known files.new) (F.making files.old) words.now
+        joined.now.plan joined.now.cases.items) }
+{
+    let source = name_at(words.files.as_slice(), words.page, 0);
+    let text = page_of(alloc, release, words.name, source, joined)?;
+    store(source, words.page, text.as_bytes(), files)
+}
+
+/// The page of the cases, which calls the scenario by a name, or as its source where none is given.
+pub(crate) fn page_of(
+    alloc: Global,
+    release: &Release<'_>,
+    name: Option<&str>,
+    source: &str,
+    joined: &Joined,
+) -> Result<String, Failure<'static>>
+    requires all { length joined.now.cases.items ≡ case_count joined.now.plan.settings }
+    ensures page { IfOk result
+        (λ text. IsSweepPage (scenario_name name.entry source.entry).now release.now.version.now joined.now.plan joined.now.cases.items (string_bytes text)) }
+    ensures refused { IfErr result (λ failure. failure ≡ Failure.Memory) }
+{
+    let shown = SweepShown {
+        name: name.unwrap_or(source),
+        release: release.version,
+    };
+    match cases_page(alloc, &shown, &joined.plan, joined.cases.as_slice()) {
+        Ok(text) => Ok(text),
+        Err(Memory) => Err(Failure::Memory),
+    }
+}

@@ -1,0 +1,106 @@
+//! The pieces in files, put together.
+ghost use Rattle.std.specs.Prelude.{◌≡◌, ◌<◌, ◌^◌, All, IfOk, IfErr};
+ghost use Rattle.answers.specs.Wants.{HasFewRuns};
+ghost use Rattle.joins.specs.Joined.{Joins};
+ghost use Rattle.join_command.specs.Outcomes.{FailsToGather, FailsToRead, GathersCases, HoldTexts, RefusesPieces, name_at, piece_failure};
+
+use command_line::{Failure, PieceFault};
+use files::Files;
+use joins::{JoinFault, Joined, join};
+use scenario_files::load_bytes;
+use std::alloc::Global;
+use trace::Sink;
+
+/// Puts the pieces in the files of these names together: the table of the whole goes to the sink, and what the cases came to
+/// is given. Where there is no name, `otherwise` is told in its place.
+pub(crate) fn gather<'a, F: Files, S: Sink>(
+    alloc: Global,
+    names: &[&'a str],
+    otherwise: &'a str,
+    files: &mut F,
+    table: &mut S,
+) -> Result<Joined, Failure<'a>>
+    requires countable { S.failed table.old < 2 ^ 63 }
+    ensures gathered { IfOk result
+        (λ joined. GathersCases (F.known files.old) names.now (S.held table.old) (S.held table.new) joined.plan joined.revived joined.cases.items) }
+    ensures few { IfOk result (λ joined. All HasFewRuns joined.cases.items) }
+    ensures failed { IfErr result (FailsToGather (F.known files.old) names.now otherwise.entry) }
+    ensures same { F.known files.new ≡ F.known files.old }
+    ensures making { F.making files.new ≡ F.making files.old }
+{
+    let texts = load_texts(alloc, names, files)?;
+    join_texts(alloc, names, otherwise, &texts, table)
+}
+
+/// The bytes of all files, in the order of their names.
+fn load_texts<'a, F: Files>(
+    alloc: Global,
+    names: &[&'a str],
+    files: &mut F,
+) -> Result<Vec<Vec<u8>>, Failure<'a>>
+    ensures read { IfOk result (λ texts. HoldTexts (F.known files.old) names.now texts.items) }
+    ensures failed { IfErr result (FailsToRead (F.known files.old) names.now) }
+    ensures same { F.known files.new ≡ F.known files.old }
+    ensures making { F.making files.new ≡ F.making files.old }
+{
+    let mut texts = Vec::new(alloc);
+    for name in names {
+        let bytes = load_bytes(alloc, *name, files)?;
+        if texts.push(bytes).is_err() {
+            return Err(Failure::Memory);
+        }
+    }
+    Ok(texts)
+}
+
+/// The pieces put together.
+fn join_texts<'a, S: Sink>(
+    alloc: Global,
+    names: &[&'a str],
+    otherwise: &'a str,
+    texts: &[Vec<u8>],
+    table: &mut S,
+) -> Result<Joined, Failure<'a>>
+    requires countable { S.failed table.old < 2 ^ 63 }
+    ensures joined { IfOk result
+        (λ joined. Joins texts.now (S.held table.old) (S.held table.new) joined.plan joined.revived joined.cases.items) }
+    ensures few { IfOk result (λ joined. All HasFewRuns joined.cases.items) }
+    ensures refused { IfErr result (RefusesPieces names.now otherwise.entry texts.now) }
+{
+    match join(alloc, texts, table) {
+        Ok(joined) => Ok(joined),
+        Err(fault) => Err(failure_of(names, otherwise, fault)),
+    }
+}
+
+/// The failure that a fault is told by. A table in memory fails by want of that, and one that is thrown away never.
+fn failure_of<'a>(names: &[&'a str], otherwise: &'a str, fault: JoinFault) -> Failure<'a>
+    ensures { result ≡ piece_failure names.now otherwise.entry fault }
+{
+    match fault {
+        JoinFault::NoPiece(place) => {
+            Failure::Pieces(PieceFault::NoPiece(name_at(names, otherwise, place)))
+        }
+        JoinFault::Other(place) => {
+            Failure::Pieces(PieceFault::Other(name_at(names, otherwise, place)))
+        }
+        JoinFault::Doubled(place) => {
+            Failure::Pieces(PieceFault::Doubled(name_at(names, otherwise, place)))
+        }
+        JoinFault::Torn(place) => {
+            Failure::Pieces(PieceFault::Torn(name_at(names, otherwise, place)))
+        }
+        JoinFault::Missing(number) => Failure::Pieces(PieceFault::Missing(number)),
+        JoinFault::Write | JoinFault::Memory => Failure::Memory,
+    }
+}
+
+/// The name at a place among these; the other one where there is none.
+pub(crate) fn name_at<'a>(names: &[&'a str], otherwise: &'a str, place: usize) -> &'a str
+    ensures { result ≡ name_at names.now otherwise.entry place }
+{
+    if place < names.len() {
+        return names[place];
+    }
+    otherwise
+}

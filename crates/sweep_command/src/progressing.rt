@@ -1,0 +1,17 @@
+//! How far a sweep has come, in lines.
+
+use std::io::Write;
+use sweep::Progress;
+
+/// Tells on a writer how many runs were made, a line each time, as far as the writer takes it.
+#[derive(Drop)]
+pub(crate) struct RunLines<'p, P: Write> {
+    /// The writer.
+    pub(crate) out: &'p mut P,
+}
+
+impl<P: Write> Progress for RunLines<'_, P> {
+    fn runs_made(&mut self, made: usize, all: usize) {
+        let _ = writeln!(self.out, "{made}/{all} runs");
+    }
+}
