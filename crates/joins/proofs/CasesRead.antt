@@ -23,6 +23,15 @@ use Rattle.joins.specs.declared.fault.JoinFault.TheVariants as fault
 use Rattle.joins.proofs.CaseLines.{cut_cases, cut_lines}
 use Rattle.joins.proofs.CutPieces.{zipped_both}
 
+-- what holds of all of a list holds of all behind its first ones
+All-behind : {X : Type 0} (P : X → Type 0) (xs ys : List X) → All P (xs ++ ys) → All P ys
+All-behind P [] ys all = all
+All-behind P (x ∷ xs) ys all = All-behind P xs ys (All-tail P x (xs ++ ys) all)
+
+none_left : (xs : List ℕ) → length xs ≡ 0 → xs ≡ []
+none_left [] none = refl
+none_left (x ∷ xs) none = absurd (omega (arith, none))
+
 -- some lines of a case were read, which are not enough
 pub record GoesSo (width : ℕ) (text left : List ℕ) (old new : Option (List ℕ)) (kept : CaseRuns) (count : ℕ) : Type 0 where
   pub so : ReadsSome text left old new kept count
@@ -59,6 +68,7 @@ module _ (text left next : List ℕ) (old mid new : Option (List ℕ)) (before a
 
   module _ (width : ℕ) (wide : IsWide width (notes_of so.lines)) (open_yet : is_narrow_of width (notes_of so.lines) ≡ false) where
     wide_yet : IsWide width (notes_of line_added.lines)
+    unfolding line_added
     wide_yet = subst (IsWide width) (sym (map-append (λ (l : Line). l.note) so.lines (one.line ∷ []))) (wide_push width (notes_of so.lines) one.line.note wide open_yet)
 
     module _ (answer : Bool) (tells : (runs : List Note) → AreKept runs after → answer ≡ is_narrow_of width runs) where
@@ -129,14 +139,8 @@ module _ (width each : ℕ) (text left : List ℕ) (old new : Option (List ℕ))
       on : (rest : List Line) → lines ≡ read ++ rest → left ≡ piece_case rest ++ next → ⊥
       on [] all behind = not_enough within lines [] case (sym (append-nil read) ∙ sym all ∙ sym (append-nil lines))
       on (l ∷ rest) all behind =
-          none l (piece_case rest ++ next) (All-head IsLine l rest (tail_sound all)) (behind ∙ append_assoc (piece_line l) (piece_case rest) next)
-        where
-          tail_sound : lines ≡ read ++ l ∷ rest → All IsLine (l ∷ rest)
-          tail_sound all = All-behind read (l ∷ rest) (subst (All IsLine) all case.sound)
-
-          All-behind : (xs ys : List Line) → All IsLine (xs ++ ys) → All IsLine ys
-          All-behind [] ys sound = sound
-          All-behind (x ∷ xs) ys sound = All-behind xs ys (All-tail IsLine x (xs ++ ys) sound)
+          none l (piece_case rest ++ next) (All-head IsLine l rest (All-behind IsLine read (l ∷ rest) (subst (All IsLine) all case.sound)))
+          (behind ∙ append_assoc (piece_line l) (piece_case rest) next)
 
       by : (t : Bool) → nat_le (length read) (length lines) ≡ t → ⊥
       by true e =
@@ -206,9 +210,9 @@ module _ (width each : ℕ) where
   }
 
   module _ (text left : List ℕ) (old new : Option (List ℕ)) (before after : List CaseSummary) (at count : ℕ) (so : ReadsCases width each text left old new before after at) where
-    pub all_read : at ≡ count → left ≡ [] → ReadsCases width each text [] old new before after count
+    pub all_read : at ≡ count → length left ≡ 0 → ReadsCases width each text [] old new before after count
     all_read counted none =
-        subst (λ n. ReadsCases width each text [] old new before after n) counted (subst (λ l. ReadsCases width each text l old new before after at) none so)
+        subst (λ n. ReadsCases width each text [] old new before after n) counted (subst (λ l. ReadsCases width each text l old new before after at) (none_left left none) so)
 
     -- the cases that such a text is go on behind those that were read
     go_on : (are : AreCases width each text count) → at ≤ count → (rest : List (List Line)) × (length rest + at ≡ count) × All (IsCase width each) rest × (left ≡ flat_map piece_case rest)
@@ -216,11 +220,7 @@ module _ (width each : ℕ) where
         let same : flat_map piece_case so.own ++ left ≡ flat_map piece_case are.own ++ [] = sym so.written ∙ are.written ∙ sym (append-nil (flat_map piece_case are.own)) in
         let cut = cut_cases width each so.own are.own left [] so.sound are.sound same (omega (arith, so.all, are.all, few)) in
         let long : length are.own ≡ length so.own + length cut.0 = ap length cut.1 ∙ length-append so.own cut.0 in
-        (cut.0, omega (arith, long, so.all, are.all), All-behind so.own cut.0 (subst (All (IsCase width each)) cut.1 are.sound), cut.2 ∙ append-nil (flat_map piece_case cut.0))
-      where
-        All-behind : (xs ys : List (List Line)) → All (IsCase width each) (xs ++ ys) → All (IsCase width each) ys
-        All-behind [] ys sound = sound
-        All-behind (x ∷ xs) ys sound = All-behind xs ys (All-tail (IsCase width each) x (xs ++ ys) sound)
+        (cut.0, omega (arith, long, so.all, are.all), All-behind (IsCase width each) so.own cut.0 (subst (All (IsCase width each)) cut.1 are.sound), cut.2 ∙ append-nil (flat_map piece_case cut.0))
 
     pub cases_left_over : at ≡ count → ¬ (left ≡ []) → ¬ (AreCases width each text count)
     cases_left_over counted some are =

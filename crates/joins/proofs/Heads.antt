@@ -91,7 +91,7 @@ one_seeds (Some word) (Some r) None asks also = absurd also
 one_seeds (Some word) (Some r) (Some s) asks also = same_seeds (Some word) (Some word) (Some r) (Some s) asks also (asks.written ∙ sym also.written)
 
 -- the words behind the first are those of a width, or none, and of settings, none of which says a width where none is read
-record AreParted (rest : List (List ℕ)) (until : Option ℕ) (settings : List (List ℕ)) : Type 0 where
+pub record AreParted (rest : List (List ℕ)) (until : Option ℕ) (settings : List (List ℕ)) : Type 0 where
   pub words : rest ≡ until_words until ++ settings
   pub low : ForSome until (λ w. w < 2 ^ 64)
   pub apart : until ≡ None → (value : List ℕ) (more : List (List ℕ)) → ¬ (settings ≡ (codes "until=" ++ value) ∷ more)
@@ -144,7 +144,7 @@ module _ (words : List ℕ) (sweep : Sweep) (asked : IsAskedFor sweep) (is : wor
           none w (record { written = append_cancel_left (codes "until=") (decimal w) value head; low = omega (arith, most) })
 
 -- the same of what reading the words gave, where these are the first and the rest of them
-abbrev AreCut : List ℕ → List ℕ → List (List ℕ) → Type 0
+abbrev pub AreCut : List ℕ → List ℕ → List (List ℕ) → Type 0
 AreCut words first rest = (sweep : Sweep) → IsAskedFor sweep → words ≡ plan_text sweep → slice_split (λ byte. byte == 32) words ≡ first ∷ rest
 
 pub plans_are : {E : Type 0} (words first : List ℕ) (rest : List (List ℕ)) (seeds : Option (List ℕ)) (until : Option ℕ) (settings : List (List ℕ)) (r : Result Sweep E)
@@ -223,7 +223,9 @@ one_parted (x ∷ y ∷ items) value width says is =
     let low = is.low in
     let whole : x.now ∷ y.now ∷ map (λ (word : Bor (List ℕ)). word.now) items ≡ says.0 ∷ (codes "until=" ++ value) ∷ says.1 = says.2 in
     let second : y.now ≡ codes "until=" ++ value = cc in
-    let third : map (λ (word : Bor (List ℕ)). word.now) (take (length items) items) ≡ map (λ (word : Bor (List ℕ)). word.now) items = ap (map (λ (word : Bor (List ℕ)). word.now)) (take_all (length items) items (omega arith)) in
+    let left = length (x ∷ y ∷ items) - 2 in
+    let third : map (λ (word : Bor (List ℕ)). word.now) (take left (drop 2 (x ∷ y ∷ items))) ≡ map (λ (word : Bor (List ℕ)). word.now) items =
+    ap (map (λ (word : Bor (List ℕ)). word.now)) (take_all left items (omega arith)) in
     record {
       words = ap (map (λ (word : Bor (List ℕ)). word.now)) (behind_first (x ∷ y ∷ items))
           ∙ (λ i. (second ∙ ap (λ l. codes "until=" ++ l) (sym is.written)) i ∷ sym third i);
