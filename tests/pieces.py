@@ -123,6 +123,35 @@ def check_widths_refused(program, sweep):
         expect('table', program.held('t.csv'), b'an older table\n')
 
 
+def check_told(program, sweep, count):
+    """Joins pieces with all that may be asked of them, and makes their page: each is what the whole sweep tells and writes."""
+    text = text_of(DATA / sweep['base'])
+    options, _ = words_of(sweep)
+    wants = [word for want in sweep.get('want', ['out<=0.1', 'messages<=1000']) for word in ('--want', want)]
+    program.keep('s.toml', text)
+    names = [f'piece-{number}.csv' for number in range(count, 0, -1)]
+    for number, name in enumerate(reversed(names), 1):
+        program.call(['sweep', 's.toml', '--table', name, '--shard', f'{number}/{count}', *options])
+    for told in ([], wants, ['--jsonl'], [*wants, '--jsonl']):
+        whole = program.call(['sweep', 's.toml', '--table', 'w.csv', '--page', 'w.html', *options, *told])
+        for page in ([], ['--page', 'p.html', '--name', 's.toml']):
+            ran = program.call(['join', *names, '--table', 't.csv', *page, *told])
+            expect_ran(ran, 0, whole.out, b'', ' '.join(['join', *page, *told]))
+            expect('table', program.held('t.csv'), program.held('w.csv'))
+        expect('page', program.held('p.html'), program.held('w.html'))
+    expect_ran(program.call(['page', *names, '--out', 'q.html', '--name', 's.toml']), 0, b'', b'', 'page')
+    expect('page alone', program.held('q.html'), program.held('w.html'))
+    named = program.held('w.html').replace(b's.toml', names[0].encode())
+    for words in (['page', *names, '--out', 'q.html'], ['join', *names, '--table', 't.csv', '--page', 'q.html']):
+        program.keep('q.html', 'an older page\n')
+        expect(f'{words[0]} ended', program.call(words).status, 0)
+        expect('page with the first name', program.held('q.html'), named)
+    program.keep('q.html', 'an older page\n')
+    for held, line in (('w.csv', 'no piece w.csv'), ('s.toml', 'no piece s.toml')):
+        expect_ran(program.call(['page', held, '--out', 'q.html']), 3, b'', f'swimsim: {line}\n'.encode(), held)
+        expect('older page', program.held('q.html'), b'an older page\n')
+
+
 def cases():
     """Each sweep of the list, in each number of pieces."""
     listed = json.loads((FOLDER / 'sweeps.json').read_text())
@@ -130,6 +159,8 @@ def cases():
         for count in COUNTS:
             yield Case(f'pieces: {sweep["about"]}, {count}', check, (sweep, count))
     narrow = next(sweep for sweep in listed if 'until' in sweep)
+        for count in (1, 3):
+            yield Case(f'pieces: {sweep["about"]}, all that is told of {count}', check_told, (sweep, count))
     yield Case('pieces: what join refuses', check_refused, (listed[0],))
     yield Case('pieces: what join refuses where there is a width', check_widths_refused, (narrow,))
     yield Case('pieces: one that was cut off', check_resumed, (listed[0],))

@@ -169,6 +169,16 @@ def check_untold(program, words):
     expect('the files', [program.held(name) for name in ('r.txt', 'p.html')], held)
 
 
+def check_shut(program, shut):
+    """Sweeps with streams that are shut, whose numbers the next files would get: the table is that of open ones."""
+    program.keep('s.toml', of('two-members', 'toml'))
+    sweep = ['sweep', 's.toml', '--table', 't.csv', '--seeds', '1..40']
+    expect('status', program.call(sweep).status, 0)
+    table = program.held('t.csv')
+    without(program, [*sweep, '--progress'], shut)
+    expect(f'the table with {shut}', program.held('t.csv'), table)
+
+
 def rooms(length):
     """The sizes from 0 to past the length, some at a time."""
     for start in range(0, length + 2, STEP):
@@ -222,6 +232,8 @@ def output_cases():
         yield Case(f'writes: error output of {words}', check_error, (words, status))
     for words in (['--report', 'r.txt'], ['--report', 'r.txt', '--page', 'p.html', '--workers', '2']):
         yield Case(f'writes: untold, {words}', check_untold, (words,))
+    for shut in ('2>&-', '>&- 2>&-', '<&- >&- 2>&-'):
+        yield Case(f'writes: shut {shut}', check_shut, (shut,))
 
 
 def cases():

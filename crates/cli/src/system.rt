@@ -6,6 +6,7 @@ use crate::program::command;
 pub use command_line::system::words;
 use command_line::{Release, refuse};
 pub use files::system::SystemFiles;
+use std::fs;
 use std::io::Write;
 use std::process::ExitCode;
 use std::rt::{Env, Files};
@@ -25,6 +26,7 @@ pub fn run_program<
     ensures silent { 2 ≤ exit_status result → exit_status result ≢ 3 → out.new ≡ out.old }
     ensures quiet { exit_status result ≡ 0 → err.new ≡ err.old }
 {
+    let _held = hold_streams(rt);
     let status = match words(rt) {
         Ok(words) => {
             let mut files = SystemFiles::new(rt);
@@ -42,4 +44,18 @@ pub fn run_program<
         Err(failure) => refuse(&failure, err),
     };
     ExitCode::from(status)
+}
+
+/// Holds the numbers of those standard streams that were closed when the program began. The next file that
+/// is opened would get such a number, and what is meant for the stream would go into it.
+fn hold_streams<R: Files>(rt: &R) -> [Option<R::File>; 3] {
+    [open_nothing(rt), open_nothing(rt), open_nothing(rt)]
+}
+
+/// A file that holds nothing, and takes nothing.
+fn open_nothing<R: Files>(rt: &R) -> Option<R::File> {
+    match fs::open(rt, "/dev/null") {
+        Ok(file) => Some(file),
+        Err(_) => None,
+    }
 }

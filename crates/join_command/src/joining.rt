@@ -58,7 +58,13 @@ fn gather_whole<'a, F: Files>(
     ensures making { F.making files.new ≡ F.making files.old }
 {
     let mut table = Put::new(Vec::new(alloc));
-    let joined = gather(alloc, words.files.as_slice(), words.table, files, &mut table)?;
+    let joined = gather(
+        alloc,
+        words.files.as_slice(),
+        words.table,
+        files,
+        &mut table,
+    )?;
     Ok(Whole {
         table: table.into_inner(),
         joined,
@@ -66,11 +72,7 @@ fn gather_whole<'a, F: Files>(
 }
 
 /// What is told of the cases.
-fn tell(
-    alloc: Global,
-    words: &JoinWords<'_>,
-    joined: &Joined,
-) -> Result<String, Failure<'static>>
+fn tell(alloc: Global, words: &JoinWords<'_>, joined: &Joined) -> Result<String, Failure<'static>>
     requires wants { All IsBounded words.now.wants.items }
     requires few { All HasFewRuns joined.now.cases.items }
     requires all { length joined.now.cases.items ≡ case_count joined.now.plan.settings }

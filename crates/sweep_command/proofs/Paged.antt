@@ -61,11 +61,6 @@ pub plain_apart : {T E : Type 0} (told : Result T E) (making : Making) (file tab
     → OnOk told (AreApart None making file table) → OnOk told (AreApart asked making file table)
 plain_apart told making file table asked none apart = subst (λ (o : Option (Bor (List ℕ))). OnOk told (AreApart o making file table)) (sym none) apart
 
--- what failed while a page was made has its cause
-pub page_cause : (tree : Data) (plan : Sweep) (told : Result (Unit {0}) Fault) → IsErrAnd told (λ f. f ≡ cause.Memory) → IfErr told (HasCause tree plan)
-page_cause tree plan (Ok x) is = tt
-page_cause tree plan (Err f) is = subst (HasCause tree plan) (sym is) tt
-
 -- what was begun of both where the table broke off, and where it is whole
 module _ (tree : Data) (sweep : SweepWords) (release : List ℕ) (old new page_old page_new : Option (List ℕ)) where
   pub table_broke : BeginsRuns sweep.plan.until tree sweep.plan old new → Keeps page_old page_new → BeginsPaged tree sweep old new page_old page_new

@@ -9,14 +9,13 @@ use Rattle.trace.specs.Sinks.{AppendsBeginning}
 use Rattle.trace.proofs.Beginnings.{beginning-whole}
 use Rattle.cases.specs.Sweep.{Sweep}
 use Rattle.pieces.specs.declared.piece.Piece.{Piece}
-use Rattle.sweep.specs.Pieces.{piece_table}
 use Rattle.sweep.specs.Resumed.{rest_text}
 use Rattle.sweep.specs.Table.{HasCause, tells_revived}
 use Rattle.figures.specs.declared.summary.CaseSummary.{CaseSummary}
 use Rattle.command_line.specs.declared.words.SweepWords.{SweepWords}
 use Rattle.scenario_files.specs.Shelves.{Shelf, HoldsBeginning}
 use Rattle.sweep_command.specs.Outcomes.{BeginsAsked, BeginsPart, BreaksOff, BreaksOffPart, FitPiece, GoesOn, MakesAsked, MakesLines, MakesPart, StoresPlain, StoresPart, Stood, piece_resumed}
-use Rattle.sweep_command.specs.Runs.{BeginsRuns, MakesRuns, runs_table}
+use Rattle.sweep_command.specs.Runs.{BeginsRuns, MakesRuns, piece_runs_table, runs_table}
 use Rattle.scenario_files.proofs.Held.{holds_beginning, holds_text}
 
 -- what holds of an error, by what holds where there is one and what holds of it
@@ -84,7 +83,7 @@ module _ (tree : Data) (sweep : SweepWords) (mark : List ℕ) (start made end : 
   part_stored false p goes makes = record {
     made = makes.made;
     are = makes.are;
-    stored = text_held (piece_table (tells_revived tree) mark sweep.plan p makes.made) makes.written;
+    stored = text_held (piece_runs_table sweep.plan.until tree mark sweep.plan p makes.made) makes.written;
     others = others_kept;
   }
   part_stored true p goes makes = record {
@@ -113,7 +112,7 @@ module _ (tree : Data) (sweep : SweepWords) (mark : List ℕ) (start made end : 
   part_begun false p cause goes begins caused = record {
     made = begins.made;
     are = begins.are;
-    begun = beginning_held (piece_table (tells_revived tree) mark sweep.plan p begins.made) begins.written;
+    begun = beginning_held (piece_runs_table sweep.plan.until tree mark sweep.plan p begins.made) begins.written;
     others = others_kept;
     caused = caused;
   }

@@ -1,5 +1,5 @@
 -- What comes of each way to make the runs of a sweep, as what comes of the runs that are asked for.
-use Rattle.std.proofs.Common.{◌≡◌, ◌∙◌, ℕ, List, Option, Some, None, Result, Ok, Err, IfOk, OnErr, subst, sym}
+use Rattle.std.proofs.Common.{◌≡◌, ◌∙◌, ℕ, List, Option, Some, None, Result, Ok, Err, IfOk, OnErr, OnOk, subst, sym}
 use Rattle.std.specs.List.{range_with_len}
 use Rattle.std.proofs.lemmas.List.FromFn.{length-range_with_len}
 use Rattle.std.proofs.lemmas.Slice.Zip.{AllZip-long}
@@ -9,12 +9,20 @@ use Rattle.figures.specs.declared.summary.CaseSummary.{CaseSummary}
 use Rattle.sweep.specs.Summaries.{MakesAll}
 use Rattle.sweep.specs.Table.{BeginsTable}
 use Rattle.sweep_until.specs.Until.{BeginsUntil, IsMadeUntil, MakesUntil, SumsUp}
-use Rattle.sweep_command.specs.Runs.{BeginsRuns, MakesRuns}
+use Rattle.std.proofs.lemmas.Option.{same_Some}
+use Rattle.pieces.specs.declared.piece.Piece.{Piece}
+use Rattle.sweep.specs.Pieces.{BeginsPiece, WritesPiece}
+use Rattle.sweep_until.specs.Pieces.{AreCasesIn, BeginsPieceUntil, WritesPieceUntil}
+use Rattle.sweep_command.specs.Runs.{BeginsPieceRuns, BeginsRuns, MakesPiece, MakesRuns}
 
 -- what holds of the way that was taken holds of the one that is asked for
 pub ok_by : {T E : Type 0} {P : T → Type 0} (Q : Option ℕ → T → Type 0) (until way : Option ℕ) (told : Result T E) → until ≡ way → IfOk told P → ((x : T) → P x → Q way x) → IfOk told (Q until)
 ok_by Q until way (Ok x) is h turns = subst (λ o. Q o x) (sym is) (turns x h)
 ok_by Q until way (Err e) is h turns = tt
+
+pub done_by : {T E P : Type 0} (Q : Option ℕ → Type 0) (until way : Option ℕ) (told : Result T E) → until ≡ way → OnOk told P → (P → Q way) → OnOk told (Q until)
+done_by Q until way (Ok x) is h turns = subst Q (sym is) (turns h)
+done_by Q until way (Err e) is h turns = tt
 
 pub err_by : {T E P : Type 0} (Q : Option ℕ → Type 0) (until way : Option ℕ) (told : Result T E) → until ≡ way → OnErr told P → (P → Q way) → OnErr told (Q until)
 err_by Q until way (Ok x) is h turns = tt
@@ -41,3 +49,25 @@ module _ (tree : Data) (plan : Sweep) (old new : Option (List ℕ)) where
 
     pub few_begun : BeginsUntil tree plan width old new → BeginsRuns (Some width) tree plan old new
     few_begun begins = record { made = begins.made; are = begins.are; written = begins.written }
+
+-- and of a piece
+module _ (tree : Data) (plan : Sweep) (mark : List ℕ) (p : Piece) (old new : Option (List ℕ)) where
+  pub piece_made : WritesPiece tree plan mark p old new → MakesPiece None tree plan mark p old new
+  piece_made makes = record { made = makes.made; are = makes.are; written = makes.written }
+
+  pub piece_begun : BeginsPiece tree plan mark p old new → BeginsPieceRuns None tree plan mark p old new
+  piece_begun begins = record { made = begins.made; are = begins.are; written = begins.written }
+
+  pub few_piece_made : (width : ℕ) → plan.until ≡ Some width → WritesPieceUntil tree plan mark p old new → MakesPiece (Some width) tree plan mark p old new
+  few_piece_made width is makes = record {
+    made = makes.made;
+    are = subst (λ (w : ℕ). AreCasesIn tree plan w p makes.made) (same_Some (sym makes.wanted ∙ is)) makes.are;
+    written = makes.written;
+  }
+
+  pub few_piece_begun : (width : ℕ) → plan.until ≡ Some width → BeginsPieceUntil tree plan mark p old new → BeginsPieceRuns (Some width) tree plan mark p old new
+  few_piece_begun width is begins = record {
+    made = begins.made;
+    are = subst (λ (w : ℕ). AreCasesIn tree plan w p begins.made) (same_Some (sym begins.wanted ∙ is)) begins.are;
+    written = begins.written;
+  }

@@ -19,7 +19,6 @@ use Rattle.pieces.specs.declared.piece.Piece.{Piece}
 use Rattle.sweep.specs.Runs.{Made, Planned}
 use Rattle.sweep.specs.Judged.{AreAccepted, IsFirstRefused}
 use Rattle.sweep.specs.Table.{tells_revived, HasCause}
-use Rattle.sweep.specs.Pieces.{AreMadeIn, BeginsPiece, WritesPiece, piece_table}
 use Rattle.sweep.specs.Resumed.{AreMadeBehind, BeginsRest, IsBegun, RefusesBegun, WritesRest, rest_text}
 use Rattle.sweep.specs.declared.begun.BegunFault.TheVariants as begun_fault
 use Rattle.figures.specs.declared.summary.CaseSummary.{CaseSummary}
@@ -33,7 +32,7 @@ use Rattle.command_line.specs.declared.failure.PieceFault.{PieceFault}
 use Rattle.command_line.specs.declared.failure.PieceFault.TheVariants as piece
 use Rattle.scenario_files.specs.Shelves.{Shelf, word_given, IsRefused, IsUnread, HoldsBeginning}
 use Rattle.scenario_files.specs.Loading.{HasDocument, HasMarkedDocument, HasNoDocument}
-use Rattle.sweep_command.specs.Runs.{RunsBy, AreRuns, AreSummedUp, BeginsRuns, MakesRuns, runs_table}
+use Rattle.sweep_command.specs.Runs.{RunsBy, AreRuns, AreSummedUp, ArePieceRuns, BeginsPieceRuns, BeginsRuns, MakesPiece, MakesRuns, piece_runs_table, runs_table}
 
 -- the words ask for a sweep that tells how far it has come
 abbrev pub AsksForProgress : List Text → Type 0
@@ -117,9 +116,9 @@ pub record BeginsPaged (tree : Data) (sweep : SweepWords) (old new page_old page
 
 -- The runs of a piece were made: the file holds its table, and no other file has changed.
 pub record StoresPiece (tree : Data) (sweep : SweepWords) (mark : List ℕ) (p : Piece) (before after : Shelf) : Type 0 where
-  pub made : List Made
-  pub are : AreMadeIn tree sweep.plan p made
-  pub stored : HoldsNow (before sweep.table.now) (after sweep.table.now) (piece_table (tells_revived tree) mark sweep.plan p made)
+  pub made : RunsBy sweep.plan.until
+  pub are : ArePieceRuns sweep.plan.until tree sweep.plan p made
+  pub stored : HoldsNow (before sweep.table.now) (after sweep.table.now) (piece_runs_table sweep.plan.until tree mark sweep.plan p made)
   pub others : KeepsOthers before after sweep.table.now
 
 -- what the file held of a table that was cut off; where there is no file, nothing
@@ -165,7 +164,7 @@ AreApart (Some page) making file table = AreThreeFiles making file table page.no
 
 -- the same of what was appended to what was held; of a piece that went on, behind these lines, so many
 abbrev pub MakesPart : Bool → Data → SweepWords → List ℕ → Piece → List ℕ → ℕ → Option (List ℕ) → Option (List ℕ) → Type 0
-MakesPart false tree sweep mark p stood runs old new = WritesPiece tree sweep.plan mark p old new
+MakesPart false tree sweep mark p stood runs old new = MakesPiece sweep.plan.until tree sweep.plan mark p old new
 MakesPart true tree sweep mark p stood runs old new = WritesRest tree sweep.plan mark p stood runs old new
 
 abbrev pub MakesAsked : Option Piece → Data → SweepWords → List ℕ → List ℕ → ℕ → Option (List ℕ) → Option (List ℕ) → List ℕ → Type 0
@@ -174,7 +173,7 @@ MakesAsked (Some p) tree sweep mark stood runs old new lines = MakesPart sweep.r
 
 -- a beginning of it was appended
 abbrev pub BeginsPart : Bool → Data → SweepWords → List ℕ → Piece → List ℕ → ℕ → Option (List ℕ) → Option (List ℕ) → Type 0
-BeginsPart false tree sweep mark p stood runs old new = BeginsPiece tree sweep.plan mark p old new
+BeginsPart false tree sweep mark p stood runs old new = BeginsPieceRuns sweep.plan.until tree sweep.plan mark p old new
 BeginsPart true tree sweep mark p stood runs old new = BeginsRest tree sweep.plan mark p stood runs old new
 
 abbrev pub BeginsAsked : Option Piece → Data → SweepWords → List ℕ → List ℕ → ℕ → Option (List ℕ) → Option (List ℕ) → Type 0
@@ -262,9 +261,9 @@ pub record BreaksOffTable (tree : Data) (sweep : SweepWords) (before after : She
 
 -- the same of the table of a piece
 pub record BreaksOffPiece (tree : Data) (sweep : SweepWords) (mark : List ℕ) (p : Piece) (before after : Shelf) (cause : Fault) : Type 0 where
-  pub made : List Made
-  pub are : AreMadeIn tree sweep.plan p made
-  pub begun : HoldsBeginning (before sweep.table.now) (after sweep.table.now) (piece_table (tells_revived tree) mark sweep.plan p made)
+  pub made : RunsBy sweep.plan.until
+  pub are : ArePieceRuns sweep.plan.until tree sweep.plan p made
+  pub begun : HoldsBeginning (before sweep.table.now) (after sweep.table.now) (piece_runs_table sweep.plan.until tree mark sweep.plan p made)
   pub others : KeepsOthers before after sweep.table.now
   pub caused : HasCause tree sweep.plan cause
 

@@ -9,8 +9,11 @@ use Rattle.cases.specs.Sweep.{Sweep, case_count, seed_count}
 use Rattle.figures.specs.declared.summary.CaseSummary.{CaseSummary}
 use Rattle.sweep.specs.Runs.{Made, AreMade, noted}
 use Rattle.sweep.specs.Summaries.{SumUp}
-use Rattle.sweep.specs.Table.{table_text}
-use Rattle.sweep_until.specs.Until.{AreMadeUntil, SumsUp, cases_table}
+use Rattle.sweep.specs.Table.{table_text, tells_revived}
+use Rattle.pieces.specs.declared.piece.Piece.{Piece}
+use Rattle.sweep.specs.Pieces.{AreMadeIn, piece_table}
+use Rattle.sweep_until.specs.Pieces.{AreCasesIn}
+use Rattle.sweep_until.specs.Until.{AreMadeUntil, SumsUp, all_of, cases_table}
 
 -- how runs are listed: all of them in one list; with a width, those of each case in a list of their own
 abbrev pub RunsBy : Option ℕ → Type 0
@@ -45,3 +48,27 @@ pub record BeginsRuns (until : Option ℕ) (tree : Data) (plan : Sweep) (old new
   pub made : RunsBy until
   pub are : AreRuns until tree plan made
   pub written : AppendsBeginning old new (runs_table until tree plan made)
+
+-- ---- of a piece
+
+-- these are the runs of a piece; with a width, it is one of whole cases
+abbrev pub ArePieceRuns : (until : Option ℕ) → Data → Sweep → Piece → RunsBy until → Type 0
+ArePieceRuns None tree plan p made = AreMadeIn tree plan p made
+ArePieceRuns (Some width) tree plan p made = AreCasesIn tree plan width p made
+
+-- the table of these runs
+abbrev pub piece_runs_table : (until : Option ℕ) → Data → List ℕ → Sweep → Piece → RunsBy until → List ℕ
+piece_runs_table None tree mark plan p made = piece_table (tells_revived tree) mark plan p made
+piece_runs_table (Some width) tree mark plan p made = piece_table (tells_revived tree) mark plan p (all_of made)
+
+-- the runs of a piece were made: its table was appended
+pub record MakesPiece (until : Option ℕ) (tree : Data) (plan : Sweep) (mark : List ℕ) (p : Piece) (old new : Option (List ℕ)) : Type 0 where
+  pub made : RunsBy until
+  pub are : ArePieceRuns until tree plan p made
+  pub written : Appends old new (piece_runs_table until tree mark plan p made)
+
+-- a beginning of its table was
+pub record BeginsPieceRuns (until : Option ℕ) (tree : Data) (plan : Sweep) (mark : List ℕ) (p : Piece) (old new : Option (List ℕ)) : Type 0 where
+  pub made : RunsBy until
+  pub are : ArePieceRuns until tree plan p made
+  pub written : AppendsBeginning old new (piece_runs_table until tree mark plan p made)

@@ -1,20 +1,22 @@
 //! The runs of a whole sweep.
-ghost use Rattle.std.specs.Prelude.{◌<◌, ◌≤◌, ◌^◌, IfOk, IfErr, OnErr};
-ghost use Rattle.std.specs.Option.{ForSome};
+ghost use Rattle.std.specs.Prelude.{◌<◌, ◌≤◌, ◌^◌, IfOk, IfErr, OnErr, OnOk};
 ghost use Rattle.toml.specs.View.{view};
+ghost use Rattle.pieces.specs.Pieces.{IsPiece};
 ghost use Rattle.sweep.specs.Runs.{IsAskedFor};
 ghost use Rattle.sweep.specs.Judged.{AreAccepted};
 ghost use Rattle.sweep.specs.Table.{HasCause};
-ghost use Rattle.sweep_command.specs.Runs.{BeginsRuns, MakesRuns};
+ghost use Rattle.sweep_command.specs.Runs.{BeginsPieceRuns, BeginsRuns, MakesPiece, MakesRuns};
 
 use base::Fault;
+use cases::Plan;
 use command_line::SweepWords;
 use figures::CaseSummary;
+use pieces::Piece;
 use scenario::Workers;
 use std::alloc::Global;
 use std::thread::Threads;
-use sweep::{Progress, sweep};
-use sweep_until::sweep_until;
+use sweep::{Progress, sweep, write_piece};
+use sweep_until::{sweep_until, write_piece_until};
 use toml::Value;
 use trace::Sink;
 
@@ -47,5 +49,36 @@ pub(crate) fn make_runs<S: Sink, P: Progress>(
     match plan.until() {
         Some(width) => sweep_until(rt, alloc, plan, width, document, workers, progress, table),
         None => sweep(rt, alloc, plan, document, workers, progress, table),
+    }
+}
+
+/// Makes the runs of a piece of a sweep, and writes its table, with `mark` as that of the scenario's text. Where the plan says how
+/// wide the interval of a case may be, it is a piece of whole cases. All else is as in `make_runs`.
+pub(crate) fn make_piece<S: Sink, P: Progress>(
+    rt: &(impl Threads + Sync),
+    alloc: Global,
+    plan: &Plan,
+    piece: Piece,
+    mark: &str,
+    document: &Value,
+    workers: Workers,
+    progress: &mut P,
+    table: &mut S,
+) -> Result<(), Fault>
+    requires asked { IsAskedFor plan.now }
+    requires piece { IsPiece piece }
+    requires judged { AreAccepted (view document.now) plan.now }
+    requires countable { S.failed table.old < 2 ^ 63 }
+    ensures whole { OnOk result (MakesPiece plan.now.until (view document.now) plan.now mark.now piece (S.held table.old) (S.held table.new)) }
+    ensures part { OnErr result (BeginsPieceRuns plan.now.until (view document.now) plan.now mark.now piece (S.held table.old) (S.held table.new)) }
+    ensures causes { IfErr result (HasCause (view document.now) plan.now) }
+{
+    match plan.until() {
+        Some(_) => write_piece_until(
+            rt, alloc, plan, piece, mark, document, workers, progress, table,
+        ),
+        None => write_piece(
+            rt, alloc, plan, piece, mark, document, workers, progress, table,
+        ),
     }
 }

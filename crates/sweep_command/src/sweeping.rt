@@ -12,7 +12,7 @@ ghost use Rattle.sweep_command.specs.Outcomes.{AreApart, BeginsAsked, BeginsPart
 ghost use Rattle.sweep_command.specs.Runs.{BeginsRuns};
 
 use crate::checks::{PreparedSweep, prepare_sweep};
-use crate::making::make_runs;
+use crate::making::{make_piece, make_runs};
 use crate::paging::store_paged;
 use crate::progressing::RunLines;
 use crate::resuming::{Standing, find_standing};
@@ -25,7 +25,7 @@ use scenario_files::{file_failure, run_told};
 use std::alloc::Global;
 use std::io::Write;
 use std::thread::Threads;
-use sweep::{Begun, NoProgress, Progress, tells_revived, write_piece, write_rest};
+use sweep::{Begun, NoProgress, Progress, tells_revived, write_rest};
 use trace::{Put, Sink};
 
 /// Makes the runs that the words of a sweep ask for, and writes their table to a file, and a page of
@@ -251,7 +251,7 @@ fn write_part<S: Sink, P: Progress>(
             rt, alloc, plan, piece, mark, begun, document, workers, progress, table,
         );
     }
-    write_piece(
+    make_piece(
         rt, alloc, plan, piece, mark, document, workers, progress, table,
     )
 }

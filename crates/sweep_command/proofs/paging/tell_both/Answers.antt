@@ -6,7 +6,9 @@ use Rattle.answers.specs.Wants.{HasFewRuns}
 use Rattle.figures.specs.declared.summary.CaseSummary.{CaseSummary}
 use Rattle.trace.proofs.Beginnings.{Keeps-same}
 use Rattle.scenario_files.proofs.Held.{handed_on}
-use Rattle.sweep_command.specs.Outcomes.{TellsCases, WritesPage}
+use Rattle.case_telling.specs.Telling.{TellsCases}
+use Rattle.sweep.specs.Table.{tells_revived}
+use Rattle.sweep_command.specs.Outcomes.{WritesPage}
 use Rattle.sweep_command.proofs.Few.{few_runs_each}
 use Rattle.sweep_command.proofs.Paged.{page_broke, table_broke}
 use Rattle.sweep_command.proofs.Tables.{each_err_of}
@@ -19,7 +21,7 @@ pub returns-clause-whole : goal.returns-clause-whole
 returns-clause-whole g c = record {
   cases = c.in_ok-cases.cases.items;
   makes = c.in_ok-cases.ensures.whole;
-  text = subst (λ (l : List CaseSummary). TellsCases c.args.words.now.jsonl (view c.args.prepared.now.marked.document) c.args.words.now l (string_bytes c.in_ok-lines.lines)) c.deref.ensures.value c.in_ok-lines.ensures;
+  text = subst (λ (l : List CaseSummary). TellsCases c.args.words.now.jsonl (tells_revived (view c.args.prepared.now.marked.document)) c.args.words.now.plan c.args.words.now.wants.items l (string_bytes c.in_ok-lines.lines)) c.deref.ensures.value c.in_ok-lines.ensures;
   paged = subst (λ (l : List CaseSummary). WritesPage c.args.words.now c.args.release.now.version.now l (g.U.Sink.held c.args.page.now) (g.U.Sink.held c.write_page.new.out)) c.deref-2.ensures.value c.in_ok-write_page.ensures.whole;
 }
 

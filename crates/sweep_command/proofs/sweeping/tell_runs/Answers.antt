@@ -4,7 +4,8 @@ use Rattle.std.specs.Prelude.{All}
 use Rattle.toml.specs.View.{view}
 use Rattle.answers.specs.Wants.{HasFewRuns}
 use Rattle.figures.specs.declared.summary.CaseSummary.{CaseSummary}
-use Rattle.sweep_command.specs.Outcomes.{TellsCases}
+use Rattle.case_telling.specs.Telling.{TellsCases}
+use Rattle.sweep.specs.Table.{tells_revived}
 use Rattle.sweep_command.proofs.Few.{few_runs_each}
 use Rattle.sweep_command.proofs.Tables.{all_begins, each_err_of}
 use Rattle.sweep_command.proofs.sweeping.tell_runs.Goals as goal
@@ -16,7 +17,7 @@ pub returns-clause-whole : goal.returns-clause-whole
 returns-clause-whole g c = record {
   cases = c.in_ok-cases.cases.items;
   makes = c.in_ok-cases.ensures.whole;
-  text = subst (λ (l : List CaseSummary). TellsCases c.args.words.now.jsonl (view c.args.prepared.now.marked.document) c.args.words.now l (string_bytes c.in_ok-lines.lines)) c.deref.ensures.value c.in_ok-lines.ensures;
+  text = subst (λ (l : List CaseSummary). TellsCases c.args.words.now.jsonl (tells_revived (view c.args.prepared.now.marked.document)) c.args.words.now.plan c.args.words.now.wants.items l (string_bytes c.in_ok-lines.lines)) c.deref.ensures.value c.in_ok-lines.ensures;
 }
 
 pub returns-in_err-lines-clause-part : goal.returns-in_err-lines-clause-part
