@@ -102,8 +102,8 @@ returns-in_err-joined-in-Join-clause-failed g c =
 pub returns-in_err-joined-in-Join-clause-other : goal.returns-in_err-joined-in-Join-clause-other
 returns-in_err-joined-in-Join-clause-other g c none = absurd (none (is_command _ _ c.in_ok-help.ensures.answer))
 
-pub join_files-requires : goal.join_files-requires
-join_files-requires g c _ _ = joined_wants _ _ _ c.in-Join.is c.in_ok-help.ensures.answer
+pub join_files-requires-clause-wants : goal.join_files-requires-clause-wants
+join_files-requires-clause-wants g c _ _ = joined_wants _ _ _ c.in-Join.is c.in_ok-help.ensures.answer
 
 pub returns-in-Page-clause-done : goal.returns-in-Page-clause-done
 returns-in-Page-clause-done g c =
