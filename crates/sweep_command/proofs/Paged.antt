@@ -1,25 +1,19 @@
 -- What came of a whole sweep with a page, as what is asked for.
 use Rattle.std.proofs.Common.{◌≡◌, ◌∙◌, ap, ℕ, Bool, List, Option, Some, None, Bor, Result, Ok, Err, IfOk, IfErr, OnOk, sym, subst, inl, inr}
-use Rattle.std.specs.Prelude.{IsErrAnd}
 use Rattle.std.specs.Io.KnownBytes.{Keeps}
 use Rattle.std.proofs.lemmas.Result.{IfErr-weaker}
 use Rattle.toml.specs.Data.{Data}
 use Rattle.base.specs.declared.fault.Fault.{Fault}
 use Rattle.files.specs.Files.{AreThreeFiles, Making}
 use Rattle.trace.proofs.Beginnings.{beginning-whole}
-use Rattle.trace.specs.declared.write.WriteError.{WriteError}
-use Rattle.trace.specs.declared.write.WriteError.TheVariants as write_error
-use Rattle.trace.specs.Sinks.{fault_of_write}
-use Rattle.cases.specs.Sweep.{Sweep}
 use Rattle.pieces.specs.declared.piece.Piece.{Piece}
 use Rattle.sweep.specs.Table.{HasCause}
-use Rattle.sweep_page.specs.Page.{page_text}
 use Rattle.figures.specs.declared.summary.CaseSummary.{CaseSummary}
 use Rattle.command_line.specs.declared.words.SweepWords.{SweepWords}
 use Rattle.command_line.specs.declared.failure.Failure.{Failure}
 use Rattle.scenario_files.specs.Shelves.{Shelf}
 use Rattle.scenario_files.proofs.Held.{each_ok}
-use Rattle.sweep_command.specs.Outcomes.{AreApart, BeginsPage, BeginsPaged, IsSweepPage, PagedFails, StoreFails, StoresAsked, StoresPaged, StoresPlain, StoresWhole, TableFails, front_of}
+use Rattle.sweep_command.specs.Outcomes.{AreApart, BeginsPage, BeginsPaged, PagedFails, StoreFails, StoresAsked, StoresPaged, StoresPlain, StoresWhole, TableFails}
 use Rattle.sweep_command.specs.Runs.{BeginsRuns, MakesRuns, runs_table}
 
 -- what is asked for is stored, with a page or without one

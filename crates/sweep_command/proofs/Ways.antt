@@ -61,13 +61,13 @@ module _ (tree : Data) (plan : Sweep) (mark : List ℕ) (p : Piece) (old new : O
   pub few_piece_made : (width : ℕ) → plan.until ≡ Some width → WritesPieceUntil tree plan mark p old new → MakesPiece (Some width) tree plan mark p old new
   few_piece_made width is makes = record {
     made = makes.made;
-    are = subst (λ (w : ℕ). AreCasesIn tree plan w p makes.made) (same_Some (sym makes.wanted ∙ is)) makes.are;
+    are = subst (λ (w : ℕ). AreCasesIn tree plan w p makes.made) (same_Some makes.width width (sym makes.wanted ∙ is)) makes.are;
     written = makes.written;
   }
 
   pub few_piece_begun : (width : ℕ) → plan.until ≡ Some width → BeginsPieceUntil tree plan mark p old new → BeginsPieceRuns (Some width) tree plan mark p old new
   few_piece_begun width is begins = record {
     made = begins.made;
-    are = subst (λ (w : ℕ). AreCasesIn tree plan w p begins.made) (same_Some (sym begins.wanted ∙ is)) begins.are;
+    are = subst (λ (w : ℕ). AreCasesIn tree plan w p begins.made) (same_Some begins.width width (sym begins.wanted ∙ is)) begins.are;
     written = begins.written;
   }

@@ -1,6 +1,5 @@
 //! A whole sweep, and the files that take its table and its page.
 ghost use Rattle.std.specs.Prelude.{◌≡◌, ◌<◌, ◌≤◌, ◌^◌, All, false, length, IfOk, IfErr, OnOk, OnErr, string_bytes};
-ghost use Rattle.std.specs.Option.{ForSome};
 ghost use Rattle.toml.specs.Data.{Data};
 ghost use Rattle.toml.specs.View.{view};
 ghost use Rattle.answers.specs.Wants.{IsBounded};
