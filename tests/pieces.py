@@ -158,9 +158,9 @@ def cases():
     for sweep in listed:
         for count in COUNTS:
             yield Case(f'pieces: {sweep["about"]}, {count}', check, (sweep, count))
-    narrow = next(sweep for sweep in listed if 'until' in sweep)
         for count in (1, 3):
             yield Case(f'pieces: {sweep["about"]}, all that is told of {count}', check_told, (sweep, count))
+    narrow = next(sweep for sweep in listed if 'until' in sweep)
     yield Case('pieces: what join refuses', check_refused, (listed[0],))
     yield Case('pieces: what join refuses where there is a width', check_widths_refused, (narrow,))
     yield Case('pieces: one that was cut off', check_resumed, (listed[0],))

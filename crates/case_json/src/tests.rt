@@ -78,7 +78,7 @@ const LINES: &str =
 #[test]
 fn cases_are_objects(rt: HostRuntime) -> Result<(), Fail> {
     let words = ["swim.period=200,250", "lifeguard.probe=true"];
-    let plan = Plan::read(rt.alloc(), &words, None)?;
+    let plan = Plan::read(rt.alloc(), &words, None, None)?;
     let want = Want::read("confirm_p50<=500").expect(&rt, "a want");
     if plan.cases() != 2 {
         panic!(&rt; "two cases");

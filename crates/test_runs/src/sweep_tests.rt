@@ -43,7 +43,7 @@ fn sweep_by(
     workers: usize,
     table: &mut MemorySink,
 ) -> Result<Result<Vec<CaseSummary>, Fault>, Fail> {
-    let plan = Plan::read(rt.alloc(), &SETTINGS, Some("1..2"))?;
+    let plan = Plan::read(rt.alloc(), &SETTINGS, Some("1..2"), None)?;
     let text = document(rt.alloc(), THREE.as_bytes())?;
     let workers = Workers::new(workers).expect(rt, "workers");
     assert!(rt; table.failures() < 1 << 62);
