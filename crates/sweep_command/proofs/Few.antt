@@ -2,7 +2,7 @@
 use Rattle.std.proofs.Common.{◌*◌, ◌≤◌, ◌==◌, ℕ, List, [], ◌∷◌, Option, Some, None, not, arith, drop, get_or, length, map}
 use Rattle.std.specs.Prelude.{All}
 use Rattle.std.specs.List.{AllZip, range_with_len}
-use Rattle.std.proofs.lemmas.List.{length-map, length-take}
+use Rattle.std.proofs.lemmas.List.{length-take}
 use Rattle.std.proofs.lemmas.List.Elements.{All-cons, All-nil}
 use Rattle.std.proofs.lemmas.List.Sums.{count_by-le-length}
 use Rattle.std.proofs.lemmas.Option.{slice_get-get_or}
@@ -42,7 +42,7 @@ module _ (tree : Data) (plan : Sweep) (asked : IsAskedFor plan) where
   few_with_own width (number ∷ numbers) (runs ∷ made) [] are told = absurd told
   few_with_own width (number ∷ numbers) (runs ∷ made) (case ∷ cases) are told =
       All-cons HasFewRuns case cases
-      (few_of case (map noted runs) (omega (arith, length-map runs noted, are.0.few, few_runs plan asked)) told.0)
+      (few_of case (map noted runs) (omega (arith, are.0.enough.few, few_runs plan asked)) told.0)
       (few_with_own width numbers made cases are.1 told.1)
 
   few_by : (until : Option ℕ) (made : RunsBy until) (cases : List CaseSummary) → AreRuns until tree plan made → AreSummedUp until plan made cases → All HasFewRuns cases
