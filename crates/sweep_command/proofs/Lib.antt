@@ -4,3 +4,4 @@ mod Paged
 mod Pairs
 mod Tables
 mod Ways
+mod Told

@@ -1,28 +1,26 @@
 -- the table, what is told of the cases, and their page
 use Rattle.std.proofs.Common.{List, string_bytes, subst, sym, inl}
 use Rattle.std.specs.Prelude.{All}
-use Rattle.toml.specs.View.{view}
 use Rattle.answers.specs.Wants.{HasFewRuns}
 use Rattle.figures.specs.declared.summary.CaseSummary.{CaseSummary}
 use Rattle.trace.proofs.Beginnings.{Keeps-same}
 use Rattle.scenario_files.proofs.Held.{handed_on}
-use Rattle.case_telling.specs.Telling.{TellsCases}
-use Rattle.sweep.specs.Table.{tells_revived}
 use Rattle.sweep_command.specs.Outcomes.{WritesPage}
 use Rattle.sweep_command.proofs.Few.{few_runs_each}
 use Rattle.sweep_command.proofs.Paged.{page_broke, table_broke}
+use Rattle.sweep_command.proofs.Told.{told_as}
 use Rattle.sweep_command.proofs.Tables.{each_err_of}
 use Rattle.sweep_command.proofs.paging.tell_both.Goals as goal
 
 pub cases_told-requires-clause-few : goal.cases_told-requires-clause-few
-cases_told-requires-clause-few g c = subst (All HasFewRuns) (sym c.deref.ensures.value) (few_runs_each _ _ _ _ _ _ c.requires.asked c.in_ok-cases.ensures.whole)
+cases_told-requires-clause-few g c = subst (All HasFewRuns) (sym c.deref-2.ensures.value) (few_runs_each _ _ _ _ _ _ c.requires.asked c.in_ok-cases.ensures.whole)
 
 pub returns-clause-whole : goal.returns-clause-whole
 returns-clause-whole g c = record {
   cases = c.in_ok-cases.cases.items;
   makes = c.in_ok-cases.ensures.whole;
-  text = subst (λ (l : List CaseSummary). TellsCases c.args.words.now.jsonl (tells_revived (view c.args.prepared.now.marked.document)) c.args.words.now.plan c.args.words.now.wants.items l (string_bytes c.in_ok-lines.lines)) c.deref.ensures.value c.in_ok-lines.ensures;
-  paged = subst (λ (l : List CaseSummary). WritesPage c.args.words.now c.args.release.now.version.now l (g.U.Sink.held c.args.page.now) (g.U.Sink.held c.write_page.new.out)) c.deref-2.ensures.value c.in_ok-write_page.ensures.whole;
+  text = told_as _ _ _ _ _ _ _ _ _ c.tells_revived-revived.ensures c.deref.ensures.value c.deref-2.ensures.value c.in_ok-lines.ensures;
+  paged = subst (λ (l : List CaseSummary). WritesPage c.args.words.now c.args.release.now.version.now l (g.U.Sink.held c.args.page.now) (g.U.Sink.held c.write_page.new.out)) c.deref-3.ensures.value c.in_ok-write_page.ensures.whole;
 }
 
 pub returns-in_err-cases-clause-part : goal.returns-in_err-cases-clause-part
@@ -30,11 +28,11 @@ returns-in_err-cases-clause-part g c = each_err_of c.from_residual.result (table
 
 pub returns-in_err-lines-clause-part : goal.returns-in_err-lines-clause-part
 returns-in_err-lines-clause-part g c =
-    each_err_of c.from_residual-in_err-lines.result (page_broke _ _ c.args.release.now.version.now _ _ _ _ _ _ c.deref.ensures.value c.in_ok-cases.ensures.whole (inl (Keeps-same _)))
+    each_err_of c.from_residual-in_err-lines.result (page_broke _ _ c.args.release.now.version.now _ _ _ _ _ _ c.deref-2.ensures.value c.in_ok-cases.ensures.whole (inl (Keeps-same _)))
 
 pub returns-in_err-write_page-clause-part : goal.returns-in_err-write_page-clause-part
 returns-in_err-write_page-clause-part g c =
-    each_err_of c.from_residual-in_err-write_page.result (page_broke _ _ c.args.release.now.version.now _ _ _ _ _ _ c.deref-2.ensures.value c.in_ok-cases.ensures.whole c.in_err-write_page.ensures.part)
+    each_err_of c.from_residual-in_err-write_page.result (page_broke _ _ c.args.release.now.version.now _ _ _ _ _ _ c.deref-3.ensures.value c.in_ok-cases.ensures.whole c.in_err-write_page.ensures.part)
 
 pub returns-in_err-write_page-clause-causes : goal.returns-in_err-write_page-clause-causes
 returns-in_err-write_page-clause-causes g c = handed_on _ _ _ c.from_residual-in_err-write_page.ensures.1 (c.in_err-write_page.ensures.causes _ _)
