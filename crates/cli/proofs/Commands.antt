@@ -377,3 +377,8 @@ asked_init_fails words before making old new answer preset unchanged failure is 
     by_failure Workers asks none = absurd none
     by_failure (Division cause) asks none = absurd none
     by_failure (Run cause) asks none = absurd none
+
+-- what holds anyhow holds of what is done
+pub on_done : {T E : Type 0} (told : Result T E) (P : Type 0) → P → OnOk told P
+on_done (Ok x) P holds = holds
+on_done (Err e) P holds = tt

@@ -13,6 +13,9 @@ use std::rt::{Env, Files};
 use std::sync::Wait;
 use std::thread::Threads;
 
+/// The name of a file that holds nothing and keeps nothing.
+const NOTHING: &str = "/dev/null";
+
 /// Does what the words of the program's command line ask for, and answers the status that the program ends with.
 /// `release` is what it tells of itself; `out` and `err` are its streams; how far a run or a sweep has come
 /// goes to `progress`, where that is asked for.
@@ -26,7 +29,11 @@ pub fn run_program<
     ensures silent { 2 ≤ exit_status result → exit_status result ≢ 3 → out.new ≡ out.old }
     ensures quiet { exit_status result ≡ 0 → err.new ≡ err.old }
 {
-    let _held = hold_streams(rt);
+    // They hold the numbers of those standard streams that were closed when the program began: the next
+    // file that is opened would get such a number, and what is meant for the stream would go into it.
+    let _input = fs::open(rt, NOTHING);
+    let _output = fs::open(rt, NOTHING);
+    let _error = fs::open(rt, NOTHING);
     let status = match words(rt) {
         Ok(words) => {
             let mut files = SystemFiles::new(rt);
@@ -44,18 +51,4 @@ pub fn run_program<
         Err(failure) => refuse(&failure, err),
     };
     ExitCode::from(status)
-}
-
-/// Holds the numbers of those standard streams that were closed when the program began. The next file that
-/// is opened would get such a number, and what is meant for the stream would go into it.
-fn hold_streams<R: Files>(rt: &R) -> [Option<R::File>; 3] {
-    [open_nothing(rt), open_nothing(rt), open_nothing(rt)]
-}
-
-/// A file that holds nothing, and takes nothing.
-fn open_nothing<R: Files>(rt: &R) -> Option<R::File> {
-    match fs::open(rt, "/dev/null") {
-        Ok(file) => Some(file),
-        Err(_) => None,
-    }
 }

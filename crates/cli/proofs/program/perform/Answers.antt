@@ -1,6 +1,6 @@
 -- a run or a sweep that the words ask for, done and told or not done
 use Rattle.std.proofs.lemmas.Result.{IfErr-weaker, on_ok_weaker}
-use Rattle.cli.proofs.Commands.{asked_alone, asked_explain_done, asked_explain_failed, asked_init_done, asked_init_fails, asked_join_done, asked_join_fails, asked_join_unprinted, asked_page_done, asked_page_failed, asked_piece, asked_run_done, asked_run_fails, asked_run_unprinted, asked_run_untold, asked_seeds, asked_sweep_done, asked_sweep_fails, asked_sweep_unprinted, asked_untold, asked_wants, is_command, joined_wants}
+use Rattle.cli.proofs.Commands.{asked_alone, asked_explain_done, asked_explain_failed, asked_init_done, asked_init_fails, asked_join_done, asked_join_fails, asked_join_unprinted, asked_page_done, asked_page_failed, asked_piece, asked_run_done, asked_run_fails, asked_run_unprinted, asked_run_untold, asked_seeds, asked_sweep_done, asked_sweep_fails, asked_sweep_unprinted, asked_untold, asked_wants, is_command, joined_wants, on_done}
 use Rattle.scenario_files.proofs.Held.{handed_on}
 use Rattle.cli.proofs.program.perform.Goals as goal
 
@@ -102,8 +102,8 @@ returns-in_err-joined-in-Join-clause-failed g c =
 pub returns-in_err-joined-in-Join-clause-other : goal.returns-in_err-joined-in-Join-clause-other
 returns-in_err-joined-in-Join-clause-other g c none = absurd (none (is_command _ _ c.in_ok-help.ensures.answer))
 
-pub join_files-requires-clause-wants : goal.join_files-requires-clause-wants
-join_files-requires-clause-wants g c _ _ = joined_wants _ _ _ c.in-Join.is c.in_ok-help.ensures.answer
+pub join_files-requires : goal.join_files-requires
+join_files-requires g c = record { wants = joined_wants _ _ _ c.in-Join.is c.in_ok-help.ensures.answer }
 
 pub returns-in-Page-clause-done : goal.returns-in-Page-clause-done
 returns-in-Page-clause-done g c =
@@ -112,6 +112,9 @@ returns-in-Page-clause-done g c =
 pub returns-in-Page-clause-failed : goal.returns-in-Page-clause-failed
 returns-in-Page-clause-failed g c =
     asked_page_failed _ _ _ _ _ _ _ _ c.page_files.result c.in-Page.is c.in_ok-help.ensures.answer c.page_files.ensures.failed
+
+pub returns-in-Page-clause-command : goal.returns-in-Page-clause-command
+returns-in-Page-clause-command g c = on_done c.page_files.result _ (is_command _ _ c.in_ok-help.ensures.answer)
 
 pub returns-in-Page-clause-other : goal.returns-in-Page-clause-other
 returns-in-Page-clause-other g c none = absurd (none (is_command _ _ c.in_ok-help.ensures.answer))
