@@ -63,38 +63,43 @@ def check_resumed(program, sweep):
         expect('another', program.held('t.csv'), held)
 
 
-def check_refused(program, sweep):
-    """Joins what isn't the pieces of one sweep: each is told by its line, and the table stays as it was."""
-    text = text_of(DATA / sweep['base'])
-    options, _ = words_of(sweep)
-    program.keep('s.toml', text)
+def keep_halves(program, sweep):
+    """Makes the two pieces of a sweep, beside an older table; gives the words of `words_of`."""
+    options, words = words_of(sweep)
+    program.keep('s.toml', text_of(DATA / sweep['base']))
     program.keep('t.csv', 'an older table\n')
     for number in (1, 2):
         program.call(['sweep', 's.toml', '--table', f'{number}.csv', '--shard', f'{number}/2', *options])
+    return options, words
+
+
+def expect_refused(program, wanted):
+    """Joins pieces of these names: each is told by its line, and the table stays as it was."""
+    for names, line in wanted:
+        ran = program.call(['join', *names, '--table', 't.csv'])
+        expect_ran(ran, 3, b'', f'swimsim: {line}\n'.encode(), ' '.join(names))
+        expect('table', program.held('t.csv'), b'an older table\n')
+
+
+def check_refused(program, sweep):
+    """Joins what isn't the pieces of one sweep: each is told by its line, and the table stays as it was."""
+    options, _ = keep_halves(program, sweep)
     program.call(['sweep', 's.toml', '--table', 'other.csv', '--shard', '2/2', '--set', 'end=77', *options])
     program.keep('torn.csv', program.held('2.csv')[:-1])
     program.keep('short.csv', b''.join(program.held('2.csv').splitlines(keepends=True)[:-1]))
-    for names, line in [
+    expect_refused(program, [
         (['1.csv'], 'piece 2 missing'),
         (['2.csv', '2.csv'], 'piece 2.csv twice'),
         (['1.csv', 'torn.csv'], 'piece torn.csv torn'),
         (['1.csv', 'short.csv'], 'piece short.csv torn'),
         (['1.csv', 'other.csv'], 'piece other.csv of another sweep'),
         (['1.csv', 's.toml'], 'no piece s.toml'),
-    ]:
-        ran = program.call(['join', *names, '--table', 't.csv'])
-        expect_ran(ran, 3, b'', f'swimsim: {line}\n'.encode(), ' '.join(names))
-        expect('table', program.held('t.csv'), b'an older table\n')
+    ])
 
 
 def check_widths_refused(program, sweep):
     """Joins what isn't the pieces of one sweep with a width: cases that are cut short, go on, or are of another width."""
-    text = text_of(DATA / sweep['base'])
-    options, words = words_of(sweep)
-    program.keep('s.toml', text)
-    program.keep('t.csv', 'an older table\n')
-    for number in (1, 2):
-        program.call(['sweep', 's.toml', '--table', f'{number}.csv', '--shard', f'{number}/2', *options])
+    _, words = keep_halves(program, sweep)
     first, second = (program.held(f'{number}.csv').splitlines(keepends=True) for number in (1, 2))
     width = words[1].encode()
     program.keep('torn.csv', b''.join(second)[:-1])
@@ -105,7 +110,7 @@ def check_widths_refused(program, sweep):
     program.keep('wider.csv', b''.join(second).replace(width, b'until=100', 1))
     program.keep('widest.csv', b''.join(second).replace(width, b'until=101', 1))
     program.keep('whole.csv', b''.join(second).replace(b' ' + width, b'', 1))
-    for names, line in [
+    expect_refused(program, [
         (['1.csv'], 'piece 2 missing'),
         (['2.csv', '1.csv', '2.csv'], 'piece 2.csv twice'),
         (['1.csv', 'torn.csv'], 'piece torn.csv torn'),
@@ -117,10 +122,7 @@ def check_widths_refused(program, sweep):
         (['1.csv', 'whole.csv'], 'piece whole.csv of another sweep'),
         (['1.csv', 'widest.csv'], 'piece widest.csv of another sweep'),
         (['widest.csv'], 'no piece widest.csv'),
-    ]:
-        ran = program.call(['join', *names, '--table', 't.csv'])
-        expect_ran(ran, 3, b'', f'swimsim: {line}\n'.encode(), ' '.join(names))
-        expect('table', program.held('t.csv'), b'an older table\n')
+    ])
 
 
 def check_told(program, sweep, count):
