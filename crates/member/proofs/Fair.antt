@@ -29,7 +29,7 @@ use Rattle.incarnation.specs.declared.Claim.{Claim}
 use Rattle.incarnation.specs.declared.Claim.TheVariants.{Alive, Suspect, Confirm}
 use Rattle.incarnation.specs.declared.Update.{Update}
 use Rattle.lifeguard.specs.declared.probe.Probe.{Probe}
-use Rattle.lifeguard.specs.Health.{LocalHealth}
+use Rattle.lifeguard.specs.Health.{LocalHealth, scaled}
 use Rattle.suspicion.specs.Ranges.{AreSound}
 use Rattle.suspicion.specs.Settings.{terms_of}
 use Rattle.suspicion.specs.Suspicions.{HeldSuspicion, accused_of, answer_of as answer_to, is_due}
@@ -48,7 +48,7 @@ use Rattle.membership.specs.Table.{is_confirm, does_override, live_count}
 use Rattle.member.specs.Effects.{Effect, on_state, unchanged, with_row, with_number, with_event, with_timer}
 use Rattle.member.specs.Send.{posted, sent, sent_off, sent_to_each, carried, gossip_sent, call_sent, answer_sent, push_sent, pull_sent, ping_sent, ping_req_sent, ack_sent, nack_sent, join_sent, join_sent_to, welcome_sent, bye_sent}
 use Rattle.member.specs.Apply.{gossip_set, with_put, passed_on, with_health, refuted, heard_dead, is_own_death, own_applied, with_told, claim_kept, without_suspicion, alive_heard, suspect_heard, death_kept, confirm_heard, claim_heard, news_heard, accusation_counted, accusation_heard, is_repeated, is_heeded, other_applied, applied, all_applied}
-use Rattle.member.specs.Step.{push_begun, first_push_set, push_period, doublings_to, pushed, first_period_set, suspected_at, timed_probe_failed, probe_settled, timed_probe_begun, timed_target_probed, next_timed_probed, waiting_probed, has_time, period_beaten, is_under_way, probed_in_turn, deadline_over, timed_answered, timed_ack_heard, sampled_help, called, timed_out_timed, answer_heard, is_told_out, gossip_spread, gossip_set_again, gossip_due, merged, push_due, push_heard, timed_handled, handled_by, began, join_asked, joining_begun, started, crashed, join_handled, joined, suspected, probe_failed, probe_ended, probe_begun, target_probed, next_probed, period_begun, help_asked, timed_out, nack_heard, ping_heard, ping_req_heard, ack_taken, ack_heard, nack_due, confirmed, suspicion_over, withdrawn, byes_said, departed, plain_handled, handled, step}
+use Rattle.member.specs.Step.{push_begun, first_push_set, push_period, doublings_to, pushed, first_period_set, suspected_at, timed_probe_failed, probe_settled, needs_timer, deadline_set, timed_probe_begun, timed_target_probed, next_timed_probed, waiting_probed, has_time, period_beaten, is_under_way, probed_in_turn, deadline_over, timed_answered, timed_ack_heard, sampled_help, called, timed_out_timed, answer_heard, is_told_out, gossip_spread, gossip_set_again, gossip_due, merged, push_due, push_heard, timed_handled, handled_by, began, join_asked, joining_begun, started, crashed, join_handled, joined, suspected, probe_failed, probe_ended, probe_begun, target_probed, next_probed, period_begun, help_asked, timed_out, nack_heard, ping_heard, ping_req_heard, ack_taken, ack_heard, nack_due, confirmed, suspicion_over, withdrawn, byes_said, departed, plain_handled, handled, step}
 use Rattle.member.specs.Places.{place_of}
 use Rattle.member.specs.Fair.{IsWellMade}
 
@@ -546,29 +546,34 @@ module _ (s : Setup) (sound : IsSound s) (k : Key) (n : ℕ) where
       let ended = fair_state (record o.state { probe = None }) o refl fair in
       fair_choice probe.reached _ _ (fair_health _ _ ended) (fair_timed_failed probe _ ended)
 
-  fair_timed_begun : (target : ℕ) (o : Effect) → IsWellMade s k n o → IsWellMade s k n (timed_probe_begun s k target o)
+  fair_deadline_set : (next_beat : Option ℕ) (seq deadline : ℕ) (o : Effect) → k.at < deadline → IsWellMade s k n o → IsWellMade s k n (deadline_set s k next_beat seq deadline o)
+  fair_deadline_set next_beat seq deadline o later fair = fair_choice (needs_timer next_beat deadline) _ _ (fair_own deadline _ o later fair) (fair_number o fair)
+
+  fair_timed_begun : (next_beat : Option ℕ) (target : ℕ) (o : Effect) → IsWellMade s k n o → IsWellMade s k n (timed_probe_begun s k next_beat target o)
   unfolding timed_probe_begun
-  fair_timed_begun target o fair =
-      fair_own _ _ _ (omega (arith, sound.timeout.0, sound.timeout.1)) (fair_timer _ _ _ (omega (arith, sound.timeout.0)) (fair_ping target k.to _ _ (fair_state _ o refl fair)))
+  fair_timed_begun next_beat target o fair =
+      fair_deadline_set next_beat (o.state.sequence + 1) (k.at + scaled o.state.health s.swim.period) _ (omega (arith, sound.timeout.0, sound.timeout.1))
+      (fair_timer s.swim.timeout _ _ (omega (arith, sound.timeout.0)) (fair_ping target k.to _ _ (fair_state _ o refl fair)))
 
-  fair_timed_target : (target : Option ℕ) (o : Effect) → IsWellMade s k n o → IsWellMade s k n (timed_target_probed s k target o)
-  fair_timed_target None o fair = fair_state _ o refl fair
-  fair_timed_target (Some target) o fair = fair_timed_begun target o fair
+  fair_timed_target : (next_beat target : Option ℕ) (o : Effect) → IsWellMade s k n o → IsWellMade s k n (timed_target_probed s k next_beat target o)
+  fair_timed_target next_beat None o fair = fair_state _ o refl fair
+  fair_timed_target next_beat (Some target) o fair = fair_timed_begun next_beat target o fair
 
-  fair_next_timed : (o : Effect) → IsWellMade s k n o → IsWellMade s k n (next_timed_probed s k o)
+  fair_next_timed : (next_beat : Option ℕ) (o : Effect) → IsWellMade s k n o → IsWellMade s k n (next_timed_probed s k next_beat o)
   unfolding next_timed_probed
-  fair_next_timed o fair = fair_timed_target (next_of o.state.words o.state.rota).0 _ (fair_state _ o refl fair)
+  fair_next_timed next_beat o fair = fair_timed_target next_beat (next_of o.state.words o.state.rota).0 _ (fair_state _ o refl fair)
 
   fair_waiting : (o : Effect) → IsWellMade s k n o → IsWellMade s k n (waiting_probed s k o)
-  fair_waiting o fair = fair_choice o.state.waits _ _ (fair_next_timed _ (fair_state _ o refl fair)) fair
+  fair_waiting o fair = fair_choice o.state.waits _ _ (fair_next_timed None _ (fair_state _ o refl fair)) fair
 
-  fair_in_turn : (o : Effect) → IsWellMade s k n o → IsWellMade s k n (probed_in_turn s k o)
-  fair_in_turn o fair = fair_choice (has_time k.at o.state.probe) _ _ (fair_state _ o refl fair) (fair_next_timed _ (fair_settled o.state.probe o fair))
+  fair_in_turn : (next_beat : ℕ) (o : Effect) → IsWellMade s k n o → IsWellMade s k n (probed_in_turn s k next_beat o)
+  fair_in_turn next_beat o fair =
+      fair_choice (has_time k.at o.state.probe) _ _ (fair_state _ o refl fair) (fair_next_timed (Some next_beat) _ (fair_settled o.state.probe o fair))
 
   fair_beaten : (o : Effect) → IsWellMade s k n o → IsWellMade s k n (period_beaten s k o)
   unfolding period_beaten
   fair_beaten o fair =
-      fair_in_turn _ (fair_own _ PeriodTimer o (in_step_later o.state.beat s.swim.period (omega (arith, sound.timeout.0, sound.timeout.1))) fair)
+      fair_in_turn _ _ (fair_own _ PeriodTimer o (in_step_later o.state.beat s.swim.period (omega (arith, sound.timeout.0, sound.timeout.1))) fair)
 
   fair_deadline : (seq : ℕ) (o : Effect) → IsWellMade s k n o → IsWellMade s k n (deadline_over s k seq o)
   unfolding deadline_over

@@ -35,7 +35,7 @@ use Rattle.membership.specs.Table.{is_confirm, does_override}
 use Rattle.member.specs.Apply.{gossip_set, with_put, passed_on, with_health, refuted, heard_dead, is_own_death, own_applied, with_told, claim_kept, without_suspicion, alive_heard, suspect_heard, death_kept, confirm_heard, claim_heard, news_heard, accusation_counted, accusation_heard, is_repeated, is_heeded, other_applied, applied, all_applied}
 use Rattle.lifeguard.specs.declared.probe.Probe.{Probe}
 use Rattle.lifeguard.specs.Probe.{fresh_probe, timed_probe}
-use Rattle.member.specs.Step.{suspected, probe_failed, probe_ended, probe_begun, target_probed, next_probed, with_relay, ack_taken, push_begun, first_push_set, first_period_set, suspected_at, timed_probe_failed, probe_settled, probe_timers_set, timed_probe_begun, timed_target_probed, next_timed_probed, waiting_probed, has_time, probed_in_turn, timed_answered, timed_ack_taken, called, gossip_set_again, merged}
+use Rattle.member.specs.Step.{suspected, probe_failed, probe_ended, probe_begun, target_probed, next_probed, with_relay, ack_taken, push_begun, first_push_set, first_period_set, suspected_at, timed_probe_failed, probe_settled, needs_timer, deadline_set, probe_timers_set, timed_probe_begun, timed_target_probed, next_timed_probed, waiting_probed, has_time, probed_in_turn, timed_answered, timed_ack_taken, called, gossip_set_again, merged}
 use Rattle.member.specs.StateOf.{state_of, effect_of}
 use Rattle.member.specs.Worn.{IsWorn}
 
@@ -332,31 +332,34 @@ unfolding probe_settled
 kept_settled s k None o worn = worn
 kept_settled s k (Some probe) o worn = kept_choice probe.reached _ _ (kept_health k _ _ worn) (kept_timed_failed s k probe _ worn)
 
-pub kept_timers : (s : Setup) (k : Key) (seq timeout deadline : ℕ) (o : Effect) → IsWorn o.state → IsWorn (probe_timers_set s k seq timeout deadline o).state
-kept_timers s k seq timeout deadline o worn = kept_event s k _ _ _ _ (kept_timer s k _ _ _ worn)
+pub kept_deadline : (s : Setup) (k : Key) (next_beat : Option ℕ) (seq deadline : ℕ) (o : Effect) → IsWorn o.state → IsWorn (deadline_set s k next_beat seq deadline o).state
+kept_deadline s k next_beat seq deadline o worn = kept_choice (needs_timer next_beat deadline) _ _ (kept_event s k _ _ _ _ worn) (kept_number o.state worn)
+
+kept_timers : (s : Setup) (k : Key) (next_beat : Option ℕ) (seq timeout deadline : ℕ) (o : Effect) → IsWorn o.state → IsWorn (probe_timers_set s k next_beat seq timeout deadline o).state
+kept_timers s k next_beat seq timeout deadline o worn = kept_deadline s k next_beat seq deadline _ (kept_timer s k _ _ _ worn)
 
 -- a probe when the sequence number stands at its limit
-pub worn_timed_probe : (s : Setup) (k : Key) (target : ℕ) (o : Effect) → 2 ^ 63 ≤ o.state.sequence → IsWorn (timed_probe_begun s k target o).state
+pub worn_timed_probe : (s : Setup) (k : Key) (next_beat : Option ℕ) (target : ℕ) (o : Effect) → 2 ^ 63 ≤ o.state.sequence → IsWorn (timed_probe_begun s k next_beat target o).state
 unfolding timed_probe_begun
-worn_timed_probe s k target o h = kept_event s k _ _ _ _ (kept_timer s k _ _ _ (kept_ping s k _ _ _ _ (inr (inl (omega arith)))))
+worn_timed_probe s k next_beat target o h = kept_timers s k next_beat _ _ _ _ (kept_ping s k _ _ _ _ (inr (inl (omega arith))))
 
-kept_timed_begun : (s : Setup) (k : Key) (target : ℕ) (o : Effect) → IsWorn o.state → IsWorn (timed_probe_begun s k target o).state
+kept_timed_begun : (s : Setup) (k : Key) (next_beat : Option ℕ) (target : ℕ) (o : Effect) → IsWorn o.state → IsWorn (timed_probe_begun s k next_beat target o).state
 unfolding timed_probe_begun
-kept_timed_begun s k target o worn =
-    kept_timers s k _ _ _ _
+kept_timed_begun s k next_beat target o worn =
+    kept_timers s k next_beat _ _ _ _
     (kept_ping s k _ _ _ _
     (kept_more o.state (Some (timed_probe (o.state.sequence + 1) target (option_map_or (λ held. held.1) (get o.state.table target) 0) (k.at + scaled o.state.health s.swim.period))) worn))
 
-kept_timed_target : (s : Setup) (k : Key) (target : Option ℕ) (o : Effect) → IsWorn o.state → IsWorn (timed_target_probed s k target o).state
-kept_timed_target s k None o worn = worn
-kept_timed_target s k (Some target) o worn = kept_timed_begun s k target o worn
+kept_timed_target : (s : Setup) (k : Key) (next_beat target : Option ℕ) (o : Effect) → IsWorn o.state → IsWorn (timed_target_probed s k next_beat target o).state
+kept_timed_target s k next_beat None o worn = worn
+kept_timed_target s k next_beat (Some target) o worn = kept_timed_begun s k next_beat target o worn
 
-pub kept_next_timed : (s : Setup) (k : Key) (o : Effect) → IsWorn o.state → IsWorn (next_timed_probed s k o).state
+pub kept_next_timed : (s : Setup) (k : Key) (next_beat : Option ℕ) (o : Effect) → IsWorn o.state → IsWorn (next_timed_probed s k next_beat o).state
 unfolding next_timed_probed
-kept_next_timed s k o worn = kept_timed_target s k _ _ worn
+kept_next_timed s k next_beat o worn = kept_timed_target s k next_beat _ _ worn
 
 pub kept_waiting : (s : Setup) (k : Key) (o : Effect) → IsWorn o.state → IsWorn (waiting_probed s k o).state
-kept_waiting s k o worn = kept_choice o.state.waits _ _ (kept_next_timed s k _ worn) worn
+kept_waiting s k o worn = kept_choice o.state.waits _ _ (kept_next_timed s k None _ worn) worn
 
 pub kept_timed_answered : (s : Setup) (k : Key) (seq : ℕ) (o : Effect) → IsWorn o.state → IsWorn (timed_answered s k seq o).state
 unfolding timed_answered
@@ -365,20 +368,21 @@ kept_timed_answered s k seq o worn = kept_choice _ _ _ (kept_waiting s k _ (kept
 pub kept_called : (s : Setup) (k : Key) (probe : Probe) (o : Effect) → IsWorn o.state → IsWorn (called s k probe o).state
 kept_called s k probe o worn = kept_choice s.swim.fallback _ _ (kept_call s k _ _ o worn) worn
 
-pub kept_in_turn : (s : Setup) (k : Key) (o : Effect) → IsWorn o.state → IsWorn (probed_in_turn s k o).state
-kept_in_turn s k o worn = kept_choice (has_time k.at o.state.probe) _ _ worn (kept_next_timed s k _ (kept_settled s k o.state.probe o worn))
+pub kept_in_turn : (s : Setup) (k : Key) (next_beat : ℕ) (o : Effect) → IsWorn o.state → IsWorn (probed_in_turn s k next_beat o).state
+kept_in_turn s k next_beat o worn =
+    kept_choice (has_time k.at o.state.probe) _ _ worn (kept_next_timed s k (Some next_beat) _ (kept_settled s k o.state.probe o worn))
 
 pub kept_timed_taken : (s : Setup) (k : Key) (initiator seq : ℕ) (o : Effect) → IsWorn o.state → IsWorn (timed_ack_taken s k initiator seq o).state
 kept_timed_taken s k initiator seq o worn = kept_choice (nat_eq initiator k.to) _ _ (kept_timed_answered s k seq o worn) (kept_taken s k initiator seq o worn)
 
 -- a counter that the ping of a new probe wears
-pub worn_timed_pinged : (s : Setup) (k : Key) (target deadline : ℕ) (o : Effect) (p : Probe) → deadline ≡ k.at + scaled o.state.health s.swim.period
+pub worn_timed_pinged : (s : Setup) (k : Key) (next_beat : Option ℕ) (target deadline : ℕ) (o : Effect) (p : Probe) → deadline ≡ k.at + scaled o.state.health s.swim.period
     → p ≡ timed_probe (o.state.sequence + 1) target (option_map_or (λ held. held.1) (get o.state.table target) 0) deadline
     → IsWorn (ping_sent s k target k.to (o.state.sequence + 1) (on_state (λ t. record t { sequence = o.state.sequence + 1; probe = Some p }) o)).state
-    → IsWorn (timed_probe_begun s k target o).state
+    → IsWorn (timed_probe_begun s k next_beat target o).state
 unfolding timed_probe_begun
-worn_timed_pinged s k target deadline o p at is worn =
-    kept_timers s k _ _ _ _
+worn_timed_pinged s k next_beat target deadline o p at is worn =
+    kept_timers s k next_beat _ _ _ _
     (subst (λ (q : Probe). IsWorn (ping_sent s k target k.to (o.state.sequence + 1) (on_state (λ t. record t { sequence = o.state.sequence + 1; probe = Some q }) o)).state)
     (is ∙ ap (timed_probe (o.state.sequence + 1) target (option_map_or (λ held. held.1) (get o.state.table target) 0)) at) worn)
 

@@ -36,7 +36,7 @@ use Rattle.membership.specs.declared.candidates.Fitting.TheVariants.{AliveBut, R
 use Rattle.membership.specs.Candidates.{does_fit, candidates_of}
 use Rattle.membership.specs.Table.{is_alive, is_confirm, live_count, alive_but, all_alive}
 use Rattle.member.specs.State.{State}
-use Rattle.member.specs.Effects.{Effect, unchanged, on_state, with_row, with_event, with_timer}
+use Rattle.member.specs.Effects.{Effect, unchanged, on_state, with_row, with_number, with_event, with_timer}
 use Rattle.member.specs.Send.{sent_to_each, ping_sent, ping_req_sent, ack_sent, nack_sent, join_sent, welcome_sent, bye_sent, gossip_sent, call_sent, answer_sent, push_sent, pull_sent}
 use Rattle.member.specs.Apply.{with_health, gossip_set, applied, all_applied}
 
@@ -298,31 +298,44 @@ probe_settled s k (Some probe) o =
     let ended = on_state (λ t. record t { probe = None }) o in
     if probe.reached then with_health k (after_deadline ended.state.health probe) ended else timed_probe_failed s k probe ended
 
--- the time for a direct answer, which no health makes longer, and the deadline
-abbrev pub probe_timers_set : Setup → Key → ℕ → ℕ → ℕ → Effect → Effect
-probe_timers_set s k seq timeout deadline o = with_event s k deadline k.to (DeadlineTimer seq) (with_timer s k timeout (TimeoutTimer seq) o)
+-- whether a probe needs a timer to end it at its deadline: not where the beat whose timer is set before it comes no later, since
+-- that beat ends the probe
+abbrev pub needs_timer : Option ℕ → ℕ → Bool
+needs_timer None deadline = true
+needs_timer (Some beat) deadline = nat_lt beat deadline
 
--- A new probe: a ping, the time for a direct answer, and a period as long as health makes it.
-unfoldable pub timed_probe_begun : Setup → Key → ℕ → Effect → Effect
-timed_probe_begun s k target o =
+-- the timer of a deadline, where one is needed; where it isn't, its number is used all the same
+abbrev pub deadline_set : Setup → Key → Option ℕ → ℕ → ℕ → Effect → Effect
+deadline_set s k next_beat seq deadline o =
+    if needs_timer next_beat deadline then with_event s k deadline k.to (DeadlineTimer seq) o else on_state with_number o
+
+-- the time for a direct answer, which no health makes longer, and the deadline
+abbrev pub probe_timers_set : Setup → Key → Option ℕ → ℕ → ℕ → ℕ → Effect → Effect
+probe_timers_set s k next_beat seq timeout deadline o = deadline_set s k next_beat seq deadline (with_timer s k timeout (TimeoutTimer seq) o)
+
+-- A new probe: a ping, the time for a direct answer, and a period as long as health makes it. The next beat is told where its
+-- timer is set already.
+unfoldable pub timed_probe_begun : Setup → Key → Option ℕ → ℕ → Effect → Effect
+timed_probe_begun s k next_beat target o =
     let seq = o.state.sequence + 1 in
     let deadline = k.at + scaled o.state.health s.swim.period in
     let probe = timed_probe seq target (option_map_or (λ held. held.1) (get o.state.table target) 0) deadline in
-    probe_timers_set s k seq s.swim.timeout deadline (ping_sent s k target k.to seq (on_state (λ t. record t { sequence = seq; probe = Some probe }) o))
+    probe_timers_set s k next_beat seq s.swim.timeout deadline (ping_sent s k target k.to seq (on_state (λ t. record t { sequence = seq; probe = Some probe }) o))
 
-abbrev pub timed_target_probed : Setup → Key → Option ℕ → Effect → Effect
-timed_target_probed s k None o = on_state (λ t. record t { probe = None }) o
-timed_target_probed s k (Some target) o = timed_probe_begun s k target o
+abbrev pub timed_target_probed : Setup → Key → Option ℕ → Option ℕ → Effect → Effect
+timed_target_probed s k next_beat None o = on_state (λ t. record t { probe = None }) o
+timed_target_probed s k next_beat (Some target) o = timed_probe_begun s k next_beat target o
 
 -- The next target in its turn.
-unfoldable pub next_timed_probed : Setup → Key → Effect → Effect
-next_timed_probed s k o =
+unfoldable pub next_timed_probed : Setup → Key → Option ℕ → Effect → Effect
+next_timed_probed s k next_beat o =
     let next = next_of o.state.words o.state.rota in
-    timed_target_probed s k next.0 (on_state (λ t. record t { rota = next.1; words = next.2 }) o)
+    timed_target_probed s k next_beat next.0 (on_state (λ t. record t { rota = next.1; words = next.2 }) o)
 
--- the next probe, if it was kept waiting
+-- The next probe, if it was kept waiting. No beat spares it its timer: it may begin at the moment of a beat that is still to be
+-- handled, so that its deadline comes before the beat after that.
 abbrev pub waiting_probed : Setup → Key → Effect → Effect
-waiting_probed s k o = if o.state.waits then next_timed_probed s k (on_state (λ t. record t { waits = false }) o) else o
+waiting_probed s k o = if o.state.waits then next_timed_probed s k None (on_state (λ t. record t { waits = false }) o) else o
 
 -- whether a probe is under way whose deadline is still to come
 abbrev pub has_time : ℕ → Option Probe → Bool
@@ -330,17 +343,19 @@ has_time now None = false
 has_time now (Some probe) = nat_lt now probe.deadline
 
 -- the probe that is under way, if there is one, ends, and the next begins
-abbrev pub next_after_settled : Setup → Key → Effect → Effect
-next_after_settled s k o = next_timed_probed s k (probe_settled s k o.state.probe o)
+abbrev pub next_after_settled : Setup → Key → ℕ → Effect → Effect
+next_after_settled s k next_beat o = next_timed_probed s k (Some next_beat) (probe_settled s k o.state.probe o)
 
 -- the next probe waits for one that still has time
-abbrev pub probed_in_turn : Setup → Key → Effect → Effect
-probed_in_turn s k o = if has_time k.at o.state.probe then on_state (λ t. record t { waits = true }) o else next_after_settled s k o
+abbrev pub probed_in_turn : Setup → Key → ℕ → Effect → Effect
+probed_in_turn s k next_beat o =
+    if has_time k.at o.state.probe then on_state (λ t. record t { waits = true }) o else next_after_settled s k next_beat o
 
 -- The beat of the periods: the next comes whole periods after the first, whatever put this one off.
 unfoldable pub period_beaten : Setup → Key → Effect → Effect
 period_beaten s k o =
-    probed_in_turn s k (with_event s k (next_in_step o.state.beat s.swim.period k.at) k.to PeriodTimer o)
+    let next_beat = next_in_step o.state.beat s.swim.period k.at in
+    probed_in_turn s k next_beat (with_event s k next_beat k.to PeriodTimer o)
 
 -- the probe that is under way ends, and the next begins, if it was kept waiting
 abbrev pub waiting_after_settled : Setup → Key → Effect → Effect

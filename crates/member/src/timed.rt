@@ -3,7 +3,7 @@ ghost use Rattle.lifeguard.specs.Health.{scaled};
 ghost use Rattle.member.specs.Effects.{with_event};
 ghost use Rattle.std.specs.FinMap.{get};
 ghost use Rattle.member.specs.Makes.{AreAboutMembers, IsMember, KnowsMembers, Makes};
-ghost use Rattle.member.specs.Step.{suspected_at, timed_probe_failed, probe_settled, probe_timers_set, timed_probe_begun, next_timed_probed, waiting_probed, has_time, is_under_way, next_after_settled, probed_in_turn, period_beaten, waiting_after_settled, deadline_over, timed_answered, timed_ack_taken, timed_ack_heard};
+ghost use Rattle.member.specs.Step.{suspected_at, timed_probe_failed, probe_settled, needs_timer, deadline_set, probe_timers_set, timed_probe_begun, next_timed_probed, waiting_probed, has_time, is_under_way, next_after_settled, probed_in_turn, period_beaten, waiting_after_settled, deadline_over, timed_answered, timed_ack_taken, timed_ack_heard};
 ghost use Rattle.member.specs.StateOf.{state_of};
 
 use crate::content::Content;
@@ -90,18 +90,19 @@ impl Member {
         self.set_health(effects, here, health)
     }
 
-    /// Probes a target: a ping, the timer for a direct answer, and the deadline. Worn where the sequence
-    /// number stands at its limit.
+    /// Probes a target: a ping, the timer for a direct answer, and the deadline. The next beat is told
+    /// where its timer is set already. Worn where the sequence number stands at its limit.
     #[tactic(auto, unfolding(crate::specs::Step::timed_probe_begun))]
     fn begin_timed_probe(
         &mut self,
         effects: &mut Effects,
         here: &Here,
+        next_beat: Option<Moment>,
         target: MemberId,
     ) -> Result<(), StepError>
         requires known { KnowsMembers here.now self.old }
         requires member { IsMember here.now target }
-        ensures { Makes here.now result self.old effects.old self.new effects.new (timed_probe_begun here.now.scenario.now here.now.key target) }
+        ensures { Makes here.now result self.old effects.old self.new effects.new (timed_probe_begun here.now.scenario.now here.now.key next_beat target) }
     {
         if self.sequence >= COUNTER_LIMIT {
             return Err(StepError::Worn);
@@ -114,7 +115,7 @@ impl Member {
         self.probe = Some(probe);
         self.send_ping(effects, here, target, here.key.to, seq)?;
         let timeout = here.scenario.swim().timeout;
-        self.set_probe_timers(effects, here, seq, timeout, deadline)
+        self.set_probe_timers(effects, here, next_beat, seq, timeout, deadline)
     }
 
     /// When a probe that begins now has its deadline: after a period, as long as health makes it.
@@ -129,27 +130,52 @@ impl Member {
         &mut self,
         effects: &mut Effects,
         here: &Here,
+        next_beat: Option<Moment>,
         seq: u64,
         timeout: u64,
         deadline: Moment,
     ) -> Result<(), StepError>
         requires ticks_within { timeout ≤ 2 ^ 41 }
         requires known { KnowsMembers here.now self.old }
-        ensures { Makes here.now result self.old effects.old self.new effects.new (probe_timers_set here.now.scenario.now here.now.key seq timeout deadline) }
+        ensures { Makes here.now result self.old effects.old self.new effects.new (probe_timers_set here.now.scenario.now here.now.key next_beat seq timeout deadline) }
     {
         self.set_timer(effects, here, timeout, Content::TimeoutTimer { seq })?;
+        self.set_deadline(effects, here, next_beat, seq, deadline)
+    }
+
+    /// Sets the timer of a deadline, where a probe needs one. Where it doesn't, the timer's number is used
+    /// all the same, so that every other event keeps its own.
+    fn set_deadline(
+        &mut self,
+        effects: &mut Effects,
+        here: &Here,
+        next_beat: Option<Moment>,
+        seq: u64,
+        deadline: Moment,
+    ) -> Result<(), StepError>
+        requires { KnowsMembers here.now self.old }
+        ensures { Makes here.now result self.old effects.old self.new effects.new (deadline_set here.now.scenario.now here.now.key next_beat seq deadline) }
+    {
+        if !needs_timer(next_beat, deadline) {
+            return self.use_number(here);
+        }
         let timer = Content::DeadlineTimer { seq };
         self.make_event(effects, here, deadline, here.key.to, timer)
     }
 
     /// Probes the next member, where there is one.
     #[tactic(auto, using(crate::proofs::Holds::holds_no_probe), unfolding(crate::specs::Step::next_timed_probed))]
-    fn probe_next_timed(&mut self, effects: &mut Effects, here: &Here) -> Result<(), StepError>
+    fn probe_next_timed(
+        &mut self,
+        effects: &mut Effects,
+        here: &Here,
+        next_beat: Option<Moment>,
+    ) -> Result<(), StepError>
         requires { KnowsMembers here.now self.old }
-        ensures { Makes here.now result self.old effects.old self.new effects.new (next_timed_probed here.now.scenario.now here.now.key) }
+        ensures { Makes here.now result self.old effects.old self.new effects.new (next_timed_probed here.now.scenario.now here.now.key next_beat) }
     {
         match self.next_target(here) {
-            Some(target) => self.begin_timed_probe(effects, here, target),
+            Some(target) => self.begin_timed_probe(effects, here, next_beat, target),
             None => {
                 self.probe = None;
                 Ok(())
@@ -166,7 +192,7 @@ impl Member {
             return Ok(());
         }
         self.waits = false;
-        self.probe_next_timed(effects, here)
+        self.probe_next_timed(effects, here, None)
     }
 
     /// The beat of the periods: the next one is set; the next probe begins, or waits for one that still
@@ -187,31 +213,41 @@ impl Member {
     /// Sets the timer of the next period for a moment, and probes in turn.
     fn go_on(&mut self, effects: &mut Effects, here: &Here, next: Moment) -> Result<(), StepError>
         requires { KnowsMembers here.now self.old }
-        ensures { Makes here.now result self.old effects.old self.new effects.new (λ o. probed_in_turn here.now.scenario.now here.now.key (with_event here.now.scenario.now here.now.key next here.now.key.to Content.PeriodTimer o)) }
+        ensures { Makes here.now result self.old effects.old self.new effects.new (λ o. probed_in_turn here.now.scenario.now here.now.key next (with_event here.now.scenario.now here.now.key next here.now.key.to Content.PeriodTimer o)) }
     {
         self.make_event(effects, here, next, here.key.to, Content::PeriodTimer)?;
-        self.probe_in_turn(effects, here)
+        self.probe_in_turn(effects, here, next)
     }
 
     /// The next probe waits for one that still has time, or else begins once that one has ended.
-    fn probe_in_turn(&mut self, effects: &mut Effects, here: &Here) -> Result<(), StepError>
+    fn probe_in_turn(
+        &mut self,
+        effects: &mut Effects,
+        here: &Here,
+        next_beat: Moment,
+    ) -> Result<(), StepError>
         requires { KnowsMembers here.now self.old }
-        ensures { Makes here.now result self.old effects.old self.new effects.new (probed_in_turn here.now.scenario.now here.now.key) }
+        ensures { Makes here.now result self.old effects.old self.new effects.new (probed_in_turn here.now.scenario.now here.now.key next_beat) }
     {
         if has_time(here.key.at, self.probe) {
             self.waits = true;
             return Ok(());
         }
-        self.probe_after_settled(effects, here)
+        self.probe_after_settled(effects, here, next_beat)
     }
 
     /// Ends the probe that is under way, if there is one, and begins the next.
-    fn probe_after_settled(&mut self, effects: &mut Effects, here: &Here) -> Result<(), StepError>
+    fn probe_after_settled(
+        &mut self,
+        effects: &mut Effects,
+        here: &Here,
+        next_beat: Moment,
+    ) -> Result<(), StepError>
         requires { KnowsMembers here.now self.old }
-        ensures { Makes here.now result self.old effects.old self.new effects.new (next_after_settled here.now.scenario.now here.now.key) }
+        ensures { Makes here.now result self.old effects.old self.new effects.new (next_after_settled here.now.scenario.now here.now.key next_beat) }
     {
         self.settle_probe(effects, here)?;
-        self.probe_next_timed(effects, here)
+        self.probe_next_timed(effects, here, Some(next_beat))
     }
 
     /// The time of a probe is over, if it is still under way.
@@ -298,6 +334,17 @@ impl Member {
         } else {
             self.take_ack(effects, here, initiator, seq)
         }
+    }
+}
+
+// Whether a probe needs a timer to end it at its deadline: not where a beat comes no later whose timer
+// is set before it, since that beat ends the probe.
+fn needs_timer(next_beat: Option<Moment>, deadline: Moment) -> bool
+    ensures { result ≡ needs_timer next_beat deadline }
+{
+    match next_beat {
+        Some(beat) => beat < deadline,
+        None => true,
     }
 }
 

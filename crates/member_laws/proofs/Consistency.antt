@@ -204,7 +204,7 @@ module _ (s : Setup) (sound : IsSound s) (k : Key) where
     known = λ t q held h at. (h.others.others q (ap is_some at)).0;
     drawn = λ t rest is h. record { up = h.up; others = h.others; suspects = h.suspects; probes = h.probes; health = h.health; relays = h.relays; words = rest_fits t.words rest h.words is; buffer = h.buffer; target = h.target };
     picked = λ t buddy h. record { up = h.up; others = h.others; suspects = h.suspects; probes = h.probes; health = h.health; relays = h.relays; words = h.words; buffer = all_left (λ q. q < member_count s) t.buffer s.swim.carry (limit_of s t) buddy h.buffer; target = h.target };
-    probing = λ t seq probe aim h. record { up = h.up; others = h.others; suspects = h.suspects; probes = h.probes; health = h.health; relays = h.relays; words = h.words; buffer = h.buffer; target = aim };
+    probing = λ t seq probe up aim h. record { up = h.up; others = h.others; suspects = h.suspects; probes = h.probes; health = h.health; relays = h.relays; words = h.words; buffer = h.buffer; target = aim };
     turned = λ t h. record {
       up = h.up;
       others = h.others;

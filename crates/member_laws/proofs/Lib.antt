@@ -16,6 +16,7 @@ pub mod Sampled
 pub mod Trips
 pub mod Reached
 pub mod Moments
+pub mod Deadlines
 pub mod Opened
 pub mod Leaves
 pub mod Whole

@@ -1,7 +1,7 @@
 -- The events and rows of which each step makes its own: what each of them keeps of an effect, every step keeps.
 use Rattle.std.specs.List.{AllByRecursion}
 use Rattle.streams.proofs.PlaceLemmas.{shuffle_rest, below_rest}
-use Rattle.std.proofs.Common.{◌≡◌, ℕ, ◌+◌, Bool, true, false, cond, not, max, nat_eq, nat_lt, ◌-◌, ◌&&◌, List, [], ◌∷◌, map, length, Option, Some, None, option_map, refl, ◌∙◌}
+use Rattle.std.proofs.Common.{◌≡◌, ℕ, ◌+◌, Bool, true, false, cond, not, max, nat_eq, nat_lt, ◌-◌, ◌&&◌, List, [], ◌∷◌, map, length, Option, Some, None, option_map, refl, ◌∙◌, arith}
 use Rattle.std.specs.Option.{is_none, option_map_or, IfSome}
 use Rattle.std.specs.FinMap.{get, insert}
 use Rattle.std.specs.FinSet as set
@@ -45,7 +45,7 @@ use Rattle.membership.specs.Table.{is_confirm, does_override, live_count, alive_
 use Rattle.member.specs.Send.{whole_table, carried, sent_off, posted, sent, gossip_sent, call_sent, answer_sent, push_sent, pull_sent, sent_to_each, with_picks, buddy_of, ping_sent, ping_req_sent, ack_sent, nack_sent, join_sent_to, join_sent, welcome_sent, bye_sent}
 use Rattle.member.specs.Effects.{Effect, unchanged, on_state, with_row, with_number, with_event, with_timer}
 use Rattle.member.specs.Apply.{gossip_set, with_put, with_health, with_told, passed_on, own_claim, refuted, heard_dead, is_own_death, own_applied, suspicion_begun, claim_kept, without_suspicion, alive_heard, suspect_heard, death_kept, confirm_heard, claim_heard, news_heard, accusation_counted, accusation_heard, is_repeated, is_heeded, other_applied, applied, all_applied}
-use Rattle.member.specs.Step.{push_begun, first_push_set, push_period, suspected_at, timed_probe_failed, probe_settled, timed_probe_begun, timed_target_probed, next_timed_probed, waiting_probed, has_time, probed_in_turn, period_beaten, is_under_way, deadline_over, timed_answered, timed_ack_heard, candidates_for, sampled_help, helped, called, timed_out_timed, answer_heard, is_told_out, gossip_spread, gossip_round, gossip_due, merged_claim, merged, pushed, push_due, push_heard, timed_handled, handled_by, about_others, first_period_set, began, join_asked, joining_begun, started, crashed, join_handled, joined, suspected, probe_failed, probe_ended, probe_begun, target_probed, next_probed, period_begun, with_expected, help_asked, timed_out, nack_heard, answered, ping_heard, with_relay, ping_req_heard, ack_taken, ack_heard, nack_due, confirmed, suspicion_over, withdrawn, byes_said, departed, plain_handled, handled, step}
+use Rattle.member.specs.Step.{push_begun, first_push_set, push_period, suspected_at, timed_probe_failed, probe_settled, needs_timer, timed_probe_begun, timed_target_probed, next_timed_probed, waiting_probed, has_time, probed_in_turn, period_beaten, is_under_way, deadline_over, timed_answered, timed_ack_heard, candidates_for, sampled_help, helped, called, timed_out_timed, answer_heard, is_told_out, gossip_spread, gossip_round, gossip_due, merged_claim, merged, pushed, push_due, push_heard, timed_handled, handled_by, about_others, first_period_set, began, join_asked, joining_begun, started, crashed, join_handled, joined, suspected, probe_failed, probe_ended, probe_begun, target_probed, next_probed, period_begun, with_expected, help_asked, timed_out, nack_heard, answered, ping_heard, with_relay, ping_req_heard, ack_taken, ack_heard, nack_due, confirmed, suspicion_over, withdrawn, byes_said, departed, plain_handled, handled, step}
 use Rattle.member_laws.proofs.Moves.{IsNews, NewsMoves, Moves, at_once, at_late, kept_either, death_either}
 use Rattle.member_laws.proofs.Rests.{sample_rest}
 use Rattle.member_laws.proofs.Walk.{AllNamed, on_row, on_health, on_applied, on_all, on_ended, on_next, on_ping, on_ping_req, on_bye, on_gossip, on_push_sent, on_pull, on_event, on_timer, on_weighed, on_settled, on_helped, merged_named, no_target, NamesOnly, one_target}
@@ -404,7 +404,7 @@ module _ (s : Setup) (k : Key) (Named : ℕ → Type 0) (R : State → Type 0) (
   by_begun : (target : ℕ) (o : Effect) → Named target → R o.state → P o → P (probe_begun s k target o)
   unfolding probe_begun
   by_begun target o named r h =
-      let probing = moves.probing o.state (o.state.sequence + 1) _ (one_target Named (fresh_probe (o.state.sequence + 1) target) named) r in
+      let probing = moves.probing o.state (o.state.sequence + 1) _ (omega arith) (one_target Named (fresh_probe (o.state.sequence + 1) target) named) r in
       by_timer _ (TimeoutTimer (o.state.sequence + 1)) _ (times.timeout_timer _ (on_ping s k Named R news moves target k.to (o.state.sequence + 1) _ probing)) tt
       (by_ping target k.to _ _ named moves.own probing (makes.state _ o refl h))
 
@@ -519,7 +519,7 @@ module _ (s : Setup) (k : Key) (Named : ℕ → Type 0) (R : State → Type 0) (
       (by_health (after_deadline told.state.health probe) told there weighed (makes.row what.Fail (Some probe.target) probe.seq false o (may.plain what.Fail tt) named h))
 
   ended : (o : Effect) → R o.state → R (record o.state { probe = None })
-  ended o r = moves.probing o.state o.state.sequence None (no_target Named) r
+  ended o r = moves.probing o.state o.state.sequence None (omega arith) (no_target Named) r
 
   by_settled : (probe : Option Probe) (o : Effect) → o.state.probe ≡ probe → R o.state → P o → P (probe_settled s k probe o)
   unfolding probe_settled
@@ -530,34 +530,35 @@ module _ (s : Setup) (k : Key) (Named : ℕ → Type 0) (R : State → Type 0) (
       (λ _. by_health (after_deadline o.state.health probe) _ (ended o r) (on_weighed s k Named R news moves probe.reached (misses_of probe) (record o.state { probe = None }) (ended o r)) none)
       (λ _. by_timed_failed probe _ (moves.aimed o.state probe r here) (ended o r) none)
 
-  by_timed_begun : (target : ℕ) (o : Effect) → Named target → R o.state → P o → P (timed_probe_begun s k target o)
+  by_timed_begun : (next_beat : Option ℕ) (target : ℕ) (o : Effect) → Named target → R o.state → P o → P (timed_probe_begun s k next_beat target o)
   unfolding timed_probe_begun
-  by_timed_begun target o named r h =
+  by_timed_begun next_beat target o named r h =
       let probe = timed_probe (o.state.sequence + 1) target (option_map_or (λ held. held.1) (get o.state.table target) 0) (k.at + scaled o.state.health s.swim.period) in
-      let probing = moves.probing o.state (o.state.sequence + 1) (Some probe) (one_target Named probe named) r in
-      makes.event _ k.to (DeadlineTimer (o.state.sequence + 1)) _ (times.period_timer o.state r) moves.own tt
-      (by_timer _ (TimeoutTimer (o.state.sequence + 1)) _ times.plain_timeout tt (by_ping target k.to _ _ named moves.own probing (makes.state _ o refl h)))
+      let probing = moves.probing o.state (o.state.sequence + 1) (Some probe) (omega arith) (one_target Named probe named) r in
+      let timed = by_timer _ (TimeoutTimer (o.state.sequence + 1)) _ times.plain_timeout tt (by_ping target k.to _ _ named moves.own probing (makes.state _ o refl h)) in
+      by_either (needs_timer next_beat _) _ _
+      (λ _. makes.event _ k.to (DeadlineTimer (o.state.sequence + 1)) _ (times.period_timer o.state r) moves.own tt timed) (λ _. makes.lost _ timed)
 
-  by_timed_target : (target : Option ℕ) (o : Effect) → ((q : ℕ) → target ≡ Some q → Named q) → R o.state → P o → P (timed_target_probed s k target o)
-  by_timed_target None o named r h = makes.state _ o refl h
-  by_timed_target (Some target) o named r h = by_timed_begun target o (named target refl) r h
+  by_timed_target : (next_beat target : Option ℕ) (o : Effect) → ((q : ℕ) → target ≡ Some q → Named q) → R o.state → P o → P (timed_target_probed s k next_beat target o)
+  by_timed_target next_beat None o named r h = makes.state _ o refl h
+  by_timed_target next_beat (Some target) o named r h = by_timed_begun next_beat target o (named target refl) r h
 
-  by_next_timed : (o : Effect) → R o.state → P o → P (next_timed_probed s k o)
+  by_next_timed : (next_beat : Option ℕ) (o : Effect) → R o.state → P o → P (next_timed_probed s k next_beat o)
   unfolding next_timed_probed
-  by_next_timed o r h = by_timed_target (next_of o.state.words o.state.rota).0 _ (λ q is. moves.targets o.state q r is) (moves.turned o.state r) (makes.state _ o refl h)
+  by_next_timed next_beat o r h = by_timed_target next_beat (next_of o.state.words o.state.rota).0 _ (λ q is. moves.targets o.state q r is) (moves.turned o.state r) (makes.state _ o refl h)
 
   by_waiting_probed : (o : Effect) → R o.state → P o → P (waiting_probed s k o)
-  by_waiting_probed o r h = by_either o.state.waits _ o (λ _. by_next_timed _ (moves.waiting o.state false r) (makes.state _ o refl h)) (λ _. h)
+  by_waiting_probed o r h = by_either o.state.waits _ o (λ _. by_next_timed None _ (moves.waiting o.state false r) (makes.state _ o refl h)) (λ _. h)
 
-  by_in_turn : (o : Effect) → R o.state → P o → P (probed_in_turn s k o)
-  by_in_turn o r h =
+  by_in_turn : (next_beat : ℕ) (o : Effect) → R o.state → P o → P (probed_in_turn s k next_beat o)
+  by_in_turn next_beat o r h =
       by_either (has_time k.at o.state.probe) _ _ (λ _. makes.state _ o refl h)
-      (λ _. by_next_timed _ (on_settled s k Named R news moves o.state.probe o r) (by_settled o.state.probe o refl r h))
+      (λ _. by_next_timed (Some next_beat) _ (on_settled s k Named R news moves o.state.probe o r) (by_settled o.state.probe o refl r h))
 
   by_beaten : (o : Effect) → R o.state → P o → P (period_beaten s k o)
   unfolding period_beaten
   by_beaten o r h =
-      by_in_turn _ (on_event s k Named R news (next_in_step o.state.beat s.swim.period k.at) k.to PeriodTimer o r) (makes.event _ k.to PeriodTimer o (times.beat o.state.beat) moves.own tt h)
+      by_in_turn _ _ (on_event s k Named R news (next_in_step o.state.beat s.swim.period k.at) k.to PeriodTimer o r) (makes.event _ k.to PeriodTimer o (times.beat o.state.beat) moves.own tt h)
 
   by_deadline : (seq : ℕ) (o : Effect) → R o.state → P o → P (deadline_over s k seq o)
   unfolding deadline_over

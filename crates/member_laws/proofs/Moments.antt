@@ -219,7 +219,7 @@ module _ (s : Setup) (sound : IsSound s) (k : Key) (here : k.to < member_count s
     picked = λ t buddy r. (kept.picked t buddy r.0, r.1);
     aimed = λ t probe r is. kept.aimed t probe r.0 is;
     targets = λ t target r is. kept.targets t target r.0 is;
-    probing = λ t seq probe aim r. (kept.probing t seq probe aim r.0, r.1);
+    probing = λ t seq probe up aim r. (kept.probing t seq probe up aim r.0, r.1);
     turned = λ t r. (kept.turned t r.0, r.1);
     relay_added = λ t relay on r. (kept.relay_added t relay on r.0, r.1);
     relay_removed = λ t relay r. (kept.relay_removed t relay r.0, r.1);

@@ -1,5 +1,5 @@
 -- The changes of which each step is made: a fact about a member's state that each of them keeps, every step keeps.
-use Rattle.std.proofs.Common.{◌≡◌, ℕ, ◌+◌, Bool, true, false, cond, [], Option, Some, None}
+use Rattle.std.proofs.Common.{◌≡◌, ℕ, ◌+◌, ◌≤◌, Bool, true, false, cond, [], Option, Some, None}
 use Rattle.std.specs.FinMap.{get, insert, remove, empty}
 use Rattle.std.specs.FinSet as set
 use Rattle.base.specs.declared.key.Key.{Key}
@@ -71,7 +71,8 @@ pub record Moves (s : Setup) (k : Key) (Named : ℕ → Type 0) (R : State → T
   pub picked : (t : State) (buddy : Option Update) → R t → R (with_picks s buddy t)
   pub aimed : (t : State) (probe : Probe) → R t → t.probe ≡ Some probe → Named probe.target
   pub targets : (t : State) (target : ℕ) → R t → (next_of t.words t.rota).0 ≡ Some target → Named target
-  pub probing : (t : State) (seq : ℕ) (probe : Option Probe) → ((it : Probe) → probe ≡ Some it → Named it.target) → R t → R (record t { sequence = seq; probe = probe })
+  -- the number of the last probe never falls
+  pub probing : (t : State) (seq : ℕ) (probe : Option Probe) → t.sequence ≤ seq → ((it : Probe) → probe ≡ Some it → Named it.target) → R t → R (record t { sequence = seq; probe = probe })
   pub turned : (t : State) → R t → R (record t { rota = (next_of t.words t.rota).1; words = (next_of t.words t.rota).2 })
   pub relay_added : (t : State) (relay : ℕ × ℕ) → s.lifeguard.probe ≡ true → R t → R (record t { relays = set.insert t.relays relay })
   pub relay_removed : (t : State) (relay : ℕ × ℕ) → R t → R (record t { relays = set.remove t.relays relay })
@@ -147,7 +148,7 @@ keeps_moves s k P own = record {
   picked = λ t buddy h. h;
   aimed = λ t probe h is. tt;
   targets = λ t target h is. tt;
-  probing = λ t seq probe aim h. h;
+  probing = λ t seq probe up aim h. h;
   turned = λ t h. h;
   relay_added = λ t relay on h. h;
   relay_removed = λ t relay h. h;

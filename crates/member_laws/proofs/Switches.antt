@@ -91,7 +91,7 @@ module _ (s : Setup) (k : Key) where
     known = λ t q held h here. tt;
     drawn = λ t rest is h. record { terms = h.terms; relays = h.relays; health = h.health };
     picked = λ t buddy h. record { terms = h.terms; relays = h.relays; health = h.health };
-    probing = λ t seq probe aim h. record { terms = h.terms; relays = h.relays; health = h.health };
+    probing = λ t seq probe up aim h. record { terms = h.terms; relays = h.relays; health = h.health };
     turned = λ t h. record { terms = h.terms; relays = h.relays; health = h.health };
     relay_added = λ t relay on h. record { terms = h.terms; relays = λ off. absurd (false≢true (sym off ∙ on)); health = h.health };
     relay_removed = λ t relay h. record {

@@ -1,6 +1,6 @@
 -- Every step is made of the changes.
 use Rattle.std.specs.Option.{is_some, option_map_or}
-use Rattle.std.proofs.Common.{◌≡◌, ℕ, ◌+◌, ◌-◌, length, map, Bool, true, false, cond, not, nat_eq, nat_lt, ◌&&◌, List, [], ◌∷◌, Option, Some, None, option_map, refl, ap, sym, subst}
+use Rattle.std.proofs.Common.{◌≡◌, ℕ, ◌+◌, ◌-◌, length, map, Bool, true, false, cond, not, nat_eq, nat_lt, ◌&&◌, List, [], ◌∷◌, Option, Some, None, option_map, refl, ap, sym, subst, arith}
 use Rattle.std.proofs.lemmas.Option.{same_Some}
 use Rattle.std.specs.List.{AllByRecursion}
 use Rattle.std.specs.FinMap.{get}
@@ -38,7 +38,7 @@ use Rattle.membership.specs.Table.{is_alive, is_confirm, does_override, alive_bu
 use Rattle.member.specs.Effects.{Effect, unchanged, on_state, with_row, with_number, with_event, with_timer}
 use Rattle.member.specs.Send.{sent_off, posted, sent, sent_to_each, carried, gossip_sent, call_sent, answer_sent, push_sent, pull_sent, with_picks, buddy_of, ping_sent, ping_req_sent, ack_sent, nack_sent, join_sent_to, join_sent, welcome_sent, bye_sent}
 use Rattle.member.specs.Apply.{gossip_set, with_put, with_health, with_told, passed_on, refuted, heard_dead, is_own_death, own_applied, claim_kept, alive_heard, suspect_heard, confirm_heard, claim_heard, news_heard, accusation_counted, accusation_heard, is_repeated, is_heeded, other_applied, applied, all_applied}
-use Rattle.member.specs.Step.{push_begun, first_push_set, suspected_at, timed_probe_failed, probe_settled, probe_timers_set, timed_probe_begun, timed_target_probed, next_timed_probed, waiting_probed, has_time, probed_in_turn, period_beaten, is_under_way, deadline_over, timed_answered, timed_ack_heard, sampled_help, helped, called, timed_out_timed, reached, answer_heard, is_told_out, gossip_spread, gossip_set_again, gossip_round, gossip_due, merged_claim, merged, pushed, push_due, push_heard, timed_handled, handled_by, first_period_set, began, join_asked, joining_begun, started, crashed, join_handled, joined, suspected, probe_failed, probe_ended, probe_begun, target_probed, next_probed, period_begun, with_expected, help_asked, timed_out, nack_heard, nacked, answered, ping_heard, with_relay, ping_req_heard, ack_taken, ack_heard, nack_due, confirmed, suspicion_over, withdrawn, byes_said, departed, plain_handled, handled, step}
+use Rattle.member.specs.Step.{push_begun, first_push_set, suspected_at, timed_probe_failed, probe_settled, needs_timer, probe_timers_set, timed_probe_begun, timed_target_probed, next_timed_probed, waiting_probed, has_time, probed_in_turn, period_beaten, is_under_way, deadline_over, timed_answered, timed_ack_heard, sampled_help, helped, called, timed_out_timed, reached, answer_heard, is_told_out, gossip_spread, gossip_set_again, gossip_round, gossip_due, merged_claim, merged, pushed, push_due, push_heard, timed_handled, handled_by, first_period_set, began, join_asked, joining_begun, started, crashed, join_handled, joined, suspected, probe_failed, probe_ended, probe_begun, target_probed, next_probed, period_begun, with_expected, help_asked, timed_out, nack_heard, nacked, answered, ping_heard, with_relay, ping_req_heard, ack_taken, ack_heard, nack_due, confirmed, suspicion_over, withdrawn, byes_said, departed, plain_handled, handled, step}
 use Rattle.member_laws.proofs.Rests.{arrival_rest, call_rest, answer_rest, kept_rest, sample_rest}
 use Rattle.member_laws.proofs.Moves.{IsNews, NewsMoves, Moves, at_once, at_late, Anyone}
 
@@ -188,9 +188,12 @@ module _ (s : Setup) (k : Key) (Named : ℕ → Type 0) (R : State → Type 0) (
 
     -- ---- messages
 
-    pub on_sent_off : (to : ℕ) (content : Content) (arrival : Option ℕ) (o : Effect) → R o.state → R (sent_off s k to content arrival o).state
+    on_number : (o : Effect) → R o.state → R (with_number o.state)
     unfolding with_number
-    on_sent_off to content None o h = news.counted o.state h
+    on_number o h = news.counted o.state h
+
+    pub on_sent_off : (to : ℕ) (content : Content) (arrival : Option ℕ) (o : Effect) → R o.state → R (sent_off s k to content arrival o).state
+    on_sent_off to content None o h = on_number o h
     on_sent_off to content (Some at) o h = on_event at to content o h
 
     pub on_posted : (tells : What) (to value : ℕ) (content : Content) (arrival : Option ℕ × Words) (o : Effect) → IsRestOf o.state.words arrival.1 → R o.state
@@ -376,10 +379,10 @@ module _ (s : Setup) (k : Key) (Named : ℕ → Type 0) (R : State → Type 0) (
     pub on_begun : (target : ℕ) (o : Effect) → Named target → R o.state → R (probe_begun s k target o).state
     unfolding probe_begun
     on_begun target o named h =
-        on_timer _ _ _ (on_ping target k.to _ _ (moves.probing o.state _ _ (one_target Named (fresh_probe (o.state.sequence + 1) target) named) h))
+        on_timer _ _ _ (on_ping target k.to _ _ (moves.probing o.state (o.state.sequence + 1) _ (omega arith) (one_target Named (fresh_probe (o.state.sequence + 1) target) named) h))
 
     pub on_target : (target : Option ℕ) (o : Effect) → ((q : ℕ) → target ≡ Some q → Named q) → R o.state → R (target_probed s k target o).state
-    on_target None o named h = moves.probing o.state o.state.sequence None (no_target Named) h
+    on_target None o named h = moves.probing o.state o.state.sequence None (omega arith) (no_target Named) h
     on_target (Some target) o named h = on_begun target o (named target refl) h
 
     pub on_next : (o : Effect) → R o.state → R (next_probed s k o).state
@@ -392,7 +395,7 @@ module _ (s : Setup) (k : Key) (Named : ℕ → Type 0) (R : State → Type 0) (
 
     pub on_expected : (probe : Probe) (count : ℕ) (o : Effect) → Named probe.target → R o.state → R (with_expected s probe count o).state
     on_expected probe count o named h =
-        on_either s.lifeguard.probe _ o (moves.probing o.state o.state.sequence _ (one_target Named (record probe { expected = count }) named) h) h
+        on_either s.lifeguard.probe _ o (moves.probing o.state o.state.sequence _ (omega arith) (one_target Named (record probe { expected = count }) named) h) h
 
     pub on_help : (probe : Probe) (o : Effect) → Named probe.target → R o.state → R (help_asked s k probe o).state
     unfolding help_asked helpers_of
@@ -408,7 +411,7 @@ module _ (s : Setup) (k : Key) (Named : ℕ → Type 0) (R : State → Type 0) (
 
     pub on_nack_heard : (seq : ℕ) (o : Effect) → R o.state → R (nack_heard seq o).state
     unfolding nack_heard
-    on_nack_heard seq o h = moves.probing o.state o.state.sequence (nacked seq o.state.probe) (nacked_target Named seq o.state.probe (λ p is. moves.aimed o.state p h is)) h
+    on_nack_heard seq o h = moves.probing o.state o.state.sequence (nacked seq o.state.probe) (omega arith) (nacked_target Named seq o.state.probe (λ p is. moves.aimed o.state p h is)) h
 
     pub on_ping_heard : (initiator seq : ℕ) (updates : List Update) (o : Effect) → AllNamed Named updates → R o.state → R (ping_heard s k initiator seq updates o).state
     unfolding ping_heard
@@ -426,7 +429,7 @@ module _ (s : Setup) (k : Key) (Named : ℕ → Type 0) (R : State → Type 0) (
     unfolding ack_taken
     on_taken initiator seq o h =
         on_either (nat_eq initiator k.to) (on_state (λ t. record t { probe = answered seq t.probe }) o) _
-        (moves.probing o.state o.state.sequence (answered seq o.state.probe) (answered_target Named seq o.state.probe (λ p is. moves.aimed o.state p h is)) h)
+        (moves.probing o.state o.state.sequence (answered seq o.state.probe) (omega arith) (answered_target Named seq o.state.probe (λ p is. moves.aimed o.state p h is)) h)
         (on_ack initiator initiator seq _ (moves.relay_removed o.state (initiator, seq) h))
 
     pub on_ack_heard : (initiator seq : ℕ) (updates : List Update) (o : Effect) → AllNamed Named updates → R o.state → R (ack_heard s k initiator seq updates o).state
@@ -483,37 +486,42 @@ module _ (s : Setup) (k : Key) (Named : ℕ → Type 0) (R : State → Type 0) (
     on_settled None o h = h
     on_settled (Some probe) o h =
         let ended = on_state (λ t. record t { probe = None }) o in
-        let none : R ended.state = moves.probing o.state o.state.sequence None (no_target Named) h in
+        let none : R ended.state = moves.probing o.state o.state.sequence None (omega arith) (no_target Named) h in
         on_either probe.reached (with_health k (after_deadline ended.state.health probe) ended) (timed_probe_failed s k probe ended)
         (on_health (after_deadline ended.state.health probe) ended (on_weighed probe.reached (misses_of probe) ended.state none)) (on_timed_failed probe ended none)
 
-    pub on_timers : (seq timeout deadline : ℕ) (o : Effect) → R o.state → R (probe_timers_set s k seq timeout deadline o).state
-    on_timers seq timeout deadline o h = on_event deadline k.to (DeadlineTimer seq) _ (on_timer timeout (TimeoutTimer seq) o h)
+    pub on_timers : (next_beat : Option ℕ) (seq timeout deadline : ℕ) (o : Effect) → R o.state → R (probe_timers_set s k next_beat seq timeout deadline o).state
+    on_timers next_beat seq timeout deadline o h =
+        let timed = with_timer s k timeout (TimeoutTimer seq) o in
+        let there : R timed.state = on_timer timeout (TimeoutTimer seq) o h in
+        on_either (needs_timer next_beat deadline) (with_event s k deadline k.to (DeadlineTimer seq) timed) (on_state with_number timed)
+        (on_event deadline k.to (DeadlineTimer seq) timed there) (on_number timed there)
 
-    pub on_timed_begun : (target : ℕ) (o : Effect) → Named target → R o.state → R (timed_probe_begun s k target o).state
+    pub on_timed_begun : (next_beat : Option ℕ) (target : ℕ) (o : Effect) → Named target → R o.state → R (timed_probe_begun s k next_beat target o).state
     unfolding timed_probe_begun
-    on_timed_begun target o named h =
+    on_timed_begun next_beat target o named h =
         let seq = o.state.sequence + 1 in
         let probe = timed_probe seq target (option_map_or (λ held. held.1) (get o.state.table target) 0) (k.at + scaled o.state.health s.swim.period) in
-        on_timers _ _ _ _ (on_ping target k.to seq _ (moves.probing o.state seq (Some probe) (one_target Named probe named) h))
+        on_timers next_beat _ _ _ _ (on_ping target k.to seq _ (moves.probing o.state seq (Some probe) (omega arith) (one_target Named probe named) h))
 
-    pub on_timed_target : (target : Option ℕ) (o : Effect) → ((q : ℕ) → target ≡ Some q → Named q) → R o.state → R (timed_target_probed s k target o).state
-    on_timed_target None o named h = moves.probing o.state o.state.sequence None (no_target Named) h
-    on_timed_target (Some target) o named h = on_timed_begun target o (named target refl) h
+    pub on_timed_target : (next_beat target : Option ℕ) (o : Effect) → ((q : ℕ) → target ≡ Some q → Named q) → R o.state → R (timed_target_probed s k next_beat target o).state
+    on_timed_target next_beat None o named h = moves.probing o.state o.state.sequence None (omega arith) (no_target Named) h
+    on_timed_target next_beat (Some target) o named h = on_timed_begun next_beat target o (named target refl) h
 
-    pub on_next_timed : (o : Effect) → R o.state → R (next_timed_probed s k o).state
+    pub on_next_timed : (next_beat : Option ℕ) (o : Effect) → R o.state → R (next_timed_probed s k next_beat o).state
     unfolding next_timed_probed
-    on_next_timed o h = on_timed_target (next_of o.state.words o.state.rota).0 _ (λ q is. moves.targets o.state q h is) (moves.turned o.state h)
+    on_next_timed next_beat o h = on_timed_target next_beat (next_of o.state.words o.state.rota).0 _ (λ q is. moves.targets o.state q h is) (moves.turned o.state h)
 
     pub on_waiting_probed : (o : Effect) → R o.state → R (waiting_probed s k o).state
-    on_waiting_probed o h = on_either o.state.waits _ o (on_next_timed (on_state (λ t. record t { waits = false }) o) (moves.waiting o.state false h)) h
+    on_waiting_probed o h = on_either o.state.waits _ o (on_next_timed None (on_state (λ t. record t { waits = false }) o) (moves.waiting o.state false h)) h
 
-    pub on_in_turn : (o : Effect) → R o.state → R (probed_in_turn s k o).state
-    on_in_turn o h = on_either (has_time k.at o.state.probe) _ _ (moves.waiting o.state true h) (on_next_timed _ (on_settled o.state.probe o h))
+    pub on_in_turn : (next_beat : ℕ) (o : Effect) → R o.state → R (probed_in_turn s k next_beat o).state
+    on_in_turn next_beat o h =
+        on_either (has_time k.at o.state.probe) _ _ (moves.waiting o.state true h) (on_next_timed (Some next_beat) _ (on_settled o.state.probe o h))
 
     pub on_beaten : (o : Effect) → R o.state → R (period_beaten s k o).state
     unfolding period_beaten
-    on_beaten o h = on_in_turn _ (on_event _ k.to PeriodTimer o h)
+    on_beaten o h = on_in_turn _ _ (on_event _ k.to PeriodTimer o h)
 
     pub on_deadline : (seq : ℕ) (o : Effect) → R o.state → R (deadline_over s k seq o).state
     unfolding deadline_over
@@ -524,7 +532,7 @@ module _ (s : Setup) (k : Key) (Named : ℕ → Type 0) (R : State → Type 0) (
     on_timed_answered seq o h =
         let ended = on_state (λ t. record t { probe = None }) o in
         on_either (is_under_way seq o.state.probe) _ o
-        (on_waiting_probed _ (on_health (lowered o.state.health) ended (moves.mended ended.state (moves.probing o.state o.state.sequence None (no_target Named) h)))) h
+        (on_waiting_probed _ (on_health (lowered o.state.health) ended (moves.mended ended.state (moves.probing o.state o.state.sequence None (omega arith) (no_target Named) h)))) h
 
     pub on_timed_ack : (initiator seq : ℕ) (updates : List Update) (o : Effect) → AllNamed Named updates → R o.state → R (timed_ack_heard s k initiator seq updates o).state
     unfolding timed_ack_heard
@@ -552,7 +560,7 @@ module _ (s : Setup) (k : Key) (Named : ℕ → Type 0) (R : State → Type 0) (
 
     pub on_answer_heard : (seq : ℕ) (o : Effect) → R o.state → R (answer_heard seq o).state
     unfolding answer_heard
-    on_answer_heard seq o h = moves.probing o.state o.state.sequence (reached seq o.state.probe) (reached_target Named seq o.state.probe (λ p is. moves.aimed o.state p h is)) h
+    on_answer_heard seq o h = moves.probing o.state o.state.sequence (reached seq o.state.probe) (omega arith) (reached_target Named seq o.state.probe (λ p is. moves.aimed o.state p h is)) h
 
     -- ---- gossip and pushes
 

@@ -4,6 +4,7 @@ ghost use Rattle.std.specs.Prelude.{◌≡◌, ◌≢◌, ◌<◌, ◌≤◌, �
 ghost use Rattle.std.specs.List.Sorted.{IsStrictlyIncreasing};
 ghost use Rattle.std.specs.FinMap.{get};
 ghost use Rattle.std.specs.FinSet as set;
+ghost use Rattle.base.specs.Beats.{next_in_step};
 ghost use Rattle.base.specs.declared.key.Key.{Key};
 ghost use Rattle.base.specs.World.{Run};
 ghost use Rattle.scenario.specs.Setup.{Setup, IsSound};
@@ -14,17 +15,19 @@ ghost use Rattle.trace.specs.declared.row.What.TheVariants as what;
 ghost use Rattle.trace.specs.Text.{NamesMembers};
 ghost use Rattle.incarnation.specs.declared.Claim.TheVariants.{Alive, Confirm};
 ghost use Rattle.incarnation.specs.declared.Update.{Update};
+ghost use Rattle.lifeguard.specs.declared.probe.Probe.{Probe};
+ghost use Rattle.lifeguard.specs.Health.{LocalHealth, scaled};
 ghost use Rattle.membership.specs.Table.{Known};
 ghost use Rattle.member.specs.declared.content.Content.{Content};
-ghost use Rattle.member.specs.declared.content.Content.TheVariants.{Start, Leave, Bye};
-ghost use Rattle.member.specs.declared.member.Phase.TheVariants.{Waiting, Down};
+ghost use Rattle.member.specs.declared.content.Content.TheVariants.{Start, Leave, Bye, PeriodTimer, DeadlineTimer};
+ghost use Rattle.member.specs.declared.member.Phase.TheVariants.{Waiting, Running, Down};
 ghost use Rattle.member.specs.State.{State};
 ghost use Rattle.member.specs.Opening.{opening_state, opening};
 ghost use Rattle.member.specs.declared.telling.Telling.{Telling};
 ghost use Rattle.member.specs.Effects.{Effect, unchanged};
 ghost use Rattle.member.specs.Send.{whole_table, buddy_of};
 ghost use Rattle.member.specs.Apply.{applied};
-ghost use Rattle.member.specs.Step.{step, plain_step};
+ghost use Rattle.member.specs.Step.{needs_timer, is_under_way, step, plain_step};
 ghost use Rattle.member_laws.specs.Words.{AccusesOneself, IsRefuted, WaitsAsOpened, IsWithinCeiling, IsTimely, IsConsistent, IsAmongMembers};
 ghost use Rattle.member_laws.specs.Rows.{IsOn};
 ghost use Rattle.member_laws.specs.Runs.{Cluster, IsRunOf, IsPlainRunOf, LeadsTo, IsReached};
@@ -71,6 +74,20 @@ pub fn a_silent_member_keeps_silent()
         → step s k c t ≡ unchanged t }
     ensures waiting { (s : Setup) (k : Key) (c : Content) (t : State) → t.phase ≡ Waiting → c ≢ Start
         → step s k c t ≡ unchanged t }
+{}
+
+/// By memberlist's rules a beat ends the probe whose deadline has come, so the timer that it spares a
+/// probe would change nothing: only a timer for the beat's very moment is spared, after that beat the
+/// probe isn't under way, and a deadline timer of a probe that isn't under way changes nothing.
+pub fn a_beat_ends_a_probe_at_its_deadline()
+    ensures spared { (beat period now : ℕ) (health : LocalHealth)
+        → needs_timer (Some (next_in_step beat period now)) (now + scaled health period) ≡ false
+        → next_in_step beat period now ≡ now + scaled health period }
+    ensures ended { (s : Setup) (k : Key) (probe : Probe) (t : State) → profile_of s ≡ Memberlist → t.phase ≡ Running
+        → t.probe ≡ Some probe → probe.deadline ≤ k.at → probe.seq ≤ t.sequence
+        → is_under_way probe.seq (step s k PeriodTimer t).state.probe ≡ false }
+    ensures idle { (s : Setup) (k : Key) (seq : ℕ) (t : State) → is_under_way seq t.probe ≡ false
+        → step s k (DeadlineTimer seq) t ≡ unchanged t }
 {}
 
 /// Lifeguard's local health stays within its ceiling, which never changes (LHA-Probe).

@@ -129,7 +129,7 @@ kept_handled s k c phase o waits worn = kept_plain s k c phase o waits worn
 
 kept_beaten : (s : Setup) (k : Key) (o : Effect) → IsWorn o.state → IsWorn (period_beaten s k o).state
 unfolding period_beaten
-kept_beaten s k o worn = kept_in_turn s k _ (kept_event s k _ _ _ o worn)
+kept_beaten s k o worn = kept_in_turn s k _ _ (kept_event s k _ _ _ o worn)
 
 kept_deadline : (s : Setup) (k : Key) (seq : ℕ) (o : Effect) → IsWorn o.state → IsWorn (deadline_over s k seq o).state
 unfolding deadline_over

@@ -1,0 +1,165 @@
+-- By memberlist's rules a beat ends a probe at its deadline, so that a timer for it would do nothing.
+use Rattle.std.proofs.Common.{◌≡◌, ℕ, ◌+◌, ◌-◌, ◌*◌, ◌%◌, ◌≤◌, Bool, true, false, cond, Option, Some, None, refl, ap, ◌∙◌, arith}
+use Rattle.std.proofs.lemmas.Bool.{ne_eqb, le-ltb, ltb-false}
+use Rattle.base.specs.Beats.{next_in_step}
+use Rattle.base.specs.declared.key.Key.{Key}
+use Rattle.base.specs.declared.profile.Profile.{Profile}
+use Rattle.base.specs.declared.profile.Profile.TheVariants.{Papers, Memberlist}
+use Rattle.scenario.specs.Setup.{Setup}
+use Rattle.scenario.specs.Profile.{profile_of}
+use Rattle.incarnation.specs.declared.Update.{Update}
+use Rattle.lifeguard.specs.declared.probe.Probe.{Probe}
+use Rattle.lifeguard.specs.Health.{LocalHealth, scaled}
+use Rattle.probing.specs.ProbeOrder.{next_of}
+use Rattle.member.specs.declared.member.Phase.{Phase}
+use Rattle.member.specs.declared.member.Phase.TheVariants.{Waiting, Joining, Running, Down}
+use Rattle.member.specs.declared.content.Content.{Content}
+use Rattle.member.specs.declared.content.Content.TheVariants.{PeriodTimer, DeadlineTimer}
+use Rattle.member.specs.State.{State}
+use Rattle.member.specs.Effects.{Effect, unchanged, with_row, with_number, with_event, with_timer}
+use Rattle.member.specs.Send.{sent_off, posted, ping_sent}
+use Rattle.member.specs.Apply.{claim_kept, without_suspicion}
+use Rattle.member.specs.Step.{probe_settled, needs_timer, probe_timers_set, timed_probe_begun, timed_target_probed, next_timed_probed, has_time, probed_in_turn, period_beaten, is_under_way, deadline_over, plain_handled, handled, timed_handled, handled_by, step}
+use Rattle.member_laws.proofs.Moves.{NewsMoves, Moves, Anyone, kept_either, death_either}
+use Rattle.member_laws.proofs.Walk.{on_settled}
+
+-- ---- the number of the last probe never falls
+
+module _ (s : Setup) (k : Key) (n : ℕ) where
+  abbrev IsFrom : State → Type 0
+  IsFrom t = n ≤ t.sequence
+
+  kept_from : (t : State) (u : Update) → IsFrom t → IsFrom (claim_kept u t)
+  kept_from t u h = kept_either IsFrom u t h h h
+
+  news : NewsMoves s k Anyone IsFrom
+  news = record {
+    counted = λ t h. h;
+    put = λ t u named h. h;
+    alive = λ t u named says is h. kept_from t u h;
+    suspect = λ t u x named says is begins h. kept_from t u h;
+    confirm = λ t u named says is h. death_either IsFrom (profile_of s) u.subject k.at (without_suspicion u.subject (claim_kept u t)) (kept_from t u h) (kept_from t u h);
+    accused = λ t u h. h;
+    gossiping = λ t set h. h;
+  }
+
+  moves : Moves s k Anyone IsFrom
+  moves = record {
+    own = tt;
+    known = λ t q held h at. tt;
+    drawn = λ t rest is h. h;
+    picked = λ t buddy h. h;
+    aimed = λ t probe h is. tt;
+    targets = λ t target h is. tt;
+    probing = λ t seq probe up aim h. omega (arith, up, h);
+    turned = λ t h. h;
+    relay_added = λ t relay on h. h;
+    relay_removed = λ t relay h. h;
+    waiting = λ t waits h. h;
+    beaten = λ t beat h. h;
+    heard_dead = λ t h. h;
+    refuted = λ t claim number refutes h. h;
+    weakened = λ t failures h. h;
+    mended = λ t h. h;
+    welcomed = λ t h. h;
+    downed = λ t h. h;
+    began = λ t waits h. h;
+    late = λ t waits h. h;
+  }
+
+  settled_from : (probe : Option Probe) (o : Effect) → IsFrom o.state → IsFrom (probe_settled s k probe o).state
+  settled_from probe o h = on_settled s k Anyone IsFrom news moves probe o h
+
+-- ---- the probe that is begun is the one under way
+
+either_probe : (b : Bool) (o p : Effect) (probe : Option Probe) → o.state.probe ≡ probe → p.state.probe ≡ probe → (cond b o p).state.probe ≡ probe
+either_probe true o p probe a b = a
+either_probe false o p probe a b = b
+
+module _ (s : Setup) (k : Key) where
+  event_probe : (at to : ℕ) (content : Content) (o : Effect) → (with_event s k at to content o).state.probe ≡ o.state.probe
+  unfolding with_event
+  event_probe at to content o = refl
+
+  off_probe : (to : ℕ) (content : Content) (arrival : Option ℕ) (o : Effect) → (sent_off s k to content arrival o).state.probe ≡ o.state.probe
+  unfolding with_number
+  off_probe to content None o = refl
+  off_probe to content (Some at) o = event_probe at to content o
+
+  ping_probe : (to initiator seq : ℕ) (o : Effect) → (ping_sent s k to initiator seq o).state.probe ≡ o.state.probe
+  unfolding ping_sent posted with_row
+  ping_probe to initiator seq o = off_probe to _ _ _
+
+  timers_probe : (next_beat : Option ℕ) (seq timeout deadline : ℕ) (o : Effect) → (probe_timers_set s k next_beat seq timeout deadline o).state.probe ≡ o.state.probe
+  unfolding with_timer with_number
+  timers_probe next_beat seq timeout deadline o =
+      let timed = event_probe _ k.to _ o in
+      either_probe (needs_timer next_beat deadline) _ _ o.state.probe (event_probe deadline k.to (DeadlineTimer seq) _ ∙ timed) timed
+
+  -- a new probe has a number above all before it
+  begun_over : (n : ℕ) (next_beat : Option ℕ) (target : ℕ) (o : Effect) → n ≤ o.state.sequence → is_under_way n (timed_probe_begun s k next_beat target o).state.probe ≡ false
+  unfolding timed_probe_begun
+  begun_over n next_beat target o h =
+      ap (is_under_way n) (timers_probe next_beat _ _ _ _ ∙ ping_probe target k.to _ _) ∙ ne_eqb (o.state.sequence + 1) n (λ same. omega (arith, same, h))
+
+  target_over : (n : ℕ) (next_beat target : Option ℕ) (o : Effect) → n ≤ o.state.sequence → is_under_way n (timed_target_probed s k next_beat target o).state.probe ≡ false
+  target_over n next_beat None o h = refl
+  target_over n next_beat (Some target) o h = begun_over n next_beat target o h
+
+  next_over : (n : ℕ) (next_beat : Option ℕ) (o : Effect) → n ≤ o.state.sequence → is_under_way n (next_timed_probed s k next_beat o).state.probe ≡ false
+  unfolding next_timed_probed
+  next_over n next_beat o h = target_over n next_beat (next_of o.state.words o.state.rota).0 _ h
+
+  over_otherwise : (n : ℕ) (b : Bool) (o p : Effect) → b ≡ false → is_under_way n p.state.probe ≡ false → is_under_way n (cond b o p).state.probe ≡ false
+  over_otherwise n true o p is h = absurd (let e = is in cc)
+  over_otherwise n false o p is h = h
+
+  turn_over : (next_beat : ℕ) (probe : Probe) (o : Effect) → o.state.probe ≡ Some probe → probe.deadline ≤ k.at → probe.seq ≤ o.state.sequence
+      → is_under_way probe.seq (probed_in_turn s k next_beat o).state.probe ≡ false
+  turn_over next_beat probe o here due known =
+      over_otherwise probe.seq (has_time k.at o.state.probe) _ _ (ap (has_time k.at) here ∙ le-ltb k.at probe.deadline due)
+      (next_over probe.seq (Some next_beat) (probe_settled s k o.state.probe o) (settled_from s k probe.seq o.state.probe o known))
+
+  beat_over : (probe : Probe) (o : Effect) → o.state.probe ≡ Some probe → probe.deadline ≤ k.at → probe.seq ≤ o.state.sequence
+      → is_under_way probe.seq (period_beaten s k o).state.probe ≡ false
+  unfolding period_beaten with_event
+  beat_over probe o here due known = turn_over _ probe _ here due known
+
+pub ended_step : (s : Setup) (k : Key) (probe : Probe) (t : State) → profile_of s ≡ Memberlist → t.phase ≡ Running → t.probe ≡ Some probe → probe.deadline ≤ k.at → probe.seq ≤ t.sequence
+    → is_under_way probe.seq (step s k PeriodTimer t).state.probe ≡ false
+unfolding step timed_handled
+ended_step s k probe t by_list runs here due known =
+    let after : Phase → Profile → Bool = λ phase profile. is_under_way probe.seq (handled_by phase profile s k PeriodTimer (unchanged t)).state.probe in
+    ap (λ phase. after phase (profile_of s)) runs ∙ ap (after Running) by_list ∙ beat_over s k probe (unchanged t) here due known
+
+-- ---- the timer of another probe
+
+otherwise : (b : Bool) (o p : Effect) → b ≡ false → cond b o p ≡ p
+otherwise true o p is = absurd (let e = is in cc)
+otherwise false o p is = refl
+
+idle : (s : Setup) (k : Key) (seq : ℕ) (phase : Phase) (profile : Profile) (o : Effect) → is_under_way seq o.state.probe ≡ false → handled_by phase profile s k (DeadlineTimer seq) o ≡ o
+unfolding timed_handled deadline_over handled plain_handled
+idle s k seq Waiting profile o other = refl
+idle s k seq Joining profile o other = refl
+idle s k seq Running Papers o other = refl
+idle s k seq Running Memberlist o other = otherwise (is_under_way seq o.state.probe) _ o other
+idle s k seq Down profile o other = refl
+
+pub idle_step : (s : Setup) (k : Key) (seq : ℕ) (t : State) → is_under_way seq t.probe ≡ false → step s k (DeadlineTimer seq) t ≡ unchanged t
+unfolding step
+idle_step s k seq t other = idle s k seq t.phase (profile_of s) (unchanged t) other
+
+-- ---- the beat that spares a timer
+
+spared_late : (now period worse x : ℕ) → now + period * (worse + 1) ≤ now + period - x → now + period - x ≡ now + period * (worse + 1)
+spared_late now period worse x h =
+    let base : period ≤ period * (worse + 1) = at_least period worse in
+    omega (arith, base, h)
+  where
+    at_least : (period worse : ℕ) → period ≤ period * (worse + 1)
+    at_least period worse = grind arith
+
+pub spared : (beat period now : ℕ) (health : LocalHealth) → needs_timer (Some (next_in_step beat period now)) (now + scaled health period) ≡ false
+    → next_in_step beat period now ≡ now + scaled health period
+spared beat period now health is = spared_late now period health.counter ((now + period - beat % period) % period) (ltb-false _ _ is)

@@ -1,0 +1,11 @@
+use Rattle.member_laws.proofs.Deadlines.{spared, ended_step, idle_step}
+use Rattle.member_laws.proofs.laws.a_beat_ends_a_probe_at_its_deadline.Goals as goal
+
+pub returns-clause-spared : goal.returns-clause-spared
+returns-clause-spared c = spared
+
+pub returns-clause-ended : goal.returns-clause-ended
+returns-clause-ended c = ended_step
+
+pub returns-clause-idle : goal.returns-clause-idle
+returns-clause-idle c = idle_step
