@@ -1,3 +1,4 @@
 pub mod Files
 pub mod Memory
+pub mod Refusals
 pub mod System

@@ -1,8 +1,8 @@
 -- What writers and files over memory hold.
-use Rattle.std.specs.Prelude.{◌≡◌, ℕ, List, Bool, true, false, not, Option, bytes_eq, find, is_some, option_map, string_bytes}
+use Rattle.std.specs.Prelude.{◌≡◌, ℕ, List, Bool, true, false, not, Option, Some, bytes_eq, find, is_some, option_map, string_bytes, sum}
 use Rattle.std.specs.Option.{option_and_then, option_map_or}
 use Rattle.std.specs.Borrow.{Bor}
-use Rattle.files.specs.Files.{Making}
+use Rattle.files.specs.Files.{KnownFile, Making}
 use Rattle.files.specs.declared.testing.Failing.{Failing}
 use Rattle.files.specs.declared.testing.Kept.{Kept}
 use Rattle.files.specs.declared.testing.MemoryFiles.{MemoryFiles}
@@ -31,6 +31,10 @@ bytes_under kept name = option_and_then bytes_of (find (has_name name) kept)
 abbrev pub kept_bytes : MemoryFiles → List ℕ → Option (List ℕ)
 kept_bytes files = bytes_under files.kept.items
 
+-- all is known
+abbrev pub known_of : MemoryFiles → List ℕ → KnownFile
+known_of files name = Some (kept_bytes files name)
+
 -- whether there is a place for a file of the name
 abbrev pub has_place : MemoryFiles → List ℕ → Bool
 has_place files name = is_some (find (has_name name) files.kept.items)
@@ -50,6 +54,10 @@ making_of files = record { can_make = can_make files; are_one = bytes_eq }
 -- where files that are made fail
 abbrev pub made_fail : MemoryFiles → Failing
 made_fail files = files.fails
+
+-- how many writes of closed files were refused
+abbrev pub memory_refused : MemoryFiles → ℕ
+memory_refused files = sum files.refusals
 
 -- the same files with one setting changed
 abbrev pub with_locked : MemoryFiles → Option (Bor (List ℕ)) → MemoryFiles

@@ -2,17 +2,20 @@
 //! system.
 #![tactic(auto)]
 
-ghost use Rattle.std.specs.Prelude.{◌≡◌, ◌≢◌, ℕ, List, [], Option, Some, false, IfOk, IfSome, IsErrOf, OnOk, OnErr};
+ghost use Rattle.std.specs.Prelude.{◌≡◌, ◌≢◌, ◌+◌, ℕ, List, [], Option, Some, false, IfOk, IfSome, IsErrOf, OnOk, OnErr};
 ghost use Rattle.files.specs.Files.{KnownFile, Making, Holds, HoldsNow, IsAbsent, ClosesAs, KeepsOthers, KeepsAllOthers, KeepsAllButThree, CannotMake, CannotMakeSecond, CannotMakeThird, AreThreeFiles, AreFourFiles, DifferEach};
+ghost use Rattle.trace.specs.Writers.{writer_under, put_failures};
 
 mod identity;
 mod reading;
+mod refusals;
 pub mod system;
 pub mod testing;
 
 pub use reading::read_whole;
 use std::alloc::Global;
 use std::io::Write;
+use trace::Put;
 
 /// Why a file was not read.
 #[derive(Clone, Copy, Debug, PartialEq, Eq)]
@@ -71,13 +74,17 @@ pub trait Files {
     // what is known of the making of files
     ghost making: { Self → Making };
 
+    // how many writes and flushes of closed files were refused
+    ghost refused: { Self → ℕ };
+
     /// All bytes of a file. `Absent` where no file has the name, `Refused` where one can't be read; `Memory`.
     fn read(&mut self, alloc: Global, name: &str) -> Result<Vec<u8>, ReadFault>
         ensures bytes { IfOk result (λ bytes. Holds (known self.old name.now) bytes.items) }
         ensures absent { IsErrOf result ReadFault.Absent → IsAbsent (known self.old name.now) }
         ensures refused { IsErrOf result ReadFault.Refused → IsAbsent (known self.old name.now) }
         ensures same { known self.new ≡ known self.old }
-        ensures making { making self.new ≡ making self.old };
+        ensures making { making self.new ≡ making self.old }
+        ensures counted { refused self.new ≡ refused self.old };
 
     /// Makes an empty file, in the place of one that has the name already. After a fault no file has changed.
     ///
@@ -89,6 +96,7 @@ pub trait Files {
         ensures others { KeepsOthers (known self.old) (known self.new) name.now }
         ensures refused { IsErrOf result FileFault.Refused → CannotMake (making self.old) source.now name.now }
         ensures making { making self.new ≡ making self.old }
+        ensures counted { refused self.new ≡ refused self.old }
         ensures same { OnErr result (known self.new ≡ known self.old) };
 
     /// Makes two empty files, as `make` does. After a fault no file has changed, neither the one nor the other.
@@ -112,6 +120,7 @@ pub trait Files {
         ensures refused_too { IsErrOf result PairFault.Second
             → CannotMakeSecond (making self.old) source.now first.now second.now }
         ensures making { making self.new ≡ making self.old }
+        ensures counted { refused self.new ≡ refused self.old }
         ensures same { OnErr result (known self.new ≡ known self.old) };
 
     /// Makes three empty files, as `make` does. After a fault no file has changed, none of the three.
@@ -140,10 +149,12 @@ pub trait Files {
         ensures refused_third { IsErrOf result TripleFault.Third
             → CannotMakeThird (making self.old) source.now first.now second.now third.now }
         ensures making { making self.new ≡ making self.old }
+        ensures counted { refused self.new ≡ refused self.old }
         ensures same { OnErr result (known self.new ≡ known self.old) };
 
-    /// Closes a file that was made under the name: it holds what was written.
-    fn close(&mut self, name: &str, made: Self::Made)
-        ensures closed { ClosesAs (known self.old name.now) (known self.new name.now) (Self.Made.contents made) }
-        ensures others { KeepsOthers (known self.old) (known self.new) name.now };
+    /// Closes a file that was made under the name: it holds what was written, and what its writer refused is counted.
+    fn close(&mut self, name: &str, made: Put<Self::Made>)
+        ensures closed { ClosesAs (known self.old name.now) (known self.new name.now) (Self.Made.contents (writer_under made)) }
+        ensures others { KeepsOthers (known self.old) (known self.new) name.now }
+        ensures refused { refused self.new ≡ refused self.old + put_failures made };
 }

@@ -1,14 +1,17 @@
 //! The system's files.
-ghost use Rattle.std.specs.Prelude.{◌≡◌, None};
-ghost use Rattle.files.specs.System.{runtime_of, unknown};
+ghost use Rattle.std.specs.Prelude.{◌≡◌, ◌+◌, None};
+ghost use Rattle.files.specs.System.{runtime_of, system_refused, unknown};
+ghost use Rattle.trace.specs.Writers.{put_failures};
 
 use crate::identity::Identity;
 use crate::reading::{fault_of, read_fault, read_whole};
+use crate::refusals::Refusals;
 use crate::{FileFault, Files, PairFault, ReadFault, TripleFault};
 use std::alloc::Global;
 use std::fs::{OpenFile, OpenOptions};
 use std::io::{ErrorKind, Write};
 use std::{fs, io};
+use trace::{Put, Sink};
 
 /// The name of standard output among the system's files.
 const STANDARD_OUTPUT: &str = "/dev/stdout";
@@ -20,6 +23,7 @@ pub struct SystemFiles<'r, R> {
     runtime: &'r R,
     // the file that standard output goes to
     output: Option<Identity>,
+    refusals: Refusals,
 }
 
 /// A file that is open to be written, and holds what it held before.
@@ -78,7 +82,11 @@ impl<'r, R: std::rt::Files + AllocGlobal> SystemFiles<'r, R> {
         ensures { runtime_of result ≡ runtime.entry }
     {
         let output = Identity::of_name(runtime, STANDARD_OUTPUT);
-        SystemFiles { runtime, output }
+        SystemFiles {
+            runtime,
+            output,
+            refusals: Refusals::new(),
+        }
     }
 
     /// Opens a file to be written, and tells whether it is new.
@@ -176,6 +184,8 @@ impl<R: std::rt::Files + AllocGlobal> Files for SystemFiles<'_, R> {
 
     ghost making = { λ files. unknown };
 
+    ghost refused = { system_refused };
+
     fn read(&mut self, alloc: Global, name: &str) -> Result<Vec<u8>, ReadFault> {
         match fs::open(self.runtime, name) {
             Ok(mut file) => read_whole(alloc, &mut file),
@@ -234,8 +244,11 @@ impl<R: std::rt::Files + AllocGlobal> Files for SystemFiles<'_, R> {
         }
     }
 
-    fn close(&mut self, name: &str, mut made: SystemFile<R::File>) {
+    fn close(&mut self, name: &str, made: Put<SystemFile<R::File>>)
+        ensures refused { system_refused self.new ≡ system_refused self.old + put_failures made }
+    {
         let _ = name;
-        let _ = made.begin();
+        self.refusals.add(made.failures());
+        let _ = made.into_inner().begin();
     }
 }

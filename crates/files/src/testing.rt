@@ -1,12 +1,15 @@
 //! Files and writers over memory, which fail where a test wants them to.
-ghost use Rattle.std.specs.Prelude.{◌≡◌, ◌≢◌, ◌≤◌, ℕ, List, [], Some, None, true, false, bytes_eq, find, option_map, position, IfOk, IfSome, OnOk, OnErr};
-ghost use Rattle.files.specs.Files.{KeepsOthers, KeepsAllOthers, KeepsAllButThree, CannotMake, CannotMakeSecond};
-ghost use Rattle.files.specs.Memory.{written_by, writer_fails, has_name, has_place, kept_bytes, can_make, making_of, made_fail, with_locked, with_fails, KeepsPlaces};
+ghost use Rattle.std.specs.Prelude.{◌≡◌, ◌≢◌, ◌≤◌, ◌+◌, ℕ, List, [], Some, None, true, false, bytes_eq, find, option_map, position, IfOk, IfSome, OnOk, OnErr};
+ghost use Rattle.files.specs.Files.{ClosesAs, KeepsOthers, KeepsAllOthers, KeepsAllButThree, CannotMake, CannotMakeSecond};
+ghost use Rattle.files.specs.Memory.{written_by, writer_fails, has_name, has_place, kept_bytes, known_of, can_make, making_of, made_fail, memory_refused, with_locked, with_fails, KeepsPlaces};
+ghost use Rattle.trace.specs.Writers.{writer_under, put_failures};
 
+use crate::refusals::Refusals;
 use crate::{FileFault, Files, PairFault, ReadFault, TripleFault};
 use std::alloc::{AllocError, Global};
 use std::io;
 use std::io::Write;
+use trace::{Put, Sink};
 
 /// Where a writer over memory fails.
 #[derive(Clone, Copy, Debug, PartialEq, Eq)]
@@ -100,6 +103,7 @@ pub struct MemoryFiles {
     kept: Vec<Kept>,
     locked: Option<&'static str>,
     fails: Failing,
+    refusals: Refusals,
 }
 
 impl MemoryFiles {
@@ -108,12 +112,14 @@ impl MemoryFiles {
         ensures empty { (name : List ℕ) → kept_bytes result name ≡ None }
         ensures makes { (name : List ℕ) → can_make result name ≡ true }
         ensures fails { made_fail result ≡ Failing.Never }
+        ensures none_refused { memory_refused result ≡ 0 }
     {
         MemoryFiles {
             alloc,
             kept: Vec::new(alloc),
             locked: None,
             fails: Failing::Never,
+            refusals: Refusals::new(),
         }
     }
 
@@ -151,6 +157,7 @@ impl MemoryFiles {
         ensures same { OnErr result (kept_bytes self.new ≡ kept_bytes self.old) }
         ensures makes { can_make self.new ≡ can_make self.old }
         ensures fails { made_fail self.new ≡ made_fail self.old }
+        ensures counted { memory_refused self.new ≡ memory_refused self.old }
     {
         let bytes = Vec::from_slice(self.alloc, bytes)?;
         self.store(name, bytes)
@@ -188,6 +195,7 @@ impl MemoryFiles {
         ensures same { kept_bytes self.new ≡ kept_bytes self.old }
         ensures makes { can_make self.new ≡ can_make self.old }
         ensures fails { made_fail self.new ≡ made_fail self.old }
+        ensures counted { memory_refused self.new ≡ memory_refused self.old }
     {
         if let Some(place) = self.place(name) {
             return Ok(place);
@@ -208,6 +216,7 @@ impl MemoryFiles {
         ensures places { KeepsPlaces self.old self.new }
         ensures makes { can_make self.new ≡ can_make self.old }
         ensures fails { made_fail self.new ≡ made_fail self.old }
+        ensures counted { memory_refused self.new ≡ memory_refused self.old }
     {
         let place = self.hold_place(name)?;
         self.kept[place].bytes = Some(bytes);
@@ -242,6 +251,7 @@ impl MemoryFiles {
         ensures places { KeepsPlaces self.old self.new }
         ensures makes { can_make self.new ≡ can_make self.old }
         ensures fails { made_fail self.new ≡ made_fail self.old }
+        ensures counted { memory_refused self.new ≡ memory_refused self.old }
     {
         // both places first, so that no memory is asked for any more once a file changes
         self.hold_place(first)?;
@@ -263,6 +273,7 @@ impl MemoryFiles {
         ensures same { OnErr result (kept_bytes self.new ≡ kept_bytes self.old) }
         ensures makes { can_make self.new ≡ can_make self.old }
         ensures fails { made_fail self.new ≡ made_fail self.old }
+        ensures counted { memory_refused self.new ≡ memory_refused self.old }
     {
         // the first's place before the others are made, so that it takes no memory after that
         self.hold_place(first)?;
@@ -282,10 +293,11 @@ impl MemoryFiles {
 impl Files for MemoryFiles {
     type Made = MemoryWriter;
 
-    // all is known
-    ghost known = { λ files name. Some (kept_bytes files name) };
+    ghost known = { known_of };
 
     ghost making = { making_of };
+
+    ghost refused = { memory_refused };
 
     fn read(&mut self, alloc: Global, name: &str) -> Result<Vec<u8>, ReadFault> {
         match self.bytes(name) {
@@ -347,8 +359,13 @@ impl Files for MemoryFiles {
         }
     }
 
-    fn close(&mut self, name: &str, made: MemoryWriter) {
+    fn close(&mut self, name: &str, made: Put<MemoryWriter>)
+        ensures closed { ClosesAs (known_of self.old name.now) (known_of self.new name.now) (Some (written_by (writer_under made))) }
+        ensures others { KeepsOthers (known_of self.old) (known_of self.new) name.now }
+        ensures refused { memory_refused self.new ≡ memory_refused self.old + put_failures made }
+    {
+        self.refusals.add(made.failures());
         // the name has its place since the file was made
-        let _ = self.store(name, made.bytes);
+        let _ = self.store(name, made.into_inner().bytes);
     }
 }

@@ -1,3 +1,4 @@
 pub mod Causes
+mod Counted
 mod Stored
 mod Paged

@@ -109,14 +109,14 @@ known_or (Some held) X p then = then p
 
 -- A file that was made empty and then closed: from when it was made to its closing it is as it was, and from then on too, as other names are
 -- no other names for it.
-pub closed_holds : (before made closing closed after : KnownFile) (old new held : Option (List ℕ)) (text : List ℕ) → HoldsNow before made []
+pub closed_holds : (before made closing closed after : KnownFile) (old new : Option (List ℕ)) (text : List ℕ) → HoldsNow before made []
     → IfSome before (λ _. old ≡ Some []) → IfSome before (λ _. closing ≡ made) → IfSome before (λ _. after ≡ closed)
-    → ClosesAs closing closed held → held ≡ new → Appends old new text → HoldsNow before after text
-closed_holds before made closing closed after old new held text empty fresh kept kept_too closes same written =
+    → ClosesAs closing closed new → Appends old new text → HoldsNow before after text
+closed_holds before made closing closed after old new text empty fresh kept kept_too closes written =
     known_or before (λ _. after ≡ Some (Some text)) kept (λ first.
     known_or before (λ _. after ≡ Some (Some text)) kept_too (λ second.
     holds_text before made after old new text empty fresh written
-    (subst (λ k. ClosesAs made k new) (sym second) (subst (λ k. ClosesAs k closed new) first (subst (λ h. ClosesAs closing closed h) same closes)))))
+    (subst (λ k. ClosesAs made k new) (sym second) (subst (λ k. ClosesAs k closed new) first closes))))
 
 -- what follows of a file of which something is known
 if_known : {P Q : Type 0} (known : KnownFile) → IfSome known (λ _. P) → (P → Q) → IfSome known (λ _. Q)
@@ -139,17 +139,17 @@ module _ (start made between end : Shelf) (trace page : Text) (apart : IfSome (s
   two_others other differs _ far = page_closed other far ∙ (trace_closed other differs ∙ both_made other differs far)
 
   -- what each holds of a text
-  pub first_of_two : (old new held : Option (List ℕ)) → HoldsNow (start trace) (made trace) [] → IfSome (start trace) (λ _. old ≡ Some [])
-      → ClosesAs (made trace) (between trace) held → held ≡ new → (text : List ℕ) → Appends old new text → HoldsNow (start trace) (end trace) text
-  first_of_two old new held empty fresh closes same text written =
-      closed_holds (start trace) (made trace) (made trace) (between trace) (end trace) old new held text empty fresh (always (start trace) refl)
-      (if_known (start trace) apart (λ differs. page_closed trace (λ e. differs (sym e)))) closes same written
+  pub first_of_two : (old new : Option (List ℕ)) → HoldsNow (start trace) (made trace) [] → IfSome (start trace) (λ _. old ≡ Some [])
+      → ClosesAs (made trace) (between trace) new → (text : List ℕ) → Appends old new text → HoldsNow (start trace) (end trace) text
+  first_of_two old new empty fresh closes text written =
+      closed_holds (start trace) (made trace) (made trace) (between trace) (end trace) old new text empty fresh (always (start trace) refl)
+      (if_known (start trace) apart (λ differs. page_closed trace (λ e. differs (sym e)))) closes written
 
-  pub second_of_two : (old new held : Option (List ℕ)) → HoldsNow (start page) (made page) [] → IfSome (start page) (λ _. old ≡ Some [])
-      → ClosesAs (between page) (end page) held → held ≡ new → (text : List ℕ) → Appends old new text → HoldsNow (start page) (end page) text
-  second_of_two old new held empty fresh closes same text written =
-      closed_holds (start page) (made page) (between page) (end page) (end page) old new held text empty fresh
-      (if_known (start page) (apart_too start trace page apart) (λ differs. trace_closed page differs)) (always (start page) refl) closes same written
+  pub second_of_two : (old new : Option (List ℕ)) → HoldsNow (start page) (made page) [] → IfSome (start page) (λ _. old ≡ Some [])
+      → ClosesAs (between page) (end page) new → (text : List ℕ) → Appends old new text → HoldsNow (start page) (end page) text
+  second_of_two old new empty fresh closes text written =
+      closed_holds (start page) (made page) (between page) (end page) (end page) old new text empty fresh
+      (if_known (start page) (apart_too start trace page apart) (λ differs. trace_closed page differs)) (always (start page) refl) closes written
 
 -- ---- three files
 
@@ -161,23 +161,23 @@ module _ (start made one two end : Shelf) (trace report page : Text) (differ : D
       let apart : other ≢ report = λ e. differs_too (ap Some (sym e)) in
       page_closed other far ∙ (report_closed other apart ∙ (trace_closed other differs ∙ all_made other differs apart far))
 
-  pub first_of_three : (old new held : Option (List ℕ)) → HoldsNow (start trace) (made trace) [] → IfSome (start trace) (λ _. old ≡ Some [])
-      → ClosesAs (made trace) (one trace) held → held ≡ new → (text : List ℕ) → Appends old new text → HoldsNow (start trace) (end trace) text
-  first_of_three old new held empty fresh closes same text written =
-      closed_holds (start trace) (made trace) (made trace) (one trace) (end trace) old new held text empty fresh (always (start trace) refl)
+  pub first_of_three : (old new : Option (List ℕ)) → HoldsNow (start trace) (made trace) [] → IfSome (start trace) (λ _. old ≡ Some [])
+      → ClosesAs (made trace) (one trace) new → (text : List ℕ) → Appends old new text → HoldsNow (start trace) (end trace) text
+  first_of_three old new empty fresh closes text written =
+      closed_holds (start trace) (made trace) (made trace) (one trace) (end trace) old new text empty fresh (always (start trace) refl)
       (if_both (start trace) differ.second_from_first differ.third_from_first
-      (λ report_far page_far. page_closed trace (λ e. page_far (sym e)) ∙ report_closed trace (λ e. report_far (sym e)))) closes same written
+      (λ report_far page_far. page_closed trace (λ e. page_far (sym e)) ∙ report_closed trace (λ e. report_far (sym e)))) closes written
 
-  pub second_of_three : (old new held : Option (List ℕ)) → HoldsNow (start report) (made report) [] → IfSome (start report) (λ _. old ≡ Some [])
-      → ClosesAs (one report) (two report) held → held ≡ new → (text : List ℕ) → Appends old new text → HoldsNow (start report) (end report) text
-  second_of_three old new held empty fresh closes same text written =
-      closed_holds (start report) (made report) (one report) (two report) (end report) old new held text empty fresh
+  pub second_of_three : (old new : Option (List ℕ)) → HoldsNow (start report) (made report) [] → IfSome (start report) (λ _. old ≡ Some [])
+      → ClosesAs (one report) (two report) new → (text : List ℕ) → Appends old new text → HoldsNow (start report) (end report) text
+  second_of_three old new empty fresh closes text written =
+      closed_holds (start report) (made report) (one report) (two report) (end report) old new text empty fresh
       (if_known (start report) (apart_too start trace report differ.second_from_first) (λ far. trace_closed report far))
-      (if_known (start report) differ.third_from_second (λ far. page_closed report (λ e. far (sym e)))) closes same written
+      (if_known (start report) differ.third_from_second (λ far. page_closed report (λ e. far (sym e)))) closes written
 
-  pub third_of_three : (old new held : Option (List ℕ)) → HoldsNow (start page) (made page) [] → IfSome (start page) (λ _. old ≡ Some [])
-      → ClosesAs (two page) (end page) held → held ≡ new → (text : List ℕ) → Appends old new text → HoldsNow (start page) (end page) text
-  third_of_three old new held empty fresh closes same text written =
-      closed_holds (start page) (made page) (two page) (end page) (end page) old new held text empty fresh
+  pub third_of_three : (old new : Option (List ℕ)) → HoldsNow (start page) (made page) [] → IfSome (start page) (λ _. old ≡ Some [])
+      → ClosesAs (two page) (end page) new → (text : List ℕ) → Appends old new text → HoldsNow (start page) (end page) text
+  third_of_three old new empty fresh closes text written =
+      closed_holds (start page) (made page) (two page) (end page) (end page) old new text empty fresh
       (if_both (start page) (apart_too start trace page differ.third_from_first) (apart_too start report page differ.third_from_second)
-      (λ trace_far report_far. report_closed page report_far ∙ trace_closed page trace_far)) (always (start page) refl) closes same written
+      (λ trace_far report_far. report_closed page report_far ∙ trace_closed page trace_far)) (always (start page) refl) closes written

@@ -17,29 +17,26 @@ use Rattle.scenario_files.proofs.Held.{holds_beginning, holds_text}
 use Rattle.run_command.specs.Outcomes.{HoldsReport, BeginsReport, KeepsRest, StoresRun, BreaksOff}
 
 -- the file of a trace alone, after a run that was done, and after one that broke off
-module _ (s : Setup) (start made end : Shelf) (trace : Text) (old new held report_old report_new : Option (List ℕ))
+module _ (s : Setup) (start made end : Shelf) (trace : Text) (old new report_old report_new : Option (List ℕ))
     (trace_made : KeepsOthers start made trace) (trace_closed : KeepsOthers made end trace)
     (empty : HoldsNow (start trace) (made trace) []) (fresh : IfSome (start trace) (λ _. old ≡ Some []))
-    (closed : ClosesAs (made trace) (end trace) held) where
+    (closed : ClosesAs (made trace) (end trace) new) where
   rest_kept : KeepsRest start end trace None
   rest_kept other differs _ = trace_closed other differs ∙ trace_made other differs
 
-  closes : held ≡ new → ClosesAs (made trace) (end trace) new
-  closes same = subst (λ h. ClosesAs (made trace) (end trace) h) same closed
-
-  pub trace_stored : (count : ℕ) → WritesRun s old new report_old report_new count → held ≡ new → StoresRun s start end trace None count
-  trace_stored count writes same = record {
+  pub trace_stored : (count : ℕ) → WritesRun s old new report_old report_new count → StoresRun s start end trace None count
+  trace_stored count writes = record {
     rows = writes.rows;
     run = writes.run;
     counted = writes.counted;
-    traced = holds_text (start trace) (made trace) (end trace) old new (trace_text s writes.rows) empty fresh writes.trace (closes same);
+    traced = holds_text (start trace) (made trace) (end trace) old new (trace_text s writes.rows) empty fresh writes.trace closed;
     reported = tt;
     others = rest_kept;
   }
 
-  pub trace_begun : (EndsBy : Fault → Type 0) (cause : Fault) → EndsBy cause → WritesBeginning s old new report_old report_new → (cause ≡ fault.Worn → WearsOut s ⊎ WearsOutReport s) → held ≡ new
+  pub trace_begun : (EndsBy : Fault → Type 0) (cause : Fault) → EndsBy cause → WritesBeginning s old new report_old report_new → (cause ≡ fault.Worn → WearsOut s ⊎ WearsOutReport s)
       → BreaksOff EndsBy s start end trace None cause
-  trace_begun EndsBy cause may begins worn same = record {
+  trace_begun EndsBy cause may begins worn = record {
     rows = begins.rows;
     run = begins.run;
     written = go begins.written;
@@ -53,8 +50,8 @@ module _ (s : Setup) (start made end : Shelf) (trace : Text) (old new held repor
 
       go : (AppendsBeginning old new text × Keeps report_old report_new) ⊎ (Appends old new text × AppendsBeginning report_old report_new (report_text s begins.rows))
           → (HoldsBeginning (start trace) (end trace) text × HoldsReport start end None []) ⊎ (HoldsNow (start trace) (end trace) text × BeginsReport start end None (report_text s begins.rows))
-      go (inl written) = inl (holds_beginning (start trace) (made trace) (end trace) old new text empty fresh written.0 (closes same), tt)
-      go (inr written) = inr (holds_text (start trace) (made trace) (end trace) old new text empty fresh written.0 (closes same), tt)
+      go (inl written) = inl (holds_beginning (start trace) (made trace) (end trace) old new text empty fresh written.0 closed, tt)
+      go (inr written) = inr (holds_text (start trace) (made trace) (end trace) old new text empty fresh written.0 closed, tt)
 
 -- what holds of a file of which something is known
 known_or : {P : Type 0} (known : KnownFile) (X : Option (List ℕ) → Type 0) → IfSome known (λ _. P) → (P → IfSome known X) → IfSome known X
@@ -140,15 +137,14 @@ module _ (start made between end : Shelf) (trace report : Text) (apart : IfSome 
   )
 
   -- the run was done
-  pub both_stored : (s : Setup) (count : ℕ) (old new held report_old report_new report_held : Option (List ℕ))
+  pub both_stored : (s : Setup) (count : ℕ) (old new report_old report_new : Option (List ℕ))
       → HoldsNow (start trace) (made trace) [] → IfSome (start trace) (λ _. old ≡ Some [])
       → HoldsNow (start report) (made report) [] → IfSome (start report) (λ _. report_old ≡ Some [])
-      → ClosesAs (made trace) (between trace) held → ClosesAs (between report) (end report) report_held
-      → WritesRun s old new report_old report_new count → held ≡ new → report_held ≡ report_new → StoresRun s start end trace (Some report) count
-  both_stored s count old new held report_old report_new report_held empty fresh report_empty report_fresh closed report_ends writes same report_same =
+      → ClosesAs (made trace) (between trace) new → ClosesAs (between report) (end report) report_new
+      → WritesRun s old new report_old report_new count → StoresRun s start end trace (Some report) count
+  both_stored s count old new report_old report_new empty fresh report_empty report_fresh closed report_ends writes =
       let holds = both_hold (trace_text s writes.rows) (report_text s writes.rows) old new report_old report_new empty fresh report_empty report_fresh
-      (subst (λ h. ClosesAs (made trace) (between trace) h) same closed) (subst (λ h. ClosesAs (between report) (end report) h) report_same report_ends)
-      writes.trace writes.report in
+      closed report_ends writes.trace writes.report in
       record {
         rows = writes.rows;
         run = writes.run;
@@ -159,18 +155,17 @@ module _ (start made between end : Shelf) (trace report : Text) (apart : IfSome 
       }
 
   -- it broke off
-  pub both_begun : (EndsBy : Fault → Type 0) (s : Setup) (cause : Fault) (old new held report_old report_new report_held : Option (List ℕ))
+  pub both_begun : (EndsBy : Fault → Type 0) (s : Setup) (cause : Fault) (old new report_old report_new : Option (List ℕ))
       → HoldsNow (start trace) (made trace) [] → IfSome (start trace) (λ _. old ≡ Some [])
       → HoldsNow (start report) (made report) [] → IfSome (start report) (λ _. report_old ≡ Some [])
-      → ClosesAs (made trace) (between trace) held → ClosesAs (between report) (end report) report_held
-      → EndsBy cause → WritesBeginning s old new report_old report_new → (cause ≡ fault.Worn → WearsOut s ⊎ WearsOutReport s) → held ≡ new → report_held ≡ report_new
+      → ClosesAs (made trace) (between trace) new → ClosesAs (between report) (end report) report_new
+      → EndsBy cause → WritesBeginning s old new report_old report_new → (cause ≡ fault.Worn → WearsOut s ⊎ WearsOutReport s)
       → BreaksOff EndsBy s start end trace (Some report) cause
-  both_begun EndsBy s cause old new held report_old report_new report_held empty fresh report_empty report_fresh closed report_ends may begins worn same report_same = record {
+  both_begun EndsBy s cause old new report_old report_new empty fresh report_empty report_fresh closed report_ends may begins worn = record {
     rows = begins.rows;
     run = begins.run;
     written = both_begin (trace_text s begins.rows) (report_text s begins.rows) old new report_old report_new empty fresh report_empty report_fresh
-        (subst (λ h. ClosesAs (made trace) (between trace) h) same closed) (subst (λ h. ClosesAs (between report) (end report) h) report_same report_ends)
-        begins.written;
+        closed report_ends begins.written;
     others = others_kept;
     may = may;
     worn = worn;

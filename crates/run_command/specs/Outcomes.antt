@@ -96,6 +96,10 @@ DoesRun release words before after making count = (run : RunWords) × AsksForRun
 
 -- ---- what was not done
 
+-- by a fault by which a run may end, and by a failed write only where a file refused one, as `Refused` says
+abbrev pub EndsWithCause : Type 0 → (Fault → Type 0) → Fault → Type 0
+EndsWithCause Refused EndsBy cause = EndsBy cause × (cause ≡ fault.Write → Refused)
+
 -- the file of the report, where one is asked for, holds a beginning of this text now
 abbrev pub BeginsReport : Shelf → Shelf → Option Text → List ℕ → Type 0
 BeginsReport before after report text = IfSome report (λ name. HoldsBeginning (before name) (after name) text)

@@ -2,6 +2,7 @@
 //! trace, its report and its page.
 #![tactic(auto)]
 
+mod nowhere;
 mod paging;
 mod running;
 mod simulator;

@@ -1,9 +1,10 @@
 //! A run, and the files that take its trace, its report and its page.
-ghost use Rattle.std.specs.Prelude.{◌≡◌, Some, None, IfOk, IfErr, OnOk, length};
+ghost use Rattle.std.specs.Prelude.{◌≡◌, ◌<◌, Some, None, IfOk, IfErr, OnOk, length};
 ghost use Rattle.scenario.specs.Setup.{member_count};
 ghost use Rattle.scenario_files.specs.Shelves.{word_given};
-ghost use Rattle.run_command.specs.Outcomes.{StoresPaged, PagedFails, DifferentPaged};
+ghost use Rattle.run_command.specs.Outcomes.{StoresPaged, PagedFails, DifferentPaged, EndsWithCause};
 
+use crate::nowhere::Nowhere;
 use crate::simulator::Simulator;
 use command_line::{Failure, Release, RunWords};
 use files::{Files, PairFault, TripleFault};
@@ -11,8 +12,8 @@ use outputs::Summary;
 use page_runs::RunShown;
 use scenario_files::{PreparedRun, run_told};
 use std::alloc::Global;
-use std::io;
 use std::io::Write;
+use trace::Put;
 
 /// Runs a scenario, and writes its trace to the file that the words name, its page to another, and its report to a third where
 /// they ask for it. Either all are made or none is. The `watch`, where there is one, is told how far the run has come.
@@ -31,7 +32,10 @@ pub(crate) fn store_paged<'a, M: Simulator, F: Files, P: Write>(
     ensures done { IfOk result (λ summary. StoresPaged prepared.now.scenario words.entry.file.now release.now.version.now (F.known files.old) (F.known files.new)
         words.entry.trace.now (word_given words.entry.report) page.entry.now summary.rows) }
     ensures apart { OnOk result (DifferentPaged (F.making files.old) words.entry.file.now words.entry.trace.now (word_given words.entry.report) page.entry.now) }
-    ensures failed { IfErr result (PagedFails (M.ends_by prepared.now.scenario prepared.now.workers) prepared.now.scenario release.now.version.now
+    ensures whole { OnOk result (F.refused files.new ≡ F.refused files.old) }
+    ensures failed { IfErr result (PagedFails
+        (EndsWithCause (F.refused files.old < F.refused files.new) (M.ends_by prepared.now.scenario prepared.now.workers))
+        prepared.now.scenario release.now.version.now
         (F.known files.old) (F.known files.new) (F.making files.old) words.entry.file.now words.entry.trace.now (word_given words.entry.report) page.entry.now) }
 {
     let shown = RunShown {
@@ -65,7 +69,10 @@ fn store_two<'a, M: Simulator, F: Files, P: Write>(
     ensures done { IfOk result (λ summary. StoresPaged prepared.now.scenario words.entry.file.now shown.now.release.now (F.known files.old) (F.known files.new)
         words.entry.trace.now None page.entry.now summary.rows) }
     ensures apart { OnOk result (DifferentPaged (F.making files.old) words.entry.file.now words.entry.trace.now None page.entry.now) }
-    ensures failed { IfErr result (PagedFails (M.ends_by prepared.now.scenario prepared.now.workers) prepared.now.scenario shown.now.release.now
+    ensures whole { OnOk result (F.refused files.new ≡ F.refused files.old) }
+    ensures failed { IfErr result (PagedFails
+        (EndsWithCause (F.refused files.old < F.refused files.new) (M.ends_by prepared.now.scenario prepared.now.workers))
+        prepared.now.scenario shown.now.release.now
         (F.known files.old) (F.known files.new) (F.making files.old) words.entry.file.now words.entry.trace.now None page.entry.now) }
 {
     let (made_trace, made_page) = match files.make_both(words.file, words.trace, page) {
@@ -82,11 +89,11 @@ fn store_two<'a, M: Simulator, F: Files, P: Write>(
         shown,
         watch,
         made_trace,
-        io::sink(),
+        Nowhere,
         made_page,
     );
-    files.close(words.trace, made_trace.into_inner());
-    files.close(page, made_page.into_inner());
+    files.close(words.trace, made_trace);
+    files.close(page, made_page);
     run_told(outcome)
 }
 
@@ -108,7 +115,10 @@ fn store_three<'a, M: Simulator, F: Files, P: Write>(
     ensures done { IfOk result (λ summary. StoresPaged prepared.now.scenario words.entry.file.now shown.now.release.now (F.known files.old) (F.known files.new)
         words.entry.trace.now (Some report.entry.now) page.entry.now summary.rows) }
     ensures apart { OnOk result (DifferentPaged (F.making files.old) words.entry.file.now words.entry.trace.now (Some report.entry.now) page.entry.now) }
-    ensures failed { IfErr result (PagedFails (M.ends_by prepared.now.scenario prepared.now.workers) prepared.now.scenario shown.now.release.now
+    ensures whole { OnOk result (F.refused files.new ≡ F.refused files.old) }
+    ensures failed { IfErr result (PagedFails
+        (EndsWithCause (F.refused files.old < F.refused files.new) (M.ends_by prepared.now.scenario prepared.now.workers))
+        prepared.now.scenario shown.now.release.now
         (F.known files.old) (F.known files.new) (F.making files.old) words.entry.file.now words.entry.trace.now (Some report.entry.now) page.entry.now) }
 {
     let (made_trace, made_report, made_page) = match files.make_three(
@@ -131,11 +141,11 @@ fn store_three<'a, M: Simulator, F: Files, P: Write>(
         shown,
         watch,
         made_trace,
-        made_report,
+        Put::new(made_report),
         made_page,
     );
-    files.close(words.trace, made_trace.into_inner());
-    files.close(report, made_report.into_inner());
-    files.close(page, made_page.into_inner());
+    files.close(words.trace, made_trace);
+    files.close(report, made_report);
+    files.close(page, made_page);
     run_told(outcome)
 }

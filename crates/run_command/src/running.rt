@@ -1,7 +1,7 @@
 //! The run of the scenario of a file.
-ghost use Rattle.std.specs.Prelude.{◌≡◌, false, length, IfOk, IfErr, OnOk};
+ghost use Rattle.std.specs.Prelude.{◌≡◌, ◌<◌, false, length, IfOk, IfErr, OnOk};
 ghost use Rattle.scenario.specs.Setup.{member_count};
-ghost use Rattle.run_command.specs.Outcomes.{AreApart, FailsAsked, RunsAll, RunFails, StoresAsked};
+ghost use Rattle.run_command.specs.Outcomes.{AreApart, EndsWithCause, FailsAsked, RunsAll, RunFails, StoresAsked};
 
 use crate::paging::store_paged;
 use crate::simulator::Simulator;
@@ -28,7 +28,11 @@ pub fn run<'a, M: Simulator, F: Files, P: Write>(
     ensures done { IfOk result
         (λ summary. RunsAll release.now.version.now (F.known files.old) (F.known files.new) (F.making files.old) words.entry summary.rows) }
     ensures failed { IfErr result
-        (RunFails M.ends_by release.now.version.now (F.known files.old) (F.known files.new) (F.making files.old) words.entry) }
+        (RunFails (λ s workers. EndsWithCause (F.refused files.old < F.refused files.new) (M.ends_by s workers))
+        release.now.version.now (F.known files.old) (F.known files.new) (F.making files.old) words.entry) }
+
+    // No file refused a write of a run that was done.
+    ensures whole { OnOk result (F.refused files.new ≡ F.refused files.old) }
 
     // Who doesn't ask for lines gets none.
     ensures unasked { words.entry.progress ≡ false → progress.new ≡ progress.old }
@@ -63,7 +67,10 @@ fn store_asked<'a, M: Simulator, F: Files, P: Write>(
     ensures done { IfOk result (λ summary. StoresAsked words.entry.page prepared.now.scenario release.now.version.now
         (F.known files.old) (F.known files.new) words.entry summary.rows) }
     ensures apart { OnOk result (AreApart words.entry.page (F.making files.old) words.entry) }
-    ensures failed { IfErr result (FailsAsked words.entry.page (M.ends_by prepared.now.scenario prepared.now.workers) prepared.now.scenario
+    ensures whole { OnOk result (F.refused files.new ≡ F.refused files.old) }
+    ensures failed { IfErr result (FailsAsked words.entry.page
+        (EndsWithCause (F.refused files.old < F.refused files.new) (M.ends_by prepared.now.scenario prepared.now.workers))
+        prepared.now.scenario
         release.now.version.now (F.known files.old) (F.known files.new) (F.making files.old) words.entry) }
 {
     match words.page {

@@ -1,5 +1,5 @@
 //! What simulates a scenario.
-ghost use Rattle.std.specs.Prelude.{◌≡◌, ◌⊎◌, ◌<◌, IfOk, IfErr, OnOk, OnErr, IsErrOf, length};
+ghost use Rattle.std.specs.Prelude.{◌≡◌, ◌⊎◌, ◌<◌, ◌^◌, IfOk, IfErr, OnOk, OnErr, IsErrOf, length};
 ghost use Rattle.scenario.specs.Setup.{member_count};
 ghost use Rattle.member_laws.specs.Runs.{WearsOut};
 ghost use Rattle.trace.specs.Writers.{writer_under, put_failures};
@@ -12,7 +12,7 @@ use page_runs::RunShown;
 use scenario::{Division, Scenario, Workers};
 use std::alloc::Global;
 use std::io::Write;
-use trace::Put;
+use trace::{Put, Sink};
 
 /// What simulates a scenario.
 pub trait Simulator {
@@ -27,10 +27,10 @@ pub trait Simulator {
     /// and so tells no other fault than the one that came.
     ghost ends_by: { Setup → ℕ → Fault → Type 0 };
 
-    /// Runs a scenario by the parts of a division of its members and so many workers, writes its trace to one
-    /// writer and then its report to the other, and gives both back. After a fault they have got a beginning of
+    /// Runs a scenario by the parts of a division of its members and so many workers, writes its trace to a
+    /// writer and then its report to a sink, and gives both back. After a fault they have got a beginning of
     /// that. Where there is a `watch` it is told how far the run has come, as far as it takes that.
-    fn simulate<T: Write, R: Write, W: Write>(
+    fn simulate<T: Write, R: Sink, W: Write>(
         &self,
         alloc: Global,
         scenario: &Scenario,
@@ -39,25 +39,26 @@ pub trait Simulator {
         watch: Option<&mut W>,
         trace: T,
         report: R,
-    ) -> (Put<T>, Put<R>, Result<Summary, Fault>)
+    ) -> (Put<T>, R, Result<Summary, Fault>)
         requires ready { ready }
         requires divided { length division.now.part_of ≡ member_count scenario.now }
+        requires countable { R.failed report < 2 ^ 63 }
         ensures written { IfOk result.2 (λ summary. WritesRun scenario.now (T.contents trace) (T.contents (writer_under result.0))
-            (R.contents report) (R.contents (writer_under result.1)) summary.rows) }
+            (R.held report) (R.held result.1) summary.rows) }
         ensures beginning { OnErr result.2 (WritesBeginning scenario.now (T.contents trace) (T.contents (writer_under result.0))
-            (R.contents report) (R.contents (writer_under result.1))) }
+            (R.held report) (R.held result.1)) }
 
         // no fault comes without its cause
         ensures cause { IfErr result.2 (ends_by scenario.now workers) }
         ensures worn { IsErrOf result.2 Fault.Worn → WearsOut scenario.now ⊎ WearsOutReport scenario.now }
-        ensures write { IsErrOf result.2 Fault.Write → (0 < put_failures result.0) ⊎ (0 < put_failures result.1) }
+        ensures write { IsErrOf result.2 Fault.Write → (0 < put_failures result.0) ⊎ (R.failed report < R.failed result.1) }
         ensures relay { IsErrOf result.2 Fault.Relay → put_failures result.0 ≡ 0 }
         ensures whole { OnOk result.2 (put_failures result.0 ≡ 0) }
-        ensures whole_report { OnOk result.2 (put_failures result.1 ≡ 0) };
+        ensures whole_report { OnOk result.2 (R.failed result.1 ≡ R.failed report) };
 
-    /// Runs a scenario as `simulate` does, writes its page to a third writer once the other two are whole, and gives all
+    /// Runs a scenario as `simulate` does, writes its page to another writer once the other two are whole, and gives all
     /// three back. After a fault they have got a beginning of that.
-    fn simulate_with_page<T: Write, R: Write, P: Write, W: Write>(
+    fn simulate_with_page<T: Write, R: Sink, P: Write, W: Write>(
         &self,
         alloc: Global,
         scenario: &Scenario,
@@ -68,22 +69,23 @@ pub trait Simulator {
         trace: T,
         report: R,
         page: P,
-    ) -> (Put<T>, Put<R>, Put<P>, Result<Summary, Fault>)
+    ) -> (Put<T>, R, Put<P>, Result<Summary, Fault>)
         requires ready { ready }
         requires divided { length division.now.part_of ≡ member_count scenario.now }
+        requires countable { R.failed report < 2 ^ 63 }
         ensures written { IfOk result.3 (λ summary. WritesRunAndPage shown.now.name.now shown.now.release.now scenario.now
-            (T.contents trace) (T.contents (writer_under result.0)) (R.contents report) (R.contents (writer_under result.1))
+            (T.contents trace) (T.contents (writer_under result.0)) (R.held report) (R.held result.1)
             (P.contents page) (P.contents (writer_under result.2)) summary.rows) }
         ensures beginning { OnErr result.3 (BeginsRunAndPage shown.now.name.now shown.now.release.now scenario.now
-            (T.contents trace) (T.contents (writer_under result.0)) (R.contents report) (R.contents (writer_under result.1))
+            (T.contents trace) (T.contents (writer_under result.0)) (R.held report) (R.held result.1)
             (P.contents page) (P.contents (writer_under result.2))) }
 
         // no fault comes without its cause
         ensures cause { IfErr result.3 (ends_by scenario.now workers) }
         ensures worn { IsErrOf result.3 Fault.Worn → WearsOut scenario.now ⊎ WearsOutReport scenario.now }
-        ensures write { IsErrOf result.3 Fault.Write → (0 < put_failures result.0) ⊎ ((0 < put_failures result.1) ⊎ (0 < put_failures result.2)) }
+        ensures write { IsErrOf result.3 Fault.Write → (0 < put_failures result.0) ⊎ ((R.failed report < R.failed result.1) ⊎ (0 < put_failures result.2)) }
         ensures relay { IsErrOf result.3 Fault.Relay → put_failures result.0 ≡ 0 }
         ensures whole { OnOk result.3 (put_failures result.0 ≡ 0) }
-        ensures whole_report { OnOk result.3 (put_failures result.1 ≡ 0) }
+        ensures whole_report { OnOk result.3 (R.failed result.1 ≡ R.failed report) }
         ensures whole_page { OnOk result.3 (put_failures result.2 ≡ 0) };
 }

@@ -1,17 +1,18 @@
 //! A run, and the files that take its trace and its report.
-ghost use Rattle.std.specs.Prelude.{◌≡◌, Some, None, IfOk, IfErr, OnOk, length};
+ghost use Rattle.std.specs.Prelude.{◌≡◌, ◌<◌, Some, None, IfOk, IfErr, OnOk, length};
 ghost use Rattle.scenario.specs.Setup.{member_count};
-ghost use Rattle.run_command.specs.Outcomes.{StoresRun, StoreFails, DifferentFiles};
+ghost use Rattle.run_command.specs.Outcomes.{StoresRun, StoreFails, DifferentFiles, EndsWithCause};
 ghost use Rattle.scenario_files.specs.Shelves.{word_given};
 
+use crate::nowhere::Nowhere;
 use crate::simulator::Simulator;
 use command_line::{Failure, RunWords};
 use files::{Files, PairFault};
 use outputs::Summary;
 use scenario_files::{PreparedRun, file_failure, run_told};
 use std::alloc::Global;
-use std::io;
 use std::io::Write;
+use trace::Put;
 
 /// Runs a scenario, and writes its trace to the file that the words name, and its report to one where they ask for it. The
 /// `watch`, where there is one, is told how far the run has come.
@@ -28,7 +29,10 @@ pub(crate) fn store_run<'a, M: Simulator, F: Files, P: Write>(
     ensures done { IfOk result (λ summary. StoresRun prepared.now.scenario (F.known files.old) (F.known files.new)
         words.entry.trace.now (word_given words.entry.report) summary.rows) }
     ensures apart { OnOk result (DifferentFiles (F.making files.old) words.entry.file.now words.entry.trace.now (word_given words.entry.report)) }
-    ensures failed { IfErr result (StoreFails (M.ends_by prepared.now.scenario prepared.now.workers) prepared.now.scenario (F.known files.old) (F.known files.new)
+    ensures whole { OnOk result (F.refused files.new ≡ F.refused files.old) }
+    ensures failed { IfErr result (StoreFails
+        (EndsWithCause (F.refused files.old < F.refused files.new) (M.ends_by prepared.now.scenario prepared.now.workers))
+        prepared.now.scenario (F.known files.old) (F.known files.new)
         (F.making files.old) words.entry.file.now words.entry.trace.now (word_given words.entry.report)) }
 {
     match words.report {
@@ -51,7 +55,10 @@ fn store_trace<'a, M: Simulator, F: Files, P: Write>(
     ensures done { IfOk result (λ summary. StoresRun prepared.now.scenario (F.known files.old) (F.known files.new)
         words.entry.trace.now None summary.rows) }
     ensures apart { OnOk result (DifferentFiles (F.making files.old) words.entry.file.now words.entry.trace.now None) }
-    ensures failed { IfErr result (StoreFails (M.ends_by prepared.now.scenario prepared.now.workers) prepared.now.scenario (F.known files.old) (F.known files.new)
+    ensures whole { OnOk result (F.refused files.new ≡ F.refused files.old) }
+    ensures failed { IfErr result (StoreFails
+        (EndsWithCause (F.refused files.old < F.refused files.new) (M.ends_by prepared.now.scenario prepared.now.workers))
+        prepared.now.scenario (F.known files.old) (F.known files.new)
         (F.making files.old) words.entry.file.now words.entry.trace.now None) }
 {
     let made = match files.make(words.file, words.trace) {
@@ -65,9 +72,9 @@ fn store_trace<'a, M: Simulator, F: Files, P: Write>(
         prepared.workers,
         watch,
         made,
-        io::sink(),
+        Nowhere,
     );
-    files.close(words.trace, made.into_inner());
+    files.close(words.trace, made);
     run_told(outcome)
 }
 
@@ -88,7 +95,10 @@ fn store_both<'a, M: Simulator, F: Files, P: Write>(
         words.entry.trace.now (Some report.entry.now) summary.rows) }
     ensures apart { OnOk result (DifferentFiles (F.making files.old) words.entry.file.now words.entry.trace.now
         (Some report.entry.now)) }
-    ensures failed { IfErr result (StoreFails (M.ends_by prepared.now.scenario prepared.now.workers) prepared.now.scenario (F.known files.old) (F.known files.new)
+    ensures whole { OnOk result (F.refused files.new ≡ F.refused files.old) }
+    ensures failed { IfErr result (StoreFails
+        (EndsWithCause (F.refused files.old < F.refused files.new) (M.ends_by prepared.now.scenario prepared.now.workers))
+        prepared.now.scenario (F.known files.old) (F.known files.new)
         (F.making files.old) words.entry.file.now words.entry.trace.now (Some report.entry.now)) }
 {
     let (made_trace, made_report) = match files.make_both(words.file, words.trace, report) {
@@ -104,9 +114,9 @@ fn store_both<'a, M: Simulator, F: Files, P: Write>(
         prepared.workers,
         watch,
         made_trace,
-        made_report,
+        Put::new(made_report),
     );
-    files.close(words.trace, made_trace.into_inner());
-    files.close(report, made_report.into_inner());
+    files.close(words.trace, made_trace);
+    files.close(report, made_report);
     run_told(outcome)
 }

@@ -31,6 +31,7 @@ pub fn prepare<'a, F: Files>(
     ensures divided { IfOk result (λ p. length p.division.part_of ≡ member_count p.scenario) }
     ensures same { F.known files.new ≡ F.known files.old }
     ensures making { F.making files.new ≡ F.making files.old }
+    ensures counted { F.refused files.new ≡ F.refused files.old }
 {
     let workers = workers_asked(words.workers)?;
     let scenario = load(alloc, words.file, files)?;

@@ -33,6 +33,7 @@ pub fn load<'a, F: Files>(
     ensures failed { IfErr result (LoadFails (F.known files.old name.entry.now) name.entry.now) }
     ensures same { F.known files.new ≡ F.known files.old }
     ensures making { F.making files.new ≡ F.making files.old }
+    ensures counted { F.refused files.new ≡ F.refused files.old }
 {
     let bytes = load_bytes(alloc, name, files)?;
     check(alloc, bytes.as_slice())
@@ -48,6 +49,7 @@ pub fn load_document<'a, F: Files>(
     ensures failed { IfErr result (HasNoDocument (F.known files.old name.entry.now) name.entry.now) }
     ensures same { F.known files.new ≡ F.known files.old }
     ensures making { F.making files.new ≡ F.making files.old }
+    ensures counted { F.refused files.new ≡ F.refused files.old }
 {
     let bytes = load_bytes(alloc, name, files)?;
     let mark = mark_of(alloc, bytes.as_slice())?;
@@ -79,6 +81,7 @@ pub fn load_bytes<'a, F: Files>(
     ensures failed { IfErr result (IsUnread (F.known files.old name.entry.now) name.entry.now) }
     ensures same { F.known files.new ≡ F.known files.old }
     ensures making { F.making files.new ≡ F.making files.old }
+    ensures counted { F.refused files.new ≡ F.refused files.old }
 {
     match files.read(alloc, name) {
         Ok(bytes) => Ok(bytes),

@@ -1,10 +1,11 @@
 -- what the files hold of a run that was done, and of one that broke off
-use Rattle.std.proofs.Common.{◌∙◌, List, ℕ, Result, Err, IfErr, ap, subst}
+use Rattle.std.proofs.Common.{◌∙◌, ◌<◌, List, ℕ, Result, Err, IfErr, ap, subst}
 use Rattle.std.specs.Prelude.{Some}
 use Rattle.base.specs.declared.fault.Fault.{Fault}
 use Rattle.outputs.specs.declared.summary.Summary.{Summary}
 use Rattle.scenario_files.proofs.Held.{each_err, each_ok, told_done, told_failed}
-use Rattle.run_command.specs.Outcomes.{StoresPaged, BreaksOffPaged}
+use Rattle.run_command.specs.Outcomes.{StoresPaged, BreaksOffPaged, EndsWithCause}
+use Rattle.run_command.proofs.Counted.{fresh_under, three_grew, three_kept, three_whole, told_whole}
 use Rattle.run_command.proofs.Paged.{first_of_three, paged_begun, paged_stored, second_of_three, third_of_three, three_others}
 use Rattle.run_command.proofs.paging.store_three.Goals as goal
 
@@ -27,11 +28,11 @@ returns-clause-done g c =
     subst (λ (name : List ℕ). StoresPaged s name release start end trace (Some report) page summary.rows) c.requires.named
     (paged_stored s c.args.shown.now.name.now release start end trace (Some report) page _ _ _ _ _ _
     (first_of_three start made one two end trace report page c.in-Ok.ensures.differ c.in-Ok.ensures.others c.close.ensures.others c.close-2.ensures.others c.close-3.ensures.others
-    _ _ _ c.in-Ok.ensures.empty c.in-Ok.ensures.made c.close.ensures.closed (ap holds c.into_inner.ensures))
+    _ _ c.in-Ok.ensures.empty c.in-Ok.ensures.made c.close.ensures.closed)
     (second_of_three start made one two end trace report page c.in-Ok.ensures.differ c.in-Ok.ensures.others c.close.ensures.others c.close-2.ensures.others c.close-3.ensures.others
-    _ _ _ c.in-Ok.ensures.empty_second c.in-Ok.ensures.made_second c.close-2.ensures.closed (ap holds c.into_inner-2.ensures))
+    _ _ c.in-Ok.ensures.empty_second (fresh_under holds (start report) _ _ c.new.ensures.writer c.in-Ok.ensures.made_second) c.close-2.ensures.closed)
     (third_of_three start made one two end trace report page c.in-Ok.ensures.differ c.in-Ok.ensures.others c.close.ensures.others c.close-2.ensures.others c.close-3.ensures.others
-    _ _ _ c.in-Ok.ensures.empty_third c.in-Ok.ensures.made_third c.close-3.ensures.closed (ap holds c.into_inner-3.ensures))
+    _ _ c.in-Ok.ensures.empty_third c.in-Ok.ensures.made_third c.close-3.ensures.closed)
     (three_others start made one two end trace report page c.in-Ok.ensures.differ c.in-Ok.ensures.others c.close.ensures.others c.close-2.ensures.others c.close-3.ensures.others)
     summary.rows writes)))
 
@@ -50,17 +51,31 @@ returns-clause-failed g c =
     let page = c.args.page.now in
     let s = c.args.prepared.now.scenario in
     let release = c.args.shown.now.release.now in
+    let refused = g.F.Files.refused in
     let ends_by = g.M.Simulator.ends_by c.args.prepared.now.scenario c.args.prepared.now.workers in
+    let ends = EndsWithCause (refused c.args.files.now < refused c.close-3.new.self) ends_by in
     told_failed _ run.result.3 c.run_told.result c.run_told.ensures (each_err run.result.3 run.ensures.beginning (λ cause is begins. (
       c.in-Ok.ensures.apart,
-      subst (λ (name : List ℕ). BreaksOffPaged ends_by s name release start end trace (Some report) page cause) c.requires.named
+      subst (λ (name : List ℕ). BreaksOffPaged ends s name release start end trace (Some report) page cause) c.requires.named
           (paged_begun s c.args.shown.now.name.now release start end trace (Some report) page _ _ _ _ _ _
           (first_of_three start made one two end trace report page c.in-Ok.ensures.differ c.in-Ok.ensures.others c.close.ensures.others c.close-2.ensures.others c.close-3.ensures.others
-          _ _ _ c.in-Ok.ensures.empty c.in-Ok.ensures.made c.close.ensures.closed (ap holds c.into_inner.ensures))
+          _ _ c.in-Ok.ensures.empty c.in-Ok.ensures.made c.close.ensures.closed)
           (second_of_three start made one two end trace report page c.in-Ok.ensures.differ c.in-Ok.ensures.others c.close.ensures.others c.close-2.ensures.others c.close-3.ensures.others
-          _ _ _ c.in-Ok.ensures.empty_second c.in-Ok.ensures.made_second c.close-2.ensures.closed (ap holds c.into_inner-2.ensures))
+          _ _ c.in-Ok.ensures.empty_second (fresh_under holds (start report) _ _ c.new.ensures.writer c.in-Ok.ensures.made_second) c.close-2.ensures.closed)
           (third_of_three start made one two end trace report page c.in-Ok.ensures.differ c.in-Ok.ensures.others c.close.ensures.others c.close-2.ensures.others c.close-3.ensures.others
-          _ _ _ c.in-Ok.ensures.empty_third c.in-Ok.ensures.made_third c.close-3.ensures.closed (ap holds c.into_inner-3.ensures))
+          _ _ c.in-Ok.ensures.empty_third c.in-Ok.ensures.made_third c.close-3.ensures.closed)
           (three_others start made one two end trace report page c.in-Ok.ensures.differ c.in-Ok.ensures.others c.close.ensures.others c.close-2.ensures.others c.close-3.ensures.others)
-          ends_by cause (subst (λ (r : Result Summary Fault). IfErr r ends_by) is run.ensures.cause) begins (λ e. run.ensures.worn (is ∙ ap Err e))),
+          ends cause (
+            subst (λ (r : Result Summary Fault). IfErr r ends_by) is run.ensures.cause,
+            λ e. three_grew _ _ _ _ _ _ _ _ _ c.in-Ok.ensures.counted c.close.ensures.refused c.close-2.ensures.refused c.close-3.ensures.refused
+                (run.ensures.write (is ∙ ap Err e)),
+          ) begins (λ e. run.ensures.worn (is ∙ ap Err e))),
     )))
+
+pub returns-clause-whole : goal.returns-clause-whole
+returns-clause-whole g c =
+    let run = c.simulate_with_page-made_trace in
+    told_whole _ _ run.result.3 c.run_told.result c.run_told.ensures
+    (three_whole _ _ _ run.result.3 run.ensures.whole run.ensures.whole_report run.ensures.whole_page)
+    (λ none. three_kept _ _ _ _ _ _ _ _ c.in-Ok.ensures.counted c.close.ensures.refused c.close-2.ensures.refused c.close-3.ensures.refused
+    (none.0, none.1 ∙ c.new.ensures.failures, none.2))
