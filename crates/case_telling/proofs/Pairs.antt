@@ -35,25 +35,23 @@ module _ (first second : Text) (start made between end : Shelf) (apart : IfSome 
   others_kept other differs far = second_closed other far ∙ (first_closed other differs ∙ both_made other differs far)
 
   -- the first holds what was written to it
-  module _ (old new held : Option (List ℕ)) (empty : HoldsNow (start first) (made first) []) (fresh : IfSome (start first) (λ _. old ≡ Some []))
-      (closed : ClosesAs (made first) (between first) held) (same : held ≡ new) where
+  module _ (old new : Option (List ℕ)) (empty : HoldsNow (start first) (made first) []) (fresh : IfSome (start first) (λ _. old ≡ Some []))
+      (closed : ClosesAs (made first) (between first) new) where
     pub first_holds : (text : List ℕ) → Appends old new text → HoldsNow (start first) (end first) text
     first_holds text written =
         known_or (start first) (λ _. end first ≡ Some (Some text)) apart
-        (λ differs. holds_text (start first) (made first) (end first) old new text empty fresh written
-        (first_closes new differs (subst (λ h. ClosesAs (made first) (between first) h) same closed)))
+        (λ differs. holds_text (start first) (made first) (end first) old new text empty fresh written (first_closes new differs closed))
 
     pub first_begins : (text : List ℕ) → AppendsBeginning old new text → HoldsBeginning (start first) (end first) text
     first_begins text begins = record { front = begins.front; rest = begins.rest; whole = begins.whole; written = first_holds begins.front begins.appends }
 
   -- and so does the second
-  module _ (old new held : Option (List ℕ)) (empty : HoldsNow (start second) (made second) []) (fresh : IfSome (start second) (λ _. old ≡ Some []))
-      (closed : ClosesAs (between second) (end second) held) (same : held ≡ new) where
+  module _ (old new : Option (List ℕ)) (empty : HoldsNow (start second) (made second) []) (fresh : IfSome (start second) (λ _. old ≡ Some []))
+      (closed : ClosesAs (between second) (end second) new) where
     pub second_holds : (text : List ℕ) → Appends old new text → HoldsNow (start second) (end second) text
     second_holds text written =
         known_or (start second) (λ _. end second ≡ Some (Some text)) apart_too
-        (λ differs. holds_text (start second) (made second) (end second) old new text empty fresh written
-        (second_closes new differs (subst (λ h. ClosesAs (between second) (end second) h) same closed)))
+        (λ differs. holds_text (start second) (made second) (end second) old new text empty fresh written (second_closes new differs closed))
 
     pub second_begins : (text : List ℕ) → AppendsBeginning old new text → HoldsBeginning (start second) (end second) text
     second_begins text begins = record { front = begins.front; rest = begins.rest; whole = begins.whole; written = second_holds begins.front begins.appends }

@@ -1,8 +1,8 @@
 //! The page of the cases of a sweep.
-ghost use Rattle.std.specs.Prelude.{◌≡◌, ◌<◌, ◌^◌, IfOk, OnOk, OnErr, length, string_bytes};
+ghost use Rattle.std.specs.Prelude.{◌≡◌, ◌<◌, ◌^◌, ◌+◌, IfOk, OnOk, OnErr, length, string_bytes};
 ghost use Rattle.std.specs.Io.KnownBytes.{Appends};
 ghost use Rattle.cases.specs.Sweep.{case_count};
-ghost use Rattle.trace.specs.Sinks.{AppendsBeginning};
+ghost use Rattle.trace.specs.Sinks.{AppendsBeginning, failure_if_stopped};
 ghost use Rattle.case_telling.specs.Telling.{IsSweepPage, front_of};
 
 use answers::is_on_front;
@@ -44,6 +44,7 @@ pub fn put_text<U: Sink>(text: &[u8], out: &mut U) -> Result<(), Stopped>
     requires countable { U.failed out.old < 2 ^ 63 }
     ensures whole { OnOk result (Appends (U.held out.old) (U.held out.new) text.now) }
     ensures part { OnErr result (AppendsBeginning (U.held out.old) (U.held out.new) text.now) }
+    ensures failures { U.failed out.new ≡ U.failed out.old + failure_if_stopped result }
 {
     put_all(text, out)?;
     out.flush()

@@ -1,5 +1,5 @@
 -- A piece that was cut off goes on as the piece that it is.
-use Rattle.std.proofs.Common.{◌≡◌, ◌⊎◌, ◌<◌, ◌≤◌, ◌+◌, ◌-◌, ℕ, zero, suc, Bool, true, List, [], ◌∷◌, ◌++◌, inl, inr, length, take, drop, lit<, arith, refl, sym, ap, subst, ◌∙◌, append_assoc, min}
+use Rattle.std.proofs.Common.{◌≡◌, ◌⊎◌, ◌≤◌, ◌+◌, ◌-◌, ℕ, zero, suc, Bool, List, [], ◌∷◌, ◌++◌, inl, inr, length, take, drop, lit<, arith, refl, sym, ap, subst, ◌∙◌, append_assoc}
 use Rattle.std.specs.Prelude.{Option, All}
 use Rattle.std.specs.List.{AllZip, flat_map}
 use Rattle.std.specs.Io.KnownBytes.{Appends}
@@ -10,20 +10,21 @@ use Rattle.std.proofs.lemmas.List.Elements.{All-head, All-tail}
 use Rattle.toml.specs.Data.{Data}
 use Rattle.cases.proofs.Words.{Lacks, cut_once}
 use Rattle.cases.specs.Sweep.{Sweep, run_count}
-use Rattle.figures.specs.Lines.{cells_joined}
 use Rattle.figures.specs.Notes.{note_text}
 use Rattle.pieces.specs.declared.piece.Piece.{Piece}
 use Rattle.pieces.specs.Pieces.{first_run, past_run}
 use Rattle.sweep.specs.Runs.{Made, AreMadeBetween, IsMadeAs, noted, runs_between, runs_of}
-use Rattle.sweep.specs.Table.{line_with, made_line, tells_revived}
+use Rattle.sweep.specs.Table.{noted_line, tells_revived}
 use Rattle.sweep.specs.Pieces.{WritesPiece, piece_header}
 use Rattle.sweep.specs.Resumed.{IsBegun, IsLong, IsOneLine, IsShort, RefusesBegun, WritesRest, fed}
 use Rattle.sweep.specs.declared.begun.BegunFault.TheVariants as begun_fault
 use Rattle.sweep.proofs.PieceCourse.{rest_is_whole}
 use Rattle.sweep.proofs.Steps.{zipped_long}
-use Rattle.joins.specs.Genuine.{IsCutPiece, IsTellable}
-use Rattle.joins.proofs.Bytes.{lacks_both, lacks_cons, note_lacks}
-use Rattle.joins.proofs.SameLines.{cells_lack, fields_of, line_is}
+use Rattle.noted_lines.specs.Made.{IsTellable}
+use Rattle.noted_lines.proofs.Bytes.{lacks_both, lacks_cons, note_lacks}
+use Rattle.noted_lines.proofs.MadeLines.{line_from, line_in_piece, line_sound}
+use Rattle.noted_lines.proofs.Read.{zipped_both}
+use Rattle.joins.specs.Genuine.{IsCutPiece}
 
 -- of two texts with which one text begins, one begins with the other
 either : (text rest header table : List ℕ) → text ++ rest ≡ header ++ table → ((more : List ℕ) × (text ≡ header ++ more)) ⊎ ((more : List ℕ) × (header ≡ text ++ more))
@@ -46,35 +47,26 @@ zipped_first R [] (y ∷ ys) (suc n) all = absurd all
 zipped_first R (x ∷ xs) [] (suc n) all = absurd all
 zipped_first R (x ∷ xs) (y ∷ ys) (suc n) all = (all.0, zipped_first R xs ys n all.1)
 
-pub zipped_both : {X Y : Type 0} (R : X → Y → Type 0) (xs zs : List X) (ys ws : List Y) → AllZip R xs ys → AllZip R zs ws → AllZip R (xs ++ zs) (ys ++ ws)
-zipped_both R [] zs [] ws a b = b
-zipped_both R [] zs (y ∷ ys) ws a b = absurd a
-zipped_both R (x ∷ xs) zs [] ws a b = absurd a
-zipped_both R (x ∷ xs) zs (y ∷ ys) ws a b = (a.0, zipped_both R xs zs ys ws a.1 b)
-
 -- whole lines with which the lines of some runs begin are those of the first of them
 pub record AreFirst (revived : Bool) (bodies : List (List ℕ)) (made : List Made) : Type 0 where
   pub fit : length bodies ≤ length made
-  pub same : fed bodies ≡ flat_map (line_with revived true) (take (length bodies) made)
+  pub same : fed bodies ≡ flat_map (noted_line revived) (take (length bodies) made)
 
 module _ (revived : Bool) where
   abbrev line : Made → List ℕ
-  line = line_with revived true
+  line = noted_line revived
 
   -- the line of a run without its line feed
   abbrev body_of : Made → List ℕ
-  body_of m = note_text (noted m) ++ 44 ∷ cells_joined (fields_of revived m)
+  body_of m = note_text (noted m) ++ 44 ∷ (line_from revived m).body
 
   line_cut : (m : Made) → line m ≡ body_of m ++ 10 ∷ []
-  line_cut m =
-      let cells = cells_joined (fields_of revived m) in
-      append_assoc (note_text (noted m)) (44 ∷ []) (made_line revived m) ∙ ap (λ l. note_text (noted m) ++ 44 ∷ l) (line_is revived m)
-      ∙ sym (append_assoc (note_text (noted m)) (44 ∷ cells) (10 ∷ []))
+  line_cut m = sym (line_in_piece revived m) ∙ sym (append_assoc (note_text (noted m)) (44 ∷ (line_from revived m).body) (10 ∷ []))
 
   body_lacks : (m : Made) → IsTellable m → Lacks 10 (body_of m)
   body_lacks m told =
-      let cells = cells_joined (fields_of revived m) in
-      lacks_both 10 (note_text (noted m)) (44 ∷ cells) (note_lacks 10 (lit< tt) refl (noted m) told.note) (lacks_cons 10 44 cells refl (cells_lack revived m told))
+      let cells = (line_from revived m).body in
+      lacks_both 10 (note_text (noted m)) (44 ∷ cells) (note_lacks 10 (lit< tt) refl (noted m) told.note) (lacks_cons 10 44 cells refl (line_sound revived m told).one)
 
   no_text : (b x : List ℕ) → (b ++ 10 ∷ []) ++ x ≡ [] → ⊥
   no_text [] x same = cc
@@ -122,21 +114,21 @@ module _ (tree : Data) (mark : List ℕ) (sweep : Sweep) (p : Piece) (made : Lis
   first_of : (lines : List ℕ) (runs : ℕ) (long : IsLong header text lines runs) → AreFirst revived long.are.bodies made
   first_of lines runs long =
       let whole = long.are in
-      let table = flat_map (line_with revived true) made in
+      let table = flat_map (noted_line revived) made in
       let body : long.rest ++ cut.rest ≡ table =
       append_cancel_left header (long.rest ++ cut.rest) table (sym (append_assoc header long.rest cut.rest) ∙ ap (λ l. l ++ cut.rest) (sym long.written) ∙ cut.written) in
       let start : fed whole.bodies ++ (whole.torn ++ cut.rest) ≡ table =
       sym (append_assoc (fed whole.bodies) whole.torn cut.rest) ∙ ap (λ l. (l ++ whole.torn) ++ cut.rest) (sym whole.are) ∙ ap (λ l. l ++ cut.rest) (sym whole.written) ∙ body in
       first_lines revived whole.bodies made (whole.torn ++ cut.rest) whole.one cut.told start
 
-  pub going_on : (lines : List ℕ) (runs : ℕ) (old new : Option (List ℕ)) → IsBegun revived mark sweep p text lines runs → WritesRest tree sweep mark p lines runs old new
-      → WritesPiece tree sweep mark p old new
+  pub going_on : (lines : List ℕ) (runs : ℕ) (old new : Option (List ℕ)) → IsBegun revived mark sweep p text lines runs → WritesRest tree mark sweep p lines runs old new
+      → WritesPiece tree mark sweep p old new
   going_on lines runs old new begun writes = by begun.begun
     where
-      by : IsShort header text lines runs ⊎ IsLong header text lines runs → WritesPiece tree sweep mark p old new
-      by (inl short) = rest_is_whole tree sweep mark p lines old new short.none (subst (λ n. WritesRest tree sweep mark p lines n old new) short.no_run writes)
+      by : IsShort header text lines runs ⊎ IsLong header text lines runs → WritesPiece tree mark sweep p old new
+      by (inl short) = rest_is_whole tree sweep mark p lines old new short.none (subst (λ n. WritesRest tree mark sweep p lines n old new) short.no_run writes)
       by (inr long) =
-          let made_lines : Made → List ℕ = line_with revived true in
+          let made_lines : Made → List ℕ = noted_line revived in
           let its = first_of lines runs long in
           let before : lines ≡ flat_map made_lines (take runs made) = long.are.are ∙ its.same ∙ ap (λ n. flat_map made_lines (take n made)) long.are.all in
           let text_is : (header ++ lines) ++ flat_map made_lines writes.made ≡ header ++ flat_map made_lines (take runs made ++ writes.made) =
@@ -149,7 +141,7 @@ module _ (tree : Data) (mark : List ℕ) (sweep : Sweep) (p : Piece) (made : Lis
           }
 
   pub taken_for_one : RefusesBegun revived mark sweep p text begun_fault.Other → ⊥
-  taken_for_one (inl apart) = on (either text cut.rest header (flat_map (line_with revived true) made) cut.written)
+  taken_for_one (inl apart) = on (either text cut.rest header (flat_map (noted_line revived) made) cut.written)
     where
       on : ((more : List ℕ) × (text ≡ header ++ more)) ⊎ ((more : List ℕ) × (header ≡ text ++ more)) → ⊥
       on (inl it) = apart.no_more it.0 it.1

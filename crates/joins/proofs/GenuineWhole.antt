@@ -1,141 +1,150 @@
 -- Pieces of a sweep that was made, put together, are the whole.
-use Rattle.std.proofs.Common.{◌≡◌, ◌<◌, ◌≤◌, ◌+◌, ◌-◌, ◌*◌, ◌/◌, ℕ, zero, suc, Bool, true, List, [], ◌++◌, sym, ap, subst, refl, ◌∙◌, append_assoc, length, length-drop, map, take, drop, arith}
-use Rattle.std.specs.Prelude.{Option, None, All, Vec}
-use Rattle.std.specs.List.{flat_map}
+use Rattle.std.proofs.Common.{◌≡◌, ◌∙◌, ◌<◌, ℕ, Bool, List, ◌++◌, length, sym, ap, subst, arith}
+use Rattle.std.specs.Prelude.{Option, Some, None, All, Vec}
+use Rattle.std.specs.List.{AllZip, flat_map, range_with_len}
 use Rattle.std.specs.declared.alloc.Global.{Global}
-use Rattle.std.specs.Io.KnownBytes.{Appends}
-use Rattle.std.proofs.Math.Seq.{take-add, length-take-le}
-use Rattle.std.proofs.lemmas.List.{append_cancel_left, map-append, take_all}
-use Rattle.std.proofs.lemmas.List.Concat.{flat_map-append}
-use Rattle.std.proofs.lemmas.List.Elements.{All-drop, All-take}
+use Rattle.std.proofs.lemmas.List.{length-map}
+use Rattle.std.proofs.lemmas.List.FromFn.{length-range_with_len}
 use Rattle.toml.specs.Data.{Data}
 use Rattle.cases.specs.Sweep.{Sweep, case_count, run_count, seed_count}
-use Rattle.figures.specs.Lines.{header_line}
 use Rattle.figures.specs.declared.summary.CaseSummary.{CaseSummary}
 use Rattle.pieces.specs.declared.piece.Piece.{Piece}
-use Rattle.pieces.specs.Pieces.{IsPiece, first_run, past_run}
-use Rattle.pieces.proofs.Bounds.{share_grows, share_within, whole_share}
-use Rattle.sweep.specs.Runs.{Made, IsAskedFor, noted}
-use Rattle.sweep.specs.Table.{line_with, made_line, names_of, tells_revived}
+use Rattle.pieces.specs.Pieces.{IsPiece, whole}
+use Rattle.sweep.specs.Runs.{Made, IsAskedFor}
+use Rattle.sweep.specs.Table.{noted_line, tells_revived}
 use Rattle.sweep.specs.Summaries.{SumUp}
 use Rattle.sweep.specs.Pieces.{piece_header}
-use Rattle.joins.specs.Lines.{Line, IsLine, piece_line, plain_line, notes_of}
+use Rattle.sweep.proofs.Steps.{zipped_long}
+use Rattle.sweep_until.specs.Until.{AreMadeUntil, IsMadeUntil, all_of}
+use Rattle.noted_lines.specs.Lines.{Line, IsLine, notes_of, piece_line}
+use Rattle.noted_lines.specs.Cases.{IsCase, SumsUpLines, piece_case}
+use Rattle.noted_lines.specs.Made.{IsTellable}
+use Rattle.noted_lines.proofs.MadeLines.{case_from, case_in_piece, case_noted, cases_from, cases_in_piece, cases_sound, lines_sound, sums_so}
+use Rattle.noted_lines.proofs.OneCase.{same_case}
+use Rattle.noted_lines.proofs.OneLine.{same_line}
 use Rattle.joins.specs.Among.{IsAmongTexts, piece_at}
-use Rattle.joins.specs.Joined.{AreOf, AreOfRuns, IsMark, Joins, lines_between}
-use Rattle.joins.specs.Genuine.{ArePieces, IsTellable, IsWhole}
-use Rattle.joins.proofs.GenuineHeads.{body_there, one_column, one_sweep, the_piece}
-use Rattle.joins.proofs.PiecesMore.{no_share}
-use Rattle.joins.proofs.SameLines.{AreSameLines, same_lines}
+use Rattle.joins.specs.Behind.{share_of}
+use Rattle.joins.specs.Joined.{AreOf, IsMark, Joins}
+use Rattle.joins.specs.Genuine.{ArePieces, ArePiecesOfCases, IsWhole, IsWholeUntil}
+use Rattle.joins.proofs.GenuineHeads.{body_there, one_column, one_sweep, whole_put}
+use Rattle.joins.proofs.Shares.{all_behind, same_things, share_map}
 
-abbrev made_between : List Made → ℕ → ℕ → List Made
-made_between made from till = take (till - from) (drop from made)
-
-module _ (texts : List (Vec ℕ Global)) (old new : Option (List ℕ)) (own : Sweep) (told_so : Bool) (cases : List CaseSummary) (mark : List ℕ) (tree : Data) (sweep : Sweep) (of : ℕ)
-    (made : List Made) (joins : Joins texts old new own told_so cases) (marked : IsMark mark) (asked : IsAskedFor sweep) (none : sweep.until ≡ None) (long : length made ≡ run_count sweep)
-    (told : All IsTellable made) (genuine : ArePieces tree texts mark sweep of made) where
+module _ (texts : List (Vec ℕ Global)) (old new : Option (List ℕ)) (own : Sweep) (told_so : Bool) (cases : List CaseSummary) (mark : List ℕ) (tree : Data) (sweep : Sweep)
+    (joins : Joins texts old new own told_so cases) (marked : IsMark mark) (asked : IsAskedFor sweep) where
   abbrev revived : Bool
   revived = tells_revived tree
 
-  -- what stands behind the first line of a piece that was made
-  abbrev body : Piece → List ℕ
-  body q = flat_map (line_with revived true) (made_between made (first_run q (run_count sweep)) (past_run q (run_count sweep)))
+  -- the texts are these
+  abbrev AreThese : (Piece → List ℕ) → Type 0
+  AreThese body = (text : List ℕ) → IsAmongTexts texts text → (q : Piece) × IsPiece q × (text ≡ piece_header revived mark sweep q ++ body q)
 
-  each_genuine : (text : List ℕ) → IsAmongTexts texts text → (q : Piece) × IsPiece q × (text ≡ piece_header revived mark sweep q ++ body q)
-  each_genuine text among = let its = genuine text among in (its.0, its.1, its.3)
+  -- what stands in them is of this sweep
+  are_of : (body : Piece → List ℕ) → AreThese body → (until : Option ℕ) → sweep.until ≡ until → AreOf until sweep joins.put.body cases
+  are_of body genuine until wanted =
+      subst (λ o. AreOf o sweep joins.put.body cases) wanted
+      (subst (λ (s : Sweep). AreOf s.until s joins.put.body cases) (one_sweep texts old new own told_so cases mark revived sweep joins marked asked body genuine) joins.put.are)
 
-  same_own : own ≡ sweep
-  same_own = one_sweep texts old new own told_so cases mark tree sweep joins marked asked body each_genuine
+  -- ---- each case with each seed
 
-  same_column : told_so ≡ revived
-  same_column = one_column texts old new own told_so cases mark tree sweep joins marked asked body each_genuine
+  module _ (of : ℕ) (made : List Made) (none : sweep.until ≡ None) (long : length made ≡ run_count sweep) (told : All IsTellable made) (genuine : ArePieces tree texts mark sweep of made) where
+    abbrev body : Piece → List ℕ
+    body q = flat_map (noted_line revived) (share_of (run_count sweep) q made)
 
-  are : AreOfRuns own joins.of joins.put.body joins.put.table cases
-  are = subst (λ o. AreOf o own joins.of joins.put.body joins.put.table cases) (ap (λ (s : Sweep). s.until) same_own ∙ none) joins.put.are
+    each_genuine : AreThese body
+    each_genuine text among = let its = genuine text among in (its.0, its.1, its.3)
 
-  abbrev lines : List Line
-  lines = are.lines
+    are : AreOf None sweep joins.put.body cases
+    are = are_of body each_genuine None none
 
-  abbrev runs : ℕ
-  runs = run_count own
+    abbrev lines : List Line
+    lines = case_from revived made
 
-  counted : length made ≡ runs
-  counted = long ∙ sym (ap run_count same_own)
+    lines_there : (number : ℕ) → number < joins.of → joins.put.body (piece_at number joins.of) ≡ flat_map piece_line (share_of (run_count sweep) (piece_at number joins.of) lines)
+    lines_there number within =
+        let p = piece_at number joins.of in
+        body_there texts old new own told_so cases mark revived sweep joins marked asked body each_genuine number within
+        ∙ sym (case_in_piece revived (share_of (run_count sweep) p made)) ∙ ap (flat_map piece_line) (sym (share_map _ (run_count sweep) p made))
 
-  -- so its lines are those of the runs
-  abbrev first_of : ℕ → ℕ
-  first_of number = first_run (piece_at number joins.of) runs
+    some : 0 < joins.of
+    some = omega (arith, joins.some)
 
-  abbrev past_of : ℕ → ℕ
-  past_of number = past_run (piece_at number joins.of) runs
+    many : length lines ≡ run_count sweep
+    many = length-map made _ ∙ long
 
-  lines_there : (number : ℕ) → number < joins.of
-      → flat_map piece_line (lines_between lines (first_of number) (past_of number)) ≡ flat_map (line_with revived true) (made_between made (first_of number) (past_of number))
-  lines_there number within =
-      let p = piece_at number joins.of in
-      let sound = the_piece texts old new own told_so cases mark tree sweep joins marked asked body each_genuine number within in
-      sym (are.behind p sound refl) ∙ body_there texts old new own told_so cases mark tree sweep joins marked asked body each_genuine number within
-      ∙ ap (λ n. flat_map (line_with revived true) (made_between made (first_run p n) (past_run p n))) (sym (ap run_count same_own))
+    same : are.things ≡ lines
+    same = same_things IsLine piece_line same_line (run_count sweep) _ joins.put.body are joins.of some joins.few lines (lines_sound revived made told) many lines_there
 
-  between_long : {X : Type 0} (xs : List X) (from till : ℕ) → till ≤ length xs → length (take (till - from) (drop from xs)) ≡ till - from
-  between_long xs from till le = length-take-le (till - from) (drop from xs) (omega (arith, le, length-drop from xs))
+    table : joins.put.body whole ≡ flat_map (noted_line revived) made
+    table =
+        all_behind IsLine piece_line same_line (run_count sweep) _ joins.put.body are joins.of some joins.few lines (lines_sound revived made told) many lines_there
+        ∙ case_in_piece revived made
 
-  past_within : (number : ℕ) → number < joins.of → past_of number ≤ runs
-  past_within number within = share_within (number + 1) joins.of runs (omega (arith, within)) (omega (arith, within))
+    pub whole_of : IsWhole tree mark sweep made old new own told_so cases
+    whole_of =
+        let one = one_sweep texts old new own told_so cases mark revived sweep joins marked asked body each_genuine in
+        record {
+          same = one;
+          column = one_column texts old new own told_so cases mark revived sweep joins marked asked body each_genuine;
+          written = whole_put texts old new own told_so cases mark revived sweep joins marked asked body each_genuine _ table;
+          each = joins.put.each ∙ ap (λ (s : Sweep). case_count s.settings) one;
+          summed = subst (λ notes. SumUp (seed_count sweep.seeds) notes cases) (ap notes_of same ∙ case_noted revived made) are.holds;
+        }
 
-  same_there : (number : ℕ) → number < joins.of → AreSameLines revived (lines_between lines (first_of number) (past_of number)) (made_between made (first_of number) (past_of number))
-  same_there number within =
-      let le = past_within number within in
-      same_lines revived _ _ (All-take IsLine (past_of number - first_of number) (drop (first_of number) lines) (All-drop IsLine (first_of number) lines are.sound))
-      (All-take IsTellable (past_of number - first_of number) (drop (first_of number) made) (All-drop IsTellable (first_of number) made told))
-      (between_long lines (first_of number) (past_of number) (omega (arith, le, are.all)) ∙ sym (between_long made (first_of number) (past_of number) (omega (arith, le, counted))))
-      (lines_there number within)
+  -- ---- cases of as many runs as are enough
 
-  -- the first pieces have the lines of the first runs
-  abbrev upto : ℕ → ℕ
-  upto count = count * runs / joins.of
+  module _ (width of : ℕ) (made : List (List Made)) (wanted : sweep.until ≡ Some width) (makes : AreMadeUntil tree sweep width (case_count sweep.settings) made)
+      (told : All (All IsTellable) made) (genuine : ArePiecesOfCases tree texts mark sweep of made) where
+    abbrev body_of_cases : Piece → List ℕ
+    body_of_cases q = flat_map (noted_line revived) (all_of (share_of (case_count sweep.settings) q made))
 
-  same_first : (count : ℕ) → count ≤ joins.of → AreSameLines revived (take (upto count) lines) (take (upto count) made)
-  same_first zero le =
-      let none : upto 0 ≡ 0 = no_share joins.of runs (omega (arith, joins.some)) in
-      subst (λ n. AreSameLines revived (take n lines) (take n made)) (sym none) (record { table = refl; notes = refl })
-  same_first (suc number) le =
-      let so = same_first number (omega (arith, le)) in
-      let within : number < joins.of = omega (arith, le) in
-      let here = same_there number within in
-      let less : number + 1 - 1 ≡ number = omega arith in
-      let next : number + 1 ≡ suc number = omega arith in
-      let first : first_of number ≡ upto number = ap (λ n. n * runs / joins.of) less in
-      let past : past_of number ≡ upto (suc number) = ap (λ n. n * runs / joins.of) next in
-      let grows : upto number ≤ upto (suc number) = share_grows number (suc number) joins.of runs (omega arith) (omega (arith, joins.some)) in
-      let sum : upto number + (past_of number - first_of number) ≡ upto (suc number) = omega (arith, first, past, grows) in
-      let cut_lines : take (upto (suc number)) lines ≡ take (upto number) lines ++ lines_between lines (first_of number) (past_of number) =
-      ap (λ n. take n lines) (sym sum) ∙ take-add (upto number) (past_of number - first_of number) lines
-      ∙ ap (λ n. take (upto number) lines ++ take (past_of number - first_of number) (drop n lines)) (sym first) in
-      let cut_made : take (upto (suc number)) made ≡ take (upto number) made ++ made_between made (first_of number) (past_of number) =
-      ap (λ n. take n made) (sym sum) ∙ take-add (upto number) (past_of number - first_of number) made
-      ∙ ap (λ n. take (upto number) made ++ take (past_of number - first_of number) (drop n made)) (sym first) in
-      record {
-        table = ap (flat_map plain_line) cut_lines ∙ flat_map-append plain_line (take (upto number) lines) (lines_between lines (first_of number) (past_of number))
-            ∙ (λ i. so.table i ++ here.table i) ∙ sym (flat_map-append (made_line revived) (take (upto number) made) (made_between made (first_of number) (past_of number)))
-            ∙ ap (flat_map (made_line revived)) (sym cut_made);
-        notes = ap notes_of cut_lines ∙ map-append (λ (l : Line). l.note) (take (upto number) lines) (lines_between lines (first_of number) (past_of number))
-            ∙ (λ i. so.notes i ++ here.notes i) ∙ sym (map-append noted (take (upto number) made) (made_between made (first_of number) (past_of number)))
-            ∙ ap (map noted) (sym cut_made);
-      }
+    each_of_cases : AreThese body_of_cases
+    each_of_cases text among = let its = genuine text among in (its.0, its.1, its.3)
 
-  same_all : AreSameLines revived lines made
-  same_all =
-      let all : upto joins.of ≡ runs = whole_share joins.of runs (omega (arith, joins.some)) in
-      let every_line : take (upto joins.of) lines ≡ lines = take_all (upto joins.of) lines (omega (arith, all, are.all)) in
-      let every_run : take (upto joins.of) made ≡ made = take_all (upto joins.of) made (omega (arith, all, counted)) in
-      subst (λ l. AreSameLines revived l made) every_line (subst (AreSameLines revived (take (upto joins.of) lines)) every_run (same_first joins.of (omega arith)))
+    abbrev Own : List Line → Type 0
+    Own = IsCase width (seed_count sweep.seeds)
 
-  pub whole_of : IsWhole tree sweep made old new own told_so cases
-  whole_of = record {
-    same = same_own;
-    column = same_column;
-    written = subst (Appends old new) (λ i. header_line (same_column i) (names_of (same_own i).settings) ++ (are.laid ∙ same_all.table) i) joins.put.written;
-    each = joins.put.each ∙ ap (λ (s : Sweep). case_count s.settings) same_own;
-    summed = subst (λ (s : Sweep). SumUp (seed_count s.seeds) (map noted made) cases) same_own
-        (subst (λ notes. SumUp (seed_count own.seeds) notes cases) same_all.notes are.summed);
-  }
+    are_cases : AreOf (Some width) sweep joins.put.body cases
+    are_cases = are_of body_of_cases each_of_cases (Some width) wanted
+
+    abbrev true_cases : List (List Line)
+    true_cases = cases_from revived made
+
+    cases_there : (number : ℕ) → number < joins.of → joins.put.body (piece_at number joins.of) ≡ flat_map piece_case (share_of (case_count sweep.settings) (piece_at number joins.of) true_cases)
+    cases_there number within =
+        let p = piece_at number joins.of in
+        let total = case_count sweep.settings in
+        body_there texts old new own told_so cases mark revived sweep joins marked asked body_of_cases each_of_cases number within
+        ∙ sym (cases_in_piece revived (share_of total p made)) ∙ ap (flat_map piece_case) (sym (share_map _ total p made))
+
+    some_pieces : 0 < joins.of
+    some_pieces = omega (arith, joins.some)
+
+    many_cases : length true_cases ≡ case_count sweep.settings
+    many_cases =
+        length-map made _ ∙ sym (zipped_long (IsMadeUntil tree sweep width) (range_with_len 0 (case_count sweep.settings)) made makes)
+        ∙ length-range_with_len 0 (case_count sweep.settings)
+
+    true_sound : All Own true_cases
+    true_sound = cases_sound revived tree sweep width (range_with_len 0 (case_count sweep.settings)) made makes told
+
+    same_cases : are_cases.things ≡ true_cases
+    same_cases =
+        same_things Own piece_case (same_case width (seed_count sweep.seeds)) (case_count sweep.settings) _ joins.put.body are_cases joins.of some_pieces joins.few true_cases true_sound
+        many_cases cases_there
+
+    table_of_cases : joins.put.body whole ≡ flat_map (noted_line revived) (all_of made)
+    table_of_cases =
+        all_behind Own piece_case (same_case width (seed_count sweep.seeds)) (case_count sweep.settings) _ joins.put.body are_cases joins.of some_pieces joins.few true_cases true_sound
+        many_cases cases_there ∙ cases_in_piece revived made
+
+    pub whole_of_cases : IsWholeUntil tree mark sweep width old new own told_so cases
+    whole_of_cases = record {
+      same = one_sweep texts old new own told_so cases mark revived sweep joins marked asked body_of_cases each_of_cases;
+      column = one_column texts old new own told_so cases mark revived sweep joins marked asked body_of_cases each_of_cases;
+      makes = record {
+        made = made;
+        are = makes;
+        written = whole_put texts old new own told_so cases mark revived sweep joins marked asked body_of_cases each_of_cases _ table_of_cases;
+        told = sums_so revived made cases (subst (λ own. AllZip SumsUpLines own cases) same_cases are_cases.holds);
+      };
+    }

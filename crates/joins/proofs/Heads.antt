@@ -1,20 +1,20 @@
 -- What the name of a piece tells is that piece, of that sweep.
 use Rattle.std.proofs.Common.{◌≡◌, ◌<◌, ◌≤◌, ◌==◌, ◌^◌, ℕ, Bool, true, false, suc, List, [], ◌∷◌, ◌++◌, map, length, length-drop, get_or, take, drop, ◌-◌, codes, decimal, lit<, arith, refl, sym, ap, subst, ◌∙◌}
-use Rattle.std.specs.Prelude.{Option, Some, None, All, Result, Ok, Err, IfOk, IfErr, bytes_eq, option_map, if◌then◌else◌}
+use Rattle.std.specs.Prelude.{Option, Some, None, Result, Ok, Err, IfOk, IfErr, bytes_eq, if◌then◌else◌}
 use Rattle.std.specs.Borrow.{Bor}
 use Rattle.std.specs.Option.{ForSome, MatchOption}
 use Rattle.std.proofs.lemmas.Str.Pattern.{IsSplitOnceResult, split_after, split_parts}
-use Rattle.std.specs.List.{flat_map, slice_split, join_with_byte}
+use Rattle.std.specs.List.{slice_split}
 use Rattle.std.proofs.lemmas.Fmt.{decimal_injective}
 use Rattle.std.proofs.lemmas.List.{append_cancel_left, length-map, take_all}
 use Rattle.decimals.specs.Numbers.{IsDecimal}
-use Rattle.cases.specs.Sweep.{KeyValues, Sweep}
-use Rattle.cases.specs.Asked.{AreSettings, AsksForSeeds, IsSweepOf, IsWidth, RefusesSweep, seeds_text, setting_text}
+use Rattle.cases.specs.Sweep.{Sweep}
+use Rattle.cases.specs.Asked.{AsksForSeeds, IsSweepOf, IsWidth, RefusesSweep, seeds_text, setting_text}
 use Rattle.cases.specs.declared.fault.PlanFault.{PlanFault}
 use Rattle.cases.specs.declared.fault.PlanFault.TheVariants as unread
 use Rattle.cases.specs.declared.seeds.Seeds.{Seeds}
 use Rattle.cases.proofs.Names.{bytes_eq_false}
-use Rattle.cases.proofs.Words.{Lacks, cut_once, decimal_lacks, joined_split, unlike}
+use Rattle.cases.proofs.Words.{cut_once, decimal_lacks, joined_split, unlike}
 use Rattle.pieces.specs.declared.piece.Piece.{Piece}
 use Rattle.pieces.specs.Pieces.{IsPiece, IsPieceWord, piece_text}
 use Rattle.pieces.specs.Names.{plan_text, seeds_word}
@@ -22,7 +22,7 @@ use Rattle.sweep.specs.Runs.{IsAskedFor}
 use Rattle.sweep.specs.Pieces.{piece_header}
 use Rattle.joins.specs.Joined.{IsMark}
 use Rattle.joins.specs.Reasons.{BeginsAs, BeginsAsNone, RefusesName, SaysWidth}
-use Rattle.joins.proofs.Bytes.{lacks_from_test}
+use Rattle.noted_lines.proofs.Bytes.{lacks_from_test}
 use Rattle.joins.proofs.SameSweep.{joined_is, no_dash, no_setting_says, same_rest, same_seeds, same_settings, until_words, words_lack, words_of}
 
 -- the piece of a word is one

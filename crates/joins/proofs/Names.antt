@@ -1,6 +1,6 @@
 -- The name with which a text begins that is a piece.
-use Rattle.std.proofs.Common.{◌≡◌, ◌<◌, ◌==◌, ℕ, Bool, false, List, [], ◌∷◌, ◌++◌, length, get_or, decimal, lit<, arith, refl, sym, ap, subst, ◌∙◌, append_assoc, take, drop, take_at, is_some}
-use Rattle.std.specs.Prelude.{Option, Some, None, All, IfSome}
+use Rattle.std.proofs.Common.{◌≡◌, ◌<◌, ◌==◌, ℕ, Bool, false, List, [], ◌∷◌, ◌++◌, length, decimal, lit<, arith, refl, sym, ap, subst, ◌∙◌, append_assoc, take, drop, take_at, is_some}
+use Rattle.std.specs.Prelude.{Option, Some, None, IfSome}
 use Rattle.std.specs.Borrow.{Bor}
 use Rattle.std.specs.Option.{MatchOption}
 use Rattle.std.proofs.lemmas.List.Elements.{All-drop, All-take}
@@ -13,10 +13,9 @@ use Rattle.pieces.specs.declared.piece.Piece.{Piece}
 use Rattle.pieces.specs.Pieces.{IsPiece, piece_text}
 use Rattle.pieces.specs.Names.{head_cell, piece_name, plan_text}
 use Rattle.sweep.specs.Table.{names_of}
-use Rattle.sweep.specs.Runs.{IsAskedFor}
 use Rattle.joins.specs.Joined.{IsMark}
 use Rattle.joins.specs.Reasons.{BeginsAs}
-use Rattle.joins.proofs.Bytes.{lacks_both, lacks_cons}
+use Rattle.noted_lines.proofs.Bytes.{lacks_both, lacks_cons}
 use Rattle.joins.proofs.SameSweep.{plan_lacks}
 
 abbrev Parted : Type 0

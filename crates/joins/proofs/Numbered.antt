@@ -1,8 +1,7 @@
 -- The piece of a sweep that a text is, by the number that it says.
-use Rattle.std.proofs.Common.{◌≡◌, ◌<◌, ◌≤◌, ◌+◌, ◌-◌, ℕ, Bool, List, ◌++◌, sym, subst, ap, ◌∙◌, arith}
+use Rattle.std.proofs.Common.{◌≡◌, ◌<◌, ◌≤◌, ◌+◌, ◌-◌, ℕ, Bool, List, ◌++◌, sym, subst, ◌∙◌, arith}
 use Rattle.cases.specs.Sweep.{Sweep}
 use Rattle.pieces.specs.declared.piece.Piece.{Piece}
-use Rattle.pieces.specs.Pieces.{IsPiece}
 use Rattle.sweep.specs.Pieces.{piece_header}
 use Rattle.sweep.specs.Runs.{IsAskedFor}
 use Rattle.joins.specs.declared.fault.JoinFault.{JoinFault}

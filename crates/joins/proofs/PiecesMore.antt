@@ -1,117 +1,135 @@
 -- The pieces of a sweep put together, one more at a time.
-use Rattle.std.proofs.Common.{◌≡◌, ◌<◌, ◌≤◌, ◌+◌, ◌-◌, ◌*◌, ◌/◌, ℕ, Bool, true, false, List, [], ◌∷◌, ◌++◌, sym, ap, subst, refl, ◌∙◌, append_assoc, append-nil, length, length-append, length-drop, map, take, drop, arith, div-lt_iff_lt-mul}
-use Rattle.std.specs.Prelude.{Option, All, Vec, nat_le}
-use Rattle.std.specs.List.{flat_map}
+use Rattle.std.proofs.Common.{◌≡◌, ◌∙◌, ◌<◌, ◌≤◌, ◌+◌, ◌*◌, ◌/◌, ℕ, Bool, true, false, List, [], ◌++◌, length, length-append, refl, sym, ap, subst, arith}
+use Rattle.std.specs.Prelude.{Option, Some, None, Vec, nat_le}
+use Rattle.std.specs.List.{AllZip, flat_map}
 use Rattle.std.specs.declared.alloc.Global.{Global}
 use Rattle.std.specs.Io.KnownBytes.{Appends}
-use Rattle.std.proofs.Math.Seq.{take-append-le, drop-append-le, drop_at}
 use Rattle.std.proofs.lemmas.Bool.Decides.{nat_tests}
-use Rattle.std.proofs.lemmas.List.{map-append, take_all}
+use Rattle.std.proofs.lemmas.List.{length-map, map-append}
 use Rattle.std.proofs.lemmas.List.Concat.{flat_map-append}
 use Rattle.std.proofs.lemmas.List.Elements.{All-append, All-nil}
-use Rattle.trace.proofs.Beginnings.{Appends-none, Appends-then, Appends-kept, Keeps-same}
-use Rattle.cases.specs.Sweep.{Sweep, run_count}
-use Rattle.figures.specs.Notes.{Note}
+use Rattle.trace.proofs.Beginnings.{Appends-none, Appends-then, Keeps-same}
+use Rattle.cases.specs.Sweep.{Sweep, case_count, run_count, seed_count}
+use Rattle.figures.specs.declared.summary.CaseSummary.{CaseSummary}
 use Rattle.pieces.specs.declared.piece.Piece.{Piece}
-use Rattle.pieces.specs.Pieces.{IsPiece, first_run, past_run}
+use Rattle.pieces.specs.Pieces.{IsPiece, past_run}
 use Rattle.pieces.proofs.Bounds.{share_grows, whole_share}
 use Rattle.sweep.specs.Pieces.{piece_header}
-use Rattle.sweep.specs.Summaries.{IsGathered}
-use Rattle.sweep.specs.declared.gathering.Gathering.{Gathering}
-use Rattle.joins.specs.Lines.{Line, IsLine, JoinsLines, piece_line, plain_line, notes_of}
+use Rattle.sweep.specs.Summaries.{IsGathered, SumUp}
+use Rattle.sweep.proofs.Gathered.{all_through}
+use Rattle.sweep.proofs.Steps.{zipped_long}
+use Rattle.noted_lines.specs.Items.{IsAllOf}
+use Rattle.noted_lines.specs.Lines.{Line, IsLine, notes_of, piece_line}
+use Rattle.noted_lines.specs.Cases.{IsCase, SumsUpLines, piece_case}
+use Rattle.noted_lines.proofs.Read.{zipped_both}
 use Rattle.joins.specs.Among.{IsAmongTexts, piece_at}
-use Rattle.joins.specs.Joined.{JoinsPiece, JoinsPieces, lines_between, piece_of}
+use Rattle.joins.specs.Behind.{share, share_of, summaries_told}
+use Rattle.joins.specs.Joined.{AreOf, AreShared, JoinsBehind, JoinsPiece, JoinsPieces, JoinsThings}
+use Rattle.joins.specs.declared.told.Told.{Told}
+use Rattle.joins.proofs.Shares.{first_is, grows, no_share, share_behind, share_kept, share_of_whole}
 
--- no share of the runs is none of them
-pub no_share : (of runs : ℕ) → 0 < of → 0 * runs / of ≡ 0
-no_share of runs some =
-    let none : 0 * runs < 1 * of = omega (arith, some) in
-    let below : 0 * runs / of < 1 = (div-lt_iff_lt-mul some).1 none in
-    omega (arith, below)
+-- ---- things
 
--- lines between two numbers stay, whatever comes behind
-pub lines_kept : {X : Type 0} (lines more : List X) (from till : ℕ) → till ≤ length lines → take (till - from) (drop from (lines ++ more)) ≡ take (till - from) (drop from lines)
-lines_kept lines more from till le = by (nat_le from till) refl
-  where
-    by : (b : Bool) → nat_le from till ≡ b → take (till - from) (drop from (lines ++ more)) ≡ take (till - from) (drop from lines)
-    by true e =
-        let ordered : from ≤ till = grind (arith, nat_tests) in
-        let left : till - from ≤ length (drop from lines) = omega (arith, le, length-drop from lines) in
-        ap (take (till - from)) (drop-append-le from lines more (omega (arith, ordered, le))) ∙ take-append-le (till - from) (drop from lines) more left
-    by false e =
-        let past : till < from = grind (arith, nat_tests) in
-        let none : till - from ≡ 0 = omega (arith, past) in
-        ap (λ n. take n (drop from (lines ++ more))) none ∙ sym (ap (λ n. take n (drop from lines)) none)
+module _ {X : Type 0} (Sound : X → Type 0) (text_of : X → List ℕ) (total : ℕ) (texts : List (Vec ℕ Global)) (mark : List ℕ) (revived : Bool) (sweep : Sweep) (of : ℕ) where
+  abbrev Pieces : (List X → Type 0) → ℕ → Option (List ℕ) → Option (List ℕ) → Type 0
+  Pieces Holds count old new = JoinsThings Sound text_of total Holds texts mark revived sweep of count old new
 
--- those behind are the last
-pub lines_behind : {X : Type 0} (lines more : List X) (from till : ℕ) → length lines ≡ from → length more ≡ till - from → take (till - from) (drop from (lines ++ more)) ≡ more
-lines_behind lines more from till at long =
-    ap (take (till - from)) (drop_at lines more from at) ∙ take_all (till - from) more (omega (arith, long))
-
-module _ (texts : List (Vec ℕ Global)) (mark : List ℕ) (revived : Bool) (sweep : Sweep) (of : ℕ) where
-  -- no piece yet
-  pub no_piece : (held : Option (List ℕ)) (gathering : Gathering) → 0 < of → JoinsPieces texts mark revived sweep of 0 held held gathering gathering
-  no_piece held gathering some = record {
-    lines = [];
-    all = sym (no_share of (run_count sweep) some);
-    sound = All-nil IsLine;
+  no_piece : (Holds : List X → Type 0) (held : Option (List ℕ)) → 0 < of → Holds [] → Pieces Holds 0 held held
+  no_piece Holds held some holds = record {
+    things = [];
+    many = sym (no_share of total some);
+    sound = All-nil Sound;
     there = λ p sound same none. absurd (omega (arith, none, sound.least));
     put = Appends-none held held (Keeps-same held);
-    gathered = λ each notes were. subst (λ l. IsGathered each l gathering) (sym (append-nil notes)) were;
+    holds = holds;
   }
 
-  -- one piece more
-  pub piece_more : (number : ℕ) (old mid new : Option (List ℕ)) (before between after : Gathering) → number < of
-      → JoinsPieces texts mark revived sweep of number old mid before between → JoinsPiece texts mark revived sweep of number mid new between after
-      → JoinsPieces texts mark revived sweep of (number + 1) old new before after
-  piece_more number old mid new before between after within so one =
-      let runs = run_count sweep in
-      let lines = so.lines in
-      let more = one.lines in
-      let less : number + 1 - 1 ≡ number = omega arith in
-      let first : first_run (piece_at number of) runs ≡ number * runs / of = ap (λ n. n * runs / of) less in
-      let grows : number * runs / of ≤ (number + 1) * runs / of = share_grows number (number + 1) of runs (omega arith) (omega (arith, within)) in
+  piece_more : (Held Holds : List X → Type 0) (number : ℕ) (old mid new : Option (List ℕ)) (body : List ℕ) → number < of → (so : Pieces Held number old mid)
+      → IsAmongTexts texts (piece_header revived mark sweep (piece_at number of) ++ body) → (are : IsAllOf Sound text_of body (share total (piece_at number of))) → Appends mid new body
+      → Holds (so.things ++ are.items) → Pieces Holds (number + 1) old new
+  piece_more Held Holds number old mid new body within so here are put holds =
+      let things = so.things in
+      let more = are.items in
+      let p = piece_at number of in
+      let first = first_is of total number in
+      let further = grows of total number (omega (arith, within)) in
       record {
-        lines = lines ++ more;
-        all = length-append lines more ∙ omega (arith, so.all, one.all, first, grows);
-        sound = All-append IsLine lines more so.sound one.sound;
-        there = λ p sound same upto. by p sound same upto (nat_le p.number number) refl;
-        put = subst (Appends old new) (sym (flat_map-append plain_line lines more)) (Appends-then old mid new (flat_map plain_line lines) (flat_map plain_line more) so.put one.put);
-        gathered = λ each notes were.
-            subst (λ l. IsGathered each l after) (append_assoc notes (notes_of lines) (notes_of more) ∙ ap (λ l. notes ++ l) (sym (map-append (λ (l : Line). l.note) lines more)))
-            (one.gathered each (notes ++ notes_of lines) (so.gathered each notes were));
+        things = things ++ more;
+        many = length-append things more ∙ omega (arith, so.many, are.many, first, further);
+        sound = All-append Sound things more so.sound are.sound;
+        there = λ q sound same upto. by q sound same upto (nat_le q.number number) refl;
+        put = subst (Appends old new) (sym (flat_map-append text_of things more)) (Appends-then old mid new (flat_map text_of things) (flat_map text_of more) so.put (subst (Appends mid new) are.written put));
+        holds = holds;
       }
     where
-      the_last : (p : Piece) → p.of ≡ of → p.number ≡ number + 1 → piece_at number of ≡ p
-      the_last p same last = (λ i. record { number = sym last i; of = sym same i })
+      by : (q : Piece) → IsPiece q → q.of ≡ of → q.number ≤ number + 1 → (b : Bool) → nat_le q.number number ≡ b
+          → IsAmongTexts texts (piece_header revived mark sweep q ++ flat_map text_of (share_of total q (so.things ++ are.items)))
+      by q sound same upto true e =
+          let low : q.number ≤ number = grind (arith, nat_tests) in
+          let past : past_run q total ≤ number * total / of =
+          subst (λ n. q.number * total / q.of ≤ number * total / n) same (share_grows q.number number q.of total low (omega (arith, sound.least, sound.most))) in
+          let kept = share_kept so.things are.items total q (omega (arith, past, so.many)) in
+          subst (λ l. IsAmongTexts texts (piece_header revived mark sweep q ++ flat_map text_of l)) (sym kept) (so.there q sound same low)
+      by q sound same upto false e =
+          let high : number < q.number = grind (arith, nat_tests) in
+          let at : q.number ≡ number + 1 = omega (arith, upto, high) in
+          let last : piece_at number of ≡ q = (λ i. record { number = sym at i; of = sym same i }) in
+          let behind = share_behind so.things are.items total (piece_at number of) (so.many ∙ sym (first_is of total number)) are.many in
+          subst (λ r. IsAmongTexts texts (piece_header revived mark sweep r ++ flat_map text_of (share_of total r (so.things ++ are.items)))) last
+          (subst (λ l. IsAmongTexts texts (piece_header revived mark sweep (piece_at number of) ++ l)) (are.written ∙ ap (flat_map text_of) (sym behind)) here)
 
-      by : (p : Piece) → IsPiece p → p.of ≡ of → p.number ≤ number + 1 → (b : Bool) → nat_le p.number number ≡ b → IsAmongTexts texts (piece_of mark revived sweep p (so.lines ++ one.lines))
-      by p sound same upto true e =
-          let runs = run_count sweep in
-          let low : p.number ≤ number = grind (arith, nat_tests) in
-          let past : past_run p runs ≤ number * runs / of =
-          subst (λ n. p.number * runs / p.of ≤ number * runs / n) same (share_grows p.number number p.of runs low (omega (arith, sound.least, sound.most))) in
-          let kept = lines_kept so.lines one.lines (first_run p runs) (past_run p runs) (omega (arith, past, so.all)) in
-          subst (λ l. IsAmongTexts texts (piece_header revived mark sweep p ++ flat_map piece_line l)) (sym kept) (so.there p sound same low)
-      by p sound same upto false e =
-          let runs = run_count sweep in
-          let high : number < p.number = grind (arith, nat_tests) in
-          let last = the_last p same (omega (arith, upto, high)) in
-          let less : number + 1 - 1 ≡ number = omega arith in
-          let first : first_run (piece_at number of) runs ≡ number * runs / of = ap (λ n. n * runs / of) less in
-          let behind = lines_behind so.lines one.lines (first_run (piece_at number of) runs) (past_run (piece_at number of) runs) (so.all ∙ sym first) one.all in
-          subst (λ q. IsAmongTexts texts (piece_of mark revived sweep q (so.lines ++ one.lines))) last
-          (subst (λ l. IsAmongTexts texts (piece_header revived mark sweep (piece_at number of) ++ flat_map piece_line l)) (sym behind) one.there)
+  -- all pieces
+  joined : (Holds Sums : List X → Type 0) (old new : Option (List ℕ)) → 0 < of → (all : Pieces Holds of old new) → Sums all.things → (until : Option ℕ) (cases : List CaseSummary)
+      → (length all.things ≡ total → length cases ≡ case_count sweep.settings) → ((body : Piece → List ℕ) → AreShared Sound text_of total Sums body → AreOf until sweep body cases)
+      → JoinsBehind [] texts mark revived sweep of old new until cases
+  joined Holds Sums old new some all sums until cases each so =
+      let many : length all.things ≡ total = all.many ∙ whole_share of total some in
+      let body : Piece → List ℕ = λ p. flat_map text_of (share_of total p all.things) in
+      record {
+        body = body;
+        there = λ p sound same. all.there p sound same (omega (arith, sound.most, same));
+        written = subst (Appends old new) (ap (flat_map text_of) (sym (share_of_whole total all.things many))) all.put;
+        each = each many;
+        are = so body (record { things = all.things; many = many; sound = all.sound; behind = (λ p sound. refl); holds = sums });
+      }
 
-  -- a text of the piece whose lines were put
-  pub piece_there : (number : ℕ) (count : ℕ) (old new : Option (List ℕ)) (before after : Gathering) (rest : List ℕ) → IsAmongTexts texts (piece_header revived mark sweep (piece_at number of) ++ rest)
-      → count ≡ past_run (piece_at number of) (run_count sweep) - first_run (piece_at number of) (run_count sweep) → JoinsLines rest count old new before after
-      → JoinsPiece texts mark revived sweep of number old new before after
-  piece_there number count old new before after rest among many joins = record {
-    lines = joins.lines;
-    all = joins.all ∙ many;
-    sound = joins.sound;
-    there = subst (IsAmongTexts texts) (ap (λ l. piece_header revived mark sweep (piece_at number of) ++ l) joins.written) among;
-    put = joins.put;
-    gathered = joins.gathered;
-  }
+-- ---- runs' lines, or cases
+
+module _ (texts : List (Vec ℕ Global)) (mark : List ℕ) (revived : Bool) (sweep : Sweep) (of : ℕ) where
+  abbrev each : ℕ
+  each = seed_count sweep.seeds
+
+  abbrev Gathered : Told → List Line → Type 0
+  Gathered told lines = IsGathered each (notes_of lines) told.gathering
+
+  abbrev SummedUp : List CaseSummary → List (List Line) → Type 0
+  SummedUp cases own = AllZip SumsUpLines own cases
+
+  pub none_joined : (until : Option ℕ) (held : Option (List ℕ)) (told : Told) → 0 < of → IsGathered each [] told.gathering → told.cases.items ≡ []
+      → JoinsPieces until texts mark revived sweep of 0 held held told
+  none_joined None held told some fresh none = no_piece IsLine piece_line (run_count sweep) texts mark revived sweep of (Gathered told) held some fresh
+  none_joined (Some width) held told some fresh none =
+      no_piece (IsCase width each) piece_case (case_count sweep.settings) texts mark revived sweep of (SummedUp told.cases.items) held some
+      (subst (λ cases. SummedUp cases []) (sym none) tt)
+
+  pub one_joined : (until : Option ℕ) (number : ℕ) (old mid new : Option (List ℕ)) (between after : Told) → number < of → JoinsPieces until texts mark revived sweep of number old mid between
+      → JoinsPiece until texts mark revived sweep of number mid new between after → JoinsPieces until texts mark revived sweep of (number + 1) old new after
+  one_joined None number old mid new between after within so one =
+      let more = one.read.are.items in
+      piece_more IsLine piece_line (run_count sweep) texts mark revived sweep of (Gathered between) (Gathered after) number old mid new one.body within so one.there one.read.are one.put
+      (subst (λ notes. IsGathered each notes after.gathering) (sym (map-append (λ (l : Line). l.note) so.things more)) (one.read.gathered each (notes_of so.things) so.holds))
+  one_joined (Some width) number old mid new between after within so one =
+      let more = one.read.are.items in
+      piece_more (IsCase width each) piece_case (case_count sweep.settings) texts mark revived sweep of (SummedUp between.cases.items) (SummedUp after.cases.items) number old mid new one.body
+      within so one.there one.read.are one.put
+      (subst (λ cases. SummedUp cases (so.things ++ more)) (sym one.read.added) (zipped_both SumsUpLines so.things more between.cases.items one.read.summaries so.holds one.read.told))
+
+  pub all_joined : (until : Option ℕ) (old new : Option (List ℕ)) (told : Told) (cases : List CaseSummary) → 0 < of → JoinsPieces until texts mark revived sweep of of old new told
+      → cases ≡ summaries_told until told → JoinsBehind [] texts mark revived sweep of old new until cases
+  all_joined None old new told cases some all same =
+      joined IsLine piece_line (run_count sweep) texts mark revived sweep of (Gathered told) (λ lines. SumUp each (notes_of lines) cases) old new some all
+      (subst (SumUp each (notes_of all.things)) (sym same) all.holds.told) None cases
+      (λ long. ap length same ∙ all_through sweep (notes_of all.things) told.gathering (length-map all.things (λ (l : Line). l.note) ∙ long) all.holds) (λ body are. are)
+  all_joined (Some width) old new told cases some all same =
+      joined (IsCase width each) piece_case (case_count sweep.settings) texts mark revived sweep of (SummedUp told.cases.items) (SummedUp cases) old new some all
+      (subst (λ cs. SummedUp cs all.things) (sym same) all.holds) (Some width) cases (λ long. ap length same ∙ sym (zipped_long SumsUpLines all.things told.cases.items all.holds) ∙ long) (λ body are. are)

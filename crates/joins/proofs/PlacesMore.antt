@@ -1,24 +1,19 @@
 -- Which text is which piece, one text more at a time, and why texts aren't the pieces of a sweep.
-use Rattle.std.proofs.Common.{◌≡◌, ◌≢◌, ◌<◌, ◌≤◌, ◌+◌, ◌-◌, ℕ, Bool, true, false, List, [], ◌∷◌, ◌++◌, length, get_or, set, replicate, inl, inr, refl, sym, ap, subst, ◌∙◌, append_assoc, arith}
-use Rattle.std.specs.Prelude.{Option, Some, None, Vec, nat_eq, nat_lt, slice_get}
-use Rattle.std.specs.Str.{IsUtf8}
+use Rattle.std.proofs.Common.{◌≡◌, ◌≢◌, ◌<◌, ◌≤◌, ◌+◌, ℕ, Bool, true, false, List, ◌++◌, length, get_or, set, replicate, inr, refl, sym, ap, subst, ◌∙◌, append_assoc, arith}
+use Rattle.std.specs.Prelude.{Option, Some, None, Vec, nat_eq, nat_lt}
 use Rattle.std.specs.declared.alloc.Global.{Global}
 use Rattle.std.proofs.lemmas.Bool.Decides.{nat_tests}
 use Rattle.std.proofs.lemmas.List.{get_or-replicate, get_or-set_same, get_or-set_other, get_or_past, length-replicate, length-set}
 use Rattle.std.proofs.lemmas.Option.{none-some, same_Some, slice_get_within}
-use Rattle.cases.specs.Sweep.{Sweep, run_count, seed_count}
+use Rattle.cases.specs.Sweep.{Sweep}
 use Rattle.figures.specs.Lines.{header_line}
 use Rattle.pieces.specs.declared.piece.Piece.{Piece}
-use Rattle.pieces.specs.Pieces.{IsPiece}
 use Rattle.pieces.specs.Names.{head_cell}
-use Rattle.sweep.specs.Pieces.{piece_header}
 use Rattle.sweep.specs.Table.{names_of}
 use Rattle.joins.specs.declared.fault.JoinFault.{JoinFault}
 use Rattle.joins.specs.declared.fault.JoinFault.TheVariants as fault
-use Rattle.sweep_until.specs.Pieces.{cases_in}
 use Rattle.joins.specs.Among.{IsAmongTexts, piece_at}
-use Rattle.joins.specs.ByCases.{AreCases}
-use Rattle.joins.specs.Reasons.{AreIts, ArePlaces, AreLines, BeginsAs, IsBehind, IsDoubled, IsFirst, IsMissing, IsNoPiece, IsOfSink, IsOther, IsReason, IsTextAt, IsTorn, RefusesCases, RefusesLines, RefusesPlace, RefusesText, runs_in}
+use Rattle.joins.specs.Reasons.{AreIts, ArePlaces, BeginsAs, IsBehind, IsDoubled, IsFirst, IsMissing, IsNoPiece, IsOfSink, IsOther, IsReason, IsTextAt, IsTorn, RefusesPlace, RefusesText}
 use Rattle.joins.proofs.SameSweep.{same_heads}
 
 -- a text begins as one piece of a sweep
@@ -90,11 +85,6 @@ place_more texts mark revived sweep of number place text places more inside free
         let old = are.kept k other (omega (arith, before, differs)) at in
         let apart : old.0 ≢ number = λ same. let empty : get_or places old.0 None ≡ None = ap (λ m. get_or places m None) same ∙ free in let is_there = old.1 in cc in
         (old.0, ap (λ l. get_or l old.0 None) is ∙ get_or-set_other places number old.0 (Some place) None apart ∙ old.1, old.2)
-
--- the lines of a piece are in UTF-8
-pub its_encoded : (until : Option ℕ) (sweep : Sweep) (p : Piece) (text : List ℕ) → AreIts until sweep p text → IsUtf8 text
-its_encoded None sweep p text its = its.encoded
-its_encoded (Some width) sweep p text its = its.encoded
 
 -- what befell the memory or the table is told as it is
 pub of_sink : (texts : List (Vec ℕ Global)) (f : JoinFault) → IsOfSink f → IsReason texts f
@@ -184,28 +174,6 @@ module _ (texts : List (Vec ℕ Global)) (mark : List ℕ) (revived : Bool) (swe
             begins = record { asked = its.asked; marked = its.marked; sound = its.sound; rest = rest; written = behind.written };
             torn = not;
           })
-
-      pub lines_reason : (count : ℕ) (f : JoinFault) → sweep.until ≡ None → count ≡ runs_in sweep (piece_at number p.of) → RefusesLines rest count place f → IsReason texts f
-      lines_reason count (fault.Torn at) none many h =
-          torn at h.0 (subst (λ o. ¬ (AreIts o sweep (piece_at number p.of) rest)) (sym none) (subst (λ n. ¬ (AreLines rest n)) many h.1))
-      lines_reason count fault.Memory none many h = tt
-      lines_reason count fault.Write none many h = tt
-      lines_reason count (fault.NoPiece at) none many h = absurd h
-      lines_reason count (fault.Other at) none many h = absurd h
-      lines_reason count (fault.Doubled at) none many h = absurd h
-      lines_reason count (fault.Missing n) none many h = absurd h
-
-      pub cases_reason : (width each count : ℕ) (f : JoinFault) → sweep.until ≡ Some width → each ≡ seed_count sweep.seeds → count ≡ cases_in sweep (piece_at number p.of)
-          → RefusesCases width each rest count place f → IsReason texts f
-      cases_reason width each count (fault.Torn at) wanted often many h =
-          torn at h.0 (subst (λ o. ¬ (AreIts o sweep (piece_at number p.of) rest)) (sym wanted)
-          (subst (λ n. ¬ (AreCases width n rest (cases_in sweep (piece_at number p.of)))) often (subst (λ n. ¬ (AreCases width each rest n)) many h.1)))
-      cases_reason width each count fault.Memory wanted often many h = tt
-      cases_reason width each count fault.Write wanted often many h = tt
-      cases_reason width each count (fault.NoPiece at) wanted often many h = absurd h
-      cases_reason width each count (fault.Other at) wanted often many h = absurd h
-      cases_reason width each count (fault.Doubled at) wanted often many h = absurd h
-      cases_reason width each count (fault.Missing n) wanted often many h = absurd h
 
     -- the text of a piece begins with its first line
     pub begins_there : (number place : ℕ) (text : List ℕ) → get_or places number None ≡ Some place → IsTextAt texts place text

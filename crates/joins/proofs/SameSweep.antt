@@ -1,5 +1,5 @@
 -- First lines of pieces that are one text name the same piece of the same sweep.
-use Rattle.std.proofs.Common.{◌≡◌, ◌<◌, ◌≤◌, ◌^◌, ◌==◌, ℕ, suc, true, false, List, [], ◌∷◌, ◌++◌, map, length, get_or, codes, decimal, inl, inr, is_some, lit<, arith, refl, sym, ap, subst, ◌∙◌, append_assoc, append-nil}
+use Rattle.std.proofs.Common.{◌≡◌, ◌<◌, ◌^◌, ◌==◌, ℕ, suc, true, false, List, [], ◌∷◌, ◌++◌, map, length, get_or, codes, decimal, inl, inr, is_some, lit<, arith, refl, sym, ap, subst, ◌∙◌, append_assoc, append-nil}
 use Rattle.std.specs.Prelude.{Option, Some, None, All}
 use Rattle.std.specs.List.{AllByRecursion, flat_map, join_with_byte, list_any, slice_split}
 use Rattle.std.specs.Option.{ForSome}
@@ -28,7 +28,7 @@ use Rattle.pieces.specs.Pieces.{IsPiece, piece_text}
 use Rattle.pieces.specs.Names.{head_cell, piece_name, plan_text, seeds_word, until_text}
 use Rattle.sweep.specs.Runs.{IsAskedFor}
 use Rattle.joins.specs.Joined.{IsMark}
-use Rattle.joins.proofs.Bytes.{lacks_both, lacks_cons, lacks_from_test, lacks_joined, value_lacks}
+use Rattle.noted_lines.proofs.Bytes.{lacks_both, lacks_cons, lacks_from_test, lacks_joined, value_lacks}
 
 -- ---- which bytes the words of a sweep don't have
 
@@ -215,13 +215,14 @@ same_sweep s t asked also same =
     (λ i. record { settings = settings i; seeds = seeds i; until = parts.0 i })
 
 -- what two texts name that begin with the first lines of pieces
-pub record AreSameHeads (s t : Sweep) (p q : Piece) (x y : List ℕ) : Type 0 where
+pub record AreSameHeads (mark other : List ℕ) (s t : Sweep) (p q : Piece) (x y : List ℕ) : Type 0 where
+  pub marks : mark ≡ other
   pub sweep : s ≡ t
   pub piece : p ≡ q
   pub rest : x ≡ y
 
 pub same_heads : (mark other : List ℕ) (s t : Sweep) (p q : Piece) (x y : List ℕ) → IsMark mark → IsMark other → IsAskedFor s → IsAskedFor t → IsPiece p → IsPiece q
-    → head_cell mark s p ++ x ≡ head_cell other t q ++ y → AreSameHeads s t p q x y
+    → head_cell mark s p ++ x ≡ head_cell other t q ++ y → AreSameHeads mark other s t p q x y
 same_heads mark other s t p q x y marks marks_too asked also sound sound_too same =
     let one = sound.most in
     let two = sound.few in
@@ -238,7 +239,7 @@ same_heads mark other s t p q x y marks marks_too asked also sound sound_too sam
     let number = decimal_injective p.number q.number (omega arith) (omega arith) slash.0 in
     let of = decimal_injective p.of q.of (omega arith) (omega arith) space.0 in
     let rest : x ≡ y = cc in
-    record { sweep = same_sweep s t asked also quote.0; piece = (λ i. record { number = number i; of = of i }); rest = rest }
+    record { marks = after.0; sweep = same_sweep s t asked also quote.0; piece = (λ i. record { number = number i; of = of i }); rest = rest }
   where
     behind_mark : Sweep → List ℕ → List ℕ
     behind_mark s x = plan_text s ++ 34 ∷ 44 ∷ x

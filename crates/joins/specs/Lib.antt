@@ -1,6 +1,5 @@
 pub mod Among
-pub mod Lines
-pub mod ByCases
+pub mod Behind
 pub mod Joined
 pub mod Reasons
 pub mod Genuine

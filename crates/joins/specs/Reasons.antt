@@ -1,19 +1,16 @@
 -- Why texts aren't the pieces of one sweep.
-use Rattle.std.specs.Prelude.{◌≡◌, ◌⊎◌, ◌-◌, ◌<◌, ◌≤◌, ℕ, Bool, List, [], ◌∷◌, ◌++◌, Option, Some, None, All, Vec, codes, length, slice_get, get_or}
-use Rattle.std.specs.List.{flat_map}
+use Rattle.std.specs.Prelude.{◌≡◌, ◌⊎◌, ◌<◌, ◌≤◌, ℕ, Bool, List, [], ◌∷◌, ◌++◌, Option, Some, None, Vec, codes, length, slice_get, get_or}
 use Rattle.std.specs.Str.{IsUtf8}
 use Rattle.std.specs.declared.alloc.Global.{Global}
-use Rattle.cases.specs.Sweep.{Sweep, run_count, seed_count}
+use Rattle.cases.specs.Sweep.{Sweep}
 use Rattle.cases.specs.declared.fault.PlanFault.{PlanFault}
 use Rattle.cases.specs.declared.fault.PlanFault.TheVariants as unread
 use Rattle.pieces.specs.declared.piece.Piece.{Piece}
-use Rattle.pieces.specs.Pieces.{IsPiece, first_run, past_run}
+use Rattle.pieces.specs.Pieces.{IsPiece}
 use Rattle.sweep.specs.Pieces.{piece_header}
 use Rattle.sweep.specs.Runs.{IsAskedFor}
-use Rattle.sweep_until.specs.Pieces.{cases_in}
-use Rattle.joins.specs.Lines.{Line, IsLine, piece_line}
 use Rattle.joins.specs.Among.{piece_at}
-use Rattle.joins.specs.ByCases.{AreCases, IsCase, piece_case}
+use Rattle.joins.specs.Behind.{AreBehind}
 use Rattle.joins.specs.Joined.{IsMark}
 use Rattle.joins.specs.declared.fault.JoinFault.{JoinFault}
 use Rattle.joins.specs.declared.fault.JoinFault.TheVariants as fault
@@ -34,22 +31,10 @@ pub record BeginsAs (text mark : List ℕ) (revived : Bool) (sweep : Sweep) (p :
 abbrev pub BeginsAsNone : List ℕ → Type 0
 BeginsAsNone text = (mark : List ℕ) (revived : Bool) (sweep : Sweep) (p : Piece) → ¬ (BeginsAs text mark revived sweep p)
 
--- a text that is so many lines of a piece, in UTF-8
-pub record AreLines (text : List ℕ) (count : ℕ) : Type 0 where
-  pub lines : List Line
-  pub all : length lines ≡ count
-  pub sound : All IsLine lines
+-- what stands behind the first line of the piece is in UTF-8, and a line for each of its runs, or its cases
+pub record AreIts (until : Option ℕ) (sweep : Sweep) (p : Piece) (text : List ℕ) : Type 0 where
   pub encoded : IsUtf8 text
-  pub written : text ≡ flat_map piece_line lines
-
--- how many runs the piece has
-abbrev pub runs_in : Sweep → Piece → ℕ
-runs_in sweep p = past_run p (run_count sweep) - first_run p (run_count sweep)
-
--- what stands behind the first line of the piece is a line for each of its runs, or its cases
-abbrev pub AreIts : Option ℕ → Sweep → Piece → List ℕ → Type 0
-AreIts None sweep p text = AreLines text (runs_in sweep p)
-AreIts (Some width) sweep p text = AreCases width (seed_count sweep.seeds) text (cases_in sweep p)
+  pub are : AreBehind until sweep p text
 
 -- there is no text, or the one at this place isn't UTF-8, or begins as no piece
 abbrev pub IsNoPiece : List (Vec ℕ Global) → ℕ → Type 0
@@ -145,34 +130,6 @@ abbrev pub IsOfSink : JoinFault → Type 0
 IsOfSink fault.Write = Unit {0}
 IsOfSink fault.Memory = Unit {0}
 IsOfSink _ = ⊥
-
--- a text isn't so many lines; the fault names this place
-abbrev pub RefusesLines : List ℕ → ℕ → ℕ → JoinFault → Type 0
-RefusesLines text count place (fault.Torn at) = (at ≡ place) × ¬ (AreLines text count)
-RefusesLines text count place fault.Write = Unit {0}
-RefusesLines text count place fault.Memory = Unit {0}
-RefusesLines text count place _ = ⊥
-
--- a text doesn't begin with a line of a piece; the fault names this place
-abbrev pub RefusesLine : List ℕ → ℕ → JoinFault → Type 0
-RefusesLine text place (fault.Torn at) = (at ≡ place) × ((line : Line) (left : List ℕ) → IsLine line → ¬ (text ≡ piece_line line ++ left))
-RefusesLine text place fault.Write = Unit {0}
-RefusesLine text place fault.Memory = Unit {0}
-RefusesLine text place _ = ⊥
-
--- a text doesn't begin with a case; the fault names this place
-abbrev pub RefusesCase : ℕ → ℕ → List ℕ → ℕ → JoinFault → Type 0
-RefusesCase width each text place (fault.Torn at) = (at ≡ place) × ((lines : List Line) (left : List ℕ) → IsCase width each lines → ¬ (text ≡ piece_case lines ++ left))
-RefusesCase width each text place fault.Write = Unit {0}
-RefusesCase width each text place fault.Memory = Unit {0}
-RefusesCase width each text place _ = ⊥
-
--- a text isn't so many cases; the fault names this place
-abbrev pub RefusesCases : ℕ → ℕ → List ℕ → ℕ → ℕ → JoinFault → Type 0
-RefusesCases width each text count place (fault.Torn at) = (at ≡ place) × ¬ (AreCases width each text count)
-RefusesCases width each text count place fault.Write = Unit {0}
-RefusesCases width each text count place fault.Memory = Unit {0}
-RefusesCases width each text count place _ = ⊥
 
 -- the piece of this number has its text at this place, and these lines stand behind its first
 pub record IsBehind (texts : List (Vec ℕ Global)) (mark : List ℕ) (revived : Bool) (sweep : Sweep) (of : ℕ) (places : List (Option ℕ)) (number place : ℕ) (lines : List ℕ) : Type 0 where

@@ -1,5 +1,7 @@
 //! What stands behind the first line of a piece.
-ghost use Rattle.std.specs.Prelude.{◌<◌, IfOk, IfErr, length};
+ghost use Rattle.std.specs.Prelude.{◌≡◌, ◌<◌, ◌≤◌, IfOk, IfErr, length};
+ghost use Rattle.pieces.specs.Pieces.{IsPiece};
+ghost use Rattle.joins.specs.Among.{piece_at};
 ghost use Rattle.joins.specs.Reasons.{ArePlaces, IsBehind, IsFirst, IsReason};
 
 use crate::fault::JoinFault;
@@ -35,11 +37,7 @@ pub(crate) fn lines_behind<'a>(
     let Some(place) = place_of(places, number) else {
         return Err(JoinFault::Missing(number as u64 + 1));
     };
-    let piece = Piece {
-        number: number as u64 + 1,
-        of: head.piece.of,
-    };
-    let header = header_of(alloc, head, piece)?;
+    let header = header_of(alloc, head, piece_at(number, head.piece.of))?;
     let Some(rest) = text_at(texts, place).strip_prefix(header.as_slice()) else {
         return Err(JoinFault::Other(place));
     };
@@ -47,4 +45,17 @@ pub(crate) fn lines_behind<'a>(
         return Err(JoinFault::Torn(place));
     };
     Ok(Behind { place, lines })
+}
+
+/// The piece of this number, counted from 0, of so many.
+pub(crate) fn piece_at(number: usize, of: u64) -> Piece
+    requires within { number < of }
+    requires few { of ≤ 10000 }
+    ensures same { result ≡ piece_at number of }
+    ensures sound { IsPiece result }
+{
+    Piece {
+        number: number as u64 + 1,
+        of,
+    }
 }

@@ -1,25 +1,25 @@
 //! The pieces of a sweep put together.
-ghost use Rattle.std.specs.Prelude.{◌≡◌, ◌<◌, ◌-◌, ◌^◌, ◌++◌, [], None, All, IfOk, IfErr, OnOk, length};
+ghost use Rattle.std.specs.Prelude.{◌≡◌, ◌<◌, ◌^◌, [], All, IfOk, IfErr, OnOk, length};
 ghost use Rattle.std.specs.Io.KnownBytes.{Appends, Keeps};
-ghost use Rattle.figures.specs.Lines.{header_line};
-ghost use Rattle.sweep.specs.Table.{names_of};
 ghost use Rattle.answers.specs.Wants.{HasFewRuns};
-ghost use Rattle.joins.specs.Joined.{Joins, JoinsBehind, JoinsPiece, JoinsPieces};
+ghost use Rattle.pieces.specs.Pieces.{whole};
+ghost use Rattle.sweep.specs.Pieces.{piece_header};
+ghost use Rattle.joins.specs.Joined.{Joins, JoinsBehind, JoinsPiece};
 ghost use Rattle.joins.specs.Reasons.{ArePlaces, IsFirst, IsOfSink, IsReason};
 
-use crate::behind::lines_behind;
-use crate::by_cases::join_cases;
+use crate::behind::{lines_behind, piece_at};
 use crate::fault::JoinFault;
 use crate::head::{Head, head_of};
-use crate::lines::join_lines;
 use crate::places::{places_of, text_at};
+use crate::told::Told;
 use cases::Plan;
 use figures::CaseSummary;
+use noted_lines::LineFault;
 use pieces::Piece;
 use std::alloc::Global;
 use std::str::from_utf8;
-use sweep::{Gathering, write_names};
-use trace::{Sink, Stopped, WriteError};
+use sweep::write_front;
+use trace::{Sink, Stopped, WriteError, put_all};
 
 /// What pieces that were put together are of.
 #[derive(Drop)]
@@ -32,8 +32,8 @@ pub struct Joined {
     pub cases: Vec<CaseSummary>,
 }
 
-/// Puts the pieces of a sweep together, whose texts come in any order: the table of the whole sweep goes to the sink,
-/// and what they are of is given. After a fault the sink may have got lines.
+/// Puts the pieces of a sweep together, whose texts come in any order: the table of the whole sweep, which is that of its
+/// only piece, goes to the sink, and what they are of is given. After a fault the sink may have got lines.
 ///
 /// Faults: `NoPiece`, `Other`, `Doubled` or `Torn` with the place of a text that isn't a piece, is one of another sweep
 /// than the first, is there already, or isn't whole; `Missing` with the number of a piece that isn't there; `Write` where
@@ -46,8 +46,8 @@ pub fn join<S: Sink>(alloc: Global, texts: &[Vec<u8>], table: &mut S) -> Result<
 {
     let head = first_head(alloc, texts)?;
     let places = places_of(alloc, texts, &head)?;
-    put_names(alloc, &head.plan, head.revived, table)?;
-    let cases = join_whole(alloc, texts, &head, &places, table)?;
+    put_header(alloc, &head, table)?;
+    let cases = join_pieces(alloc, texts, &head, &places, table)?;
     flush(table)?;
     let revived = head.revived;
     Ok(Joined {
@@ -57,8 +57,8 @@ pub fn join<S: Sink>(alloc: Global, texts: &[Vec<u8>], table: &mut S) -> Result<
     })
 }
 
-/// Puts the lines of all pieces, and gives the summaries of the cases.
-fn join_whole<S: Sink>(
+/// Puts the lines of all pieces, one after the other, and gives the summaries of the cases.
+fn join_pieces<S: Sink>(
     alloc: Global,
     texts: &[Vec<u8>],
     head: &Head<'_>,
@@ -73,32 +73,40 @@ fn join_whole<S: Sink>(
     ensures same { OnOk result (S.failed table.new ≡ S.failed table.old) }
     ensures refused { IfErr result (IsReason texts.now) }
 {
-    match head.plan.until() {
-        Some(width) => join_cases(alloc, texts, head, places, width, table),
-        None => join_runs(alloc, texts, head, places, table),
+    let mut told = Told::new(alloc, head.plan.runs_of_case());
+    let of = head.piece.of as usize;
+    for number in 0..of {
+        join_piece(alloc, texts, head, places, number, &mut told, table)?;
     }
+    Ok(told.into_summaries(head.plan.until()))
 }
 
-/// Puts the lines of all pieces of a sweep of which each case runs with each seed, and gives the summaries of its cases.
-fn join_runs<S: Sink>(
+/// Reads the lines of the piece of this number, counted from 0, and puts them.
+fn join_piece<S: Sink>(
     alloc: Global,
     texts: &[Vec<u8>],
     head: &Head<'_>,
     places: &[Option<usize>],
+    number: usize,
+    told: &mut Told,
     table: &mut S,
-) -> Result<Vec<CaseSummary>, JoinFault>
+) -> Result<(), JoinFault>
     requires first { IsFirst texts.now head.now.mark.now head.now.revived head.now.plan head.now.piece }
     requires places { ArePlaces texts.now head.now.mark.now head.now.revived head.now.plan head.now.piece.of places.now (length texts.now) }
-    requires wanted { head.now.plan.until ≡ None }
+    requires within { number < head.now.piece.of }
     requires countable { S.failed table.old < 2 ^ 63 }
-    ensures whole { IfOk result (λ cases. JoinsBehind [] texts.now head.now.mark.now head.now.revived head.now.plan head.now.piece.of
-        (S.held table.old) (S.held table.new) None cases.items) }
+    ensures whole { OnOk result (JoinsPiece head.now.plan.until texts.now head.now.mark.now head.now.revived head.now.plan head.now.piece.of number
+        (S.held table.old) (S.held table.new) told.old told.new) }
     ensures same { OnOk result (S.failed table.new ≡ S.failed table.old) }
     ensures refused { IfErr result (IsReason texts.now) }
 {
-    let mut gathering = Gathering::new(alloc, head.plan.runs_of_case() as u64);
-    join_pieces(alloc, texts, head, places, &mut gathering, table)?;
-    Ok(gathering.into_summaries())
+    let behind = lines_behind(alloc, texts, head, places, number)?;
+    let piece = piece_at(number, head.piece.of);
+    match told.read(alloc, &head.plan, piece, behind.lines) {
+        Ok(()) => put_lines(behind.lines, table),
+        Err(LineFault::Torn) => Err(JoinFault::Torn(behind.place)),
+        Err(LineFault::Memory) => Err(JoinFault::Memory),
+    }
 }
 
 /// What the first text tells; there must be one.
@@ -122,22 +130,31 @@ fn first_head<'a>(alloc: Global, texts: &'a [Vec<u8>]) -> Result<Head<'a>, JoinF
     }
 }
 
-/// Puts the header of the table, which tells, or doesn't, of members that were taken for alive again.
-fn put_names<S: Sink>(
-    alloc: Global,
-    plan: &Plan,
-    revived: bool,
-    table: &mut S,
-) -> Result<(), JoinFault>
+/// Puts the first line of the table.
+fn put_header<S: Sink>(alloc: Global, head: &Head<'_>, table: &mut S) -> Result<(), JoinFault>
     requires { S.failed table.old < 2 ^ 63 }
-    ensures whole { OnOk result (Appends (S.held table.old) (S.held table.new) (header_line revived (names_of plan.now.settings))) }
+    ensures whole { OnOk result (Appends (S.held table.old) (S.held table.new) (piece_header head.now.revived head.now.mark.now head.now.plan whole)) }
     ensures same { OnOk result (S.failed table.new ≡ S.failed table.old) }
     ensures refused { IfErr result IsOfSink }
 {
-    match write_names(alloc, plan.settings(), revived, table) {
+    let piece = Piece::whole();
+    match write_front(alloc, &head.plan, piece, head.mark, head.revived, table) {
         Ok(()) => Ok(()),
         Err(WriteError::Memory) => Err(JoinFault::Memory),
         Err(WriteError::Stopped) => Err(JoinFault::Write),
+    }
+}
+
+/// Puts lines as they stand.
+fn put_lines<S: Sink>(lines: &str, table: &mut S) -> Result<(), JoinFault>
+    requires { S.failed table.old < 2 ^ 63 }
+    ensures whole { OnOk result (Appends (S.held table.old) (S.held table.new) lines.now) }
+    ensures same { OnOk result (S.failed table.new ≡ S.failed table.old) }
+    ensures refused { IfErr result IsOfSink }
+{
+    match put_all(lines.as_bytes(), table) {
+        Ok(()) => Ok(()),
+        Err(Stopped) => Err(JoinFault::Write),
     }
 }
 
@@ -151,59 +168,4 @@ fn flush<S: Sink>(table: &mut S) -> Result<(), JoinFault>
         Ok(()) => Ok(()),
         Err(Stopped) => Err(JoinFault::Write),
     }
-}
-
-/// Puts the lines of all pieces, one after the other, and gathers their notes.
-fn join_pieces<S: Sink>(
-    alloc: Global,
-    texts: &[Vec<u8>],
-    head: &Head<'_>,
-    places: &[Option<usize>],
-    gathering: &mut Gathering,
-    table: &mut S,
-) -> Result<(), JoinFault>
-    requires first { IsFirst texts.now head.now.mark.now head.now.revived head.now.plan head.now.piece }
-    requires places { ArePlaces texts.now head.now.mark.now head.now.revived head.now.plan head.now.piece.of places.now (length texts.now) }
-    requires wanted { head.now.plan.until ≡ None }
-    requires countable { S.failed table.old < 2 ^ 63 }
-    ensures whole { OnOk result (JoinsPieces texts.now head.now.mark.now head.now.revived head.now.plan head.now.piece.of head.now.piece.of
-        (S.held table.old) (S.held table.new) gathering.old gathering.new) }
-    ensures same { OnOk result (S.failed table.new ≡ S.failed table.old) }
-    ensures refused { IfErr result (IsReason texts.now) }
-{
-    let of = head.piece.of as usize;
-    for number in 0..of {
-        join_piece(alloc, texts, head, places, number, gathering, table)?;
-    }
-    Ok(())
-}
-
-/// Puts the lines of the piece of this number, counted from 0, and gathers their notes.
-fn join_piece<S: Sink>(
-    alloc: Global,
-    texts: &[Vec<u8>],
-    head: &Head<'_>,
-    places: &[Option<usize>],
-    number: usize,
-    gathering: &mut Gathering,
-    table: &mut S,
-) -> Result<(), JoinFault>
-    requires first { IsFirst texts.now head.now.mark.now head.now.revived head.now.plan head.now.piece }
-    requires places { ArePlaces texts.now head.now.mark.now head.now.revived head.now.plan head.now.piece.of places.now (length texts.now) }
-    requires wanted { head.now.plan.until ≡ None }
-    requires within { number < head.now.piece.of }
-    requires countable { S.failed table.old < 2 ^ 63 }
-    ensures whole { OnOk result (JoinsPiece texts.now head.now.mark.now head.now.revived head.now.plan head.now.piece.of number
-        (S.held table.old) (S.held table.new) gathering.old gathering.new) }
-    ensures same { OnOk result (S.failed table.new ≡ S.failed table.old) }
-    ensures refused { IfErr result (IsReason texts.now) }
-{
-    let behind = lines_behind(alloc, texts, head, places, number)?;
-    let piece = Piece {
-        number: number as u64 + 1,
-        of: head.piece.of,
-    };
-    let runs = head.plan.runs();
-    let count = piece.past(runs) - piece.first(runs);
-    join_lines(alloc, behind.lines, count, behind.place, gathering, table)
 }

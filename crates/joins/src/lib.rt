@@ -2,13 +2,12 @@
 #![tactic(auto)]
 
 mod behind;
-mod by_cases;
 mod fault;
 mod head;
 mod joining;
 pub mod laws;
-mod lines;
 mod places;
+mod told;
 
 pub use fault::JoinFault;
 pub use joining::{Joined, join};

@@ -1,3 +1,4 @@
 pub mod Slashes
 pub mod Joined
 pub mod Bounds
+pub mod Whole

@@ -9,6 +9,10 @@ pub record IsPiece (p : Piece) : Type 0 where
   pub most : p.number ≤ p.of
   pub few : p.of ≤ 10000
 
+-- the only piece of a sweep that is made in one
+abbrev pub whole : Piece
+whole = record { number = 1; of = 1 }
+
 -- a piece is written as its number, a slash and how many there are
 abbrev pub piece_text : Piece → List ℕ
 piece_text p = decimal p.number ++ 47 ∷ decimal p.of

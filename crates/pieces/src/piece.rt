@@ -1,6 +1,6 @@
 //! One of the pieces of a sweep.
 ghost use Rattle.std.specs.Prelude.{◌≡◌, ◌≤◌, true, false, IfSome, IsNone};
-ghost use Rattle.pieces.specs.Pieces.{IsPiece, IsPieceWord, first_run, past_run};
+ghost use Rattle.pieces.specs.Pieces.{IsPiece, IsPieceWord, first_run, past_run, whole};
 ghost use Rattle.pieces.specs.declared.piece.Piece.{Piece as Wanted};
 
 use decimals::number;
@@ -16,6 +16,14 @@ pub struct Piece {
 }
 
 impl Piece {
+    /// The only piece of a sweep that is made in one.
+    pub fn whole() -> Piece
+        ensures only { result ≡ whole }
+        ensures piece { IsPiece result }
+    {
+        Piece { number: 1, of: 1 }
+    }
+
     /// The piece that a word says, as `3/8`: its number, a slash and how many there are, each a whole number in decimal,
     /// without sign or leading zero. None where the number isn't one of 1 to the other, or that is more than 10,000.
     pub fn read(word: &str) -> Option<Piece>

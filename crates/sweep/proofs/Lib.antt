@@ -11,3 +11,4 @@ pub mod PieceCourse
 mod WholeLines
 mod Begins
 pub mod Fronts
+mod WholeSweep

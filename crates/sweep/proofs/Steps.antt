@@ -1,7 +1,7 @@
 -- How the table grows by a line, and why it ends.
 use Rattle.std.proofs.Common.{◌≡◌, ℕ, zero, suc, ◌+◌, ◌-◌, ◌≤◌, List, [], ◌∷◌, ◌++◌, Option, Some, refl, sym, ap, subst, ◌∙◌, arith, take, drop, length, map, append_assoc, append-nil, ◌≢◌, Bool, true, false, eqb, true≢false}
 use Rattle.std.proofs.lemmas.Bool.{eqb-true, eq-eqb}
-use Rattle.std.proofs.lemmas.List.{take_all, take-append-drop, take_more, map-append, length-map}
+use Rattle.std.proofs.lemmas.List.{take_all, take-append-drop, take_more, map-append}
 use Rattle.std.proofs.Math.Seq.{take-take}
 use Rattle.std.proofs.lemmas.List.Concat.{flat_map-append}
 use Rattle.std.proofs.lemmas.List.Elements.{All-drop, All-head, All-push, All-tail, All-take}
@@ -18,29 +18,21 @@ use Rattle.base.specs.declared.fault.Fault.TheVariants as fault
 use Rattle.scenario.specs.Setup.{Setup, IsSound}
 use Rattle.trace.specs.declared.row.Row.{Row}
 use Rattle.trace.specs.Sinks.{AppendsBeginning}
-use Rattle.trace.proofs.Beginnings.{Appends-none, Appends-then, Keeps-same, Appends-kept, beginning-kept, beginning-first, beginning-then, beginning-whole, beginning-of}
+use Rattle.trace.proofs.Beginnings.{Appends-then, Appends-kept, beginning-kept, beginning-first, beginning-then, beginning-whole, beginning-of}
 use Rattle.member_laws.specs.Runs.{IsRunOf}
 use Rattle.outputs.specs.Written.{sink_failures}
-use Rattle.figures.specs.Lines.{header_line}
 use Rattle.figures.specs.Notes.{Note}
-use Rattle.cases.specs.Sweep.{Sweep, run_count, seed_count}
+use Rattle.cases.specs.Sweep.{Sweep, run_count}
 use Rattle.sweep.specs.Runs.{Planned, Made, IsMadeAs, AreMadeBetween, IsRunAt, noted, runs_of, runs_between, verdict_of}
-use Rattle.sweep.specs.Table.{names_of, tells_revived, note_before, line_with, lines_text, Course, HasLines, BeginsLines, BeginsTable, HasCause, IsCauseAt, IsMadeRun}
+use Rattle.sweep.specs.Table.{tells_revived, noted_line, lines_text, Course, HasLines, BeginsLines, HasCause, IsCauseAt, IsMadeRun}
 use Rattle.sweep.specs.declared.making.MadeRun.{MadeRun}
-use Rattle.sweep.specs.declared.gathering.Gathering.{Gathering}
-use Rattle.sweep.specs.Summaries.{IsGathered, HasCome, MakesAll, summaries_in}
+use Rattle.sweep.specs.Summaries.{HasCome}
 use Rattle.sweep.specs.Judged.{IsAccepted, IsAcceptedAt, AreAccepted}
 use Rattle.sweep.proofs.Flat.{runs_counted}
-use Rattle.sweep.proofs.Gathered.{all_through}
 use Rattle.sweep.proofs.Handing.{handed}
 
 pub taken_more : {X : Type 0} (xs : List X) (n : ℕ) (x : X) → slice_get xs n ≡ Some x → take (n + 1) xs ≡ take n xs ++ x ∷ []
 taken_more xs n x e = take_more xs n x (slice_get_within xs n x e) ∙ ap (λ y. take n xs ++ y ∷ []) (get_or_from_slice_get xs n x x e)
-
--- where lines have no notes, nothing is put before one
-pub none_before : (notes : Bool) (note : Note) (held : Option (List ℕ)) → notes ≡ false → Appends held held (note_before notes note)
-none_before true note held is = absurd (true≢false is)
-none_before false note held is = Appends-none held held (Keeps-same held)
 
 -- the runs between two numbers, one more
 past : {X : Type 0} (xs : List X) (from n : ℕ) → from ≤ n → slice_get (drop from xs) (n - from) ≡ slice_get xs n
@@ -58,9 +50,9 @@ between_more xs from n x le e =
     ap (λ k. take k (drop from xs)) more ∙ taken_more (drop from xs) (n - from) x (past xs from n le ∙ e)
 
 pub text_more : (tree : Data) (course : Course) (made : List Made) (m : Made)
-    → lines_text tree course made ++ line_with (tells_revived tree) course.notes m ≡ lines_text tree course (made ++ m ∷ [])
+    → lines_text tree course made ++ noted_line (tells_revived tree) m ≡ lines_text tree course (made ++ m ∷ [])
 text_more tree course made m =
-    let line : Made → List ℕ = line_with (tells_revived tree) course.notes in
+    let line : Made → List ℕ = noted_line (tells_revived tree) in
     append_assoc course.front (flat_map line made) (line m)
     ∙ ap (λ l. course.front ++ l) (ap (λ l. flat_map line made ++ l) (sym (append-nil (line m))) ∙ sym (flat_map-append line made (m ∷ [])))
 
@@ -196,32 +188,11 @@ module _ (tree : Data) (sweep : Sweep) where
       by fault.Relay h = absurd h
 
   -- the runs from the first to past the last are all
-  all_made : (made : List Made) → AreMadeBetween tree sweep 0 (run_count sweep) made → AllZip (IsMadeAs tree) (runs_of sweep) made
+  pub all_made : (made : List Made) → AreMadeBetween tree sweep 0 (run_count sweep) made → AllZip (IsMadeAs tree) (runs_of sweep) made
   all_made made are =
       let whole : run_count sweep - 0 ≡ run_count sweep = omega arith in
       let long : length (runs_of sweep) ≤ run_count sweep = omega (arith, runs_counted sweep) in
       subst (λ l. AllZip (IsMadeAs tree) l made) (ap (λ n. take n (runs_of sweep)) whole ∙ take_all (run_count sweep) (runs_of sweep) long) are
-
-  -- the course of a whole table
-  abbrev pub whole_course : Option (List ℕ) → Course
-  whole_course start = record { start = start; front = header_line (tells_revived tree) (names_of sweep.settings); notes = false; from = 0; till = run_count sweep }
-
-  -- all lines are the table, and all cases are summed up
-  pub whole_table : (start held : Option (List ℕ)) (gathering : Gathering)
-      → HasCome tree sweep (whole_course start) held (λ notes. IsGathered (seed_count sweep.seeds) notes gathering) (run_count sweep)
-      → MakesAll tree sweep start held (summaries_in gathering)
-  whole_table start held gathering come =
-      let lines = come.lines in
-      let are = all_made lines.made lines.are in
-      let long : length (map noted lines.made) ≡ run_count sweep =
-      length-map lines.made noted ∙ sym (zipped_long (IsMadeAs tree) (runs_of sweep) lines.made are) ∙ runs_counted sweep in
-      record {
-        made = lines.made;
-        are = are;
-        written = lines.written;
-        all = all_through sweep (map noted lines.made) gathering long come.gathered;
-        told = come.gathered.told;
-      }
 
   module _ (exists : (s : Setup) → IsSound s → (rows : List Row) × IsRunOf s rows) where
     -- each run that is accepted can be made
@@ -246,7 +217,7 @@ module _ (tree : Data) (sweep : Sweep) where
         take-take count (course.till - course.from) (drop course.from (runs_of sweep)) few in
         let accepted = All-take (IsAccepted tree) (course.till - course.from) (drop course.from (runs_of sweep)) (All-drop (IsAccepted tree) course.from (runs_of sweep) all) in
         let left = runs_left (drop count planned) (All-drop (IsAccepted tree) count planned accepted) in
-        let line : Made → List ℕ = line_with (tells_revived tree) course.notes in
+        let line : Made → List ℕ = noted_line (tells_revived tree) in
         let text : lines_text tree course lines.made ++ flat_map line left.0 ≡ lines_text tree course (lines.made ++ left.0) =
         append_assoc course.front (flat_map line lines.made) (flat_map line left.0) ∙ ap (λ l. course.front ++ l) (sym (flat_map-append line lines.made left.0)) in (
           lines.made ++ left.0,
@@ -256,16 +227,7 @@ module _ (tree : Data) (sweep : Sweep) where
           beginning-of course.start held _ _ text (beginning-first course.start held (lines_text tree course lines.made) (flat_map line left.0) lines.written),
         )
 
-    -- and one of the whole table
-    pub begun_table : (start held : Option (List ℕ)) → AreAccepted tree sweep → BeginsLines tree sweep (whole_course start) held → BeginsTable tree sweep start held
-    begun_table start held all lines =
-        let begun = begun_lines (whole_course start) held all lines in
-        record { made = begun.0; are = all_made begun.0 begun.1; written = begun.2 }
-
-  module _ (notes : Bool) (number : ℕ) (run : MadeRun) (is : IsMadeRun tree sweep notes number run) (course : Course) (same : course.notes ≡ notes) where
-    line_same : run.line.items ≡ line_with (tells_revived tree) course.notes is.made
-    line_same = is.written ∙ ap (λ b. line_with (tells_revived tree) b is.made) (sym same)
-
+  module _ (number : ℕ) (run : MadeRun) (is : IsMadeRun tree sweep number run) (course : Course) where
     -- its line was written, and it was gathered
     pub line_whole : (mid held : Option (List ℕ)) (Before After : List Note → Type 0) → Appends mid held run.line.items
         → ((made : List Note) → Before made → After (made ++ run.note ∷ []))
@@ -280,7 +242,7 @@ module _ (tree : Data) (sweep : Sweep) where
             low = omega (arith, lines.low);
             are = are_more course.from number is.planned is.made lines.made lines.low is.there is.is lines.are;
             written = subst (Appends course.start held) (text_more tree course lines.made is.made)
-                (Appends-then course.start mid held (lines_text tree course lines.made) (line_with (tells_revived tree) course.notes is.made) lines.written (subst (Appends mid held) line_same p));
+                (Appends-then course.start mid held (lines_text tree course lines.made) (noted_line (tells_revived tree) is.made) lines.written (subst (Appends mid held) is.written p));
           };
           gathered = subst After added (gathers (map noted lines.made) come.gathered);
         }
@@ -295,5 +257,5 @@ module _ (tree : Data) (sweep : Sweep) where
       high = high;
       are = are_more course.from number is.planned is.made lines.made lines.low is.there is.is lines.are;
       written = beginning-of course.start held _ _ (text_more tree course lines.made is.made)
-          (beginning-then course.start mid held (lines_text tree course lines.made) (line_with (tells_revived tree) course.notes is.made) lines.written (beginning-of mid held _ _ line_same p));
+          (beginning-then course.start mid held (lines_text tree course lines.made) (noted_line (tells_revived tree) is.made) lines.written (beginning-of mid held _ _ is.written p));
     }

@@ -1,5 +1,5 @@
--- The table of a piece of a sweep.
-use Rattle.std.specs.Prelude.{ℕ, Bool, List, ◌++◌, true, Option}
+-- The table of a sweep, and that of a piece of it.
+use Rattle.std.specs.Prelude.{ℕ, Bool, List, ◌++◌, Option}
 use Rattle.std.specs.List.{flat_map}
 use Rattle.std.specs.Io.KnownBytes.{Appends}
 use Rattle.toml.specs.Data.{Data}
@@ -7,10 +7,10 @@ use Rattle.trace.specs.Sinks.{AppendsBeginning}
 use Rattle.figures.specs.Lines.{header_line}
 use Rattle.cases.specs.Sweep.{Sweep, run_count}
 use Rattle.pieces.specs.declared.piece.Piece.{Piece}
-use Rattle.pieces.specs.Pieces.{first_run, past_run}
+use Rattle.pieces.specs.Pieces.{first_run, past_run, whole}
 use Rattle.pieces.specs.Names.{head_cell}
-use Rattle.sweep.specs.Runs.{Made, AreMadeBetween}
-use Rattle.sweep.specs.Table.{names_of, tells_revived, line_with}
+use Rattle.sweep.specs.Runs.{Made, AreMade, AreMadeBetween}
+use Rattle.sweep.specs.Table.{names_of, tells_revived, noted_line}
 
 -- these are the runs of the piece
 abbrev pub AreMadeIn : Data → Sweep → Piece → List Made → Type 0
@@ -22,16 +22,26 @@ piece_header revived mark sweep p = head_cell mark sweep p ++ header_line revive
 
 -- that line, and the lines of the piece's runs, each with its note before it
 abbrev pub piece_table : Bool → List ℕ → Sweep → Piece → List Made → List ℕ
-piece_table revived mark sweep p made = piece_header revived mark sweep p ++ flat_map (line_with revived true) made
+piece_table revived mark sweep p made = piece_header revived mark sweep p ++ flat_map (noted_line revived) made
+
+-- the table of a whole sweep is that of its only piece
+abbrev pub table_text : Data → List ℕ → Sweep → List Made → List ℕ
+table_text tree mark sweep made = piece_table (tells_revived tree) mark sweep whole made
+
+-- a beginning of it was appended
+pub record BeginsTable (tree : Data) (mark : List ℕ) (sweep : Sweep) (old new : Option (List ℕ)) : Type 0 where
+  pub made : List Made
+  pub are : AreMade tree sweep made
+  pub written : AppendsBeginning old new (table_text tree mark sweep made)
 
 -- the piece was appended
-pub record WritesPiece (tree : Data) (sweep : Sweep) (mark : List ℕ) (p : Piece) (old new : Option (List ℕ)) : Type 0 where
+pub record WritesPiece (tree : Data) (mark : List ℕ) (sweep : Sweep) (p : Piece) (old new : Option (List ℕ)) : Type 0 where
   pub made : List Made
   pub are : AreMadeIn tree sweep p made
   pub written : Appends old new (piece_table (tells_revived tree) mark sweep p made)
 
 -- a beginning of it was
-pub record BeginsPiece (tree : Data) (sweep : Sweep) (mark : List ℕ) (p : Piece) (old new : Option (List ℕ)) : Type 0 where
+pub record BeginsPiece (tree : Data) (mark : List ℕ) (sweep : Sweep) (p : Piece) (old new : Option (List ℕ)) : Type 0 where
   pub made : List Made
   pub are : AreMadeIn tree sweep p made
   pub written : AppendsBeginning old new (piece_table (tells_revived tree) mark sweep p made)

@@ -1,5 +1,5 @@
 -- The table of a piece that was cut off, and how it goes on.
-use Rattle.std.specs.Prelude.{◌≡◌, ◌≢◌, ◌==◌, ◌⊎◌, ◌<◌, ◌≤◌, ◌+◌, ◌-◌, ℕ, Bool, List, [], ◌∷◌, ◌++◌, true, false, Option, All, length}
+use Rattle.std.specs.Prelude.{◌≡◌, ◌≢◌, ◌==◌, ◌⊎◌, ◌<◌, ◌≤◌, ◌+◌, ◌-◌, ℕ, Bool, List, [], ◌∷◌, ◌++◌, false, Option, All, length}
 use Rattle.std.specs.List.{flat_map}
 use Rattle.std.specs.Io.KnownBytes.{Appends}
 use Rattle.toml.specs.Data.{Data}
@@ -8,7 +8,7 @@ use Rattle.cases.specs.Sweep.{Sweep, run_count}
 use Rattle.pieces.specs.declared.piece.Piece.{Piece}
 use Rattle.pieces.specs.Pieces.{first_run, past_run}
 use Rattle.sweep.specs.Runs.{Made, AreMadeBetween}
-use Rattle.sweep.specs.Table.{line_with, tells_revived}
+use Rattle.sweep.specs.Table.{Course, noted_line, tells_revived}
 use Rattle.sweep.specs.Pieces.{piece_header}
 use Rattle.sweep.specs.declared.begun.BegunFault.{BegunFault}
 use Rattle.sweep.specs.declared.begun.BegunFault.TheVariants.{Other, Memory}
@@ -43,15 +43,23 @@ pub record IsLong (header text lines : List ℕ) (runs : ℕ) : Type 0 where
   pub written : text ≡ header ++ rest
   pub are : AreWholeLines rest lines runs
 
+abbrev pub StandsSo : List ℕ → List ℕ → List ℕ → ℕ → Type 0
+StandsSo header text lines runs = IsShort header text lines runs ⊎ IsLong header text lines runs
+
 -- So much of the table of a piece stands in the text: no more lines than the piece has runs.
 pub record IsBegun (revived : Bool) (mark : List ℕ) (sweep : Sweep) (p : Piece) (text lines : List ℕ) (runs : ℕ) : Type 0 where
-  pub begun : IsShort (piece_header revived mark sweep p) text lines runs ⊎ IsLong (piece_header revived mark sweep p) text lines runs
+  pub begun : StandsSo (piece_header revived mark sweep p) text lines runs
   pub few : first_run p (run_count sweep) + runs ≤ past_run p (run_count sweep)
 
 -- of the text and the first line neither begins with the other
 pub record IsApart (header text : List ℕ) : Type 0 where
   pub no_more : (rest : List ℕ) → text ≢ header ++ rest
   pub no_less : (rest : List ℕ) → header ≢ text ++ rest
+
+-- why nothing of such a table stands in the text, unless memory was refused
+abbrev pub RefusesStart : List ℕ → List ℕ → BegunFault → Type 0
+RefusesStart header text Other = IsApart header text
+RefusesStart header text Memory = Unit {0}
 
 -- behind the first line come more than so many
 pub record HasMore (header text : List ℕ) (runs : ℕ) : Type 0 where
@@ -69,20 +77,29 @@ RefusesBegun revived mark sweep p text Memory = Unit {0}
 
 -- the first line of a piece, lines that were made before, and those of the runs that were left
 abbrev pub rest_text : Bool → List ℕ → Sweep → Piece → List ℕ → List Made → List ℕ
-rest_text revived mark sweep p lines made = (piece_header revived mark sweep p ++ lines) ++ flat_map (line_with revived true) made
+rest_text revived mark sweep p lines made = (piece_header revived mark sweep p ++ lines) ++ flat_map (noted_line revived) made
 
 -- the runs of a piece but for so many, the first
 abbrev pub AreMadeBehind : Data → Sweep → Piece → ℕ → List Made → Type 0
 AreMadeBehind tree sweep p runs made = AreMadeBetween tree sweep (first_run p (run_count sweep) + runs) (past_run p (run_count sweep)) made
 
+-- how these lines come, behind the first line and the lines that were made before
+abbrev pub rest_course : Data → List ℕ → Sweep → Piece → List ℕ → ℕ → Option (List ℕ) → Course
+rest_course tree mark sweep p lines runs start = record {
+  start = start;
+  front = piece_header (tells_revived tree) mark sweep p ++ lines;
+  from = first_run p (run_count sweep) + runs;
+  till = past_run p (run_count sweep);
+}
+
 -- that was appended
-pub record WritesRest (tree : Data) (sweep : Sweep) (mark : List ℕ) (p : Piece) (lines : List ℕ) (runs : ℕ) (old new : Option (List ℕ)) : Type 0 where
+pub record WritesRest (tree : Data) (mark : List ℕ) (sweep : Sweep) (p : Piece) (lines : List ℕ) (runs : ℕ) (old new : Option (List ℕ)) : Type 0 where
   pub made : List Made
   pub are : AreMadeBehind tree sweep p runs made
   pub written : Appends old new (rest_text (tells_revived tree) mark sweep p lines made)
 
 -- a beginning of it was
-pub record BeginsRest (tree : Data) (sweep : Sweep) (mark : List ℕ) (p : Piece) (lines : List ℕ) (runs : ℕ) (old new : Option (List ℕ)) : Type 0 where
+pub record BeginsRest (tree : Data) (mark : List ℕ) (sweep : Sweep) (p : Piece) (lines : List ℕ) (runs : ℕ) (old new : Option (List ℕ)) : Type 0 where
   pub made : List Made
   pub are : AreMadeBehind tree sweep p runs made
   pub written : AppendsBeginning old new (rest_text (tells_revived tree) mark sweep p lines made)

@@ -9,7 +9,8 @@ use Rattle.figures.specs.Cases.{IsSummaryOf}
 use Rattle.figures.specs.Kept.{AreFiguresOf}
 use Rattle.sweep.specs.declared.gathering.Gathering.{Gathering}
 use Rattle.sweep.specs.Runs.{Made, AreMade, noted}
-use Rattle.sweep.specs.Table.{Course, HasLines, table_text}
+use Rattle.sweep.specs.Table.{Course, HasLines}
+use Rattle.sweep.specs.Pieces.{table_text}
 
 -- The notes of the runs of the case of this number, counted from 0, among those of all runs: each case has so many, and they follow
 -- one another.
@@ -21,10 +22,10 @@ abbrev pub SumUp : ℕ → List Note → List CaseSummary → Type 0
 SumUp each notes cases = (number : ℕ) (summary : CaseSummary) → slice_get cases number ≡ Some summary → IsSummaryOf summary (runs_of_case each notes number)
 
 -- all runs were made: their table was appended, and each case is summed up
-pub record MakesAll (tree : Data) (sweep : Sweep) (old new : Option (List ℕ)) (cases : List CaseSummary) : Type 0 where
+pub record MakesAll (tree : Data) (mark : List ℕ) (sweep : Sweep) (old new : Option (List ℕ)) (cases : List CaseSummary) : Type 0 where
   pub made : List Made
   pub are : AreMade tree sweep made
-  pub written : Appends old new (table_text tree sweep made)
+  pub written : Appends old new (table_text tree mark sweep made)
   pub all : length cases ≡ case_count sweep.settings
   pub told : SumUp (seed_count sweep.seeds) (map noted made) cases
 

@@ -1,5 +1,5 @@
--- The table of a sweep, and how far it has come.
-use Rattle.std.specs.Prelude.{◌≡◌, ◌≤◌, ℕ, ◌⊎◌, List, [], ◌++◌, Bool, true, false, Option, Result, Ok, Err, IfOk, Vec, map}
+-- The lines of a sweep's table, and how far they have come.
+use Rattle.std.specs.Prelude.{◌≡◌, ◌≤◌, ℕ, ◌⊎◌, List, ◌++◌, Bool, true, false, Option, Result, Ok, Err, IfOk, Vec, map}
 use Rattle.std.specs.List.{AllZip, flat_map}
 use Rattle.std.specs.Io.KnownBytes.{Appends}
 use Rattle.std.specs.declared.alloc.Global.{Global}
@@ -15,14 +15,14 @@ use Rattle.trace.specs.Sinks.{AppendsBeginning}
 use Rattle.member_laws.specs.Runs.{WearsOut}
 use Rattle.outputs.specs.Promise.{WearsOutReport}
 use Rattle.figures.specs.Figures.{figures_of}
-use Rattle.figures.specs.Lines.{header_line, run_line}
-use Rattle.figures.specs.Notes.{Note, note_cell}
+use Rattle.figures.specs.Lines.{run_line}
+use Rattle.figures.specs.Notes.{note_cell}
 use Rattle.cases.specs.Keys.{key_name}
 use Rattle.cases.specs.Values.{value_text}
 use Rattle.cases.specs.Sweep.{KeyValues, Sweep}
 use Rattle.cases.specs.declared.choice.Choice.{Choice}
 use Rattle.sweep.specs.declared.making.MadeRun.{MadeRun}
-use Rattle.sweep.specs.Runs.{Planned, Made, IsMadeAs, AreMade, AreMadeBetween, IsRunAt, noted, verdict_of}
+use Rattle.sweep.specs.Runs.{Planned, Made, IsMadeAs, AreMadeBetween, IsRunAt, noted, verdict_of}
 
 -- the values of a case, as words say them
 abbrev pub texts_of : List Choice → List (List ℕ)
@@ -46,31 +46,21 @@ tells_revived tree = has_revivals (version_of tree)
 abbrev pub made_line : Bool → Made → List ℕ
 made_line revived m = run_line revived (texts_of m.case) m.scenario.seed (figures_of m.scenario m.rows)
 
--- the header, and the line of each run
-abbrev pub table_text : Data → Sweep → List Made → List ℕ
-table_text tree sweep made = header_line (tells_revived tree) (names_of sweep.settings) ++ flat_map (made_line (tells_revived tree)) made
+-- the line of a run that was made, with its note before it
+abbrev pub noted_line : Bool → Made → List ℕ
+noted_line revived m = note_cell (noted m) ++ made_line revived m
 
--- what stands before the line of a run: its note, where lines have notes
-abbrev pub note_before : Bool → Note → List ℕ
-note_before false n = []
-note_before true n = note_cell n
-
--- the line of a run that was made, with its note where lines have notes
-abbrev pub line_with : Bool → Bool → Made → List ℕ
-line_with revived notes m = note_before notes (noted m) ++ made_line revived m
-
--- What lines are put one after the other: what was held before, and what is put ahead of them; whether they have notes; and the numbers of
--- the first run and of the one past the last.
+-- What lines are put one after the other: what was held before, and what is put ahead of them; and the numbers of the first run and of the one
+-- past the last.
 pub record Course : Type 0 where
   pub start : Option (List ℕ)
   pub front : List ℕ
-  pub notes : Bool
   pub from : ℕ
   pub till : ℕ
 
 -- what is put, with the lines of these runs
 abbrev pub lines_text : Data → Course → List Made → List ℕ
-lines_text tree course made = course.front ++ flat_map (line_with (tells_revived tree) course.notes) made
+lines_text tree course made = course.front ++ flat_map (noted_line (tells_revived tree)) made
 
 -- what is put ahead, and the lines of the runs to before this number, were appended
 pub record HasLines (tree : Data) (sweep : Sweep) (course : Course) (held : Option (List ℕ)) (number : ℕ) : Type 0 where
@@ -87,12 +77,6 @@ pub record BeginsLines (tree : Data) (sweep : Sweep) (course : Course) (held : O
   pub high : number ≤ course.till
   pub are : AreMadeBetween tree sweep course.from number made
   pub written : AppendsBeginning course.start held (lines_text tree course made)
-
--- a beginning of the table was appended
-pub record BeginsTable (tree : Data) (sweep : Sweep) (old new : Option (List ℕ)) : Type 0 where
-  pub made : List Made
-  pub are : AreMade tree sweep made
-  pub written : AppendsBeginning old new (table_text tree sweep made)
 
 -- the scenario's run, or the count of its rows, wears a counter out
 abbrev pub IsWearing : Setup → Type 0
@@ -132,19 +116,19 @@ IsCauseAt tree sweep number fault.Write = ⊥
 IsCauseAt tree sweep number fault.Relay = ⊥
 
 -- the line and the note are those of the run of this number
-pub record IsMadeRun (tree : Data) (sweep : Sweep) (notes : Bool) (number : ℕ) (run : MadeRun) : Type 0 where
+pub record IsMadeRun (tree : Data) (sweep : Sweep) (number : ℕ) (run : MadeRun) : Type 0 where
   pub planned : Planned
   pub there : IsRunAt sweep number planned
   pub made : Made
   pub is : IsMadeAs tree planned made
-  pub written : run.line.items ≡ line_with (tells_revived tree) notes made
+  pub written : run.line.items ≡ noted_line (tells_revived tree) made
   pub kept : run.note ≡ noted made
 
 -- the run of this number was made, or there is a cause for there being none
-abbrev pub IsMadeOf : Data → Sweep → Bool → ℕ → Result MadeRun Fault → Type 0
-IsMadeOf tree sweep notes number (Ok run) = IsMadeRun tree sweep notes number run
-IsMadeOf tree sweep notes number (Err f) = IsCauseAt tree sweep number f
+abbrev pub IsMadeOf : Data → Sweep → ℕ → Result MadeRun Fault → Type 0
+IsMadeOf tree sweep number (Ok run) = IsMadeRun tree sweep number run
+IsMadeOf tree sweep number (Err f) = IsCauseAt tree sweep number f
 
 -- the runs of some numbers were made, one by one, unless memory was refused
-abbrev pub IsMadeLot : Data → Sweep → Bool → List ℕ → Result (Vec (Result MadeRun Fault) Global) Memory → Type 0
-IsMadeLot tree sweep notes numbers lot = IfOk lot (λ runs. AllZip (IsMadeOf tree sweep notes) numbers runs.items)
+abbrev pub IsMadeLot : Data → Sweep → List ℕ → Result (Vec (Result MadeRun Fault) Global) Memory → Type 0
+IsMadeLot tree sweep numbers lot = IfOk lot (λ runs. AllZip (IsMadeOf tree sweep) numbers runs.items)

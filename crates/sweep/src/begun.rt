@@ -1,11 +1,11 @@
 //! What stands of the table of a piece that was cut off.
-ghost use Rattle.std.specs.Prelude.{◌≡◌, ◌≢◌, ◌++◌, true, false, List, ℕ, IfOk, IfErr, IfSome, IsNone};
+ghost use Rattle.std.specs.Prelude.{◌≡◌, ◌≢◌, ◌++◌, [], true, false, List, ℕ, IfOk, IfErr, IfSome, IsNone};
 ghost use Rattle.toml.specs.View.{view};
 ghost use Rattle.pieces.specs.Pieces.{IsPiece};
 ghost use Rattle.sweep.specs.Pieces.{piece_header};
 ghost use Rattle.sweep.specs.Runs.{IsAskedFor};
 ghost use Rattle.sweep.specs.Table.{tells_revived};
-ghost use Rattle.sweep.specs.Resumed.{AreWholeLines, IsBegun, RefusesBegun};
+ghost use Rattle.sweep.specs.Resumed.{AreWholeLines, IsBegun, RefusesBegun, RefusesStart, StandsSo};
 ghost use Rattle.sweep.specs.declared.begun.BegunFault.TheVariants as begun_fault;
 
 use crate::piece_tables::write_front;
@@ -24,6 +24,19 @@ pub struct Begun<'a> {
     pub lines: &'a [u8],
     /// How many they are: so many of the piece's runs are made.
     pub runs: usize,
+}
+
+impl Begun<'_> {
+    /// Nothing of it.
+    pub fn nothing() -> Begun<'static>
+        ensures lines { result.lines.now ≡ [] }
+        ensures runs { result.runs ≡ 0 }
+    {
+        Begun {
+            lines: b"",
+            runs: 0,
+        }
+    }
 }
 
 /// Why a text is no beginning of the table of a piece.
@@ -54,6 +67,28 @@ pub fn begun_of<'a>(
     ensures begun { IfOk result (λ begun. IsBegun (tells_revived (view document.now)) mark.now plan.now piece text.entry.now begun.lines.now begun.runs) }
     ensures refused { IfErr result (RefusesBegun (tells_revived (view document.now)) mark.now plan.now piece text.entry.now) }
 {
+    let begun = begun_lines(alloc, plan, piece, mark, document, text)?;
+    let runs = plan.runs();
+    if begun.runs > piece.past(runs) - piece.first(runs) {
+        return Err(BegunFault::Other);
+    }
+    Ok(begun)
+}
+
+/// What stands of a piece's table in a text, however many lines that are.
+///
+/// Faults: `Other` where the text begins otherwise; `Memory`.
+pub fn begun_lines<'a>(
+    alloc: Global,
+    plan: &Plan,
+    piece: Piece,
+    mark: &str,
+    document: &Value,
+    text: &'a [u8],
+) -> Result<Begun<'a>, BegunFault>
+    ensures begun { IfOk result (λ begun. StandsSo (piece_header (tells_revived (view document.now)) mark.now plan.now piece) text.entry.now begun.lines.now begun.runs) }
+    ensures refused { IfErr result (RefusesStart (piece_header (tells_revived (view document.now)) mark.now plan.now piece) text.entry.now) }
+{
     let header = header_of(alloc, plan, piece, mark, tells_revived(document))?;
     if is_beginning(text, &header) {
         return Ok(Begun {
@@ -64,12 +99,7 @@ pub fn begun_of<'a>(
     let Some(rest) = rest_behind(text, &header) else {
         return Err(BegunFault::Other);
     };
-    let begun = whole_lines(rest);
-    let runs = plan.runs();
-    if begun.runs > piece.past(runs) - piece.first(runs) {
-        return Err(BegunFault::Other);
-    }
-    Ok(begun)
+    Ok(whole_lines(rest))
 }
 
 /// The first line of a piece.

@@ -5,39 +5,41 @@ ghost use Rattle.cases.specs.Sweep.{run_count, seed_count};
 ghost use Rattle.outputs.specs.Written.{sink_failures};
 ghost use Rattle.sweep.specs.Judged.{AreAccepted};
 ghost use Rattle.sweep.specs.Runs.{IsAskedFor};
-ghost use Rattle.sweep.specs.Table.{BeginsTable, BeginsLines, Course, HasCause};
+ghost use Rattle.sweep.specs.Table.{BeginsLines, Course, HasCause};
+ghost use Rattle.sweep.specs.Pieces.{BeginsTable};
 ghost use Rattle.sweep.specs.Summaries.{MakesAll, HasCome};
 
+use crate::begun::Begun;
 use crate::gathering::{Gather, Gathering};
 use crate::making::make_side_by_side;
+use crate::piece_tables::write_table;
 use crate::progress::Progress;
 use crate::reading::read_run;
-use crate::revived::tells_revived;
-use crate::values::write_names;
 use crate::writing::write_line;
 use base::Fault;
 use cases::Plan;
 use figures::CaseSummary;
-use outputs::flush;
+use pieces::Piece;
 use scenario::{Scenario, Workers};
 use std::alloc::Global;
 use std::marker::Sync;
 use std::thread::Threads;
 use toml::Value;
 use trace::Sink;
-use whole_runs::a_run_exists;
 
 /// The most runs that each worker makes before their lines are written.
-const MOST_RUNS_OF_A_WORKER: u64 = 32;
+const MOST_RUNS_OF_A_WORKER: u64 = 256;
 
-/// How many periods of members a worker runs, about, before lines are written: some hundred milliseconds of work.
-const MEMBER_PERIODS: u64 = 200_000;
+/// How many periods of members a worker runs, about, before lines are written: some second of work. Workers that
+/// are through wait for the slowest before lines are written, so they shall be written seldom.
+const MEMBER_PERIODS: u64 = 2_000_000;
 
-/// Makes the runs of a sweep, and writes their table: a header, and a line for each run, in the order of the
-/// cases and of the seeds; at the end the table is flushed. Runs are made some at a time, as many side by side
-/// as there are workers, each of which keeps a cluster in memory; each time it is told how many were made.
-/// Gives what is told of each case, in their order. Each document must have been judged to be accepted. After a
-/// fault the table has got a beginning of that.
+/// Makes the runs of a sweep, and writes their table, which is that of its only piece: a header, ahead of which
+/// stands the piece's name, and a line for each run, in the order of the cases and of the seeds, each with what
+/// its case keeps of it before it; at the end the table is flushed. `mark` tells which scenario's text is meant.
+/// Runs are made some at a time, as many side by side as there are workers, each of which keeps a cluster in
+/// memory; each time it is told how many were made. Gives what is told of each case, in their order. Each document
+/// must have been judged to be accepted. After a fault the table has got a beginning of that.
 ///
 /// Faults: `Memory`; `Worn` where a counter of some run, or a count of its tallies, would pass 2^63; `Write`
 /// where the sink failed.
@@ -45,6 +47,7 @@ pub fn sweep<S: Sink, P: Progress>(
     rt: &(impl Threads + Sync),
     alloc: Global,
     plan: &Plan,
+    mark: &str,
     document: &Value,
     workers: Workers,
     progress: &mut P,
@@ -55,42 +58,37 @@ pub fn sweep<S: Sink, P: Progress>(
     requires countable { S.failed table.old < 2 ^ 63 }
 
     // How many workers there are doesn't count: the table and what is told are the same.
-    ensures whole { IfOk result (λ cases. MakesAll (view document.now) plan.now (S.held table.old) (S.held table.new) cases.items) }
-    ensures part { OnErr result (BeginsTable (view document.now) plan.now (S.held table.old) (S.held table.new)) }
+    ensures whole { IfOk result (λ cases. MakesAll (view document.now) mark.now plan.now (S.held table.old) (S.held table.new) cases.items) }
+    ensures part { OnErr result (BeginsTable (view document.now) mark.now plan.now (S.held table.old) (S.held table.new)) }
 
     // No fault comes without its cause.
     ensures causes { IfErr result (HasCause (view document.now) plan.now) }
     ensures failures { S.failed table.new ≡ S.failed table.old + sink_failures result }
 {
     let mut gathering = Gathering::new(alloc, plan.runs_of_case() as u64);
-    a_run_exists();
-    write_names(alloc, plan.settings(), tells_revived(document), table)?;
-    make_runs(
+    write_table(
         rt,
         alloc,
         plan,
+        Piece::whole(),
+        mark,
+        Begun::nothing(),
         document,
         workers,
-        false,
-        0,
-        plan.runs(),
         progress,
         &mut gathering,
         table,
     )?;
-    flush(table)?;
     Ok(gathering.into_summaries())
 }
 
-/// Makes the runs from one number to before another, writes their lines, with notes or without, and gathers what is
-/// told of them.
+/// Makes the runs from one number to before another, writes their lines, and gathers what is told of them.
 pub(crate) fn make_runs<S: Sink, P: Progress, G: Gather>(
     rt: &(impl Threads + Sync),
     alloc: Global,
     plan: &Plan,
     document: &Value,
     workers: Workers,
-    notes: bool,
     from: usize,
     till: usize,
     progress: &mut P,
@@ -102,9 +100,9 @@ pub(crate) fn make_runs<S: Sink, P: Progress, G: Gather>(
     requires ordered { from ≤ till }
     requires within { till ≤ run_count plan.now }
     requires countable { S.failed table.old < 2 ^ 63 }
-    ensures whole { OnOk result ((course : Course) → course.notes ≡ notes → HasCome (view document.now) plan.now course (S.held table.old) (G.has gathering.old (seed_count plan.now.seeds)) from
+    ensures whole { OnOk result ((course : Course) → HasCome (view document.now) plan.now course (S.held table.old) (G.has gathering.old (seed_count plan.now.seeds)) from
         → HasCome (view document.now) plan.now course (S.held table.new) (G.has gathering.new (seed_count plan.now.seeds)) till) }
-    ensures part { OnErr result ((course : Course) → course.notes ≡ notes → till ≤ course.till
+    ensures part { OnErr result ((course : Course) → till ≤ course.till
         → HasCome (view document.now) plan.now course (S.held table.old) (G.has gathering.old (seed_count plan.now.seeds)) from
         → BeginsLines (view document.now) plan.now course (S.held table.new)) }
     ensures causes { IfErr result (HasCause (view document.now) plan.now) }
@@ -113,9 +111,10 @@ pub(crate) fn make_runs<S: Sink, P: Progress, G: Gather>(
     let mut next = from;
     while next < till {
         let scenario = read_run(alloc, plan, document, next)?;
-        let end = till.min(next + workers.count() * runs_of_a_worker(&scenario));
+        let each = runs_of_a_worker(&scenario, MEMBER_PERIODS, MOST_RUNS_OF_A_WORKER);
+        let end = till.min(next + workers.count() * each);
         make_some(
-            rt, alloc, plan, document, workers, notes, next, end, gathering, table,
+            rt, alloc, plan, document, workers, next, end, gathering, table,
         )?;
         next = end;
         progress.runs_made(next - from, till - from);
@@ -123,15 +122,17 @@ pub(crate) fn make_runs<S: Sink, P: Progress, G: Gather>(
     Ok(())
 }
 
-/// How many runs like that of this scenario each worker makes before their lines are written: several short ones,
-/// so that one which is through waits for the others seldom, and few long ones, so that progress is told often.
-pub fn runs_of_a_worker(scenario: &Scenario) -> usize
+/// How many runs like that of this scenario each worker makes before their lines are written: as many as have about
+/// so many periods of members, no more than the most, and no fewer than one. Several short ones are made, so that a
+/// worker which is through waits for the others seldom, and few long ones, so that progress is told often.
+pub fn runs_of_a_worker(scenario: &Scenario, member_periods: u64, most: u64) -> usize
+    requires { 1 ≤ most }
     ensures least { 1 ≤ result }
-    ensures most { result ≤ 32 }
+    ensures most { result ≤ most }
 {
     let periods = scenario.end().ticks() / scenario.period().max(1);
     let of_all = periods.saturating_mul(scenario.members() as u64).max(1);
-    (MEMBER_PERIODS / of_all).min(MOST_RUNS_OF_A_WORKER).max(1) as usize
+    (member_periods / of_all).min(most).max(1) as usize
 }
 
 /// Makes the runs from one number to before another, as many side by side as there are workers, writes their
@@ -142,7 +143,6 @@ fn make_some<S: Sink, G: Gather>(
     plan: &Plan,
     document: &Value,
     workers: Workers,
-    notes: bool,
     from: usize,
     till: usize,
     gathering: &mut G,
@@ -153,16 +153,16 @@ fn make_some<S: Sink, G: Gather>(
     requires ordered { from ≤ till }
     requires within { till ≤ run_count plan.now }
     requires countable { S.failed table.old < 2 ^ 63 }
-    ensures whole { OnOk result ((course : Course) → course.notes ≡ notes → HasCome (view document.now) plan.now course (S.held table.old) (G.has gathering.old (seed_count plan.now.seeds)) from
+    ensures whole { OnOk result ((course : Course) → HasCome (view document.now) plan.now course (S.held table.old) (G.has gathering.old (seed_count plan.now.seeds)) from
         → HasCome (view document.now) plan.now course (S.held table.new) (G.has gathering.new (seed_count plan.now.seeds)) till) }
-    ensures part { OnErr result ((course : Course) → course.notes ≡ notes → till ≤ course.till
+    ensures part { OnErr result ((course : Course) → till ≤ course.till
         → HasCome (view document.now) plan.now course (S.held table.old) (G.has gathering.old (seed_count plan.now.seeds)) from
         → BeginsLines (view document.now) plan.now course (S.held table.new)) }
     ensures causes { IfErr result (HasCause (view document.now) plan.now) }
     ensures failures { S.failed table.new ≡ S.failed table.old + sink_failures result }
 {
     let each = (till - from).div_ceil(workers.count()).max(1);
-    let runs = make_side_by_side(rt, alloc, plan, document, notes, from, till, each)?;
+    let runs = make_side_by_side(rt, alloc, plan, document, from, till, each)?;
     for made in runs {
         let run = made?;
         write_line(alloc, &run, gathering, table)?;

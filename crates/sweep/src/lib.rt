@@ -16,12 +16,12 @@ mod texts;
 mod values;
 mod writing;
 
-pub use begun::{Begun, BegunFault, begun_of};
+pub use begun::{Begun, BegunFault, begun_lines, begun_of};
 pub use chunks::{runs_of_a_worker, sweep};
 pub use gathering::{Gather, Gathering, NothingGathered};
 pub use judging::{Refused, judge};
 pub use making::{MadeRun, make_side_by_side};
-pub use piece_tables::{write_front, write_piece, write_rest};
+pub use piece_tables::{write_begun, write_front, write_piece, write_rest};
 pub use progress::{NoProgress, Progress};
 pub use reading::read_run;
 pub use revived::tells_revived;

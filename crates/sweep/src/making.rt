@@ -1,5 +1,5 @@
 //! The runs of a sweep, made side by side.
-ghost use Rattle.std.specs.Prelude.{◌≡◌, ◌≤◌, ◌<◌, ◌-◌, ℕ, Bool, All, List, IfOk};
+ghost use Rattle.std.specs.Prelude.{◌≡◌, ◌≤◌, ◌<◌, ◌-◌, ℕ, All, List, IfOk};
 ghost use Rattle.std.specs.List.{AllZip, flat_map, range_with_len};
 ghost use Rattle.toml.specs.Data.{Data};
 ghost use Rattle.toml.specs.View.{view};
@@ -25,14 +25,13 @@ use whole_runs::tally_run;
 /// A run that was made.
 #[derive(Drop)]
 pub struct MadeRun {
-    /// Its line of the table, with its note before it where lines have notes.
+    /// Its line of the table, with its note before it.
     pub line: Vec<u8>,
     /// What its case keeps of it.
     pub note: RunNote,
 }
 
-/// The runs from one number to before another, in their order, with lines that have notes or none;
-/// or why there is no run of a number: `Memory`; `Worn` where a counter of that run, or a count of
+/// The runs from one number to before another, in their order; or why there is no run of a number: `Memory`; `Worn` where a counter of that run, or a count of
 /// its tallies, would pass 2^63. The numbers are dealt out in lots of so many; as many threads as
 /// there are processors, and no more than there are lots, make the runs of the lots, side by side.
 /// Each document must have been judged to be accepted. It fails where memory is refused for the
@@ -42,7 +41,6 @@ pub fn make_side_by_side(
     alloc: Global,
     plan: &Plan,
     document: &Value,
-    notes: bool,
     from: usize,
     till: usize,
     each: usize,
@@ -51,7 +49,7 @@ pub fn make_side_by_side(
     requires judged { AreAccepted (view document.now) plan.now }
     requires within { till ≤ run_count plan.now }
     requires some { 0 < each }
-    ensures { IfOk result (λ runs. AllZip (IsMadeOf (view document.now) plan.now notes) (range_with_len from (till - from)) runs.items) }
+    ensures { IfOk result (λ runs. AllZip (IsMadeOf (view document.now) plan.now) (range_with_len from (till - from)) runs.items) }
 {
     let numbers = numbers(alloc, from, till)?;
     let lots: Vec<Result<Vec<Result<MadeRun, Fault>>, Memory>> = numbers
@@ -60,8 +58,8 @@ pub fn make_side_by_side(
         .map(
             |lot: &[usize]| -> Result<Vec<Result<MadeRun, Fault>>, Memory>
                 requires { IsAskedFor plan.now × AreAccepted (view document.now) plan.now × All (λ number. number < run_count plan.now) lot.now }
-                ensures { IsMadeLot (view document.entry.now) plan.entry.now notes lot.entry.now result }
-            { make_in_turn(alloc, plan, document, notes, lot) },
+                ensures { IsMadeLot (view document.entry.now) plan.entry.now lot.entry.now result }
+            { make_in_turn(alloc, plan, document, lot) },
         )
         .collect(rt, alloc)?;
     joined(alloc, lots)
@@ -83,17 +81,16 @@ fn make_in_turn(
     alloc: Global,
     plan: &Plan,
     document: &Value,
-    notes: bool,
     lot: &[usize],
 ) -> Result<Vec<Result<MadeRun, Fault>>, Memory>
     requires asked { IsAskedFor plan.now }
     requires judged { AreAccepted (view document.now) plan.now }
     requires within { All (λ number. number < run_count plan.now) lot.now }
-    ensures { IsMadeLot (view document.now) plan.now notes lot.now result }
+    ensures { IsMadeLot (view document.now) plan.now lot.now result }
 {
     let mut runs = Vec::new(alloc);
     for number in lot {
-        runs.push(make_run(alloc, plan, document, notes, *number))?;
+        runs.push(make_run(alloc, plan, document, *number))?;
     }
     Ok(runs)
 }
@@ -103,9 +100,9 @@ fn joined(
     alloc: Global,
     lots: Vec<Result<Vec<Result<MadeRun, Fault>>, Memory>>,
 ) -> Result<Vec<Result<MadeRun, Fault>>, Memory>
-    ensures { IfOk result (λ runs. (tree : Data) (sweep : Sweep) (notes : Bool) (numbers : List (List ℕ))
-        → AllZip (IsMadeLot tree sweep notes) numbers lots.items
-        → AllZip (IsMadeOf tree sweep notes) (flat_map (λ lot. lot) numbers) runs.items) }
+    ensures { IfOk result (λ runs. (tree : Data) (sweep : Sweep) (numbers : List (List ℕ))
+        → AllZip (IsMadeLot tree sweep) numbers lots.items
+        → AllZip (IsMadeOf tree sweep) (flat_map (λ lot. lot) numbers) runs.items) }
 {
     let mut runs = Vec::new(alloc);
     for lot in lots {
@@ -116,17 +113,11 @@ fn joined(
 }
 
 /// Makes the run of this number, and lays out its line. All else that is known of the run is dropped.
-fn make_run(
-    alloc: Global,
-    plan: &Plan,
-    document: &Value,
-    notes: bool,
-    number: usize,
-) -> Result<MadeRun, Fault>
+fn make_run(alloc: Global, plan: &Plan, document: &Value, number: usize) -> Result<MadeRun, Fault>
     requires asked { IsAskedFor plan.now }
     requires judged { AreAccepted (view document.now) plan.now }
     requires within { number < run_count plan.now }
-    ensures { IsMadeOf (view document.now) plan.now notes number result }
+    ensures { IsMadeOf (view document.now) plan.now number result }
 {
     let run = planned(alloc, plan, number)?;
     let scenario = read_run(alloc, plan, document, number)?;
@@ -135,7 +126,6 @@ fn make_run(
     let note = RunNote::of(alloc, &tallies, &figures, &scenario)?;
     let line = line_of(
         alloc,
-        notes,
         &run.case,
         scenario.seed(),
         &note,

@@ -1,8 +1,8 @@
 //! The runs of a piece of a sweep, and the table of one that was cut off.
-ghost use Rattle.std.specs.Prelude.{◌≡◌, ◌≤◌, ◌<◌, ◌^◌, ◌+◌, ◌++◌, OnOk, OnErr, IfErr};
+ghost use Rattle.std.specs.Prelude.{◌≡◌, ◌≤◌, ◌<◌, ◌^◌, ◌+◌, ◌++◌, [], OnOk, OnErr, IfErr};
 ghost use Rattle.std.specs.Io.KnownBytes.{Appends};
 ghost use Rattle.toml.specs.View.{view};
-ghost use Rattle.cases.specs.Sweep.{run_count};
+ghost use Rattle.cases.specs.Sweep.{run_count, seed_count};
 ghost use Rattle.trace.specs.Sinks.{AppendsBeginning, failures_of_write};
 ghost use Rattle.outputs.specs.Written.{sink_failures};
 ghost use Rattle.pieces.specs.Pieces.{IsPiece, first_run, past_run};
@@ -10,12 +10,13 @@ ghost use Rattle.pieces.specs.Names.{head_cell};
 ghost use Rattle.sweep.specs.Judged.{AreAccepted};
 ghost use Rattle.sweep.specs.Runs.{IsAskedFor};
 ghost use Rattle.sweep.specs.Table.{HasCause, tells_revived};
+ghost use Rattle.sweep.specs.Summaries.{HasCome};
 ghost use Rattle.sweep.specs.Pieces.{piece_header, BeginsPiece, WritesPiece};
-ghost use Rattle.sweep.specs.Resumed.{BeginsRest, WritesRest};
+ghost use Rattle.sweep.specs.Resumed.{BeginsRest, WritesRest, rest_course};
 
 use crate::begun::Begun;
 use crate::chunks::make_runs;
-use crate::gathering::NothingGathered;
+use crate::gathering::{Gather, NothingGathered};
 use crate::progress::Progress;
 use crate::revived::tells_revived;
 use crate::values::write_names;
@@ -49,17 +50,14 @@ pub fn write_piece<S: Sink, P: Progress>(
     requires judged { AreAccepted (view document.now) plan.now }
     requires piece { IsPiece piece }
     requires countable { S.failed table.old < 2 ^ 63 }
-    ensures whole { OnOk result (WritesPiece (view document.now) plan.now mark.now piece (S.held table.old) (S.held table.new)) }
-    ensures part { OnErr result (BeginsPiece (view document.now) plan.now mark.now piece (S.held table.old) (S.held table.new)) }
+    ensures whole { OnOk result (WritesPiece (view document.now) mark.now plan.now piece (S.held table.old) (S.held table.new)) }
+    ensures part { OnErr result (BeginsPiece (view document.now) mark.now plan.now piece (S.held table.old) (S.held table.new)) }
 
     // No fault comes without its cause.
     ensures causes { IfErr result (HasCause (view document.now) plan.now) }
     ensures failures { S.failed table.new ≡ S.failed table.old + sink_failures result }
 {
-    let nothing = Begun {
-        lines: b"",
-        runs: 0,
-    };
+    let nothing = Begun::nothing();
     write_rest(
         rt, alloc, plan, piece, mark, nothing, document, workers, progress, table,
     )
@@ -84,8 +82,49 @@ pub fn write_rest<S: Sink, P: Progress>(
     requires piece { IsPiece piece }
     requires few { first_run piece (run_count plan.now) + begun.runs ≤ past_run piece (run_count plan.now) }
     requires countable { S.failed table.old < 2 ^ 63 }
-    ensures whole { OnOk result (WritesRest (view document.now) plan.now mark.now piece begun.entry.lines.now begun.entry.runs (S.held table.old) (S.held table.new)) }
-    ensures part { OnErr result (BeginsRest (view document.now) plan.now mark.now piece begun.entry.lines.now begun.entry.runs (S.held table.old) (S.held table.new)) }
+    ensures whole { OnOk result (WritesRest (view document.now) mark.now plan.now piece begun.entry.lines.now begun.entry.runs (S.held table.old) (S.held table.new)) }
+    ensures part { OnErr result (BeginsRest (view document.now) mark.now plan.now piece begun.entry.lines.now begun.entry.runs (S.held table.old) (S.held table.new)) }
+    ensures causes { IfErr result (HasCause (view document.now) plan.now) }
+    ensures failures { S.failed table.new ≡ S.failed table.old + sink_failures result }
+{
+    write_table(
+        rt,
+        alloc,
+        plan,
+        piece,
+        mark,
+        begun,
+        document,
+        workers,
+        progress,
+        &mut NothingGathered,
+        table,
+    )
+}
+
+/// Writes that table, and gathers what is told of the runs that are made.
+pub(crate) fn write_table<S: Sink, P: Progress, G: Gather>(
+    rt: &(impl Threads + Sync),
+    alloc: Global,
+    plan: &Plan,
+    piece: Piece,
+    mark: &str,
+    begun: Begun<'_>,
+    document: &Value,
+    workers: Workers,
+    progress: &mut P,
+    gathering: &mut G,
+    table: &mut S,
+) -> Result<(), Fault>
+    requires asked { IsAskedFor plan.now }
+    requires judged { AreAccepted (view document.now) plan.now }
+    requires piece { IsPiece piece }
+    requires few { first_run piece (run_count plan.now) + begun.runs ≤ past_run piece (run_count plan.now) }
+    requires fresh { G.has gathering.old (seed_count plan.now.seeds) [] }
+    requires countable { S.failed table.old < 2 ^ 63 }
+    ensures whole { OnOk result (HasCome (view document.now) plan.now (rest_course (view document.now) mark.now plan.now piece begun.entry.lines.now begun.entry.runs (S.held table.old))
+        (S.held table.new) (G.has gathering.new (seed_count plan.now.seeds)) (past_run piece (run_count plan.now))) }
+    ensures part { OnErr result (BeginsRest (view document.now) mark.now plan.now piece begun.entry.lines.now begun.entry.runs (S.held table.old) (S.held table.new)) }
     ensures causes { IfErr result (HasCause (view document.now) plan.now) }
     ensures failures { S.failed table.new ≡ S.failed table.old + sink_failures result }
 {
@@ -107,19 +146,18 @@ pub fn write_rest<S: Sink, P: Progress>(
         plan,
         document,
         workers,
-        true,
         from,
         piece.past(runs),
         progress,
-        &mut NothingGathered,
+        gathering,
         table,
     )?;
     flush(table)?;
     Ok(())
 }
 
-/// Puts the first line of a piece, and lines that were made before.
-fn write_begun<S: Sink>(
+/// Puts the first line of a piece, as `write_front` does, and lines that were made before.
+pub fn write_begun<S: Sink>(
     alloc: Global,
     plan: &Plan,
     piece: Piece,

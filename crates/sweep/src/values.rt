@@ -3,7 +3,8 @@ ghost use Rattle.std.specs.Prelude.{◌≡◌, ◌<◌, ◌^◌, ◌+◌, ◌++�
 ghost use Rattle.std.specs.Io.KnownBytes.{Appends, Keeps};
 ghost use Rattle.trace.specs.Sinks.{AppendsBeginning, failures_of_write};
 ghost use Rattle.figures.specs.Lines.{header_line, run_line};
-ghost use Rattle.sweep.specs.Table.{names_of, note_before, texts_of};
+ghost use Rattle.figures.specs.Notes.{note_cell};
+ghost use Rattle.sweep.specs.Table.{names_of, texts_of};
 
 use base::Memory;
 use cases::{Choice, Setting};
@@ -29,21 +30,20 @@ pub fn write_names<S: Sink>(
     write_header(alloc, &keys, revived, table)
 }
 
-/// The line of a run, with the values of its case, and with its note before it where lines have
-/// notes; whether it tells of members that were taken for alive again is given.
+/// The line of a run, with the values of its case, and with its note before it; whether it tells of
+/// members that were taken for alive again is given.
 pub(crate) fn line_of(
     alloc: Global,
-    notes: bool,
     case: &[Choice],
     seed: u64,
     note: &RunNote,
     figures: &RunFigures,
     revived: bool,
 ) -> Result<Vec<u8>, Memory>
-    ensures { IfOk result (λ line. line.items ≡ note_before notes note.now ++ run_line revived (texts_of case.now) seed figures.now) }
+    ensures { IfOk result (λ line. line.items ≡ note_cell note.now ++ run_line revived (texts_of case.now) seed figures.now) }
 {
     let mut line = Put::new(Vec::new(alloc));
-    match write_noted(alloc, notes, case, seed, note, figures, revived, &mut line) {
+    match write_noted(alloc, case, seed, note, figures, revived, &mut line) {
         Ok(()) => Ok(line.into_inner()),
         // A text in memory fails by want of that.
         Err(_) => Err(Memory),
@@ -53,7 +53,6 @@ pub(crate) fn line_of(
 /// Puts that line.
 fn write_noted<S: Sink>(
     alloc: Global,
-    notes: bool,
     case: &[Choice],
     seed: u64,
     note: &RunNote,
@@ -62,30 +61,12 @@ fn write_noted<S: Sink>(
     table: &mut S,
 ) -> Result<(), WriteError>
     requires { S.failed table.old < 2 ^ 63 }
-    ensures whole { OnOk result (Appends (S.held table.old) (S.held table.new) (note_before notes note.now ++ run_line revived (texts_of case.now) seed figures.now)) }
-    ensures part { OnErr result (AppendsBeginning (S.held table.old) (S.held table.new) (note_before notes note.now ++ run_line revived (texts_of case.now) seed figures.now)) }
+    ensures whole { OnOk result (Appends (S.held table.old) (S.held table.new) (note_cell note.now ++ run_line revived (texts_of case.now) seed figures.now)) }
+    ensures part { OnErr result (AppendsBeginning (S.held table.old) (S.held table.new) (note_cell note.now ++ run_line revived (texts_of case.now) seed figures.now)) }
     ensures failures { S.failed table.new ≡ S.failed table.old + failures_of_write result }
 {
-    write_note_before(alloc, notes, note, table)?;
+    write_note(alloc, note, table)?;
     write_values(alloc, case, seed, figures, revived, table)
-}
-
-/// Puts the note of a run, where lines have notes.
-fn write_note_before<S: Sink>(
-    alloc: Global,
-    notes: bool,
-    note: &RunNote,
-    table: &mut S,
-) -> Result<(), WriteError>
-    requires { S.failed table.old < 2 ^ 63 }
-    ensures whole { OnOk result (Appends (S.held table.old) (S.held table.new) (note_before notes note.now)) }
-    ensures part { OnErr result (AppendsBeginning (S.held table.old) (S.held table.new) (note_before notes note.now)) }
-    ensures failures { S.failed table.new ≡ S.failed table.old + failures_of_write result }
-{
-    if notes {
-        return write_note(alloc, note, table);
-    }
-    Ok(())
 }
 
 /// Puts the line of a run, with the values of its case; the rest as for the first line.

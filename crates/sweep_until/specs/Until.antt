@@ -9,8 +9,9 @@ use Rattle.figures.specs.declared.summary.CaseSummary.{CaseSummary}
 use Rattle.figures.specs.Cases.{IsSummaryOf, runs_with}
 use Rattle.figures.specs.Notes.{Note}
 use Rattle.sweep.specs.Runs.{Made, AreMadeBetween, noted}
-use Rattle.figures.specs.Lines.{header_line}
-use Rattle.sweep.specs.Table.{Course, BeginsLines, line_with, names_of, table_text, tells_revived}
+use Rattle.pieces.specs.Pieces.{whole}
+use Rattle.sweep.specs.Table.{Course, BeginsLines, noted_line, tells_revived}
+use Rattle.sweep.specs.Pieces.{piece_header, table_text}
 use Rattle.sweep.specs.Summaries.{HasCome}
 use Rattle.widths.specs.Widths.{is_narrow}
 use Rattle.sweep_until.specs.Kept.{AreKept}
@@ -48,27 +49,26 @@ abbrev pub all_of : List (List Made) → List Made
 all_of made = flat_map (λ case. case) made
 
 -- the table of the runs of some cases
-abbrev pub cases_table : Data → Sweep → List (List Made) → List ℕ
-cases_table tree sweep made = table_text tree sweep (all_of made)
+abbrev pub cases_table : Data → List ℕ → Sweep → List (List Made) → List ℕ
+cases_table tree mark sweep made = table_text tree mark sweep (all_of made)
 
 -- the summary of a case's runs
 abbrev pub SumsUp : List Made → CaseSummary → Type 0
 SumsUp made case = IsSummaryOf case (map noted made)
 
--- Which cases are put one after the other: what is put ahead of their lines, whether these have notes, the number of the first, and how many they are.
+-- Which cases are put one after the other: what is put ahead of their lines, the number of the first, and how many they are.
 pub record Stretch : Type 0 where
   pub front : List ℕ
-  pub notes : Bool
   pub first : ℕ
   pub cases : ℕ
 
--- all cases, behind the header
-abbrev pub all_cases : Data → Sweep → Stretch
-all_cases tree sweep = record { front = header_line (tells_revived tree) (names_of sweep.settings); notes = false; first = 0; cases = case_count sweep.settings }
+-- all cases, behind the first line of the only piece
+abbrev pub all_cases : Data → List ℕ → Sweep → Stretch
+all_cases tree mark sweep = record { front = piece_header (tells_revived tree) mark sweep whole; first = 0; cases = case_count sweep.settings }
 
 -- what is put, with the lines of the runs of these cases
 abbrev pub stretch_text : Data → Stretch → List (List Made) → List ℕ
-stretch_text tree stretch made = stretch.front ++ flat_map (line_with (tells_revived tree) stretch.notes) (all_of made)
+stretch_text tree stretch made = stretch.front ++ flat_map (noted_line (tells_revived tree)) (all_of made)
 
 -- so many cases were made, their lines were appended, and each is summed up
 pub record HasCases (tree : Data) (sweep : Sweep) (width : ℕ) (stretch : Stretch) (old new : Option (List ℕ)) (number : ℕ) (cases : List CaseSummary) : Type 0 where
@@ -78,8 +78,8 @@ pub record HasCases (tree : Data) (sweep : Sweep) (width : ℕ) (stretch : Stret
   pub told : AllZip SumsUp made cases
 
 -- those of all cases
-abbrev pub MakesUntil : Data → Sweep → ℕ → Option (List ℕ) → Option (List ℕ) → List CaseSummary → Type 0
-MakesUntil tree sweep width old new cases = HasCases tree sweep width (all_cases tree sweep) old new (case_count sweep.settings) cases
+abbrev pub MakesUntil : Data → List ℕ → Sweep → ℕ → Option (List ℕ) → Option (List ℕ) → List CaseSummary → Type 0
+MakesUntil tree mark sweep width old new cases = HasCases tree sweep width (all_cases tree mark sweep) old new (case_count sweep.settings) cases
 
 -- a beginning of the lines of all these cases was appended
 pub record BeginsCases (tree : Data) (sweep : Sweep) (width : ℕ) (stretch : Stretch) (old new : Option (List ℕ)) : Type 0 where
@@ -88,15 +88,15 @@ pub record BeginsCases (tree : Data) (sweep : Sweep) (width : ℕ) (stretch : St
   pub written : AppendsBeginning old new (stretch_text tree stretch made)
 
 -- a beginning of the table was
-abbrev pub BeginsUntil : Data → Sweep → ℕ → Option (List ℕ) → Option (List ℕ) → Type 0
-BeginsUntil tree sweep width old new = BeginsCases tree sweep width (all_cases tree sweep) old new
+abbrev pub BeginsUntil : Data → List ℕ → Sweep → ℕ → Option (List ℕ) → Option (List ℕ) → Type 0
+BeginsUntil tree mark sweep width old new = BeginsCases tree sweep width (all_cases tree mark sweep) old new
 
 -- ---- how far a case has come
 
 -- the lines of the case of this number
-abbrev pub case_course : Sweep → Bool → ℕ → Option (List ℕ) → Course
-case_course sweep noted number start =
-    record { start = start; front = []; notes = noted; from = number * seed_count sweep.seeds; till = number * seed_count sweep.seeds + seed_count sweep.seeds }
+abbrev pub case_course : Sweep → ℕ → Option (List ℕ) → Course
+case_course sweep number start =
+    record { start = start; front = []; from = number * seed_count sweep.seeds; till = number * seed_count sweep.seeds + seed_count sweep.seeds }
 
 -- the lines of the runs of a case to before the run of this number were appended, and no fewer of them are narrow enough
 pub record HasGone (tree : Data) (sweep : Sweep) (width : ℕ) (course : Course) (held : Option (List ℕ)) (kept : CaseRuns) (number : ℕ) : Type 0 where
@@ -121,9 +121,9 @@ pub record BeginsWide (tree : Data) (sweep : Sweep) (width : ℕ) (course : Cour
   pub begun : BeginsLines tree sweep course held
   pub wide : IsWide width (map noted begun.made)
 
--- the runs of a case were made, their lines were appended, with notes or without, and it is summed up
-pub record MakesCase (tree : Data) (sweep : Sweep) (width : ℕ) (notes : Bool) (number : ℕ) (old new : Option (List ℕ)) (case : CaseSummary) : Type 0 where
+-- the runs of a case were made, their lines were appended, and it is summed up
+pub record MakesCase (tree : Data) (sweep : Sweep) (width : ℕ) (number : ℕ) (old new : Option (List ℕ)) (case : CaseSummary) : Type 0 where
   pub made : List Made
   pub are : IsMadeUntil tree sweep width number made
-  pub written : Appends old new (flat_map (line_with (tells_revived tree) notes) made)
+  pub written : Appends old new (flat_map (noted_line (tells_revived tree)) made)
   pub told : SumsUp made case

@@ -1,24 +1,27 @@
 //! The table of a piece, which is one of whole cases.
-ghost use Rattle.std.specs.Prelude.{◌≡◌, ◌<◌, ◌^◌, ◌+◌, Some, is_some, true, OnOk, OnErr, IfErr};
+ghost use Rattle.std.specs.Prelude.{◌≡◌, ◌<◌, ◌≤◌, ◌^◌, ◌+◌, ◌-◌, [], Some, is_some, true, OnOk, OnErr, IfErr};
 ghost use Rattle.toml.specs.View.{view};
 ghost use Rattle.outputs.specs.Written.{sink_failures};
 ghost use Rattle.pieces.specs.Pieces.{IsPiece};
 ghost use Rattle.sweep.specs.Judged.{AreAccepted};
 ghost use Rattle.sweep.specs.Runs.{IsAskedFor};
 ghost use Rattle.sweep.specs.Table.{HasCause};
-ghost use Rattle.sweep_until.specs.Pieces.{BeginsPieceUntil, WritesPieceUntil};
+ghost use Rattle.sweep_until.specs.Pieces.{BeginsPieceUntil, BeginsRestUntil, WritesPieceUntil, WritesRestUntil, cases_in, rest_cases};
+ghost use Rattle.sweep_until.specs.Until.{BeginsCases, HasCases};
 
+use crate::begun::BegunCases;
 use crate::parts::PieceProgress;
 use crate::until::make_cases;
 use base::Fault;
 use cases::Plan;
+use figures::CaseSummary;
 use outputs::flush;
 use pieces::Piece;
 use scenario::Workers;
 use std::alloc::Global;
 use std::marker::Sync;
 use std::thread::Threads;
-use sweep::{Progress, tells_revived, write_front};
+use sweep::{Progress, tells_revived, write_begun};
 use toml::Value;
 use trace::Sink;
 use whole_runs::{a_run_exists, the_run_is_one};
@@ -49,18 +52,86 @@ pub fn write_piece_until<S: Sink, P: Progress>(
     requires countable { S.failed table.old < 2 ^ 63 }
 
     // How many workers there are doesn't count.
-    ensures whole { OnOk result (WritesPieceUntil (view document.now) plan.now mark.now piece (S.held table.old) (S.held table.new)) }
-    ensures part { OnErr result (BeginsPieceUntil (view document.now) plan.now mark.now piece (S.held table.old) (S.held table.new)) }
+    ensures whole { OnOk result (WritesPieceUntil (view document.now) mark.now plan.now piece (S.held table.old) (S.held table.new)) }
+    ensures part { OnErr result (BeginsPieceUntil (view document.now) mark.now plan.now piece (S.held table.old) (S.held table.new)) }
 
     // No fault comes without its cause.
     ensures causes { IfErr result (HasCause (view document.now) plan.now) }
     ensures failures { S.failed table.new ≡ S.failed table.old + sink_failures result }
 {
-    let count = plan.cases();
-    let from = piece.first(count);
-    let till = piece.past(count);
+    let nothing = BegunCases::nothing();
+    write_rest_until(
+        rt, alloc, plan, piece, mark, nothing, document, workers, progress, table,
+    )
+}
+
+/// Makes the runs of the cases of a piece that aren't made yet, and writes its table: the first line, the lines of the cases
+/// that were made before, and those of the cases that are left; at the end the table is flushed. All else is as in
+/// `write_piece_until`.
+pub fn write_rest_until<S: Sink, P: Progress>(
+    rt: &(impl Threads + Sync),
+    alloc: Global,
+    plan: &Plan,
+    piece: Piece,
+    mark: &str,
+    begun: BegunCases<'_>,
+    document: &Value,
+    workers: Workers,
+    progress: &mut P,
+    table: &mut S,
+) -> Result<(), Fault>
+    requires asked { IsAskedFor plan.now }
+    requires judged { AreAccepted (view document.now) plan.now }
+    requires piece { IsPiece piece }
+    requires wanted { is_some plan.now.until ≡ true }
+    requires few { begun.cases ≤ cases_in plan.now piece }
+    requires countable { S.failed table.old < 2 ^ 63 }
+    ensures whole { OnOk result (WritesRestUntil (view document.now) mark.now plan.now piece begun.entry.lines.now begun.entry.cases (S.held table.old) (S.held table.new)) }
+    ensures part { OnErr result (BeginsRestUntil (view document.now) mark.now plan.now piece begun.entry.lines.now begun.entry.cases (S.held table.old) (S.held table.new)) }
+    ensures causes { IfErr result (HasCause (view document.now) plan.now) }
+    ensures failures { S.failed table.new ≡ S.failed table.old + sink_failures result }
+{
     let width = width_of(plan);
     let mut cases = Vec::new(alloc);
+    write_cases(
+        rt, alloc, plan, piece, mark, width, begun, document, workers, progress, &mut cases, table,
+    )
+}
+
+/// Writes that table, where the intervals are to be so many hundredths wide at most, and adds what is told of each case that
+/// is made.
+pub(crate) fn write_cases<S: Sink, P: Progress>(
+    rt: &(impl Threads + Sync),
+    alloc: Global,
+    plan: &Plan,
+    piece: Piece,
+    mark: &str,
+    width: u64,
+    begun: BegunCases<'_>,
+    document: &Value,
+    workers: Workers,
+    progress: &mut P,
+    cases: &mut Vec<CaseSummary>,
+    table: &mut S,
+) -> Result<(), Fault>
+    requires asked { IsAskedFor plan.now }
+    requires judged { AreAccepted (view document.now) plan.now }
+    requires piece { IsPiece piece }
+    requires most { width ≤ 100 }
+    requires few { begun.cases ≤ cases_in plan.now piece }
+    requires fresh { cases.old.items ≡ [] }
+    requires countable { S.failed table.old < 2 ^ 63 }
+    ensures whole { OnOk result (HasCases (view document.now) plan.now width
+        (rest_cases (view document.now) mark.now plan.now piece begun.entry.lines.now begun.entry.cases) (S.held table.old) (S.held table.new)
+        (cases_in plan.now piece - begun.entry.cases) cases.new.items) }
+    ensures part { OnErr result (BeginsCases (view document.now) plan.now width
+        (rest_cases (view document.now) mark.now plan.now piece begun.entry.lines.now begun.entry.cases) (S.held table.old) (S.held table.new)) }
+    ensures causes { IfErr result (HasCause (view document.now) plan.now) }
+    ensures failures { S.failed table.new ≡ S.failed table.old + sink_failures result }
+{
+    let count = plan.cases();
+    let from = piece.first(count) + begun.cases;
+    let till = piece.past(count);
     let mut part = PieceProgress {
         whole: progress,
         before: from.saturating_mul(plan.runs_of_case()),
@@ -68,9 +139,17 @@ pub fn write_piece_until<S: Sink, P: Progress>(
     };
     a_run_exists();
     the_run_is_one();
-    write_front(alloc, plan, piece, mark, tells_revived(document), table)?;
+    write_begun(
+        alloc,
+        plan,
+        piece,
+        mark,
+        begun.lines,
+        tells_revived(document),
+        table,
+    )?;
     make_cases(
-        rt, alloc, plan, width, document, workers, true, from, till, &mut part, &mut cases, table,
+        rt, alloc, plan, width, document, workers, from, till, &mut part, cases, table,
     )?;
     flush(table)?;
     Ok(())

@@ -2,12 +2,14 @@
 //! thrown out narrow enough.
 #![tactic(auto)]
 
+mod begun;
 mod case_pieces;
 mod lots;
 mod parts;
 mod runs;
 mod until;
 
-pub use case_pieces::write_piece_until;
+pub use begun::BegunCases;
+pub use case_pieces::{write_piece_until, write_rest_until};
 pub use runs::CaseRuns;
 pub use until::sweep_until;

@@ -21,8 +21,8 @@ use trace::Sink;
 use whole_runs::the_run_is_one;
 
 /// Makes the runs of a case from one number to before another, as many side by side as there are workers, and writes their
-/// lines, with notes or without, up to the first run with which the interval is narrow enough. Answers the number of the run after the last that was
-/// written; what was made beyond is thrown away.
+/// lines up to the first run with which the interval is narrow enough. Answers the number of the run after the last that
+/// was written; what was made beyond is thrown away.
 pub(crate) fn make_lot<S: Sink>(
     rt: &(impl Threads + Sync),
     alloc: Global,
@@ -30,7 +30,6 @@ pub(crate) fn make_lot<S: Sink>(
     width: u64,
     document: &Value,
     workers: Workers,
-    notes: bool,
     from: usize,
     till: usize,
     runs: &mut CaseRuns,
@@ -42,18 +41,18 @@ pub(crate) fn make_lot<S: Sink>(
     requires some { from < till }
     requires within { till ≤ run_count plan.now }
     requires countable { S.failed table.old < 2 ^ 63 }
-    ensures whole { IfOk result (λ next. (course : Course) → course.notes ≡ notes → GoesOn (view document.now) plan.now width course (S.held table.old) runs.old from
+    ensures whole { IfOk result (λ next. (course : Course) → GoesOn (view document.now) plan.now width course (S.held table.old) runs.old from
         → HasGone (view document.now) plan.now width course (S.held table.new) runs.new next) }
     ensures further { IfOk result (λ next. from < next) }
     ensures bounded { IfOk result (λ next. next ≤ till) }
-    ensures part { OnErr result ((course : Course) → course.notes ≡ notes → till ≤ course.till → GoesOn (view document.now) plan.now width course (S.held table.old) runs.old from
+    ensures part { OnErr result ((course : Course) → till ≤ course.till → GoesOn (view document.now) plan.now width course (S.held table.old) runs.old from
         → BeginsWide (view document.now) plan.now width course (S.held table.new)) }
     ensures causes { IfErr result (HasCause (view document.now) plan.now) }
     ensures failures { S.failed table.new ≡ S.failed table.old + sink_failures result }
 {
     the_run_is_one();
     let each = (till - from).div_ceil(workers.count()).max(1);
-    let lot = make_side_by_side(rt, alloc, plan, document, notes, from, till, each)?;
+    let lot = make_side_by_side(rt, alloc, plan, document, from, till, each)?;
     let mut past = from;
     for made in lot {
         let run = made?;

@@ -8,28 +8,39 @@ ghost use Rattle.sweep.specs.Runs.{IsAskedFor};
 ghost use Rattle.sweep.specs.Table.{Course, HasCause};
 ghost use Rattle.sweep_until.specs.Until.{BeginsCases, BeginsUntil, BeginsWide, GoesOn, HasCases, HasEnded, MakesCase, MakesUntil, Stretch, case_course};
 
+use crate::begun::BegunCases;
+use crate::case_pieces::write_cases;
 use crate::lots::make_lot;
 use crate::runs::CaseRuns;
 use base::{Fault, Memory};
 use cases::Plan;
 use figures::CaseSummary;
-use outputs::flush;
+use pieces::Piece;
 use scenario::Workers;
 use std::alloc::Global;
 use std::marker::Sync;
 use std::thread::Threads;
-use sweep::{Progress, read_run, runs_of_a_worker, tells_revived, write_names};
+use sweep::{Progress, read_run, runs_of_a_worker};
 use toml::Value;
 use trace::Sink;
 use whole_runs::{a_run_exists, the_run_is_one};
 
+/// The most runs that each worker makes before their lines are written.
+const MOST_RUNS_OF_A_WORKER: u64 = 32;
+
+/// How many periods of members a worker runs, about, before lines are written: some hundred milliseconds of work. What
+/// is made beyond the last run that is wanted is thrown away, so few are made at a time.
+const MEMBER_PERIODS: u64 = 200_000;
+
 /// Makes the runs of a sweep, of each case with more and more of the seeds, in rising order, until the 95 % interval of the
 /// share of its runs in which members were thrown out, by Wilson, is at most so many hundredths wide, or with all seeds that
-/// are asked for. How many runs a case has depends on its own runs alone. Their table is written: a header, and a line for each
-/// run, in the order of the cases and of the seeds; at the end it is flushed. Runs of a case are made some at a time, as many
-/// side by side as there are workers; what was made beyond the last run that is wanted is thrown away. Each time it is told how
-/// many runs were made, those that are left out among them. Gives what is told of each case, in their order. Each document must
-/// have been judged to be accepted. After a fault the table has got a beginning of that.
+/// are asked for. How many runs a case has depends on its own runs alone. Their table is written, which is that of the sweep's
+/// only piece: a header, ahead of which stands the piece's name, and a line for each run, in the order of the cases and of the
+/// seeds, each with what its case keeps of it before it; at the end it is flushed. `mark` tells which scenario's text is meant.
+/// Runs of a case are made some at a time, as many side by side as there are workers; what was made beyond the last run that is
+/// wanted is thrown away. Each time it is told how many runs were made, those that are left out among them. Gives what is told of
+/// each case, in their order. Each document must have been judged to be accepted. After a fault the table has got a beginning of
+/// that.
 ///
 /// Faults: `Memory`; `Worn` where a counter of some run, or a count of its tallies, would pass 2^63; `Write` where the sink
 /// failed.
@@ -37,6 +48,7 @@ pub fn sweep_until<S: Sink, P: Progress>(
     rt: &(impl Threads + Sync),
     alloc: Global,
     plan: &Plan,
+    mark: &str,
     width: u64,
     document: &Value,
     workers: Workers,
@@ -49,37 +61,32 @@ pub fn sweep_until<S: Sink, P: Progress>(
     requires countable { S.failed table.old < 2 ^ 63 }
 
     // How many workers there are doesn't count: the table and what is told are the same.
-    ensures whole { IfOk result (λ cases. MakesUntil (view document.now) plan.now width (S.held table.old) (S.held table.new) cases.items) }
-    ensures part { OnErr result (BeginsUntil (view document.now) plan.now width (S.held table.old) (S.held table.new)) }
+    ensures whole { IfOk result (λ cases. MakesUntil (view document.now) mark.now plan.now width (S.held table.old) (S.held table.new) cases.items) }
+    ensures part { OnErr result (BeginsUntil (view document.now) mark.now plan.now width (S.held table.old) (S.held table.new)) }
 
     // No fault comes without its cause.
     ensures causes { IfErr result (HasCause (view document.now) plan.now) }
     ensures failures { S.failed table.new ≡ S.failed table.old + sink_failures result }
 {
     let mut cases = Vec::new(alloc);
-    a_run_exists();
-    the_run_is_one();
-    write_names(alloc, plan.settings(), tells_revived(document), table)?;
-    make_cases(
+    write_cases(
         rt,
         alloc,
         plan,
+        Piece::whole(),
+        mark,
         width,
+        BegunCases::nothing(),
         document,
         workers,
-        false,
-        0,
-        plan.cases(),
         progress,
         &mut cases,
         table,
     )?;
-    flush(table)?;
     Ok(cases)
 }
 
-/// Makes the runs of the cases from one number to before another, and adds what is told of each. Their lines have notes, or
-/// don't.
+/// Makes the runs of the cases from one number to before another, writes their lines, and adds what is told of each.
 pub(crate) fn make_cases<S: Sink, P: Progress>(
     rt: &(impl Threads + Sync),
     alloc: Global,
@@ -87,7 +94,6 @@ pub(crate) fn make_cases<S: Sink, P: Progress>(
     width: u64,
     document: &Value,
     workers: Workers,
-    notes: bool,
     first: usize,
     past: usize,
     progress: &mut P,
@@ -100,10 +106,10 @@ pub(crate) fn make_cases<S: Sink, P: Progress>(
     requires ordered { first ≤ past }
     requires within { past ≤ case_count plan.now.settings }
     requires countable { S.failed table.old < 2 ^ 63 }
-    ensures whole { OnOk result ((stretch : Stretch) (start : Option (List ℕ)) → stretch.notes ≡ notes → stretch.first ≡ first
+    ensures whole { OnOk result ((stretch : Stretch) (start : Option (List ℕ)) → stretch.first ≡ first
         → HasCases (view document.now) plan.now width stretch start (S.held table.old) 0 cases.old.items
         → HasCases (view document.now) plan.now width stretch start (S.held table.new) (past - first) cases.new.items) }
-    ensures part { OnErr result ((stretch : Stretch) (start : Option (List ℕ)) → stretch.notes ≡ notes → stretch.first ≡ first → stretch.cases ≡ past - first
+    ensures part { OnErr result ((stretch : Stretch) (start : Option (List ℕ)) → stretch.first ≡ first → stretch.cases ≡ past - first
         → HasCases (view document.now) plan.now width stretch start (S.held table.old) 0 cases.old.items
         → BeginsCases (view document.now) plan.now width stretch start (S.held table.new)) }
     ensures causes { IfErr result (HasCause (view document.now) plan.now) }
@@ -113,7 +119,7 @@ pub(crate) fn make_cases<S: Sink, P: Progress>(
     the_run_is_one();
     for number in first..past {
         let case = make_case(
-            rt, alloc, plan, width, document, workers, notes, number, progress, table,
+            rt, alloc, plan, width, document, workers, number, progress, table,
         )?;
         push_case(cases, case)?;
     }
@@ -128,7 +134,7 @@ fn push_case(cases: &mut Vec<CaseSummary>, case: CaseSummary) -> Result<(), Memo
     Ok(())
 }
 
-/// Makes the runs of the case of this number, writes their lines, with notes or without, and gives what is told of it.
+/// Makes the runs of the case of this number, writes their lines, and gives what is told of it.
 fn make_case<S: Sink, P: Progress>(
     rt: &(impl Threads + Sync),
     alloc: Global,
@@ -136,7 +142,6 @@ fn make_case<S: Sink, P: Progress>(
     width: u64,
     document: &Value,
     workers: Workers,
-    notes: bool,
     number: usize,
     progress: &mut P,
     table: &mut S,
@@ -146,8 +151,8 @@ fn make_case<S: Sink, P: Progress>(
     requires most { width ≤ 100 }
     requires within { number < case_count plan.now.settings }
     requires countable { S.failed table.old < 2 ^ 63 }
-    ensures whole { IfOk result (MakesCase (view document.now) plan.now width notes number (S.held table.old) (S.held table.new)) }
-    ensures part { OnErr result (BeginsWide (view document.now) plan.now width (case_course plan.now notes number (S.held table.old)) (S.held table.new)) }
+    ensures whole { IfOk result (MakesCase (view document.now) plan.now width number (S.held table.old) (S.held table.new)) }
+    ensures part { OnErr result (BeginsWide (view document.now) plan.now width (case_course plan.now number (S.held table.old)) (S.held table.new)) }
     ensures causes { IfErr result (HasCause (view document.now) plan.now) }
     ensures failures { S.failed table.new ≡ S.failed table.old + sink_failures result }
 {
@@ -156,7 +161,7 @@ fn make_case<S: Sink, P: Progress>(
     let past = first + plan.runs_of_case();
     let mut runs = CaseRuns::new(alloc);
     make_runs_of(
-        rt, alloc, plan, width, document, workers, notes, first, past, progress, &mut runs, table,
+        rt, alloc, plan, width, document, workers, first, past, progress, &mut runs, table,
     )?;
     progress.runs_made(past, plan.runs());
     let case = runs.into_summary()?;
@@ -182,7 +187,6 @@ fn make_runs_of<S: Sink, P: Progress>(
     width: u64,
     document: &Value,
     workers: Workers,
-    notes: bool,
     first: usize,
     past: usize,
     progress: &mut P,
@@ -195,9 +199,9 @@ fn make_runs_of<S: Sink, P: Progress>(
     requires some { first < past }
     requires within { past ≤ run_count plan.now }
     requires countable { S.failed table.old < 2 ^ 63 }
-    ensures whole { OnOk result ((course : Course) → course.notes ≡ notes → GoesOn (view document.now) plan.now width course (S.held table.old) runs.old first
+    ensures whole { OnOk result ((course : Course) → GoesOn (view document.now) plan.now width course (S.held table.old) runs.old first
         → HasEnded (view document.now) plan.now width course (S.held table.new) runs.new first past) }
-    ensures part { OnErr result ((course : Course) → course.notes ≡ notes → past ≤ course.till → GoesOn (view document.now) plan.now width course (S.held table.old) runs.old first
+    ensures part { OnErr result ((course : Course) → past ≤ course.till → GoesOn (view document.now) plan.now width course (S.held table.old) runs.old first
         → BeginsWide (view document.now) plan.now width course (S.held table.new)) }
     ensures causes { IfErr result (HasCause (view document.now) plan.now) }
     ensures failures { S.failed table.new ≡ S.failed table.old + sink_failures result }
@@ -206,9 +210,10 @@ fn make_runs_of<S: Sink, P: Progress>(
     let mut next = first;
     while next < past {
         let scenario = read_run(alloc, plan, document, next)?;
-        let end = past.min(next + workers.count() * runs_of_a_worker(&scenario));
+        let each = runs_of_a_worker(&scenario, MEMBER_PERIODS, MOST_RUNS_OF_A_WORKER);
+        let end = past.min(next + workers.count() * each);
         let reached = make_lot(
-            rt, alloc, plan, width, document, workers, notes, next, end, runs, table,
+            rt, alloc, plan, width, document, workers, next, end, runs, table,
         )?;
         if runs.is_narrow(width) {
             return Ok(());

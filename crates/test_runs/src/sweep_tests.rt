@@ -34,8 +34,8 @@ at = 300
 /// Two keys with two values each.
 const SETTINGS: [&str; 2] = ["swim.period=200,250", "swim.timeout=60,70"];
 
-/// How many puts a table takes: one for its header and one for each run.
-const PUTS: u64 = 9;
+/// How many puts a table takes: two for its first line, of which one is the piece's name, and one for each run.
+const PUTS: u64 = 10;
 
 /// Writes the table of the sweep by so many workers.
 fn sweep_by(
@@ -54,6 +54,7 @@ fn sweep_by(
         rt,
         rt.alloc(),
         &plan,
+        "mark",
         &text,
         workers,
         &mut NoProgress,

@@ -1,4 +1,4 @@
-use Rattle.std.proofs.Common.{◌≡◌, ap, is_some, sym}
+use Rattle.std.proofs.Common.{ap, is_some, sym}
 use Rattle.pieces.specs.declared.piece.Piece.{Piece}
 use Rattle.joins.proofs.Heads.{same_piece}
 use Rattle.joins.proofs.head.number_of.Goals as goal

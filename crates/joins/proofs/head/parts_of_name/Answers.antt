@@ -1,4 +1,4 @@
-use Rattle.std.proofs.Common.{◌≡◌, lit<, arith}
+use Rattle.std.proofs.Common.{lit<}
 use Rattle.std.proofs.lemmas.Str.Pattern.{split_parts, strip_prefix_char}
 use Rattle.cases.proofs.Words.{lacks_each}
 use Rattle.joins.proofs.Names.{if_some, laid, none_there, quoted, rest_lacks, spaced}

@@ -1,4 +1,4 @@
-use Rattle.std.proofs.Common.{◌≡◌, ◌∙◌, ap, is_some, sym}
+use Rattle.std.proofs.Common.{◌∙◌, ap, is_some, sym}
 use Rattle.sweep.proofs.Handing.{handed}
 use Rattle.joins.proofs.Heads.{same_piece, name_refused}
 use Rattle.joins.proofs.Names.{mark_read, marked_words}

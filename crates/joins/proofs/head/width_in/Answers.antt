@@ -1,4 +1,3 @@
-use Rattle.std.proofs.Common.{lit<}
 use Rattle.joins.proofs.Heads.{width_parts}
 use Rattle.joins.proofs.head.width_in.Goals as goal
 

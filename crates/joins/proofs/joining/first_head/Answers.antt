@@ -1,4 +1,4 @@
-use Rattle.std.proofs.Common.{◌≡◌, ap, inl, inr, is_some, rules, subst}
+use Rattle.std.proofs.Common.{ap, inl, inr, is_some, rules, subst}
 use Rattle.joins.specs.Reasons.{BeginsAs, BeginsAsNone}
 use Rattle.joins.proofs.Heads.{neither}
 use Rattle.joins.proofs.joining.first_head.Goals as goal

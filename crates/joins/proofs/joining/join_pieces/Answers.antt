@@ -1,25 +1,47 @@
-use Rattle.std.proofs.Common.{◌≡◌, refl, rules, sym, subst, arith}
+use Rattle.std.proofs.Common.{◌≡◌, ◌≤◌, [], refl, rules, sym, subst, arith}
+use Rattle.sweep.specs.Summaries.{IsGathered}
 use Rattle.sweep.proofs.Handing.{handed}
+use Rattle.sweep.proofs.Sizes.{few_runs, some_runs}
+use Rattle.joins.specs.Behind.{summaries_told}
 use Rattle.joins.specs.Joined.{JoinsPieces}
 use Rattle.joins.specs.Reasons.{IsReason}
-use Rattle.joins.proofs.PiecesMore.{no_piece, piece_more}
+use Rattle.joins.proofs.PiecesMore.{all_joined, none_joined, one_joined}
 use Rattle.joins.proofs.joining.join_pieces.Goals as goal
 
+pub new-told-requires-clause-some : goal.new-told-requires-clause-some
+new-told-requires-clause-some g c = omega (arith, some_runs c.args.head.now.plan c.requires.first.begins.asked, c.runs_of_case.ensures)
+
+pub new-told-requires-clause-few : goal.new-told-requires-clause-few
+new-told-requires-clause-few g c = subst (λ n. n ≤ 1000000) (sym c.runs_of_case.ensures) (few_runs c.args.head.now.plan c.requires.first.begins.asked)
+
 pub loop-number-init : goal.loop-number-init
-loop-number-init g c = record { so = no_piece c.args.texts.now _ _ _ _ _ c.args.gathering.now (omega (arith, c.requires.first.begins.sound.least, c.requires.first.begins.sound.most)); same = refl }
+loop-number-init g c =
+    let head = c.args.head.now in
+    record {
+      so = none_joined c.args.texts.now head.mark.now head.revived head.plan head.piece.of head.plan.until _ _ (omega (arith, c.requires.first.begins.sound.least, c.requires.first.begins.sound.most))
+          (subst (λ n. IsGathered n [] c.new-told.result.gathering) c.runs_of_case.ensures c.new-told.ensures.runs) c.new-told.ensures.cases;
+      same = refl;
+    }
 
 pub loop-number-preserved : goal.loop-number-preserved
-loop-number-preserved g c = record {
-  so = piece_more c.args.texts.now _ _ _ _ c.loop-number.number _ _ _ _ _ _ (omega (arith, c.loop-number-test.true)) c.loop-number.invariant.so c.in_ok-join_piece.ensures.whole;
-  same = search rules;
-}
+loop-number-preserved g c =
+    let head = c.args.head.now in
+    record {
+      so = one_joined c.args.texts.now head.mark.now head.revived head.plan head.piece.of head.plan.until c.loop-number.number _ _ _ _ _ (omega (arith, c.loop-number-test.true))
+          c.loop-number.invariant.so c.in_ok-join_piece.ensures.whole;
+      same = search rules;
+    }
 
 pub returns-clause-whole : goal.returns-clause-whole
 returns-clause-whole g c =
     let head = c.args.head.now in
+    let until = c.until.ensures.same in
     let all : c.loop-number.number ≡ head.piece.of = omega (arith, c.loop-number-test.false, c.loop-number.auto.number-end) in
-    subst (λ n. JoinsPieces c.args.texts.now head.mark.now head.revived head.plan head.piece.of n (g.S.Sink.held c.args.table.now) (g.S.Sink.held c.loop-number.table) c.args.gathering.now c.loop-number.gathering)
-    all c.loop-number.invariant.so
+    all_joined c.args.texts.now head.mark.now head.revived head.plan head.piece.of head.plan.until (g.S.Sink.held c.args.table.now) (g.S.Sink.held c.loop-number.table) c.loop-number.told _
+    (omega (arith, c.requires.first.begins.sound.least, c.requires.first.begins.sound.most))
+    (subst (λ n. JoinsPieces head.plan.until c.args.texts.now head.mark.now head.revived head.plan head.piece.of n (g.S.Sink.held c.args.table.now) (g.S.Sink.held c.loop-number.table) c.loop-number.told)
+    all c.loop-number.invariant.so)
+    (subst (λ o. c.into_summaries.result.items ≡ summaries_told o c.loop-number.told) until c.into_summaries.ensures)
 
 pub returns-in_err-join_piece-clause-refused : goal.returns-in_err-join_piece-clause-refused
 returns-in_err-join_piece-clause-refused g c =

@@ -2,9 +2,9 @@ use Rattle.std.proofs.Common.{◌≡◌}
 use Rattle.joins.specs.Joined.{JoinsPieces}
 use Rattle.joins.proofs.joining.join_pieces.Given as goal
 
--- the lines of the first pieces are put and gathered, and the table has not failed
+-- the first pieces are read and put, and the table has not failed
 abbrev pub invariant-loop-number : goal.invariant-loop-number
 invariant-loop-number g l = record {
-  so : JoinsPieces l.texts l.head.mark.now l.head.revived l.head.plan l.head.piece.of l.number (g.S.Sink.held l.fn.table) (g.S.Sink.held l.table) l.fn.gathering l.gathering;
+  so : JoinsPieces l.head.plan.until l.texts l.head.mark.now l.head.revived l.head.plan l.head.piece.of l.number (g.S.Sink.held l.fn.table) (g.S.Sink.held l.table) l.told;
   same : g.S.Sink.failed l.table ≡ g.S.Sink.failed l.fn.table;
 }

@@ -1,4 +1,4 @@
-use Rattle.joins.proofs.GenuineCases.{whole_of_cases}
+use Rattle.joins.proofs.GenuineWhole.{whole_of_cases}
 use Rattle.joins.proofs.laws.all_pieces_of_cases_are_the_whole.Goals as goal
 
 pub returns : goal.returns

@@ -1,4 +1,4 @@
-use Rattle.std.proofs.Common.{◌≡◌, ◌∙◌, None, ap, get_or, refl, sym}
+use Rattle.std.proofs.Common.{◌∙◌, None, ap, get_or, refl, sym}
 use Rattle.joins.proofs.PlacesMore.{place_more}
 use Rattle.joins.proofs.places.take_place.Goals as goal
 

@@ -10,24 +10,24 @@ pub loop-next-preserved : goal.loop-next-preserved
 loop-next-preserved g c = record {
   low = omega (arith, c.loop-next.invariant.low, c.min-end.ensures, c.loop-next-test.true);
   within = omega (arith, c.min-end.ensures);
-  come = λ course same come. c.in_ok-make_some.ensures.whole course same (c.loop-next.invariant.come course same come);
+  come = λ course come. c.in_ok-make_some.ensures.whole course (c.loop-next.invariant.come course come);
   same = search rules;
 }
 
 pub returns-clause-whole : goal.returns-clause-whole
-returns-clause-whole g c = λ course same come.
+returns-clause-whole g c = λ course come.
     let plan = c.args.plan.now in
     let all : c.loop-next.next ≡ c.args.till = omega (arith, c.loop-next-test.false, c.loop-next.invariant.within) in
     subst (HasCome (view c.args.document.now) plan course (g.S.Sink.held c.loop-next.table) (g.G.Gather.has c.loop-next.gathering (seed_count plan.seeds))) all
-    (c.loop-next.invariant.come course same come)
+    (c.loop-next.invariant.come course come)
 
 pub returns-in_err-scenario-clause-part : goal.returns-in_err-scenario-clause-part
 returns-in_err-scenario-clause-part g c =
     on_err c.from_residual.result
-    (λ course same high come. have_begun (view c.args.document.now) c.args.plan.now course (g.S.Sink.held c.loop-next.table) c.loop-next.next
-    (omega (arith, high, c.loop-next.invariant.within)) (c.loop-next.invariant.come course same come).lines)
+    (λ course high come. have_begun (view c.args.document.now) c.args.plan.now course (g.S.Sink.held c.loop-next.table) c.loop-next.next
+    (omega (arith, high, c.loop-next.invariant.within)) (c.loop-next.invariant.come course come).lines)
 
 pub returns-in_err-make_some-clause-part : goal.returns-in_err-make_some-clause-part
 returns-in_err-make_some-clause-part g c =
     on_err c.from_residual-in_err-make_some.result
-    (λ course same high come. c.in_err-make_some.ensures.part course same (omega (arith, high, c.min-end.ensures)) (c.loop-next.invariant.come course same come))
+    (λ course high come. c.in_err-make_some.ensures.part course (omega (arith, high, c.min-end.ensures)) (c.loop-next.invariant.come course come))

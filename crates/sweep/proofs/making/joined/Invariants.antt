@@ -1,4 +1,4 @@
-use Rattle.std.proofs.Common.{ℕ, Bool, List}
+use Rattle.std.proofs.Common.{ℕ, List}
 use Rattle.std.specs.List.{AllZip, flat_map}
 use Rattle.toml.specs.Data.{Data}
 use Rattle.cases.specs.Sweep.{Sweep}
@@ -7,5 +7,5 @@ use Rattle.sweep.proofs.making.joined.Given as goal
 
 -- the runs of the first lots stand one after the other
 abbrev pub invariant-loop-lot : goal.invariant-loop-lot
-invariant-loop-lot l = (tree : Data) (sweep : Sweep) (notes : Bool) (numbers : List (List ℕ)) → AllZip (IsMadeLot tree sweep notes) numbers l.yielded
-    → AllZip (IsMadeOf tree sweep notes) (flat_map (λ lot. lot) numbers) l.runs.items
+invariant-loop-lot l = (tree : Data) (sweep : Sweep) (numbers : List (List ℕ)) → AllZip (IsMadeLot tree sweep) numbers l.yielded
+    → AllZip (IsMadeOf tree sweep) (flat_map (λ lot. lot) numbers) l.runs.items

@@ -12,7 +12,7 @@ loop-number-preserved c =
     let at = c.loop-number.number-index in
     let number = slice_index_or lot at 0 in
     let before = c.loop-number.runs.items in
-    let R = IsMadeOf (view c.args.document.now) c.args.plan.now c.args.notes in
+    let R = IsMadeOf (view c.args.document.now) c.args.plan.now in
     let made = AllZip-append R (take at lot) (number ∷ []) before (c.make_run.result ∷ []) c.loop-number.invariant (c.make_run.ensures, tt) in
     subst (λ l. AllZip R l c.push.new.self.items) (sym (take_more lot at 0 c.loop-number-test.true))
     (subst (AllZip R (take at lot ++ number ∷ [])) (sym c.in_ok-push.ensures.items) made)

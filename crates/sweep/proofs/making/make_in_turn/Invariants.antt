@@ -6,4 +6,4 @@ use Rattle.sweep.proofs.making.make_in_turn.Given as goal
 
 -- the first runs of the lot were made
 abbrev pub invariant-loop-number : goal.invariant-loop-number
-invariant-loop-number l = AllZip (IsMadeOf (view l.document) l.plan l.notes) (take l.number-index l.lot) l.runs.items
+invariant-loop-number l = AllZip (IsMadeOf (view l.document) l.plan) (take l.number-index l.lot) l.runs.items

@@ -2,7 +2,8 @@ use Rattle.std.proofs.Common.{◌∙◌, ◌++◌, ap, sym}
 use Rattle.std.proofs.lemmas.Option.{same_Some}
 use Rattle.figures.specs.Lines.{run_line}
 use Rattle.sweep.specs.Runs.{planned_as}
-use Rattle.sweep.specs.Table.{note_before, texts_of}
+use Rattle.figures.specs.Notes.{note_cell}
+use Rattle.sweep.specs.Table.{texts_of}
 use Rattle.sweep.proofs.making.make_run.Goals as goal
 
 pub returns : goal.returns
@@ -21,6 +22,6 @@ returns c =
         run = c.in_ok-tallies.ensures.run;
       };
       written = c.in_ok-line.ensures
-          ∙ (λ i. note_before c.args.notes (note i) ++ run_line (c.tells_revived.ensures i) (texts_of (c.deref.ensures.value i)) (c.seed.ensures i) (figures i));
+          ∙ (λ i. note_cell (note i) ++ run_line (c.tells_revived.ensures i) (texts_of (c.deref.ensures.value i)) (c.seed.ensures i) (figures i));
       kept = note;
     }

@@ -22,11 +22,11 @@ returns g c =
     let shown = chain.1 ∙ ap (λ it. chunks_of (max (chunks_size it) 1) (chunks_slice it)) dealt
     ∙ ap (λ size. chunks_of (max size 1) (chunks_slice c.par_chunks.result)) c.par_chunks.ensures.size
     ∙ ap (chunks_of (max c.args.each 1)) c.par_chunks.ensures.slice in
-    let made : AllZip (IsMadeLot tree plan c.args.notes) lots c.in_ok-lots.lots.items = rw h.2 (slice-AllZip chain.0 lots shown (IsMadeLot tree plan c.args.notes) h.0 chain.2) in
+    let made : AllZip (IsMadeLot tree plan) lots c.in_ok-lots.lots.items = rw h.2 (slice-AllZip chain.0 lots shown (IsMadeLot tree plan) h.0 chain.2) in
     let some : 0 < max c.args.each 1 = omega arith in
     let all = chunks_of-concat (max c.args.each 1) numbers some ∙ c.deref.ensures.value ∙ c.in_ok-numbers.ensures in
     IfOk-then c.joined.result _ _ c.joined.ensures (λ runs go.
-    subst (λ l. AllZip (IsMadeOf tree plan c.args.notes) l runs.items) all (go tree plan c.args.notes lots made))
+    subst (λ l. AllZip (IsMadeOf tree plan) l runs.items) all (go tree plan lots made))
 
 -- the numbers of each lot are those of runs
 pub collect-requires-clause-ready : goal.collect-requires-clause-ready

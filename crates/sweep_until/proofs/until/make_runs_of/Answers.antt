@@ -8,36 +8,36 @@ pub loop-next-preserved : goal.loop-next-preserved
 loop-next-preserved g c = record {
   low = omega (arith, c.loop-next.invariant.low, c.in_ok-reached.ensures.further);
   within = omega (arith, c.in_ok-reached.ensures.bounded, c.min-end.ensures);
-  goes = λ course as_noted before.
+  goes = λ course before.
       goes_on (view c.args.document.now) c.args.plan.now c.args.width course (g.S.Sink.held c.make_lot.new.table) c.make_lot.new.runs c.in_ok-reached.reached c.is_narrow.result c.is_narrow.ensures c.if-is_narrow.false
-      (c.in_ok-reached.ensures.whole course as_noted (c.loop-next.invariant.goes course as_noted before));
+      (c.in_ok-reached.ensures.whole course (c.loop-next.invariant.goes course before));
   same = search rules;
 }
 
 pub returns-then-is_narrow-clause-whole : goal.returns-then-is_narrow-clause-whole
-returns-then-is_narrow-clause-whole g c = λ course as_noted before.
+returns-then-is_narrow-clause-whole g c = λ course before.
     ends_here (view c.args.document.now) c.args.plan.now c.args.width course (g.S.Sink.held c.make_lot.new.table) c.make_lot.new.runs c.in_ok-reached.reached c.is_narrow.result c.is_narrow.ensures c.args.first c.args.past
     (omega (arith, c.loop-next.invariant.low, c.in_ok-reached.ensures.further)) (omega (arith, c.in_ok-reached.ensures.bounded, c.min-end.ensures)) c.if-is_narrow.true
-    (c.in_ok-reached.ensures.whole course as_noted (c.loop-next.invariant.goes course as_noted before))
+    (c.in_ok-reached.ensures.whole course (c.loop-next.invariant.goes course before))
 
 pub returns-clause-whole : goal.returns-clause-whole
-returns-clause-whole g c = λ course as_noted before.
+returns-clause-whole g c = λ course before.
     let all : c.loop-next.next ≡ c.args.past = omega (arith, c.loop-next-test.false, c.loop-next.invariant.within) in
     record {
       next = c.loop-next.next;
       more = omega (arith, all, c.requires.some);
       high = c.loop-next.invariant.within;
-      gone = (c.loop-next.invariant.goes course as_noted before).gone;
+      gone = (c.loop-next.invariant.goes course before).gone;
       ends = inr all;
     }
 
 pub returns-in_err-scenario-clause-part : goal.returns-in_err-scenario-clause-part
 returns-in_err-scenario-clause-part g c =
     on_err c.from_residual.result
-    (λ course as_noted high before. begins_so (view c.args.document.now) c.args.plan.now c.args.width course (g.S.Sink.held c.loop-next.table) c.loop-next.runs c.loop-next.next
-    (omega (arith, high, c.loop-next.invariant.within)) (c.loop-next.invariant.goes course as_noted before).gone)
+    (λ course high before. begins_so (view c.args.document.now) c.args.plan.now c.args.width course (g.S.Sink.held c.loop-next.table) c.loop-next.runs c.loop-next.next
+    (omega (arith, high, c.loop-next.invariant.within)) (c.loop-next.invariant.goes course before).gone)
 
 pub returns-in_err-reached-clause-part : goal.returns-in_err-reached-clause-part
 returns-in_err-reached-clause-part g c =
     on_err c.from_residual-in_err-reached.result
-    (λ course as_noted high before. c.in_err-reached.ensures.part course as_noted (omega (arith, high, c.min-end.ensures)) (c.loop-next.invariant.goes course as_noted before))
+    (λ course high before. c.in_err-reached.ensures.part course (omega (arith, high, c.min-end.ensures)) (c.loop-next.invariant.goes course before))

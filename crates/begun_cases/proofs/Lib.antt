@@ -1,0 +1,6 @@
+mod Standing
+mod Divisions
+mod OneByOne
+mod Encoded
+mod CutLines
+mod CutCases

@@ -1,0 +1,108 @@
+-- Cases and lines that are read one by one.
+use Rattle.std.proofs.Common.{◌≡◌, ◌∙◌, ◌<◌, ◌≤◌, ◌+◌, ℕ, Bool, true, false, List, [], ◌∷◌, ◌++◌, length, length-append, arith, refl, sym, ap, subst, append_assoc, append-nil}
+use Rattle.std.specs.Prelude.{All, nat_le}
+use Rattle.std.proofs.lemmas.Bool.Decides.{nat_tests}
+use Rattle.std.proofs.lemmas.List.Elements.{All-head, All-nil}
+use Rattle.cases.specs.Sweep.{Sweep, seed_count}
+use Rattle.pieces.specs.declared.piece.Piece.{Piece}
+use Rattle.sweep.specs.Pieces.{piece_header}
+use Rattle.sweep.specs.Resumed.{RefusesStart, StandsSo}
+use Rattle.sweep.specs.declared.begun.BegunFault.{BegunFault}
+use Rattle.sweep.specs.declared.begun.BegunFault.TheVariants as begun_fault
+use Rattle.sweep_until.specs.Pieces.{cases_in}
+use Rattle.noted_lines.specs.Items.{BeginsWith}
+use Rattle.noted_lines.specs.Lines.{HasLine, Line, IsLine, piece_line}
+use Rattle.noted_lines.specs.Cases.{IsCase, piece_case}
+use Rattle.noted_lines.proofs.Items.{Reads, all_behind, cut_items, none_read, one_more}
+use Rattle.noted_lines.proofs.OneLine.{same_line}
+use Rattle.begun_cases.specs.Begun.{AreCasesBegun, AreSomeLines, IsBegunCases, MayStand, RefusesBegunCases, RefusesCases}
+use Rattle.begun_cases.proofs.Divisions.{no_lines}
+use Rattle.begun_cases.proofs.Standing.{never_stands, one_standing}
+
+-- ---- cases
+
+-- some cases were read, and this is left
+abbrev pub ReadsSome : ℕ → ℕ → List ℕ → List ℕ → ℕ → Type 0
+ReadsSome width each text left count = Reads (IsCase width each) piece_case (λ _. Unit {0}) text left count
+
+module _ (width each : ℕ) (text : List ℕ) where
+  pub no_cases : ReadsSome width each text text 0
+  no_cases = none_read (IsCase width each) piece_case (λ _. Unit {0}) text tt
+
+  pub cases_more : (left next : List ℕ) (count : ℕ) → ReadsSome width each text left count → BeginsWith (IsCase width each) piece_case left next → ReadsSome width each text next (count + 1)
+  cases_more left next count so begins = one_more (IsCase width each) piece_case (λ _. Unit {0}) (λ _. Unit {0}) text left next count so begins tt
+
+-- ---- lines
+
+-- lines were read, however many
+pub record ReadsLinesSo (text left : List ℕ) : Type 0 where
+  pub count : ℕ
+  pub so : Reads IsLine piece_line (λ _. Unit {0}) text left count
+
+pub no_lines_yet : (text : List ℕ) → ReadsLinesSo text text
+no_lines_yet text = record { count = 0; so = none_read IsLine piece_line (λ _. Unit {0}) text tt }
+
+pub lines_more : (text left next : List ℕ) → ReadsLinesSo text left → BeginsWith IsLine piece_line left next → ReadsLinesSo text next
+lines_more text left next so_far begins =
+    record { count = so_far.count + 1; so = one_more IsLine piece_line (λ _. Unit {0}) (λ _. Unit {0}) text left next so_far.count so_far.so begins tt }
+
+module _ (text left : List ℕ) (read : ReadsLinesSo text left) where
+  abbrev first : List Line
+  first = read.so.items
+
+  -- where something is left that begins with no line, it isn't
+  module _ (some : ¬ (left ≡ [])) (none : ¬ (HasLine left)) (are : AreSomeLines text) where
+    same : piece_case first ++ left ≡ piece_case are.lines ++ []
+    same = sym read.so.written ∙ are.written ∙ sym (append-nil (piece_case are.lines))
+
+    on : (rest : List Line) → are.lines ≡ first ++ rest → left ≡ piece_case rest ++ [] → ⊥
+    on [] is behind = some behind
+    on (line ∷ rest) is behind =
+        none (
+          piece_case rest ++ [],
+          record {
+            one = line;
+            sound = All-head IsLine line rest (all_behind IsLine first (line ∷ rest) (subst (All IsLine) is are.sound));
+            written = behind ∙ append_assoc (piece_line line) (piece_case rest) [];
+          },
+        )
+
+    by : (t : Bool) → nat_le (length first) (length are.lines) ≡ t → ⊥
+    by true e =
+        let few : length first ≤ length are.lines = grind (arith, nat_tests) in
+        let cut = cut_items IsLine piece_line same_line first are.lines left [] read.so.sound are.sound same few in
+        on cut.0 cut.1 cut.2
+    by false e =
+        let less : length are.lines < length first = grind (arith, nat_tests) in
+        let cut = cut_items IsLine piece_line same_line are.lines first [] left are.sound read.so.sound (sym same) (omega (arith, less)) in
+        let no_more : length cut.0 ≡ 0 = ap length (no_lines cut.0 left cut.2) in
+        omega (arith, less, no_more, ap length cut.1, length-append are.lines cut.0)
+
+    pub no_line_left : ⊥
+    no_line_left = by (nat_le (length first) (length are.lines)) refl
+
+-- ---- what may stand behind cases
+
+module _ (most : ℕ) (left : List ℕ) (cases : ℕ) where
+  pub nothing_stands : left ≡ [] → MayStand most left cases
+  nothing_stands none = record { are = record { lines = []; sound = All-nil IsLine; written = none }; none_more = λ all. refl }
+
+-- ---- the whole text
+
+module _ (revived : Bool) (mark : List ℕ) (sweep : Sweep) (width : ℕ) (p : Piece) (text : List ℕ) where
+  abbrev header : List ℕ
+  header = piece_header revived mark sweep p
+
+  pub no_start : (f : BegunFault) → RefusesStart header text f → RefusesBegunCases revived mark sweep width p text f
+  no_start begun_fault.Other apart = λ lines cases is. never_stands header text is.all is.count apart is.stands
+  no_start begun_fault.Memory apart = tt
+
+  module _ (all : List ℕ) (count : ℕ) (stands : StandsSo header text all count) where
+    pub cases_stand : (lines : List ℕ) (cases : ℕ) → AreCasesBegun width (seed_count sweep.seeds) (cases_in sweep p) all lines cases → IsBegunCases revived mark sweep width p text lines cases
+    cases_stand lines cases begun = record { all = all; count = count; stands = stands; begun = begun }
+
+    pub no_cases_stand : (f : BegunFault) → RefusesCases width (seed_count sweep.seeds) (cases_in sweep p) all f → RefusesBegunCases revived mark sweep width p text f
+    no_cases_stand begun_fault.Other none = λ lines cases is.
+        none lines cases
+        (subst (λ l. AreCasesBegun width (seed_count sweep.seeds) (cases_in sweep p) l lines cases) (one_standing header text is.all all is.count count is.stands stands) is.begun)
+    no_cases_stand begun_fault.Memory none = tt

@@ -1,0 +1,7 @@
+pub mod Bytes
+pub mod Notes
+pub mod Items
+pub mod OneLine
+pub mod OneCase
+pub mod Read
+pub mod MadeLines

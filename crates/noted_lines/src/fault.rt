@@ -1,0 +1,12 @@
+use thiserror::Error;
+
+/// Why a text isn't read.
+#[derive(Clone, Copy, Debug, PartialEq, Eq, Error)]
+pub enum LineFault {
+    /// It isn't what was to stand there.
+    #[error("torn")]
+    Torn,
+    /// Memory was refused.
+    #[error("memory")]
+    Memory,
+}
