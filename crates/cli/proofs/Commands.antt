@@ -1,21 +1,19 @@
 -- What an answer to the words says of them, and of what was not done.
-use Rattle.std.proofs.Common.{◌≡◌, ◌∙◌, List, [], ◌∷◌, ℕ, Bool, true, false, Bor, Option, Some, None, Result, Ok, Err, ap, codes, option_map, sym, subst, refl, inl, inr}
-use Rattle.std.proofs.lemmas.Bool.{false≢true}
+use Rattle.std.proofs.Common.{◌≡◌, List, [], ◌∷◌, ℕ, Bool, true, false, Option, Some, None, Result, Ok, Err, codes, sym, subst, refl, inl, inr}
 use Rattle.std.proofs.lemmas.Option.{none-some, same_Some}
 use Rattle.std.proofs.lemmas.Result.{on_ok_weaker, IfErr-weaker}
 use Rattle.std.proofs.lemmas.List.Elements.{All-cons, All-nil}
-use Rattle.std.specs.Prelude.{◌≤◌, ◌||◌, All, is_none, not, unwrap_or}
+use Rattle.std.specs.Prelude.{All, unwrap_or}
 use Rattle.std.specs.Result.{OnOk, IfErr}
 use Rattle.std.specs.Option.{ForSome}
 use Rattle.std.specs.Io.KnownBytes.{Appends}
 use Rattle.clap.specs.Words.{Text, all_of, first_of}
 use Rattle.scenario_files.specs.Shelves.{Shelf}
 use Rattle.trace.proofs.Beginnings.{Keeps-same}
-use Rattle.arguments.specs.Rules.{is_given}
 use Rattle.join_command.specs.Outcomes.{JoinFails, JoinsAll, PageFails, PagesAll}
 use Rattle.join_command.proofs.Causes.{join_ends, join_memory, page_ends, page_memory}
 use Rattle.explain_command.specs.Outcomes.{ExplainFails, PrintsMeaning}
-use Rattle.run_command.specs.Outcomes.{RunFails, RunsAll}
+use Rattle.run_command.specs.Outcomes.{EndsWithCause, RunFails, RunsAll}
 use Rattle.run_command.proofs.Causes.{run_item, run_memory, run_mistaken, run_output, run_preset, run_usage}
 use Rattle.sweep_command.specs.Outcomes.{SweepFails, SweepsAll}
 use Rattle.sweep_command.proofs.Causes.{sweep_memory, sweep_mistaken, sweep_output, sweep_preset, sweep_usage}
@@ -27,7 +25,7 @@ use Rattle.answers.specs.declared.want.Want.{Want}
 use Rattle.cli.specs.Outcomes.{AsksForProgress, CheckFails, EndsRunBy, HasDone, Fails}
 use Rattle.files.specs.Files.{Making}
 use Rattle.command_line.specs.Printed.{rows_line, PresetFails, PrintsPreset}
-use Rattle.command_line.specs.Words.{Answers, AsksForRun, AsksForCheck, AsksForExplain, AsksForInit, AsksForJoin, AsksForPage, AsksForPiece, AsksForSweep, AsksForWidth, IsCommand, go_together}
+use Rattle.command_line.specs.Words.{Answers, AsksForRun, AsksForCheck, AsksForExplain, AsksForInit, AsksForJoin, AsksForPage, AsksForPiece, AsksForSweep, IsCommand}
 use Rattle.command_line.specs.declared.release.Release.{Release}
 use Rattle.command_line.specs.declared.words.Asked.{Asked}
 use Rattle.command_line.specs.declared.words.Asked.TheVariants as asked
@@ -54,70 +52,70 @@ is_command words (asked.Help help) h = inr (inr (inr (inr (inr (inr (inr (inl h.
 is_command words asked.Version h = inr (inr (inr (inr (inr (inr (inr (inr h)))))))
 
 -- why a run that the words ask for was not done
-pub run_fails : (words : List Text) (before after : Shelf) (making : Making) (old new : Option (List ℕ)) (run : RunWords) (version : List ℕ) (failure : Failure)
-    → AsksForRun words run → RunFails EndsRunBy version before after making run failure → Fails words before after making old new failure
-run_fails words before after making old new run version (File name) asks fails = inl (run, asks, (version, fails))
-run_fails words before after making old new run version (Rule rule) asks fails = inl (run, asks, (version, fails))
-run_fails words before after making old new run version (Mistaken rule) asks fails = absurd (run_mistaken version before after making run rule fails)
-run_fails words before after making old new run version (Case rule settings) asks fails = inl (run, asks, (version, fails))
-run_fails words before after making old new run version (Pieces cause) asks fails = inl (run, asks, (version, fails))
-run_fails words before after making old new run version Workers asks fails = inl (run, asks, (version, fails))
-run_fails words before after making old new run version (Division cause) asks fails = inl (run, asks, (version, fails))
-run_fails words before after making old new run version (Run cause) asks fails = inl (run, asks, (version, fails))
-run_fails words before after making old new run version failing.Preset asks fails = absurd (run_preset version before after making run fails)
-run_fails words before after making old new run version Usage asks fails = absurd (run_usage version before after making run fails)
-run_fails words before after making old new run version (NoItem key) asks fails = absurd (run_item version before after making run key fails)
-run_fails words before after making old new run version Output asks fails = absurd (run_output version before after making run fails)
-run_fails words before after making old new run version Memory asks fails = run_memory version before after making run fails
+pub run_fails : (Refused : Type 0) (words : List Text) (before after : Shelf) (making : Making) (old new : Option (List ℕ)) (run : RunWords) (version : List ℕ) (failure : Failure)
+    → AsksForRun words run → RunFails (λ s workers. EndsWithCause Refused (EndsRunBy s workers)) version before after making run failure → Fails Refused words before after making old new failure
+run_fails Refused words before after making old new run version (File name) asks fails = inl (run, asks, (version, fails))
+run_fails Refused words before after making old new run version (Rule rule) asks fails = inl (run, asks, (version, fails))
+run_fails Refused words before after making old new run version (Mistaken rule) asks fails = absurd (run_mistaken version before after making run rule fails)
+run_fails Refused words before after making old new run version (Case rule settings) asks fails = inl (run, asks, (version, fails))
+run_fails Refused words before after making old new run version (Pieces cause) asks fails = inl (run, asks, (version, fails))
+run_fails Refused words before after making old new run version Workers asks fails = inl (run, asks, (version, fails))
+run_fails Refused words before after making old new run version (Division cause) asks fails = inl (run, asks, (version, fails))
+run_fails Refused words before after making old new run version (Run cause) asks fails = inl (run, asks, (version, fails))
+run_fails Refused words before after making old new run version failing.Preset asks fails = absurd (run_preset version before after making run fails)
+run_fails Refused words before after making old new run version Usage asks fails = absurd (run_usage version before after making run fails)
+run_fails Refused words before after making old new run version (NoItem key) asks fails = absurd (run_item version before after making run key fails)
+run_fails Refused words before after making old new run version Output asks fails = absurd (run_output version before after making run fails)
+run_fails Refused words before after making old new run version Memory asks fails = run_memory version before after making run fails
 
 -- why a check that the words ask for was not done
-pub check_fails : (words : List Text) (before after : Shelf) (making : Making) (old new : Option (List ℕ)) (file : Text) (failure : Failure)
-    → AsksForCheck words file → CheckFails before after file failure → Fails words before after making old new failure
-check_fails words before after making old new file (File name) asks fails = inr (inl (file, asks, fails))
-check_fails words before after making old new file (Rule rule) asks fails = inr (inl (file, asks, fails))
-check_fails words before after making old new file (Mistaken rule) asks fails = absurd fails.cause
-check_fails words before after making old new file (Case rule settings) asks fails = absurd fails.cause
-check_fails words before after making old new file (Pieces cause) asks fails = absurd fails.cause
-check_fails words before after making old new file Memory asks fails = fails.same
-check_fails words before after making old new file Usage asks fails = absurd fails.cause
-check_fails words before after making old new file (NoItem key) asks fails = absurd fails.cause
-check_fails words before after making old new file failing.Preset asks fails = absurd fails.cause
-check_fails words before after making old new file Workers asks fails = absurd fails.cause
-check_fails words before after making old new file (Division cause) asks fails = absurd fails.cause
-check_fails words before after making old new file (Run cause) asks fails = absurd fails.cause
-check_fails words before after making old new file Output asks fails = absurd fails.cause
+pub check_fails : (Refused : Type 0) (words : List Text) (before after : Shelf) (making : Making) (old new : Option (List ℕ)) (file : Text) (failure : Failure)
+    → AsksForCheck words file → CheckFails before after file failure → Fails Refused words before after making old new failure
+check_fails Refused words before after making old new file (File name) asks fails = inr (inl (file, asks, fails))
+check_fails Refused words before after making old new file (Rule rule) asks fails = inr (inl (file, asks, fails))
+check_fails Refused words before after making old new file (Mistaken rule) asks fails = absurd fails.cause
+check_fails Refused words before after making old new file (Case rule settings) asks fails = absurd fails.cause
+check_fails Refused words before after making old new file (Pieces cause) asks fails = absurd fails.cause
+check_fails Refused words before after making old new file Memory asks fails = fails.same
+check_fails Refused words before after making old new file Usage asks fails = absurd fails.cause
+check_fails Refused words before after making old new file (NoItem key) asks fails = absurd fails.cause
+check_fails Refused words before after making old new file failing.Preset asks fails = absurd fails.cause
+check_fails Refused words before after making old new file Workers asks fails = absurd fails.cause
+check_fails Refused words before after making old new file (Division cause) asks fails = absurd fails.cause
+check_fails Refused words before after making old new file (Run cause) asks fails = absurd fails.cause
+check_fails Refused words before after making old new file Output asks fails = absurd fails.cause
 
 -- why the scenario that the words ask to explain isn't explained
-pub explain_fails : (words : List Text) (before after : Shelf) (making : Making) (old new : Option (List ℕ)) (explain : ExplainWords) (failure : Failure)
-    → AsksForExplain words explain → (after ≡ before) → ExplainFails (before explain.file.now) explain old new failure → Fails words before after making old new failure
-explain_fails words before after making old new explain (File name) asks same fails = inr (inr (inl (explain, asks, record { cause = fails; same = same })))
-explain_fails words before after making old new explain (Rule rule) asks same fails = absurd fails
-explain_fails words before after making old new explain (Mistaken rule) asks same fails = (explain, asks, record { cause = fails; same = same })
-explain_fails words before after making old new explain (Case rule settings) asks same fails = absurd fails
-explain_fails words before after making old new explain (Pieces cause) asks same fails = absurd fails
-explain_fails words before after making old new explain Memory asks same fails = same
-explain_fails words before after making old new explain Usage asks same fails = absurd fails
-explain_fails words before after making old new explain (NoItem key) asks same fails = absurd fails
-explain_fails words before after making old new explain failing.Preset asks same fails = absurd fails
-explain_fails words before after making old new explain Workers asks same fails = absurd fails
-explain_fails words before after making old new explain (Division cause) asks same fails = absurd fails
-explain_fails words before after making old new explain (Run cause) asks same fails = absurd fails
-explain_fails words before after making old new explain Output asks same fails = inr (inr (inl (explain, asks, fails, same)))
+pub explain_fails : (Refused : Type 0) (words : List Text) (before after : Shelf) (making : Making) (old new : Option (List ℕ)) (explain : ExplainWords) (failure : Failure)
+    → AsksForExplain words explain → (after ≡ before) → ExplainFails (before explain.file.now) explain old new failure → Fails Refused words before after making old new failure
+explain_fails Refused words before after making old new explain (File name) asks same fails = inr (inr (inl (explain, asks, record { cause = fails; same = same })))
+explain_fails Refused words before after making old new explain (Rule rule) asks same fails = absurd fails
+explain_fails Refused words before after making old new explain (Mistaken rule) asks same fails = (explain, asks, record { cause = fails; same = same })
+explain_fails Refused words before after making old new explain (Case rule settings) asks same fails = absurd fails
+explain_fails Refused words before after making old new explain (Pieces cause) asks same fails = absurd fails
+explain_fails Refused words before after making old new explain Memory asks same fails = same
+explain_fails Refused words before after making old new explain Usage asks same fails = absurd fails
+explain_fails Refused words before after making old new explain (NoItem key) asks same fails = absurd fails
+explain_fails Refused words before after making old new explain failing.Preset asks same fails = absurd fails
+explain_fails Refused words before after making old new explain Workers asks same fails = absurd fails
+explain_fails Refused words before after making old new explain (Division cause) asks same fails = absurd fails
+explain_fails Refused words before after making old new explain (Run cause) asks same fails = absurd fails
+explain_fails Refused words before after making old new explain Output asks same fails = inr (inr (inl (explain, asks, fails, same)))
 
 -- the same of an answer that is an explanation
-pub asked_explain_fails : (words : List Text) (before after : Shelf) (making : Making) (old new : Option (List ℕ)) (answer : Asked) (explain : ExplainWords) (failure : Failure)
+pub asked_explain_fails : (Refused : Type 0) (words : List Text) (before after : Shelf) (making : Making) (old new : Option (List ℕ)) (answer : Asked) (explain : ExplainWords) (failure : Failure)
     → answer ≡ asked.Explain explain → Answers words answer → (after ≡ before) → ExplainFails (before explain.file.now) explain old new failure
-    → Fails words before after making old new failure
-asked_explain_fails words before after making old new answer explain failure is h same fails =
+    → Fails Refused words before after making old new failure
+asked_explain_fails Refused words before after making old new answer explain failure is h same fails =
     let asks : Answers words (asked.Explain explain) = subst (Answers words) is h in
-    explain_fails words before after making old new explain failure asks same fails
+    explain_fails Refused words before after making old new explain failure asks same fails
 
 -- the same of whatever came of explaining
-pub asked_explain_failed : (words : List Text) (before after : Shelf) (making : Making) (old new : Option (List ℕ)) (answer : Asked) (explain : ExplainWords)
+pub asked_explain_failed : (Refused : Type 0) (words : List Text) (before after : Shelf) (making : Making) (old new : Option (List ℕ)) (answer : Asked) (explain : ExplainWords)
     (done : Result (Unit {0}) Failure) → answer ≡ asked.Explain explain → Answers words answer → (after ≡ before)
-    → IfErr done (ExplainFails (before explain.file.now) explain old new) → IfErr done (Fails words before after making old new)
-asked_explain_failed words before after making old new answer explain done is h same failed =
-    IfErr-weaker done _ _ (λ failure fails. asked_explain_fails words before after making old new answer explain failure is h same fails) failed
+    → IfErr done (ExplainFails (before explain.file.now) explain old new) → IfErr done (Fails Refused words before after making old new)
+asked_explain_failed Refused words before after making old new answer explain done is h same failed =
+    IfErr-weaker done _ _ (λ failure fails. asked_explain_fails Refused words before after making old new answer explain failure is h same fails) failed
 
 -- what a scenario means that the words ask to explain was printed
 pub asked_explain_done : {E : Type 0} (release : Release) (words : List Text) (before after : Shelf) (making : Making) (old new : Option (List ℕ)) (answer : Asked) (explain : ExplainWords)
@@ -128,36 +126,36 @@ asked_explain_done release words before after making old new answer explain prin
     on_ok_weaker printed (λ prints. inr (inr (inl (explain, asks, prints, same)))) told
 
 -- why a sweep that the words ask for was not done
-pub sweep_fails : (words : List Text) (before after : Shelf) (making : Making) (old new : Option (List ℕ)) (sweep : SweepWords) (failure : Failure)
-    → AsksForSweep words sweep → SweepFails before after making sweep failure → Fails words before after making old new failure
-sweep_fails words before after making old new sweep (File name) asks fails = inr (inr (inr (inl (sweep, asks, fails))))
-sweep_fails words before after making old new sweep (Rule rule) asks fails = inr (inr (inr (inl (sweep, asks, fails))))
-sweep_fails words before after making old new sweep (Mistaken rule) asks fails = absurd (sweep_mistaken before after making sweep rule fails)
-sweep_fails words before after making old new sweep (Case rule settings) asks fails = inr (inr (inr (inl (sweep, asks, fails))))
-sweep_fails words before after making old new sweep (Pieces cause) asks fails = inr (inr (inr (inl (sweep, asks, fails))))
-sweep_fails words before after making old new sweep Workers asks fails = inr (inr (inr (inl (sweep, asks, fails))))
-sweep_fails words before after making old new sweep (Division cause) asks fails = inr (inr (inr (inl (sweep, asks, fails))))
-sweep_fails words before after making old new sweep (Run cause) asks fails = inr (inr (inr (inl (sweep, asks, fails))))
-sweep_fails words before after making old new sweep failing.Preset asks fails = absurd (sweep_preset before after making sweep fails)
-sweep_fails words before after making old new sweep Usage asks fails = absurd (sweep_usage before after making sweep fails)
-sweep_fails words before after making old new sweep (NoItem key) asks fails = (sweep, asks, fails)
-sweep_fails words before after making old new sweep Output asks fails = absurd (sweep_output before after making sweep fails)
-sweep_fails words before after making old new sweep Memory asks fails = sweep_memory before after making sweep fails
+pub sweep_fails : (Refused : Type 0) (words : List Text) (before after : Shelf) (making : Making) (old new : Option (List ℕ)) (sweep : SweepWords) (failure : Failure)
+    → AsksForSweep words sweep → SweepFails Refused before after making sweep failure → Fails Refused words before after making old new failure
+sweep_fails Refused words before after making old new sweep (File name) asks fails = inr (inr (inr (inl (sweep, asks, fails))))
+sweep_fails Refused words before after making old new sweep (Rule rule) asks fails = inr (inr (inr (inl (sweep, asks, fails))))
+sweep_fails Refused words before after making old new sweep (Mistaken rule) asks fails = absurd (sweep_mistaken Refused before after making sweep rule fails)
+sweep_fails Refused words before after making old new sweep (Case rule settings) asks fails = inr (inr (inr (inl (sweep, asks, fails))))
+sweep_fails Refused words before after making old new sweep (Pieces cause) asks fails = inr (inr (inr (inl (sweep, asks, fails))))
+sweep_fails Refused words before after making old new sweep Workers asks fails = inr (inr (inr (inl (sweep, asks, fails))))
+sweep_fails Refused words before after making old new sweep (Division cause) asks fails = inr (inr (inr (inl (sweep, asks, fails))))
+sweep_fails Refused words before after making old new sweep (Run cause) asks fails = inr (inr (inr (inl (sweep, asks, fails))))
+sweep_fails Refused words before after making old new sweep failing.Preset asks fails = absurd (sweep_preset Refused before after making sweep fails)
+sweep_fails Refused words before after making old new sweep Usage asks fails = absurd (sweep_usage Refused before after making sweep fails)
+sweep_fails Refused words before after making old new sweep (NoItem key) asks fails = (sweep, asks, fails)
+sweep_fails Refused words before after making old new sweep Output asks fails = absurd (sweep_output Refused before after making sweep fails)
+sweep_fails Refused words before after making old new sweep Memory asks fails = sweep_memory Refused before after making sweep fails
 
 -- the same of an answer that is a run
-pub asked_run_fails : (version : List ℕ) (words : List Text) (before after : Shelf) (making : Making) (old new : Option (List ℕ)) (answer : Asked) (run : RunWords) (failure : Failure)
-    → answer ≡ asked.Run run → Answers words answer → RunFails EndsRunBy version before after making run failure → Fails words before after making old new failure
-asked_run_fails version words before after making old new answer run failure is h fails =
+pub asked_run_fails : (Refused : Type 0) (version : List ℕ) (words : List Text) (before after : Shelf) (making : Making) (old new : Option (List ℕ)) (answer : Asked) (run : RunWords) (failure : Failure)
+    → answer ≡ asked.Run run → Answers words answer → RunFails (λ s workers. EndsWithCause Refused (EndsRunBy s workers)) version before after making run failure → Fails Refused words before after making old new failure
+asked_run_fails Refused version words before after making old new answer run failure is h fails =
     let asks : Answers words (asked.Run run) = subst (Answers words) is h in
-    run_fails words before after making old new run version failure asks fails
+    run_fails Refused words before after making old new run version failure asks fails
 
 -- a run that the words ask for was done, and the number of its rows was not printed
-pub asked_run_unprinted : (version : List ℕ) (words : List Text) (before after : Shelf) (making : Making) (old new : Option (List ℕ)) (answer : Asked) (run : RunWords) (count : ℕ)
+pub asked_run_unprinted : (Refused : Type 0) (version : List ℕ) (words : List Text) (before after : Shelf) (making : Making) (old new : Option (List ℕ)) (answer : Asked) (run : RunWords) (count : ℕ)
     (printed : Result (Unit {0}) Failure) → answer ≡ asked.Run run → Answers words answer → RunsAll version before after making run count
-    → IfErr printed (λ failure. failure ≡ Output) → IfErr printed (Fails words before after making old new)
-asked_run_unprinted version words before after making old new answer run count printed is h ran told =
+    → IfErr printed (λ failure. failure ≡ Output) → IfErr printed (Fails Refused words before after making old new)
+asked_run_unprinted Refused version words before after making old new answer run count printed is h ran told =
     let asks : Answers words (asked.Run run) = subst (Answers words) is h in
-    IfErr-weaker printed _ _ (λ failure same. subst (Fails words before after making old new) (sym same) (inl (version, count, (run, asks, ran)))) told
+    IfErr-weaker printed _ _ (λ failure same. subst (Fails Refused words before after making old new) (sym same) (inl (version, count, (run, asks, ran)))) told
 
 -- a run that the words ask for was done, and the number of its rows printed
 pub asked_run_done : {E : Type 0} (release : Release) (words : List Text) (before after : Shelf) (making : Making) (old new : Option (List ℕ)) (answer : Asked) (run : RunWords) (count : ℕ)
@@ -179,19 +177,19 @@ asked_run_untold words answer run is h none = go run.progress refl
         absurd (none (inl (run, asks, e)))
 
 -- the same of an answer that is a sweep
-pub asked_sweep_fails : (words : List Text) (before after : Shelf) (making : Making) (old new : Option (List ℕ)) (answer : Asked) (sweep : SweepWords) (failure : Failure)
-    → answer ≡ asked.Sweep sweep → Answers words answer → SweepFails before after making sweep failure → Fails words before after making old new failure
-asked_sweep_fails words before after making old new answer sweep failure is h fails =
+pub asked_sweep_fails : (Refused : Type 0) (words : List Text) (before after : Shelf) (making : Making) (old new : Option (List ℕ)) (answer : Asked) (sweep : SweepWords) (failure : Failure)
+    → answer ≡ asked.Sweep sweep → Answers words answer → SweepFails Refused before after making sweep failure → Fails Refused words before after making old new failure
+asked_sweep_fails Refused words before after making old new answer sweep failure is h fails =
     let asks : Answers words (asked.Sweep sweep) = subst (Answers words) is h in
-    sweep_fails words before after making old new sweep failure asks fails
+    sweep_fails Refused words before after making old new sweep failure asks fails
 
 -- a sweep that the words ask for was done, and its lines were not printed
-pub asked_sweep_unprinted : (version : List ℕ) (words : List Text) (before after : Shelf) (making : Making) (old new : Option (List ℕ)) (answer : Asked) (sweep : SweepWords) (lines : List ℕ)
+pub asked_sweep_unprinted : (Refused : Type 0) (version : List ℕ) (words : List Text) (before after : Shelf) (making : Making) (old new : Option (List ℕ)) (answer : Asked) (sweep : SweepWords) (lines : List ℕ)
     (printed : Result (Unit {0}) Failure) → answer ≡ asked.Sweep sweep → Answers words answer → SweepsAll version before after making sweep lines
-    → IfErr printed (λ failure. failure ≡ Output) → IfErr printed (Fails words before after making old new)
-asked_sweep_unprinted version words before after making old new answer sweep lines printed is h swept told =
+    → IfErr printed (λ failure. failure ≡ Output) → IfErr printed (Fails Refused words before after making old new)
+asked_sweep_unprinted Refused version words before after making old new answer sweep lines printed is h swept told =
     let asks : Answers words (asked.Sweep sweep) = subst (Answers words) is h in
-    IfErr-weaker printed _ _ (λ failure same. subst (Fails words before after making old new) (sym same) (inr (inr (inr (inl (version, lines, (sweep, asks, swept))))))) told
+    IfErr-weaker printed _ _ (λ failure same. subst (Fails Refused words before after making old new) (sym same) (inr (inr (inr (inl (version, lines, (sweep, asks, swept))))))) told
 
 -- the same, and its lines were printed
 pub asked_sweep_done : {E : Type 0} (release : Release) (words : List Text) (before after : Shelf) (making : Making) (old new : Option (List ℕ)) (answer : Asked) (sweep : SweepWords)
@@ -224,40 +222,6 @@ asked_piece words answer sweep is h =
     let asks : Answers words (asked.Sweep sweep) = subst (Answers words) is h in
     piece_sound (first_of (codes "shard") asks.1.rows) sweep.piece asks.1.piece
 
--- a page is asked of no piece
-alone : (shard page until : Option Text) (resume jsonl : Bool) (piece : Option Piece) → go_together shard page until resume jsonl ≡ true → (name : Text) → page ≡ Some name
-    → AsksForPiece shard piece → piece ≡ None
-alone None page until resume jsonl None sense name is asks = refl
-alone None page until resume jsonl (Some p) sense name is asks = absurd asks
-alone (Some word) None until resume jsonl piece sense name is asks = absurd (none-some name is)
-alone (Some word) (Some page) until resume jsonl piece sense name is asks = absurd (false≢true sense)
-
-pub asked_alone : (words : List Text) (answer : Asked) (sweep : SweepWords) → answer ≡ asked.Sweep sweep → Answers words answer → ForSome sweep.page (λ _. sweep.piece ≡ None)
-asked_alone words answer sweep is h page named =
-    let asks : Answers words (asked.Sweep sweep) = subst (Answers words) is h in
-    alone (first_of (codes "shard") asks.1.rows) (first_of (codes "page") asks.1.rows) _ _ _ sweep.piece asks.1.sense page.now
-    (asks.1.page ∙ ap (option_map (λ (word : Bor Text). word.now)) named) asks.1.piece
-
--- no piece goes on whose cases may get fewer seeds
-no_width : (until : Option Text) (width : Option ℕ) → (is_none until || false) ≡ true → AsksForWidth until width → width ≡ None
-no_width None None sense asks = refl
-no_width None (Some w) sense asks = absurd asks
-no_width (Some word) width sense asks = absurd (false≢true sense)
-
-all_seeds : (shard page until : Option Text) (jsonl : Bool) (width : Option ℕ) → go_together shard page until true jsonl ≡ true → AsksForWidth until width → width ≡ None
-all_seeds None page until jsonl width sense wide = absurd (false≢true sense)
-all_seeds (Some word) (Some page) until jsonl width sense wide = absurd (false≢true sense)
-all_seeds (Some word) None until true width sense wide = absurd (false≢true sense)
-all_seeds (Some word) None until false width sense wide = no_width until width sense wide
-
-pub asked_seeds : (words : List Text) (answer : Asked) (sweep : SweepWords) → answer ≡ asked.Sweep sweep → Answers words answer → sweep.resume ≡ true → sweep.plan.until ≡ None
-asked_seeds words answer sweep is h resumed =
-    let asks : Answers words (asked.Sweep sweep) = subst (Answers words) is h in
-    all_seeds (first_of (codes "shard") asks.1.rows) (first_of (codes "page") asks.1.rows) (first_of (codes "until") asks.1.rows) _ sweep.plan.until
-    (subst (λ (b : Bool). go_together (first_of (codes "shard") asks.1.rows) (first_of (codes "page") asks.1.rows) (first_of (codes "until") asks.1.rows) b (is_given (first_of (codes "jsonl") asks.1.rows)) ≡ true)
-    (asks.1.resume ∙ resumed) asks.1.sense)
-    asks.1.plan.width
-
 -- what a sweep wants is bounded
 wants_bounded : (words : List Text) (wants : List Want) → AreWants words wants → All IsBounded wants
 wants_bounded [] [] are = All-nil IsBounded
@@ -276,28 +240,28 @@ joined_wants words answer join is h =
     wants_bounded (unwrap_or (all_of (codes "want") asks.1.rows) []) join.wants.items asks.1.wants
 
 -- why pieces that the words ask to join were not put together
-join_fails : (words : List Text) (before after : Shelf) (making : Making) (old new : Option (List ℕ)) (join : JoinWords) (failure : Failure)
-    → AsksForJoin words join → JoinFails before after making join failure → Fails words before after making old new failure
-join_fails words before after making old new join (File name) asks fails = inr (inr (inr (inr (inl (join, asks, fails)))))
-join_fails words before after making old new join (Rule rule) asks fails = inr (inr (inr (inr (inl (join, asks, fails)))))
-join_fails words before after making old new join (Case rule settings) asks fails = inr (inr (inr (inr (inl (join, asks, fails)))))
-join_fails words before after making old new join (Pieces cause) asks fails = inr (inr (inr (inr (inl (join, asks, fails)))))
-join_fails words before after making old new join Workers asks fails = inr (inr (inr (inr (inl (join, asks, fails)))))
-join_fails words before after making old new join (Division cause) asks fails = inr (inr (inr (inr (inl (join, asks, fails)))))
-join_fails words before after making old new join (Run cause) asks fails = inr (inr (inr (inr (inl (join, asks, fails)))))
-join_fails words before after making old new join (Mistaken rule) asks fails = absurd (join_ends before after making join (Mistaken rule) fails)
-join_fails words before after making old new join failing.Preset asks fails = absurd (join_ends before after making join failing.Preset fails)
-join_fails words before after making old new join Usage asks fails = absurd (join_ends before after making join Usage fails)
-join_fails words before after making old new join (NoItem key) asks fails = absurd (join_ends before after making join (NoItem key) fails)
-join_fails words before after making old new join Output asks fails = absurd (join_ends before after making join Output fails)
-join_fails words before after making old new join Memory asks fails = join_memory before after making join fails
+join_fails : (Refused : Type 0) (words : List Text) (before after : Shelf) (making : Making) (old new : Option (List ℕ)) (join : JoinWords) (failure : Failure)
+    → AsksForJoin words join → JoinFails Refused before after making join failure → Fails Refused words before after making old new failure
+join_fails Refused words before after making old new join (File name) asks fails = inr (inr (inr (inr (inl (join, asks, fails)))))
+join_fails Refused words before after making old new join (Rule rule) asks fails = inr (inr (inr (inr (inl (join, asks, fails)))))
+join_fails Refused words before after making old new join (Case rule settings) asks fails = inr (inr (inr (inr (inl (join, asks, fails)))))
+join_fails Refused words before after making old new join (Pieces cause) asks fails = inr (inr (inr (inr (inl (join, asks, fails)))))
+join_fails Refused words before after making old new join Workers asks fails = inr (inr (inr (inr (inl (join, asks, fails)))))
+join_fails Refused words before after making old new join (Division cause) asks fails = inr (inr (inr (inr (inl (join, asks, fails)))))
+join_fails Refused words before after making old new join (Run cause) asks fails = inr (inr (inr (inr (inl (join, asks, fails)))))
+join_fails Refused words before after making old new join (Mistaken rule) asks fails = absurd (join_ends Refused before after making join (Mistaken rule) fails)
+join_fails Refused words before after making old new join failing.Preset asks fails = absurd (join_ends Refused before after making join failing.Preset fails)
+join_fails Refused words before after making old new join Usage asks fails = absurd (join_ends Refused before after making join Usage fails)
+join_fails Refused words before after making old new join (NoItem key) asks fails = absurd (join_ends Refused before after making join (NoItem key) fails)
+join_fails Refused words before after making old new join Output asks fails = absurd (join_ends Refused before after making join Output fails)
+join_fails Refused words before after making old new join Memory asks fails = join_memory Refused before after making join fails
 
 -- the same of an answer that asks to join
-pub asked_join_fails : (words : List Text) (before after : Shelf) (making : Making) (old new : Option (List ℕ)) (answer : Asked) (join : JoinWords) (failure : Failure)
-    → answer ≡ asked.Join join → Answers words answer → JoinFails before after making join failure → Fails words before after making old new failure
-asked_join_fails words before after making old new answer join failure is h fails =
+pub asked_join_fails : (Refused : Type 0) (words : List Text) (before after : Shelf) (making : Making) (old new : Option (List ℕ)) (answer : Asked) (join : JoinWords) (failure : Failure)
+    → answer ≡ asked.Join join → Answers words answer → JoinFails Refused before after making join failure → Fails Refused words before after making old new failure
+asked_join_fails Refused words before after making old new answer join failure is h fails =
     let asks : Answers words (asked.Join join) = subst (Answers words) is h in
-    join_fails words before after making old new join failure asks fails
+    join_fails Refused words before after making old new join failure asks fails
 
 -- pieces that the words ask to join were put together, and the lines of the cases printed
 pub asked_join_done : {E : Type 0} (release : Release) (words : List Text) (before after : Shelf) (making : Making) (old new : Option (List ℕ)) (answer : Asked) (join : JoinWords)
@@ -308,37 +272,37 @@ asked_join_done release words before after making old new answer join lines show
     on_ok_weaker printed (λ appended. inr (inr (inr (inr (inr (inl (lines, (join, asks, joined), subst (Appends old new) same appended))))))) told
 
 -- or not printed
-pub asked_join_unprinted : (version : List ℕ) (words : List Text) (before after : Shelf) (making : Making) (old new : Option (List ℕ)) (answer : Asked) (join : JoinWords) (lines : List ℕ)
+pub asked_join_unprinted : (Refused : Type 0) (version : List ℕ) (words : List Text) (before after : Shelf) (making : Making) (old new : Option (List ℕ)) (answer : Asked) (join : JoinWords) (lines : List ℕ)
     (printed : Result (Unit {0}) Failure) → answer ≡ asked.Join join → Answers words answer → JoinsAll version before after making join lines
-    → IfErr printed (λ failure. failure ≡ Output) → IfErr printed (Fails words before after making old new)
-asked_join_unprinted version words before after making old new answer join lines printed is h joined told =
+    → IfErr printed (λ failure. failure ≡ Output) → IfErr printed (Fails Refused words before after making old new)
+asked_join_unprinted Refused version words before after making old new answer join lines printed is h joined told =
     let asks : Answers words (asked.Join join) = subst (Answers words) is h in
-    IfErr-weaker printed _ _ (λ failure same. subst (Fails words before after making old new) (sym same) (inr (inr (inr (inr (inr (inl (version, lines, (join, asks, joined))))))))) told
+    IfErr-weaker printed _ _ (λ failure same. subst (Fails Refused words before after making old new) (sym same) (inr (inr (inr (inr (inr (inl (version, lines, (join, asks, joined))))))))) told
 
 -- why the page that the words ask for was not made
-page_fails : (words : List Text) (before after : Shelf) (making : Making) (old new : Option (List ℕ)) (page : PageWords) (failure : Failure)
-    → AsksForPage words page → PageFails before after making page failure → Fails words before after making old new failure
-page_fails words before after making old new page (File name) asks fails = inr (inr (inr (inr (inr (page, asks, fails)))))
-page_fails words before after making old new page (Rule rule) asks fails = inr (inr (inr (inr (inr (page, asks, fails)))))
-page_fails words before after making old new page (Case rule settings) asks fails = inr (inr (inr (inr (inr (page, asks, fails)))))
-page_fails words before after making old new page (Pieces cause) asks fails = inr (inr (inr (inr (inr (page, asks, fails)))))
-page_fails words before after making old new page Workers asks fails = inr (inr (inr (inr (inr (page, asks, fails)))))
-page_fails words before after making old new page (Division cause) asks fails = inr (inr (inr (inr (inr (page, asks, fails)))))
-page_fails words before after making old new page (Run cause) asks fails = inr (inr (inr (inr (inr (page, asks, fails)))))
-page_fails words before after making old new page (Mistaken rule) asks fails = absurd (page_ends before after making page (Mistaken rule) fails)
-page_fails words before after making old new page failing.Preset asks fails = absurd (page_ends before after making page failing.Preset fails)
-page_fails words before after making old new page Usage asks fails = absurd (page_ends before after making page Usage fails)
-page_fails words before after making old new page (NoItem key) asks fails = absurd (page_ends before after making page (NoItem key) fails)
-page_fails words before after making old new page Output asks fails = absurd (page_ends before after making page Output fails)
-page_fails words before after making old new page Memory asks fails = page_memory before after making page fails
+page_fails : (Refused : Type 0) (words : List Text) (before after : Shelf) (making : Making) (old new : Option (List ℕ)) (page : PageWords) (failure : Failure)
+    → AsksForPage words page → PageFails Refused before after making page failure → Fails Refused words before after making old new failure
+page_fails Refused words before after making old new page (File name) asks fails = inr (inr (inr (inr (inr (page, asks, fails)))))
+page_fails Refused words before after making old new page (Rule rule) asks fails = inr (inr (inr (inr (inr (page, asks, fails)))))
+page_fails Refused words before after making old new page (Case rule settings) asks fails = inr (inr (inr (inr (inr (page, asks, fails)))))
+page_fails Refused words before after making old new page (Pieces cause) asks fails = inr (inr (inr (inr (inr (page, asks, fails)))))
+page_fails Refused words before after making old new page Workers asks fails = inr (inr (inr (inr (inr (page, asks, fails)))))
+page_fails Refused words before after making old new page (Division cause) asks fails = inr (inr (inr (inr (inr (page, asks, fails)))))
+page_fails Refused words before after making old new page (Run cause) asks fails = inr (inr (inr (inr (inr (page, asks, fails)))))
+page_fails Refused words before after making old new page (Mistaken rule) asks fails = absurd (page_ends Refused before after making page (Mistaken rule) fails)
+page_fails Refused words before after making old new page failing.Preset asks fails = absurd (page_ends Refused before after making page failing.Preset fails)
+page_fails Refused words before after making old new page Usage asks fails = absurd (page_ends Refused before after making page Usage fails)
+page_fails Refused words before after making old new page (NoItem key) asks fails = absurd (page_ends Refused before after making page (NoItem key) fails)
+page_fails Refused words before after making old new page Output asks fails = absurd (page_ends Refused before after making page Output fails)
+page_fails Refused words before after making old new page Memory asks fails = page_memory Refused before after making page fails
 
 -- the same of whatever came of it
-pub asked_page_failed : (words : List Text) (before after : Shelf) (making : Making) (old new : Option (List ℕ)) (answer : Asked) (page : PageWords)
-    (done : Result (Unit {0}) Failure) → answer ≡ asked.Page page → Answers words answer → IfErr done (PageFails before after making page)
-    → IfErr done (Fails words before after making old new)
-asked_page_failed words before after making old new answer page done is h failed =
+pub asked_page_failed : (Refused : Type 0) (words : List Text) (before after : Shelf) (making : Making) (old new : Option (List ℕ)) (answer : Asked) (page : PageWords)
+    (done : Result (Unit {0}) Failure) → answer ≡ asked.Page page → Answers words answer → IfErr done (PageFails Refused before after making page)
+    → IfErr done (Fails Refused words before after making old new)
+asked_page_failed Refused words before after making old new answer page done is h failed =
     let asks : Answers words (asked.Page page) = subst (Answers words) is h in
-    IfErr-weaker done _ _ (λ failure fails. page_fails words before after making old new page failure asks fails) failed
+    IfErr-weaker done _ _ (λ failure fails. page_fails Refused words before after making old new page failure asks fails) failed
 
 -- the page was made, and nothing was printed
 pub asked_page_done : {E : Type 0} (release : Release) (words : List Text) (before after : Shelf) (making : Making) (held : Option (List ℕ)) (answer : Asked) (page : PageWords)
@@ -357,13 +321,13 @@ asked_init_done release words before making old new answer preset printed is h t
     on_ok_weaker printed (λ prints. inr (inr (inr (inr (inl (preset, asks, prints, refl)))))) told
 
 -- why it wasn't
-pub asked_init_fails : (words : List Text) (before : Shelf) (making : Making) (old new : Option (List ℕ)) (answer : Asked) (preset : Preset) (unchanged : Type 0) (failure : Failure)
-    → answer ≡ asked.Init preset → Answers words answer → PresetFails preset unchanged failure → Fails words before before making old new failure
-asked_init_fails words before making old new answer preset unchanged failure is h fails =
+pub asked_init_fails : (Refused : Type 0) (words : List Text) (before : Shelf) (making : Making) (old new : Option (List ℕ)) (answer : Asked) (preset : Preset) (unchanged : Type 0) (failure : Failure)
+    → answer ≡ asked.Init preset → Answers words answer → PresetFails preset unchanged failure → Fails Refused words before before making old new failure
+asked_init_fails Refused words before making old new answer preset unchanged failure is h fails =
     let asks : Answers words (asked.Init preset) = subst (Answers words) is h in
     by_failure failure asks fails
   where
-    by_failure : (f : Failure) → AsksForInit words preset → PresetFails preset unchanged f → Fails words before before making old new f
+    by_failure : (f : Failure) → AsksForInit words preset → PresetFails preset unchanged f → Fails Refused words before before making old new f
     by_failure Output asks has = inr (inr (inr (inr (inl (preset, asks, has, refl)))))
     by_failure Memory asks same = refl
     by_failure (File name) asks none = absurd none

@@ -21,7 +21,7 @@ use Rattle.scenario_files.specs.Shelves.{Shelf, IsRefused}
 use Rattle.scenario_files.specs.Loading.{HasVerdict, LoadFails}
 use Rattle.join_command.specs.Outcomes.{DoesJoin, DoesNotJoin, DoesNotPage, DoesPage}
 use Rattle.explain_command.specs.Outcomes.{ExplainFails, IsExplained, PrintsMeaning}
-use Rattle.run_command.specs.Outcomes.{AsksForRunProgress, DoesRun, RunFails}
+use Rattle.run_command.specs.Outcomes.{AsksForRunProgress, DoesRun, EndsWithCause, RunFails}
 use Rattle.sweep_command.specs.Outcomes.{AsksForProgress as AsksForSweepProgress, DoesSweep, DoesNotSweep}
 
 -- the words ask for a run or a sweep that tells how far it has come
@@ -104,31 +104,32 @@ abbrev pub DoesNotExplain : List Text → Shelf → Shelf → Option (List ℕ) 
 DoesNotExplain words before after old new failure = (explain : ExplainWords) × AsksForExplain words explain
     × IsRefused before after (ExplainFails (before explain.file.now) explain old new failure)
 
--- why a run, a check, an explanation, a sweep, a joining or a page of pieces that the words ask for was not done
-abbrev pub DoesNot : List Text → Shelf → Shelf → Making → Option (List ℕ) → Option (List ℕ) → Failure → Type 0
-DoesNot words before after making old new failure =
-    ((run : RunWords) × AsksForRun words run × ((version : List ℕ) × RunFails EndsRunBy version before after making run failure))
+-- Why a run, a check, an explanation, a sweep, a joining or a page of pieces that the words ask for was not done. By a failed write a run, a
+-- sweep, a joining or a page ends only where a file refused one, as `Refused` says.
+abbrev pub DoesNot : Type 0 → List Text → Shelf → Shelf → Making → Option (List ℕ) → Option (List ℕ) → Failure → Type 0
+DoesNot Refused words before after making old new failure =
+    ((run : RunWords) × AsksForRun words run × ((version : List ℕ) × RunFails (λ s workers. EndsWithCause Refused (EndsRunBy s workers)) version before after making run failure))
     ⊎ (((file : Text) × AsksForCheck words file × CheckFails before after file failure)
     ⊎ (DoesNotExplain words before after old new failure
-    ⊎ (DoesNotSweep words before after making failure
-    ⊎ (DoesNotJoin words before after making failure
-    ⊎ DoesNotPage words before after making failure))))
+    ⊎ (DoesNotSweep Refused words before after making failure
+    ⊎ (DoesNotJoin Refused words before after making failure
+    ⊎ DoesNotPage Refused words before after making failure))))
 
 -- why what the words ask for wasn't done
-abbrev pub Fails : List Text → Shelf → Shelf → Making → Option (List ℕ) → Option (List ℕ) → Failure → Type 0
-Fails words before after making old new Usage = IsNoCommand words × (after ≡ before)
-Fails words before after making old new Preset = AsksForNoPreset words × (after ≡ before)
-Fails words before after making old new (NoItem key) = DoesNotSweep words before after making (NoItem key)
-Fails words before after making old new Output = DoneUnprinted words before after making
-Fails words before after making old new (Mistaken rule) = DoesNotExplain words before after old new (Mistaken rule)
-Fails words before after making old new Memory = after ≡ before
-Fails words before after making old new failure = DoesNot words before after making old new failure
+abbrev pub Fails : Type 0 → List Text → Shelf → Shelf → Making → Option (List ℕ) → Option (List ℕ) → Failure → Type 0
+Fails Refused words before after making old new Usage = IsNoCommand words × (after ≡ before)
+Fails Refused words before after making old new Preset = AsksForNoPreset words × (after ≡ before)
+Fails Refused words before after making old new (NoItem key) = DoesNotSweep Refused words before after making (NoItem key)
+Fails Refused words before after making old new Output = DoneUnprinted words before after making
+Fails Refused words before after making old new (Mistaken rule) = DoesNotExplain words before after old new (Mistaken rule)
+Fails Refused words before after making old new Memory = after ≡ before
+Fails Refused words before after making old new failure = DoesNot Refused words before after making old new failure
 
 -- How a command ended that answered this status, which isn't 0: by a failure of that status. Standard output is as it was,
 -- unless it failed itself or has got the mistakes of a text that was to be explained.
-pub record Ends {O : Type 0} (words : List Text) (before after : Shelf) (making : Making) (contents : O → Option (List ℕ)) (old new : O)
+pub record Ends {O : Type 0} (Refused : Type 0) (words : List Text) (before after : Shelf) (making : Making) (contents : O → Option (List ℕ)) (old new : O)
     (status : ℕ) : Type 0 where
   pub failure : Failure
   pub told : status ≡ status_of failure
-  pub cause : Fails words before after making (contents old) (contents new) failure
+  pub cause : Fails Refused words before after making (contents old) (contents new) failure
   pub silent : failure ≢ Output → ¬ (IsMistaken failure) → new ≡ old

@@ -1,5 +1,5 @@
 //! The program as a function over files and writers.
-ghost use Rattle.std.specs.Prelude.{◌≡◌, ◌≢◌, ◌⊎◌, ◌≤◌, map, IfErr, OnOk, IsErrOf};
+ghost use Rattle.std.specs.Prelude.{◌≡◌, ◌≢◌, ◌⊎◌, ◌<◌, ◌≤◌, map, IfErr, OnOk, IsErrOf};
 ghost use Rattle.command_line.specs.Failures.{IsMistaken};
 ghost use Rattle.command_line.specs.Words.{AsksToExplain, IsCommand, IsNoCommand};
 ghost use Rattle.sweep_command.specs.Outcomes.{SetsNoItem};
@@ -48,9 +48,10 @@ pub fn command<S: AsStr, F: Files, O: Write, E: Write, P: Write>(
     ensures done { result ≡ 0 → HasDone release.now (map S.text words.now) (F.known files.old) (F.known files.new) (F.making files.old)
         (O.contents out.old) (O.contents out.new) }
 
-    // Any other status has its cause, which the files and the words bear out.
+    // Any other status has its cause, which the files and the words bear out: by a failed write nothing ends unless a file
+    // has refused one.
     ensures failed { result ≢ 0
-        → Ends (map S.text words.now) (F.known files.old) (F.known files.new) (F.making files.old)
+        → Ends (F.refused files.old < F.refused files.new) (map S.text words.now) (F.known files.old) (F.known files.new) (F.making files.old)
         O.contents out.old out.new result }
 
     // Status 2 is for words that are no command, and for the key of an item that the text hasn't. The former get it, unless
@@ -85,7 +86,7 @@ fn perform<'a, S: AsStr, F: Files, O: Write, P: Write>(
     ensures done { OnOk result (HasDone release.now (map S.text words.entry.now) (F.known files.old) (F.known files.new) (F.making files.old)
         (O.contents out.old) (O.contents out.new)) }
     ensures failed { IfErr result
-        (Fails (map S.text words.entry.now) (F.known files.old) (F.known files.new) (F.making files.old)
+        (Fails (F.refused files.old < F.refused files.new) (map S.text words.entry.now) (F.known files.old) (F.known files.new) (F.making files.old)
         (O.contents out.old) (O.contents out.new)) }
     ensures command { OnOk result (IsCommand (map S.text words.entry.now)) }
     ensures other { ¬ (IsCommand (map S.text words.entry.now))

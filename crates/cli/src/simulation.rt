@@ -1,5 +1,5 @@
 //! The simulation of a scenario by threads.
-ghost use Rattle.std.specs.Prelude.{◌≡◌, ◌≢◌, ◌<◌, ◌≤◌, ◌⊎◌, IfOk, IfErr, OnOk, OnErr, IsErrOf, length};
+ghost use Rattle.std.specs.Prelude.{◌≡◌, ◌≢◌, ◌<◌, ◌≤◌, ◌^◌, ◌⊎◌, IfOk, IfErr, OnOk, OnErr, IsErrOf, length};
 ghost use Rattle.std.specs.Thread.{IsSync};
 ghost use Rattle.scenario.specs.Setup.{member_count};
 ghost use Rattle.member_laws.specs.Runs.{WearsOut};
@@ -18,7 +18,7 @@ use std::alloc::Global;
 use std::io::Write;
 use std::sync::Wait;
 use std::thread::Threads;
-use trace::Put;
+use trace::{Put, Sink};
 use watched_runs::run_watched;
 
 /// What simulates a scenario by threads of the runtime.
@@ -35,7 +35,7 @@ impl<H: Threads + Wait + Sync> Simulator for ByThreads<'_, H> {
 
     ghost ends_by = { EndsRunBy };
 
-    fn simulate<T: Write, R: Write, W: Write>(
+    fn simulate<T: Write, R: Sink, W: Write>(
         &self,
         alloc: Global,
         scenario: &Scenario,
@@ -44,13 +44,13 @@ impl<H: Threads + Wait + Sync> Simulator for ByThreads<'_, H> {
         watch: Option<&mut W>,
         trace: T,
         report: R,
-    ) -> (Put<T>, Put<R>, Result<Summary, Fault>) {
+    ) -> (Put<T>, R, Result<Summary, Fault>) {
         simulate(
             self.rt, alloc, scenario, division, workers, watch, trace, report,
         )
     }
 
-    fn simulate_with_page<T: Write, R: Write, P: Write, W: Write>(
+    fn simulate_with_page<T: Write, R: Sink, P: Write, W: Write>(
         &self,
         alloc: Global,
         scenario: &Scenario,
@@ -61,18 +61,18 @@ impl<H: Threads + Wait + Sync> Simulator for ByThreads<'_, H> {
         trace: T,
         report: R,
         page: P,
-    ) -> (Put<T>, Put<R>, Put<P>, Result<Summary, Fault>) {
+    ) -> (Put<T>, R, Put<P>, Result<Summary, Fault>) {
         simulate_with_page(
             self.rt, alloc, scenario, division, workers, shown, watch, trace, report, page,
         )
     }
 }
 
-/// Runs a scenario by the parts of a division of its members and so many workers, writes its trace to one
-/// writer and then its report to the other, and gives both back, with the failures that were counted. After a
+/// Runs a scenario by the parts of a division of its members and so many workers, writes its trace to a
+/// writer and then its report to a sink, and gives both back, with the failures that were counted. After a
 /// fault they have got a beginning of that. Where there is a `watch` it is told how far the run has come, as far as it takes
 /// that.
-pub fn simulate<T: Write, R: Write, W: Write>(
+pub fn simulate<T: Write, R: Sink, W: Write>(
     rt: &(impl Threads + Wait + Sync),
     alloc: Global,
     scenario: &Scenario,
@@ -81,22 +81,23 @@ pub fn simulate<T: Write, R: Write, W: Write>(
     watch: Option<&mut W>,
     trace: T,
     report: R,
-) -> (Put<T>, Put<R>, Result<Summary, Fault>)
+) -> (Put<T>, R, Result<Summary, Fault>)
     requires divided { length division.now.part_of ≡ member_count scenario.now }
+    requires countable { R.failed report < 2 ^ 63 }
     ensures written { IfOk result.2 (λ summary. WritesRun scenario.now (T.contents trace) (T.contents (writer_under result.0))
-        (R.contents report) (R.contents (writer_under result.1)) summary.rows) }
+        (R.held report) (R.held result.1) summary.rows) }
     ensures beginning { OnErr result.2 (WritesBeginning scenario.now (T.contents trace) (T.contents (writer_under result.0))
-        (R.contents report) (R.contents (writer_under result.1))) }
-    ensures first { 0 < put_failures result.0 → writer_under result.1 ≡ report }
+        (R.held report) (R.held result.1)) }
+    ensures first { 0 < put_failures result.0 → result.1 ≡ report }
     ensures whole { OnOk result.2 (put_failures result.0 ≡ 0) }
-    ensures whole_report { OnOk result.2 (put_failures result.1 ≡ 0) }
+    ensures whole_report { OnOk result.2 (R.failed result.1 ≡ R.failed report) }
     ensures lasts { OnOk result.2 (¬ (WearsOut scenario.now)) }
 
     // no fault comes without its cause
     ensures worn { IsErrOf result.2 Fault.Worn → WearsOut scenario.now ⊎ WearsOutReport scenario.now }
-    ensures write { IsErrOf result.2 Fault.Write → (0 < put_failures result.0) ⊎ (0 < put_failures result.1) }
+    ensures write { IsErrOf result.2 Fault.Write → (0 < put_failures result.0) ⊎ (R.failed report < R.failed result.1) }
     ensures relay { IsErrOf result.2 Fault.Relay → put_failures result.0 ≡ 0 }
-    ensures others_report { IfErr result.2 (λ cause. cause ≢ Fault.Write → put_failures result.1 ≡ 0) }
+    ensures others_report { IfErr result.2 (λ cause. cause ≢ Fault.Write → R.failed result.1 ≡ R.failed report) }
 
     // one worker alone loses nothing to threads
     ensures threads { IsErrOf result.2 Fault.Relay → 2 ≤ workers }
@@ -104,7 +105,7 @@ pub fn simulate<T: Write, R: Write, W: Write>(
 {
     match watch {
         Some(out) => {
-            let mut sink = Put::new(report);
+            let mut sink = report;
             let (trace, outcome) = run_watched(
                 rt,
                 alloc,
@@ -119,7 +120,7 @@ pub fn simulate<T: Write, R: Write, W: Write>(
         }
         None => {
             let mut trace = Put::new(trace);
-            let mut report = Put::new(report);
+            let mut report = report;
             let outcome = run_shared(
                 rt,
                 alloc,
@@ -134,9 +135,9 @@ pub fn simulate<T: Write, R: Write, W: Write>(
     }
 }
 
-/// Runs a scenario as `simulate` does, writes its page, which tells what `shown` says, to a third writer once the other two
+/// Runs a scenario as `simulate` does, writes its page, which tells what `shown` says, to another writer once the other two
 /// are whole, and gives all three back, with the failures that were counted. After a fault they have got a beginning of that.
-pub fn simulate_with_page<T: Write, R: Write, P: Write, W: Write>(
+pub fn simulate_with_page<T: Write, R: Sink, P: Write, W: Write>(
     rt: &(impl Threads + Wait + Sync),
     alloc: Global,
     scenario: &Scenario,
@@ -147,33 +148,34 @@ pub fn simulate_with_page<T: Write, R: Write, P: Write, W: Write>(
     trace: T,
     report: R,
     page: P,
-) -> (Put<T>, Put<R>, Put<P>, Result<Summary, Fault>)
+) -> (Put<T>, R, Put<P>, Result<Summary, Fault>)
     requires divided { length division.now.part_of ≡ member_count scenario.now }
+    requires countable { R.failed report < 2 ^ 63 }
     ensures written { IfOk result.3 (λ summary. WritesRunAndPage shown.now.name.now shown.now.release.now scenario.now
-        (T.contents trace) (T.contents (writer_under result.0)) (R.contents report) (R.contents (writer_under result.1))
+        (T.contents trace) (T.contents (writer_under result.0)) (R.held report) (R.held result.1)
         (P.contents page) (P.contents (writer_under result.2)) summary.rows) }
     ensures beginning { OnErr result.3 (BeginsRunAndPage shown.now.name.now shown.now.release.now scenario.now
-        (T.contents trace) (T.contents (writer_under result.0)) (R.contents report) (R.contents (writer_under result.1))
+        (T.contents trace) (T.contents (writer_under result.0)) (R.held report) (R.held result.1)
         (P.contents page) (P.contents (writer_under result.2))) }
-    ensures first { 0 < put_failures result.0 → writer_under result.1 ≡ report }
-    ensures second { (0 < put_failures result.0) ⊎ (0 < put_failures result.1) → writer_under result.2 ≡ page }
+    ensures first { 0 < put_failures result.0 → result.1 ≡ report }
+    ensures second { (0 < put_failures result.0) ⊎ (R.failed report < R.failed result.1) → writer_under result.2 ≡ page }
     ensures whole { OnOk result.3 (put_failures result.0 ≡ 0) }
-    ensures whole_report { OnOk result.3 (put_failures result.1 ≡ 0) }
+    ensures whole_report { OnOk result.3 (R.failed result.1 ≡ R.failed report) }
     ensures whole_page { OnOk result.3 (put_failures result.2 ≡ 0) }
     ensures lasts { OnOk result.3 (¬ (WearsOut scenario.now)) }
 
     // no fault comes without its cause
     ensures worn { IsErrOf result.3 Fault.Worn → WearsOut scenario.now ⊎ WearsOutReport scenario.now }
-    ensures write { IsErrOf result.3 Fault.Write → (0 < put_failures result.0) ⊎ ((0 < put_failures result.1) ⊎ (0 < put_failures result.2)) }
+    ensures write { IsErrOf result.3 Fault.Write → (0 < put_failures result.0) ⊎ ((R.failed report < R.failed result.1) ⊎ (0 < put_failures result.2)) }
     ensures relay { IsErrOf result.3 Fault.Relay → put_failures result.0 ≡ 0 }
-    ensures others_report { IfErr result.3 (λ cause. cause ≢ Fault.Write → put_failures result.1 ≡ 0) }
+    ensures others_report { IfErr result.3 (λ cause. cause ≢ Fault.Write → R.failed result.1 ≡ R.failed report) }
     ensures others_page { IfErr result.3 (λ cause. cause ≢ Fault.Write → put_failures result.2 ≡ 0) }
 
     // one worker alone loses nothing to threads
     ensures threads { IsErrOf result.3 Fault.Relay → 2 ≤ workers }
     ensures cause { IfErr result.3 (EndsRunBy scenario.now workers) }
 {
-    let mut reported = Put::new(report);
+    let mut reported = report;
     let mut paged = Put::new(page);
     let (traced, outcome) = run_with_page(
         rt,

@@ -163,16 +163,15 @@ AsksForPiece None (Some p) = ⊥
 AsksForPiece (Some word) None = ⊥
 AsksForPiece (Some word) (Some p) = IsPieceWord word p
 
--- only a piece goes on where it was cut off, and only one whose cases get all seeds; and only a whole sweep tells its cases and has a page
-abbrev pub go_together : Option Text → Option Text → Option Text → Bool → Bool → Bool
-go_together None page until resume jsonl = not resume
-go_together (Some piece) page until resume jsonl = is_none page && (not jsonl && (is_none until || not resume))
+-- only a piece goes on where it was cut off; and only a whole sweep tells its cases and has a page
+abbrev pub go_together : Option Text → Option Text → Bool → Bool → Bool
+go_together None page resume jsonl = not resume
+go_together (Some piece) page resume jsonl = is_none page && not jsonl
 
 -- the words go together
 abbrev pub have_sense : List Row → Bool
 have_sense rows =
-    go_together (first_of (codes "shard") rows) (first_of (codes "page") rows) (first_of (codes "until") rows) (is_given (first_of (codes "resume") rows))
-    (is_given (first_of (codes "jsonl") rows))
+    go_together (first_of (codes "shard") rows) (first_of (codes "page") rows) (is_given (first_of (codes "resume") rows)) (is_given (first_of (codes "jsonl") rows))
 
 -- the words of all that is wanted of cases, in their order, want these
 abbrev pub AreWantsIn : List Row → List Want → Type 0

@@ -68,7 +68,7 @@ fn pieces_argument<'a>(alloc: Global) -> Arg<'a>
     ensures local { result.global ≡ false }
 {
     Arg::new(alloc, "PIECE")
-        .help("The pieces, tables that sweep --shard wrote, in any order")
+        .help("The pieces, tables that sweep wrote, in any order")
         .required(true)
         .num_args(1..)
 }

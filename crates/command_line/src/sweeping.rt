@@ -59,7 +59,7 @@ fn with_runs<'a>(alloc: Global, command: Command<'a>) -> Result<Command<'a>, All
         alloc,
         sharded,
         "resume",
-        "Goes on with a piece whose table T was cut off, after T's last whole line; not together with --until",
+        "Goes on with a piece whose table T was cut off, after T's last whole line; with --until after T's last whole case",
     )?;
     with_option(
         alloc,
@@ -137,18 +137,14 @@ pub(crate) fn sweep_asked<'a>(
     })
 }
 
-/// Whether the words of a sweep go together: only a piece goes on where it was cut off, and only one
-/// whose cases get all seeds; and only a whole sweep tells its cases and has a page.
+/// Whether the words of a sweep go together: only a piece goes on where it was cut off; and only a
+/// whole sweep tells its cases and has a page.
 fn have_sense(sweep: &ArgMatches<'_>) -> bool
     ensures { result ≡ have_sense (rows_of (found_of sweep.now)) }
 {
     match value_of(sweep, "shard") {
         None => !is_given(sweep, "resume"),
-        Some(_) => {
-            value_of(sweep, "page").is_none()
-                && !is_given(sweep, "jsonl")
-                && (value_of(sweep, "until").is_none() || !is_given(sweep, "resume"))
-        }
+        Some(_) => value_of(sweep, "page").is_none() && !is_given(sweep, "jsonl"),
     }
 }
 

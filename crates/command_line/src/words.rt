@@ -63,8 +63,7 @@ pub struct SweepWords<'a> {
     pub plan: Plan,
     /// Which piece of the sweep is made; all of it where none is named.
     pub piece: Option<Piece>,
-    /// Whether a piece goes on where its table was cut off. Never without a piece, nor where cases
-    /// may get fewer seeds.
+    /// Whether a piece goes on where its table was cut off. Never without a piece.
     pub resume: bool,
     /// What is wanted of the cases.
     pub wants: Vec<Want<'a>>,

@@ -136,13 +136,13 @@ abbrev pub FailsToGather : Shelf → List (Bor Text) → Bor Text → Failure �
 FailsToGather before names otherwise failure =
     FailsToRead before names failure ⊎ ((texts : List (Vec ℕ Global)) × HoldTexts before names texts × RefusesPieces names otherwise texts failure)
 
--- a text was not stored whole: its file can't be made, memory was refused, or the file has a beginning of it
-abbrev pub FailsToStore : Shelf → Shelf → Making → Text → Text → List ℕ → Failure → Type 0
-FailsToStore before after making source name text (File told) = (told.now ≡ name) × CannotMake making source name × (after ≡ before)
-FailsToStore before after making source name text Memory = after ≡ before
-FailsToStore before after making source name text (Run cause.Write) =
-    (making.are_one source name ≡ false) × HoldsBeginning (before name) (after name) text × KeepsOthers before after name
-FailsToStore before after making source name text _ = ⊥
+-- A text was not stored whole: its file can't be made, memory was refused, or a file refused a write, as `Refused` says, and has a beginning of it.
+abbrev pub FailsToStore : Type 0 → Shelf → Shelf → Making → Text → Text → List ℕ → Failure → Type 0
+FailsToStore Refused before after making source name text (File told) = (told.now ≡ name) × CannotMake making source name × (after ≡ before)
+FailsToStore Refused before after making source name text Memory = after ≡ before
+FailsToStore Refused before after making source name text (Run cause.Write) =
+    Refused × (making.are_one source name ≡ false) × HoldsBeginning (before name) (after name) text × KeepsOthers before after name
+FailsToStore Refused before after making source name text _ = ⊥
 
 -- a beginning was appended: of a table, and nothing of a page; or the whole table, and a beginning of the page
 abbrev pub BeginsBoth : Option (List ℕ) → Option (List ℕ) → List ℕ → Option (List ℕ) → Option (List ℕ) → List ℕ → Type 0
@@ -156,69 +156,69 @@ pub record BreaksOffBoth (before after : Shelf) (making : Making) (source name p
       ⊎ (HoldsNow (before name) (after name) table × HoldsBeginning (before page) (after page) shown)
   pub others : KeepsAllOthers before after name page
 
--- a table and a page were not stored whole: a file can't be made, memory was refused, or it broke off
-abbrev pub FailsToStoreBoth : Shelf → Shelf → Making → Text → Text → Text → List ℕ → List ℕ → Failure → Type 0
-FailsToStoreBoth before after making source name page table shown (File told) =
+-- a table and a page were not stored whole: a file can't be made, memory was refused, or a file refused a write and it broke off
+abbrev pub FailsToStoreBoth : Type 0 → Shelf → Shelf → Making → Text → Text → Text → List ℕ → List ℕ → Failure → Type 0
+FailsToStoreBoth Refused before after making source name page table shown (File told) =
     (((told.now ≡ name) × CannotMake making source name) ⊎ ((told.now ≡ page) × CannotMakeSecond making source name page)) × (after ≡ before)
-FailsToStoreBoth before after making source name page table shown Memory = after ≡ before
-FailsToStoreBoth before after making source name page table shown (Run cause.Write) = BreaksOffBoth before after making source name page table shown
-FailsToStoreBoth before after making source name page table shown _ = ⊥
+FailsToStoreBoth Refused before after making source name page table shown Memory = after ≡ before
+FailsToStoreBoth Refused before after making source name page table shown (Run cause.Write) = Refused × BreaksOffBoth before after making source name page table shown
+FailsToStoreBoth Refused before after making source name page table shown _ = ⊥
 
 -- memory was refused to a text, and no file has changed
 abbrev pub IsWant : Shelf → Shelf → Failure → Type 0
 IsWant before after failure = (failure ≡ Memory) × (after ≡ before)
 
 -- the table and a page of the cases were not stored whole: memory was refused to the page, or so
-abbrev pub FailsToStorePaged : List ℕ → Text → Shelf → Shelf → Making → JoinWords → Sweep → List CaseSummary → List ℕ → Failure → Type 0
-FailsToStorePaged release page before after making join plan cases table failure = IsWant before after failure
+abbrev pub FailsToStorePaged : Type 0 → List ℕ → Text → Shelf → Shelf → Making → JoinWords → Sweep → List CaseSummary → List ℕ → Failure → Type 0
+FailsToStorePaged Refused release page before after making join plan cases table failure = IsWant before after failure
     ⊎ ((shown : List ℕ) × IsJoinPage release join plan cases shown
-    × FailsToStoreBoth before after making (name_at join.files.items join.table 0).now join.table.now page table shown failure)
+    × FailsToStoreBoth Refused before after making (name_at join.files.items join.table 0).now join.table.now page table shown failure)
 
-abbrev pub FailsToStoreAsked : Option (Bor Text) → List ℕ → Shelf → Shelf → Making → JoinWords → Sweep → List CaseSummary → List ℕ → Failure → Type 0
-FailsToStoreAsked None release before after making join plan cases table failure =
-    FailsToStore before after making (name_at join.files.items join.table 0).now join.table.now table failure
-FailsToStoreAsked (Some page) release before after making join plan cases table failure =
-    FailsToStorePaged release page.now before after making join plan cases table failure
+abbrev pub FailsToStoreAsked : Option (Bor Text) → Type 0 → List ℕ → Shelf → Shelf → Making → JoinWords → Sweep → List CaseSummary → List ℕ → Failure → Type 0
+FailsToStoreAsked None Refused release before after making join plan cases table failure =
+    FailsToStore Refused before after making (name_at join.files.items join.table 0).now join.table.now table failure
+FailsToStoreAsked (Some page) Refused release before after making join plan cases table failure =
+    FailsToStorePaged Refused release page.now before after making join plan cases table failure
 
 -- the pieces were put together, but memory was refused to what is told, or their table was not stored
-pub record StoresNone (before after : Shelf) (making : Making) (join : JoinWords) (failure : Failure) : Type 0 where
+pub record StoresNone (Refused : Type 0) (before after : Shelf) (making : Making) (join : JoinWords) (failure : Failure) : Type 0 where
   pub release : List ℕ
   pub plan : Sweep
   pub revived : Bool
   pub cases : List CaseSummary
   pub table : List ℕ
   pub gathered : GathersCases before join.files.items (Some []) (Some table) plan revived cases
-  pub failed : IsWant before after failure ⊎ FailsToStoreAsked join.page release before after making join plan cases table failure
+  pub failed : IsWant before after failure ⊎ FailsToStoreAsked join.page Refused release before after making join plan cases table failure
 
 -- why pieces were not put together: the first cause
-abbrev pub JoinFails : Shelf → Shelf → Making → JoinWords → Failure → Type 0
-JoinFails before after making join failure =
-    IsRefused before after (FailsToGather before join.files.items join.table failure) ⊎ StoresNone before after making join failure
+abbrev pub JoinFails : Type 0 → Shelf → Shelf → Making → JoinWords → Failure → Type 0
+JoinFails Refused before after making join failure =
+    IsRefused before after (FailsToGather before join.files.items join.table failure) ⊎ StoresNone Refused before after making join failure
 
 -- why pieces that the words ask to join were not put together
-abbrev pub DoesNotJoin : List Text → Shelf → Shelf → Making → Failure → Type 0
-DoesNotJoin words before after making failure = (join : JoinWords) × AsksForJoin words join × JoinFails before after making join failure
+abbrev pub DoesNotJoin : Type 0 → List Text → Shelf → Shelf → Making → Failure → Type 0
+DoesNotJoin Refused words before after making failure = (join : JoinWords) × AsksForJoin words join × JoinFails Refused before after making join failure
 
 -- no page of the cases was stored whole: memory was refused to it, or so
-abbrev pub FailsToStorePage : List ℕ → Shelf → Shelf → Making → PageWords → Sweep → List CaseSummary → Failure → Type 0
-FailsToStorePage release before after making page plan cases failure = IsWant before after failure
+abbrev pub FailsToStorePage : Type 0 → List ℕ → Shelf → Shelf → Making → PageWords → Sweep → List CaseSummary → Failure → Type 0
+FailsToStorePage Refused release before after making page plan cases failure = IsWant before after failure
     ⊎ ((shown : List ℕ) × IsPiecesPage release page plan cases shown
-    × FailsToStore before after making (name_at page.files.items page.page 0).now page.page.now shown failure)
+    × FailsToStore Refused before after making (name_at page.files.items page.page 0).now page.page.now shown failure)
 
 -- the pieces were put together, but no page of their cases was stored
-pub record PagesNone (before after : Shelf) (making : Making) (page : PageWords) (failure : Failure) : Type 0 where
+pub record PagesNone (Refused : Type 0) (before after : Shelf) (making : Making) (page : PageWords) (failure : Failure) : Type 0 where
   pub release : List ℕ
   pub plan : Sweep
   pub revived : Bool
   pub cases : List CaseSummary
   pub gathered : GathersCases before page.files.items None None plan revived cases
-  pub failed : FailsToStorePage release before after making page plan cases failure
+  pub failed : FailsToStorePage Refused release before after making page plan cases failure
 
 -- why no page was made of pieces: the first cause
-abbrev pub PageFails : Shelf → Shelf → Making → PageWords → Failure → Type 0
-PageFails before after making page failure =
-    IsRefused before after (FailsToGather before page.files.items page.page failure) ⊎ PagesNone before after making page failure
+abbrev pub PageFails : Type 0 → Shelf → Shelf → Making → PageWords → Failure → Type 0
+PageFails Refused before after making page failure =
+    IsRefused before after (FailsToGather before page.files.items page.page failure) ⊎ PagesNone Refused before after making page failure
 
 -- why the page that the words ask for was not made
-abbrev pub DoesNotPage : List Text → Shelf → Shelf → Making → Failure → Type 0
-DoesNotPage words before after making failure = (page : PageWords) × AsksForPage words page × PageFails before after making page failure
+abbrev pub DoesNotPage : Type 0 → List Text → Shelf → Shelf → Making → Failure → Type 0
+DoesNotPage Refused words before after making failure = (page : PageWords) × AsksForPage words page × PageFails Refused before after making page failure

@@ -1,5 +1,5 @@
 //! The pieces of a sweep in files, put together into the table of the whole.
-ghost use Rattle.std.specs.Prelude.{◌≡◌, All, Some, [], IfOk, IfErr, OnOk, length, string_bytes};
+ghost use Rattle.std.specs.Prelude.{◌≡◌, ◌<◌, All, Some, [], IfOk, IfErr, OnOk, length, string_bytes};
 ghost use Rattle.answers.specs.Wants.{HasFewRuns, IsBounded};
 ghost use Rattle.cases.specs.Sweep.{case_count};
 ghost use Rattle.case_telling.specs.Telling.{TellsCases};
@@ -28,7 +28,7 @@ pub fn join_files<'a, F: Files>(
     requires wants { All IsBounded words.now.wants.items }
     ensures done { IfOk result
         (λ lines. JoinsAll release.now.version.now (F.known files.old) (F.known files.new) (F.making files.old) words.now (string_bytes lines)) }
-    ensures failed { IfErr result (JoinFails (F.known files.old) (F.known files.new) (F.making files.old) words.now) }
+    ensures failed { IfErr result (JoinFails (F.refused files.old < F.refused files.new) (F.known files.old) (F.known files.new) (F.making files.old) words.now) }
 {
     let whole = gather_whole(alloc, words, files)?;
     let lines = tell(alloc, words, &whole.joined)?;
@@ -56,6 +56,7 @@ fn gather_whole<'a, F: Files>(
     ensures failed { IfErr result (FailsToGather (F.known files.old) words.now.files.items words.now.table) }
     ensures same { F.known files.new ≡ F.known files.old }
     ensures making { F.making files.new ≡ F.making files.old }
+    ensures counted { F.refused files.new ≡ F.refused files.old }
 {
     let mut table = Put::new(Vec::new(alloc));
     let joined = gather(
@@ -104,7 +105,8 @@ fn store_asked<'a, F: Files>(
     requires all { length whole.now.joined.cases.items ≡ case_count whole.now.joined.plan.settings }
     ensures done { OnOk result (StoresAsked words.now.page release.now.version.now (F.known files.old) (F.known files.new) (F.making files.old) words.now
         whole.now.joined.plan whole.now.joined.cases.items whole.now.table.items) }
-    ensures failed { IfErr result (FailsToStoreAsked words.now.page release.now.version.now (F.known files.old) (F.known files.new) (F.making files.old) words.now
+    ensures failed { IfErr result (FailsToStoreAsked words.now.page (F.refused files.old < F.refused files.new) release.now.version.now
+        (F.known files.old) (F.known files.new) (F.making files.old) words.now
         whole.now.joined.plan whole.now.joined.cases.items whole.now.table.items) }
 {
     match words.page {
@@ -128,7 +130,8 @@ fn store_paged<'a, F: Files>(
     requires all { length whole.now.joined.cases.items ≡ case_count whole.now.joined.plan.settings }
     ensures done { OnOk result (StoresPaged release.now.version.now page.entry.now (F.known files.old) (F.known files.new) (F.making files.old) words.now
         whole.now.joined.plan whole.now.joined.cases.items whole.now.table.items) }
-    ensures failed { IfErr result (FailsToStorePaged release.now.version.now page.entry.now (F.known files.old) (F.known files.new) (F.making files.old) words.now
+    ensures failed { IfErr result (FailsToStorePaged (F.refused files.old < F.refused files.new) release.now.version.now page.entry.now
+        (F.known files.old) (F.known files.new) (F.making files.old) words.now
         whole.now.joined.plan whole.now.joined.cases.items whole.now.table.items) }
 {
     let source = name_at(words.files.as_slice(), words.table, 0);

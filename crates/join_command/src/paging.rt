@@ -1,5 +1,5 @@
 //! A page of the cases that the pieces of a sweep came to.
-ghost use Rattle.std.specs.Prelude.{◌≡◌, IfOk, IfErr, OnOk, length, string_bytes};
+ghost use Rattle.std.specs.Prelude.{◌≡◌, ◌<◌, IfOk, IfErr, OnOk, length, string_bytes};
 ghost use Rattle.cases.specs.Sweep.{case_count};
 ghost use Rattle.case_telling.specs.Telling.{IsSweepPage};
 ghost use Rattle.join_command.specs.Outcomes.{FailsToStorePage, PageFails, PagesAll, StoresPage, scenario_name};
@@ -24,7 +24,7 @@ pub fn page_files<'a, F: Files>(
     files: &mut F,
 ) -> Result<(), Failure<'a>>
     ensures done { OnOk result (PagesAll release.now.version.now (F.known files.old) (F.known files.new) (F.making files.old) words.now) }
-    ensures failed { IfErr result (PageFails (F.known files.old) (F.known files.new) (F.making files.old) words.now) }
+    ensures failed { IfErr result (PageFails (F.refused files.old < F.refused files.new) (F.known files.old) (F.known files.new) (F.making files.old) words.now) }
 {
     let mut nowhere = Put::new(io::sink());
     let joined = gather(
@@ -48,7 +48,8 @@ fn store_page<'a, F: Files>(
     requires all { length joined.now.cases.items ≡ case_count joined.now.plan.settings }
     ensures done { OnOk result (StoresPage release.now.version.now (F.known files.old) (F.known files.new) (F.making files.old) words.now
         joined.now.plan joined.now.cases.items) }
-    ensures failed { IfErr result (FailsToStorePage release.now.version.now (F.known files.old) (F.known files.new) (F.making files.old) words.now
+    ensures failed { IfErr result (FailsToStorePage (F.refused files.old < F.refused files.new) release.now.version.now
+        (F.known files.old) (F.known files.new) (F.making files.old) words.now
         joined.now.plan joined.now.cases.items) }
 {
     let source = name_at(words.files.as_slice(), words.page, 0);

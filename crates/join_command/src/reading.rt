@@ -27,6 +27,7 @@ pub(crate) fn gather<'a, F: Files, S: Sink>(
     ensures failed { IfErr result (FailsToGather (F.known files.old) names.now otherwise.entry) }
     ensures same { F.known files.new ≡ F.known files.old }
     ensures making { F.making files.new ≡ F.making files.old }
+    ensures counted { F.refused files.new ≡ F.refused files.old }
 {
     let texts = load_texts(alloc, names, files)?;
     join_texts(alloc, names, otherwise, &texts, table)
@@ -42,6 +43,7 @@ fn load_texts<'a, F: Files>(
     ensures failed { IfErr result (FailsToRead (F.known files.old) names.now) }
     ensures same { F.known files.new ≡ F.known files.old }
     ensures making { F.making files.new ≡ F.making files.old }
+    ensures counted { F.refused files.new ≡ F.refused files.old }
 {
     let mut texts = Vec::new(alloc);
     for name in names {

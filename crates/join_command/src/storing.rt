@@ -1,9 +1,9 @@
 //! The files that take the table of a whole sweep and a page of its cases.
-ghost use Rattle.std.specs.Prelude.{◌≡◌, ◌<◌, ◌^◌, IfErr, OnErr, OnOk};
+ghost use Rattle.std.specs.Prelude.{◌≡◌, ◌<◌, ◌^◌, ◌+◌, IfErr, OnErr, OnOk};
 ghost use Rattle.std.specs.Io.KnownBytes.{Appends};
 ghost use Rattle.base.specs.declared.fault.Fault.TheVariants as cause;
-ghost use Rattle.trace.specs.Sinks.{AppendsBeginning};
-ghost use Rattle.trace.specs.Writers.{writer_under};
+ghost use Rattle.trace.specs.Sinks.{AppendsBeginning, failure_if_stopped};
+ghost use Rattle.trace.specs.Writers.{put_failures, writer_under};
 ghost use Rattle.join_command.specs.Outcomes.{AppendsBoth, BeginsBoth, FailsToStore, FailsToStoreBoth, Stores, StoresBoth};
 
 use base::Fault;
@@ -22,14 +22,14 @@ pub(crate) fn store<'a, F: Files>(
     files: &mut F,
 ) -> Result<(), Failure<'a>>
     ensures done { OnOk result (Stores (F.known files.old) (F.known files.new) (F.making files.old) source.now name.entry.now text.now) }
-    ensures failed { IfErr result (FailsToStore (F.known files.old) (F.known files.new) (F.making files.old) source.now name.entry.now text.now) }
+    ensures failed { IfErr result (FailsToStore (F.refused files.old < F.refused files.new) (F.known files.old) (F.known files.new) (F.making files.old) source.now name.entry.now text.now) }
 {
     let made = match files.make(source, name) {
         Ok(made) => made,
         Err(fault) => return Err(file_failure(fault, name)),
     };
     let (made, outcome) = fill(made, text);
-    files.close(name, made.into_inner());
+    files.close(name, made);
     run_told(outcome)
 }
 
@@ -46,7 +46,7 @@ pub(crate) fn store_both<'a, F: Files>(
     ensures done { OnOk result
         (StoresBoth (F.known files.old) (F.known files.new) (F.making files.old) source.now name.entry.now page.entry.now table.now shown.now) }
     ensures failed { IfErr result
-        (FailsToStoreBoth (F.known files.old) (F.known files.new) (F.making files.old) source.now name.entry.now page.entry.now table.now shown.now) }
+        (FailsToStoreBoth (F.refused files.old < F.refused files.new) (F.known files.old) (F.known files.new) (F.making files.old) source.now name.entry.now page.entry.now table.now shown.now) }
 {
     let (made, made_page) = match files.make_both(source, name, page) {
         Ok(made) => made,
@@ -55,8 +55,8 @@ pub(crate) fn store_both<'a, F: Files>(
         Err(PairFault::Memory) => return Err(Failure::Memory),
     };
     let (made, made_page, outcome) = fill_both(made, table, made_page, shown);
-    files.close(name, made.into_inner());
-    files.close(page, made_page.into_inner());
+    files.close(name, made);
+    files.close(page, made_page);
     run_told(outcome)
 }
 
@@ -65,6 +65,7 @@ fn fill<T: Write>(writer: T, text: &[u8]) -> (Put<T>, Result<(), Fault>)
     ensures whole { OnOk result.1 (Appends (T.contents writer) (T.contents (writer_under result.0)) text.now) }
     ensures part { OnErr result.1 (AppendsBeginning (T.contents writer) (T.contents (writer_under result.0)) text.now) }
     ensures causes { IfErr result.1 (λ fault. fault ≡ cause.Write) }
+    ensures failures { put_failures result.0 ≡ failure_if_stopped result.1 }
 {
     let mut writer = Put::new(writer);
     let outcome = put_whole(text, &mut writer);
@@ -83,6 +84,7 @@ fn fill_both<T: Write, U: Write>(
     ensures part { OnErr result.2 (BeginsBoth (T.contents writer) (T.contents (writer_under result.0)) text.now
         (U.contents second) (U.contents (writer_under result.1)) shown.now) }
     ensures causes { IfErr result.2 (λ fault. fault ≡ cause.Write) }
+    ensures failures { put_failures result.0 + put_failures result.1 ≡ failure_if_stopped result.2 }
 {
     let mut writer = Put::new(writer);
     let mut second = Put::new(second);
@@ -102,6 +104,7 @@ fn put_both<S: Sink, U: Sink>(
     ensures whole { OnOk result (AppendsBoth (S.held sink.old) (S.held sink.new) text.now (U.held second.old) (U.held second.new) shown.now) }
     ensures part { OnErr result (BeginsBoth (S.held sink.old) (S.held sink.new) text.now (U.held second.old) (U.held second.new) shown.now) }
     ensures causes { IfErr result (λ fault. fault ≡ cause.Write) }
+    ensures failures { S.failed sink.new + U.failed second.new ≡ (S.failed sink.old + U.failed second.old) + failure_if_stopped result }
 {
     put_whole(text, sink)?;
     put_whole(shown, second)
@@ -113,6 +116,7 @@ fn put_whole<S: Sink>(text: &[u8], sink: &mut S) -> Result<(), Fault>
     ensures whole { OnOk result (Appends (S.held sink.old) (S.held sink.new) text.now) }
     ensures part { OnErr result (AppendsBeginning (S.held sink.old) (S.held sink.new) text.now) }
     ensures causes { IfErr result (λ fault. fault ≡ cause.Write) }
+    ensures failures { S.failed sink.new ≡ S.failed sink.old + failure_if_stopped result }
 {
     match put_text(text, sink) {
         Ok(()) => Ok(()),

@@ -18,17 +18,17 @@ sweep_check_usage before sweep (inr (inl file)) = file.2
 sweep_check_usage before sweep (inr (inr (inl item))) = item.4
 sweep_check_usage before sweep (inr (inr (inr case))) = case.5
 
-store_usage : (page : Option (Bor Text)) (tree : Data) (mark : List ℕ) (before after : Shelf) (making : Making) (sweep : SweepWords) → StoreFails page tree mark before after making sweep Usage → ⊥
-store_usage None tree mark before after making sweep fails = fails
-store_usage (Some page) tree mark before after making sweep fails = fails
+store_usage : (page : Option (Bor Text)) (Refused : Type 0) (tree : Data) (mark : List ℕ) (before after : Shelf) (making : Making) (sweep : SweepWords) → StoreFails page Refused tree mark before after making sweep Usage → ⊥
+store_usage None Refused tree mark before after making sweep fails = fails
+store_usage (Some page) Refused tree mark before after making sweep fails = fails
 
-pub sweep_usage : (before after : Shelf) (making : Making) (sweep : SweepWords) → SweepFails before after making sweep Usage → ⊥
-sweep_usage before after making sweep (inl refused) = sweep_check_usage before sweep refused.cause
-sweep_usage before after making sweep (inr table) = by table.cause
+pub sweep_usage : (Refused : Type 0) (before after : Shelf) (making : Making) (sweep : SweepWords) → SweepFails Refused before after making sweep Usage → ⊥
+sweep_usage Refused before after making sweep (inl refused) = sweep_check_usage before sweep refused.cause
+sweep_usage Refused before after making sweep (inr table) = by table.cause
   where
-    by : (CannotGoOn table.tree sweep table.mark (before sweep.table.now) Usage × (after ≡ before)) ⊎ StoreFails sweep.page table.tree table.mark before after making sweep Usage → ⊥
+    by : (CannotGoOn table.tree table.mark sweep (before sweep.table.now) Usage × (after ≡ before)) ⊎ StoreFails sweep.page Refused table.tree table.mark before after making sweep Usage → ⊥
     by (inl stood) = stood.0.2
-    by (inr stored) = store_usage sweep.page table.tree table.mark before after making sweep stored
+    by (inr stored) = store_usage sweep.page Refused table.tree table.mark before after making sweep stored
 
 sweep_check_preset : (before : Shelf) (sweep : SweepWords) → FailsSweepCheck before sweep Preset → ⊥
 sweep_check_preset before sweep (inl count) = count
@@ -36,17 +36,17 @@ sweep_check_preset before sweep (inr (inl file)) = file.2
 sweep_check_preset before sweep (inr (inr (inl item))) = item.4
 sweep_check_preset before sweep (inr (inr (inr case))) = case.5
 
-store_preset : (page : Option (Bor Text)) (tree : Data) (mark : List ℕ) (before after : Shelf) (making : Making) (sweep : SweepWords) → StoreFails page tree mark before after making sweep Preset → ⊥
-store_preset None tree mark before after making sweep fails = fails
-store_preset (Some page) tree mark before after making sweep fails = fails
+store_preset : (page : Option (Bor Text)) (Refused : Type 0) (tree : Data) (mark : List ℕ) (before after : Shelf) (making : Making) (sweep : SweepWords) → StoreFails page Refused tree mark before after making sweep Preset → ⊥
+store_preset None Refused tree mark before after making sweep fails = fails
+store_preset (Some page) Refused tree mark before after making sweep fails = fails
 
-pub sweep_preset : (before after : Shelf) (making : Making) (sweep : SweepWords) → SweepFails before after making sweep Preset → ⊥
-sweep_preset before after making sweep (inl refused) = sweep_check_preset before sweep refused.cause
-sweep_preset before after making sweep (inr table) = by table.cause
+pub sweep_preset : (Refused : Type 0) (before after : Shelf) (making : Making) (sweep : SweepWords) → SweepFails Refused before after making sweep Preset → ⊥
+sweep_preset Refused before after making sweep (inl refused) = sweep_check_preset before sweep refused.cause
+sweep_preset Refused before after making sweep (inr table) = by table.cause
   where
-    by : (CannotGoOn table.tree sweep table.mark (before sweep.table.now) Preset × (after ≡ before)) ⊎ StoreFails sweep.page table.tree table.mark before after making sweep Preset → ⊥
+    by : (CannotGoOn table.tree table.mark sweep (before sweep.table.now) Preset × (after ≡ before)) ⊎ StoreFails sweep.page Refused table.tree table.mark before after making sweep Preset → ⊥
     by (inl stood) = stood.0.2
-    by (inr stored) = store_preset sweep.page table.tree table.mark before after making sweep stored
+    by (inr stored) = store_preset sweep.page Refused table.tree table.mark before after making sweep stored
 
 sweep_check_output : (before : Shelf) (sweep : SweepWords) → FailsSweepCheck before sweep Output → ⊥
 sweep_check_output before sweep (inl count) = count
@@ -54,17 +54,17 @@ sweep_check_output before sweep (inr (inl file)) = file.2
 sweep_check_output before sweep (inr (inr (inl item))) = item.4
 sweep_check_output before sweep (inr (inr (inr case))) = case.5
 
-store_output : (page : Option (Bor Text)) (tree : Data) (mark : List ℕ) (before after : Shelf) (making : Making) (sweep : SweepWords) → StoreFails page tree mark before after making sweep Output → ⊥
-store_output None tree mark before after making sweep fails = fails
-store_output (Some page) tree mark before after making sweep fails = fails
+store_output : (page : Option (Bor Text)) (Refused : Type 0) (tree : Data) (mark : List ℕ) (before after : Shelf) (making : Making) (sweep : SweepWords) → StoreFails page Refused tree mark before after making sweep Output → ⊥
+store_output None Refused tree mark before after making sweep fails = fails
+store_output (Some page) Refused tree mark before after making sweep fails = fails
 
-pub sweep_output : (before after : Shelf) (making : Making) (sweep : SweepWords) → SweepFails before after making sweep Output → ⊥
-sweep_output before after making sweep (inl refused) = sweep_check_output before sweep refused.cause
-sweep_output before after making sweep (inr table) = by table.cause
+pub sweep_output : (Refused : Type 0) (before after : Shelf) (making : Making) (sweep : SweepWords) → SweepFails Refused before after making sweep Output → ⊥
+sweep_output Refused before after making sweep (inl refused) = sweep_check_output before sweep refused.cause
+sweep_output Refused before after making sweep (inr table) = by table.cause
   where
-    by : (CannotGoOn table.tree sweep table.mark (before sweep.table.now) Output × (after ≡ before)) ⊎ StoreFails sweep.page table.tree table.mark before after making sweep Output → ⊥
+    by : (CannotGoOn table.tree table.mark sweep (before sweep.table.now) Output × (after ≡ before)) ⊎ StoreFails sweep.page Refused table.tree table.mark before after making sweep Output → ⊥
     by (inl stood) = stood.0.2
-    by (inr stored) = store_output sweep.page table.tree table.mark before after making sweep stored
+    by (inr stored) = store_output sweep.page Refused table.tree table.mark before after making sweep stored
 
 sweep_check_mistaken : (before : Shelf) (sweep : SweepWords) (rule : ℕ) → FailsSweepCheck before sweep (Mistaken rule) → ⊥
 sweep_check_mistaken before sweep rule (inl count) = count
@@ -72,30 +72,30 @@ sweep_check_mistaken before sweep rule (inr (inl file)) = file.2
 sweep_check_mistaken before sweep rule (inr (inr (inl item))) = item.4
 sweep_check_mistaken before sweep rule (inr (inr (inr case))) = case.5
 
-store_mistaken : (page : Option (Bor Text)) (tree : Data) (mark : List ℕ) (before after : Shelf) (making : Making) (sweep : SweepWords) (rule : ℕ) → StoreFails page tree mark before after making sweep (Mistaken rule) → ⊥
-store_mistaken None tree mark before after making sweep rule fails = fails
-store_mistaken (Some page) tree mark before after making sweep rule fails = fails
+store_mistaken : (page : Option (Bor Text)) (Refused : Type 0) (tree : Data) (mark : List ℕ) (before after : Shelf) (making : Making) (sweep : SweepWords) (rule : ℕ) → StoreFails page Refused tree mark before after making sweep (Mistaken rule) → ⊥
+store_mistaken None Refused tree mark before after making sweep rule fails = fails
+store_mistaken (Some page) Refused tree mark before after making sweep rule fails = fails
 
-pub sweep_mistaken : (before after : Shelf) (making : Making) (sweep : SweepWords) (rule : ℕ) → SweepFails before after making sweep (Mistaken rule) → ⊥
-sweep_mistaken before after making sweep rule (inl refused) = sweep_check_mistaken before sweep rule refused.cause
-sweep_mistaken before after making sweep rule (inr table) = by table.cause
+pub sweep_mistaken : (Refused : Type 0) (before after : Shelf) (making : Making) (sweep : SweepWords) (rule : ℕ) → SweepFails Refused before after making sweep (Mistaken rule) → ⊥
+sweep_mistaken Refused before after making sweep rule (inl refused) = sweep_check_mistaken before sweep rule refused.cause
+sweep_mistaken Refused before after making sweep rule (inr table) = by table.cause
   where
-    by : (CannotGoOn table.tree sweep table.mark (before sweep.table.now) (Mistaken rule) × (after ≡ before)) ⊎ StoreFails sweep.page table.tree table.mark before after making sweep (Mistaken rule) → ⊥
+    by : (CannotGoOn table.tree table.mark sweep (before sweep.table.now) (Mistaken rule) × (after ≡ before)) ⊎ StoreFails sweep.page Refused table.tree table.mark before after making sweep (Mistaken rule) → ⊥
     by (inl stood) = stood.0.2
-    by (inr stored) = store_mistaken sweep.page table.tree table.mark before after making sweep rule stored
+    by (inr stored) = store_mistaken sweep.page Refused table.tree table.mark before after making sweep rule stored
 
 -- where memory was refused, no file has changed
-store_memory : (page : Option (Bor Text)) (tree : Data) (mark : List ℕ) (before after : Shelf) (making : Making) (sweep : SweepWords) → StoreFails page tree mark before after making sweep Memory → after ≡ before
-store_memory None tree mark before after making sweep same = same
-store_memory (Some page) tree mark before after making sweep same = same
+store_memory : (page : Option (Bor Text)) (Refused : Type 0) (tree : Data) (mark : List ℕ) (before after : Shelf) (making : Making) (sweep : SweepWords) → StoreFails page Refused tree mark before after making sweep Memory → after ≡ before
+store_memory None Refused tree mark before after making sweep same = same
+store_memory (Some page) Refused tree mark before after making sweep same = same
 
-pub sweep_memory : (before after : Shelf) (making : Making) (sweep : SweepWords) → SweepFails before after making sweep Memory → after ≡ before
-sweep_memory before after making sweep (inl refused) = refused.same
-sweep_memory before after making sweep (inr table) = by table.cause
+pub sweep_memory : (Refused : Type 0) (before after : Shelf) (making : Making) (sweep : SweepWords) → SweepFails Refused before after making sweep Memory → after ≡ before
+sweep_memory Refused before after making sweep (inl refused) = refused.same
+sweep_memory Refused before after making sweep (inr table) = by table.cause
   where
-    by : (CannotGoOn table.tree sweep table.mark (before sweep.table.now) Memory × (after ≡ before)) ⊎ StoreFails sweep.page table.tree table.mark before after making sweep Memory → after ≡ before
+    by : (CannotGoOn table.tree table.mark sweep (before sweep.table.now) Memory × (after ≡ before)) ⊎ StoreFails sweep.page Refused table.tree table.mark before after making sweep Memory → after ≡ before
     by (inl stood) = stood.1
-    by (inr stored) = store_memory sweep.page table.tree table.mark before after making sweep stored
+    by (inr stored) = store_memory sweep.page Refused table.tree table.mark before after making sweep stored
 
 -- a sweep that fails by an item sets one that the text hasn't
 check_item : (words : List Text) (before : Shelf) (sweep : SweepWords) (key : String Global) → AsksForSweep words sweep → FailsSweepCheck before sweep (NoItem key) → SetsNoItem words before
@@ -104,15 +104,15 @@ check_item words before sweep key asks (inr (inl file)) = absurd file.2
 check_item words before sweep key asks (inr (inr (inl item))) = (sweep, asks, (item.1, item.3, (item.4.0, item.4.1)))
 check_item words before sweep key asks (inr (inr (inr case))) = absurd case.5
 
-store_item : (page : Option (Bor Text)) (tree : Data) (mark : List ℕ) (before after : Shelf) (making : Making) (sweep : SweepWords) (key : String Global) → StoreFails page tree mark before after making sweep (NoItem key) → ⊥
-store_item None tree mark before after making sweep key fails = fails
-store_item (Some page) tree mark before after making sweep key fails = fails
+store_item : (page : Option (Bor Text)) (Refused : Type 0) (tree : Data) (mark : List ℕ) (before after : Shelf) (making : Making) (sweep : SweepWords) (key : String Global) → StoreFails page Refused tree mark before after making sweep (NoItem key) → ⊥
+store_item None Refused tree mark before after making sweep key fails = fails
+store_item (Some page) Refused tree mark before after making sweep key fails = fails
 
-pub sweep_item : (words : List Text) (before after : Shelf) (making : Making) (sweep : SweepWords) (key : String Global) → AsksForSweep words sweep
-    → SweepFails before after making sweep (NoItem key) → SetsNoItem words before
-sweep_item words before after making sweep key asks (inl refused) = check_item words before sweep key asks refused.cause
-sweep_item words before after making sweep key asks (inr table) = absurd (by table.cause)
+pub sweep_item : (Refused : Type 0) (words : List Text) (before after : Shelf) (making : Making) (sweep : SweepWords) (key : String Global) → AsksForSweep words sweep
+    → SweepFails Refused before after making sweep (NoItem key) → SetsNoItem words before
+sweep_item Refused words before after making sweep key asks (inl refused) = check_item words before sweep key asks refused.cause
+sweep_item Refused words before after making sweep key asks (inr table) = absurd (by table.cause)
   where
-    by : (CannotGoOn table.tree sweep table.mark (before sweep.table.now) (NoItem key) × (after ≡ before)) ⊎ StoreFails sweep.page table.tree table.mark before after making sweep (NoItem key) → ⊥
+    by : (CannotGoOn table.tree table.mark sweep (before sweep.table.now) (NoItem key) × (after ≡ before)) ⊎ StoreFails sweep.page Refused table.tree table.mark before after making sweep (NoItem key) → ⊥
     by (inl stood) = stood.0.2
-    by (inr stored) = store_item sweep.page table.tree table.mark before after making sweep key stored
+    by (inr stored) = store_item sweep.page Refused table.tree table.mark before after making sweep key stored

@@ -7,7 +7,7 @@ use Rattle.std.proofs.lemmas.List.Elements.{All-cons, All-nil}
 use Rattle.std.proofs.lemmas.List.Sums.{count_by-le-length}
 use Rattle.std.proofs.lemmas.Option.{slice_get-get_or}
 use Rattle.toml.specs.Data.{Data}
-use Rattle.cases.specs.Sweep.{Sweep, case_count, seed_count}
+use Rattle.cases.specs.Sweep.{Sweep, seed_count}
 use Rattle.figures.specs.declared.summary.CaseSummary.{CaseSummary}
 use Rattle.figures.specs.Notes.{Note}
 use Rattle.figures.specs.Cases.{IsSummaryOf}
@@ -15,6 +15,8 @@ use Rattle.answers.specs.Wants.{HasFewRuns}
 use Rattle.sweep.specs.Runs.{IsAskedFor, Made, noted}
 use Rattle.sweep.specs.Summaries.{SumUp, runs_of_case}
 use Rattle.sweep.proofs.Sizes.{few_runs}
+use Rattle.pieces.specs.Pieces.{whole}
+use Rattle.sweep_until.specs.Pieces.{cases_in, first_case}
 use Rattle.sweep_until.specs.Until.{IsMadeUntil, SumsUp}
 use Rattle.sweep_command.specs.Runs.{AreRuns, AreSummedUp, MakesRuns, RunsBy}
 
@@ -45,10 +47,10 @@ module _ (tree : Data) (plan : Sweep) (asked : IsAskedFor plan) where
       (few_of case (map noted runs) (omega (arith, are.0.enough.few, few_runs plan asked)) told.0)
       (few_with_own width numbers made cases are.1 told.1)
 
-  few_by : (until : Option ℕ) (made : RunsBy until) (cases : List CaseSummary) → AreRuns until tree plan made → AreSummedUp until plan made cases → All HasFewRuns cases
+  few_by : (until : Option ℕ) (made : RunsBy until) (cases : List CaseSummary) → AreRuns until tree plan whole made → AreSummedUp until plan made cases → All HasFewRuns cases
   few_by None made cases are told = few_with_all (map noted made) cases told
-  few_by (Some width) made cases are told = few_with_own width (range_with_len 0 (case_count plan.settings)) made cases are told
+  few_by (Some width) made cases are told = few_with_own width (range_with_len (first_case plan whole) (cases_in plan whole)) made cases are told
 
-pub few_runs_each : (until : Option ℕ) (tree : Data) (plan : Sweep) (old new : Option (List ℕ)) (cases : List CaseSummary) → IsAskedFor plan → MakesRuns until tree plan old new cases
-    → All HasFewRuns cases
-few_runs_each until tree plan old new cases asked makes = few_by tree plan asked until makes.made cases makes.are makes.told
+pub few_runs_each : (until : Option ℕ) (tree : Data) (mark : List ℕ) (plan : Sweep) (old new : Option (List ℕ)) (cases : List CaseSummary) → IsAskedFor plan
+    → MakesRuns until tree mark plan old new cases → All HasFewRuns cases
+few_runs_each until tree mark plan old new cases asked makes = few_by tree plan asked until makes.made cases makes.are makes.told

@@ -1,49 +1,40 @@
 -- What came of a whole sweep with a page, as what is asked for.
-use Rattle.std.proofs.Common.{◌≡◌, ◌∙◌, ap, ℕ, Bool, List, Option, Some, None, Bor, Result, Ok, Err, IfOk, IfErr, OnOk, sym, subst, inl, inr}
+use Rattle.std.proofs.Common.{◌≡◌, ℕ, List, Option, Some, None, Bor, Result, IfOk, IfErr, OnOk, sym, subst, inl, inr}
 use Rattle.std.specs.Io.KnownBytes.{Keeps}
 use Rattle.std.proofs.lemmas.Result.{IfErr-weaker}
 use Rattle.toml.specs.Data.{Data}
-use Rattle.base.specs.declared.fault.Fault.{Fault}
 use Rattle.files.specs.Files.{AreThreeFiles, Making}
 use Rattle.trace.proofs.Beginnings.{beginning-whole}
-use Rattle.pieces.specs.declared.piece.Piece.{Piece}
-use Rattle.sweep.specs.Table.{HasCause}
+use Rattle.pieces.specs.Pieces.{whole}
 use Rattle.figures.specs.declared.summary.CaseSummary.{CaseSummary}
 use Rattle.command_line.specs.declared.words.SweepWords.{SweepWords}
 use Rattle.command_line.specs.declared.failure.Failure.{Failure}
 use Rattle.scenario_files.specs.Shelves.{Shelf}
-use Rattle.scenario_files.proofs.Held.{each_ok}
-use Rattle.sweep_command.specs.Outcomes.{AreApart, BeginsPage, BeginsPaged, PagedFails, StoreFails, StoresAsked, StoresPaged, StoresPlain, StoresWhole, TableFails}
-use Rattle.sweep_command.specs.Runs.{BeginsRuns, MakesRuns, runs_table}
+use Rattle.sweep_command.specs.Outcomes.{AreApart, BeginsPage, BeginsPaged, PagedFails, StoreFails, StoresAsked, StoresPaged, StoresPlain, TableFails}
+use Rattle.sweep_command.specs.Runs.{BeginsAllRuns, MakesRuns, runs_table}
 
 -- what is asked for is stored, with a page or without one
-module _ {T E : Type 0} (bytes : T → List ℕ) (tree : Data) (sweep : SweepWords) (release mark : List ℕ) (before after : Shelf) (told : Result T E) where
-  pub paged_asked : (page : Bor (List ℕ)) (asked : Option Piece) → asked ≡ None → sweep.page ≡ Some page
-      → IfOk told (λ lines. StoresPaged tree sweep release page.now before after (bytes lines)) → IfOk told (λ lines. StoresAsked asked tree sweep release mark before after (bytes lines))
-  paged_asked page asked none is stores =
-      each_ok told stores (λ lines h.
-      subst (λ (o : Option Piece). StoresAsked o tree sweep release mark before after (bytes lines)) (sym none)
-      (subst (λ (o : Option (Bor (List ℕ))). StoresWhole o tree sweep release before after (bytes lines)) (sym is) h))
+module _ {T E : Type 0} (bytes : T → List ℕ) (tree : Data) (mark : List ℕ) (sweep : SweepWords) (release : List ℕ) (before after : Shelf) (told : Result T E)
+    (asked : Option (Bor (List ℕ))) where
+  pub paged_asked : (page : Bor (List ℕ)) → asked ≡ Some page → IfOk told (λ lines. StoresPaged tree mark sweep release page.now before after (bytes lines))
+      → IfOk told (λ lines. StoresAsked asked tree mark sweep release before after (bytes lines))
+  paged_asked page is stores = subst (λ (o : Option (Bor (List ℕ))). IfOk told (λ lines. StoresAsked o tree mark sweep release before after (bytes lines))) (sym is) stores
 
-  plain : (asked : Option Piece) (lines : List ℕ) → sweep.page ≡ None → StoresPlain asked tree sweep mark before after lines → StoresAsked asked tree sweep release mark before after lines
-  plain None lines none h = subst (λ (o : Option (Bor (List ℕ))). StoresWhole o tree sweep release before after lines) (sym none) h
-  plain (Some p) lines none h = h
-
-  pub plain_asked : (asked : Option Piece) → sweep.page ≡ None → IfOk told (λ lines. StoresPlain asked tree sweep mark before after (bytes lines))
-      → IfOk told (λ lines. StoresAsked asked tree sweep release mark before after (bytes lines))
-  plain_asked asked none stores = each_ok told stores (λ lines h. plain asked (bytes lines) none h)
+  pub plain_asked : asked ≡ None → IfOk told (λ lines. StoresPlain sweep.piece tree mark sweep before after (bytes lines))
+      → IfOk told (λ lines. StoresAsked asked tree mark sweep release before after (bytes lines))
+  plain_asked none stores = subst (λ (o : Option (Bor (List ℕ))). IfOk told (λ lines. StoresAsked o tree mark sweep release before after (bytes lines))) (sym none) stores
 
 -- or not
-module _ {T : Type 0} (tree : Data) (sweep : SweepWords) (mark : List ℕ) (before after : Shelf) (making : Making) (told : Result T Failure) where
-  pub paged_failed : (page : Bor (List ℕ)) → sweep.page ≡ Some page → IfErr told (PagedFails tree page.now before after making sweep)
-      → IfErr told (StoreFails sweep.page tree mark before after making sweep)
+module _ {T : Type 0} (Refused : Type 0) (tree : Data) (mark : List ℕ) (sweep : SweepWords) (before after : Shelf) (making : Making) (told : Result T Failure) where
+  pub paged_failed : (page : Bor (List ℕ)) → sweep.page ≡ Some page → IfErr told (PagedFails Refused tree mark page.now before after making sweep)
+      → IfErr told (StoreFails sweep.page Refused tree mark before after making sweep)
   paged_failed page is fails =
-      subst (λ (o : Option (Bor (List ℕ))). IfErr told (StoreFails o tree mark before after making sweep)) (sym is)
+      subst (λ (o : Option (Bor (List ℕ))). IfErr told (StoreFails o Refused tree mark before after making sweep)) (sym is)
       (IfErr-weaker told _ _ (λ failure h. h) fails)
 
-  pub plain_failed : sweep.page ≡ None → IfErr told (TableFails tree mark before after making sweep) → IfErr told (StoreFails sweep.page tree mark before after making sweep)
+  pub plain_failed : sweep.page ≡ None → IfErr told (TableFails Refused tree mark before after making sweep) → IfErr told (StoreFails sweep.page Refused tree mark before after making sweep)
   plain_failed none fails =
-      subst (λ (o : Option (Bor (List ℕ))). IfErr told (StoreFails o tree mark before after making sweep)) (sym none)
+      subst (λ (o : Option (Bor (List ℕ))). IfErr told (StoreFails o Refused tree mark before after making sweep)) (sym none)
       (IfErr-weaker told _ _ (λ failure h. h) fails)
 
 -- the files are different ones
@@ -56,13 +47,14 @@ pub plain_apart : {T E : Type 0} (told : Result T E) (making : Making) (file tab
 plain_apart told making file table asked none apart = subst (λ (o : Option (Bor (List ℕ))). OnOk told (AreApart o making file table)) (sym none) apart
 
 -- what was begun of both where the table broke off, and where it is whole
-module _ (tree : Data) (sweep : SweepWords) (release : List ℕ) (old new page_old page_new : Option (List ℕ)) where
-  pub table_broke : BeginsRuns sweep.plan.until tree sweep.plan old new → Keeps page_old page_new → BeginsPaged tree sweep old new page_old page_new
+module _ (tree : Data) (mark : List ℕ) (sweep : SweepWords) (release : List ℕ) (old new page_old page_new : Option (List ℕ)) where
+  pub table_broke : BeginsAllRuns sweep.plan.until tree mark sweep.plan old new → Keeps page_old page_new → BeginsPaged tree mark sweep old new page_old page_new
   table_broke begins keeps = record { made = begins.made; are = begins.are; written = inl (begins.written, keeps) }
 
-  pub page_broke : (cases all : List CaseSummary) → all ≡ cases → MakesRuns sweep.plan.until tree sweep.plan old new cases → BeginsPage sweep release all page_old page_new → BeginsPaged tree sweep old new page_old page_new
+  pub page_broke : (cases all : List CaseSummary) → all ≡ cases → MakesRuns sweep.plan.until tree mark sweep.plan old new cases → BeginsPage sweep release all page_old page_new
+      → BeginsPaged tree mark sweep old new page_old page_new
   page_broke cases all same makes begins = by (subst (λ (l : List CaseSummary). BeginsPage sweep release l page_old page_new) same begins)
     where
-      by : BeginsPage sweep release cases page_old page_new → BeginsPaged tree sweep old new page_old page_new
-      by (inl keeps) = record { made = makes.made; are = makes.are; written = inl (beginning-whole old new (runs_table sweep.plan.until tree sweep.plan makes.made) makes.written, keeps) }
+      by : BeginsPage sweep release cases page_old page_new → BeginsPaged tree mark sweep old new page_old page_new
+      by (inl keeps) = record { made = makes.made; are = makes.are; written = inl (beginning-whole old new (runs_table sweep.plan.until tree mark sweep.plan whole makes.made) makes.written, keeps) }
       by (inr some) = record { made = makes.made; are = makes.are; written = inr (makes.written, (some.0, (release, cases, makes.told, some.1), some.2)) }

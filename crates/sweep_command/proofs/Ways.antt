@@ -1,19 +1,24 @@
 -- What comes of each way to make the runs of a sweep, as what comes of the runs that are asked for.
-use Rattle.std.proofs.Common.{◌≡◌, ◌∙◌, ℕ, List, Option, Some, None, Result, Ok, Err, IfOk, OnErr, OnOk, subst, sym}
-use Rattle.std.specs.List.{range_with_len}
+use Rattle.std.proofs.Common.{◌≡◌, ◌≤◌, ◌∙◌, ℕ, ◌-◌, List, Option, Some, None, Result, Ok, Err, IfErr, IfOk, OnErr, OnOk, ap, arith, length, subst, sym, take}
+use Rattle.std.specs.List.{AllZip, range_with_len}
+use Rattle.std.proofs.lemmas.List.{take_all}
 use Rattle.std.proofs.lemmas.List.FromFn.{length-range_with_len}
 use Rattle.std.proofs.lemmas.Slice.Zip.{AllZip-long}
 use Rattle.toml.specs.Data.{Data}
-use Rattle.cases.specs.Sweep.{Sweep, case_count}
+use Rattle.cases.specs.Sweep.{Sweep, case_count, run_count}
 use Rattle.figures.specs.declared.summary.CaseSummary.{CaseSummary}
+use Rattle.sweep.specs.Runs.{Made, AreMade, AreMadeBetween, IsMadeAs, runs_of}
 use Rattle.sweep.specs.Summaries.{MakesAll}
-use Rattle.sweep.specs.Table.{BeginsTable}
-use Rattle.sweep_until.specs.Until.{BeginsUntil, IsMadeUntil, MakesUntil, SumsUp}
+use Rattle.sweep_until.specs.Until.{AreMadeFrom, AreMadeUntil, BeginsUntil, IsMadeUntil, MakesUntil, SumsUp}
 use Rattle.std.proofs.lemmas.Option.{same_Some}
 use Rattle.pieces.specs.declared.piece.Piece.{Piece}
-use Rattle.sweep.specs.Pieces.{BeginsPiece, WritesPiece}
-use Rattle.sweep_until.specs.Pieces.{AreCasesIn, BeginsPieceUntil, WritesPieceUntil}
-use Rattle.sweep_command.specs.Runs.{BeginsPieceRuns, BeginsRuns, MakesPiece, MakesRuns}
+use Rattle.pieces.specs.Pieces.{first_run, past_run, whole}
+use Rattle.pieces.proofs.Whole.{first_of_whole, past_of_whole}
+use Rattle.sweep.specs.Pieces.{AreMadeIn, BeginsPiece, BeginsTable, WritesPiece}
+use Rattle.sweep.proofs.Flat.{runs_counted}
+use Rattle.sweep.specs.Resumed.{BeginsRest, WritesRest}
+use Rattle.sweep_until.specs.Pieces.{AreCasesBehind, AreCasesIn, BeginsPieceUntil, BeginsRestUntil, WritesPieceUntil, WritesRestUntil}
+use Rattle.sweep_command.specs.Runs.{BeginsAllRuns, BeginsRuns, BeginsRunsBehind, MakesRuns, WritesRuns, WritesRunsBehind}
 
 -- what holds of the way that was taken holds of the one that is asked for
 pub ok_by : {T E : Type 0} {P : T → Type 0} (Q : Option ℕ → T → Type 0) (until way : Option ℕ) (told : Result T E) → until ≡ way → IfOk told P → ((x : T) → P x → Q way x) → IfOk told (Q until)
@@ -28,18 +33,44 @@ pub err_by : {T E P : Type 0} (Q : Option ℕ → Type 0) (until way : Option �
 err_by Q until way (Ok x) is h turns = tt
 err_by Q until way (Err e) is h turns = subst Q (sym is) (turns h)
 
-module _ (tree : Data) (plan : Sweep) (old new : Option (List ℕ)) where
-  pub all_made : (cases : List CaseSummary) → MakesAll tree plan old new cases → MakesRuns None tree plan old new cases
-  all_made cases makes = record { made = makes.made; are = makes.are; written = makes.written; all = makes.all; told = makes.told }
+pub failed_by : {T E : Type 0} {P : E → Type 0} (Q : Option ℕ → E → Type 0) (until way : Option ℕ) (told : Result T E) → until ≡ way → IfErr told P → ((e : E) → P e → Q way e) → IfErr told (Q until)
+failed_by Q until way (Ok x) is h turns = tt
+failed_by Q until way (Err e) is h turns = subst (λ o. Q o e) (sym is) (turns e h)
 
-  pub all_begun : BeginsTable tree plan old new → BeginsRuns None tree plan old new
-  all_begun begins = record { made = begins.made; are = begins.are; written = begins.written }
+-- all runs are those of the only piece
+module _ (tree : Data) (plan : Sweep) where
+  from_first : (made : List Made) → AreMade tree plan made → AreMadeBetween tree plan 0 (run_count plan) made
+  from_first made are =
+      let count : run_count plan - 0 ≡ run_count plan = omega arith in
+      let long : length (runs_of plan) ≤ run_count plan = omega (arith, runs_counted plan) in
+      subst (λ l. AllZip (IsMadeAs tree) l made) (sym (ap (λ n. take n (runs_of plan)) count ∙ take_all (run_count plan) (runs_of plan) long)) are
+
+  runs_in_whole : (made : List Made) → AreMade tree plan made → AreMadeIn tree plan whole made
+  runs_in_whole made are =
+      let count = run_count plan in
+      subst (λ n. AreMadeBetween tree plan n (past_run whole count) made) (sym (first_of_whole count))
+      (subst (λ n. AreMadeBetween tree plan 0 n made) (sym (past_of_whole count)) (from_first made are))
+
+  cases_in_whole : (width : ℕ) (made : List (List Made)) → AreMadeUntil tree plan width (case_count plan.settings) made → AreCasesIn tree plan width whole made
+  cases_in_whole width made are =
+      let count = case_count plan.settings in
+      let many : past_run whole count - 0 ≡ count = omega (arith, past_of_whole count) in
+      subst (λ n. AreMadeFrom tree plan width n (past_run whole count - n) made) (sym (first_of_whole count))
+      (subst (λ n. AreMadeFrom tree plan width 0 n made) (sym many) are)
+
+-- those of a whole sweep
+module _ (tree : Data) (mark : List ℕ) (plan : Sweep) (old new : Option (List ℕ)) where
+  pub all_made : (cases : List CaseSummary) → MakesAll tree mark plan old new cases → MakesRuns None tree mark plan old new cases
+  all_made cases makes = record { made = makes.made; are = runs_in_whole tree plan makes.made makes.are; written = makes.written; all = makes.all; told = makes.told }
+
+  pub all_begun : BeginsTable tree mark plan old new → BeginsAllRuns None tree mark plan old new
+  all_begun begins = record { made = begins.made; are = runs_in_whole tree plan begins.made begins.are; written = begins.written }
 
   module _ (width : ℕ) where
-    pub few_made : (cases : List CaseSummary) → MakesUntil tree plan width old new cases → MakesRuns (Some width) tree plan old new cases
+    pub few_made : (cases : List CaseSummary) → MakesUntil tree mark plan width old new cases → MakesRuns (Some width) tree mark plan old new cases
     few_made cases makes = record {
       made = makes.made;
-      are = makes.are;
+      are = cases_in_whole tree plan width makes.made makes.are;
       written = makes.written;
       all = AllZip-long SumsUp makes.made cases makes.told
           ∙ (AllZip-long (IsMadeUntil tree plan width) (range_with_len 0 (case_count plan.settings)) makes.made makes.are
@@ -47,27 +78,49 @@ module _ (tree : Data) (plan : Sweep) (old new : Option (List ℕ)) where
       told = makes.told;
     }
 
-    pub few_begun : BeginsUntil tree plan width old new → BeginsRuns (Some width) tree plan old new
-    few_begun begins = record { made = begins.made; are = begins.are; written = begins.written }
+    pub few_begun : BeginsUntil tree mark plan width old new → BeginsAllRuns (Some width) tree mark plan old new
+    few_begun begins = record { made = begins.made; are = cases_in_whole tree plan width begins.made begins.are; written = begins.written }
 
 -- and of a piece
-module _ (tree : Data) (plan : Sweep) (mark : List ℕ) (p : Piece) (old new : Option (List ℕ)) where
-  pub piece_made : WritesPiece tree plan mark p old new → MakesPiece None tree plan mark p old new
+module _ (tree : Data) (mark : List ℕ) (plan : Sweep) (p : Piece) (old new : Option (List ℕ)) where
+  pub piece_made : WritesPiece tree mark plan p old new → WritesRuns None tree mark plan p old new
   piece_made makes = record { made = makes.made; are = makes.are; written = makes.written }
 
-  pub piece_begun : BeginsPiece tree plan mark p old new → BeginsPieceRuns None tree plan mark p old new
+  pub piece_begun : BeginsPiece tree mark plan p old new → BeginsRuns None tree mark plan p old new
   piece_begun begins = record { made = begins.made; are = begins.are; written = begins.written }
 
-  pub few_piece_made : (width : ℕ) → plan.until ≡ Some width → WritesPieceUntil tree plan mark p old new → MakesPiece (Some width) tree plan mark p old new
+  pub few_piece_made : (width : ℕ) → plan.until ≡ Some width → WritesPieceUntil tree mark plan p old new → WritesRuns (Some width) tree mark plan p old new
   few_piece_made width is makes = record {
     made = makes.made;
     are = subst (λ (w : ℕ). AreCasesIn tree plan w p makes.made) (same_Some makes.width width (sym makes.wanted ∙ is)) makes.are;
     written = makes.written;
   }
 
-  pub few_piece_begun : (width : ℕ) → plan.until ≡ Some width → BeginsPieceUntil tree plan mark p old new → BeginsPieceRuns (Some width) tree plan mark p old new
+  pub few_piece_begun : (width : ℕ) → plan.until ≡ Some width → BeginsPieceUntil tree mark plan p old new → BeginsRuns (Some width) tree mark plan p old new
   few_piece_begun width is begins = record {
     made = begins.made;
     are = subst (λ (w : ℕ). AreCasesIn tree plan w p begins.made) (same_Some begins.width width (sym begins.wanted ∙ is)) begins.are;
+    written = begins.written;
+  }
+
+-- and of one that goes on
+module _ (tree : Data) (mark : List ℕ) (plan : Sweep) (p : Piece) (lines : List ℕ) (count : ℕ) (old new : Option (List ℕ)) where
+  pub rest_made : WritesRest tree mark plan p lines count old new → WritesRunsBehind None tree mark plan p lines count old new
+  rest_made makes = record { made = makes.made; are = makes.are; written = makes.written }
+
+  pub rest_begun : BeginsRest tree mark plan p lines count old new → BeginsRunsBehind None tree mark plan p lines count old new
+  rest_begun begins = record { made = begins.made; are = begins.are; written = begins.written }
+
+  pub few_rest_made : (width : ℕ) → plan.until ≡ Some width → WritesRestUntil tree mark plan p lines count old new → WritesRunsBehind (Some width) tree mark plan p lines count old new
+  few_rest_made width is makes = record {
+    made = makes.made;
+    are = subst (λ (w : ℕ). AreCasesBehind tree plan w p count makes.made) (same_Some makes.width width (sym makes.wanted ∙ is)) makes.are;
+    written = makes.written;
+  }
+
+  pub few_rest_begun : (width : ℕ) → plan.until ≡ Some width → BeginsRestUntil tree mark plan p lines count old new → BeginsRunsBehind (Some width) tree mark plan p lines count old new
+  few_rest_begun width is begins = record {
+    made = begins.made;
+    are = subst (λ (w : ℕ). AreCasesBehind tree plan w p count begins.made) (same_Some begins.width width (sym begins.wanted ∙ is)) begins.are;
     written = begins.written;
   }

@@ -1,25 +1,25 @@
 -- What a sweep has done once it ends, and why one was not done.
-use Rattle.std.specs.Prelude.{◌≡◌, ◌≤◌, ◌+◌, ◌⊎◌, ℕ, Bool, List, [], false, true, Option, Some, None, length, map, string_bytes}
+use Rattle.std.specs.Prelude.{◌≡◌, ◌⊎◌, ℕ, Bool, List, [], false, true, Option, Some, None, length, map, string_bytes}
 use Rattle.std.specs.Option.{ForSome}
 use Rattle.std.specs.Borrow.{Bor}
 use Rattle.std.specs.Io.KnownBytes.{Appends, Keeps}
 use Rattle.toml.specs.Data.{Data}
 use Rattle.clap.specs.Words.{Text}
 use Rattle.base.specs.declared.fault.Fault.{Fault}
+use Rattle.base.specs.declared.fault.Fault.TheVariants as fault
 use Rattle.files.specs.Files.{KnownFile, Making, Holds, HoldsNow, IsAbsent, KeepsOthers, KeepsAllOthers, CannotMake, CannotMakeSecond, AreThreeFiles}
 use Rattle.cases.specs.Keys.{key_name}
 use Rattle.cases.specs.Missing.{missing_of}
-use Rattle.cases.specs.Sweep.{Sweep, case_count, run_count}
+use Rattle.cases.specs.Sweep.{Sweep, case_count}
 use Rattle.cases.specs.Cases.{settings_text}
 use Rattle.cases.specs.declared.keys.SettingKey.{SettingKey}
 use Rattle.trace.specs.Sinks.{AppendsBeginning}
 use Rattle.case_telling.specs.Telling.{IsSweepPage, TellsCases}
-use Rattle.pieces.specs.Pieces.{first_run, past_run}
+use Rattle.pieces.specs.Pieces.{whole}
 use Rattle.pieces.specs.declared.piece.Piece.{Piece}
-use Rattle.sweep.specs.Runs.{Made, Planned}
+use Rattle.sweep.specs.Runs.{Planned}
 use Rattle.sweep.specs.Judged.{AreAccepted, IsFirstRefused}
 use Rattle.sweep.specs.Table.{tells_revived, HasCause}
-use Rattle.sweep.specs.Resumed.{AreMadeBehind, BeginsRest, IsBegun, RefusesBegun, WritesRest, rest_text}
 use Rattle.sweep.specs.declared.begun.BegunFault.TheVariants as begun_fault
 use Rattle.figures.specs.declared.summary.CaseSummary.{CaseSummary}
 use Rattle.command_line.specs.Words.{AsksForSweep}
@@ -32,7 +32,7 @@ use Rattle.command_line.specs.declared.failure.PieceFault.{PieceFault}
 use Rattle.command_line.specs.declared.failure.PieceFault.TheVariants as piece
 use Rattle.scenario_files.specs.Shelves.{Shelf, word_given, IsRefused, IsUnread, HoldsBeginning}
 use Rattle.scenario_files.specs.Loading.{HasDocument, HasMarkedDocument, HasNoDocument}
-use Rattle.sweep_command.specs.Runs.{RunsBy, AreRuns, AreSummedUp, ArePieceRuns, BeginsPieceRuns, BeginsRuns, MakesPiece, MakesRuns, piece_runs_table, runs_table}
+use Rattle.sweep_command.specs.Runs.{RunsBy, AreBegun, AreRuns, AreRunsBehind, AreSummedUp, BeginsAllRuns, BeginsRuns, BeginsRunsBehind, FitPiece, MakesRuns, RefusesTable, WritesRuns, WritesRunsBehind, rest_table, runs_table}
 
 -- the words ask for a sweep that tells how far it has come
 abbrev pub AsksForProgress : List Text → Type 0
@@ -55,26 +55,29 @@ pub record AreLinesOf (tree : Data) (sweep : SweepWords) (made : RunsBy sweep.pl
   pub told : AreSummedUp sweep.plan.until sweep.plan made cases
   pub text : TellsCases sweep.jsonl (tells_revived tree) sweep.plan sweep.wants.items cases lines
 
--- the runs were made and their table was appended to what was held, and this is what is told of their cases
-pub record MakesLines (tree : Data) (sweep : SweepWords) (old new : Option (List ℕ)) (lines : List ℕ) : Type 0 where
+-- all runs were made and their table was appended to what was held, and this is what is told of their cases
+pub record MakesLines (tree : Data) (mark : List ℕ) (sweep : SweepWords) (old new : Option (List ℕ)) (lines : List ℕ) : Type 0 where
   pub cases : List CaseSummary
-  pub makes : MakesRuns sweep.plan.until tree sweep.plan old new cases
+  pub makes : MakesRuns sweep.plan.until tree mark sweep.plan old new cases
   pub text : TellsCases sweep.jsonl (tells_revived tree) sweep.plan sweep.wants.items cases lines
 
--- The runs were made: the file holds their table, no other file has changed, and this is what is told of their cases.
-pub record StoresTable (tree : Data) (sweep : SweepWords) (before after : Shelf) (lines : List ℕ) : Type 0 where
-  pub made : RunsBy sweep.plan.until
-  pub are : AreRuns sweep.plan.until tree sweep.plan made
-  pub stored : HoldsNow (before sweep.table.now) (after sweep.table.now) (runs_table sweep.plan.until tree sweep.plan made)
+-- The runs of the piece were made, these: the file holds their table, and no other file has changed.
+pub record StoresRuns (tree : Data) (mark : List ℕ) (sweep : SweepWords) (p : Piece) (made : RunsBy sweep.plan.until) (before after : Shelf) : Type 0 where
+  pub are : AreRuns sweep.plan.until tree sweep.plan p made
+  pub stored : HoldsNow (before sweep.table.now) (after sweep.table.now) (runs_table sweep.plan.until tree mark sweep.plan p made)
   pub others : KeepsOthers before after sweep.table.now
-  pub told : AreLinesOf tree sweep made lines
 
--- The runs were made, and this is what is told of their cases: the file of the table holds that, the file of this name a page of the cases, and no
+-- all runs were, and this is what is told of their cases
+abbrev pub StoresTable : Data → List ℕ → SweepWords → Shelf → Shelf → List ℕ → Type 0
+StoresTable tree mark sweep before after lines =
+    (made : RunsBy sweep.plan.until) × StoresRuns tree mark sweep whole made before after × AreLinesOf tree sweep made lines
+
+-- All runs were made, and this is what is told of their cases: the file of the table holds that, the file of this name a page of the cases, and no
 -- other file has changed.
-pub record StoresPaged (tree : Data) (sweep : SweepWords) (release : List ℕ) (page : Text) (before after : Shelf) (lines : List ℕ) : Type 0 where
+pub record StoresPaged (tree : Data) (mark : List ℕ) (sweep : SweepWords) (release : List ℕ) (page : Text) (before after : Shelf) (lines : List ℕ) : Type 0 where
   pub made : RunsBy sweep.plan.until
-  pub are : AreRuns sweep.plan.until tree sweep.plan made
-  pub stored : HoldsNow (before sweep.table.now) (after sweep.table.now) (runs_table sweep.plan.until tree sweep.plan made)
+  pub are : AreRuns sweep.plan.until tree sweep.plan whole made
+  pub stored : HoldsNow (before sweep.table.now) (after sweep.table.now) (runs_table sweep.plan.until tree mark sweep.plan whole made)
   pub cases : List CaseSummary
   pub all : length cases ≡ case_count sweep.plan.settings
   pub told : AreSummedUp sweep.plan.until sweep.plan made cases
@@ -84,11 +87,6 @@ pub record StoresPaged (tree : Data) (sweep : SweepWords) (release : List ℕ) (
   pub paged : HoldsNow (before page) (after page) shown
   pub others : KeepsAllOthers before after sweep.table.now page
 
--- the whole was stored, with a page where one is asked for
-abbrev pub StoresWhole : Option (Bor Text) → Data → SweepWords → List ℕ → Shelf → Shelf → List ℕ → Type 0
-StoresWhole None tree sweep release before after lines = StoresTable tree sweep before after lines
-StoresWhole (Some page) tree sweep release before after lines = StoresPaged tree sweep release page.now before after lines
-
 -- a page of the cases was appended; or a beginning of one, or nothing
 abbrev pub WritesPage : SweepWords → List ℕ → List CaseSummary → Option (List ℕ) → Option (List ℕ) → Type 0
 WritesPage sweep release cases old new = (text : List ℕ) × IsSweepPage sweep.file.now release sweep.plan cases text × Appends old new text
@@ -97,9 +95,9 @@ abbrev pub BeginsPage : SweepWords → List ℕ → List CaseSummary → Option 
 BeginsPage sweep release cases old new = Keeps old new ⊎ ((text : List ℕ) × IsSweepPage sweep.file.now release sweep.plan cases text × AppendsBeginning old new text)
 
 -- the same of what was appended to what was held
-pub record MakesPaged (tree : Data) (sweep : SweepWords) (release : List ℕ) (old new page_old page_new : Option (List ℕ)) (lines : List ℕ) : Type 0 where
+pub record MakesPaged (tree : Data) (mark : List ℕ) (sweep : SweepWords) (release : List ℕ) (old new page_old page_new : Option (List ℕ)) (lines : List ℕ) : Type 0 where
   pub cases : List CaseSummary
-  pub makes : MakesRuns sweep.plan.until tree sweep.plan old new cases
+  pub makes : MakesRuns sweep.plan.until tree mark sweep.plan old new cases
   pub text : TellsCases sweep.jsonl (tells_revived tree) sweep.plan sweep.wants.items cases lines
   pub paged : WritesPage sweep release cases page_old page_new
 
@@ -108,77 +106,70 @@ abbrev pub IsPageOfRuns : (sweep : SweepWords) → RunsBy sweep.plan.until → L
 IsPageOfRuns sweep made text = (release : List ℕ) × (cases : List CaseSummary) × AreSummedUp sweep.plan.until sweep.plan made cases × IsSweepPage sweep.file.now release sweep.plan cases text
 
 -- a beginning was appended: of the table, and nothing of a page; or the whole table, and a beginning of a page
-pub record BeginsPaged (tree : Data) (sweep : SweepWords) (old new page_old page_new : Option (List ℕ)) : Type 0 where
+pub record BeginsPaged (tree : Data) (mark : List ℕ) (sweep : SweepWords) (old new page_old page_new : Option (List ℕ)) : Type 0 where
   pub made : RunsBy sweep.plan.until
-  pub are : AreRuns sweep.plan.until tree sweep.plan made
-  pub written : (AppendsBeginning old new (runs_table sweep.plan.until tree sweep.plan made) × Keeps page_old page_new)
-      ⊎ (Appends old new (runs_table sweep.plan.until tree sweep.plan made) × ((text : List ℕ) × IsPageOfRuns sweep made text × AppendsBeginning page_old page_new text))
-
--- The runs of a piece were made: the file holds its table, and no other file has changed.
-pub record StoresPiece (tree : Data) (sweep : SweepWords) (mark : List ℕ) (p : Piece) (before after : Shelf) : Type 0 where
-  pub made : RunsBy sweep.plan.until
-  pub are : ArePieceRuns sweep.plan.until tree sweep.plan p made
-  pub stored : HoldsNow (before sweep.table.now) (after sweep.table.now) (piece_runs_table sweep.plan.until tree mark sweep.plan p made)
-  pub others : KeepsOthers before after sweep.table.now
+  pub are : AreRuns sweep.plan.until tree sweep.plan whole made
+  pub written : (AppendsBeginning old new (runs_table sweep.plan.until tree mark sweep.plan whole made) × Keeps page_old page_new)
+      ⊎ (Appends old new (runs_table sweep.plan.until tree mark sweep.plan whole made) × ((text : List ℕ) × IsPageOfRuns sweep made text × AppendsBeginning page_old page_new text))
 
 -- what the file held of a table that was cut off; where there is no file, nothing
 abbrev pub HeldSoFar : KnownFile → List ℕ → Type 0
 HeldSoFar known text = Holds known text ⊎ (IsAbsent known × (text ≡ []))
 
--- of a piece's table so much stood in the file: behind the first line these whole lines, so many
-pub record Stood (tree : Data) (sweep : SweepWords) (mark : List ℕ) (p : Piece) (known : KnownFile) (lines : List ℕ) (runs : ℕ) : Type 0 where
+-- of a piece's table so much stood in the file: behind the first line these lines, of so many runs, or whole cases
+pub record Stood (tree : Data) (mark : List ℕ) (sweep : SweepWords) (p : Piece) (known : KnownFile) (lines : List ℕ) (count : ℕ) : Type 0 where
   pub text : List ℕ
   pub held : HeldSoFar known text
-  pub begun : IsBegun (tells_revived tree) mark sweep.plan p text lines runs
+  pub begun : AreBegun sweep.plan.until (tells_revived tree) mark sweep.plan p text lines count
 
 -- The runs of a piece that were left were made: the file holds the table's first line, the lines that stood there, and those of these
 -- runs; and no other file has changed.
-pub record StoresRest (tree : Data) (sweep : SweepWords) (mark : List ℕ) (p : Piece) (before after : Shelf) : Type 0 where
+pub record StoresRest (tree : Data) (mark : List ℕ) (sweep : SweepWords) (p : Piece) (before after : Shelf) : Type 0 where
   pub lines : List ℕ
-  pub runs : ℕ
-  pub stood : Stood tree sweep mark p (before sweep.table.now) lines runs
-  pub made : List Made
-  pub are : AreMadeBehind tree sweep.plan p runs made
-  pub stored : HoldsNow (before sweep.table.now) (after sweep.table.now) (rest_text (tells_revived tree) mark sweep.plan p lines made)
+  pub count : ℕ
+  pub stood : Stood tree mark sweep p (before sweep.table.now) lines count
+  pub made : RunsBy sweep.plan.until
+  pub are : AreRunsBehind sweep.plan.until tree sweep.plan p count made
+  pub stored : HoldsNow (before sweep.table.now) (after sweep.table.now) (rest_table sweep.plan.until tree mark sweep.plan p lines made)
   pub others : KeepsOthers before after sweep.table.now
 
 -- the piece was made anew, or went on where it was cut off
-abbrev pub StoresPart : Bool → Data → SweepWords → List ℕ → Piece → Shelf → Shelf → Type 0
-StoresPart false tree sweep mark p before after = StoresPiece tree sweep mark p before after
-StoresPart true tree sweep mark p before after = StoresRest tree sweep mark p before after
+abbrev pub StoresPart : Bool → Data → List ℕ → SweepWords → Piece → Shelf → Shelf → Type 0
+StoresPart false tree mark sweep p before after = (made : RunsBy sweep.plan.until) × StoresRuns tree mark sweep p made before after
+StoresPart true tree mark sweep p before after = StoresRest tree mark sweep p before after
 
--- what is asked for was stored, where no page is: the whole table, and this is what is told of its cases; or that of a piece, of which nothing is told
-abbrev pub StoresPlain : Option Piece → Data → SweepWords → List ℕ → Shelf → Shelf → List ℕ → Type 0
-StoresPlain None tree sweep mark before after lines = StoresTable tree sweep before after lines
-StoresPlain (Some p) tree sweep mark before after lines = StoresPart sweep.resume tree sweep mark p before after × (lines ≡ [])
+-- what is asked for was stored, where no page is: the whole, and this is what is told of its cases; or a piece, of which nothing is told
+abbrev pub StoresPlain : Option Piece → Data → List ℕ → SweepWords → Shelf → Shelf → List ℕ → Type 0
+StoresPlain None tree mark sweep before after lines = StoresTable tree mark sweep before after lines
+StoresPlain (Some p) tree mark sweep before after lines = StoresPart sweep.resume tree mark sweep p before after × (lines ≡ [])
 
--- the same, with a page where one is asked for
-abbrev pub StoresAsked : Option Piece → Data → SweepWords → List ℕ → List ℕ → Shelf → Shelf → List ℕ → Type 0
-StoresAsked None tree sweep release mark before after lines = StoresWhole sweep.page tree sweep release before after lines
-StoresAsked (Some p) tree sweep release mark before after lines = StoresPart sweep.resume tree sweep mark p before after × (lines ≡ [])
+-- the same, or the whole with a page where one is asked for
+abbrev pub StoresAsked : Option (Bor Text) → Data → List ℕ → SweepWords → List ℕ → Shelf → Shelf → List ℕ → Type 0
+StoresAsked None tree mark sweep release before after lines = StoresPlain sweep.piece tree mark sweep before after lines
+StoresAsked (Some page) tree mark sweep release before after lines = StoresPaged tree mark sweep release page.now before after lines
 
 -- the scenario's file, the table's and the page's, where one is asked for, are different files
 abbrev pub AreApart : Option (Bor Text) → Making → Text → Text → Type 0
 AreApart None making file table = making.are_one file table ≡ false
 AreApart (Some page) making file table = AreThreeFiles making file table page.now
 
--- the same of what was appended to what was held; of a piece that went on, behind these lines, so many
-abbrev pub MakesPart : Bool → Data → SweepWords → List ℕ → Piece → List ℕ → ℕ → Option (List ℕ) → Option (List ℕ) → Type 0
-MakesPart false tree sweep mark p stood runs old new = MakesPiece sweep.plan.until tree sweep.plan mark p old new
-MakesPart true tree sweep mark p stood runs old new = WritesRest tree sweep.plan mark p stood runs old new
+-- the same of what was appended to what was held; of a piece that went on, behind these lines, of so many runs or cases
+abbrev pub MakesPart : Bool → Data → List ℕ → SweepWords → Piece → List ℕ → ℕ → Option (List ℕ) → Option (List ℕ) → Type 0
+MakesPart false tree mark sweep p stood count old new = WritesRuns sweep.plan.until tree mark sweep.plan p old new
+MakesPart true tree mark sweep p stood count old new = WritesRunsBehind sweep.plan.until tree mark sweep.plan p stood count old new
 
-abbrev pub MakesAsked : Option Piece → Data → SweepWords → List ℕ → List ℕ → ℕ → Option (List ℕ) → Option (List ℕ) → List ℕ → Type 0
-MakesAsked None tree sweep mark stood runs old new lines = MakesLines tree sweep old new lines
-MakesAsked (Some p) tree sweep mark stood runs old new lines = MakesPart sweep.resume tree sweep mark p stood runs old new × (lines ≡ [])
+abbrev pub MakesAsked : Option Piece → Data → List ℕ → SweepWords → List ℕ → ℕ → Option (List ℕ) → Option (List ℕ) → List ℕ → Type 0
+MakesAsked None tree mark sweep stood count old new lines = MakesLines tree mark sweep old new lines
+MakesAsked (Some p) tree mark sweep stood count old new lines = MakesPart sweep.resume tree mark sweep p stood count old new × (lines ≡ [])
 
 -- a beginning of it was appended
-abbrev pub BeginsPart : Bool → Data → SweepWords → List ℕ → Piece → List ℕ → ℕ → Option (List ℕ) → Option (List ℕ) → Type 0
-BeginsPart false tree sweep mark p stood runs old new = BeginsPieceRuns sweep.plan.until tree sweep.plan mark p old new
-BeginsPart true tree sweep mark p stood runs old new = BeginsRest tree sweep.plan mark p stood runs old new
+abbrev pub BeginsPart : Bool → Data → List ℕ → SweepWords → Piece → List ℕ → ℕ → Option (List ℕ) → Option (List ℕ) → Type 0
+BeginsPart false tree mark sweep p stood count old new = BeginsRuns sweep.plan.until tree mark sweep.plan p old new
+BeginsPart true tree mark sweep p stood count old new = BeginsRunsBehind sweep.plan.until tree mark sweep.plan p stood count old new
 
-abbrev pub BeginsAsked : Option Piece → Data → SweepWords → List ℕ → List ℕ → ℕ → Option (List ℕ) → Option (List ℕ) → Type 0
-BeginsAsked None tree sweep mark stood runs old new = BeginsRuns sweep.plan.until tree sweep.plan old new
-BeginsAsked (Some p) tree sweep mark stood runs old new = BeginsPart sweep.resume tree sweep mark p stood runs old new
+abbrev pub BeginsAsked : Option Piece → Data → List ℕ → SweepWords → List ℕ → ℕ → Option (List ℕ) → Option (List ℕ) → Type 0
+BeginsAsked None tree mark sweep stood count old new = BeginsAllRuns sweep.plan.until tree mark sweep.plan old new
+BeginsAsked (Some p) tree mark sweep stood count old new = BeginsPart sweep.resume tree mark sweep p stood count old new
 
 -- the piece that goes on, if one does
 abbrev pub piece_resumed : Bool → Option Piece → Option Piece
@@ -186,13 +177,12 @@ piece_resumed false asked = None
 piece_resumed true asked = asked
 
 -- where a piece goes on, so much of its table stood in the file
-abbrev pub GoesOn : Data → SweepWords → List ℕ → KnownFile → List ℕ → ℕ → Type 0
-GoesOn tree sweep mark known stood runs = ForSome (piece_resumed sweep.resume sweep.piece) (λ p. Stood tree sweep mark p known stood runs)
+abbrev pub GoesOn : Data → List ℕ → SweepWords → KnownFile → List ℕ → ℕ → Type 0
+GoesOn tree mark sweep known stood count = ForSome (piece_resumed sweep.resume sweep.piece) (λ p. Stood tree mark sweep p known stood count)
 
--- so many runs of it are no more than it has
-abbrev pub FitPiece : SweepWords → Option Piece → ℕ → Type 0
-FitPiece sweep asked runs =
-    ForSome (piece_resumed sweep.resume asked) (λ p. first_run p (run_count sweep.plan) + runs ≤ past_run p (run_count sweep.plan))
+-- so many runs of it, or cases, are no more than it has
+abbrev pub FitResumed : SweepWords → Option Piece → ℕ → Type 0
+FitResumed sweep asked count = ForSome (piece_resumed sweep.resume asked) (λ p. FitPiece sweep.plan.until sweep.plan p count)
 
 -- the sweep passed its checks and was done, and this is what is told of its cases, where it is a whole one
 pub record SweepsAll (release : List ℕ) (before after : Shelf) (making : Making) (sweep : SweepWords) (lines : List ℕ) : Type 0 where
@@ -201,7 +191,7 @@ pub record SweepsAll (release : List ℕ) (before after : Shelf) (making : Makin
   pub mark : List ℕ
   pub checks : PassesSweepChecks before sweep workers tree mark
   pub apart : AreApart sweep.page making sweep.file.now sweep.table.now
-  pub stored : StoresAsked sweep.piece tree sweep release mark before after lines
+  pub stored : StoresAsked sweep.page tree mark sweep release before after lines
 
 -- a sweep that the words ask for was done
 abbrev pub DoesSweep : List ℕ → List Text → Shelf → Shelf → Making → List ℕ → Type 0
@@ -232,107 +222,104 @@ FailsSweepCheck before sweep failure =
     × (missing_of tree sweep.plan.settings ≡ None) × RefusesCase tree sweep.plan failure)))
 
 -- a text is no beginning of the piece's table, and is told by the name of its file
-abbrev pub IsOther : Data → SweepWords → List ℕ → Piece → List ℕ → PieceFault → Type 0
-IsOther tree sweep mark p text (piece.Other name) = (name.now ≡ sweep.table.now) × RefusesBegun (tells_revived tree) mark sweep.plan p text begun_fault.Other
-IsOther tree sweep mark p text _ = ⊥
+abbrev pub IsOther : Data → List ℕ → SweepWords → Piece → List ℕ → PieceFault → Type 0
+IsOther tree mark sweep p text (piece.Other name) = (name.now ≡ sweep.table.now) × RefusesTable sweep.plan.until (tells_revived tree) mark sweep.plan p text begun_fault.Other
+IsOther tree mark sweep p text _ = ⊥
 
 -- that is so, or memory was refused
-abbrev pub RefusesSoFar : Data → SweepWords → List ℕ → Piece → List ℕ → Failure → Type 0
-RefusesSoFar tree sweep mark p text (Pieces cause) = IsOther tree sweep mark p text cause
-RefusesSoFar tree sweep mark p text Memory = Unit {0}
-RefusesSoFar tree sweep mark p text _ = ⊥
+abbrev pub RefusesSoFar : Data → List ℕ → SweepWords → Piece → List ℕ → Failure → Type 0
+RefusesSoFar tree mark sweep p text (Pieces cause) = IsOther tree mark sweep p text cause
+RefusesSoFar tree mark sweep p text Memory = Unit {0}
+RefusesSoFar tree mark sweep p text _ = ⊥
 
 -- A piece can't go on: what the file of its table holds is no beginning of that; the file can't be read; or memory was refused.
-abbrev pub RefusesStood : Data → SweepWords → List ℕ → Piece → KnownFile → Failure → Type 0
-RefusesStood tree sweep mark p known (Pieces cause) = (text : List ℕ) × HeldSoFar known text × IsOther tree sweep mark p text cause
-RefusesStood tree sweep mark p known failure = IsUnread known sweep.table.now failure
+abbrev pub RefusesStood : Data → List ℕ → SweepWords → Piece → KnownFile → Failure → Type 0
+RefusesStood tree mark sweep p known (Pieces cause) = (text : List ℕ) × HeldSoFar known text × IsOther tree mark sweep p text cause
+RefusesStood tree mark sweep p known failure = IsUnread known sweep.table.now failure
 
 -- the piece that was to go on can't
-abbrev pub CannotGoOn : Data → SweepWords → List ℕ → KnownFile → Failure → Type 0
-CannotGoOn tree sweep mark known failure = (p : Piece) × (piece_resumed sweep.resume sweep.piece ≡ Some p) × RefusesStood tree sweep mark p known failure
+abbrev pub CannotGoOn : Data → List ℕ → SweepWords → KnownFile → Failure → Type 0
+CannotGoOn tree mark sweep known failure = (p : Piece) × (piece_resumed sweep.resume sweep.piece ≡ Some p) × RefusesStood tree mark sweep p known failure
 
--- the runs were ended by the fault, which has its cause: the file holds a beginning of their table, and no other has changed
-pub record BreaksOffTable (tree : Data) (sweep : SweepWords) (before after : Shelf) (cause : Fault) : Type 0 where
+-- why runs are ended by a fault: it has its cause, and a write only where a file refused one
+pub record IsCaused (Refused : Type 0) (tree : Data) (plan : Sweep) (cause : Fault) : Type 0 where
+  pub caused : HasCause tree plan cause
+  pub refused : cause ≡ fault.Write → Refused
+
+-- the runs of the piece were ended by the fault: the file holds a beginning of their table, and no other has changed
+pub record BreaksOffRuns (Refused : Type 0) (tree : Data) (mark : List ℕ) (sweep : SweepWords) (p : Piece) (before after : Shelf) (cause : Fault) : Type 0 where
   pub made : RunsBy sweep.plan.until
-  pub are : AreRuns sweep.plan.until tree sweep.plan made
-  pub begun : HoldsBeginning (before sweep.table.now) (after sweep.table.now) (runs_table sweep.plan.until tree sweep.plan made)
+  pub are : AreRuns sweep.plan.until tree sweep.plan p made
+  pub begun : HoldsBeginning (before sweep.table.now) (after sweep.table.now) (runs_table sweep.plan.until tree mark sweep.plan p made)
   pub others : KeepsOthers before after sweep.table.now
-  pub caused : HasCause tree sweep.plan cause
+  pub caused : IsCaused Refused tree sweep.plan cause
 
--- the same of the table of a piece
-pub record BreaksOffPiece (tree : Data) (sweep : SweepWords) (mark : List ℕ) (p : Piece) (before after : Shelf) (cause : Fault) : Type 0 where
-  pub made : RunsBy sweep.plan.until
-  pub are : ArePieceRuns sweep.plan.until tree sweep.plan p made
-  pub begun : HoldsBeginning (before sweep.table.now) (after sweep.table.now) (piece_runs_table sweep.plan.until tree mark sweep.plan p made)
-  pub others : KeepsOthers before after sweep.table.now
-  pub caused : HasCause tree sweep.plan cause
-
--- of that of a piece that went on
-pub record BreaksOffRest (tree : Data) (sweep : SweepWords) (mark : List ℕ) (p : Piece) (before after : Shelf) (cause : Fault) : Type 0 where
+-- the same of a piece that went on
+pub record BreaksOffRest (Refused : Type 0) (tree : Data) (mark : List ℕ) (sweep : SweepWords) (p : Piece) (before after : Shelf) (cause : Fault) : Type 0 where
   pub lines : List ℕ
-  pub runs : ℕ
-  pub stood : Stood tree sweep mark p (before sweep.table.now) lines runs
-  pub made : List Made
-  pub are : AreMadeBehind tree sweep.plan p runs made
-  pub begun : HoldsBeginning (before sweep.table.now) (after sweep.table.now) (rest_text (tells_revived tree) mark sweep.plan p lines made)
+  pub count : ℕ
+  pub stood : Stood tree mark sweep p (before sweep.table.now) lines count
+  pub made : RunsBy sweep.plan.until
+  pub are : AreRunsBehind sweep.plan.until tree sweep.plan p count made
+  pub begun : HoldsBeginning (before sweep.table.now) (after sweep.table.now) (rest_table sweep.plan.until tree mark sweep.plan p lines made)
   pub others : KeepsOthers before after sweep.table.now
-  pub caused : HasCause tree sweep.plan cause
+  pub caused : IsCaused Refused tree sweep.plan cause
 
-abbrev pub BreaksOffPart : Bool → Data → SweepWords → List ℕ → Piece → Shelf → Shelf → Fault → Type 0
-BreaksOffPart false tree sweep mark p before after cause = BreaksOffPiece tree sweep mark p before after cause
-BreaksOffPart true tree sweep mark p before after cause = BreaksOffRest tree sweep mark p before after cause
+abbrev pub BreaksOffPart : Bool → Type 0 → Data → List ℕ → SweepWords → Piece → Shelf → Shelf → Fault → Type 0
+BreaksOffPart false Refused tree mark sweep p before after cause = BreaksOffRuns Refused tree mark sweep p before after cause
+BreaksOffPart true Refused tree mark sweep p before after cause = BreaksOffRest Refused tree mark sweep p before after cause
 
 -- and of what is asked for
-abbrev pub BreaksOff : Option Piece → Data → SweepWords → List ℕ → Shelf → Shelf → Fault → Type 0
-BreaksOff None tree sweep mark before after cause = BreaksOffTable tree sweep before after cause
-BreaksOff (Some p) tree sweep mark before after cause = BreaksOffPart sweep.resume tree sweep mark p before after cause
+abbrev pub BreaksOff : Option Piece → Type 0 → Data → List ℕ → SweepWords → Shelf → Shelf → Fault → Type 0
+BreaksOff None Refused tree mark sweep before after cause = BreaksOffRuns Refused tree mark sweep whole before after cause
+BreaksOff (Some p) Refused tree mark sweep before after cause = BreaksOffPart sweep.resume Refused tree mark sweep p before after cause
 
 -- No whole table was stored: its file can't be made, memory was refused, or the runs broke off. Before they began no file has changed.
-abbrev pub TableFails : Data → List ℕ → Shelf → Shelf → Making → SweepWords → Failure → Type 0
-TableFails tree mark before after making sweep (File name) =
+abbrev pub TableFails : Type 0 → Data → List ℕ → Shelf → Shelf → Making → SweepWords → Failure → Type 0
+TableFails Refused tree mark before after making sweep (File name) =
     (name.now ≡ sweep.table.now) × CannotMake making sweep.file.now sweep.table.now × (after ≡ before)
-TableFails tree mark before after making sweep Memory = after ≡ before
-TableFails tree mark before after making sweep (Run cause) =
-    (making.are_one sweep.file.now sweep.table.now ≡ false) × BreaksOff sweep.piece tree sweep mark before after cause
-TableFails tree mark before after making sweep _ = ⊥
+TableFails Refused tree mark before after making sweep Memory = after ≡ before
+TableFails Refused tree mark before after making sweep (Run cause) =
+    (making.are_one sweep.file.now sweep.table.now ≡ false) × BreaksOff sweep.piece Refused tree mark sweep before after cause
+TableFails Refused tree mark before after making sweep _ = ⊥
 
 -- of a table and a page: the one has a beginning while the other is empty, or the one is whole and the other has a beginning
-pub record BreaksOffPaged (tree : Data) (sweep : SweepWords) (page : Text) (before after : Shelf) (cause : Fault) : Type 0 where
+pub record BreaksOffPaged (Refused : Type 0) (tree : Data) (mark : List ℕ) (sweep : SweepWords) (page : Text) (before after : Shelf) (cause : Fault) : Type 0 where
   pub made : RunsBy sweep.plan.until
-  pub are : AreRuns sweep.plan.until tree sweep.plan made
-  pub written : (HoldsBeginning (before sweep.table.now) (after sweep.table.now) (runs_table sweep.plan.until tree sweep.plan made) × HoldsNow (before page) (after page) [])
-      ⊎ (HoldsNow (before sweep.table.now) (after sweep.table.now) (runs_table sweep.plan.until tree sweep.plan made)
+  pub are : AreRuns sweep.plan.until tree sweep.plan whole made
+  pub written : (HoldsBeginning (before sweep.table.now) (after sweep.table.now) (runs_table sweep.plan.until tree mark sweep.plan whole made) × HoldsNow (before page) (after page) [])
+      ⊎ (HoldsNow (before sweep.table.now) (after sweep.table.now) (runs_table sweep.plan.until tree mark sweep.plan whole made)
       × ((text : List ℕ) × IsPageOfRuns sweep made text × HoldsBeginning (before page) (after page) text))
   pub others : KeepsAllOthers before after sweep.table.now page
-  pub caused : HasCause tree sweep.plan cause
+  pub caused : IsCaused Refused tree sweep.plan cause
 
 -- a table and a page were not stored whole: a file can't be made, memory was refused, or it broke off. Before that no file has changed.
-abbrev pub PagedFails : Data → Text → Shelf → Shelf → Making → SweepWords → Failure → Type 0
-PagedFails tree page before after making sweep (File name) =
+abbrev pub PagedFails : Type 0 → Data → List ℕ → Text → Shelf → Shelf → Making → SweepWords → Failure → Type 0
+PagedFails Refused tree mark page before after making sweep (File name) =
     (((name.now ≡ sweep.table.now) × CannotMake making sweep.file.now sweep.table.now)
     ⊎ ((name.now ≡ page) × CannotMakeSecond making sweep.file.now sweep.table.now page)) × (after ≡ before)
-PagedFails tree page before after making sweep Memory = after ≡ before
-PagedFails tree page before after making sweep (Run cause) =
-    AreThreeFiles making sweep.file.now sweep.table.now page × BreaksOffPaged tree sweep page before after cause
-PagedFails tree page before after making sweep _ = ⊥
+PagedFails Refused tree mark page before after making sweep Memory = after ≡ before
+PagedFails Refused tree mark page before after making sweep (Run cause) =
+    AreThreeFiles making sweep.file.now sweep.table.now page × BreaksOffPaged Refused tree mark sweep page before after cause
+PagedFails Refused tree mark page before after making sweep _ = ⊥
 
 -- and of what is asked for
-abbrev pub StoreFails : Option (Bor Text) → Data → List ℕ → Shelf → Shelf → Making → SweepWords → Failure → Type 0
-StoreFails None tree mark before after making sweep failure = TableFails tree mark before after making sweep failure
-StoreFails (Some page) tree mark before after making sweep failure = PagedFails tree page.now before after making sweep failure
+abbrev pub StoreFails : Option (Bor Text) → Type 0 → Data → List ℕ → Shelf → Shelf → Making → SweepWords → Failure → Type 0
+StoreFails None Refused tree mark before after making sweep failure = TableFails Refused tree mark before after making sweep failure
+StoreFails (Some page) Refused tree mark before after making sweep failure = PagedFails Refused tree mark page.now before after making sweep failure
 
 -- all checks passed, but a piece can't go on, and no file has changed; or what is asked for was not stored whole
-pub record FailsToSweep (before after : Shelf) (making : Making) (sweep : SweepWords) (failure : Failure) : Type 0 where
+pub record FailsToSweep (Refused : Type 0) (before after : Shelf) (making : Making) (sweep : SweepWords) (failure : Failure) : Type 0 where
   pub workers : ℕ
   pub tree : Data
   pub mark : List ℕ
   pub checks : PassesSweepChecks before sweep workers tree mark
-  pub cause : (CannotGoOn tree sweep mark (before sweep.table.now) failure × (after ≡ before)) ⊎ StoreFails sweep.page tree mark before after making sweep failure
+  pub cause : (CannotGoOn tree mark sweep (before sweep.table.now) failure × (after ≡ before)) ⊎ StoreFails sweep.page Refused tree mark before after making sweep failure
 
--- why the sweep was not done: the first check that failed, and after all checks what befell the table
-abbrev pub SweepFails : Shelf → Shelf → Making → SweepWords → Failure → Type 0
-SweepFails before after making sweep failure =
-    IsRefused before after (FailsSweepCheck before sweep failure) ⊎ FailsToSweep before after making sweep failure
+-- Why the sweep was not done: the first check that failed, and after all checks what befell the table. `Refused` says that a file refused a write.
+abbrev pub SweepFails : Type 0 → Shelf → Shelf → Making → SweepWords → Failure → Type 0
+SweepFails Refused before after making sweep failure =
+    IsRefused before after (FailsSweepCheck before sweep failure) ⊎ FailsToSweep Refused before after making sweep failure
 
 -- the words ask for a sweep that sets a key of an item which the document of the file hasn't, or has more than once
 abbrev pub SetsNoItem : List Text → Shelf → Type 0
@@ -340,5 +327,5 @@ SetsNoItem words before = (sweep : SweepWords) × AsksForSweep words sweep × ((
     × ((k : SettingKey) × (missing_of tree sweep.plan.settings ≡ Some k)))
 
 -- why a sweep that the words ask for was not done
-abbrev pub DoesNotSweep : List Text → Shelf → Shelf → Making → Failure → Type 0
-DoesNotSweep words before after making failure = (sweep : SweepWords) × AsksForSweep words sweep × SweepFails before after making sweep failure
+abbrev pub DoesNotSweep : Type 0 → List Text → Shelf → Shelf → Making → Failure → Type 0
+DoesNotSweep Refused words before after making failure = (sweep : SweepWords) × AsksForSweep words sweep × SweepFails Refused before after making sweep failure

@@ -1,74 +1,106 @@
 -- The runs that a sweep makes, and the summaries of its cases: each case with each seed; or, where the words say how wide its interval may be, with
--- as few as make it no wider.
-use Rattle.std.specs.Prelude.{◌≡◌, ℕ, Option, Some, None, List, length, map}
+-- as few as make it no wider. A whole sweep is its only piece.
+use Rattle.std.specs.Prelude.{◌≡◌, ◌≤◌, ◌+◌, ℕ, Bool, Option, Some, None, List, length, map}
 use Rattle.std.specs.List.{AllZip}
 use Rattle.std.specs.Io.KnownBytes.{Appends}
 use Rattle.toml.specs.Data.{Data}
 use Rattle.trace.specs.Sinks.{AppendsBeginning}
-use Rattle.cases.specs.Sweep.{Sweep, case_count, seed_count}
+use Rattle.cases.specs.Sweep.{Sweep, case_count, run_count, seed_count}
 use Rattle.figures.specs.declared.summary.CaseSummary.{CaseSummary}
-use Rattle.sweep.specs.Runs.{Made, AreMade, noted}
-use Rattle.sweep.specs.Summaries.{SumUp}
-use Rattle.sweep.specs.Table.{table_text, tells_revived}
 use Rattle.pieces.specs.declared.piece.Piece.{Piece}
+use Rattle.pieces.specs.Pieces.{first_run, past_run, whole}
+use Rattle.sweep.specs.Runs.{Made, noted}
+use Rattle.sweep.specs.Summaries.{SumUp}
+use Rattle.sweep.specs.Table.{tells_revived}
 use Rattle.sweep.specs.Pieces.{AreMadeIn, piece_table}
-use Rattle.sweep_until.specs.Pieces.{AreCasesIn}
-use Rattle.sweep_until.specs.Until.{AreMadeUntil, SumsUp, all_of, cases_table}
+use Rattle.sweep.specs.Resumed.{AreMadeBehind, IsBegun, RefusesBegun, rest_text}
+use Rattle.sweep.specs.declared.begun.BegunFault.{BegunFault}
+use Rattle.begun_cases.specs.Begun.{IsBegunCases, RefusesBegunCases}
+use Rattle.sweep_until.specs.Pieces.{AreCasesBehind, AreCasesIn, cases_in}
+use Rattle.sweep_until.specs.Until.{SumsUp, all_of}
 
 -- how runs are listed: all of them in one list; with a width, those of each case in a list of their own
 abbrev pub RunsBy : Option ℕ → Type 0
 RunsBy None = List Made
 RunsBy (Some width) = List (List Made)
 
--- these are the runs that the sweep makes: of each case those with all seeds; with a width, as few as make its interval no wider, all where none do
-abbrev pub AreRuns : (until : Option ℕ) → Data → Sweep → RunsBy until → Type 0
-AreRuns None tree plan made = AreMade tree plan made
-AreRuns (Some width) tree plan made = AreMadeUntil tree plan width (case_count plan.settings) made
+-- they one after the other
+abbrev pub listed : (until : Option ℕ) → RunsBy until → List Made
+listed None made = made
+listed (Some width) made = all_of made
 
--- their table, in which those of one case follow on those of another
-abbrev pub runs_table : (until : Option ℕ) → Data → Sweep → RunsBy until → List ℕ
-runs_table None tree plan made = table_text tree plan made
-runs_table (Some width) tree plan made = cases_table tree plan made
+-- these are the runs of the piece; with a width it is one of whole cases, each with as few as make its interval no wider, all where none do
+abbrev pub AreRuns : (until : Option ℕ) → Data → Sweep → Piece → RunsBy until → Type 0
+AreRuns None tree plan p made = AreMadeIn tree plan p made
+AreRuns (Some width) tree plan p made = AreCasesIn tree plan width p made
+
+-- their table
+abbrev pub runs_table : (until : Option ℕ) → Data → List ℕ → Sweep → Piece → RunsBy until → List ℕ
+runs_table until tree mark plan p made = piece_table (tells_revived tree) mark plan p (listed until made)
 
 -- these are summaries of the cases that they belong to, in order
 abbrev pub AreSummedUp : (until : Option ℕ) → Sweep → RunsBy until → List CaseSummary → Type 0
 AreSummedUp None plan made cases = SumUp (seed_count plan.seeds) (map noted made) cases
 AreSummedUp (Some width) plan made cases = AllZip SumsUp made cases
 
--- the runs were made: their table was appended, and each case is summed up
-pub record MakesRuns (until : Option ℕ) (tree : Data) (plan : Sweep) (old new : Option (List ℕ)) (cases : List CaseSummary) : Type 0 where
+-- the runs of a piece were made: their table was appended
+pub record WritesRuns (until : Option ℕ) (tree : Data) (mark : List ℕ) (plan : Sweep) (p : Piece) (old new : Option (List ℕ)) : Type 0 where
   pub made : RunsBy until
-  pub are : AreRuns until tree plan made
-  pub written : Appends old new (runs_table until tree plan made)
+  pub are : AreRuns until tree plan p made
+  pub written : Appends old new (runs_table until tree mark plan p made)
+
+-- a beginning of their table was
+pub record BeginsRuns (until : Option ℕ) (tree : Data) (mark : List ℕ) (plan : Sweep) (p : Piece) (old new : Option (List ℕ)) : Type 0 where
+  pub made : RunsBy until
+  pub are : AreRuns until tree plan p made
+  pub written : AppendsBeginning old new (runs_table until tree mark plan p made)
+
+-- of that of all runs of the sweep a beginning was
+abbrev pub BeginsAllRuns : (until : Option ℕ) → Data → List ℕ → Sweep → Option (List ℕ) → Option (List ℕ) → Type 0
+BeginsAllRuns until tree mark plan old new = BeginsRuns until tree mark plan whole old new
+
+-- all of them were made: their table was appended, and each case is summed up
+pub record MakesRuns (until : Option ℕ) (tree : Data) (mark : List ℕ) (plan : Sweep) (old new : Option (List ℕ)) (cases : List CaseSummary) : Type 0 where
+  pub made : RunsBy until
+  pub are : AreRuns until tree plan whole made
+  pub written : Appends old new (runs_table until tree mark plan whole made)
   pub all : length cases ≡ case_count plan.settings
   pub told : AreSummedUp until plan made cases
 
--- a beginning of their table was appended
-pub record BeginsRuns (until : Option ℕ) (tree : Data) (plan : Sweep) (old new : Option (List ℕ)) : Type 0 where
+-- ---- of a piece that goes on
+
+-- So much of the table of a piece stands in the text: behind the first line these lines, of so many runs; with a width, of so many whole cases.
+abbrev pub AreBegun : Option ℕ → Bool → List ℕ → Sweep → Piece → List ℕ → List ℕ → ℕ → Type 0
+AreBegun None revived mark plan p text lines count = IsBegun revived mark plan p text lines count
+AreBegun (Some width) revived mark plan p text lines count = IsBegunCases revived mark plan width p text lines count
+
+-- why the text isn't so, unless memory was refused
+abbrev pub RefusesTable : Option ℕ → Bool → List ℕ → Sweep → Piece → List ℕ → BegunFault → Type 0
+RefusesTable None revived mark plan p text fault = RefusesBegun revived mark plan p text fault
+RefusesTable (Some width) revived mark plan p text fault = RefusesBegunCases revived mark plan width p text fault
+
+-- so many runs, or cases, are no more than the piece has
+abbrev pub FitPiece : Option ℕ → Sweep → Piece → ℕ → Type 0
+FitPiece None plan p count = first_run p (run_count plan) + count ≤ past_run p (run_count plan)
+FitPiece (Some width) plan p count = count ≤ cases_in plan p
+
+-- these are the runs of the piece but for the first, so many, or for those of its first cases
+abbrev pub AreRunsBehind : (until : Option ℕ) → Data → Sweep → Piece → ℕ → RunsBy until → Type 0
+AreRunsBehind None tree plan p count made = AreMadeBehind tree plan p count made
+AreRunsBehind (Some width) tree plan p count made = AreCasesBehind tree plan width p count made
+
+-- the table of the piece: its first line, lines that stood there, and those of these runs
+abbrev pub rest_table : (until : Option ℕ) → Data → List ℕ → Sweep → Piece → List ℕ → RunsBy until → List ℕ
+rest_table until tree mark plan p lines made = rest_text (tells_revived tree) mark plan p lines (listed until made)
+
+-- the runs that were left were made: that was appended
+pub record WritesRunsBehind (until : Option ℕ) (tree : Data) (mark : List ℕ) (plan : Sweep) (p : Piece) (lines : List ℕ) (count : ℕ) (old new : Option (List ℕ)) : Type 0 where
   pub made : RunsBy until
-  pub are : AreRuns until tree plan made
-  pub written : AppendsBeginning old new (runs_table until tree plan made)
+  pub are : AreRunsBehind until tree plan p count made
+  pub written : Appends old new (rest_table until tree mark plan p lines made)
 
--- ---- of a piece
-
--- these are the runs of a piece; with a width, it is one of whole cases
-abbrev pub ArePieceRuns : (until : Option ℕ) → Data → Sweep → Piece → RunsBy until → Type 0
-ArePieceRuns None tree plan p made = AreMadeIn tree plan p made
-ArePieceRuns (Some width) tree plan p made = AreCasesIn tree plan width p made
-
--- the table of these runs
-abbrev pub piece_runs_table : (until : Option ℕ) → Data → List ℕ → Sweep → Piece → RunsBy until → List ℕ
-piece_runs_table None tree mark plan p made = piece_table (tells_revived tree) mark plan p made
-piece_runs_table (Some width) tree mark plan p made = piece_table (tells_revived tree) mark plan p (all_of made)
-
--- the runs of a piece were made: its table was appended
-pub record MakesPiece (until : Option ℕ) (tree : Data) (plan : Sweep) (mark : List ℕ) (p : Piece) (old new : Option (List ℕ)) : Type 0 where
+-- a beginning of it was
+pub record BeginsRunsBehind (until : Option ℕ) (tree : Data) (mark : List ℕ) (plan : Sweep) (p : Piece) (lines : List ℕ) (count : ℕ) (old new : Option (List ℕ)) : Type 0 where
   pub made : RunsBy until
-  pub are : ArePieceRuns until tree plan p made
-  pub written : Appends old new (piece_runs_table until tree mark plan p made)
-
--- a beginning of its table was
-pub record BeginsPieceRuns (until : Option ℕ) (tree : Data) (plan : Sweep) (mark : List ℕ) (p : Piece) (old new : Option (List ℕ)) : Type 0 where
-  pub made : RunsBy until
-  pub are : ArePieceRuns until tree plan p made
-  pub written : AppendsBeginning old new (piece_runs_table until tree mark plan p made)
+  pub are : AreRunsBehind until tree plan p count made
+  pub written : AppendsBeginning old new (rest_table until tree mark plan p lines made)

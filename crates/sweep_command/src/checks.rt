@@ -42,6 +42,7 @@ pub(crate) fn prepare_sweep<'a, F: Files>(
     ensures failed { IfErr result (FailsSweepCheck (F.known files.old) words.now) }
     ensures same { F.known files.new ≡ F.known files.old }
     ensures making { F.making files.new ≡ F.making files.old }
+    ensures counted { F.refused files.new ≡ F.refused files.old }
 {
     let workers = workers_asked(words.workers)?;
     let marked = load_document(alloc, words.file, files)?;

@@ -1,11 +1,12 @@
 //! A whole sweep, and the files that take its table and its page.
-ghost use Rattle.std.specs.Prelude.{◌≡◌, ◌<◌, ◌≤◌, ◌^◌, All, false, length, IfOk, IfErr, OnOk, OnErr, string_bytes};
+ghost use Rattle.std.specs.Prelude.{◌≡◌, ◌<◌, ◌≤◌, ◌^◌, ◌+◌, All, false, length, IfOk, IfErr, OnOk, OnErr, string_bytes};
 ghost use Rattle.toml.specs.Data.{Data};
 ghost use Rattle.toml.specs.View.{view};
 ghost use Rattle.answers.specs.Wants.{IsBounded};
 ghost use Rattle.cases.specs.Sweep.{Sweep, case_count};
 ghost use Rattle.files.specs.Files.{AreThreeFiles};
-ghost use Rattle.trace.specs.Writers.{writer_under};
+ghost use Rattle.trace.specs.Writers.{put_failures, writer_under};
+ghost use Rattle.outputs.specs.Written.{sink_failures};
 ghost use Rattle.sweep.specs.Runs.{IsAskedFor};
 ghost use Rattle.sweep.specs.Judged.{AreAccepted};
 ghost use Rattle.sweep.specs.Table.{HasCause};
@@ -41,11 +42,11 @@ pub(crate) fn store_paged<'a, F: Files, P: Write>(
     requires asked { IsAskedFor words.now.plan }
     requires wants { All IsBounded words.now.wants.items }
     requires judged { AreAccepted (view prepared.now.marked.document) words.now.plan }
-    ensures done { IfOk result (λ lines. StoresPaged (view prepared.now.marked.document) words.now release.now.version.now page.entry.now
+    ensures done { IfOk result (λ lines. StoresPaged (view prepared.now.marked.document) (string_bytes prepared.now.marked.mark) words.now release.now.version.now page.entry.now
         (F.known files.old) (F.known files.new) (string_bytes lines)) }
     ensures apart { OnOk result (AreThreeFiles (F.making files.old) words.now.file.now words.now.table.now page.entry.now) }
-    ensures failed { IfErr result (PagedFails (view prepared.now.marked.document) page.entry.now (F.known files.old) (F.known files.new)
-        (F.making files.old) words.now) }
+    ensures failed { IfErr result (PagedFails (F.refused files.old < F.refused files.new) (view prepared.now.marked.document) (string_bytes prepared.now.marked.mark) page.entry.now
+        (F.known files.old) (F.known files.new) (F.making files.old) words.now) }
     ensures unasked { words.now.progress ≡ false → progress.new ≡ progress.old }
 {
     let (made_table, made_page) = match files.make_both(words.file, words.table, page) {
@@ -57,8 +58,8 @@ pub(crate) fn store_paged<'a, F: Files, P: Write>(
     let (made_table, made_page, outcome) = fill_both(
         rt, alloc, release, words, prepared, made_table, made_page, progress,
     );
-    files.close(words.table, made_table.into_inner());
-    files.close(page, made_page.into_inner());
+    files.close(words.table, made_table);
+    files.close(page, made_page);
     run_told(outcome)
 }
 
@@ -77,11 +78,12 @@ fn fill_both<T: Write, U: Write, P: Write>(
     requires asked { IsAskedFor words.now.plan }
     requires wants { All IsBounded words.now.wants.items }
     requires judged { AreAccepted (view prepared.now.marked.document) words.now.plan }
-    ensures whole { IfOk result.2 (λ lines. MakesPaged (view prepared.now.marked.document) words.now release.now.version.now
+    ensures whole { IfOk result.2 (λ lines. MakesPaged (view prepared.now.marked.document) (string_bytes prepared.now.marked.mark) words.now release.now.version.now
         (T.contents table) (T.contents (writer_under result.0)) (U.contents page) (U.contents (writer_under result.1)) (string_bytes lines)) }
-    ensures part { OnErr result.2 (BeginsPaged (view prepared.now.marked.document) words.now
+    ensures part { OnErr result.2 (BeginsPaged (view prepared.now.marked.document) (string_bytes prepared.now.marked.mark) words.now
         (T.contents table) (T.contents (writer_under result.0)) (U.contents page) (U.contents (writer_under result.1))) }
     ensures causes { IfErr result.2 (HasCause (view prepared.now.marked.document) words.now.plan) }
+    ensures failures { put_failures result.0 + put_failures result.1 ≡ sink_failures result.2 }
     ensures unasked { words.now.progress ≡ false → progress.new ≡ progress.old }
 {
     let mut table = Put::new(table);
@@ -123,17 +125,20 @@ fn tell_both<S: Sink, U: Sink, P: Progress>(
     requires judged { AreAccepted (view prepared.now.marked.document) words.now.plan }
     requires countable { S.failed table.old < 2 ^ 63 }
     requires countable_too { U.failed page.old < 2 ^ 63 }
-    ensures whole { IfOk result (λ lines. MakesPaged (view prepared.now.marked.document) words.now release.now.version.now
+    ensures whole { IfOk result (λ lines. MakesPaged (view prepared.now.marked.document) (string_bytes prepared.now.marked.mark) words.now release.now.version.now
         (S.held table.old) (S.held table.new) (U.held page.old) (U.held page.new) (string_bytes lines)) }
-    ensures part { OnErr result (BeginsPaged (view prepared.now.marked.document) words.now
+    ensures part { OnErr result (BeginsPaged (view prepared.now.marked.document) (string_bytes prepared.now.marked.mark) words.now
         (S.held table.old) (S.held table.new) (U.held page.old) (U.held page.new)) }
     ensures causes { IfErr result (HasCause (view prepared.now.marked.document) words.now.plan) }
+    ensures failures { S.failed table.new + U.failed page.new ≡ (S.failed table.old + U.failed page.old) + sink_failures result }
 {
+    let mark = prepared.marked.mark.as_str();
     let document = &prepared.marked.document;
     let cases = make_runs(
         rt,
         alloc,
-        words,
+        &words.plan,
+        mark,
         document,
         prepared.workers,
         progress,
@@ -165,6 +170,7 @@ fn write_page<U: Sink>(
     ensures whole { OnOk result (WritesPage words.now release.now.version.now cases.now (U.held out.old) (U.held out.new)) }
     ensures part { OnErr result (BeginsPage words.now release.now.version.now cases.now (U.held out.old) (U.held out.new)) }
     ensures causes { (tree : Data) (plan : Sweep) → IfErr result (HasCause tree plan) }
+    ensures failures { U.failed out.new ≡ U.failed out.old + sink_failures result }
 {
     let shown = SweepShown {
         name: words.file,

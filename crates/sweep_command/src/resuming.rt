@@ -1,14 +1,18 @@
 //! What stands of the table of a piece that goes on.
-ghost use Rattle.std.specs.Prelude.{◌≡◌, IfOk, IfErr, string_bytes};
+ghost use Rattle.std.specs.Prelude.{◌≡◌, Some, IfOk, IfErr, string_bytes};
 ghost use Rattle.std.specs.Option.{ForSome};
 ghost use Rattle.toml.specs.View.{view};
 ghost use Rattle.pieces.specs.Pieces.{IsPiece};
 ghost use Rattle.scenario_files.specs.Shelves.{IsUnread};
 ghost use Rattle.sweep.specs.Runs.{IsAskedFor};
-ghost use Rattle.sweep.specs.Resumed.{IsBegun};
+ghost use Rattle.sweep.specs.Resumed.{IsBegun, RefusesBegun};
 ghost use Rattle.sweep.specs.Table.{tells_revived};
+ghost use Rattle.begun_cases.specs.Begun.{IsBegunCases, RefusesBegunCases};
 ghost use Rattle.sweep_command.specs.Outcomes.{CannotGoOn, GoesOn, HeldSoFar, RefusesSoFar, piece_resumed};
+ghost use Rattle.sweep_command.specs.Runs.{AreBegun, RefusesTable};
 
+use begun_cases::begun_cases_of;
+use cases::Plan;
 use command_line::{Failure, PieceFault, SweepWords};
 use files::{Files, ReadFault};
 use pieces::Piece;
@@ -19,10 +23,10 @@ use sweep::{BegunFault, begun_of};
 /// The lines of a piece's table that were made before it was cut off; none where no piece goes on.
 #[derive(Drop)]
 pub(crate) struct Standing {
-    /// The whole lines behind the first.
+    /// The lines behind the first that stay.
     pub(crate) lines: Vec<u8>,
-    /// How many they are.
-    pub(crate) runs: usize,
+    /// Of how many runs they are, or of how many cases where these have as many runs as are enough.
+    pub(crate) count: usize,
 }
 
 /// What stands of the table that the words name, where they ask for a piece that goes on.
@@ -36,10 +40,11 @@ pub(crate) fn find_standing<'a, F: Files>(
 ) -> Result<Standing, Failure<'a>>
     requires asked { IsAskedFor words.now.plan }
     requires piece { ForSome words.now.piece IsPiece }
-    ensures stood { IfOk result (λ s. GoesOn (view marked.now.document) words.now (string_bytes marked.now.mark) (F.known files.old words.now.table.now) s.lines.items s.runs) }
-    ensures failed { IfErr result (CannotGoOn (view marked.now.document) words.now (string_bytes marked.now.mark) (F.known files.old words.now.table.now)) }
+    ensures stood { IfOk result (λ s. GoesOn (view marked.now.document) (string_bytes marked.now.mark) words.now (F.known files.old words.now.table.now) s.lines.items s.count) }
+    ensures failed { IfErr result (CannotGoOn (view marked.now.document) (string_bytes marked.now.mark) words.now (F.known files.old words.now.table.now)) }
     ensures same { F.known files.new ≡ F.known files.old }
     ensures making { F.making files.new ≡ F.making files.old }
+    ensures counted { F.refused files.new ≡ F.refused files.old }
 {
     match piece_resumed(words) {
         Some(piece) => {
@@ -48,7 +53,7 @@ pub(crate) fn find_standing<'a, F: Files>(
         }
         None => Ok(Standing {
             lines: Vec::new(alloc),
-            runs: 0,
+            count: 0,
         }),
     }
 }
@@ -70,6 +75,7 @@ fn text_so_far<'a, F: Files>(
     ensures failed { IfErr result (IsUnread (F.known files.old name.entry.now) name.entry.now) }
     ensures same { F.known files.new ≡ F.known files.old }
     ensures making { F.making files.new ≡ F.making files.old }
+    ensures counted { F.refused files.new ≡ F.refused files.old }
 {
     match files.read(alloc, name) {
         Ok(text) => Ok(text),
@@ -89,25 +95,87 @@ fn standing_in<'a>(
 ) -> Result<Standing, Failure<'a>>
     requires asked { IsAskedFor words.now.plan }
     requires piece { IsPiece piece }
-    ensures begun { IfOk result (λ s. IsBegun (tells_revived (view marked.now.document)) (string_bytes marked.now.mark) words.now.plan piece text.now s.lines.items s.runs) }
-    ensures refused { IfErr result (RefusesSoFar (view marked.now.document) words.now (string_bytes marked.now.mark) piece text.now) }
+    ensures begun { IfOk result (λ s. AreBegun words.now.plan.until (tells_revived (view marked.now.document)) (string_bytes marked.now.mark) words.now.plan piece text.now
+        s.lines.items s.count) }
+    ensures refused { IfErr result (RefusesSoFar (view marked.now.document) (string_bytes marked.now.mark) words.now piece text.now) }
 {
-    match begun_of(
-        alloc,
-        &words.plan,
-        piece,
-        marked.mark.as_str(),
-        &marked.document,
-        text,
-    ) {
-        Ok(begun) => match Vec::from_slice(alloc, begun.lines) {
-            Ok(lines) => Ok(Standing {
-                lines,
-                runs: begun.runs,
-            }),
-            Err(_) => Err(Failure::Memory),
-        },
+    match begun_in(alloc, &words.plan, piece, marked, text) {
+        Ok(standing) => Ok(standing),
         Err(BegunFault::Other) => Err(Failure::Pieces(PieceFault::Other(words.table))),
         Err(BegunFault::Memory) => Err(Failure::Memory),
+    }
+}
+
+/// The same, or why nothing stands there.
+fn begun_in(
+    alloc: Global,
+    plan: &Plan,
+    piece: Piece,
+    marked: &MarkedDocument,
+    text: &[u8],
+) -> Result<Standing, BegunFault>
+    requires asked { IsAskedFor plan.now }
+    requires piece { IsPiece piece }
+    ensures begun { IfOk result (λ s. AreBegun plan.now.until (tells_revived (view marked.now.document)) (string_bytes marked.now.mark) plan.now piece text.now s.lines.items s.count) }
+    ensures refused { IfErr result (RefusesTable plan.now.until (tells_revived (view marked.now.document)) (string_bytes marked.now.mark) plan.now piece text.now) }
+{
+    match plan.until() {
+        Some(width) => cases_begun(alloc, plan, piece, marked, width, text),
+        None => runs_begun(alloc, plan, piece, marked, text),
+    }
+}
+
+/// The same of a piece whose cases run with all seeds.
+fn runs_begun(
+    alloc: Global,
+    plan: &Plan,
+    piece: Piece,
+    marked: &MarkedDocument,
+    text: &[u8],
+) -> Result<Standing, BegunFault>
+    requires asked { IsAskedFor plan.now }
+    requires piece { IsPiece piece }
+    ensures begun { IfOk result (λ s. IsBegun (tells_revived (view marked.now.document)) (string_bytes marked.now.mark) plan.now piece text.now s.lines.items s.count) }
+    ensures refused { IfErr result (RefusesBegun (tells_revived (view marked.now.document)) (string_bytes marked.now.mark) plan.now piece text.now) }
+{
+    let mark = marked.mark.as_str();
+    match begun_of(alloc, plan, piece, mark, &marked.document, text) {
+        Ok(begun) => standing_of(alloc, begun.lines, begun.runs),
+        Err(fault) => Err(fault),
+    }
+}
+
+/// The same of a piece whose cases have as many runs as make their intervals at most so many hundredths wide.
+fn cases_begun(
+    alloc: Global,
+    plan: &Plan,
+    piece: Piece,
+    marked: &MarkedDocument,
+    width: u64,
+    text: &[u8],
+) -> Result<Standing, BegunFault>
+    requires asked { IsAskedFor plan.now }
+    requires piece { IsPiece piece }
+    requires wanted { plan.now.until ≡ Some width }
+    ensures begun { IfOk result
+        (λ s. IsBegunCases (tells_revived (view marked.now.document)) (string_bytes marked.now.mark) plan.now width piece text.now s.lines.items s.count) }
+    ensures refused { IfErr result (RefusesBegunCases (tells_revived (view marked.now.document)) (string_bytes marked.now.mark) plan.now width piece text.now) }
+{
+    let mark = marked.mark.as_str();
+    match begun_cases_of(alloc, plan, piece, mark, width, &marked.document, text) {
+        Ok(begun) => standing_of(alloc, begun.lines, begun.cases),
+        Err(fault) => Err(fault),
+    }
+}
+
+/// These lines, of so many.
+fn standing_of(alloc: Global, lines: &[u8], count: usize) -> Result<Standing, BegunFault>
+    ensures lines { IfOk result (λ s. s.lines.items ≡ lines.now) }
+    ensures count { IfOk result (λ s. s.count ≡ count) }
+    ensures memory { IfErr result (λ fault. fault ≡ BegunFault.Memory) }
+{
+    match Vec::from_slice(alloc, lines) {
+        Ok(lines) => Ok(Standing { lines, count }),
+        Err(_) => Err(BegunFault::Memory),
     }
 }

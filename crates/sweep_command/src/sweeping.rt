@@ -1,18 +1,19 @@
 //! Many runs of the scenario of a file, and the file that takes their table.
-ghost use Rattle.std.specs.Prelude.{◌≡◌, ◌<◌, ◌^◌, All, Some, None, false, true, [], IfOk, IfErr, OnOk, OnErr, string_bytes};
+ghost use Rattle.std.specs.Prelude.{◌≡◌, ◌<◌, ◌^◌, ◌+◌, All, Some, false, [], IfOk, IfErr, OnOk, OnErr, string_bytes};
 ghost use Rattle.std.specs.Option.{ForSome};
 ghost use Rattle.toml.specs.View.{view};
 ghost use Rattle.pieces.specs.Pieces.{IsPiece};
 ghost use Rattle.answers.specs.Wants.{IsBounded};
-ghost use Rattle.trace.specs.Writers.{writer_under};
+ghost use Rattle.trace.specs.Writers.{put_failures, writer_under};
+ghost use Rattle.outputs.specs.Written.{sink_failures};
 ghost use Rattle.sweep.specs.Runs.{IsAskedFor};
 ghost use Rattle.sweep.specs.Judged.{AreAccepted};
 ghost use Rattle.sweep.specs.Table.{HasCause};
-ghost use Rattle.sweep_command.specs.Outcomes.{AreApart, BeginsAsked, BeginsPart, FitPiece, GoesOn, MakesAsked, MakesLines, MakesPart, StoreFails, StoresAsked, StoresPlain, SweepFails, SweepsAll, TableFails};
-ghost use Rattle.sweep_command.specs.Runs.{BeginsRuns};
+ghost use Rattle.sweep_command.specs.Outcomes.{AreApart, BeginsAsked, BeginsPart, FitResumed, GoesOn, MakesAsked, MakesLines, MakesPart, StoreFails, StoresAsked, StoresPlain, SweepFails, SweepsAll, TableFails};
+ghost use Rattle.sweep_command.specs.Runs.{BeginsAllRuns};
 
 use crate::checks::{PreparedSweep, prepare_sweep};
-use crate::making::{make_piece, make_runs};
+use crate::making::{make_piece, make_rest, make_runs};
 use crate::paging::store_paged;
 use crate::progressing::RunLines;
 use crate::resuming::{Standing, find_standing};
@@ -25,7 +26,7 @@ use scenario_files::{file_failure, run_told};
 use std::alloc::Global;
 use std::io::Write;
 use std::thread::Threads;
-use sweep::{Begun, NoProgress, Progress, tells_revived, write_rest};
+use sweep::{NoProgress, Progress, tells_revived};
 use trace::{Put, Sink};
 
 /// Makes the runs that the words of a sweep ask for, and writes their table to a file, and a page of
@@ -45,11 +46,9 @@ pub fn sweep_file<'a, F: Files, P: Write>(
     requires asked { IsAskedFor words.now.plan }
     requires piece { ForSome words.now.piece IsPiece }
     requires wants { All IsBounded words.now.wants.items }
-    requires alone { ForSome words.now.page (λ _. words.now.piece ≡ None) }
-    requires seeds { words.now.resume ≡ true → words.now.plan.until ≡ None }
     ensures done { IfOk result
         (λ lines. SweepsAll release.now.version.now (F.known files.old) (F.known files.new) (F.making files.old) words.now (string_bytes lines)) }
-    ensures failed { IfErr result (SweepFails (F.known files.old) (F.known files.new) (F.making files.old) words.now) }
+    ensures failed { IfErr result (SweepFails (F.refused files.old < F.refused files.new) (F.known files.old) (F.known files.new) (F.making files.old) words.now) }
     ensures unasked { words.now.progress ≡ false → progress.new ≡ progress.old }
 {
     let prepared = prepare_sweep(alloc, words, files)?;
@@ -73,14 +72,13 @@ fn store_asked<'a, F: Files, P: Write>(
     requires asked { IsAskedFor words.now.plan }
     requires piece { ForSome words.now.piece IsPiece }
     requires wants { All IsBounded words.now.wants.items }
-    requires alone { ForSome words.now.page (λ _. words.now.piece ≡ None) }
     requires judged { AreAccepted (view prepared.now.marked.document) words.now.plan }
-    requires stood { GoesOn (view prepared.now.marked.document) words.now (string_bytes prepared.now.marked.mark) (F.known files.old words.now.table.now) stood.now.lines.items stood.now.runs }
-    ensures done { IfOk result (λ lines. StoresAsked words.now.piece (view prepared.now.marked.document) words.now release.now.version.now (string_bytes prepared.now.marked.mark)
+    requires stood { GoesOn (view prepared.now.marked.document) (string_bytes prepared.now.marked.mark) words.now (F.known files.old words.now.table.now) stood.now.lines.items stood.now.count }
+    ensures done { IfOk result (λ lines. StoresAsked words.now.page (view prepared.now.marked.document) (string_bytes prepared.now.marked.mark) words.now release.now.version.now
         (F.known files.old) (F.known files.new) (string_bytes lines)) }
     ensures apart { OnOk result (AreApart words.now.page (F.making files.old) words.now.file.now words.now.table.now) }
-    ensures failed { IfErr result (StoreFails words.now.page (view prepared.now.marked.document) (string_bytes prepared.now.marked.mark) (F.known files.old) (F.known files.new)
-        (F.making files.old) words.now) }
+    ensures failed { IfErr result (StoreFails words.now.page (F.refused files.old < F.refused files.new) (view prepared.now.marked.document) (string_bytes prepared.now.marked.mark)
+        (F.known files.old) (F.known files.new) (F.making files.old) words.now) }
     ensures unasked { words.now.progress ≡ false → progress.new ≡ progress.old }
 {
     match words.page {
@@ -103,12 +101,12 @@ fn store_table<'a, F: Files, P: Write>(
     requires piece { ForSome words.now.piece IsPiece }
     requires wants { All IsBounded words.now.wants.items }
     requires judged { AreAccepted (view prepared.now.marked.document) words.now.plan }
-    requires stood { GoesOn (view prepared.now.marked.document) words.now (string_bytes prepared.now.marked.mark) (F.known files.old words.now.table.now) stood.now.lines.items stood.now.runs }
-    ensures done { IfOk result (λ lines. StoresPlain words.now.piece (view prepared.now.marked.document) words.now (string_bytes prepared.now.marked.mark)
+    requires stood { GoesOn (view prepared.now.marked.document) (string_bytes prepared.now.marked.mark) words.now (F.known files.old words.now.table.now) stood.now.lines.items stood.now.count }
+    ensures done { IfOk result (λ lines. StoresPlain words.now.piece (view prepared.now.marked.document) (string_bytes prepared.now.marked.mark) words.now
         (F.known files.old) (F.known files.new) (string_bytes lines)) }
     ensures apart { OnOk result ((F.making files.old).are_one words.now.file.now words.now.table.now ≡ false) }
-    ensures failed { IfErr result (TableFails (view prepared.now.marked.document) (string_bytes prepared.now.marked.mark) (F.known files.old) (F.known files.new)
-        (F.making files.old) words.now) }
+    ensures failed { IfErr result (TableFails (F.refused files.old < F.refused files.new) (view prepared.now.marked.document) (string_bytes prepared.now.marked.mark)
+        (F.known files.old) (F.known files.new) (F.making files.old) words.now) }
     ensures unasked { words.now.progress ≡ false → progress.new ≡ progress.old }
 {
     let made = match files.make(words.file, words.table) {
@@ -116,7 +114,7 @@ fn store_table<'a, F: Files, P: Write>(
         Err(fault) => return Err(file_failure(fault, words.table)),
     };
     let (made, outcome) = fill_table(rt, alloc, words, prepared, stood, made, progress);
-    files.close(words.table, made.into_inner());
+    files.close(words.table, made);
     run_told(outcome)
 }
 
@@ -134,12 +132,13 @@ fn fill_table<T: Write, P: Write>(
     requires piece { ForSome words.now.piece IsPiece }
     requires wants { All IsBounded words.now.wants.items }
     requires judged { AreAccepted (view prepared.now.marked.document) words.now.plan }
-    requires few { FitPiece words.now words.now.piece stood.now.runs }
-    ensures whole { IfOk result.1 (λ lines. MakesAsked words.now.piece (view prepared.now.marked.document) words.now (string_bytes prepared.now.marked.mark) stood.now.lines.items stood.now.runs
+    requires few { FitResumed words.now words.now.piece stood.now.count }
+    ensures whole { IfOk result.1 (λ lines. MakesAsked words.now.piece (view prepared.now.marked.document) (string_bytes prepared.now.marked.mark) words.now stood.now.lines.items stood.now.count
         (T.contents table) (T.contents (writer_under result.0)) (string_bytes lines)) }
-    ensures part { OnErr result.1 (BeginsAsked words.now.piece (view prepared.now.marked.document) words.now (string_bytes prepared.now.marked.mark) stood.now.lines.items stood.now.runs
+    ensures part { OnErr result.1 (BeginsAsked words.now.piece (view prepared.now.marked.document) (string_bytes prepared.now.marked.mark) words.now stood.now.lines.items stood.now.count
         (T.contents table) (T.contents (writer_under result.0))) }
     ensures causes { IfErr result.1 (HasCause (view prepared.now.marked.document) words.now.plan) }
+    ensures failures { put_failures result.0 ≡ sink_failures result.1 }
     ensures unasked { words.now.progress ≡ false → progress.new ≡ progress.old }
 {
     let mut table = Put::new(table);
@@ -174,13 +173,14 @@ fn tell_asked<S: Sink, P: Progress>(
     requires piece { ForSome words.now.piece IsPiece }
     requires wants { All IsBounded words.now.wants.items }
     requires judged { AreAccepted (view prepared.now.marked.document) words.now.plan }
-    requires few { FitPiece words.now words.now.piece stood.now.runs }
+    requires few { FitResumed words.now words.now.piece stood.now.count }
     requires countable { S.failed table.old < 2 ^ 63 }
-    ensures whole { IfOk result (λ lines. MakesAsked words.now.piece (view prepared.now.marked.document) words.now (string_bytes prepared.now.marked.mark) stood.now.lines.items stood.now.runs
+    ensures whole { IfOk result (λ lines. MakesAsked words.now.piece (view prepared.now.marked.document) (string_bytes prepared.now.marked.mark) words.now stood.now.lines.items stood.now.count
         (S.held table.old) (S.held table.new) (string_bytes lines)) }
-    ensures part { OnErr result (BeginsAsked words.now.piece (view prepared.now.marked.document) words.now (string_bytes prepared.now.marked.mark) stood.now.lines.items stood.now.runs
+    ensures part { OnErr result (BeginsAsked words.now.piece (view prepared.now.marked.document) (string_bytes prepared.now.marked.mark) words.now stood.now.lines.items stood.now.count
         (S.held table.old) (S.held table.new)) }
     ensures causes { IfErr result (HasCause (view prepared.now.marked.document) words.now.plan) }
+    ensures failures { S.failed table.new ≡ S.failed table.old + sink_failures result }
 {
     match words.piece {
         Some(piece) => tell_piece(rt, alloc, words, prepared, stood, piece, progress, table),
@@ -202,14 +202,15 @@ fn tell_piece<S: Sink, P: Progress>(
     requires asked { IsAskedFor words.now.plan }
     requires piece { IsPiece piece }
     requires judged { AreAccepted (view prepared.now.marked.document) words.now.plan }
-    requires few { FitPiece words.now (Some piece) stood.now.runs }
+    requires few { FitResumed words.now (Some piece) stood.now.count }
     requires countable { S.failed table.old < 2 ^ 63 }
-    ensures whole { OnOk result (MakesPart words.now.resume (view prepared.now.marked.document) words.now (string_bytes prepared.now.marked.mark) piece stood.now.lines.items stood.now.runs
+    ensures whole { OnOk result (MakesPart words.now.resume (view prepared.now.marked.document) (string_bytes prepared.now.marked.mark) words.now piece stood.now.lines.items stood.now.count
         (S.held table.old) (S.held table.new)) }
     ensures untold { IfOk result (λ lines. string_bytes lines ≡ []) }
-    ensures part { OnErr result (BeginsPart words.now.resume (view prepared.now.marked.document) words.now (string_bytes prepared.now.marked.mark) piece stood.now.lines.items stood.now.runs
+    ensures part { OnErr result (BeginsPart words.now.resume (view prepared.now.marked.document) (string_bytes prepared.now.marked.mark) words.now piece stood.now.lines.items stood.now.count
         (S.held table.old) (S.held table.new)) }
     ensures causes { IfErr result (HasCause (view prepared.now.marked.document) words.now.plan) }
+    ensures failures { S.failed table.new ≡ S.failed table.old + sink_failures result }
 {
     write_part(rt, alloc, words, prepared, stood, piece, progress, table)?;
     Ok(String::new(alloc))
@@ -230,25 +231,24 @@ fn write_part<S: Sink, P: Progress>(
     requires asked { IsAskedFor words.now.plan }
     requires piece { IsPiece piece }
     requires judged { AreAccepted (view prepared.now.marked.document) words.now.plan }
-    requires few { FitPiece words.now (Some piece) stood.now.runs }
+    requires few { FitResumed words.now (Some piece) stood.now.count }
     requires countable { S.failed table.old < 2 ^ 63 }
-    ensures whole { OnOk result (MakesPart words.now.resume (view prepared.now.marked.document) words.now (string_bytes prepared.now.marked.mark) piece stood.now.lines.items stood.now.runs
+    ensures whole { OnOk result (MakesPart words.now.resume (view prepared.now.marked.document) (string_bytes prepared.now.marked.mark) words.now piece stood.now.lines.items stood.now.count
         (S.held table.old) (S.held table.new)) }
-    ensures part { OnErr result (BeginsPart words.now.resume (view prepared.now.marked.document) words.now (string_bytes prepared.now.marked.mark) piece stood.now.lines.items stood.now.runs
+    ensures part { OnErr result (BeginsPart words.now.resume (view prepared.now.marked.document) (string_bytes prepared.now.marked.mark) words.now piece stood.now.lines.items stood.now.count
         (S.held table.old) (S.held table.new)) }
     ensures causes { IfErr result (HasCause (view prepared.now.marked.document) words.now.plan) }
+    ensures failures { S.failed table.new ≡ S.failed table.old + sink_failures result }
 {
     let mark = prepared.marked.mark.as_str();
     let document = &prepared.marked.document;
     let plan = &words.plan;
     let workers = prepared.workers;
     if words.resume {
-        let begun = Begun {
-            lines: stood.lines.as_slice(),
-            runs: stood.runs,
-        };
-        return write_rest(
-            rt, alloc, plan, piece, mark, begun, document, workers, progress, table,
+        let lines = stood.lines.as_slice();
+        let count = stood.count;
+        return make_rest(
+            rt, alloc, plan, piece, mark, lines, count, document, workers, progress, table,
         );
     }
     make_piece(
@@ -269,15 +269,18 @@ fn tell_runs<S: Sink, P: Progress>(
     requires asked { IsAskedFor words.now.plan }
     requires judged { AreAccepted (view prepared.now.marked.document) words.now.plan }
     requires countable { S.failed table.old < 2 ^ 63 }
-    ensures whole { IfOk result (λ lines. MakesLines (view prepared.now.marked.document) words.now (S.held table.old) (S.held table.new) (string_bytes lines)) }
-    ensures part { OnErr result (BeginsRuns words.now.plan.until (view prepared.now.marked.document) words.now.plan (S.held table.old) (S.held table.new)) }
+    ensures whole { IfOk result (λ lines. MakesLines (view prepared.now.marked.document) (string_bytes prepared.now.marked.mark) words.now (S.held table.old) (S.held table.new) (string_bytes lines)) }
+    ensures part { OnErr result (BeginsAllRuns words.now.plan.until (view prepared.now.marked.document) (string_bytes prepared.now.marked.mark) words.now.plan (S.held table.old) (S.held table.new)) }
     ensures causes { IfErr result (HasCause (view prepared.now.marked.document) words.now.plan) }
+    ensures failures { S.failed table.new ≡ S.failed table.old + sink_failures result }
 {
+    let mark = prepared.marked.mark.as_str();
     let document = &prepared.marked.document;
     let cases = make_runs(
         rt,
         alloc,
-        words,
+        &words.plan,
+        mark,
         document,
         prepared.workers,
         progress,

@@ -29,21 +29,21 @@ no_failure (Run cause) e = omega arith
 no_failure Memory e = omega arith
 
 -- status 2 is for words that are no command, and for the key of an item that the text hasn't
-is_usage : (words : List Text) (before after : Shelf) (making : Making) (old new : Option (List ℕ)) (failure : Failure) → status_of failure ≡ 2
-    → (failure ≡ Usage → IsNoCommand words) → (failure ≡ Preset → IsNoCommand words) → Fails words before after making old new failure → IsNoCommand words ⊎ SetsNoItem words before
-is_usage words before after making old new (File name) e usage preset fails = absurd (omega arith)
-is_usage words before after making old new Output e usage preset fails = absurd (omega arith)
-is_usage words before after making old new Usage e usage preset fails = inl (usage refl)
-is_usage words before after making old new Preset e usage preset fails = inl (preset refl)
-is_usage words before after making old new (NoItem key) e usage preset fails = inr (sweep_item words before after making fails.0 key fails.1 fails.2)
-is_usage words before after making old new (Rule number) e usage preset fails = absurd (omega arith)
-is_usage words before after making old new (Mistaken number) e usage preset fails = absurd (omega arith)
-is_usage words before after making old new (Case number settings) e usage preset fails = absurd (omega arith)
-is_usage words before after making old new (Pieces cause) e usage preset fails = absurd (omega arith)
-is_usage words before after making old new Workers e usage preset fails = absurd (omega arith)
-is_usage words before after making old new (Division cause) e usage preset fails = absurd (omega arith)
-is_usage words before after making old new (Run cause) e usage preset fails = absurd (omega arith)
-is_usage words before after making old new Memory e usage preset fails = absurd (omega arith)
+is_usage : (Refused : Type 0) (words : List Text) (before after : Shelf) (making : Making) (old new : Option (List ℕ)) (failure : Failure) → status_of failure ≡ 2
+    → (failure ≡ Usage → IsNoCommand words) → (failure ≡ Preset → IsNoCommand words) → Fails Refused words before after making old new failure → IsNoCommand words ⊎ SetsNoItem words before
+is_usage Refused words before after making old new (File name) e usage preset fails = absurd (omega arith)
+is_usage Refused words before after making old new Output e usage preset fails = absurd (omega arith)
+is_usage Refused words before after making old new Usage e usage preset fails = inl (usage refl)
+is_usage Refused words before after making old new Preset e usage preset fails = inl (preset refl)
+is_usage Refused words before after making old new (NoItem key) e usage preset fails = inr (sweep_item Refused words before after making fails.0 key fails.1 fails.2)
+is_usage Refused words before after making old new (Rule number) e usage preset fails = absurd (omega arith)
+is_usage Refused words before after making old new (Mistaken number) e usage preset fails = absurd (omega arith)
+is_usage Refused words before after making old new (Case number settings) e usage preset fails = absurd (omega arith)
+is_usage Refused words before after making old new (Pieces cause) e usage preset fails = absurd (omega arith)
+is_usage Refused words before after making old new Workers e usage preset fails = absurd (omega arith)
+is_usage Refused words before after making old new (Division cause) e usage preset fails = absurd (omega arith)
+is_usage Refused words before after making old new (Run cause) e usage preset fails = absurd (omega arith)
+is_usage Refused words before after making old new Memory e usage preset fails = absurd (omega arith)
 
 -- standard output that failed has status 1
 not_output : (failure : Failure) → 2 ≤ status_of failure → failure ≢ Output
@@ -67,33 +67,33 @@ has_three (Division cause) is = absurd is
 has_three (Run cause) is = absurd is
 has_three Memory is = absurd is
 
-asks_to_explain : (words : List Text) (before after : Shelf) (making : Making) (old new : Option (List ℕ)) (failure : Failure)
-    → Fails words before after making old new failure → IsMistaken failure → AsksToExplain words
-asks_to_explain words before after making old new (Mistaken number) fails is = (fails.0, fails.1)
-asks_to_explain words before after making old new (File name) fails is = absurd is
-asks_to_explain words before after making old new Output fails is = absurd is
-asks_to_explain words before after making old new Usage fails is = absurd is
-asks_to_explain words before after making old new Preset fails is = absurd is
-asks_to_explain words before after making old new (NoItem key) fails is = absurd is
-asks_to_explain words before after making old new (Rule number) fails is = absurd is
-asks_to_explain words before after making old new (Case number settings) fails is = absurd is
-asks_to_explain words before after making old new (Pieces cause) fails is = absurd is
-asks_to_explain words before after making old new Workers fails is = absurd is
-asks_to_explain words before after making old new (Division cause) fails is = absurd is
-asks_to_explain words before after making old new (Run cause) fails is = absurd is
-asks_to_explain words before after making old new Memory fails is = absurd is
+asks_to_explain : (Refused : Type 0) (words : List Text) (before after : Shelf) (making : Making) (old new : Option (List ℕ)) (failure : Failure)
+    → Fails Refused words before after making old new failure → IsMistaken failure → AsksToExplain words
+asks_to_explain Refused words before after making old new (Mistaken number) fails is = (fails.0, fails.1)
+asks_to_explain Refused words before after making old new (File name) fails is = absurd is
+asks_to_explain Refused words before after making old new Output fails is = absurd is
+asks_to_explain Refused words before after making old new Usage fails is = absurd is
+asks_to_explain Refused words before after making old new Preset fails is = absurd is
+asks_to_explain Refused words before after making old new (NoItem key) fails is = absurd is
+asks_to_explain Refused words before after making old new (Rule number) fails is = absurd is
+asks_to_explain Refused words before after making old new (Case number settings) fails is = absurd is
+asks_to_explain Refused words before after making old new (Pieces cause) fails is = absurd is
+asks_to_explain Refused words before after making old new Workers fails is = absurd is
+asks_to_explain Refused words before after making old new (Division cause) fails is = absurd is
+asks_to_explain Refused words before after making old new (Run cause) fails is = absurd is
+asks_to_explain Refused words before after making old new Memory fails is = absurd is
 
-not_mistaken : (words : List Text) (before after : Shelf) (making : Making) (old new : Option (List ℕ)) (failure : Failure)
-    → Fails words before after making old new failure → (¬ (AsksToExplain words)) ⊎ (status_of failure ≢ 3) → ¬ (IsMistaken failure)
-not_mistaken words before after making old new failure fails (inl none) = λ is. none (asks_to_explain words before after making old new failure fails is)
-not_mistaken words before after making old new failure fails (inr other) = λ is. other (has_three failure is)
+not_mistaken : (Refused : Type 0) (words : List Text) (before after : Shelf) (making : Making) (old new : Option (List ℕ)) (failure : Failure)
+    → Fails Refused words before after making old new failure → (¬ (AsksToExplain words)) ⊎ (status_of failure ≢ 3) → ¬ (IsMistaken failure)
+not_mistaken Refused words before after making old new failure fails (inl none) = λ is. none (asks_to_explain Refused words before after making old new failure fails is)
+not_mistaken Refused words before after making old new failure fails (inr other) = λ is. other (has_three failure is)
 
 -- the same of the status that was answered
-untold : (words : List Text) (before after : Shelf) (making : Making) (old new : Option (List ℕ)) (failure : Failure) (status : ℕ)
-    → status ≡ status_of failure → Fails words before after making old new failure → (¬ (AsksToExplain words)) ⊎ (status ≢ 3) → ¬ (IsMistaken failure)
-untold words before after making old new failure status is fails (inl none) = not_mistaken words before after making old new failure fails (inl none)
-untold words before after making old new failure status is fails (inr other) =
-    not_mistaken words before after making old new failure fails (inr (λ three. other (is ∙ three)))
+untold : (Refused : Type 0) (words : List Text) (before after : Shelf) (making : Making) (old new : Option (List ℕ)) (failure : Failure) (status : ℕ)
+    → status ≡ status_of failure → Fails Refused words before after making old new failure → (¬ (AsksToExplain words)) ⊎ (status ≢ 3) → ¬ (IsMistaken failure)
+untold Refused words before after making old new failure status is fails (inl none) = not_mistaken Refused words before after making old new failure fails (inl none)
+untold Refused words before after making old new failure status is fails (inr other) =
+    not_mistaken Refused words before after making old new failure fails (inr (λ three. other (is ∙ three)))
 
 -- the status of words that are no command, or of memory
 two_or_five : (failure : Failure) (status : ℕ) → status ≡ status_of failure → (failure ≡ Usage) ⊎ ((failure ≡ Preset) ⊎ (failure ≡ Memory)) → (status ≡ 2) ⊎ (status ≡ 5)
@@ -126,7 +126,7 @@ returns-in-Err-clause-failed g c _ = record {
 
 pub returns-in-Err-clause-usage : goal.returns-in-Err-clause-usage
 returns-in-Err-clause-usage g c e =
-    is_usage _ _ _ _ _ _ c.in-Err.failure (sym c.refuse.ensures.status ∙ e) (λ is. c.in-Err.ensures.usage (ap Err is)) (λ is. c.in-Err.ensures.preset (ap Err is)) c.in-Err.ensures.failed
+    is_usage _ _ _ _ _ _ _ c.in-Err.failure (sym c.refuse.ensures.status ∙ e) (λ is. c.in-Err.ensures.usage (ap Err is)) (λ is. c.in-Err.ensures.preset (ap Err is)) c.in-Err.ensures.failed
 
 pub returns-in-Err-clause-other : goal.returns-in-Err-clause-other
 returns-in-Err-clause-other g c none = two_or_five c.in-Err.failure c.refuse.result c.refuse.ensures.status (c.in-Err.ensures.other none)
@@ -135,7 +135,7 @@ pub returns-in-Err-clause-silent : goal.returns-in-Err-clause-silent
 returns-in-Err-clause-silent g c low other =
     let status = c.refuse.ensures.status in
     c.in-Err.ensures.silent (not_output c.in-Err.failure (omega (arith, status)))
-    (untold _ _ _ _ _ _ c.in-Err.failure c.refuse.result status c.in-Err.ensures.failed other)
+    (untold _ _ _ _ _ _ _ c.in-Err.failure c.refuse.result status c.in-Err.ensures.failed other)
 
 pub returns-in-Err-clause-quiet : goal.returns-in-Err-clause-quiet
 returns-in-Err-clause-quiet g c e = absurd (no_failure c.in-Err.failure (sym c.refuse.ensures.status ∙ e))

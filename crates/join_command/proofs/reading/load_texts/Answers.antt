@@ -13,6 +13,7 @@ loop-name-preserved g c =
       so = text_more (known c.args.files.now) (known loop.files) loop.invariant.same c.args.names.now loop.name-index _ c.loop-name-test.true _ _ _ loop.invariant.so c.in_ok-bytes.ensures.read pushed;
       same = c.in_ok-bytes.ensures.same ∙ loop.invariant.same;
       making = c.in_ok-bytes.ensures.making ∙ loop.invariant.making;
+      counted = c.in_ok-bytes.ensures.counted ∙ loop.invariant.counted;
     }
 
 pub returns-in_err-bytes-clause-failed : goal.returns-in_err-bytes-clause-failed

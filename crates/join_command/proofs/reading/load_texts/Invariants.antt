@@ -8,4 +8,5 @@ invariant-loop-name g l = record {
   so : HoldTexts (g.F.Files.known l.fn.files) (take l.name-index l.names) l.texts.items;
   same : g.F.Files.known l.files ≡ g.F.Files.known l.fn.files;
   making : g.F.Files.making l.files ≡ g.F.Files.making l.fn.files;
+  counted : g.F.Files.refused l.files ≡ g.F.Files.refused l.fn.files;
 }

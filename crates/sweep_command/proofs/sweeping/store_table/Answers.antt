@@ -1,6 +1,7 @@
 -- what the file holds of a sweep that was done, and of one that broke off
-use Rattle.std.proofs.Common.{ap}
 use Rattle.scenario_files.proofs.Held.{each_ok, told_done, told_failed}
+use Rattle.case_telling.proofs.Counted.{one_closed}
+use Rattle.sweep_command.proofs.Refused.{is_caused}
 use Rattle.sweep_command.proofs.Tables.{each_err_with, stood_few, table_begun, table_stored}
 use Rattle.sweep_command.proofs.sweeping.store_table.Goals as goal
 
@@ -11,20 +12,19 @@ pub returns-clause-done : goal.returns-clause-done
 returns-clause-done g c =
     let known = g.F.Files.known in
     let filled = c.fill_table-made in
-    let holds = g.F.Made.Write.contents in
     told_done _ filled.result.1 c.run_told.result c.run_told.ensures (each_ok filled.result.1 filled.ensures.whole (λ lines tells.
-    table_stored _ _ _ (known c.args.files.now) (known c.make.new.self) (known c.close.new.self) _ _ _ _ _
-    c.in-Ok.ensures.others c.close.ensures.others c.in-Ok.ensures.empty c.in-Ok.ensures.made c.close.ensures.closed (ap holds c.into_inner.ensures) c.args.words.now.piece _ c.requires.stood tells))
+    table_stored _ _ _ (known c.args.files.now) (known c.make.new.self) (known c.close.new.self) _ _ _ _
+    c.in-Ok.ensures.others c.close.ensures.others c.in-Ok.ensures.empty c.in-Ok.ensures.made c.close.ensures.closed c.args.words.now.piece _ c.requires.stood tells))
 
 pub returns-clause-failed : goal.returns-clause-failed
 returns-clause-failed g c =
     let known = g.F.Files.known in
     let filled = c.fill_table-made in
-    let holds = g.F.Made.Write.contents in
+    let counted = one_closed _ _ _ _ c.make.ensures.counted c.close.ensures.refused in
     told_failed _ filled.result.1 c.run_told.result c.run_told.ensures
-    (each_err_with filled.result.1 filled.ensures.part filled.ensures.causes (λ cause begins caused. (
+    (each_err_with filled.result.1 filled.ensures.part (is_caused _ _ filled.result.1 _ _ _ counted filled.ensures.failures filled.ensures.causes) (λ cause begins caused. (
       c.in-Ok.ensures.apart,
-      table_begun _ _ _ (known c.args.files.now) (known c.make.new.self) (known c.close.new.self) _ _ _ _ _
-          c.in-Ok.ensures.others c.close.ensures.others c.in-Ok.ensures.empty c.in-Ok.ensures.made c.close.ensures.closed (ap holds c.into_inner.ensures)
-          c.args.words.now.piece cause c.requires.stood begins caused,
+      table_begun _ _ _ (known c.args.files.now) (known c.make.new.self) (known c.close.new.self) _ _ _ _
+          c.in-Ok.ensures.others c.close.ensures.others c.in-Ok.ensures.empty c.in-Ok.ensures.made c.close.ensures.closed
+          _ cause caused c.args.words.now.piece c.requires.stood begins,
     )))

@@ -1,11 +1,11 @@
 -- what is asked for is the piece, where one is named, and else the whole
 use Rattle.std.proofs.Common.{string_bytes, subst}
-use Rattle.sweep_command.specs.Outcomes.{FitPiece}
+use Rattle.sweep_command.specs.Outcomes.{FitResumed}
 use Rattle.sweep_command.proofs.Tables.{piece_begun, piece_told, whole_begun, whole_told}
 use Rattle.sweep_command.proofs.sweeping.tell_asked.Goals as goal
 
 pub tell_piece-requires-clause-few : goal.tell_piece-requires-clause-few
-tell_piece-requires-clause-few g c _ _ = subst (λ p. FitPiece c.args.words.now p c.args.stood.now.runs) c.in-Some.is c.requires.few
+tell_piece-requires-clause-few g c _ _ = subst (λ p. FitResumed c.args.words.now p c.args.stood.now.count) c.in-Some.is c.requires.few
 
 pub returns-in-Some-clause-whole : goal.returns-in-Some-clause-whole
 returns-in-Some-clause-whole g c =

@@ -1,22 +1,22 @@
 -- what is told of the cases; where that finds no memory, the whole table is there
-use Rattle.std.proofs.Common.{List, string_bytes, subst, sym}
+use Rattle.std.proofs.Common.{ℕ, List, string_bytes, subst, sym}
 use Rattle.std.specs.Prelude.{All}
 use Rattle.answers.specs.Wants.{HasFewRuns}
 use Rattle.figures.specs.declared.summary.CaseSummary.{CaseSummary}
 use Rattle.sweep_command.proofs.Few.{few_runs_each}
 use Rattle.sweep_command.proofs.Told.{told_as}
-use Rattle.sweep_command.proofs.Tables.{all_begins, each_err_of}
+use Rattle.sweep_command.proofs.Tables.{all_begins, each_err_of, marked_makes}
 use Rattle.sweep_command.proofs.sweeping.tell_runs.Goals as goal
 
 pub cases_told-requires-clause-few : goal.cases_told-requires-clause-few
-cases_told-requires-clause-few g c = subst (All HasFewRuns) (sym c.deref-2.ensures.value) (few_runs_each _ _ _ _ _ _ c.requires.asked c.in_ok-cases.ensures.whole)
+cases_told-requires-clause-few g c = subst (All HasFewRuns) (sym c.deref-2.ensures.value) (few_runs_each _ _ _ _ _ _ _ c.requires.asked c.in_ok-cases.ensures.whole)
 
 pub returns-clause-whole : goal.returns-clause-whole
 returns-clause-whole g c = record {
   cases = c.in_ok-cases.cases.items;
-  makes = c.in_ok-cases.ensures.whole;
+  makes = marked_makes _ _ _ _ _ _ _ _ c.as_str-mark.ensures.value c.in_ok-cases.ensures.whole;
   text = told_as _ _ _ _ _ _ _ _ _ c.tells_revived-revived.ensures c.deref.ensures.value c.deref-2.ensures.value c.in_ok-lines.ensures;
 }
 
 pub returns-in_err-lines-clause-part : goal.returns-in_err-lines-clause-part
-returns-in_err-lines-clause-part g c = each_err_of c.from_residual-in_err-lines.result (all_begins _ _ _ _ _ _ c.in_ok-cases.ensures.whole)
+returns-in_err-lines-clause-part g c = each_err_of c.from_residual-in_err-lines.result (all_begins _ _ _ _ _ _ _ (marked_makes _ _ _ _ _ _ _ _ c.as_str-mark.ensures.value c.in_ok-cases.ensures.whole))
