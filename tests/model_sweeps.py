@@ -126,17 +126,6 @@ def word(value):
     return str(value).lower()
 
 
-def table_of(settings, cases):
-    """The table's text."""
-    names = without_revived(RUN_FIGURES, cases)
-    lines = [[*(key for key, _ in settings), 'seed', *names]]
-    lines += [[*map(word, case), seed, *(figures[name] for name in names)]
-              for case, runs in cases for seed, figures in runs]
-    return ''.join(','.join(map(str, line)) + '\n' for line in lines)
-
-
-# ---- Pieces ----
-
 def note_of(figures):
     """What a case keeps of a run, as it is written."""
     told = [figures['false_suspect'], figures['thrown_out'], figures['revived'], figures['sent'],
@@ -145,18 +134,32 @@ def note_of(figures):
     return ' '.join(map(str, [*told, *('-' if time is None else time for crash in times for time in crash)]))
 
 
-def piece_of(text, settings, words, cases, number, pieces, until=None):
-    """The table of a piece of a sweep over the bytes of a text; `words` are those of its seeds, its width and its
-    settings. With a width a piece has whole cases, else runs."""
-    header, *lines = table_of(settings, cases).splitlines(keepends=True)
-    notes = [note_of(figures) for _, runs in cases for _, figures in runs]
-    name = f'{number}/{pieces} {hashlib.sha256(text).hexdigest()} {" ".join(words)}'
-    # how many lines stand ahead of each of the things that are shared out, and how many in all
-    ahead = range(len(lines) + 1)
-    if until is not None:
-        ahead = [0, *itertools.accumulate(len(runs) for _, runs in cases)]
+def lines_of(settings, cases):
+    """The header and the line of each run, without the field that stands before each."""
+    names = without_revived(RUN_FIGURES, cases)
+    lines = [[*(key for key, _ in settings), 'seed', *names]]
+    lines += [[*map(word, case), seed, *(figures[name] for name in names)]
+              for case, runs in cases for seed, figures in runs]
+    return [','.join(map(str, line)) + '\n' for line in lines]
+
+
+def shared_out(cases, number, pieces, until):
+    """From which run to before which a piece has them. With a width it is one of whole cases, else of runs."""
+    runs = [len(runs) for _, runs in cases]
+    # how many runs stand ahead of each of the things that are shared out, and how many in all
+    ahead = [0, *itertools.accumulate(runs)] if until is not None else range(sum(runs) + 1)
     shared = len(ahead) - 1
-    first, past = ahead[(number - 1) * shared // pieces], ahead[number * shared // pieces]
+    return ahead[(number - 1) * shared // pieces], ahead[number * shared // pieces]
+
+
+def table_of(text, settings, words, cases, until=None, piece=(1, 1)):
+    """The table of a piece of a sweep over the bytes of a text; that of the whole sweep is that of the only piece.
+    `words` are those of its seeds, its width and its settings."""
+    number, pieces = piece
+    header, *lines = lines_of(settings, cases)
+    notes = [note_of(figures) for _, runs in cases for _, figures in runs]
+    first, past = shared_out(cases, number, pieces, until)
+    name = f'{number}/{pieces} {hashlib.sha256(text).hexdigest()} {" ".join(words)}'
     return f'"{name}",{header}' + ''.join(f'{note},{line}' for note, line in zip(notes[first:past], lines[first:past]))
 
 

@@ -3,23 +3,14 @@
 import json
 import random
 
-from model_sweeps import cases_text, piece_of, swept, table_of
+from model_sweeps import cases_text, swept, table_of
 from program import Case, DATA, expect, expect_ran
 from scenarios import document_of
-from sweeps import FOLDER, seeds_of, settings_of
+from sweeps import FOLDER, seeds_of, settings_of, words_of
 from worked import text_of
 
 # into how many pieces each sweep is cut; of some there are more than runs
 COUNTS = (1, 2, 3, 7, 61)
-
-
-def words_of(sweep):
-    """The options of a sweep, and the words by which a piece names it."""
-    seeds = ['--seeds', sweep['seeds']] if 'seeds' in sweep else []
-    until = ['--until', str(sweep['until'])] if 'until' in sweep else []
-    settings = [word for setting in sweep['set'] for word in ('--set', setting)]
-    width = [f'until={sweep["until"]}'] if 'until' in sweep else []
-    return [*seeds, *until, *settings], [sweep.get('seeds', '-'), *width, *sweep['set']]
 
 
 def check(program, sweep, count):
@@ -34,42 +25,58 @@ def check(program, sweep, count):
     for number, name in enumerate(names, 1):
         ran = program.call(['sweep', 's.toml', '--table', name, '--shard', f'{number}/{count}', *options])
         expect_ran(ran, 0, b'', b'', f'piece {number}')
-        expect(name, program.held(name), piece_of(text, settings, words, cases, number, count, until).encode())
+        expect(name, program.held(name), table_of(text, settings, words, cases, until, (number, count)).encode())
     random.Random(count).shuffle(names)
     ran = program.call(['join', *names, '--table', 't.csv'])
     expect_ran(ran, 0, cases_text(settings, cases).encode(), b'', 'join')
-    expect('table', program.held('t.csv'), table_of(settings, cases).encode())
+    expect('table', program.held('t.csv'), table_of(text, settings, words, cases, until).encode())
+    expect('joined again', program.call(['join', 't.csv', '--table', 'again.csv']), ran)
+    expect('table again', program.held('again.csv'), program.held('t.csv'))
 
 
-def check_resumed(program, sweep):
-    """Cuts a piece off at some of its bytes, and goes on with it: at the end it is the piece that was made in one go."""
+def check_resumed(program, sweep, piece):
+    """Cuts the table of a piece, or of the whole sweep, off at some of its bytes, and goes on with it: at the end it is the
+    table that was made in one go."""
     text = text_of(DATA / sweep['base'])
     options, _ = words_of(sweep)
     program.keep('s.toml', text)
-    words = ['sweep', 's.toml', '--table', 't.csv', '--shard', '2/3', *options]
-    expect_ran(program.call(words), 0, b'', b'', 'piece')
+    words = ['sweep', 's.toml', '--table', 't.csv', '--shard', piece, *options]
+    whole_words = [word for word in words if word not in ('--shard', piece)]
+    expect('status', program.call(whole_words if piece == '1/1' else words).status, 0)
     whole = program.held('t.csv')
-    first = whole.index(b'\n') + 1
-    for cut in sorted({0, 1, first - 1, first, first + 1, *range(first, len(whole), 97), len(whole) - 1, len(whole)}):
+    first, *ends = [place + 1 for place, byte in enumerate(whole) if byte == 10]
+    for cut in sorted({0, 1, first // 2, *(end + more for end in (first, *ends) for more in (-50, -1, 0, 1))}):
         program.keep('t.csv', whole[:cut])
         expect_ran(program.call([*words, '--resume']), 0, b'', b'', f'cut at {cut}')
         expect(f'cut at {cut}', program.held('t.csv'), whole)
     (program.folder / 't.csv').unlink()
     expect_ran(program.call([*words, '--resume']), 0, b'', b'', 'no table')
     expect('no table', program.held('t.csv'), whole)
-    for held in (b'another table\n', whole.replace(b'2/3', b'1/3', 1), whole + whole[first:]):
+    last = whole[ends[-2]:] if len(ends) > 1 else whole[first:]
+    others = [b'another table\n', whole.replace(piece.encode(), b'1/3', 1), whole + last]
+    # with a width the notes of lines are read
+    others += [whole[:first] + b'no note\n', whole[:first] + b'\xff\n'] if 'until' in sweep else []
+    for held in others:
         program.keep('t.csv', held)
         expect_ran(program.call([*words, '--resume']), 3, b'', b'swimsim: piece t.csv of another sweep\n', 'another')
         expect('another', program.held('t.csv'), held)
 
 
+def without_notes(table):
+    """The table without the field that stands before each line, as sweeps wrote it once."""
+    header, *lines = table.splitlines(keepends=True)
+    return header.partition(b'",')[2] + b''.join(line.partition(b',')[2] for line in lines)
+
+
 def keep_halves(program, sweep):
-    """Makes the two pieces of a sweep, beside an older table; gives the words of `words_of`."""
+    """Makes the two pieces of a sweep and the whole, beside an older table; gives the words of `words_of`."""
     options, words = words_of(sweep)
     program.keep('s.toml', text_of(DATA / sweep['base']))
     program.keep('t.csv', 'an older table\n')
     for number in (1, 2):
         program.call(['sweep', 's.toml', '--table', f'{number}.csv', '--shard', f'{number}/2', *options])
+    program.call(['sweep', 's.toml', '--table', 'all.csv', *options])
+    program.keep('plain.csv', without_notes(program.held('all.csv')))
     return options, words
 
 
@@ -94,6 +101,10 @@ def check_refused(program, sweep):
         (['1.csv', 'short.csv'], 'piece short.csv torn'),
         (['1.csv', 'other.csv'], 'piece other.csv of another sweep'),
         (['1.csv', 's.toml'], 'no piece s.toml'),
+        (['all.csv', 'all.csv'], 'piece all.csv twice'),
+        (['all.csv', '1.csv', '2.csv'], 'piece 1.csv of another sweep'),
+        (['1.csv', '2.csv', 'all.csv'], 'piece all.csv of another sweep'),
+        (['plain.csv'], 'no piece plain.csv'),
     ])
 
 
@@ -149,8 +160,9 @@ def check_told(program, sweep, count):
         expect(f'{words[0]} ended', program.call(words).status, 0)
         expect('page with the first name', program.held('q.html'), named)
     program.keep('q.html', 'an older page\n')
-    for held, line in (('w.csv', 'no piece w.csv'), ('s.toml', 'no piece s.toml')):
-        expect_ran(program.call(['page', held, '--out', 'q.html']), 3, b'', f'swimsim: {line}\n'.encode(), held)
+    program.keep('plain.csv', without_notes(program.held('w.csv')))
+    for held in ('plain.csv', 's.toml'):
+        expect_ran(program.call(['page', held, '--out', 'q.html']), 3, b'', f'swimsim: no piece {held}\n'.encode(), held)
         expect('older page', program.held('q.html'), b'an older page\n')
 
 
@@ -162,7 +174,9 @@ def cases():
             yield Case(f'pieces: {sweep["about"]}, {count}', check, (sweep, count))
         for count in (1, 3):
             yield Case(f'pieces: {sweep["about"]}, all that is told of {count}', check_told, (sweep, count))
-    narrow = next(sweep for sweep in listed if 'until' in sweep)
+    narrow, wider = [sweep for sweep in listed if 'until' in sweep][:2]
     yield Case('pieces: what join refuses', check_refused, (listed[0],))
     yield Case('pieces: what join refuses where there is a width', check_widths_refused, (narrow,))
-    yield Case('pieces: one that was cut off', check_resumed, (listed[0],))
+    for piece in ('2/3', '1/1'):
+        yield Case(f'pieces: {piece} that was cut off', check_resumed, (listed[0], piece))
+        yield Case(f'pieces: {piece} that was cut off, with a width', check_resumed, (wider, piece))

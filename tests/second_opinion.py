@@ -137,14 +137,14 @@ def try_sweep(program, folder, seed, number, newest):
     file, table = folder / 'scenario.toml', folder / 'table.csv'
     file.write_bytes(text)
     table.write_bytes(b'')
-    options = ['--workers', str(number % 3 + 1)]
-    options += ['--seeds', f'{seeds[0]}..{seeds[-1]}'] if seeds else []
-    for key, values in settings:
-        options += ['--set', f'{key}={",".join(map(model_sweeps.word, values))}']
+    asked = [f'{seeds[0]}..{seeds[-1]}' if seeds else '-']
+    asked += [f'{key}={",".join(map(model_sweeps.word, values))}' for key, values in settings]
+    options = ['--workers', str(number % 3 + 1), *(['--seeds', asked[0]] if seeds else [])]
+    options += [word for setting in asked[1:] for word in ('--set', setting)]
     refusal, cases = model_sweeps.swept(document, settings, seeds, newest)
     done = ran([program, 'sweep', file, '--table', table, *options])
     expected = {**outcome(0, model_sweeps.cases_text(settings, cases).encode(), b''),
-                'table': model_sweeps.table_of(settings, cases).encode()}
+                'table': model_sweeps.table_of(text, settings, asked, cases).encode()}
     if refusal:
         expected = {**outcome(3, b'', f'swimsim: {refusal}\n'.encode()), 'table': b''}
     found = {**outcome(*done), 'table': table.read_bytes()}

@@ -35,13 +35,22 @@ def seeds_of(words):
     return range(first, last + 1)
 
 
+def words_of(sweep):
+    """The options of a sweep, and the words by which its table names it."""
+    seeds = ['--seeds', sweep['seeds']] if 'seeds' in sweep else []
+    until = ['--until', str(sweep['until'])] if 'until' in sweep else []
+    settings = [word for setting in sweep['set'] for word in ('--set', setting)]
+    width = [f'until={sweep["until"]}'] if 'until' in sweep else []
+    return [*seeds, *until, *settings], [sweep.get('seeds', '-'), *width, *sweep['set']]
+
+
 def expected_of(text, sweep):
     """The table and the lines of a sweep, as the model gives them, and how the times of each case spread."""
-    settings = settings_of(sweep['set'])
-    _, cases = swept(document_of(text.encode()), settings, seeds_of(sweep.get('seeds')), until=sweep.get('until'))
+    settings, until = settings_of(sweep['set']), sweep.get('until')
+    _, cases = swept(document_of(text.encode()), settings, seeds_of(sweep.get('seeds')), until=until)
     lines = cases_text(settings, cases) + answer_text(sweep.get('want', []), settings, cases)
     spreads = [spread_of([figures for _, figures in runs]) for _, runs in cases]
-    return table_of(settings, cases).encode(), lines.encode(), spreads
+    return table_of(text.encode(), settings, words_of(sweep)[1], cases, until).encode(), lines.encode(), spreads
 
 
 def runs_of(sweep, table):
@@ -82,15 +91,8 @@ def objects_of(text, keys):
 def check(program, sweep):
     """Makes a sweep by each number of workers, and compares its table and its lines."""
     text = text_of(DATA / sweep['base'])
-    words = ['sweep', 's.toml', '--table', 't.csv']
-    if 'seeds' in sweep:
-        words += ['--seeds', sweep['seeds']]
-    for setting in sweep['set']:
-        words += ['--set', setting]
-    for want in sweep.get('want', []):
-        words += ['--want', want]
-    if 'until' in sweep:
-        words += ['--until', str(sweep['until'])]
+    wants = [word for want in sweep.get('want', []) for word in ('--want', want)]
+    words = ['sweep', 's.toml', '--table', 't.csv', *words_of(sweep)[0], *wants]
     *by_model, spreads = expected_of(text, sweep)
     table, lines = ((FOLDER / sweep[key]).read_bytes() if key in sweep else modelled
                     for key, modelled in zip(('table', 'lines'), by_model))
@@ -111,6 +113,15 @@ def check(program, sweep):
     expect('table beside objects', program.held('t.csv'), table)
     check_page(program, [*words, '--page', 'p.html'], sweep, lines, objects, spreads)
     expect('table beside the page', program.held('t.csv'), table)
+    check_read(program, wants, lines)
+
+
+def check_read(program, wants, lines):
+    """Reads the table of the sweep, beside its page: `page` makes that page, and `join` gives its lines and itself."""
+    expect_ran(program.call(['page', 't.csv', '--out', 'q.html', '--name', 's.toml']), 0, b'', b'', 'page of the table ')
+    expect('page of the table', program.held('q.html'), program.held('p.html'))
+    expect_ran(program.call(['join', 't.csv', '--table', 'u.csv', *wants]), 0, lines, b'', 'join of the table ')
+    expect('join of the table', program.held('u.csv'), program.held('t.csv'))
 
 
 def check_page(program, words, sweep, lines, objects, spreads):
