@@ -18,9 +18,13 @@ from pathlib import Path
 import commands
 import draws
 import large_pages
+import long_runs
 import pages
+import parts
 import pieces
 import presets
+import rows
+import steps
 import sweeps
 import texts
 import worked
@@ -28,7 +32,7 @@ import writes
 from program import Program, Wrong
 
 BUILT = Path(__file__).resolve().parent.parent / 'crates' / 'swimsim' / 'out' / 'swimsim'
-KINDS = (worked, draws, texts, commands, presets, sweeps, pieces, pages, large_pages, writes)
+KINDS = (worked, steps, parts, rows, draws, texts, commands, presets, sweeps, pieces, pages, large_pages, long_runs, writes)
 
 
 def failure_of(path, room, case):

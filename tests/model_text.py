@@ -96,7 +96,7 @@ def report_of(scenario, rows):
         latencies += [] if first is None else [latency]
         lines.append(f'crash {names[member]} {at} suspect {told(suspect)} confirm {told(first)} '
                      f'last {told(last)} confirmers {count} latency {told(latency)}')
-    for member, at, _, first, last, count in ends_of(rows, 'leave'):
+    for member, at, _, first, last, count in ends_of(rows, 'leave') if scenario['version'] > 1 else []:
         lines.append(f'leave {names[member]} {at} confirm {told(first)} last {told(last)} confirmers {count}')
     least, greatest = min(latencies, default=None), max(latencies, default=None)
     lines.append(f'latency least {told(least)} greatest {told(greatest)}')

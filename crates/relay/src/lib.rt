@@ -6,8 +6,6 @@ mod batch;
 mod relay;
 mod roles;
 mod rule;
-#[cfg(test)]
-mod tests;
 
 pub use batch::{Batch, Lot};
 pub use relay::{Relay, SendSeat, TakeSeat, close};

@@ -1,7 +1,7 @@
 //! Scenarios that are run by choices of members, worked out by hand.
 
 use crate::part_tests::{assert_rows, scenario_of};
-use base::{Fault, MemberId};
+use base::MemberId;
 use scenario::Scenario;
 use std::alloc::Global;
 use std::process::Abort;
@@ -10,7 +10,7 @@ use trace::What;
 use windows::play;
 
 /// Some members of one group, and what choices of them come to.
-#[derive(Clone, Copy, Debug)]
+#[derive(Clone, Copy)]
 struct Case {
     members: u64,
     delay: u64,
@@ -166,33 +166,19 @@ fn assert_played(rt: &impl Abort, alloc: Global, case: &Case) {
         Err(_) => panic!(rt; "the choices were refused"),
     };
     assert_rows(rt, &played.rows, case.rows);
-    assert_eq!(rt; played.handled, case.handled);
-    assert_eq!(rt; played.skipped, case.skipped);
+    assert!(rt; played.handled == case.handled);
+    assert!(rt; played.skipped == case.skipped);
     let left = match played.left {
         Some(left) => Some(left.ticks()),
         None => None,
     };
-    assert_eq!(rt; left, case.left);
+    assert!(rt; left == case.left);
 }
 
 #[test]
 fn choices_handle_what_is_safe(rt: HostRuntime) -> Result<(), Fail> {
     for case in &CASES {
         assert_played(&rt, rt.alloc(), case);
-    }
-    Ok(())
-}
-
-/// With ample memory nothing is refused. Run with an allocation failing, nothing but want of memory is told.
-#[test]
-fn refused_memory_is_told(rt: HostRuntime) -> Result<(), Fail> {
-    let scenario = scenario_for(&rt, rt.alloc(), &FAST);
-    if let Err(fault) = play(
-        rt.alloc(),
-        &scenario,
-        &[MemberId(0), MemberId(1), MemberId(0)],
-    ) {
-        assert_eq!(rt; fault, Fault::Memory);
     }
     Ok(())
 }

@@ -1,4 +1,4 @@
-//! Divisions of few members, worked out by hand, and one of 64 parts.
+//! Divisions of few members, worked out by hand.
 
 use base::Moment;
 use horizons::{Horizons, horizons};
@@ -84,13 +84,6 @@ delay = 10
 from = \"b\"
 to = \"c\"
 delay = 10
-";
-
-/// A site of 64 members.
-const MANY: &str = "link = { delay = 50 }
-[[group]]
-name = \"n\"
-count = 64
 ";
 
 /// The scenario of a text, and its members' parts.
@@ -246,7 +239,7 @@ fn horizons_of(
         .ok()
         .expect(rt, "divided");
     let links = &Links::of(alloc, scenario).ok().expect(rt, "memory");
-    assert_eq!(rt; division.members(), scenario.members());
+    assert!(rt; division.members() == scenario.members());
     horizons(alloc, Cluster { scenario, links }, &division)
         .ok()
         .expect(rt, "memory")
@@ -294,28 +287,4 @@ fn bounds_are_least_arrivals(rt: HostRuntime) {
     for case in &BOUNDS_OF_CHAIN {
         assert_bound(&rt, &made, case);
     }
-}
-
-#[test]
-fn each_of_64_parts_has_a_walk_to_each(rt: HostRuntime) {
-    let mut part_of = [0; 64];
-    for part in 0..64u8 {
-        part_of[usize::from(part)] = part;
-    }
-    let made = horizons_of(rt.alloc(), &rt, MANY, 64, &part_of);
-    assert!(rt; made.parts() == 64);
-    for part in 0..64 {
-        assert_eq!(rt;
-            made.walk(part, 63),
-            Some(if part == 63 { 100 } else { 50 })
-        );
-        assert_eq!(rt;
-            made.walk(63, part),
-            Some(if part == 63 { 100 } else { 50 })
-        );
-    }
-    let mut leasts = [None; 64];
-    leasts[63] = Some(Moment(7));
-    assert_eq!(rt; made.bound(0, &leasts, Moment(1000)).ticks(), 57);
-    assert_eq!(rt; made.bound(63, &leasts, Moment(1000)).ticks(), 107);
 }

@@ -35,24 +35,6 @@ name = \"n\"
 count = 2
 ";
 
-/// Two members again, of which one leaves at the moment at which its first period would begin.
-const ONE_LEAVES: &str = "version = 2
-seed = 7
-end = 3
-[swim]
-period = 1000
-timeout = 300
-spread = 1
-[link]
-delay = 1
-[[group]]
-name = \"n\"
-count = 2
-[[leave]]
-member = \"n-1\"
-at = 1
-";
-
 pub(crate) fn scenario_of(rt: &impl Abort, alloc: Global, text: &str) -> Scenario {
     match read(alloc, text.as_bytes()) {
         Ok(scenario) => scenario,
@@ -151,18 +133,18 @@ fn window<Q: EventQueue<Event> + Drop>(
 
 /// What the window has written: moments, members, and what each row tells of.
 pub(crate) fn assert_rows(rt: &impl Abort, rows: &[Row], wanted: &[(u64, u16, What)]) {
-    assert_eq!(rt; rows.len(), wanted.len());
+    assert!(rt; rows.len() == wanted.len());
     for (row, wanted) in rows.iter().zip(wanted) {
-        assert_eq!(rt; row.at.ticks(), wanted.0);
-        assert_eq!(rt; row.member.0, wanted.1);
-        assert_eq!(rt; row.what, wanted.2);
+        assert!(rt; row.at.ticks() == wanted.0);
+        assert!(rt; row.member.0 == wanted.1);
+        assert!(rt; row.what == wanted.2);
     }
 }
 
 /// The moment of the least event that pends.
 fn assert_least<Q: EventQueue<Event> + Drop>(rt: &impl Abort, part: &Part<Q>, least: u64) {
     match part.least() {
-        Some(key) => assert_eq!(rt; key.at.ticks(), least),
+        Some(key) => assert!(rt; key.at.ticks() == least),
         None => panic!(rt; "nothing pends"),
     }
 }
@@ -214,7 +196,7 @@ fn sending<Q: EventQueue<Event> + Drop>(
         rows,
     } = window(rt, alloc, scenario, part, bound);
     assert_rows(rt, &rows, wanted);
-    assert_eq!(rt; out.len(), 1);
+    assert!(rt; out.len() == 1);
     match out.pop() {
         Some(event) => {
             assert!(rt; is_at(&event, arrives.0, arrives.1));
@@ -275,7 +257,7 @@ fn two_parts_run_window_by_window(rt: HostRuntime) -> Result<(), Fail> {
     let alloc = rt.alloc();
     let scenario = scenario_of(&rt, alloc, TWO_MEMBERS);
     let count = scenario.members();
-    assert_eq!(rt; count, 2);
+    assert!(rt; count == 2);
     let first = opened(alloc, &scenario, 0, TreeQueue::new(alloc))?;
     let second = opened(alloc, &scenario, 1, TreeQueue::new(alloc))?;
 
@@ -302,7 +284,7 @@ fn an_event_at_the_bound_waits(rt: HostRuntime) -> Result<(), Fail> {
     let alloc = rt.alloc();
     let scenario = scenario_of(&rt, alloc, TWO_MEMBERS);
     let count = scenario.members();
-    assert_eq!(rt; count, 2);
+    assert!(rt; count == 2);
     let part = opened(alloc, &scenario, 1, TreeQueue::new(alloc))?;
     let part = quiet(&rt, alloc, &scenario, part, 0, &[]);
     assert_least(&rt, &part, 0);
@@ -310,44 +292,6 @@ fn an_event_at_the_bound_waits(rt: HostRuntime) -> Result<(), Fail> {
     assert_least(&rt, &part, 1);
     let part = quiet(&rt, alloc, &scenario, part, 1, &[]);
     assert_least(&rt, &part, 1);
-    assert_eq!(rt; part.number, 1);
-    Ok(())
-}
-
-/// The leave pends from the beginning, and is handled before the period. The other member is told.
-#[test]
-fn a_member_leaves_at_its_moment(rt: HostRuntime) -> Result<(), Fail> {
-    let alloc = rt.alloc();
-    let scenario = scenario_of(&rt, alloc, ONE_LEAVES);
-    let count = scenario.members();
-    assert_eq!(rt; count, 2);
-    let stays = opened(alloc, &scenario, 0, TreeQueue::new(alloc))?;
-    let leaves = opened(alloc, &scenario, 1, TreeQueue::new(alloc))?;
-    assert_least(&rt, &stays, 0);
-    assert_least(&rt, &leaves, 0);
-
-    let leaves = quiet(&rt, alloc, &scenario, leaves, 1, &[(0, 1, What::Start)]);
-    assert_least(&rt, &leaves, 1);
-    let (_leaves, bye) = sending(
-        &rt,
-        alloc,
-        &scenario,
-        leaves,
-        2,
-        &[(1, 1, What::Leave), (1, 1, What::Bye)],
-        (2, 0),
-    );
-
-    let (mut stays, _ping) = sending(
-        &rt,
-        alloc,
-        &scenario,
-        stays,
-        2,
-        &[(0, 0, What::Start), (1, 0, What::Ping)],
-        (2, 1),
-    );
-    receive(&rt, &scenario, &mut stays, bye)?;
-    let _stays = quiet(&rt, alloc, &scenario, stays, 3, &[(2, 0, What::Confirm)]);
+    assert!(rt; part.number == 1);
     Ok(())
 }

@@ -29,8 +29,8 @@ use trace::Row;
 use windows::{Bounded, Cluster, Done, Part};
 use worker_queue::{EventQueue, TreeQueue};
 use workers::{
-    Gate, OfScenario, OpenGate, Signals, TaskBoard, TaskPost, TaskSeat, WorkerPool, close_board,
-    first_of, open_board, work,
+    Gate, OfScenario, Signals, TaskBoard, TaskPost, TaskSeat, WorkerPool, close_board, open_board,
+    work,
 };
 
 const TWO_MEMBERS: &str = "version = 1
@@ -446,10 +446,10 @@ fn counted<R: Abort + Threads + Wait + Sync>(
     };
     let rows = by_workers::<Counter, Brand, R>(rt, alloc, workers, 4, &gate, cluster, &watch);
     for cell in &gate.entered[4..] {
-        assert_eq!(rt; cell.load(Ordering::SeqCst), 1);
+        assert!(rt; cell.load(Ordering::SeqCst) == 1);
     }
-    assert_eq!(rt; gate.strangers.load(Ordering::SeqCst), 0);
-    assert_eq!(rt; gate.late.load(Ordering::SeqCst), 0);
+    assert!(rt; gate.strangers.load(Ordering::SeqCst) == 0);
+    assert!(rt; gate.late.load(Ordering::SeqCst) == 0);
     rows
 }
 
@@ -460,7 +460,7 @@ fn four_parts_by_one_two_and_three_workers(rt: HostRuntime) -> Result<(), Fail> 
     let links = &links_of(&rt, alloc, scenario);
     let cluster = Cluster { scenario, links };
     let wanted = in_turn(alloc, cluster)?;
-    assert_eq!(rt; wanted.len(), 12);
+    assert!(rt; wanted.len() == 12);
     for workers in 1..4 {
         let rows = counted(&rt, alloc, workers, cluster)?;
         assert!(rt; are_same(&rows, &wanted));
@@ -470,19 +470,8 @@ fn four_parts_by_one_two_and_three_workers(rt: HostRuntime) -> Result<(), Fail> 
     Ok(())
 }
 
-#[test]
-fn an_open_gate_lets_all_pass(rt: HostRuntime) -> Result<(), Fail> {
-    let alloc = rt.alloc();
-    let scenario = &scenario_of(&rt, alloc);
-    let links = &links_of(&rt, alloc, scenario);
-    let cluster = Cluster { scenario, links };
-    let watch = watch_of(alloc, usize::MAX)?;
-    let rows = by_workers::<OpenGate, Brand, HostRuntime>(
-        &rt, alloc, 2, 4, &OpenGate, cluster, &watch,
-    )?;
-    assert_eq!(rt; rows.len(), 12);
-    Ok(())
-}
+/// How often who holds the others looks whether a queue was let go.
+const LOOKS: u64 = 10_000_000;
 
 /// Holds whoever enters until a queue was let go.
 #[derive(Drop)]
@@ -522,7 +511,7 @@ fn crowded<R: Abort + Threads + Wait + Sync>(
         alone: AtomicU64::new(0),
     };
     let rows = by_workers::<Holder, Brand, R>(rt, alloc, 2, 1, &gate, cluster, &watch);
-    assert_eq!(rt; gate.alone.load(Ordering::SeqCst), 0);
+    assert!(rt; gate.alone.load(Ordering::SeqCst) == 0);
     rows
 }
 
@@ -539,67 +528,4 @@ fn a_part_that_comes_back_is_told_unless_memory_was_refused(rt: HostRuntime) -> 
     let came = crowded(&rt, alloc, cluster, 2);
     assert!(rt; came.is_err_and(|fault| fault == Fault::Memory));
     Ok(())
-}
-
-/// How often who holds the others looks whether all are there.
-const LOOKS: u64 = 10_000_000;
-
-/// Holds whoever enters until two parts have entered the window.
-#[derive(Drop)]
-struct Meeting {
-    /// By window.
-    entered: [AtomicU64; 16],
-    /// How often nobody came.
-    alone: AtomicU64,
-}
-
-impl Gate for Meeting {
-    ghost knows = { λ _. ⊤ };
-
-    ghost awaits = { λ _ _. ⊤ };
-
-    fn enter(&self, _worker: usize, window: u64, _part: usize) {
-        if window > WINDOWS {
-            return;
-        }
-        let entered = &self.entered[window as usize];
-        entered.fetch_add(1, Ordering::SeqCst);
-        for _ in 0..LOOKS {
-            if entered.load(Ordering::SeqCst) >= 2 {
-                return;
-            }
-            thread::yield_now();
-        }
-        self.alone.fetch_add(1, Ordering::SeqCst);
-    }
-}
-
-#[test]
-fn two_workers_meet_in_every_window(rt: HostRuntime) -> Result<(), Fail> {
-    let alloc = rt.alloc();
-    let scenario = &scenario_of(&rt, alloc);
-    let links = &links_of(&rt, alloc, scenario);
-    let cluster = Cluster { scenario, links };
-    let gate = Meeting {
-        entered: sixteen(),
-        alone: AtomicU64::new(0),
-    };
-    let watch = watch_of(alloc, usize::MAX)?;
-    let rows = by_workers::<Meeting, Brand, HostRuntime>(&rt, alloc, 2, 4, &gate, cluster, &watch)?;
-    assert_eq!(rt; rows.len(), 12);
-    assert_eq!(rt; gate.alone.load(Ordering::SeqCst), 0);
-    Ok(())
-}
-
-/// The faults, from the one that is answered first.
-const IN_ORDER: [Fault; 4] = [Fault::Memory, Fault::Worn, Fault::Write, Fault::Relay];
-
-#[test]
-fn of_two_faults_the_first_in_order_is_answered(rt: HostRuntime) {
-    for (place, one) in IN_ORDER.iter().enumerate() {
-        for (other_place, other) in IN_ORDER.iter().enumerate() {
-            let least = if other_place < place { *other } else { *one };
-            assert!(rt; first_of(*one, *other) == least);
-        }
-    }
 }

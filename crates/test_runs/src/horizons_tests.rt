@@ -1,8 +1,7 @@
-//! Each part runs up to its own horizon: how many windows that takes, as a gate counts them, and that any division by
-//! site writes the same.
+//! Each part runs up to its own horizon: how many windows that takes, as a gate counts them.
 
 use crate::gates::{Book, run_told};
-use crate::ways::{Way, assert_writes, run_by};
+use crate::ways::{Way, run_by};
 use scenario_reader::read;
 use std::test::Fail;
 use trace::Sink;
@@ -66,27 +65,10 @@ fn parts_of_far_sites_have_few_windows(rt: HostRuntime) -> Result<(), Fail> {
     let mut one_trace = MemorySink::new(rt.alloc());
     let mut one_report = MemorySink::new(rt.alloc());
     let as_one = run_by(&rt, Way::AsOne, &scenario, &mut one_trace, &mut one_report);
-    assert_eq!(rt; as_one, outcome);
+    assert!(rt; as_one == outcome);
     assert!(rt; trace.bytes() == one_trace.bytes());
-    assert_eq!(rt; gate.wrong(), 0);
+    assert!(rt; gate.wrong() == 0);
     let windows = gate.windows();
     assert!(rt; 1 < windows && windows < 50, "{windows} windows");
-    Ok(())
-}
-
-/// Every way to deal four sites to four parts, by two to four workers.
-#[test]
-fn each_division_by_site_is_the_same(rt: HostRuntime) -> Result<(), Fail> {
-    let scenario = read(rt.alloc(), FOUR_SITES.as_bytes())?;
-    let mut trace = MemorySink::new(rt.alloc());
-    let mut report = MemorySink::new(rt.alloc());
-    let outcome = run_by(&rt, Way::AsOne, &scenario, &mut trace, &mut report);
-    assert!(rt; outcome.is_ok());
-    for deal in 0..=255 {
-        for workers in 2..=4 {
-            let way = Way::BySite(deal, workers);
-            assert_writes(&rt, way, &scenario, outcome, &trace, &report);
-        }
-    }
     Ok(())
 }

@@ -1,12 +1,9 @@
-//! What a failure tells that no command can be made to have, and printing whose flush fails.
+//! What a failure tells that no command can be made to have.
 use base::Fault;
-use command_line::{
-    Asked, Failure, parse, print_help, print_members, print_rows, print_text, refuse,
-};
+use command_line::{Failure, refuse};
 use files::testing::{Failing, MemoryWriter};
 use scenario::DivisionFault;
 use std::process::Abort;
-use std::test::Fail;
 
 /// The lines that tell of a division's faults, and of a run's.
 const DIVISIONS: &[(DivisionFault, &str)] = &[
@@ -45,47 +42,4 @@ fn each_failure_has_its_line_and_status(rt: HostRuntime) {
     for (fault, line) in RUNS {
         assert_told(&rt, &Failure::Run(*fault), line, 5);
     }
-}
-
-/// A writer that takes all, and whose flush fails.
-fn unflushed(rt: &impl AllocGlobal) -> MemoryWriter {
-    MemoryWriter::new(rt.alloc(), Failing::AtFlush)
-}
-
-/// Asserts that printing failed after this text.
-fn assert_failed(rt: &impl Abort, printed: Result<(), Failure>, out: &MemoryWriter, text: &str) {
-    assert!(rt; printed == Err(Failure::Output), "{text}");
-    assert!(rt; out.bytes() == text.as_bytes(), "{text}");
-}
-
-#[test]
-fn rows_whose_flush_fails_are_a_failure(rt: HostRuntime) {
-    let mut out = unflushed(&rt);
-    let printed = print_rows(6, &mut out);
-    assert_failed(&rt, printed, &out, "rows 6\n");
-}
-
-#[test]
-fn members_whose_flush_fails_are_a_failure(rt: HostRuntime) {
-    let mut out = unflushed(&rt);
-    let printed = print_members(2, &mut out);
-    assert_failed(&rt, printed, &out, "members 2\n");
-}
-
-#[test]
-fn cases_whose_flush_fails_are_a_failure(rt: HostRuntime) {
-    let mut out = unflushed(&rt);
-    let printed = print_text("runs\n", &mut out);
-    assert_failed(&rt, printed, &out, "runs\n");
-}
-
-#[test]
-fn a_help_whose_flush_fails_is_a_failure(rt: HostRuntime) -> Result<(), Fail> {
-    let words = ["--help"];
-    let Ok(Asked::Help(help)) = parse(rt.alloc(), words.as_slice()) else {
-        return Err(Fail::from("no help"));
-    };
-    let mut out = unflushed(&rt);
-    assert!(rt; print_help(&help, &mut out).is_err());
-    Ok(())
 }

@@ -1,37 +1,16 @@
-//! Sinks over writers that take the header of the trace in pieces, or not at all, and the sink of the tests.
+//! The sink over a writer: that its flush is the writer's.
 use std::io;
 use std::io::Write;
-use std::process::Abort;
-use trace::testing::MemorySink;
-use trace::{Put, Sink, Stopped, WriteError, write_head};
+use trace::{Put, Sink, write_head};
 
 /// The header as it is told to users, with its line feed.
 const HEADER: &[u8; 48] = b"moment,member,from,number,what,about,value,lost\n";
 
-#[test]
-fn a_memory_sink_fails_where_it_is_set_to(rt: HostRuntime) {
-    let mut sink = MemorySink::new(rt.alloc()).failing_at_put(2);
-    assert_eq!(rt; sink.put(b"one"), Ok(3));
-    assert_eq!(rt; sink.put(b"two"), Err(Stopped));
-    assert_eq!(rt; sink.put(b"three"), Ok(5));
-    assert_eq!(rt; sink.put(b""), Ok(0));
-    assert_eq!(rt; sink.bytes(), b"onethree".as_slice());
-    assert_eq!(rt; sink.flush(), Ok(()));
-    assert_eq!(rt; sink.failures(), 1);
-
-    let mut stuck = MemorySink::new(rt.alloc()).failing_at_flush();
-    assert_eq!(rt; stuck.put(b"one"), Ok(3));
-    assert_eq!(rt; stuck.flush(), Err(Stopped));
-    assert_eq!(rt; stuck.failures(), 1);
-    assert_eq!(rt; stuck.bytes(), b"one".as_slice());
-}
-
-/// A writer that takes a few bytes a write, and whose writes and flushes end as they are told.
+/// A writer that takes a few bytes a write, and whose flushes end as they are told.
 #[derive(Drop)]
 struct Scripted {
     got: Vec<u8>,
     most: usize,
-    write_fails: bool,
     flush_fails: bool,
     flushes: u8,
 }
@@ -40,7 +19,6 @@ fn obedient(rt: &HostRuntime) -> Scripted {
     Scripted {
         got: Vec::new(rt.alloc()),
         most: 5,
-        write_fails: false,
         flush_fails: false,
         flushes: 0,
     }
@@ -48,9 +26,6 @@ fn obedient(rt: &HostRuntime) -> Scripted {
 
 impl Write for Scripted {
     fn write(&mut self, buf: &[u8]) -> io::Result<usize> {
-        if self.write_fails {
-            return Err(io::Error::from(io::ErrorKind::BrokenPipe));
-        }
         let taken = buf.len().min(self.most);
         self.got.extend_from_slice(&buf[..taken])?;
         Ok(taken)
@@ -65,50 +40,14 @@ impl Write for Scripted {
     }
 }
 
+/// What is written is taken in pieces, and a flush reaches the writer, whose failure is told and counted.
 #[test]
-fn a_writer_is_a_sink(rt: HostRuntime) {
+fn a_writer_is_written_and_flushed(rt: HostRuntime) {
     let mut sink = Put::new(obedient(&rt));
-    assert_eq!(rt; write_head(&mut sink), Ok(()));
-    assert_eq!(rt; sink.flush(), Ok(()));
-    assert_eq!(rt; sink.failures(), 0);
-    let writer = sink.into_inner();
-    assert_eq!(rt; writer.got.as_slice(), HEADER.as_slice());
-    assert_eq!(rt; writer.flushes, 1);
-}
-
-#[test]
-fn a_failing_write_is_counted(rt: HostRuntime) {
-    let mut writer = obedient(&rt);
-    writer.write_fails = true;
-    let mut sink = Put::new(writer);
-    assert_eq!(rt; sink.put(b"moment"), Err(Stopped));
-    assert_eq!(rt; sink.failures(), 1);
-    assert_eq!(rt; write_head(&mut sink), Err(WriteError::Stopped));
-    assert_eq!(rt; sink.failures(), 2);
-    assert_eq!(rt; sink.into_inner().got.len(), 0);
-}
-
-#[test]
-fn a_failing_flush_is_counted(rt: HostRuntime) {
-    let mut writer = obedient(&rt);
+    assert!(rt; write_head(&mut sink).is_ok() && sink.flush().is_ok());
+    let mut writer = sink.into_inner();
+    assert!(rt; writer.got.as_slice() == HEADER.as_slice() && writer.flushes == 1);
     writer.flush_fails = true;
     let mut sink = Put::new(writer);
-    assert_eq!(rt; write_head(&mut sink), Ok(()));
-    assert_eq!(rt; sink.failures(), 0);
-    assert_eq!(rt; sink.flush(), Err(Stopped));
-    assert_eq!(rt; sink.failures(), 1);
-    assert_eq!(rt; sink.into_inner().got.as_slice(), HEADER.as_slice());
-}
-
-#[test]
-fn a_write_that_takes_nothing_is_counted(rt: HostRuntime) {
-    let mut writer = obedient(&rt);
-    writer.most = 0;
-    let mut sink = Put::new(writer);
-    assert_eq!(rt; sink.put(b""), Ok(0));
-    assert_eq!(rt; sink.failures(), 0);
-    assert_eq!(rt; sink.put(b"moment"), Ok(0));
-    assert_eq!(rt; sink.failures(), 1);
-    assert_eq!(rt; write_head(&mut sink), Err(WriteError::Stopped));
-    assert_eq!(rt; sink.failures(), 2);
+    assert!(rt; sink.flush().is_err() && sink.failures() == 1);
 }

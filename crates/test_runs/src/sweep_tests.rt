@@ -1,4 +1,4 @@
-//! A sweep whose table fails where only the inside can make it: at its flush, or at a put of a byte.
+//! A sweep whose table fails where only the inside can make it: at its flush.
 
 use base::Fault;
 use cases::Plan;
@@ -34,9 +34,6 @@ at = 300
 /// Two keys with two values each.
 const SETTINGS: [&str; 2] = ["swim.period=200,250", "swim.timeout=60,70"];
 
-/// How many puts a table takes: two for its first line, of which one is the piece's name, and one for each run.
-const PUTS: u64 = 10;
-
 /// Writes the table of the sweep by so many workers.
 fn sweep_by(
     rt: &(impl Abort + AllocGlobal + Threads + Sync),
@@ -70,28 +67,11 @@ fn assert_stopped(rt: &impl Abort, swept: Result<Vec<CaseSummary>, Fault>) {
     assert!(rt; fault == Fault::Write);
 }
 
-/// Asserts that the table has got a beginning of this one where this put fails.
-fn assert_beginning(
-    rt: &(impl Abort + AllocGlobal + Threads + Sync),
-    put: u64,
-    expected: &MemorySink,
-) -> Result<(), Fail> {
-    let mut table = MemorySink::new(rt.alloc()).failing_at_put(put);
-    let swept = sweep_by(rt, 3, &mut table)?;
-    assert_stopped(rt, swept);
-    assert!(rt; table.failures() == 1 && table.puts() == put);
-    assert!(rt; expected.bytes().starts_with(table.bytes()));
-    Ok(())
-}
-
-/// Whichever put fails, the table has got a beginning; where the flush at the end fails, it was put whole.
+/// Where the flush at the end fails, the table was put whole.
 #[test]
-fn a_table_that_fails_has_a_beginning(rt: HostRuntime) -> Result<(), Fail> {
+fn a_table_is_flushed(rt: HostRuntime) -> Result<(), Fail> {
     let mut expected = MemorySink::new(rt.alloc());
     sweep_by(&rt, 1, &mut expected)??;
-    for put in 1..PUTS + 1 {
-        assert_beginning(&rt, put, &expected)?;
-    }
     let mut table = MemorySink::new(rt.alloc()).failing_at_flush();
     let swept = sweep_by(&rt, 3, &mut table)?;
     assert_stopped(&rt, swept);

@@ -1,57 +1,12 @@
 //! Some of the worked runs of `tests/worked`, for the tests of whatever runs a scenario.
 
 /// A scenario, and its run whole.
-#[derive(Clone, Copy, Debug)]
+#[derive(Clone, Copy)]
 pub(crate) struct Worked {
     pub(crate) scenario: &'static str,
     pub(crate) trace: &'static str,
     pub(crate) report: &'static str,
-    /// How many lines the trace has after its header.
-    pub(crate) rows: u64,
 }
-
-/// Two members over the fastest link.
-pub(crate) const TWO_MEMBERS: Worked = Worked {
-    scenario: "version = 1
-seed = 7
-end = 3
-[swim]
-period = 1000
-timeout = 300
-spread = 1
-[link]
-delay = 1
-[[group]]
-name = \"n\"
-count = 2
-",
-    trace: "moment,member,from,number,what,about,value,lost
-0,n-0,n-0,0,start,,0,0
-0,n-1,n-1,0,start,,0,0
-1,n-0,n-0,1,ping,n-1,1,0
-1,n-1,n-1,1,ping,n-0,1,0
-2,n-0,n-1,2,ack,n-1,1,0
-2,n-1,n-0,2,ack,n-0,1,0
-",
-    report: "members 2
-end 3
-rows 6
-latency least - greatest -
-false suspect 0 healthy 0
-false confirm 0 healthy 0
-accuse 0
-refute 0
-fail 0
-health 0
-sent join 0 lost 0
-sent welcome 0 lost 0
-sent ping 2 lost 0
-sent ping-req 0 lost 0
-sent ack 2 lost 0
-sent nack 0 lost 0
-",
-    rows: 6,
-};
 
 /// A crash that is suspected, and confirmed when the suspicion's time is over.
 pub(crate) const CRASH_DETECTED: Worked = Worked {
@@ -109,7 +64,6 @@ sent ping-req 0 lost 0
 sent ack 2 lost 0
 sent nack 0 lost 0
 ",
-    rows: 18,
 };
 
 /// A member that joins by its contact.
@@ -162,78 +116,4 @@ sent ping-req 0 lost 0
 sent ack 2 lost 0
 sent nack 0 lost 0
 ",
-    rows: 11,
 };
-
-/// A member that leaves tells the other one.
-pub(crate) const LEAVE: Worked = Worked {
-    scenario: "version = 2
-seed = 7
-end = 1100
-[swim]
-period = 1000
-timeout = 300
-spread = 1
-[link]
-delay = 10
-[[group]]
-name = \"n\"
-count = 2
-[[leave]]
-member = \"n-1\"
-at = 500
-",
-    trace: "moment,member,from,number,what,about,value,lost
-0,n-0,n-0,0,start,,0,0
-0,n-1,n-1,0,start,,0,0
-1,n-0,n-0,1,ping,n-1,1,0
-1,n-1,n-1,2,ping,n-0,1,0
-11,n-0,n-1,3,ack,n-1,1,0
-11,n-1,n-0,2,ack,n-0,1,0
-500,n-1,n-1,1,leave,,0,0
-500,n-1,n-1,1,bye,n-0,0,0
-510,n-0,n-1,7,confirm,n-1,0,0
-",
-    report: "members 2
-end 1100
-rows 9
-leave n-1 500 confirm 510 last 510 confirmers 1
-latency least - greatest -
-false suspect 0 healthy 0
-false confirm 0 healthy 0
-accuse 0
-refute 0
-fail 0
-health 0
-sent join 0 lost 0
-sent welcome 0 lost 0
-sent ping 2 lost 0
-sent ping-req 0 lost 0
-sent ack 2 lost 0
-sent nack 0 lost 0
-sent bye 1 lost 0
-",
-    rows: 9,
-};
-
-const WORKED: [Worked; 4] = [TWO_MEMBERS, CRASH_DETECTED, JOIN, LEAVE];
-
-/// All of them. A test that named the table would be proved with all its texts.
-pub(crate) fn all_worked<'a>() -> &'a [Worked] {
-    &WORKED
-}
-
-/// One member, to the last moment that there is.
-pub(crate) const LARGEST_MOMENTS: &str = "version = 1
-seed = 7
-end = 1099511627776
-[swim]
-period = 16777216
-timeout = 1
-spread = 1
-[link]
-delay = 10
-[[group]]
-name = \"n\"
-count = 1
-";

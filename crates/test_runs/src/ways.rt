@@ -44,26 +44,6 @@ pub(crate) fn dealt(
     divided(rt, scenario, parts, part_of)
 }
 
-/// The division of sites of two members each into four parts, where digit s of `deal` to base 4 says which part
-/// has site s. `Memory` where it is refused.
-fn dealt_by_site(
-    rt: &(impl Abort + AllocGlobal),
-    scenario: &Scenario,
-    deal: u8,
-) -> Result<Division, Memory> {
-    let mut part_of = Vec::new(rt.alloc());
-    let mut deals = deal;
-    for _ in 0..scenario.members() / 2 {
-        let part = deals % 4;
-        match part_of.extend_from_slice(&[part, part]) {
-            Ok(()) => {}
-            Err(_) => return Err(Memory),
-        }
-        deals /= 4;
-    }
-    divided(rt, scenario, 4, part_of)
-}
-
 /// How a test runs a scenario.
 #[derive(Clone, Copy)]
 pub(crate) enum Way {
@@ -75,8 +55,6 @@ pub(crate) enum Way {
     InTurn(u8),
     /// By so many parts, and so many workers.
     ByWorkers(u8, u8),
-    /// By four parts of whole sites of two members each, dealt by the digits of this number, and so many workers.
-    BySite(u8, u8),
 }
 
 const WAYS: [Way; 7] = [
@@ -103,7 +81,6 @@ fn division_of(
     match way {
         Way::AsOne | Way::Streamed => dealt(rt, scenario, 1),
         Way::InTurn(parts) | Way::ByWorkers(parts, _) => dealt(rt, scenario, parts),
-        Way::BySite(deal, _) => dealt_by_site(rt, scenario, deal),
     }
 }
 
@@ -118,7 +95,7 @@ pub(crate) fn run_by(
     let Ok(division) = division_of(rt, way, scenario) else {
         return Err(Fault::Memory);
     };
-    assert_eq!(rt; division.members(), scenario.members());
+    assert!(rt; division.members() == scenario.members());
     assert!(rt; trace.failures() < 1 << 62);
     assert!(rt; report.failures() < 1 << 62);
     let alloc = rt.alloc();
@@ -126,28 +103,11 @@ pub(crate) fn run_by(
         Way::AsOne => run_one(alloc, scenario, trace, report),
         Way::Streamed => run_streamed(alloc, scenario, trace, report),
         Way::InTurn(_) => run_in_turn(rt, alloc, scenario, &division, trace, report),
-        Way::ByWorkers(_, workers) | Way::BySite(_, workers) => {
+        Way::ByWorkers(_, workers) => {
             let workers = Workers::new(usize::from(workers)).expect(rt, "workers");
             run(
                 rt, alloc, scenario, &division, workers, &OpenGate, trace, report,
             )
         }
     }
-}
-
-/// Asserts that the scenario's run that way has this outcome, and writes what these sinks hold.
-pub(crate) fn assert_writes(
-    rt: &(impl Abort + AllocGlobal + Threads + Wait + Sync),
-    way: Way,
-    scenario: &Scenario,
-    outcome: Result<Summary, Fault>,
-    trace: &MemorySink,
-    report: &MemorySink,
-) {
-    let mut trace_of_way = MemorySink::new(rt.alloc());
-    let mut report_of_way = MemorySink::new(rt.alloc());
-    let same = run_by(rt, way, scenario, &mut trace_of_way, &mut report_of_way);
-    assert_eq!(rt; same, outcome);
-    assert!(rt; trace_of_way.bytes() == trace.bytes());
-    assert_eq!(rt; report_of_way.bytes(), report.bytes());
 }

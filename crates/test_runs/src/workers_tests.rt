@@ -1,11 +1,8 @@
 //! Runs by threads: the workers meet at a gate in each window, so they run at once, and each part is entered once in
-//! each window; and a trace of many batches.
+//! each window.
 
 use crate::gates::{Book, run_told};
 use crate::texts::{CRASH_DETECTED, JOIN, Worked};
-use crate::ways::{Way, assert_writes, run_by};
-use base::Fault;
-use scenario_reader::read;
 use std::marker::Sync;
 use std::process::Abort;
 use std::sync::Wait;
@@ -25,13 +22,10 @@ fn assert_entered(
     let mut trace = MemorySink::new(rt.alloc());
     let outcome = run_told(rt, gate, worked.scenario, part_of, &mut trace);
     assert!(rt; outcome.is_ok());
-    assert_eq!(rt; trace.bytes(), worked.trace.as_bytes());
-    assert_eq!(rt; gate.wrong(), 0);
+    assert!(rt; trace.bytes() == worked.trace.as_bytes());
+    assert!(rt; gate.wrong() == 0);
     let windows = gate.windows();
-    assert_eq!(rt;
-        gate.entries(),
-        windows.saturating_mul(u64::from(gate.parts))
-    );
+    assert!(rt; gate.entries() == windows.saturating_mul(u64::from(gate.parts)));
     windows
 }
 
@@ -78,52 +72,8 @@ fn one_worker_tells_of_each_part(rt: HostRuntime) -> Result<(), Fail> {
 fn one_part_has_one_window(rt: HostRuntime) -> Result<(), Fail> {
     for workers in [1, 2, 64] {
         let gate = Book::new(rt.alloc(), 1, workers, false)?;
-        assert_eq!(rt; assert_entered(&rt, &gate, &CRASH_DETECTED, &[0, 0]), 1);
-        assert_eq!(rt; gate.entries(), 1);
-    }
-    Ok(())
-}
-
-/// A quiet cluster whose trace is more batches long than the relay between the threads has room for.
-pub(crate) const MANY_ROWS: &str = "version = 1
-seed = 3
-end = 36000
-[swim]
-period = 100
-timeout = 30
-spread = 1
-[link]
-delay = 2
-[[group]]
-name = \"n\"
-count = 64
-";
-
-#[test]
-fn a_trace_of_many_batches_is_the_same(rt: HostRuntime) -> Result<(), Fail> {
-    let scenario = read(rt.alloc(), MANY_ROWS.as_bytes())?;
-    let mut trace = MemorySink::new(rt.alloc());
-    let mut report = MemorySink::new(rt.alloc());
-    let summary = run_by(&rt, Way::AsOne, &scenario, &mut trace, &mut report)?;
-    assert!(rt; summary.rows > 45_000);
-    let way = Way::ByWorkers(3, 2);
-    assert_writes(&rt, way, &scenario, Ok(summary), &trace, &report);
-    Ok(())
-}
-
-/// The sink takes so many bytes and then fails, in the first batch or in a later one. The batches after it are more than
-/// the relay has room for: whoever sends comes to its end all the same, since they are received.
-#[test]
-fn a_sink_may_fail_in_any_batch(rt: HostRuntime) -> Result<(), Fail> {
-    let scenario = read(rt.alloc(), MANY_ROWS.as_bytes())?;
-    for bytes in [0, 1_000, 200_000] {
-        let mut trace = MemorySink::new(rt.alloc()).failing_after(bytes);
-        let mut report = MemorySink::new(rt.alloc());
-        let way = Way::ByWorkers(3, 2);
-        let outcome = run_by(&rt, way, &scenario, &mut trace, &mut report);
-        assert_eq!(rt; outcome, Err(Fault::Write));
-        assert_eq!(rt; trace.bytes().len(), bytes);
-        assert_eq!(rt; report.bytes().len(), 0);
+        assert!(rt; assert_entered(&rt, &gate, &CRASH_DETECTED, &[0, 0]) == 1);
+        assert!(rt; gate.entries() == 1);
     }
     Ok(())
 }
