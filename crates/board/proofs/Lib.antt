@@ -1,4 +1,3 @@
 pub mod Hands
-pub mod Same
 pub mod Singles
 pub mod Steps

@@ -2,3 +2,4 @@ pub mod Deal
 pub mod NoSite
 pub mod Seats
 pub mod Sites
+pub mod Posts

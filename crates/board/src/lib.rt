@@ -16,13 +16,9 @@
 
 mod post;
 mod posts;
-#[cfg(test)]
-mod posts_tests;
 mod rule;
 mod seats;
 mod site;
-#[cfg(test)]
-mod tests;
 
 pub use post::Post;
 pub use posts::{posts_at, seats_of};

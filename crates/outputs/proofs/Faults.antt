@@ -1,7 +1,8 @@
 -- What holds of a result, by how it came out.
-use Rattle.std.proofs.Common.{◌≡◌, ◌≢◌, ℕ, ◌<◌, Result, Ok, Err, IsOk, ap, sym, subst, refl, arith}
+use Rattle.std.proofs.Common.{◌≡◌, ◌≢◌, ◌∙◌, ℕ, ◌<◌, Result, Ok, Err, IsErrAnd, IsOk, ap, sym, subst, refl, arith}
 use Rattle.std.specs.Result.{IfOk, IfErr, OnOk, OnErr, IsErrOf}
 use Rattle.std.proofs.lemmas.Bool.{false≢true}
+use Rattle.reports.proofs.Faults.{is_err}
 
 -- what holds holds at an error too
 pub on_err : {T E P : Type 0} (r : Result T E) → P → OnErr r P
@@ -50,3 +51,17 @@ never (Err e) fault differs = λ is. differs (ap Err is)
 pub still_countable : {T E : Type 0} (o : Result T E) (old new n : ℕ) → OnOk o (new ≡ old) → old < n → OnOk o (new < n)
 still_countable (Ok x) old new n same few = omega (arith, same, few)
 still_countable (Err e) old new n same few = tt
+
+-- a fault that is handed on is answered as it came
+pub told : {T U E : Type 0} (came : Result T E) (o : Result U E) (fault : E) → came ≡ Err fault → IsErrAnd o (λ e. e ≡ fault) → IfErr came (λ e. IsErrOf o e)
+told came o fault was gives = subst (λ r. IfErr r (λ e. IsErrOf o e)) (sym was) (is_err o fault gives)
+
+-- so is one that was told as it came
+pub told_on : {T V E : Type 0} (U : Type 0) (came : Result T E) (o : Result V E) (fault : E) → IfErr came (λ e. IsErrOf {T = U} (Err fault) e)
+    → IsErrAnd o (λ e. e ≡ fault) → IfErr came (λ e. IsErrOf o e)
+told_on U (Ok x) o fault so_far gives = tt
+told_on U (Err e) o fault so_far gives = let same : fault ≡ e = cc in is_err o fault gives ∙ ap Err same
+
+-- where it succeeded there is none
+pub none_told : {T E : Type 0} (P : E → Type 0) (came : Result T E) (x : T) → came ≡ Ok x → IfErr came P
+none_told P came x was = subst (λ r. IfErr r P) (sym was) tt

@@ -29,8 +29,9 @@ pub fn end_run<A: Sink, B: Sink>(
     ensures promise { (first : A) → KeepsTrace scenario.now (A.held first) (A.held trace.old) (A.failed first) (A.failed trace.old) outcome
         → KeepsPromise A.held A.failed B.held B.failed scenario.now first trace.new report.old report.new result }
 
-    // Only the sinks' failures and want of memory are added to the run's own faults.
+    // A fault of the run is answered as it came; only the sinks' failures and want of memory are added to its own.
     ensures came { OnOk result (IsOk outcome) }
+    ensures fault { IfErr outcome (λ fault. IsErrOf result fault) }
     ensures worn { IsErrOf result Fault.Worn → IsErrOf outcome Fault.Worn }
     ensures relay { IsErrOf result Fault.Relay → IsErrOf outcome Fault.Relay }
     ensures others { IfErr result (λ fault. fault ≢ Fault.Write → A.failed trace.new ≡ A.failed trace.old) }
@@ -57,8 +58,9 @@ pub fn end_tallied<A: Sink, B: Sink>(
     ensures promise { (first : A) → KeepsTrace scenario.now (A.held first) (A.held trace.old) (A.failed first) (A.failed trace.old) outcome
         → KeepsPromise A.held A.failed B.held B.failed scenario.now first trace.new report.old report.new (summed result) }
 
-    // Only the sinks' failures and want of memory are added to the run's own faults.
+    // A fault of the run is answered as it came; only the sinks' failures and want of memory are added to its own.
     ensures came { OnOk result (result ≡ outcome) }
+    ensures fault { IfErr outcome (λ fault. IsErrOf result fault) }
     ensures worn { IsErrOf result Fault.Worn → IsErrOf outcome Fault.Worn }
     ensures relay { IsErrOf result Fault.Relay → IsErrOf outcome Fault.Relay }
     ensures others { IfErr result (λ fault. fault ≢ Fault.Write → A.failed trace.new ≡ A.failed trace.old) }

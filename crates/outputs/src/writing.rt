@@ -36,7 +36,8 @@ pub fn write_run<A: Sink, B: Sink>(
     // The sinks get exactly the trace of the scenario's run, and the report on it; after a fault a beginning of that.
     ensures promise { KeepsPromise A.held A.failed B.held B.failed scenario.now trace.old trace.new report.old report.new result }
 
-    // No fault comes without its cause.
+    // No fault comes without its cause, and one of the run is answered as it came.
+    ensures fault { IfErr outcome (λ fault. IsErrOf result fault) }
     ensures worn { IsErrOf result Fault.Worn → WearsOut scenario.now }
     ensures others { IfErr result (λ fault. fault ≢ Fault.Write → A.failed trace.new ≡ A.failed trace.old) }
     ensures relay { IfErr result (λ fault. fault ≢ Fault.Relay) }

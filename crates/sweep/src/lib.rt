@@ -26,5 +26,4 @@ pub use progress::{NoProgress, Progress};
 pub use reading::read_run;
 pub use revived::tells_revived;
 pub use texts::{cases_text, lines_of_cases};
-pub use values::write_names;
 pub use writing::write_line;

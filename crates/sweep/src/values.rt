@@ -14,7 +14,7 @@ use trace::{Put, Sink, WriteError};
 
 /// Puts the first line of the table, with the names of the keys that are set. Whether it tells of members
 /// that were taken for alive again is given.
-pub fn write_names<S: Sink>(
+pub(crate) fn write_names<S: Sink>(
     alloc: Global,
     settings: &[Setting],
     revived: bool,

@@ -7,6 +7,10 @@ use Rattle.toml_places.specs.declared.places.Places.{Places}
 use Rattle.toml_places.specs.declared.places.Step.{Step}
 use Rattle.toml_places.specs.declared.places.Step.TheVariants.{Key, Item}
 
+-- how many bytes the text has
+abbrev pub text_length : Places → ℕ
+text_length p = p.length
+
 -- what stands at a place, if there is one of this number
 abbrev pub content_at : Places → ℕ → Option Content
 content_at p place = option_map (λ n. n.content) (slice_get p.nodes.items place)

@@ -1,7 +1,7 @@
 //! The places of a document.
 ghost use Rattle.std.specs.Prelude.{◌≡◌, option_copied, option_and_then};
 ghost use Rattle.toml_places.specs.Places.{IsWithin};
-ghost use Rattle.toml_places.specs.Found.{content_at, value_of, item_of, step_of, path_end};
+ghost use Rattle.toml_places.specs.Found.{text_length, content_at, value_of, item_of, step_of, path_end};
 
 use crate::nodes::{Content, Node};
 use crate::span::Span;
@@ -88,7 +88,7 @@ impl Places {
 
     /// Where the key of a place stands; of an item, where its value does.
     pub fn key(&self, place: usize) -> Span
-        ensures { IsWithin self.now.length result }
+        ensures { IsWithin (text_length self.now) result }
     {
         match self.nodes.get(place) {
             Some(node) => node.key.unwrap_or(node.value).within(self.length),
@@ -98,7 +98,7 @@ impl Places {
 
     /// Where the value of a place stands. Of a table with headers it is the last header.
     pub fn value(&self, place: usize) -> Span
-        ensures { IsWithin self.now.length result }
+        ensures { IsWithin (text_length self.now) result }
     {
         match self.nodes.get(place) {
             Some(node) => node.value.within(self.length),
@@ -108,7 +108,7 @@ impl Places {
 
     /// Where a table begins: its header, else its key, else its value; of the whole text, its end.
     pub fn header(&self, place: usize) -> Span
-        ensures { IsWithin self.now.length result }
+        ensures { IsWithin (text_length self.now) result }
     {
         match self.nodes.get(place) {
             Some(node) if place > 0 => {
@@ -122,7 +122,7 @@ impl Places {
 
     /// The end of the text.
     pub fn end(&self) -> Span
-        ensures { IsWithin self.now.length result }
+        ensures { IsWithin (text_length self.now) result }
     {
         Span {
             start: self.length,

@@ -1,5 +1,6 @@
 //! From a text to its places.
 ghost use Rattle.std.specs.Prelude.{◌≡◌, length, IfOk};
+ghost use Rattle.toml_places.specs.Found.{text_length};
 
 use crate::keys::{after, read_part};
 use crate::nodes::{Content, Node, Nodes};
@@ -14,7 +15,7 @@ use toml_parser::{ParseError, RECURSION_LIMIT, Scalar, quoted, starts_string, un
 /// Reads the places of a TOML document from its text. Of a text that is none, those up to some place
 /// before its fault.
 pub fn read(alloc: Global, text: &str) -> Result<Places, Memory>
-    ensures { IfOk result (λ places. places.length ≡ length text.now) }
+    ensures { IfOk result (λ places. text_length places ≡ length text.now) }
 {
     let nodes = read_nodes(alloc, text)?;
     Ok(Places::new(nodes.list, text.len()))

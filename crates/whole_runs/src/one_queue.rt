@@ -34,6 +34,7 @@ pub fn run_streamed<A: Sink, B: Sink>(
     // No fault comes without its cause.
     ensures lasts_report { OnOk result (¬ (WearsOutReport scenario.now)) }
     ensures worn { IsErrOf result Fault.Worn → WearsOut scenario.now ⊎ WearsOutReport scenario.now }
+    ensures others { IfErr result (λ fault. fault ≢ Fault.Write → A.failed trace.new ≡ A.failed trace.old) }
     ensures relay { IfErr result (λ fault. fault ≢ Fault.Relay) }
 {
     let _end = scenario.end();
@@ -66,6 +67,7 @@ pub fn run_streamed_gathered<A: Sink, B: Sink, C: GatherRows>(
     // No fault comes without its cause.
     ensures lasts_report { OnOk result (¬ (WearsOutReport scenario.now)) }
     ensures worn { IsErrOf result Fault.Worn → WearsOut scenario.now ⊎ WearsOutReport scenario.now }
+    ensures others { IfErr result (λ fault. fault ≢ Fault.Write → A.failed place.new.trace ≡ A.failed place.old.trace) }
     ensures relay { IfErr result (λ fault. fault ≢ Fault.Relay) }
 {
     let _end = scenario.end();

@@ -38,6 +38,7 @@ pub(crate) fn stream_run<T: TakeRows<P>, P>(
     ensures worn { IsErrOf result Fault.Worn → WearsOut scenario.now ⊎ WearsOutReport scenario.now }
     ensures write { IsErrOf result Fault.Write → T.failed place.old < T.failed place.new }
     ensures unfailed { OnOk result (T.failed place.new ≡ T.failed place.old) }
+    ensures others { IfErr result (λ fault. fault ≢ Fault.Write → T.failed place.new ≡ T.failed place.old) }
     ensures relay { IfErr result (λ fault. fault ≢ Fault.Relay) }
 {
     let _end = scenario.end();

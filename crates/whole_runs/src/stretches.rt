@@ -41,6 +41,7 @@ pub(crate) fn run_stretches<T: TakeRows<P>, P, Q: EventQueue<Event> + Drop>(
     ensures worn { IsErrOf result Fault.Worn → WearsOut cluster.entry.scenario.now ⊎ WearsOutReport cluster.entry.scenario.now }
     ensures write { IsErrOf result Fault.Write → T.failed place.old < T.failed place.new }
     ensures unfailed { OnOk result (T.failed place.new ≡ T.failed place.old) }
+    ensures others { IfErr result (λ fault. fault ≢ Fault.Write → T.failed place.new ≡ T.failed place.old) }
     ensures relay { IfErr result (λ fault. fault ≢ Fault.Relay) }
 {
     let mut tallies = Tallies::new(alloc);

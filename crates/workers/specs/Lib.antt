@@ -4,3 +4,4 @@ pub mod Faults
 pub mod Pieces
 pub mod Props
 pub mod Gates
+pub mod Closing

@@ -1,8 +1,9 @@
-ghost use Rattle.std.specs.Prelude.{◌≡◌, OnOk, IfErr};
+ghost use Rattle.std.specs.Prelude.{◌≡◌, OnOk, OnErr, IfErr};
 ghost use Rattle.std.specs.List.{flat_map};
 ghost use Rattle.board.specs.Deal.{SameBag};
 ghost use Rattle.board.specs.Seats.{AreAllSeats, dealt, taken};
 ghost use Rattle.board.specs.Sites.{AreSingleSeats};
+ghost use Rattle.workers.specs.Closing.{IsUnsettled};
 
 use crate::gate::Gate;
 use crate::pieces::{OfScenario, TaskBoard, TaskSeat};
@@ -26,6 +27,7 @@ pub fn close_board<'a, Q: EventQueue<Event> + Drop, G: Gate, K: OfScenario>(
     ensures all { OnOk result (AreAllSeats board.entry seats.entry.items) }
     ensures taken { OnOk result (SameBag (flat_map dealt seats.entry.items) (flat_map taken seats.entry.items)) }
     ensures relay { IfErr result (λ fault. fault ≡ Fault.Relay) }
+    ensures cause { OnErr result (IsUnsettled seats.entry.items) }
 {
     if seats.len() != SEATS {
         return Err(Fault::Relay);

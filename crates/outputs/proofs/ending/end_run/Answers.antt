@@ -3,12 +3,16 @@ use Rattle.base.specs.declared.fault.Fault.TheVariants.{Write}
 use Rattle.reports.proofs.Faults.{is_err, handed_on}
 use Rattle.outputs.specs.Promise.{KeepsPromise}
 use Rattle.outputs.proofs.Failing.{answered, summed_ok}
+use Rattle.outputs.proofs.Faults.{told_on, none_told}
 use Rattle.outputs.proofs.ending.end_run.Goals as goal
 
 pub returns-in_err-tallies-clause-promise : goal.returns-in_err-tallies-clause-promise
 returns-in_err-tallies-clause-promise g c = λ first so_far.
     subst (KeepsPromise g.A.Sink.held g.A.Sink.failed g.B.Sink.held g.B.Sink.failed c.args.scenario.now first _ c.args.report.now _) (sym (is_err c.from_residual.result _ c.from_residual.ensures.1))
     (c.in_err-tallies.ensures.promise first so_far)
+
+pub returns-in_err-tallies-clause-fault : goal.returns-in_err-tallies-clause-fault
+returns-in_err-tallies-clause-fault g c = told_on _ _ _ _ c.in_err-tallies.ensures.fault c.from_residual.ensures.1
 
 pub returns-in_err-tallies-clause-worn : goal.returns-in_err-tallies-clause-worn
 returns-in_err-tallies-clause-worn g c = λ h. c.in_err-tallies.ensures.worn (handed_on _ _ _ c.from_residual.ensures.1 h)
@@ -25,3 +29,6 @@ returns-clause-promise g c = λ first so_far.
 
 pub returns-clause-came : goal.returns-clause-came
 returns-clause-came g c = subst IsOk c.in_ok-tallies.ensures.came refl
+
+pub returns-clause-fault : goal.returns-clause-fault
+returns-clause-fault g c = none_told _ _ _ (sym c.in_ok-tallies.ensures.came)

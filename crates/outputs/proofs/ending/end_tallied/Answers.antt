@@ -6,6 +6,7 @@ use Rattle.trace.specs.Text.{NamesMembers, trace_text}
 use Rattle.trace.proofs.Beginnings.{beginning-whole, Appends-kept, Keeps-same}
 use Rattle.reports.proofs.Faults.{handed_on}
 use Rattle.outputs.specs.Traced.{KeepsTrace}
+use Rattle.outputs.proofs.Faults.{told, none_told}
 use Rattle.outputs.proofs.Failing.{answered, write_fails, nothing_fails, never_worn, never_relay, breaks_off, summed_err}
 use Rattle.outputs.proofs.ending.end_tallied.Goals as goal
 
@@ -21,6 +22,9 @@ returns-in_err-tallies-clause-promise g c = λ first so_far.
     breaks_off g.A.Sink.held g.A.Sink.failed g.B.Sink.held g.B.Sink.failed c.args.scenario.now _ _ _ _ _ _ (summed_err _ _ c.from_residual.ensures.1)
     (record { rows = kept.part.rows; run = kept.part.run; written = inl (kept.part.written, Keeps-same _) })
     (λ h. refl) (λ is. inl (kept.write (ap Err is))) (λ h. refl)
+
+pub returns-in_err-tallies-clause-fault : goal.returns-in_err-tallies-clause-fault
+returns-in_err-tallies-clause-fault g c = told _ _ _ c.in_err-tallies.was c.from_residual.ensures.1
 
 pub returns-in_err-tallies-clause-worn : goal.returns-in_err-tallies-clause-worn
 returns-in_err-tallies-clause-worn g c = λ h. c.in_err-tallies.was ∙ handed_on _ _ _ c.from_residual.ensures.1 h
@@ -40,6 +44,9 @@ returns-in_err-flush-clause-promise g c = λ first so_far.
       written = inl (beginning-whole _ _ (trace_text c.args.scenario.now rows) (Appends-kept _ _ _ (trace_text c.args.scenario.now rows) kept.whole c.in_err-flush.ensures.same), Keeps-same _);
     })
     (λ h. refl) (λ is. let one = write_fails _ is in inl (omega (arith, one, none, c.in_err-flush.ensures.failures))) (λ h. refl)
+
+pub returns-in_err-flush-clause-fault : goal.returns-in_err-flush-clause-fault
+returns-in_err-flush-clause-fault g c = none_told _ _ _ c.in_ok-tallies.was
 
 pub returns-in_err-flush-clause-worn : goal.returns-in_err-flush-clause-worn
 returns-in_err-flush-clause-worn g c = λ h. absurd (never_worn _ _ c.from_residual-in_err-flush.ensures.1 h)
@@ -66,6 +73,9 @@ returns-in_err-write_tallied-clause-promise g c = λ first so_far.
     (λ h. absurd (omega (arith, h, unfailed, c.in_ok-flush.ensures.failures)))
     (λ is. let one = write_fails _ is in inr (omega (arith, one, c.in_err-write_tallied.ensures.failures)))
     (λ differs. let none = nothing_fails _ differs in omega (arith, none, c.in_err-write_tallied.ensures.failures))
+
+pub returns-in_err-write_tallied-clause-fault : goal.returns-in_err-write_tallied-clause-fault
+returns-in_err-write_tallied-clause-fault g c = none_told _ _ _ c.in_ok-tallies.was
 
 pub returns-in_err-write_tallied-clause-worn : goal.returns-in_err-write_tallied-clause-worn
 returns-in_err-write_tallied-clause-worn g c = λ h. absurd (never_worn _ _ c.from_residual-in_err-write_tallied.ensures.1 h)
@@ -101,3 +111,6 @@ returns-clause-promise g c = λ first so_far.
 
 pub returns-clause-came : goal.returns-clause-came
 returns-clause-came g c = sym c.in_ok-tallies.was
+
+pub returns-clause-fault : goal.returns-clause-fault
+returns-clause-fault g c = none_told _ _ _ c.in_ok-tallies.was

@@ -4,6 +4,7 @@ use Rattle.base.specs.declared.fault.Fault.TheVariants.{Write, Relay}
 use Rattle.trace.proofs.Beginnings.{Keeps-same}
 use Rattle.member_laws.specs.Runs.{IsRunOf}
 use Rattle.reports.proofs.Faults.{handed_on}
+use Rattle.outputs.proofs.Faults.{told, none_told}
 use Rattle.outputs.proofs.Failing.{answered, write_fails, nothing_fails, never_worn, never_relay, breaks_off}
 use Rattle.outputs.proofs.Runs.{writes_nothing}
 use Rattle.outputs.proofs.writing.write_run.Goals as goal
@@ -13,6 +14,9 @@ returns-in_err-rows-clause-promise g c =
     let no_writes = subst (λ o. IfErr o (λ fault. (fault ≢ Write) × (fault ≢ Relay))) c.in_err-rows.was c.requires.no_writes in
     breaks_off g.A.Sink.held g.A.Sink.failed g.B.Sink.held g.B.Sink.failed c.args.scenario.now _ _ _ _ _ _ c.from_residual.ensures.1
     (writes_nothing c.args.scenario.now _ _ c.requires.sound) (λ h. refl) (λ is. absurd (no_writes.0 is)) (λ h. refl)
+
+pub returns-in_err-rows-clause-fault : goal.returns-in_err-rows-clause-fault
+returns-in_err-rows-clause-fault g c = told _ _ _ c.in_err-rows.was c.from_residual.ensures.1
 
 pub returns-in_err-rows-clause-worn : goal.returns-in_err-rows-clause-worn
 returns-in_err-rows-clause-worn g c = λ h. c.requires.worn (c.in_err-rows.was ∙ handed_on _ _ _ c.from_residual.ensures.1 h)
@@ -26,6 +30,9 @@ returns-in_err-write_trace-clause-promise g c =
       written = inl (rw (sym c.deref.ensures.value) c.in_err-write_trace.ensures.part, Keeps-same _);
     })
     (λ h. refl) (λ is. let one = write_fails _ is in inl (omega (arith, one, c.in_err-write_trace.ensures.failures))) (λ h. refl)
+
+pub returns-in_err-write_trace-clause-fault : goal.returns-in_err-write_trace-clause-fault
+returns-in_err-write_trace-clause-fault g c = none_told _ _ _ c.in_ok-rows.was
 
 pub returns-in_err-write_trace-clause-worn : goal.returns-in_err-write_trace-clause-worn
 returns-in_err-write_trace-clause-worn g c = λ h. absurd (never_worn _ _ c.from_residual-in_err-write_trace.ensures.1 h)
@@ -49,6 +56,9 @@ returns-in_err-write_report-clause-promise g c =
     (λ h. absurd (omega (arith, h, c.in_ok-write_trace.ensures.failures)))
     (λ is. let one = write_fails _ is in inr (omega (arith, one, c.in_err-write_report.ensures.failures)))
     (λ differs. let none = nothing_fails _ differs in omega (arith, none, c.in_err-write_report.ensures.failures))
+
+pub returns-in_err-write_report-clause-fault : goal.returns-in_err-write_report-clause-fault
+returns-in_err-write_report-clause-fault g c = none_told _ _ _ c.in_ok-rows.was
 
 pub returns-in_err-write_report-clause-worn : goal.returns-in_err-write_report-clause-worn
 returns-in_err-write_report-clause-worn g c = λ h. absurd (never_worn _ _ c.from_residual-in_err-write_report.ensures.1 h)
@@ -77,3 +87,6 @@ returns-clause-promise g c = record {
   whole_report = omega (arith, c.in_ok-write_report.ensures.failures);
   others_report = tt;
 }
+
+pub returns-clause-fault : goal.returns-clause-fault
+returns-clause-fault g c = none_told _ _ _ c.in_ok-rows.was

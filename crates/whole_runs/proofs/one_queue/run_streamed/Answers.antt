@@ -4,6 +4,7 @@ use Rattle.base.specs.declared.fault.Fault.TheVariants.{Relay}
 use Rattle.turns.proofs.Goes.{names_run}
 use Rattle.outputs.proofs.Faults.{on_came, never, still_countable}
 use Rattle.outputs.specs.Promise.{WearsOutReport}
+use Rattle.whole_runs.proofs.Faults.{failures_told}
 use Rattle.whole_runs.proofs.one_queue.run_streamed.Goals as goal
 
 pub end_run-requires-clause-named : goal.end_run-requires-clause-named
@@ -35,3 +36,8 @@ returns-clause-worn g c = λ is. c.stream_run-outcome.ensures.worn (c.end_run.en
 
 pub returns-clause-relay : goal.returns-clause-relay
 returns-clause-relay g c = never c.end_run.result Relay (λ is. IfErr-at_err (λ fault. fault ≢ Relay) (c.end_run.ensures.relay is) c.stream_run-outcome.ensures.relay refl)
+
+pub returns-clause-others : goal.returns-clause-others
+returns-clause-others g c =
+    let came = c.stream_run-outcome.ensures in
+    failures_told c.stream_run-outcome.result c.end_run.result _ _ _ c.end_run.ensures.fault came.unfailed came.others c.end_run.ensures.others

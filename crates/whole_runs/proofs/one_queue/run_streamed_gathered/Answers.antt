@@ -6,6 +6,7 @@ use Rattle.turns.proofs.Goes.{names_run}
 use Rattle.outputs.proofs.Faults.{if_same, ok_too, on_came, never, still_countable}
 use Rattle.member_laws.specs.Runs.{IsRunOf}
 use Rattle.outputs.specs.Promise.{WearsOutReport}
+use Rattle.whole_runs.proofs.Faults.{failures_told}
 use Rattle.whole_runs.proofs.one_queue.run_streamed_gathered.Goals as goal
 
 pub end_tallied-requires-clause-named : goal.end_tallied-requires-clause-named
@@ -48,3 +49,8 @@ returns-clause-named g c =
 
 pub returns-clause-gathered : goal.returns-clause-gathered
 returns-clause-gathered g c = if_same _ c.end_tallied.result c.stream_run-outcome.result c.end_tallied.ensures.came c.stream_run-outcome.ensures.gathered
+
+pub returns-clause-others : goal.returns-clause-others
+returns-clause-others g c =
+    let came = c.stream_run-outcome.ensures in
+    failures_told c.stream_run-outcome.result c.end_tallied.result _ _ _ c.end_tallied.ensures.fault came.unfailed came.others c.end_tallied.ensures.others

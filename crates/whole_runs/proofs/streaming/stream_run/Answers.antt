@@ -1,8 +1,11 @@
-use Rattle.std.proofs.Common.{[], refl, arith}
+use Rattle.std.proofs.Common.{◌≢◌, [], refl, arith}
+use Rattle.base.specs.declared.fault.Fault.TheVariants.{Write}
 use Rattle.reports.proofs.Faults.{handed_on}
 use Rattle.outputs.proofs.Faults.{on_err}
+use Rattle.outputs.proofs.Failing.{answered}
 use Rattle.outputs.proofs.Runs.{begins_nothing, some_run}
 use Rattle.whole_runs.proofs.Streamed.{begins_trace}
+use Rattle.whole_runs.proofs.Faults.{no_failure, on_fault, failures_since}
 use Rattle.whole_runs.proofs.streaming.stream_run.Goals as goal
 
 pub returns-in_err-links-clause-part : goal.returns-in_err-links-clause-part
@@ -33,3 +36,20 @@ returns-clause-part g c = c.run_stretches.ensures.part _ (c.in_ok-begin.ensures.
 
 pub run_stretches-requires-clause-none_gathered : goal.run_stretches-requires-clause-none_gathered
 run_stretches-requires-clause-none_gathered g c = c.in_ok-begin.ensures.gathered c.args.scenario.now [] c.requires.none_gathered
+
+pub returns-in_err-links-clause-others : goal.returns-in_err-links-clause-others
+returns-in_err-links-clause-others g c = on_fault (λ fault. fault ≢ Write) _ refl
+
+pub returns-in_err-wheel-clause-others : goal.returns-in_err-wheel-clause-others
+returns-in_err-wheel-clause-others g c = on_fault (λ fault. fault ≢ Write) _ refl
+
+pub returns-in_err-part-clause-others : goal.returns-in_err-part-clause-others
+returns-in_err-part-clause-others g c = on_fault (λ fault. fault ≢ Write) _ refl
+
+pub returns-in_err-begin-clause-others : goal.returns-in_err-begin-clause-others
+returns-in_err-begin-clause-others g c =
+    answered (λ fault. fault ≢ Write → _) _ _ c.from_residual-in_err-begin.ensures.1
+    (λ differs. let none = no_failure (Unit {0}) _ differs in omega (arith, none, c.in_err-begin.ensures.failures))
+
+pub returns-clause-others : goal.returns-clause-others
+returns-clause-others g c = failures_since c.run_stretches.result _ _ _ (omega (arith, c.in_ok-begin.ensures.failures)) c.run_stretches.ensures.others

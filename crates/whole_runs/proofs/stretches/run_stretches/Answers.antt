@@ -1,4 +1,5 @@
-use Rattle.std.proofs.Common.{◌≤◌, ◌^◌, ◌++◌, length, All, Ok, inl, inr, ap, ◌∙◌, sym, subst, refl, arith, rules}
+use Rattle.std.proofs.Common.{◌≢◌, ◌≤◌, ◌^◌, ◌++◌, length, All, Ok, inl, inr, ap, ◌∙◌, sym, subst, refl, arith, rules}
+use Rattle.base.specs.declared.fault.Fault.TheVariants.{Write}
 use Rattle.trace.specs.Text.{NamesMembers}
 use Rattle.windows.specs.WorldOf.{world_of}
 use Rattle.windows.specs.Window.{IsConsistentPart}
@@ -9,10 +10,11 @@ use Rattle.turns.proofs.Goes.{names_next}
 use Rattle.outputs.specs.Written.{HasWritten}
 use Rattle.reports.proofs.Faults.{handed_on}
 use Rattle.outputs.proofs.Faults.{on_err}
+use Rattle.outputs.proofs.Failing.{answered}
 use Rattle.outputs.proofs.Streaming.{written_on}
 use Rattle.whole_runs.proofs.Whole.{HasComeTo, at_opening, comes_on, comes_worn, comes_first, comes_to_end, comes_unworn}
 use Rattle.whole_runs.proofs.Reported.{wears_report, lasts_in_report}
-use Rattle.whole_runs.proofs.Faults.{worn_step}
+use Rattle.whole_runs.proofs.Faults.{worn_step, no_failure, on_fault}
 use Rattle.whole_runs.proofs.Streamed.{begins_trace}
 use Rattle.whole_runs.proofs.stretches.run_stretches.Goals as goal
 
@@ -40,6 +42,9 @@ pub returns-in_err-done-clause-worn : goal.returns-in_err-done-clause-worn
 returns-in_err-done-clause-worn g c = λ h.
     inl (comes_worn c.args.cluster.scenario.now c.requires.sound c.loop-from.from (world_of g.Q.EventQueue.set c.loop-from.part) c.loop-from.tallies c.loop-from.invariant.come c.end-bound.result
     (c.in_err-done.ensures.worn (worn_step c.from_residual.result _ c.from_residual.ensures.1 h)))
+
+pub returns-in_err-done-clause-others : goal.returns-in_err-done-clause-others
+returns-in_err-done-clause-others g c = on_fault (λ fault. fault ≢ Write) _ c.loop-from.invariant.unfailed
 
 pub take-requires-clause-named : goal.take-requires-clause-named
 take-requires-clause-named g c =
@@ -76,6 +81,12 @@ returns-in_err-take-clause-worn g c = λ h.
     inr (wears_report s (before ++ c.deref.result.now)
     (subst (λ l. BeginsRun s (before ++ l)) (sym c.deref.ensures.value) (comes_first s c.requires.sound c.end-bound.result after (before ++ c.in_ok-done.done.rows.items) on))
     (c.in_err-take.ensures.worn (handed_on c.from_residual-in_err-take.result _ _ c.from_residual-in_err-take.ensures.1 h)))
+
+pub returns-in_err-take-clause-others : goal.returns-in_err-take-clause-others
+returns-in_err-take-clause-others g c =
+    let so_far = c.loop-from.invariant.unfailed in
+    answered (λ fault. fault ≢ Write → _) _ _ c.from_residual-in_err-take.ensures.1
+    (λ differs. let none = no_failure (Unit {0}) _ differs in omega (arith, none, so_far, c.in_err-take.ensures.failures))
 
 pub loop-from-preserved : goal.loop-from-preserved
 loop-from-preserved g c =
