@@ -342,6 +342,13 @@ asked_init_fails Refused words before making old new answer preset unchanged fai
     by_failure (Division cause) asks none = absurd none
     by_failure (Run cause) asks none = absurd none
 
+-- the same of whatever came of it
+pub asked_init_failed : (Refused : Type 0) (words : List Text) (before : Shelf) (making : Making) (old new : Option (List ℕ)) (answer : Asked) (preset : Preset) (unchanged : Type 0)
+    (done : Result (Unit {0}) Failure) → answer ≡ asked.Init preset → Answers words answer → IfErr done (PresetFails preset unchanged)
+    → IfErr done (Fails Refused words before before making old new)
+asked_init_failed Refused words before making old new answer preset unchanged done is h failed =
+    IfErr-weaker done _ _ (λ failure fails. asked_init_fails Refused words before making old new answer preset unchanged failure is h fails) failed
+
 -- what holds anyhow holds of what is done
 pub on_done : {T E : Type 0} (told : Result T E) (P : Type 0) → P → OnOk told P
 on_done (Ok x) P holds = holds

@@ -1,4 +1,6 @@
 mod App
+mod Asking
 mod Parts
 mod RunRows
+mod Sweeps
 mod Widths

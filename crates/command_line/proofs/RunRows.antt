@@ -72,7 +72,7 @@ apart : (met : Option (Text × List Row)) (name other : Text) (rows given : List
     → get_or name 0 0 ≡ get_or other 0 0
 apart met name other rows given is was = ap name_first (sym is ∙ was)
 
-abbrev rows_met : Option (Text × List Row) → List Row
+abbrev pub rows_met : Option (Text × List Row) → List Row
 rows_met None = []
 rows_met (Some met) = met.1
 

@@ -25,3 +25,15 @@ no_plan rows words seeds until settings seeded asks none plan h =
     let set = subst (λ w. IsSweepOf w (first_of (codes "seeds") rows) plan.until plan) (sym settings) h.planned in
     let all = subst (λ s. IsSweepOf words s plan.until plan) (sym seeded) set in
     none plan (subst (λ w. IsSweepOf words seeds w plan) same all)
+
+-- where they make one, it is asked for
+pub plans : (rows : List Row) (words : List Text) (seeds : Option Text) (until : Option ℕ) (plan : Planned) → words ≡ unwrap_or (all_of (codes "set") rows) []
+    → seeds ≡ first_of (codes "seeds") rows → AsksForWidth (first_of (codes "until") rows) until → IsSweepOf words seeds until plan → IsPlanIn rows plan
+plans rows words seeds until plan settings seeded asks h =
+    let same = sym h.wanted in
+    let set = subst (λ w. IsSweepOf w seeds until plan) settings h in
+    let all = subst (λ s. IsSweepOf (unwrap_or (all_of (codes "set") rows) []) s until plan) seeded set in
+    record {
+      width = subst (AsksForWidth (first_of (codes "until") rows)) same asks;
+      planned = subst (λ w. IsSweepOf (unwrap_or (all_of (codes "set") rows) []) (first_of (codes "seeds") rows) w plan) same all;
+    }

@@ -1,4 +1,5 @@
 pub mod Failures
+pub mod Asking
 pub mod Words
 pub mod Division
 pub mod Printed

@@ -101,7 +101,7 @@ abbrev pub bare_app : App
 bare_app = let app = new_app (codes "swimsim") in
     record app { top = record app.top { has_version = true; no_binary_name = true; subcommand_required = true } }
 
-abbrev pub swimsim_app : App
+unfoldable pub swimsim_app : App
 swimsim_app =
     let checked = with_subcommand (with_subcommand bare_app run_app.top) check_app.top in
     let swept = with_subcommand (with_subcommand checked explain_app.top) sweep_app.top in

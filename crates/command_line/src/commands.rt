@@ -2,8 +2,9 @@
 ghost use Rattle.std.specs.Prelude.{◌≡◌, IfOk};
 ghost use Rattle.clap.specs.Words.{app_of};
 ghost use Rattle.arguments.specs.Rules.{IsLocal};
-ghost use Rattle.command_line.specs.Words.{check_app, swimsim_app};
+ghost use Rattle.command_line.specs.Words.{bare_app, check_app, swimsim_app};
 
+use crate::chained::and_command;
 use crate::explaining::explain_command;
 use crate::initial::init_command;
 use crate::joining::join_command;
@@ -18,20 +19,25 @@ use std::alloc::{AllocError, Global};
 pub(crate) fn program_command<'a>(alloc: Global) -> Result<Command<'a>, AllocError>
     ensures { IfOk result (λ command. app_of command ≡ swimsim_app) }
 {
-    Command::new(alloc, "swimsim")
-        .bin_name("swimsim")?
+    let ran = and_command(bare_command(alloc), run_command(alloc));
+    let checked = and_command(ran, check_command(alloc));
+    let explained = and_command(checked, explain_command(alloc));
+    let swept = and_command(explained, sweep_command(alloc));
+    let begun = and_command(swept, init_command(alloc));
+    let joined = and_command(begun, join_command(alloc));
+    and_command(joined, page_command(alloc))
+}
+
+/// The program, with no command yet.
+fn bare_command<'a>(alloc: Global) -> Result<Command<'a>, AllocError>
+    ensures { IfOk result (λ command. app_of command ≡ bare_app) }
+{
+    let named = Command::new(alloc, "swimsim").bin_name("swimsim")?;
+    let told = named
         .about("Simulates clusters of the SWIM membership protocol")
         // with a version there is the flag --version; what it tells, `print_release` prints
-        .version("")
-        .no_binary_name(true)
-        .subcommand_required(true)
-        .subcommand(run_command(alloc)?)?
-        .subcommand(check_command(alloc)?)?
-        .subcommand(explain_command(alloc)?)?
-        .subcommand(sweep_command(alloc)?)?
-        .subcommand(init_command(alloc)?)?
-        .subcommand(join_command(alloc)?)?
-        .subcommand(page_command(alloc)?)
+        .version("");
+    Ok(told.no_binary_name(true).subcommand_required(true))
 }
 
 /// The command `check`.

@@ -5,7 +5,8 @@ ghost use Rattle.command_line.specs.declared.explaining.ExplainWords.{ExplainWor
 ghost use Rattle.arguments.specs.Rules.{IsLocal};
 ghost use Rattle.command_line.specs.Words.{explain_app, IsExplainIn};
 
-use arguments::{is_given, new_command, value_of, with_file, with_flag};
+use crate::chained::and_flag;
+use arguments::{is_given, new_command, value_of, with_file};
 use clap::{ArgMatches, Command};
 use std::alloc::{AllocError, Global};
 
@@ -24,8 +25,8 @@ pub(crate) fn explain_command<'a>(alloc: Global) -> Result<Command<'a>, AllocErr
 {
     let about =
         "Tells all mistakes of a scenario that is refused, or what one that is accepted means";
-    let filed = with_file(alloc, new_command(alloc, "explain", about))?;
-    with_flag(
+    let filed = with_file(alloc, new_command(alloc, "explain", about));
+    and_flag(
         alloc,
         filed,
         "json",

@@ -104,11 +104,11 @@ impl fmt::Display for Failure<'_> {
     fn fmt<W: fmt::Write>(&self, f: &mut fmt::Formatter<W>) -> fmt::Result {
         match self {
             Failure::File(name) => {
-                write!(f, "file ")?;
+                f.write_str("file ")?;
                 write_name(f, name)
             }
-            Failure::Usage => write!(f, "usage"),
-            Failure::Preset => write!(f, "usage: the presets are local, lan, wan and swim"),
+            Failure::Usage => f.write_str("usage"),
+            Failure::Preset => f.write_str("usage: the presets are local, lan, wan and swim"),
             Failure::NoItem { key } => write!(f, "usage: no item of {key}"),
             Failure::Rule(rule) | Failure::Mistaken(rule) => write!(f, "scenario rule {rule}"),
             Failure::Case { rule, settings } => {
@@ -116,7 +116,7 @@ impl fmt::Display for Failure<'_> {
                 write_settings(f, settings)
             }
             Failure::Pieces(fault) => write_piece_fault(f, *fault),
-            Failure::Workers => write!(f, "workers"),
+            Failure::Workers => f.write_str("workers"),
             Failure::Division(fault) => {
                 let number = division_number(*fault);
                 write!(f, "division V{number}")
@@ -125,8 +125,8 @@ impl fmt::Display for Failure<'_> {
                 let number = fault_number(*fault);
                 write!(f, "run F{number}")
             }
-            Failure::Memory => write!(f, "memory"),
-            Failure::Output => write!(f, "output"),
+            Failure::Memory => f.write_str("memory"),
+            Failure::Output => f.write_str("output"),
         }
     }
 }
@@ -147,7 +147,7 @@ fn write_piece_fault<W: fmt::Write>(f: &mut fmt::Formatter<W>, fault: PieceFault
 {
     match fault {
         PieceFault::NoPiece(name) => {
-            write!(f, "no piece ")?;
+            f.write_str("no piece ")?;
             write_name(f, name)
         }
         PieceFault::Other(name) => write_piece(f, name, " of another sweep"),
@@ -161,7 +161,7 @@ fn write_piece_fault<W: fmt::Write>(f: &mut fmt::Formatter<W>, fault: PieceFault
 fn write_piece<W: fmt::Write>(f: &mut fmt::Formatter<W>, name: &str, what: &str) -> fmt::Result
     ensures { WritesOnOk W.write_str_gives f.old result (codes "piece " ++ shown_name name.now ++ what.now) f.new }
 {
-    write!(f, "piece ")?;
+    f.write_str("piece ")?;
     write_name(f, name)?;
     f.write_str(what)
 }

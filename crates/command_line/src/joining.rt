@@ -5,10 +5,11 @@ ghost use Rattle.arguments.specs.Rules.{IsLocal};
 ghost use Rattle.command_line.specs.declared.joining.JoinWords.{JoinWords as Wished};
 ghost use Rattle.command_line.specs.Words.{join_app, may_name, pieces_rule, IsJoinIn, Meets};
 
+use crate::chained::{and_option, and_required};
 use crate::failure::Failure;
 use crate::telling::{wants_asked, with_telling};
 use answers::Want;
-use arguments::{is_given, new_command, value_of, values_of, with_option, with_required};
+use arguments::{is_given, new_command, value_of, values_of};
 use clap::{Arg, ArgMatches, Command};
 use std::alloc::{AllocError, Global};
 
@@ -34,16 +35,16 @@ pub(crate) fn join_command<'a>(alloc: Global) -> Result<Command<'a>, AllocError>
     ensures { IfOk result (IsLocal join_app) }
 {
     let about = "Puts the pieces of a sweep together, and writes the table of the whole";
-    let filed = with_pieces(alloc, new_command(alloc, "join", about))?;
-    let tabled = with_required(
+    let filed = with_pieces(alloc, new_command(alloc, "join", about));
+    let tabled = and_required(
         alloc,
         filed,
         "table",
         "T",
         "The file that takes the table; one that is there is replaced",
-    )?;
-    let told = with_telling(alloc, tabled)?;
-    with_option(
+    );
+    let told = with_telling(alloc, tabled);
+    and_option(
         alloc,
         told,
         "name",

@@ -1,6 +1,7 @@
 //! What the words of a command line ask for, and what a command prints.
 #![tactic(auto)]
 
+mod chained;
 mod commands;
 mod division;
 mod explaining;

@@ -5,9 +5,10 @@ ghost use Rattle.arguments.specs.Rules.{IsLocal};
 ghost use Rattle.command_line.specs.declared.paging.PageWords.{PageWords as Wished};
 ghost use Rattle.command_line.specs.Words.{page_app, IsPageIn};
 
+use crate::chained::{and_option, and_required};
 use crate::failure::Failure;
 use crate::joining::{pieces_named, with_pieces};
-use arguments::{new_command, value_of, with_option, with_required};
+use arguments::{new_command, value_of};
 use clap::{ArgMatches, Command};
 use std::alloc::{AllocError, Global};
 
@@ -27,15 +28,15 @@ pub(crate) fn page_command<'a>(alloc: Global) -> Result<Command<'a>, AllocError>
     ensures { IfOk result (IsLocal page_app) }
 {
     let about = "Makes a sweep's page of the pieces of its table";
-    let filed = with_pieces(alloc, new_command(alloc, "page", about))?;
-    let made = with_required(
+    let filed = with_pieces(alloc, new_command(alloc, "page", about));
+    let made = and_required(
         alloc,
         filed,
         "out",
         "P",
         "The file that takes the page, in HTML; one that is there is replaced",
-    )?;
-    with_option(
+    );
+    and_option(
         alloc,
         made,
         "name",

@@ -6,10 +6,9 @@ ghost use Rattle.command_line.specs.declared.words.Split.{Split as Wanted};
 ghost use Rattle.arguments.specs.Rules.{IsLocal};
 ghost use Rattle.command_line.specs.Words.{run_app, with_outputs, with_parting, IsRunIn, IsSplitIn};
 
+use crate::chained::{and_flag, and_option, and_required};
 use crate::words::{RunWords, Split};
-use arguments::{
-    is_given, new_command, value_of, with_file, with_flag, with_option, with_required,
-};
+use arguments::{is_given, new_command, value_of, with_file};
 use clap::{ArgMatches, Command};
 use std::alloc::{AllocError, Global};
 
@@ -18,10 +17,10 @@ pub(crate) fn run_command<'a>(alloc: Global) -> Result<Command<'a>, AllocError>
     ensures { IfOk result (IsLocal run_app) }
 {
     let about = "Runs a scenario, and writes its trace";
-    let filed = with_file(alloc, new_command(alloc, "run", about))?;
-    let written = with_outputs(alloc, filed)?;
-    let parted = with_parting(alloc, written)?;
-    with_flag(
+    let filed = with_file(alloc, new_command(alloc, "run", about));
+    let written = with_outputs(alloc, filed);
+    let parted = with_parting(alloc, written);
+    and_flag(
         alloc,
         parted,
         "progress",
@@ -30,24 +29,27 @@ pub(crate) fn run_command<'a>(alloc: Global) -> Result<Command<'a>, AllocError>
 }
 
 /// A command with the options more that say which files a run is written to.
-fn with_outputs<'a>(alloc: Global, command: Command<'a>) -> Result<Command<'a>, AllocError>
-    ensures { (app : App) → IsLocal app command.entry → IfOk result (IsLocal (with_outputs app)) }
+fn with_outputs<'a>(
+    alloc: Global,
+    so_far: Result<Command<'a>, AllocError>,
+) -> Result<Command<'a>, AllocError>
+    ensures { (app : App) → IfOk so_far.entry (IsLocal app) → IfOk result (IsLocal (with_outputs app)) }
 {
-    let traced = with_required(
+    let traced = and_required(
         alloc,
-        command,
+        so_far,
         "trace",
         "T",
         "The file that takes the trace; one that is there is replaced",
-    )?;
-    let reported = with_option(
+    );
+    let reported = and_option(
         alloc,
         traced,
         "report",
         "R",
         "The file that takes the report; one that is there is replaced",
-    )?;
-    with_option(
+    );
+    and_option(
         alloc,
         reported,
         "page",
@@ -58,24 +60,27 @@ fn with_outputs<'a>(alloc: Global, command: Command<'a>) -> Result<Command<'a>, 
 
 /// A command with the options more that say how many workers run a scenario, and which part each
 /// member is in.
-fn with_parting<'a>(alloc: Global, command: Command<'a>) -> Result<Command<'a>, AllocError>
-    ensures { (app : App) → IsLocal app command.entry → IfOk result (IsLocal (with_parting app)) }
+fn with_parting<'a>(
+    alloc: Global,
+    so_far: Result<Command<'a>, AllocError>,
+) -> Result<Command<'a>, AllocError>
+    ensures { (app : App) → IfOk so_far.entry (IsLocal app) → IfOk result (IsLocal (with_parting app)) }
 {
-    let worked = with_option(
+    let worked = and_option(
         alloc,
-        command,
+        so_far,
         "workers",
         "N",
         "How many workers run the parts, 1 to 64 [default: 1]",
-    )?;
-    let parted = with_option(
+    );
+    let parted = and_option(
         alloc,
         worked,
         "parts",
         "P",
         "To how many parts the members are dealt in turn, 1 to 64 [default: the number of workers]",
-    )?;
-    with_option(
+    );
+    and_option(
         alloc,
         parted,
         "division",

@@ -1,19 +1,18 @@
 //! The command `sweep`: what it takes, and what its words ask for.
-ghost use Rattle.std.specs.Prelude.{◌≡◌, ◌⊎◌, ℕ, map, option_map, unwrap_or, IfOk, IfErr, IsErrOf, List, [], Option, codes};
+ghost use Rattle.std.specs.Prelude.{◌≡◌, ◌⊎◌, ℕ, map, option_map, unwrap_or, IfOk, IfErr, IsErrOf, List, [], Option, Some, codes, true};
 ghost use Rattle.clap.specs.Words.{App, first_of, found_of, rows_of, subcommand_rows_of};
+ghost use Rattle.cases.specs.Asked.{IsSweepOf};
 ghost use Rattle.cases.specs.Sweep.{Sweep as Planned};
 ghost use Rattle.command_line.specs.declared.words.SweepWords.{SweepWords as Sought};
 ghost use Rattle.pieces.specs.declared.piece.Piece.{Piece as Part};
 ghost use Rattle.arguments.specs.Rules.{is_given, IsLocal};
 ghost use Rattle.command_line.specs.Words.{have_sense, sweep_app, with_cases, with_runs, AreWantsIn, AsksForPiece, AsksForWidth, IsPlanIn, IsSweepIn};
 
+use crate::chained::{and_flag, and_option, and_repeated, and_required};
 use crate::failure::Failure;
 use crate::telling::{wants_asked, with_telling};
 use crate::words::SweepWords;
-use arguments::{
-    is_given, new_command, value_of, values_of, with_file, with_flag, with_option, with_repeated,
-    with_required,
-};
+use arguments::{is_given, new_command, value_of, values_of, with_file};
 use cases::{Plan, PlanFault};
 use clap::{ArgMatches, Command};
 use decimals::number;
@@ -25,10 +24,10 @@ pub(crate) fn sweep_command<'a>(alloc: Global) -> Result<Command<'a>, AllocError
     ensures { IfOk result (IsLocal sweep_app) }
 {
     let about = "Runs a scenario by many seeds and settings, and writes a table of the runs";
-    let filed = with_file(alloc, new_command(alloc, "sweep", about))?;
-    let made = with_runs(alloc, filed)?;
-    let told = with_telling(alloc, made)?;
-    with_flag(
+    let filed = with_file(alloc, new_command(alloc, "sweep", about));
+    let made = with_runs(alloc, filed);
+    let told = with_telling(alloc, made);
+    and_flag(
         alloc,
         told,
         "progress",
@@ -37,31 +36,34 @@ pub(crate) fn sweep_command<'a>(alloc: Global) -> Result<Command<'a>, AllocError
 }
 
 /// A command with the options more that say which runs of a sweep are made, and where their table goes.
-fn with_runs<'a>(alloc: Global, command: Command<'a>) -> Result<Command<'a>, AllocError>
-    ensures { (app : App) → IsLocal app command.entry → IfOk result (IsLocal (with_runs app)) }
+fn with_runs<'a>(
+    alloc: Global,
+    so_far: Result<Command<'a>, AllocError>,
+) -> Result<Command<'a>, AllocError>
+    ensures { (app : App) → IfOk so_far.entry (IsLocal app) → IfOk result (IsLocal (with_runs app)) }
 {
-    let tabled = with_required(
+    let tabled = and_required(
         alloc,
-        command,
+        so_far,
         "table",
         "T",
         "The file that takes the table, a line for each run; one that is there is replaced",
-    )?;
-    let set = with_cases(alloc, tabled)?;
-    let sharded = with_option(
+    );
+    let set = with_cases(alloc, tabled);
+    let sharded = and_option(
         alloc,
         set,
         "shard",
         "I/N",
         "Makes the I-th of N pieces of the runs, for the commands join and page; N is at most 10000",
-    )?;
-    let resumed = with_flag(
+    );
+    let resumed = and_flag(
         alloc,
         sharded,
         "resume",
         "Goes on with a piece whose table T was cut off, after T's last whole line; with --until after T's last whole case",
-    )?;
-    with_option(
+    );
+    and_option(
         alloc,
         resumed,
         "workers",
@@ -71,24 +73,27 @@ fn with_runs<'a>(alloc: Global, command: Command<'a>) -> Result<Command<'a>, All
 }
 
 /// A command with the options more that say which cases a sweep has, and their seeds.
-fn with_cases<'a>(alloc: Global, command: Command<'a>) -> Result<Command<'a>, AllocError>
-    ensures { (app : App) → IsLocal app command.entry → IfOk result (IsLocal (with_cases app)) }
+fn with_cases<'a>(
+    alloc: Global,
+    so_far: Result<Command<'a>, AllocError>,
+) -> Result<Command<'a>, AllocError>
+    ensures { (app : App) → IfOk so_far.entry (IsLocal app) → IfOk result (IsLocal (with_cases app)) }
 {
-    let seeded = with_option(
+    let seeded = and_option(
         alloc,
-        command,
+        so_far,
         "seeds",
         "A..B",
         "The seeds of each case, from A to B, both included [default: the scenario's seed]",
-    )?;
-    let limited = with_option(
+    );
+    let limited = and_option(
         alloc,
         seeded,
         "until",
         "WIDTH",
         "Gives each case seeds only until the 95 % interval of its share of runs with a healthy member thrown out is at most WIDTH hundredths wide, 1 to 100",
-    )?;
-    with_repeated(
+    );
+    and_repeated(
         alloc,
         limited,
         "set",
@@ -108,9 +113,20 @@ pub(crate) fn sweep_asked<'a>(
     ensures usage { IsErrOf result Failure.Usage → (sweep : Sought) → ¬ (IsSweepIn (subcommand_rows_of matches.now) sweep) }
     ensures failures { IfErr result (λ f. (f ≡ Failure.Usage) ⊎ (f ≡ Failure.Memory)) }
 {
-    let Some(sweep) = matches.subcommand_matches("sweep") else {
-        return Err(Failure::Usage);
-    };
+    match matches.subcommand_matches("sweep") {
+        Some(sweep) => words_asked(alloc, sweep),
+        None => Err(Failure::Usage),
+    }
+}
+
+/// The sweep that is asked for by the words of a sweep.
+///
+/// Failures: `Usage` where they ask for none; `Memory`.
+fn words_asked<'a>(alloc: Global, sweep: &ArgMatches<'a>) -> Result<SweepWords<'a>, Failure<'a>>
+    ensures sweep { IfOk result (IsSweepIn (Some (codes "sweep", rows_of (found_of sweep.now)))) }
+    ensures usage { IsErrOf result Failure.Usage → (wish : Sought) → ¬ (IsSweepIn (Some (codes "sweep", rows_of (found_of sweep.now))) wish) }
+    ensures failures { IfErr result (λ f. (f ≡ Failure.Usage) ⊎ (f ≡ Failure.Memory)) }
+{
     let Some(file) = value_of(sweep, "FILE") else {
         return Err(Failure::Usage);
     };
@@ -120,6 +136,25 @@ pub(crate) fn sweep_asked<'a>(
     if !have_sense(sweep) {
         return Err(Failure::Usage);
     }
+    runs_asked(alloc, sweep, file, table)
+}
+
+/// The sweep with these two files that is asked for by the words of a sweep, which go together.
+///
+/// Failures: `Usage` where they ask for none; `Memory`.
+fn runs_asked<'a>(
+    alloc: Global,
+    sweep: &ArgMatches<'a>,
+    file: &'a str,
+    table: &'a str,
+) -> Result<SweepWords<'a>, Failure<'a>>
+    requires file { first_of (codes "FILE") (rows_of (found_of sweep.now)) ≡ Some file.now }
+    requires table { first_of (codes "table") (rows_of (found_of sweep.now)) ≡ Some table.now }
+    requires sense { have_sense (rows_of (found_of sweep.now)) ≡ true }
+    ensures sweep { IfOk result (IsSweepIn (Some (codes "sweep", rows_of (found_of sweep.now)))) }
+    ensures usage { IsErrOf result Failure.Usage → (wish : Sought) → ¬ (IsSweepIn (Some (codes "sweep", rows_of (found_of sweep.now))) wish) }
+    ensures failures { IfErr result (λ f. (f ≡ Failure.Usage) ⊎ (f ≡ Failure.Memory)) }
+{
     let plan = plan_asked(alloc, sweep)?;
     let piece = piece_asked(sweep)?;
     let wants = wants_asked(alloc, sweep)?;
@@ -157,11 +192,27 @@ fn plan_asked<'a>(alloc: Global, sweep: &ArgMatches<'a>) -> Result<Plan, Failure
     ensures failures { IfErr result (λ f. (f ≡ Failure.Usage) ⊎ (f ≡ Failure.Memory)) }
 {
     let until = width_asked(sweep)?;
-    let settings = match values_of(alloc, sweep, "set") {
-        Ok(settings) => settings,
-        Err(_) => return Err(Failure::Memory),
-    };
-    match Plan::read(alloc, &settings, value_of(sweep, "seeds"), until) {
+    match values_of(alloc, sweep, "set") {
+        Ok(settings) => read_plan(alloc, settings.as_slice(), value_of(sweep, "seeds"), until),
+        Err(_) => Err(Failure::Memory),
+    }
+}
+
+/// The plan that these words of settings, that of the seeds and the width of the interval ask for.
+///
+/// Failures: `Usage` where they ask for none; `Memory`.
+fn read_plan<'a>(
+    alloc: Global,
+    settings: &[&str],
+    seeds: Option<&str>,
+    until: Option<u64>,
+) -> Result<Plan, Failure<'a>>
+    ensures plan { IfOk result (IsSweepOf (map (λ word. word.now) settings.now) (option_map (λ word. word.now) seeds.entry) until) }
+    ensures usage { IsErrOf result Failure.Usage
+        → (plan : Planned) → ¬ (IsSweepOf (map (λ word. word.now) settings.now) (option_map (λ word. word.now) seeds.entry) until plan) }
+    ensures failures { IfErr result (λ f. (f ≡ Failure.Usage) ⊎ (f ≡ Failure.Memory)) }
+{
+    match Plan::read(alloc, settings, seeds, until) {
         Ok(plan) => Ok(plan),
         Err(PlanFault::Words) => Err(Failure::Usage),
         Err(PlanFault::Memory) => Err(Failure::Memory),

@@ -5,33 +5,34 @@ ghost use Rattle.answers.specs.declared.want.Want.{Want as Wanting};
 ghost use Rattle.arguments.specs.Rules.{IsLocal};
 ghost use Rattle.command_line.specs.Words.{with_telling, AreWantsIn};
 
+use crate::chained::{and_flag, and_option, and_repeated};
 use crate::failure::Failure;
 use answers::{Want, WantFault, read_wants};
-use arguments::{values_of, with_flag, with_option, with_repeated};
+use arguments::values_of;
 use clap::{ArgMatches, Command};
 use std::alloc::{AllocError, Global};
 
 /// A command with the options more that say what is told of the cases of a sweep.
 pub(crate) fn with_telling<'a>(
     alloc: Global,
-    command: Command<'a>,
+    so_far: Result<Command<'a>, AllocError>,
 ) -> Result<Command<'a>, AllocError>
-    ensures { (app : App) → IsLocal app command.entry → IfOk result (IsLocal (with_telling app)) }
+    ensures { (app : App) → IfOk so_far.entry (IsLocal app) → IfOk result (IsLocal (with_telling app)) }
 {
-    let wanted = with_repeated(
+    let wanted = and_repeated(
         alloc,
-        command,
+        so_far,
         "want",
         "STATISTIC<=N",
         "What cases are to meet, as out<=0.01 or confirm_p99<=20000; for any number of statistics",
-    )?;
-    let objects = with_flag(
+    );
+    let objects = and_flag(
         alloc,
         wanted,
         "jsonl",
         "Prints a JSON object for each case, a line each, in place of columns",
-    )?;
-    with_option(
+    );
+    and_option(
         alloc,
         objects,
         "page",

@@ -1,7 +1,8 @@
 //! What the words of a command line ask for.
 ghost use Rattle.std.specs.Prelude.{◌≡◌, ◌⊎◌, map, IfOk, IfErr, IfSome, IsNone, IsErrOf, List, ℕ};
 ghost use Rattle.clap.specs.Words.{FailsBy, fault_of, subcommand_of, subcommand_rows_of};
-ghost use Rattle.command_line.specs.Words.{swimsim_app, Answers, AsksForNoPreset, IsCheckIn, IsNoCommand};
+ghost use Rattle.command_line.specs.Asking.{AsksForNoScenario, AsksForNoTable, AsksForNothing, AsksIn};
+ghost use Rattle.command_line.specs.Words.{swimsim_app, Answers, AsksForNoPreset, IsCheckIn, IsNoCommand, NamesNoPreset};
 
 use crate::commands::program_command;
 use crate::explaining::{ExplainWords, explain_asked};
@@ -110,30 +111,65 @@ pub fn parse<'a, S: AsStr>(alloc: Global, words: &'a [S]) -> Result<Asked<'a>, F
     ensures failures { IfErr result (λ f. (f ≡ Failure.Usage) ⊎ ((f ≡ Failure.Preset) ⊎ (f ≡ Failure.Memory))) }
 {
     match matches_of(alloc, words) {
-        Ok(matches) => match run_asked(&matches) {
-            Some(run) => Ok(Asked::Run(run)),
-            None => match check_asked(&matches) {
-                Some(file) => Ok(Asked::Check(file)),
-                None => match explain_asked(&matches) {
-                    Some(explain) => Ok(Asked::Explain(explain)),
-                    None => match init_asked(&matches)? {
-                        Some(preset) => Ok(Asked::Init(preset)),
-                        None => match join_asked(alloc, &matches)? {
-                            Some(join) => Ok(Asked::Join(join)),
-                            None => match page_asked(alloc, &matches)? {
-                                Some(page) => Ok(Asked::Page(page)),
-                                None => Ok(Asked::Sweep(sweep_asked(alloc, &matches)?)),
-                            },
-                        },
-                    },
-                },
-            },
-        },
+        Ok(matches) => asked_by(alloc, &matches),
         Err(error) => match error.kind() {
             ErrorKind::OutOfMemory => Err(Failure::Memory),
             ErrorKind::DisplayHelp => Ok(Asked::Help(error)),
             ErrorKind::DisplayVersion => Ok(Asked::Version),
             _ => Err(Failure::Usage),
+        },
+    }
+}
+
+/// What is asked for by words that `clap` took.
+///
+/// Failures: `Usage` where they ask for nothing; `Preset` where they ask for one that there isn't; `Memory`.
+fn asked_by<'a>(alloc: Global, matches: &ArgMatches<'a>) -> Result<Asked<'a>, Failure<'a>>
+    ensures answer { IfOk result (AsksIn (subcommand_rows_of matches.now)) }
+    ensures usage { IsErrOf result Failure.Usage → AsksForNothing (subcommand_rows_of matches.now) }
+    ensures preset { IsErrOf result Failure.Preset
+        → NamesNoPreset (subcommand_rows_of matches.now) × AsksForNothing (subcommand_rows_of matches.now) }
+    ensures failures { IfErr result (λ f. (f ≡ Failure.Usage) ⊎ ((f ≡ Failure.Preset) ⊎ (f ≡ Failure.Memory))) }
+{
+    match scenario_asked(matches) {
+        Some(asked) => Ok(asked),
+        None => match init_asked(matches)? {
+            Some(preset) => Ok(Asked::Init(preset)),
+            None => table_asked(alloc, matches),
+        },
+    }
+}
+
+/// What is asked for of the scenario in a file: to run it, to check it or to explain it.
+fn scenario_asked<'a>(matches: &ArgMatches<'a>) -> Option<Asked<'a>>
+    ensures some { IfSome result (AsksIn (subcommand_rows_of matches.now)) }
+    ensures none { IsNone result → AsksForNoScenario (subcommand_rows_of matches.now) }
+{
+    match run_asked(matches) {
+        Some(run) => Some(Asked::Run(run)),
+        None => match check_asked(matches) {
+            Some(file) => Some(Asked::Check(file)),
+            None => match explain_asked(matches) {
+                Some(explain) => Some(Asked::Explain(explain)),
+                None => None,
+            },
+        },
+    }
+}
+
+/// What is asked for that has to do with a sweep's table: to join its pieces, to make a page of them or to sweep.
+///
+/// Failures: `Usage` where none of it is; `Memory`.
+fn table_asked<'a>(alloc: Global, matches: &ArgMatches<'a>) -> Result<Asked<'a>, Failure<'a>>
+    ensures answer { IfOk result (AsksIn (subcommand_rows_of matches.now)) }
+    ensures usage { IsErrOf result Failure.Usage → AsksForNoTable (subcommand_rows_of matches.now) }
+    ensures failures { IfErr result (λ f. (f ≡ Failure.Usage) ⊎ (f ≡ Failure.Memory)) }
+{
+    match join_asked(alloc, matches)? {
+        Some(join) => Ok(Asked::Join(join)),
+        None => match page_asked(alloc, matches)? {
+            Some(page) => Ok(Asked::Page(page)),
+            None => Ok(Asked::Sweep(sweep_asked(alloc, matches)?)),
         },
     }
 }

@@ -160,6 +160,34 @@ impl<'r, R: std::rt::Files + AllocGlobal> SystemFiles<'r, R> {
         }
     }
 
+    /// Opens three files to be written, or none, unless one of them is one of these, or an earlier one.
+    fn open_three(
+        &self,
+        first: &str,
+        second: &str,
+        third: &str,
+        others: [Option<Identity>; 2],
+    ) -> Result<(Opened<R::File>, Opened<R::File>, Opened<R::File>), TripleFault> {
+        let [read, output] = others;
+        let (opened, other) = match self.open_both(first, second, [read, output]) {
+            Ok(opened) => opened,
+            Err(PairFault::First) => return Err(TripleFault::First),
+            Err(PairFault::Second) => return Err(TripleFault::Second),
+            Err(PairFault::Memory) => return Err(TripleFault::Memory),
+        };
+        match self.open_apart(third, &[read, output, opened.identity, other.identity]) {
+            Ok(last) => Ok((opened, other, last)),
+            Err(fault) => {
+                self.undo(second, other);
+                self.undo(first, opened);
+                match fault {
+                    FileFault::Refused => Err(TripleFault::Third),
+                    FileFault::Memory => Err(TripleFault::Memory),
+                }
+            }
+        }
+    }
+
     /// Removes a file that was opened under the name, where there was none before.
     fn undo(&self, name: &str, opened: Opened<R::File>) {
         if opened.is_new {
@@ -224,24 +252,8 @@ impl<R: std::rt::Files + AllocGlobal> Files for SystemFiles<'_, R> {
         ),
         TripleFault,
     > {
-        let [read, output] = self.taken(source);
-        let (opened, other) = match self.open_both(first, second, [read, output]) {
-            Ok(opened) => opened,
-            Err(PairFault::First) => return Err(TripleFault::First),
-            Err(PairFault::Second) => return Err(TripleFault::Second),
-            Err(PairFault::Memory) => return Err(TripleFault::Memory),
-        };
-        match self.open_apart(third, &[read, output, opened.identity, other.identity]) {
-            Ok(last) => Ok((opened.made(), other.made(), last.made())),
-            Err(fault) => {
-                self.undo(second, other);
-                self.undo(first, opened);
-                match fault {
-                    FileFault::Refused => Err(TripleFault::Third),
-                    FileFault::Memory => Err(TripleFault::Memory),
-                }
-            }
-        }
+        let (opened, other, last) = self.open_three(first, second, third, self.taken(source))?;
+        Ok((opened.made(), other.made(), last.made()))
     }
 
     fn close(&mut self, name: &str, made: Put<SystemFile<R::File>>)

@@ -1,6 +1,6 @@
 //! Files and writers over memory, which fail where a test wants them to.
-ghost use Rattle.std.specs.Prelude.{◌≡◌, ◌≢◌, ◌≤◌, ◌+◌, ℕ, List, [], Some, None, true, false, bytes_eq, find, option_map, position, IfOk, IfSome, OnOk, OnErr};
-ghost use Rattle.files.specs.Files.{ClosesAs, KeepsOthers, KeepsAllOthers, KeepsAllButThree, CannotMake, CannotMakeSecond};
+ghost use Rattle.std.specs.Prelude.{◌≡◌, ◌≢◌, ◌≤◌, ◌+◌, ℕ, List, [], Some, None, true, false, bytes_eq, find, option_map, position, IfOk, IfSome, IsErrOf, OnOk, OnErr};
+ghost use Rattle.files.specs.Files.{ClosesAs, KeepsOthers, KeepsAllOthers, KeepsAllButThree, CannotMake, CannotMakeSecond, CannotMakeThird, AreThreeFiles, AreFourFiles};
 ghost use Rattle.files.specs.Memory.{written_by, writer_fails, has_name, has_place, kept_bytes, known_of, can_make, making_of, made_fail, memory_refused, with_locked, with_fails, KeepsPlaces};
 ghost use Rattle.trace.specs.Writers.{writer_under, put_failures};
 
@@ -241,6 +241,53 @@ impl MemoryFiles {
         first != name && self.may_make(source, name)
     }
 
+    /// Tells which of two files can't be made, if one can't.
+    fn may_make_both(&self, source: &str, first: &str, second: &str) -> Result<(), PairFault>
+        ensures apart { OnOk result (AreThreeFiles (making_of self.now) source.now first.now second.now) }
+        ensures differ { OnOk result (second.now ≢ first.now) }
+        ensures refused { IsErrOf result PairFault.First → CannotMake (making_of self.now) source.now first.now }
+        ensures refused_too { IsErrOf result PairFault.Second
+            → CannotMakeSecond (making_of self.now) source.now first.now second.now }
+    {
+        if !self.may_make(source, first) {
+            return Err(PairFault::First);
+        }
+        if !self.may_make_beside(source, first, second) {
+            return Err(PairFault::Second);
+        }
+        Ok(())
+    }
+
+    /// Tells which of three files can't be made, if one can't.
+    fn may_make_three(
+        &self,
+        source: &str,
+        first: &str,
+        second: &str,
+        third: &str,
+    ) -> Result<(), TripleFault>
+        ensures apart { OnOk result (AreFourFiles (making_of self.now) source.now first.now second.now third.now) }
+        ensures second_from_first { OnOk result (second.now ≢ first.now) }
+        ensures third_from_first { OnOk result (third.now ≢ first.now) }
+        ensures third_from_second { OnOk result (third.now ≢ second.now) }
+        ensures refused { IsErrOf result TripleFault.First → CannotMake (making_of self.now) source.now first.now }
+        ensures refused_second { IsErrOf result TripleFault.Second
+            → CannotMakeSecond (making_of self.now) source.now first.now second.now }
+        ensures refused_third { IsErrOf result TripleFault.Third
+            → CannotMakeThird (making_of self.now) source.now first.now second.now third.now }
+    {
+        if !self.may_make(source, first) {
+            return Err(TripleFault::First);
+        }
+        if !self.may_make_beside(source, first, second) {
+            return Err(TripleFault::Second);
+        }
+        if second == third || !self.may_make_beside(source, first, third) {
+            return Err(TripleFault::Third);
+        }
+        Ok(())
+    }
+
     /// Makes empty files under two names that differ. Nothing changes where memory is refused.
     fn empty_both(&mut self, first: &str, second: &str) -> Result<(), AllocError>
         requires differ { second.now ≢ first.now }
@@ -325,12 +372,7 @@ impl Files for MemoryFiles {
         first: &str,
         second: &str,
     ) -> Result<(MemoryWriter, MemoryWriter), PairFault> {
-        if !self.may_make(source, first) {
-            return Err(PairFault::First);
-        }
-        if !self.may_make_beside(source, first, second) {
-            return Err(PairFault::Second);
-        }
+        self.may_make_both(source, first, second)?;
         match self.empty_both(first, second) {
             Ok(()) => Ok((self.writer(), self.writer())),
             Err(_) => Err(PairFault::Memory),
@@ -344,15 +386,7 @@ impl Files for MemoryFiles {
         second: &str,
         third: &str,
     ) -> Result<(MemoryWriter, MemoryWriter, MemoryWriter), TripleFault> {
-        if !self.may_make(source, first) {
-            return Err(TripleFault::First);
-        }
-        if !self.may_make_beside(source, first, second) {
-            return Err(TripleFault::Second);
-        }
-        if second == third || !self.may_make_beside(source, first, third) {
-            return Err(TripleFault::Third);
-        }
+        self.may_make_three(source, first, second, third)?;
         match self.empty_three(first, second, third) {
             Ok(()) => Ok((self.writer(), self.writer(), self.writer())),
             Err(_) => Err(TripleFault::Memory),

@@ -7,12 +7,13 @@ use crate::figures::{
     groups_value, link_value, news_value, paths_value, quiet_value, times_value, whole_or_null,
 };
 use crate::lists::{list_of, push_value};
+use crate::members::{put_number, put_text};
 use crate::script::script_value;
 use base::Memory;
 use meaning::groups_of;
 use meaning_text::{kind_of, message_of, remedy_of};
 use scenario::Scenario;
-use serde_json::{Value, json};
+use serde_json::{Map, Value, put};
 use std::alloc::{AllocError, Global};
 use warnings::{Findings, Place, Placed};
 
@@ -44,7 +45,12 @@ fn document_value(
 ) -> Result<Value, AllocError>
     ensures { IfOk result (λ v. view v ≡ document_with file.now (view figures) (view warnings)) }
 {
-    json!(in alloc; {"file": file, "accepted": true, "figures": figures, "warnings": warnings})
+    let mut members = Map::new(alloc);
+    put(&mut members, alloc, "figures", figures)?;
+    put(&mut members, alloc, "warnings", warnings)?;
+    put(&mut members, alloc, "accepted", Value::Bool(true))?;
+    put_text(&mut members, alloc, "file", file)?;
+    Ok(Value::Object(members))
 }
 
 /// The figures.
@@ -59,12 +65,18 @@ fn figures_value(
     requires { groups.now ≡ groups_of scenario.now }
     ensures { IfOk result (λ v. view v ≡ figures_data scenario.now window trip) }
 {
+    let mut members = Map::new(alloc);
     let cluster = cluster_value(alloc, scenario, groups, window, trip)?;
+    put(&mut members, alloc, "cluster", cluster)?;
     let times = times_value(alloc, scenario)?;
+    put(&mut members, alloc, "times", times)?;
     let news = news_value(alloc, scenario)?;
+    put(&mut members, alloc, "news", news)?;
     let script = script_value(alloc, scenario, groups)?;
+    put(&mut members, alloc, "script", script)?;
     let quiet = quiet_value(alloc, scenario)?;
-    json!(in alloc; {"cluster": cluster, "times": times, "news": news, "script": script, "quiet": quiet})
+    put(&mut members, alloc, "quiet", quiet)?;
+    Ok(Value::Object(members))
 }
 
 /// The members, their links, and how long answers take.
@@ -79,15 +91,17 @@ fn cluster_value(
     requires { groups.now ≡ groups_of scenario.now }
     ensures { IfOk result (λ v. view v ≡ cluster_data scenario.now window trip) }
 {
-    let members = scenario.members();
-    let groups_list = groups_value(alloc, scenario, groups)?;
+    let mut members = Map::new(alloc);
+    put_number(&mut members, alloc, "members", scenario.members() as u64)?;
+    let list = groups_value(alloc, scenario, groups)?;
+    put(&mut members, alloc, "groups", list)?;
     let link = link_value(alloc, scenario.link())?;
+    put(&mut members, alloc, "link", link)?;
     let paths = paths_value(alloc, scenario, groups)?;
-    let window = whole_or_null(window);
-    json!(in alloc; {
-        "members": members, "groups": groups_list, "link": link, "paths": paths, "window": window,
-        "round_trip": trip
-    })
+    put(&mut members, alloc, "paths", paths)?;
+    put(&mut members, alloc, "window", whole_or_null(window))?;
+    put_number(&mut members, alloc, "round_trip", trip)?;
+    Ok(Value::Object(members))
 }
 
 /// The warnings.
@@ -132,11 +146,12 @@ fn warning_object(
 ) -> Result<Value, AllocError>
     ensures { IfOk result (λ v. view v ≡ warning_with kind.now message.now remedy.now place) }
 {
-    let line = place.line;
-    let column = place.column;
-    let length = place.length;
-    json!(in alloc; {
-        "kind": kind, "message": message, "remedy": remedy, "line": line, "column": column,
-        "length": length
-    })
+    let mut members = Map::new(alloc);
+    put_text(&mut members, alloc, "kind", kind)?;
+    put_text(&mut members, alloc, "message", message)?;
+    put_text(&mut members, alloc, "remedy", remedy)?;
+    put_number(&mut members, alloc, "line", place.line)?;
+    put_number(&mut members, alloc, "column", place.column)?;
+    put_number(&mut members, alloc, "length", place.length)?;
+    Ok(Value::Object(members))
 }

@@ -6,6 +6,7 @@ ghost use Rattle.meaning.specs.Groups.{groups_of};
 ghost use Rattle.meaning_json.specs.Figures.{whole_or_null, link_data, contact_data, group_data, group_item, groups_data, path_data, path_item, paths_data, suspicion_item, suspicions_data, pace_data, pace_item, health_data, times_data, times_with, called_with, stream_data, news_data, ridden_data, gossip_data, gossiped_data, quiet_data};
 
 use crate::lists::{list_of, push_value};
+use crate::members::{put_number, put_text};
 use base::{MemberId, Profile};
 use meaning::{
     cost_of_quiet, first_of, group_name, is_hidden, item_at, least_suspicion, member_name,
@@ -13,7 +14,7 @@ use meaning::{
 };
 use meaning_text::{name_of_group, size_of_group};
 use scenario::{Gossip, Link, Path, Scenario, Stream};
-use serde_json::{Value, json};
+use serde_json::{Map, Value, put};
 use std::alloc::{AllocError, Global};
 
 /// A number, or null where there is none.
@@ -31,7 +32,11 @@ pub(crate) fn whole_or_null(number: Option<u64>) -> Value
 pub(crate) fn link_value(alloc: Global, link: Link) -> Result<Value, AllocError>
     ensures { IfOk result (λ v. view v ≡ link_data link) }
 {
-    json!(in alloc; {"delay": link.delay, "jitter": link.jitter, "loss": link.loss})
+    let mut members = Map::new(alloc);
+    put_number(&mut members, alloc, "delay", link.delay)?;
+    put_number(&mut members, alloc, "jitter", link.jitter)?;
+    put_number(&mut members, alloc, "loss", link.loss)?;
+    Ok(Value::Object(members))
 }
 
 /// The groups.
@@ -88,7 +93,12 @@ fn group_value(
     let size = size_of_group(scenario, groups, member);
     let start = scenario.start(MemberId(member as u16)).ticks();
     let contact = contact_value(alloc, scenario, scenario.contact(MemberId(member as u16)))?;
-    json!(in alloc; {"name": name, "members": size, "start": start, "contact": contact})
+    let mut members = Map::new(alloc);
+    put(&mut members, alloc, "contact", contact)?;
+    put_text(&mut members, alloc, "name", name)?;
+    put_number(&mut members, alloc, "members", size as u64)?;
+    put_number(&mut members, alloc, "start", start)?;
+    Ok(Value::Object(members))
 }
 
 /// Whom the members of a group ask to let them join; null where they ask nobody.
@@ -162,7 +172,12 @@ fn path_value(
     let from = group_name(scenario, groups, path.from);
     let to = group_name(scenario, groups, path.to);
     let link = link_value(alloc, path.link)?;
-    json!(in alloc; {"number": number, "from": from, "to": to, "link": link})
+    let mut members = Map::new(alloc);
+    put(&mut members, alloc, "link", link)?;
+    put_number(&mut members, alloc, "number", number as u64)?;
+    put_text(&mut members, alloc, "from", from)?;
+    put_text(&mut members, alloc, "to", to)?;
+    Ok(Value::Object(members))
 }
 
 /// The times of the protocol among all members.
@@ -194,9 +209,12 @@ fn times_with(
 ) -> Result<Value, AllocError>
     ensures { IfOk result (λ v. view v ≡ times_with least (view suspicions) (view health) nack) }
 {
-    json!(in alloc; {
-        "least_suspicion": least, "suspicions": suspicions, "health": health, "nack_delay": nack
-    })
+    let mut members = Map::new(alloc);
+    put(&mut members, alloc, "suspicions", suspicions)?;
+    put(&mut members, alloc, "health", health)?;
+    put_number(&mut members, alloc, "least_suspicion", least)?;
+    put_number(&mut members, alloc, "nack_delay", nack)?;
+    Ok(Value::Object(members))
 }
 
 /// The same, whether members call, and how a stream sends again.
@@ -212,10 +230,14 @@ fn called_with(
 ) -> Result<Value, AllocError>
     ensures { IfOk result (λ v. view v ≡ called_with least (view suspicions) (view health) nack fallback (view stream)) }
 {
-    json!(in alloc; {
-        "least_suspicion": least, "suspicions": suspicions, "health": health, "nack_delay": nack,
-        "fallback": fallback, "stream": stream
-    })
+    let mut members = Map::new(alloc);
+    put(&mut members, alloc, "suspicions", suspicions)?;
+    put(&mut members, alloc, "health", health)?;
+    put(&mut members, alloc, "stream", stream)?;
+    put_number(&mut members, alloc, "least_suspicion", least)?;
+    put_number(&mut members, alloc, "nack_delay", nack)?;
+    put(&mut members, alloc, "fallback", Value::Bool(fallback))?;
+    Ok(Value::Object(members))
 }
 
 /// How a stream sends again what was lost.
@@ -223,7 +245,10 @@ fn called_with(
 fn stream_value(alloc: Global, stream: Stream) -> Result<Value, AllocError>
     ensures { IfOk result (λ v. view v ≡ stream_data stream) }
 {
-    json!(in alloc; {"connect": stream.connect, "again": stream.again})
+    let mut members = Map::new(alloc);
+    put_number(&mut members, alloc, "connect", stream.connect)?;
+    put_number(&mut members, alloc, "again", stream.again)?;
+    Ok(Value::Object(members))
 }
 
 /// How long a suspicion lasts, by the number of further accusers.
@@ -279,7 +304,10 @@ fn pace_value(alloc: Global, scenario: &Scenario, health: u64) -> Result<Value, 
     ensures { IfOk result (λ v. view v ≡ pace_data scenario.now health) }
 {
     let pace = pace_with(scenario, health);
-    json!(in alloc; {"period": pace.period, "timeout": pace.timeout})
+    let mut members = Map::new(alloc);
+    put_number(&mut members, alloc, "period", pace.period)?;
+    put_number(&mut members, alloc, "timeout", pace.timeout)?;
+    Ok(Value::Object(members))
 }
 
 /// How far an update spreads.
@@ -299,7 +327,10 @@ pub(crate) fn news_value(alloc: Global, scenario: &Scenario) -> Result<Value, Al
 fn ridden_value(alloc: Global, limit: u64, carry: u64) -> Result<Value, AllocError>
     ensures { IfOk result (λ v. view v ≡ ridden_data limit carry) }
 {
-    json!(in alloc; {"limit": limit, "carry": carry})
+    let mut members = Map::new(alloc);
+    put_number(&mut members, alloc, "limit", limit)?;
+    put_number(&mut members, alloc, "carry", carry)?;
+    Ok(Value::Object(members))
 }
 
 /// The same, and how members gossip.
@@ -313,7 +344,11 @@ fn gossiped_value(
     ensures { IfOk result (λ v. view v ≡ gossiped_data limit carry gossip) }
 {
     let gossip = gossip_value(alloc, gossip)?;
-    json!(in alloc; {"limit": limit, "carry": carry, "gossip": gossip})
+    let mut members = Map::new(alloc);
+    put(&mut members, alloc, "gossip", gossip)?;
+    put_number(&mut members, alloc, "limit", limit)?;
+    put_number(&mut members, alloc, "carry", carry)?;
+    Ok(Value::Object(members))
 }
 
 /// How members gossip.
@@ -321,9 +356,12 @@ fn gossiped_value(
 fn gossip_value(alloc: Global, gossip: Gossip) -> Result<Value, AllocError>
     ensures { IfOk result (λ v. view v ≡ gossip_data gossip) }
 {
-    json!(in alloc; {
-        "interval": gossip.interval, "nodes": gossip.nodes, "dead": gossip.dead, "push": gossip.push
-    })
+    let mut members = Map::new(alloc);
+    put_number(&mut members, alloc, "interval", gossip.interval)?;
+    put_number(&mut members, alloc, "nodes", gossip.nodes)?;
+    put_number(&mut members, alloc, "dead", gossip.dead)?;
+    put_number(&mut members, alloc, "push", gossip.push)?;
+    Ok(Value::Object(members))
 }
 
 /// What a quiet run costs.
@@ -332,8 +370,21 @@ pub(crate) fn quiet_value(alloc: Global, scenario: &Scenario) -> Result<Value, A
     ensures { IfOk result (λ v. view v ≡ quiet_data scenario.now) }
 {
     let quiet = cost_of_quiet(scenario);
-    json!(in alloc; {
-        "messages_a_period": quiet.messages_a_period, "messages_a_second": quiet.messages_a_second,
-        "messages": quiet.messages, "rows": quiet.rows, "bytes": quiet.bytes
-    })
+    let mut members = Map::new(alloc);
+    put_number(
+        &mut members,
+        alloc,
+        "messages_a_period",
+        quiet.messages_a_period,
+    )?;
+    put_number(
+        &mut members,
+        alloc,
+        "messages_a_second",
+        quiet.messages_a_second,
+    )?;
+    put_number(&mut members, alloc, "messages", quiet.messages)?;
+    put_number(&mut members, alloc, "rows", quiet.rows)?;
+    put_number(&mut members, alloc, "bytes", quiet.bytes)?;
+    Ok(Value::Object(members))
 }

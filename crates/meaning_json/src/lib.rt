@@ -4,6 +4,7 @@
 mod document;
 mod figures;
 mod lists;
+mod members;
 mod script;
 
 pub use document::json_of;

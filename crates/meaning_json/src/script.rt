@@ -6,10 +6,11 @@ ghost use Rattle.meaning_json.specs.Figures.{list_of};
 ghost use Rattle.meaning_json.specs.Script.{departure_data, departure_item, crash_item, crashes_data, leave_item, slow_data, slow_item, cut_data, cut_item, pause_data, pause_item, script_with, paused_with, script_data};
 
 use crate::lists::{list_of, push_value};
+use crate::members::{put_number, put_text};
 use base::{MemberId, Moment, Profile};
 use meaning::{group_name, member_name};
 use scenario::{Cut, Leave, Pause, Scenario, Slow};
-use serde_json::{Value, json};
+use serde_json::{Map, Value, put};
 use std::alloc::{AllocError, Global};
 
 /// What of the script happens up to the end: crashes by the members' numbers, the rest in the order of
@@ -46,7 +47,12 @@ fn script_with(
 ) -> Result<Value, AllocError>
     ensures { IfOk result (λ v. view v ≡ script_with (view crashes) (view leaves) (view slows) (view cuts)) }
 {
-    json!(in alloc; {"crashes": crashes, "leaves": leaves, "slows": slows, "cuts": cuts})
+    let mut members = Map::new(alloc);
+    put(&mut members, alloc, "crashes", crashes)?;
+    put(&mut members, alloc, "leaves", leaves)?;
+    put(&mut members, alloc, "slows", slows)?;
+    put(&mut members, alloc, "cuts", cuts)?;
+    Ok(Value::Object(members))
 }
 
 /// The same, and pauses.
@@ -61,9 +67,13 @@ fn paused_with(
 ) -> Result<Value, AllocError>
     ensures { IfOk result (λ v. view v ≡ paused_with (view crashes) (view leaves) (view slows) (view cuts) (view pauses)) }
 {
-    json!(in alloc; {
-        "crashes": crashes, "leaves": leaves, "slows": slows, "cuts": cuts, "pauses": pauses
-    })
+    let mut members = Map::new(alloc);
+    put(&mut members, alloc, "crashes", crashes)?;
+    put(&mut members, alloc, "leaves", leaves)?;
+    put(&mut members, alloc, "slows", slows)?;
+    put(&mut members, alloc, "cuts", cuts)?;
+    put(&mut members, alloc, "pauses", pauses)?;
+    Ok(Value::Object(members))
 }
 
 /// The crashes.
@@ -133,7 +143,10 @@ fn departure_value(
     ensures { IfOk result (λ v. view v ≡ departure_data scenario.now member at) }
 {
     let name = member_name(scenario, member);
-    json!(in alloc; {"member": name, "at": at.ticks()})
+    let mut members = Map::new(alloc);
+    put_text(&mut members, alloc, "member", name)?;
+    put_number(&mut members, alloc, "at", at.ticks())?;
+    Ok(Value::Object(members))
 }
 
 /// The slow times.
@@ -171,7 +184,12 @@ fn slow_value(alloc: Global, scenario: &Scenario, slow: &Slow) -> Result<Value, 
     let name = member_name(scenario, slow.member.index());
     let from = slow.from.ticks();
     let until = slow.until.ticks();
-    json!(in alloc; {"member": name, "from": from, "until": until, "extra": slow.extra})
+    let mut members = Map::new(alloc);
+    put_text(&mut members, alloc, "member", name)?;
+    put_number(&mut members, alloc, "from", from)?;
+    put_number(&mut members, alloc, "until", until)?;
+    put_number(&mut members, alloc, "extra", slow.extra)?;
+    Ok(Value::Object(members))
 }
 
 /// The cuts.
@@ -224,7 +242,12 @@ fn cut_value(
     let to = group_name(scenario, groups, cut.to);
     let at = cut.at.ticks();
     let until = cut.until.ticks();
-    json!(in alloc; {"from": from, "to": to, "at": at, "until": until})
+    let mut members = Map::new(alloc);
+    put_text(&mut members, alloc, "from", from)?;
+    put_text(&mut members, alloc, "to", to)?;
+    put_number(&mut members, alloc, "at", at)?;
+    put_number(&mut members, alloc, "until", until)?;
+    Ok(Value::Object(members))
 }
 
 /// The pauses.
@@ -262,5 +285,9 @@ fn pause_value(alloc: Global, scenario: &Scenario, pause: &Pause) -> Result<Valu
     let name = member_name(scenario, pause.member.index());
     let from = pause.from.ticks();
     let until = pause.until.ticks();
-    json!(in alloc; {"member": name, "from": from, "until": until})
+    let mut members = Map::new(alloc);
+    put_text(&mut members, alloc, "member", name)?;
+    put_number(&mut members, alloc, "from", from)?;
+    put_number(&mut members, alloc, "until", until)?;
+    Ok(Value::Object(members))
 }

@@ -3,7 +3,7 @@ use Rattle.std.specs.Prelude.{◌≡◌, ℕ, ◌-◌, ◌==◌, nat_le, nat_eq,
 use Rattle.std.specs.Fmt.{decimal}
 use Rattle.std.specs.List.{list_all}
 use Rattle.std.specs.Option.{option_map_or}
-use Rattle.serde_json.specs.Data.{Data, boolean, number, unsigned, string, array, object, member, no_members, depth}
+use Rattle.serde_json.specs.Data.{Data, boolean, number, unsigned, string, array, object, member, put, no_members, depth}
 use Rattle.serde_json.specs.Find.{get}
 use Rattle.serde_json.specs.Read.{read}
 use Rattle.serde_json.specs.View.{items_of}
@@ -52,6 +52,12 @@ pub record TellsLines (rule : ℕ) (text : List ℕ) : Type 0 where
   pub blocks : List ℕ
   pub each : AreBlocks shown blocks
   pub whole : text ≡ blocks ++ count_line (length found)
+
+-- what is told of a mistake
+unfoldable pub mistake_data : ℕ → List ℕ → List ℕ → ℕ → ℕ → ℕ → Data
+mistake_data rule message remedy line column length =
+    object (put (codes "length") (number (unsigned length)) (put (codes "column") (number (unsigned column)) (put (codes "line") (number (unsigned line))
+    (put (codes "remedy") (string remedy) (put (codes "message") (string message) (put (codes "rule") (number (unsigned rule)) no_members))))))
 
 -- the values tell the rules of these mistakes
 abbrev pub AreRulesOf : List Mistake → List Data → Type 0

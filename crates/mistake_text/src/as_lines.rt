@@ -5,13 +5,13 @@ ghost use Rattle.mistake_text.specs.Told.{AreBlocks, TellsLines, block_of, count
 
 use crate::choice::{MOST, shown};
 use crate::context::Context;
-use crate::excerpt::excerpt_of;
+use crate::excerpt::{Excerpt, excerpt_of};
 use crate::shown::shown_whole;
-use crate::words::words_of;
+use crate::words::{Words, words_of};
 use base::Memory;
 use mistakes::{Mistake, Mistakes};
 use std::alloc::{AllocError, Global};
-use toml_places::{Position, position_of};
+use toml_places::{Position, Span, position_of};
 
 /// The mistakes of the text of a file, at most 50 of them by their places, and how many there are.
 pub fn lines(alloc: Global, file: &str, bytes: &[u8], mistakes: &Mistakes) -> Result<String, Memory>
@@ -68,57 +68,101 @@ fn push_count(lines: &mut String, count: usize) -> Result<(), AllocError>
 }
 
 /// The words on a mistake: what is wrong, where, the line, and what helps.
-fn told(context: &Context<'_>, file: &str, mistake: &Mistake) -> Result<String, Memory> {
-    let alloc = context.alloc;
-    let words = words_of(context, mistake)?;
-    let message = words.message.as_str();
+fn told(context: &Context<'_>, file: &str, mistake: &Mistake) -> Result<String, AllocError> {
     let at = position_of(context.bytes, mistake.span.start);
+    let gutter = spaces(context.alloc, digits(at.line))?;
+    let words = words_of(context, mistake)?;
+    told_of(context, file, mistake.span, at, gutter.as_str(), &words)
+}
+
+/// The same, behind a gutter.
+fn told_of(
+    context: &Context<'_>,
+    file: &str,
+    span: Span,
+    at: Position,
+    gutter: &str,
+    words: &Words,
+) -> Result<String, AllocError> {
+    let mut lines = String::new(context.alloc);
+    push_place(&mut lines, words.message.as_str(), gutter, file, at)?;
+    push_excerpt(
+        context,
+        &mut lines,
+        span,
+        at.line,
+        gutter,
+        words.label.as_str(),
+    )?;
+    push_note(&mut lines, gutter, words.note.as_str())?;
+    Ok(lines)
+}
+
+/// Adds what is wrong, and where.
+fn push_place(
+    lines: &mut String,
+    message: &str,
+    gutter: &str,
+    file: &str,
+    at: Position,
+) -> Result<(), AllocError> {
     let line = at.line;
     let column = at.column;
-    let gutter = spaces(alloc, digits(line))?;
-    let gutter = gutter.as_str();
-    let mut lines = format!(in alloc; "{message}\n{gutter} --> {file}:{line}:{column}\n")?;
-    push_excerpt(context, &mut lines, mistake, at, words.label.as_str())?;
-    if !words.note.is_empty() {
-        let note = words.note.as_str();
-        let block = format!(in alloc; "{gutter}  |\n{gutter}  = {note}\n")?;
-        lines.push_str(block.as_str())?;
+    write!(lines, "{message}\n{gutter} --> {file}:{line}:{column}\n")
+}
+
+/// Adds what helps, where that is known, and an empty line.
+fn push_note(lines: &mut String, gutter: &str, note: &str) -> Result<(), AllocError> {
+    if note.is_empty() {
+        lines.push_str("\n")
+    } else {
+        write!(lines, "{gutter}  |\n{gutter}  = {note}\n\n")
     }
-    lines.push_str("\n")?;
-    Ok(lines)
 }
 
 /// Adds the line of the text, and the mark below it with what to do.
 fn push_excerpt(
     context: &Context<'_>,
     lines: &mut String,
-    mistake: &Mistake,
-    at: Position,
+    span: Span,
+    line: usize,
+    gutter: &str,
     label: &str,
-) -> Result<(), Memory> {
-    let alloc = context.alloc;
-    let excerpt = excerpt_of(context, mistake.span)?;
-    let line = at.line;
-    let gutter = spaces(alloc, digits(line))?;
-    let gutter = gutter.as_str();
-    let source = excerpt.line.as_str();
-    let source = if source.is_empty() {
-        format!(in alloc; "{gutter}  |\n {line} |\n")?
+) -> Result<(), AllocError> {
+    let excerpt = excerpt_of(context, span)?;
+    push_source(lines, gutter, line, excerpt.line.as_str())?;
+    push_marks(context.alloc, lines, gutter, &excerpt, label)
+}
+
+/// Adds the line of the text by its number.
+fn push_source(
+    lines: &mut String,
+    gutter: &str,
+    line: usize,
+    source: &str,
+) -> Result<(), AllocError> {
+    if source.is_empty() {
+        write!(lines, "{gutter}  |\n {line} |\n")
     } else {
-        format!(in alloc; "{gutter}  |\n {line} | {source}\n")?
-    };
-    lines.push_str(source.as_str())?;
+        write!(lines, "{gutter}  |\n {line} | {source}\n")
+    }
+}
+
+/// Adds the mark and what to do.
+fn push_marks(
+    alloc: Global,
+    lines: &mut String,
+    gutter: &str,
+    excerpt: &Excerpt,
+    label: &str,
+) -> Result<(), AllocError> {
     let indent = spaces(alloc, excerpt.indent)?;
-    let indent = indent.as_str();
     let marks = repeated(alloc, '^', excerpt.marks)?;
-    let marks = marks.as_str();
-    let marked = if label.is_empty() {
-        format!(in alloc; "{gutter}  | {indent}{marks}\n")?
+    if label.is_empty() {
+        write!(lines, "{gutter}  | {indent}{marks}\n")
     } else {
-        format!(in alloc; "{gutter}  | {indent}{marks} {label}\n")?
-    };
-    lines.push_str(marked.as_str())?;
-    Ok(())
+        write!(lines, "{gutter}  | {indent}{marks} {label}\n")
+    }
 }
 
 /// How many digits a number has.
@@ -134,12 +178,12 @@ fn digits(number: usize) -> usize {
 }
 
 /// So many spaces.
-fn spaces(alloc: Global, count: usize) -> Result<String, Memory> {
+fn spaces(alloc: Global, count: usize) -> Result<String, AllocError> {
     repeated(alloc, ' ', count)
 }
 
 /// A character so many times.
-fn repeated(alloc: Global, c: char, count: usize) -> Result<String, Memory> {
+fn repeated(alloc: Global, c: char, count: usize) -> Result<String, AllocError> {
     let mut text = String::new(alloc);
     for _ in 0..count {
         text.push(c)?;

@@ -1,8 +1,7 @@
 //! What words are made from: the text, and its mistakes.
 use crate::shown::shown_name;
-use base::Memory;
 use mistakes::Mistakes;
-use std::alloc::Global;
+use std::alloc::{AllocError, Global};
 use toml_parser::{ParseError, quoted, starts_string};
 use toml_places::{Span, position_of};
 
@@ -34,28 +33,25 @@ impl<'a> Context<'a> {
     }
 
     /// What stands at a place, as a line shows it.
-    pub(crate) fn shown(&self, span: Span) -> Result<String, Memory> {
+    pub(crate) fn shown(&self, span: Span) -> Result<String, AllocError> {
         shown_name(self.alloc, self.at(span))
     }
 
     /// The text of the string, or the name of the key, that stands at a place.
-    pub(crate) fn name(&self, span: Span) -> Result<String, Memory> {
+    pub(crate) fn name(&self, span: Span) -> Result<String, AllocError> {
         let written = self.at(span);
         if starts_string(written) {
             return match quoted(self.alloc, written) {
                 Ok((name, _)) => Ok(name),
-                Err(ParseError::OutOfMemory) => Err(Memory),
+                Err(ParseError::OutOfMemory) => Err(AllocError),
                 Err(ParseError::At(..)) => Ok(String::new(self.alloc)),
             };
         }
-        match String::from_str(self.alloc, written) {
-            Ok(name) => Ok(name),
-            Err(_) => Err(Memory),
-        }
+        String::from_str(self.alloc, written)
     }
 
     /// The same, as a line shows it.
-    pub(crate) fn shown_name(&self, span: Span) -> Result<String, Memory> {
+    pub(crate) fn shown_name(&self, span: Span) -> Result<String, AllocError> {
         let name = self.name(span)?;
         shown_name(self.alloc, name.as_str())
     }

@@ -1,8 +1,7 @@
 //! The line of a text on which a mistake stands, with a mark below its place.
 use crate::context::Context;
-use crate::shown::{first_chars, last_chars, shown_source};
-use base::Memory;
-use std::alloc::Global;
+use crate::shown::{first_chars, last_chars, push_source};
+use std::alloc::{AllocError, Global};
 use toml_places::Span;
 use unicode_width::UnicodeWidthStr;
 
@@ -35,47 +34,60 @@ struct Pieces<'t> {
 }
 
 /// The line on which a place begins.
-pub(crate) fn excerpt_of(context: &Context<'_>, span: Span) -> Result<Excerpt, Memory> {
+pub(crate) fn excerpt_of(context: &Context<'_>, span: Span) -> Result<Excerpt, AllocError> {
     let alloc = context.alloc;
     let pieces = pieces_of(context.text, span);
-    let is_whole = is_short(pieces);
-    let shown = if is_whole { pieces } else { cut(pieces) };
-    let before = shown_source(alloc, shown.before)?;
-    let marked = shown_source(alloc, shown.marked)?;
-    let after = shown_source(alloc, shown.after)?;
-    let left = if shown.before.len() < pieces.before.len() {
-        "..."
-    } else {
-        ""
-    };
-    let length = shown.marked.len().saturating_add(shown.after.len());
-    let whole = pieces.marked.len().saturating_add(pieces.after.len());
-    let right = if length < whole { "..." } else { "" };
+    let shown = shortened(pieces);
+    let left = dots(shown.before.len() < pieces.before.len());
+    let right = dots(length_from_place(shown) < length_from_place(pieces));
+    let indent = columns(alloc, shown.before)?;
+    let marks = columns(alloc, shown.marked)?;
     Ok(Excerpt {
-        line: joined(
-            alloc,
-            left,
-            before.as_str(),
-            marked.as_str(),
-            after.as_str(),
-            right,
-        )?,
-        indent: left.len().saturating_add(before.as_str().width()),
-        marks: marked.as_str().width().max(1),
+        line: joined(alloc, left, shown, right)?,
+        indent: left.len().saturating_add(indent),
+        marks: marks.max(1),
     })
+}
+
+/// The pieces that are shown.
+fn shortened(pieces: Pieces<'_>) -> Pieces<'_> {
+    if is_short(pieces) {
+        pieces
+    } else {
+        cut(pieces)
+    }
+}
+
+/// What stands where something was left out.
+fn dots(is_cut: bool) -> &'static str {
+    if is_cut { "..." } else { "" }
+}
+
+/// How long the pieces are from the place on.
+fn length_from_place(pieces: Pieces<'_>) -> usize {
+    pieces.marked.len().saturating_add(pieces.after.len())
+}
+
+/// How many columns a piece takes.
+fn columns(alloc: Global, piece: &str) -> Result<usize, AllocError> {
+    let mut shown = String::new(alloc);
+    push_source(&mut shown, piece)?;
+    Ok(shown.as_str().width())
 }
 
 /// The pieces of a shown line one after the other, without spaces at its end.
 fn joined(
     alloc: Global,
     left: &str,
-    before: &str,
-    marked: &str,
-    after: &str,
+    pieces: Pieces<'_>,
     right: &str,
-) -> Result<String, Memory> {
-    let line = format!(in alloc; "{left}{before}{marked}{after}{right}")?;
-    Ok(String::from_str(alloc, line.as_str().trim_end())?)
+) -> Result<String, AllocError> {
+    let mut line = String::from_str(alloc, left)?;
+    push_source(&mut line, pieces.before)?;
+    push_source(&mut line, pieces.marked)?;
+    push_source(&mut line, pieces.after)?;
+    line.push_str(right)?;
+    String::from_str(alloc, line.as_str().trim_end())
 }
 
 /// The pieces of the line on which a place begins.

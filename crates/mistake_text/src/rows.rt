@@ -1,27 +1,29 @@
 //! Words on tables and keys, from the rows of the format.
 use crate::context::Context;
-use base::Memory;
 use mistakes::{Found, Home};
 use schema::{Absence, FormatKey, KeyRule, Kind, Section, Version};
-use std::alloc::Global;
+use std::alloc::{AllocError, Global};
 
 /// What a table is called: its header, or `the text`.
-pub(crate) fn home_text(alloc: Global, home: Home) -> Result<String, Memory> {
+pub(crate) fn home_text(alloc: Global, home: Home) -> Result<String, AllocError> {
     match home.key {
         Some(key) => header_text(alloc, is_listed(home.section), key),
-        None => Ok(String::from_str(alloc, "the text")?),
+        None => String::from_str(alloc, "the text"),
     }
 }
 
 /// A header, with two brackets where the table is an item of a list.
-pub(crate) fn header_text(alloc: Global, is_list: bool, key: FormatKey) -> Result<String, Memory> {
+pub(crate) fn header_text(
+    alloc: Global,
+    is_list: bool,
+    key: FormatKey,
+) -> Result<String, AllocError> {
     let key = key.text();
-    let header = if is_list {
-        format!(in alloc; "[[{key}]]")?
+    if is_list {
+        format!(in alloc; "[[{key}]]")
     } else {
-        format!(in alloc; "[{key}]")?
-    };
-    Ok(header)
+        format!(in alloc; "[{key}]")
+    }
 }
 
 /// Whether the tables of a section are items of lists.
@@ -40,7 +42,7 @@ pub(crate) fn keys_text(
     alloc: Global,
     rows: &[KeyRule],
     only_required: bool,
-) -> Result<String, Memory> {
+) -> Result<String, AllocError> {
     let mut keys = String::new(alloc);
     for row in rows {
         if !only_required || row.absence == Absence::Refused {
@@ -54,22 +56,27 @@ pub(crate) fn keys_text(
 }
 
 /// What a key's value has to be.
-pub(crate) fn wanted_text(alloc: Global, row: KeyRule) -> Result<String, Memory> {
+pub(crate) fn wanted_text(alloc: Global, row: KeyRule) -> Result<String, AllocError> {
     match row.kind {
         Kind::Whole { least, most } => {
-            Ok(format!(in alloc; "a whole number from {least} to {most}")?)
+            format!(in alloc; "a whole number from {least} to {most}")
         }
-        Kind::Switch => Ok(String::from_str(alloc, "true or false")?),
-        Kind::Text => Ok(String::from_str(alloc, "a string")?),
-        Kind::Table(_) => {
-            let header = header_text(alloc, false, row.key)?;
-            Ok(format!(in alloc; "a table, {header}")?)
-        }
-        Kind::List(_) => {
-            let header = header_text(alloc, true, row.key)?;
-            Ok(format!(in alloc; "a list of tables, {header}")?)
-        }
+        Kind::Switch => String::from_str(alloc, "true or false"),
+        Kind::Text => String::from_str(alloc, "a string"),
+        Kind::Table(_) => headed_text(alloc, "a table", false, row.key),
+        Kind::List(_) => headed_text(alloc, "a list of tables", true, row.key),
     }
+}
+
+/// What a value is, and the header that stands for it.
+fn headed_text(
+    alloc: Global,
+    what: &str,
+    is_list: bool,
+    key: FormatKey,
+) -> Result<String, AllocError> {
+    let header = header_text(alloc, is_list, key)?;
+    format!(in alloc; "{what}, {header}")
 }
 
 /// What kind of value stands there.
@@ -86,18 +93,23 @@ pub(crate) fn found_text(found: Found) -> &'static str {
 }
 
 /// What holds where a key isn't there; empty where the format says nothing of it.
-pub(crate) fn default_text(alloc: Global, row: KeyRule) -> Result<String, Memory> {
+pub(crate) fn default_text(alloc: Global, row: KeyRule) -> Result<String, AllocError> {
     let key = row.key.text();
     match row.absence {
-        Absence::Default(number) => Ok(format!(in alloc; "without `{key}` it is {number}")?),
-        Absence::Refused => Ok(format!(in alloc; "`{key}` has no default")?),
+        Absence::Default(number) => format!(in alloc; "without `{key}` it is {number}"),
+        Absence::Refused => format!(in alloc; "`{key}` has no default"),
         Absence::RefusedOver0(_) => Ok(String::new(alloc)),
-        Absence::Off => Ok(format!(in alloc; "without `{key}` it is false")?),
-        Absence::Optional => match row.kind {
-            Kind::Switch => Ok(format!(in alloc; "without `{key}` it is true")?),
-            Kind::Whole { .. } => Ok(format!(in alloc; "without `{key}` it is that of [link]")?),
-            Kind::Text | Kind::Table(_) | Kind::List(_) => Ok(String::new(alloc)),
-        },
+        Absence::Off => format!(in alloc; "without `{key}` it is false"),
+        Absence::Optional => optional_text(alloc, key, row.kind),
+    }
+}
+
+/// The same of a key that may be left out.
+fn optional_text(alloc: Global, key: &str, kind: Kind) -> Result<String, AllocError> {
+    match kind {
+        Kind::Switch => format!(in alloc; "without `{key}` it is true"),
+        Kind::Whole { .. } => format!(in alloc; "without `{key}` it is that of [link]"),
+        Kind::Text | Kind::Table(_) | Kind::List(_) => Ok(String::new(alloc)),
     }
 }
 

@@ -6,28 +6,35 @@ use crate::rows::{
     version_of, wanted_text,
 };
 use crate::words::Words;
-use base::Memory;
 use mistakes::{Cause, Found, Home, Mistake};
 use schema::{FormatKey, KeyRule, Kind, Section, Version};
-use std::alloc::Global;
+use std::alloc::{AllocError, Global};
 use toml_places::Span;
 
 /// What is counted in `loss`.
 const LOSS: &str = "`loss` counts lost messages in a million: 5 % is 50000";
 
 /// Rule 1.
-pub(crate) fn document_words(context: &Context<'_>, mistake: &Mistake) -> Result<Words, Memory> {
-    let alloc = context.alloc;
+pub(crate) fn document_words(
+    context: &Context<'_>,
+    mistake: &Mistake,
+) -> Result<Words, AllocError> {
     if mistake.cause == Cause::NoUtf8 {
-        let byte = context.bytes.get(mistake.span.start).copied().unwrap_or(0);
-        return Ok(Words {
-            message: String::from_str(alloc, "the text isn't UTF-8")?,
-            label: format!(in alloc; "the byte 0x{byte:02x} can't stand here")?,
-            note: String::from_str(alloc, "save the text as UTF-8")?,
-        });
+        return byte_words(context, mistake.span);
     }
     let fault = context.mistakes.fault.as_str();
-    Words::fixed(alloc, "the text is no TOML document", fault, "")
+    Words::fixed(context.alloc, "the text is no TOML document", fault, "")
+}
+
+/// Rule 1: a byte isn't of UTF-8.
+fn byte_words(context: &Context<'_>, span: Span) -> Result<Words, AllocError> {
+    let alloc = context.alloc;
+    let byte = context.bytes.get(span.start).copied().unwrap_or(0);
+    Words::of(
+        String::from_str(alloc, "the text isn't UTF-8"),
+        format!(in alloc; "the byte 0x{byte:02x} can't stand here"),
+        String::from_str(alloc, "save the text as UTF-8"),
+    )
 }
 
 /// Rule 2: a key, a table or a list isn't there.
@@ -35,45 +42,60 @@ pub(crate) fn missing_words(
     context: &Context<'_>,
     home: Home,
     row: KeyRule,
-) -> Result<Words, Memory> {
+) -> Result<Words, AllocError> {
+    Words::of(
+        missing_message(context.alloc, home, row),
+        missing_label(context, row),
+        keys_note(context, home, "needs", true),
+    )
+}
+
+/// The keys of a table, or those of them that are required.
+fn keys_note(
+    context: &Context<'_>,
+    home: Home,
+    verb: &str,
+    only_required: bool,
+) -> Result<String, AllocError> {
     let alloc = context.alloc;
     let place = home_text(alloc, home)?;
-    let required = keys_text(alloc, home.section.rows(version_of(context)), true)?;
-    Ok(Words {
-        message: missing_message(alloc, home, row)?,
-        label: missing_label(context, row)?,
-        note: format!(in alloc; "{place} needs: {required}")?,
-    })
+    let keys = keys_text(alloc, home.section.rows(version_of(context)), only_required)?;
+    format!(in alloc; "{place} {verb}: {keys}")
 }
 
 /// What isn't there.
-fn missing_message(alloc: Global, home: Home, row: KeyRule) -> Result<String, Memory> {
+fn missing_message(alloc: Global, home: Home, row: KeyRule) -> Result<String, AllocError> {
     let key = row.key.text();
     match row.kind {
-        Kind::Table(_) => Ok(format!(in alloc; "missing table [{key}]")?),
-        Kind::List(_) => Ok(format!(in alloc; "missing list [[{key}]]")?),
-        Kind::Whole { .. } | Kind::Switch | Kind::Text => {
-            if home.key.is_none() {
-                return Ok(format!(in alloc; "missing key `{key}`")?);
-            }
-            let place = home_text(alloc, home)?;
-            Ok(format!(in alloc; "missing key `{key}` in {place}")?)
-        }
+        Kind::Table(_) => format!(in alloc; "missing table [{key}]"),
+        Kind::List(_) => format!(in alloc; "missing list [[{key}]]"),
+        Kind::Whole { .. } | Kind::Switch | Kind::Text => missing_key_message(alloc, home, key),
     }
 }
 
+/// That a key isn't there.
+fn missing_key_message(alloc: Global, home: Home, key: &str) -> Result<String, AllocError> {
+    if home.key.is_none() {
+        return format!(in alloc; "missing key `{key}`");
+    }
+    let place = home_text(alloc, home)?;
+    format!(in alloc; "missing key `{key}` in {place}")
+}
+
 /// What to add.
-fn missing_label(context: &Context<'_>, row: KeyRule) -> Result<String, Memory> {
-    let alloc = context.alloc;
+fn missing_label(context: &Context<'_>, row: KeyRule) -> Result<String, AllocError> {
     match row.kind {
         Kind::Table(section) => table_label(context, section, false, row.key),
         Kind::List(section) => table_label(context, section, true, row.key),
-        Kind::Whole { .. } | Kind::Switch | Kind::Text => {
-            let key = row.key.text();
-            let wanted = wanted_text(alloc, row)?;
-            Ok(format!(in alloc; "add `{key}`, {wanted}")?)
-        }
+        Kind::Whole { .. } | Kind::Switch | Kind::Text => missing_key_label(context.alloc, row),
     }
+}
+
+/// Which key to add.
+fn missing_key_label(alloc: Global, row: KeyRule) -> Result<String, AllocError> {
+    let key = row.key.text();
+    let wanted = wanted_text(alloc, row)?;
+    format!(in alloc; "add `{key}`, {wanted}")
 }
 
 /// Which table to add, with the keys that it needs.
@@ -82,35 +104,35 @@ fn table_label(
     section: Section,
     is_list: bool,
     key: FormatKey,
-) -> Result<String, Memory> {
+) -> Result<String, AllocError> {
     let alloc = context.alloc;
     let header = header_text(alloc, is_list, key)?;
     let required = keys_text(alloc, section.rows(version_of(context)), true)?;
-    Ok(format!(in alloc; "add {header} with {required}")?)
+    format!(in alloc; "add {header} with {required}")
 }
 
 /// Rule 2: a list has no item.
-pub(crate) fn empty_words(context: &Context<'_>, row: KeyRule) -> Result<Words, Memory> {
+pub(crate) fn empty_words(context: &Context<'_>, row: KeyRule) -> Result<Words, AllocError> {
     let alloc = context.alloc;
     let key = row.key.text();
-    Ok(Words {
-        message: format!(in alloc; "the list `{key}` is empty")?,
-        label: missing_label(context, row)?,
-        note: format!(in alloc; "a text has one {key} at least")?,
-    })
+    Words::of(
+        format!(in alloc; "the list `{key}` is empty"),
+        missing_label(context, row),
+        format!(in alloc; "a text has one {key} at least"),
+    )
 }
 
 /// Rule 2: a group that starts later has no contact.
-pub(crate) fn contact_words(context: &Context<'_>, start: i64) -> Result<Words, Memory> {
+pub(crate) fn contact_words(context: &Context<'_>, start: i64) -> Result<Words, AllocError> {
     let alloc = context.alloc;
-    Ok(Words {
-        message: String::from_str(alloc, "missing key `contact` in [[group]]")?,
-        label: format!(in alloc; "it starts at {start}, so it needs `contact`")?,
-        note: String::from_str(
+    Words::of(
+        String::from_str(alloc, "missing key `contact` in [[group]]"),
+        format!(in alloc; "it starts at {start}, so it needs `contact`"),
+        String::from_str(
             alloc,
             "`contact` names a member of a group with start 0, which lets it join",
-        )?,
-    })
+        ),
+    )
 }
 
 /// Rule 3: the format doesn't name a key.
@@ -119,48 +141,73 @@ pub(crate) fn unknown_words(
     home: Home,
     found: Found,
     span: Span,
-) -> Result<Words, Memory> {
-    let alloc = context.alloc;
+) -> Result<Words, AllocError> {
     let name = context.name(span)?;
+    Words::of(
+        unknown_message(context, home, found, span),
+        unknown_label(context, home, name.as_str()),
+        keys_note(context, home, "has", false),
+    )
+}
+
+/// What is unknown, and where.
+fn unknown_message(
+    context: &Context<'_>,
+    home: Home,
+    found: Found,
+    span: Span,
+) -> Result<String, AllocError> {
+    let alloc = context.alloc;
+    let what = unknown_text(found);
     let shown = context.shown_name(span)?;
-    let what = match found {
+    if home.key.is_none() {
+        return format!(in alloc; "unknown {what} `{shown}`");
+    }
+    let place = home_text(alloc, home)?;
+    format!(in alloc; "unknown {what} `{shown}` in {place}")
+}
+
+/// What is called unknown of which such a value was found.
+fn unknown_text(found: Found) -> &'static str {
+    match found {
         Found::Table => "table",
         Found::List => "list",
         _ => "key",
-    };
-    let place = home_text(alloc, home)?;
-    let keys = keys_text(alloc, home.section.rows(version_of(context)), false)?;
-    let message = if home.key.is_some() {
-        format!(in alloc; "unknown {what} `{shown}` in {place}")?
-    } else {
-        format!(in alloc; "unknown {what} `{shown}`")?
-    };
-    Ok(Words {
-        message,
-        label: unknown_label(context, home, name.as_str())?,
-        note: format!(in alloc; "{place} has: {keys}")?,
-    })
+    }
 }
 
 /// The nearest key, or the table that has a key of this name.
-fn unknown_label(context: &Context<'_>, home: Home, name: &str) -> Result<String, Memory> {
+fn unknown_label(context: &Context<'_>, home: Home, name: &str) -> Result<String, AllocError> {
     let alloc = context.alloc;
-    let rows = home.section.rows(version_of(context));
-    if let Some(key) = nearest_key(alloc, name, rows)? {
-        let key = key.text();
-        return Ok(format!(in alloc; "did you mean `{key}`?")?);
+    match nearest_key(alloc, name, home.section.rows(version_of(context)))? {
+        Some(key) => nearest_key_label(alloc, key),
+        None => elsewhere_label(alloc, told_version(context), name),
     }
-    let version = told_version(context);
+}
+
+/// Whether a key was meant.
+fn nearest_key_label(alloc: Global, key: FormatKey) -> Result<String, AllocError> {
+    let key = key.text();
+    format!(in alloc; "did you mean `{key}`?")
+}
+
+/// The table that has a key of this name.
+fn elsewhere_label(alloc: Global, version: Version, name: &str) -> Result<String, AllocError> {
     for row in Section::Top.rows(version) {
         if has_key(version, row.kind, name) {
-            let header = header_text(alloc, is_list(row.kind), row.key)?;
-            return Ok(format!(in alloc; "this is a key of {header}")?);
+            return key_of_label(alloc, *row);
         }
     }
     if is_named(Section::Top.rows(version), name) {
-        return Ok(String::from_str(alloc, "this stands before all tables")?);
+        return String::from_str(alloc, "this stands before all tables");
     }
-    Ok(String::from_str(alloc, "take it away")?)
+    String::from_str(alloc, "take it away")
+}
+
+/// That a key is one of a table.
+fn key_of_label(alloc: Global, table: KeyRule) -> Result<String, AllocError> {
+    let header = header_text(alloc, is_list(table.kind), table.key)?;
+    format!(in alloc; "this is a key of {header}")
 }
 
 /// Whether what a key of the whole text calls for has a key of this name.
@@ -189,16 +236,16 @@ pub(crate) fn later_words(
     context: &Context<'_>,
     version: Version,
     span: Span,
-) -> Result<Words, Memory> {
+) -> Result<Words, AllocError> {
     let alloc = context.alloc;
-    let name = context.shown_name(span)?;
     let later = version_number(version);
     let own = version_number(version_of(context));
-    Ok(Words {
-        message: format!(in alloc; "`{name}` is a key of version {later}")?,
-        label: format!(in alloc; "write `version = {later}` to use it")?,
-        note: format!(in alloc; "this text is judged by version {own}")?,
-    })
+    let name = context.shown_name(span)?;
+    Words::of(
+        format!(in alloc; "`{name}` is a key of version {later}"),
+        format!(in alloc; "write `version = {later}` to use it"),
+        format!(in alloc; "this text is judged by version {own}"),
+    )
 }
 
 /// Rule 4: a value is of another kind.
@@ -207,16 +254,21 @@ pub(crate) fn kind_words(
     row: KeyRule,
     found: Found,
     span: Span,
-) -> Result<Words, Memory> {
+) -> Result<Words, AllocError> {
     let alloc = context.alloc;
+    Words::of(
+        kind_message(alloc, row, found),
+        kind_label(context, row, found, span),
+        default_text(alloc, row),
+    )
+}
+
+/// What stands there in place of what is wanted.
+fn kind_message(alloc: Global, row: KeyRule, found: Found) -> Result<String, AllocError> {
     let key = row.key.text();
-    let wanted = wanted_text(alloc, row)?;
     let there = found_text(found);
-    Ok(Words {
-        message: format!(in alloc; "`{key}` is {there}, not {wanted}")?,
-        label: kind_label(context, row, found, span)?,
-        note: default_text(alloc, row)?,
-    })
+    let wanted = wanted_text(alloc, row)?;
+    format!(in alloc; "`{key}` is {there}, not {wanted}")
 }
 
 /// What to write in place of a value of another kind.
@@ -225,12 +277,12 @@ fn kind_label(
     row: KeyRule,
     found: Found,
     span: Span,
-) -> Result<String, Memory> {
+) -> Result<String, AllocError> {
     let alloc = context.alloc;
     match row.kind {
         Kind::Whole { .. } => whole_label(context, row.key, found, span),
-        Kind::Switch => Ok(String::from_str(alloc, "write true or false, without quotes")?),
-        Kind::Text => Ok(String::from_str(alloc, "write a name in quotes")?),
+        Kind::Switch => String::from_str(alloc, "write true or false, without quotes"),
+        Kind::Text => String::from_str(alloc, "write a name in quotes"),
         Kind::Table(_) => table_form(alloc, row.key, found),
         Kind::List(_) => list_form(alloc, row.key, found),
     }
@@ -242,23 +294,28 @@ fn whole_label(
     key: FormatKey,
     found: Found,
     span: Span,
-) -> Result<String, Memory> {
+) -> Result<String, AllocError> {
     let alloc = context.alloc;
     if key == FormatKey::Loss {
-        return Ok(String::from_str(alloc, LOSS)?);
+        return String::from_str(alloc, LOSS);
     }
     if found != Found::Text {
-        return Ok(String::from_str(alloc, "write a whole number")?);
+        return String::from_str(alloc, "write a whole number");
     }
     let name = context.name(span)?;
-    let digits = leading_digits(name.as_str());
+    digits_label(alloc, name.as_str())
+}
+
+/// What to write in place of a string.
+fn digits_label(alloc: Global, name: &str) -> Result<String, AllocError> {
+    let digits = leading_digits(name);
     if digits.is_empty() {
-        return Ok(String::from_str(alloc, "write a whole number, without quotes")?);
+        return String::from_str(alloc, "write a whole number, without quotes");
     }
     if digits.len() == name.len() {
-        return Ok(format!(in alloc; "write {digits}, without quotes")?);
+        return format!(in alloc; "write {digits}, without quotes");
     }
-    Ok(format!(in alloc; "write {digits}, a number of ticks; a tick is the simulation's own unit")?)
+    format!(in alloc; "write {digits}, a number of ticks; a tick is the simulation's own unit")
 }
 
 /// The digits at the start of a text, if they are few.
@@ -276,22 +333,22 @@ fn leading_digits(text: &str) -> &str {
 }
 
 /// How a table is written.
-fn table_form(alloc: Global, key: FormatKey, found: Found) -> Result<String, Memory> {
+fn table_form(alloc: Global, key: FormatKey, found: Found) -> Result<String, AllocError> {
     let key = key.text();
     if found == Found::List {
-        Ok(format!(in alloc; "write [{key}] once, in one pair of brackets")?)
+        format!(in alloc; "write [{key}] once, in one pair of brackets")
     } else {
-        Ok(format!(in alloc; "write [{key}], and its keys below it")?)
+        format!(in alloc; "write [{key}], and its keys below it")
     }
 }
 
 /// How a list of tables is written.
-fn list_form(alloc: Global, key: FormatKey, found: Found) -> Result<String, Memory> {
+fn list_form(alloc: Global, key: FormatKey, found: Found) -> Result<String, AllocError> {
     let key = key.text();
     if found == Found::Table {
-        Ok(format!(in alloc; "write [[{key}]], in two pairs of brackets")?)
+        format!(in alloc; "write [[{key}]], in two pairs of brackets")
     } else {
-        Ok(format!(in alloc; "write [[{key}]] for each, and its keys below it")?)
+        format!(in alloc; "write [[{key}]] for each, and its keys below it")
     }
 }
 
@@ -300,15 +357,15 @@ pub(crate) fn item_words(
     context: &Context<'_>,
     row: KeyRule,
     found: Found,
-) -> Result<Words, Memory> {
+) -> Result<Words, AllocError> {
     let alloc = context.alloc;
     let key = row.key.text();
     let there = found_text(found);
-    Ok(Words {
-        message: format!(in alloc; "an item of `{key}` is {there}, not a table")?,
-        label: list_form(alloc, row.key, found)?,
-        note: String::new(alloc),
-    })
+    Words::of(
+        format!(in alloc; "an item of `{key}` is {there}, not a table"),
+        list_form(alloc, row.key, found),
+        Ok(String::new(alloc)),
+    )
 }
 
 /// Rule 5: a whole number is outside its range.
@@ -316,30 +373,46 @@ pub(crate) fn range_words(
     context: &Context<'_>,
     row: KeyRule,
     number: i64,
-) -> Result<Words, Memory> {
+) -> Result<Words, AllocError> {
     let alloc = context.alloc;
     let key = row.key.text();
+    Words::of(
+        format!(in alloc; "`{key}` is {number}, outside its range"),
+        range_label(alloc, row),
+        range_note(context, row, number),
+    )
+}
+
+/// What may be written.
+fn range_label(alloc: Global, row: KeyRule) -> Result<String, AllocError> {
     let wanted = wanted_text(alloc, row)?;
-    Ok(Words {
-        message: format!(in alloc; "`{key}` is {number}, outside its range")?,
-        label: format!(in alloc; "write {wanted}")?,
-        note: range_note(context, row, number)?,
-    })
+    format!(in alloc; "write {wanted}")
 }
 
 /// What else is known of the range of a key.
-fn range_note(context: &Context<'_>, row: KeyRule, number: i64) -> Result<String, Memory> {
+fn range_note(context: &Context<'_>, row: KeyRule, number: i64) -> Result<String, AllocError> {
     let alloc = context.alloc;
     if row.key == FormatKey::Loss {
-        return Ok(String::from_str(alloc, LOSS)?);
+        return String::from_str(alloc, LOSS);
     }
-    let later = match u64::try_from(number) {
-        Ok(number) => 0 < number && number <= Version::Two.most_members(),
-        Err(_) => false,
-    };
-    if row.key == FormatKey::Count && version_of(context) == Version::One && later {
-        let most = Version::Two.most_members();
-        return Ok(format!(in alloc; "with `version = 2` it may be up to {most}")?);
+    if row.key == FormatKey::Count && is_later_count(version_of(context), number) {
+        return later_count_note(alloc);
     }
     default_text(alloc, row)
+}
+
+/// Whether a version alone refuses so many members of a group, and a later one doesn't.
+fn is_later_count(version: Version, number: i64) -> bool {
+    match u64::try_from(number) {
+        Ok(number) => version == Version::One
+            && 0 < number
+            && number <= Version::Two.most_members(),
+        Err(_) => false,
+    }
+}
+
+/// How many members a group may have from version 2 on.
+fn later_count_note(alloc: Global) -> Result<String, AllocError> {
+    let most = Version::Two.most_members();
+    format!(in alloc; "with `version = 2` it may be up to {most}")
 }

@@ -1,12 +1,11 @@
 //! Pieces of a text as a line shows them: what would end the line, or change how it stands, is escaped.
-use base::Memory;
-use std::alloc::Global;
+use std::alloc::{AllocError, Global};
 
 /// How many characters of a name are shown.
 const MOST: usize = 60;
 
 /// A name, without the end of a long one.
-pub(crate) fn shown_name(alloc: Global, name: &str) -> Result<String, Memory> {
+pub(crate) fn shown_name(alloc: Global, name: &str) -> Result<String, AllocError> {
     let start = first_chars(name, MOST);
     let mut shown = shown_whole(alloc, start)?;
     if start.len() < name.len() {
@@ -16,45 +15,45 @@ pub(crate) fn shown_name(alloc: Global, name: &str) -> Result<String, Memory> {
 }
 
 /// A name, however long it is.
-pub(crate) fn shown_whole(alloc: Global, name: &str) -> Result<String, Memory> {
+pub(crate) fn shown_whole(alloc: Global, name: &str) -> Result<String, AllocError> {
     let mut shown = String::new(alloc);
     for c in name.chars() {
         if c == '\\' {
             shown.push_str("\\\\")?;
         } else {
-            push_shown(alloc, &mut shown, c)?;
+            push_shown(&mut shown, c)?;
         }
     }
     Ok(shown)
 }
 
-/// A piece of a line of the text; a tab is four spaces wide.
-pub(crate) fn shown_source(alloc: Global, piece: &str) -> Result<String, Memory> {
-    let mut shown = String::new(alloc);
+/// Adds a piece of a line of the text; a tab is four spaces wide.
+pub(crate) fn push_source(shown: &mut String, piece: &str) -> Result<(), AllocError> {
     for c in piece.chars() {
         if c == '\t' {
             shown.push_str("    ")?;
         } else {
-            push_shown(alloc, &mut shown, c)?;
+            push_shown(shown, c)?;
         }
     }
-    Ok(shown)
+    Ok(())
 }
 
 /// Adds a character.
-fn push_shown(alloc: Global, shown: &mut String, c: char) -> Result<(), Memory> {
+fn push_shown(shown: &mut String, c: char) -> Result<(), AllocError> {
     match c {
-        '\t' => shown.push_str("\\t")?,
-        '\n' => shown.push_str("\\n")?,
-        '\r' => shown.push_str("\\r")?,
-        _ if breaks_line(c) => {
-            let number = u32::from(c);
-            let escape = format!(in alloc; "\\u{{{number:x}}}")?;
-            shown.push_str(escape.as_str())?;
-        }
-        _ => shown.push(c)?,
+        '\t' => shown.push_str("\\t"),
+        '\n' => shown.push_str("\\n"),
+        '\r' => shown.push_str("\\r"),
+        _ if breaks_line(c) => push_escape(shown, c),
+        _ => shown.push(c),
     }
-    Ok(())
+}
+
+/// Adds a character by its number.
+fn push_escape(shown: &mut String, c: char) -> Result<(), AllocError> {
+    let number = u32::from(c);
+    write!(shown, "\\u{{{number:x}}}")
 }
 
 /// Whether a character ends a line or changes what stands there.

@@ -2,9 +2,9 @@
 use crate::context::Context;
 use crate::rows::version_of;
 use crate::words::Words;
-use base::Memory;
 use mistakes::Departure;
 use schema::{FormatKey, Version};
+use std::alloc::{AllocError, Global};
 use toml_places::Span;
 
 /// What a member does, and what that is called.
@@ -22,22 +22,33 @@ pub(crate) fn gone_words(
     now: Departure,
     before: Departure,
     other: Span,
-) -> Result<Words, Memory> {
+) -> Result<Words, AllocError> {
+    let alloc = context.alloc;
+    let line = context.line(other);
+    let (_, first) = departure_words(before);
+    Words::of(
+        gone_message(context, span, now, before),
+        format!(in alloc; "its {first} is on line {line}"),
+        String::from_str(alloc, "a member goes once, for good: take one of them away"),
+    )
+}
+
+/// How a member goes twice.
+fn gone_message(
+    context: &Context<'_>,
+    span: Span,
+    now: Departure,
+    before: Departure,
+) -> Result<String, AllocError> {
     let alloc = context.alloc;
     let member = context.shown_name(span)?;
-    let line = context.line(other);
     let (goes, _) = departure_words(now);
-    let (first_goes, first) = departure_words(before);
-    let message = if now == before {
-        format!(in alloc; "`{member}` {goes} twice")?
+    let (first_goes, _) = departure_words(before);
+    if now == before {
+        format!(in alloc; "`{member}` {goes} twice")
     } else {
-        format!(in alloc; "`{member}` {first_goes} and {goes}")?
-    };
-    Ok(Words {
-        message,
-        label: format!(in alloc; "its {first} is on line {line}")?,
-        note: String::from_str(alloc, "a member goes once, for good: take one of them away")?,
-    })
+        format!(in alloc; "`{member}` {first_goes} and {goes}")
+    }
 }
 
 /// What the times are called of which two overlap.
@@ -55,19 +66,19 @@ pub(crate) fn overlap_words(
     span: Span,
     key: FormatKey,
     other: Span,
-) -> Result<Words, Memory> {
+) -> Result<Words, AllocError> {
     let alloc = context.alloc;
     let member = context.shown_name(span)?;
     let times = stretch_words(key);
     let line = context.line(other);
-    Ok(Words {
-        message: format!(in alloc; "two {times} of `{member}` overlap")?,
-        label: format!(in alloc; "the other is on line {line}")?,
-        note: String::from_str(
+    Words::of(
+        format!(in alloc; "two {times} of `{member}` overlap"),
+        format!(in alloc; "the other is on line {line}"),
+        String::from_str(
             alloc,
             "let the later `from` be no less than the earlier `until`",
-        )?,
-    })
+        ),
+    )
 }
 
 /// Rule 9: the timeout isn't below the period.
@@ -76,19 +87,19 @@ pub(crate) fn timeout_words(
     timeout: u64,
     period: u64,
     other: Span,
-) -> Result<Words, Memory> {
+) -> Result<Words, AllocError> {
     let alloc = context.alloc;
     let line = context.line(other);
     let most = period.saturating_sub(1);
-    Ok(Words {
-        message: format!(in alloc; "`timeout` {timeout} isn't below `period` {period}")?,
-        label: format!(in alloc; "write {most} or less")?,
-        note: format!(in alloc; "`period` is on line {line}")?,
-    })
+    Words::of(
+        format!(in alloc; "`timeout` {timeout} isn't below `period` {period}"),
+        format!(in alloc; "write {most} or less"),
+        format!(in alloc; "`period` is on line {line}"),
+    )
 }
 
 /// Rule 9: a group that starts at moment 0 has a contact.
-pub(crate) fn needless_words(context: &Context<'_>) -> Result<Words, Memory> {
+pub(crate) fn needless_words(context: &Context<'_>) -> Result<Words, AllocError> {
     Words::fixed(
         context.alloc,
         "a group that starts at 0 has a `contact`",
@@ -98,14 +109,18 @@ pub(crate) fn needless_words(context: &Context<'_>) -> Result<Words, Memory> {
 }
 
 /// Rule 9: the contact starts later itself.
-pub(crate) fn late_words(context: &Context<'_>, span: Span, start: u64) -> Result<Words, Memory> {
+pub(crate) fn late_words(
+    context: &Context<'_>,
+    span: Span,
+    start: u64,
+) -> Result<Words, AllocError> {
     let alloc = context.alloc;
     let member = context.shown_name(span)?;
-    Ok(Words {
-        message: format!(in alloc; "the contact `{member}` starts at {start} itself")?,
-        label: String::from_str(alloc, "write a member of a group with start 0")?,
-        note: String::new(alloc),
-    })
+    Words::of(
+        format!(in alloc; "the contact `{member}` starts at {start} itself"),
+        String::from_str(alloc, "write a member of a group with start 0"),
+        Ok(String::new(alloc)),
+    )
 }
 
 /// Rule 9: a member goes too early.
@@ -114,15 +129,15 @@ pub(crate) fn early_words(
     departure: Departure,
     at: u64,
     start: u64,
-) -> Result<Words, Memory> {
+) -> Result<Words, AllocError> {
     let alloc = context.alloc;
     let (_, name) = departure_words(departure);
     let least = start.saturating_add(1);
-    Ok(Words {
-        message: format!(in alloc; "a {name} at {at}, where the member starts at {start}")?,
-        label: format!(in alloc; "write {least} or more")?,
-        note: format!(in alloc; "a {name} comes after its member's start")?,
-    })
+    Words::of(
+        format!(in alloc; "a {name} at {at}, where the member starts at {start}"),
+        format!(in alloc; "write {least} or more"),
+        format!(in alloc; "a {name} comes after its member's start"),
+    )
 }
 
 /// Rule 9: a time is over when it begins.
@@ -131,30 +146,41 @@ pub(crate) fn end_words(
     key: FormatKey,
     begins: u64,
     until: u64,
-) -> Result<Words, Memory> {
+) -> Result<Words, AllocError> {
     let alloc = context.alloc;
     let key = key.text();
     let least = begins.saturating_add(1);
-    Ok(Words {
-        message: format!(in alloc; "`until` {until} isn't after `{key}` {begins}")?,
-        label: format!(in alloc; "write {least} or more")?,
-        note: String::new(alloc),
-    })
+    Words::of(
+        format!(in alloc; "`until` {until} isn't after `{key}` {begins}"),
+        format!(in alloc; "write {least} or more"),
+        Ok(String::new(alloc)),
+    )
 }
 
 /// Rule 10: there are too many members.
-pub(crate) fn size_words(context: &Context<'_>, members: u128, most: u64) -> Result<Words, Memory> {
+pub(crate) fn size_words(
+    context: &Context<'_>,
+    members: u128,
+    most: u64,
+) -> Result<Words, AllocError> {
     let alloc = context.alloc;
-    let note = match version_of(context) {
-        Version::One => {
-            let more = Version::Two.most_members();
-            format!(in alloc; "with `version = 2` there may be {more}")?
-        }
-        Version::Two | Version::Three => String::new(alloc),
-    };
-    Ok(Words {
-        message: format!(in alloc; "there are {members} members, more than {most}")?,
-        label: format!(in alloc; "from here on there are more than {most}")?,
-        note,
-    })
+    Words::of(
+        format!(in alloc; "there are {members} members, more than {most}"),
+        format!(in alloc; "from here on there are more than {most}"),
+        size_note(alloc, version_of(context)),
+    )
+}
+
+/// How many members a later version allows; empty where it allows no more.
+fn size_note(alloc: Global, version: Version) -> Result<String, AllocError> {
+    match version {
+        Version::One => more_note(alloc),
+        Version::Two | Version::Three => Ok(String::new(alloc)),
+    }
+}
+
+/// How many members there may be from version 2 on.
+fn more_note(alloc: Global) -> Result<String, AllocError> {
+    let more = Version::Two.most_members();
+    format!(in alloc; "with `version = 2` there may be {more}")
 }

@@ -10,10 +10,9 @@ use crate::value_words::{
     early_words, end_words, gone_words, late_words, needless_words, overlap_words, size_words,
     timeout_words,
 };
-use base::Memory;
 use mistakes::{Cause, Mistake};
 use schema::Version;
-use std::alloc::Global;
+use std::alloc::{AllocError, Global};
 
 /// What is said of a mistake.
 #[derive(Drop)]
@@ -27,23 +26,36 @@ pub(crate) struct Words {
 }
 
 impl Words {
+    /// Words of these texts, if none of them was refused.
+    pub(crate) fn of(
+        message: Result<String, AllocError>,
+        label: Result<String, AllocError>,
+        note: Result<String, AllocError>,
+    ) -> Result<Words, AllocError> {
+        Ok(Words {
+            message: message?,
+            label: label?,
+            note: note?,
+        })
+    }
+
     /// Words that need no value.
     pub(crate) fn fixed(
         alloc: Global,
         message: &str,
         label: &str,
         note: &str,
-    ) -> Result<Words, Memory> {
-        Ok(Words {
-            message: String::from_str(alloc, message)?,
-            label: String::from_str(alloc, label)?,
-            note: String::from_str(alloc, note)?,
-        })
+    ) -> Result<Words, AllocError> {
+        Words::of(
+            String::from_str(alloc, message),
+            String::from_str(alloc, label),
+            String::from_str(alloc, note),
+        )
     }
 }
 
 /// The words of a mistake.
-pub(crate) fn words_of(context: &Context<'_>, mistake: &Mistake) -> Result<Words, Memory> {
+pub(crate) fn words_of(context: &Context<'_>, mistake: &Mistake) -> Result<Words, AllocError> {
     let span = mistake.span;
     match mistake.cause {
         Cause::NoUtf8 | Cause::NoDocument => document_words(context, mistake),
@@ -64,7 +76,7 @@ pub(crate) fn words_of(context: &Context<'_>, mistake: &Mistake) -> Result<Words
 }
 
 /// The words of a mistake of rules 8 to 10, or of one of which the rule alone is known.
-fn later_rule_words(context: &Context<'_>, mistake: &Mistake) -> Result<Words, Memory> {
+fn later_rule_words(context: &Context<'_>, mistake: &Mistake) -> Result<Words, AllocError> {
     let span = mistake.span;
     match mistake.cause {
         Cause::GoneTwice { now, before, other } => gone_words(context, span, now, before, other),
@@ -95,9 +107,9 @@ fn stretches_rule(version: Version) -> &'static str {
     }
 }
 
-/// The words of a rule.
-fn general_words(context: &Context<'_>, rule: u8) -> Result<Words, Memory> {
-    let message = match rule {
+/// What is wrong where a rule is broken.
+fn rule_text(version: Version, rule: u8) -> &'static str {
+    match rule {
         1 => "the text is no TOML document",
         2 => "a required table or key is missing",
         3 => "a key is unknown",
@@ -105,10 +117,15 @@ fn general_words(context: &Context<'_>, rule: u8) -> Result<Words, Memory> {
         5 => "a whole number is outside its range",
         6 => "a group name is of another form or stands twice",
         7 => "a name is no member's or no group's",
-        8 => stretches_rule(version_of(context)),
+        8 => stretches_rule(version),
         9 => "a moment or a length of time may not be",
         10 => "there are too many members",
         _ => "the text breaks a rule",
-    };
+    }
+}
+
+/// The words of a rule.
+fn general_words(context: &Context<'_>, rule: u8) -> Result<Words, AllocError> {
+    let message = rule_text(version_of(context), rule);
     Words::fixed(context.alloc, message, "", "docs/FORMAT.md has the rules")
 }

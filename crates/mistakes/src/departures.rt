@@ -7,7 +7,7 @@ use schema::{FormatKey, Section, Version};
 use toml_places::Span;
 
 /// A crash or a leave of a member.
-#[derive(Clone, Copy, Debug, PartialEq, Eq)]
+#[derive(Clone, Copy)]
 struct Gone {
     seat: Seat,
     departure: Departure,
@@ -16,7 +16,7 @@ struct Gone {
 }
 
 /// A time in which a member is slow, or paused.
-#[derive(Clone, Copy, Debug, PartialEq, Eq)]
+#[derive(Clone, Copy)]
 struct Stretch {
     seat: Seat,
     from: u64,
@@ -38,15 +38,28 @@ pub(crate) fn judge_departures(walk: &mut Walk<'_>, roster: &Roster) -> Result<(
 /// Judges that no member goes twice.
 fn judge_gone(walk: &mut Walk<'_>, roster: &Roster) -> Result<(), Memory> {
     let mut list = Vec::new(walk.alloc);
-    for item in walk.items(FormatKey::Crash) {
-        add_gone(walk, roster, *item, Departure::Crash, &mut list)?;
-    }
-    for item in walk.added_items(FormatKey::Leave) {
-        add_gone(walk, roster, *item, Departure::Leave, &mut list)?;
-    }
+    add_all_gone(
+        walk,
+        roster,
+        Departure::Crash,
+        walk.items(FormatKey::Crash),
+        &mut list,
+    )?;
+    add_all_gone(
+        walk,
+        roster,
+        Departure::Leave,
+        walk.added_items(FormatKey::Leave),
+        &mut list,
+    )?;
     list.sort_by_key(|gone| (gone.seat.group, gone.seat.index, gone.span.start))?;
+    tell_gone(walk, list.as_slice())
+}
+
+/// Tells of the members that go twice in a list by members and places.
+fn tell_gone(walk: &mut Walk<'_>, list: &[Gone]) -> Result<(), Memory> {
     let mut before: Option<Gone> = None;
-    for gone in list.as_slice() {
+    for gone in list {
         if let Some(first) = before
             && is_same(first.seat, gone.seat)
         {
@@ -59,6 +72,20 @@ fn judge_gone(walk: &mut Walk<'_>, roster: &Roster) -> Result<(), Memory> {
         } else {
             before = Some(*gone);
         }
+    }
+    Ok(())
+}
+
+/// Adds the crashes or the leaves of items, where their members are known.
+fn add_all_gone(
+    walk: &Walk<'_>,
+    roster: &Roster,
+    departure: Departure,
+    items: &[usize],
+    list: &mut Vec<Gone>,
+) -> Result<(), Memory> {
+    for item in items {
+        add_gone(walk, roster, *item, departure, list)?;
     }
     Ok(())
 }
@@ -88,8 +115,7 @@ fn is_same(a: Seat, b: Seat) -> bool {
     a.group == b.group && a.index == b.index
 }
 
-/// Judges that of the items of a list no two of one member overlap: each is compared with the one that
-/// lasts longest of those that begin before it.
+/// Judges that of the items of a list no two of one member overlap.
 fn judge_stretches(
     walk: &mut Walk<'_>,
     roster: &Roster,
@@ -101,8 +127,14 @@ fn judge_stretches(
         add_stretch(walk, roster, section, *item, &mut list)?;
     }
     list.sort_by_key(|stretch| (stretch.seat.group, stretch.seat.index, stretch.from))?;
+    tell_overlaps(walk, key, list.as_slice())
+}
+
+/// Tells of the items that overlap in a list by members and beginnings: each is compared with the one that
+/// lasts longest of those before it.
+fn tell_overlaps(walk: &mut Walk<'_>, key: FormatKey, list: &[Stretch]) -> Result<(), Memory> {
     let mut longest: Option<Stretch> = None;
-    for stretch in list.as_slice() {
+    for stretch in list {
         if let Some(before) = longest
             && is_same(before.seat, stretch.seat)
         {

@@ -45,11 +45,11 @@ pub(crate) enum Named {
 }
 
 impl Roster {
-    /// No groups yet.
-    pub(crate) fn new(alloc: Global) -> Roster {
+    /// No groups yet, and whether the names of all could be read so far.
+    pub(crate) fn new(alloc: Global, is_complete: bool) -> Roster {
         Roster {
             groups: IndexMap::new(alloc),
-            is_complete: true,
+            is_complete,
         }
     }
 
@@ -61,21 +61,10 @@ impl Roster {
         name: &str,
         group: Known,
     ) -> Result<Option<Span>, Memory> {
-        match self.groups.get(name).copied() {
-            Some(before) => {
-                let unknown = Known {
-                    count: None,
-                    start: None,
-                    name: before.name,
-                };
-                self.groups.insert(String::from_str(alloc, name)?, unknown)?;
-                Ok(Some(before.name))
-            }
-            None => {
-                self.groups.insert(String::from_str(alloc, name)?, group)?;
-                Ok(None)
-            }
-        }
+        let before = self.groups.get(name).copied();
+        let name = String::from_str(alloc, name)?;
+        self.groups.insert(name, known_after(before, group))?;
+        Ok(place_of(before))
     }
 
     /// Whether a name is surely that of no group.
@@ -104,6 +93,26 @@ impl Roster {
                 }
             }
         }
+    }
+}
+
+/// What is known of a group's name, if another one had it before.
+fn known_after(before: Option<Known>, group: Known) -> Known {
+    match before {
+        Some(before) => Known {
+            count: None,
+            start: None,
+            name: before.name,
+        },
+        None => group,
+    }
+}
+
+/// Where a group's name stands.
+fn place_of(group: Option<Known>) -> Option<Span> {
+    match group {
+        Some(group) => Some(group.name),
+        None => None,
     }
 }
 

@@ -4,7 +4,7 @@ use crate::members::{Known, Named, Roster};
 use crate::walk::{Walk, found_at};
 use base::Memory;
 use schema::{FormatKey, Section};
-use toml_places::Places;
+use toml_places::{Places, Span};
 
 /// Judges all names. What comes out are the groups.
 pub(crate) fn judge_names(walk: &mut Walk<'_>) -> Result<Roster, Memory> {
@@ -21,11 +21,8 @@ pub(crate) fn judge_names(walk: &mut Walk<'_>) -> Result<Roster, Memory> {
 
 /// The groups, whose names are judged.
 fn read_groups(walk: &mut Walk<'_>) -> Result<Roster, Memory> {
-    let mut roster = Roster::new(walk.alloc);
     let items = walk.items(FormatKey::Group);
-    if items.is_empty() {
-        roster.is_complete = false;
-    }
+    let mut roster = Roster::new(walk.alloc, !items.is_empty());
     for item in items {
         read_group(walk, &mut roster, *item)?;
     }
@@ -38,18 +35,29 @@ fn read_group(walk: &mut Walk<'_>, roster: &mut Roster, item: usize) -> Result<(
         roster.is_complete = false;
         return Ok(());
     };
-    let span = walk.places.value(place);
-    let group = Known {
+    let group = known_at(walk, item, place);
+    judge_form(walk, name, group.name)?;
+    match roster.add(walk.alloc, name, group)? {
+        Some(other) => walk.add(6, Cause::RepeatedName { other }, group.name),
+        None => Ok(()),
+    }
+}
+
+/// What is known of a group whose name stands at a place.
+fn known_at(walk: &Walk<'_>, item: usize, place: usize) -> Known {
+    Known {
         count: walk.number(Section::Group, item, FormatKey::Count),
         start: walk.number(Section::Group, item, FormatKey::Start),
-        name: span,
-    };
-    if !is_group_name(name.as_bytes()) {
-        walk.add(6, Cause::BadName, span)?;
+        name: walk.places.value(place),
     }
-    match roster.add(walk.alloc, name, group)? {
-        Some(other) => walk.add(6, Cause::RepeatedName { other }, span),
-        None => Ok(()),
+}
+
+/// Judges the form of a group's name.
+fn judge_form(walk: &mut Walk<'_>, name: &str, span: Span) -> Result<(), Memory> {
+    if is_group_name(name.as_bytes()) {
+        Ok(())
+    } else {
+        walk.add(6, Cause::BadName, span)
     }
 }
 

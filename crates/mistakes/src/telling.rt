@@ -1,5 +1,5 @@
 //! From a text to its mistakes.
-ghost use Rattle.std.specs.Prelude.{◌≡◌, true, IfOk};
+ghost use Rattle.std.specs.Prelude.{◌≡◌, true, IfOk, OnOk};
 ghost use Rattle.mistakes.specs.Told.{IsLeastRule, are_from, has_rule};
 
 use crate::cause::Cause;
@@ -40,10 +40,21 @@ pub fn of_refused(alloc: Global, bytes: &[u8], rule: u8) -> Result<Mistakes, Mem
 fn told(alloc: Global, found: &[Mistake], rule: u8) -> Result<Vec<Mistake>, Memory>
     ensures { IfOk result (λ list. IsLeastRule rule list.items) }
 {
-    let mut list = from_rule(alloc, found, rule)?;
-    if !has_rule(list.as_slice(), rule) {
-        list.insert(0, general(rule))?;
+    let list = from_rule(alloc, found, rule)?;
+    if has_rule(list.as_slice(), rule) {
+        Ok(list)
+    } else {
+        led(list, rule)
     }
+}
+
+/// Mistakes of rules from this one on, and one in general words in front of them.
+fn led(list: Vec<Mistake>, rule: u8) -> Result<Vec<Mistake>, Memory>
+    requires { are_from rule list.items ≡ true }
+    ensures { IfOk result (λ list. IsLeastRule rule list.items) }
+{
+    let mut list = list;
+    list.insert(0, general(rule))?;
     Ok(list)
 }
 
@@ -53,11 +64,19 @@ fn from_rule(alloc: Global, found: &[Mistake], rule: u8) -> Result<Vec<Mistake>,
 {
     let mut list = Vec::new(alloc);
     for mistake in found {
-        if rule <= mistake.rule {
-            list.push(*mistake)?;
-        }
+        push_from(&mut list, mistake, rule)?;
     }
     Ok(list)
+}
+
+/// Adds a mistake, unless it is of a rule below this one.
+fn push_from(list: &mut Vec<Mistake>, mistake: &Mistake, rule: u8) -> Result<(), Memory>
+    ensures { OnOk result (are_from rule list.old.items ≡ true → are_from rule list.new.items ≡ true) }
+{
+    if rule <= mistake.rule {
+        list.push(*mistake)?;
+    }
+    Ok(())
 }
 
 /// Whether one of the mistakes is of this rule.

@@ -9,23 +9,59 @@ use toml_places::Places;
 /// Judges the moments and lengths of time of a text.
 pub(crate) fn judge_times(walk: &mut Walk<'_>, roster: &Roster) -> Result<(), Memory> {
     judge_timeout(walk)?;
+    judge_contacts(walk, roster)?;
+    judge_ends(
+        walk,
+        Section::Slow,
+        FormatKey::From,
+        walk.items(FormatKey::Slow),
+    )?;
+    judge_ends(
+        walk,
+        Section::Cut,
+        FormatKey::At,
+        walk.added_items(FormatKey::Cut),
+    )?;
+    judge_ends(walk, Section::Pause, FormatKey::From, walk.pauses())?;
+    judge_departures(walk, roster, Departure::Crash, walk.items(FormatKey::Crash))?;
+    judge_departures(
+        walk,
+        roster,
+        Departure::Leave,
+        walk.added_items(FormatKey::Leave),
+    )
+}
+
+/// Judges the contacts of groups.
+fn judge_contacts(walk: &mut Walk<'_>, roster: &Roster) -> Result<(), Memory> {
     for item in walk.items(FormatKey::Group) {
         judge_contact(walk, roster, *item)?;
     }
-    for item in walk.items(FormatKey::Slow) {
-        judge_end(walk, Section::Slow, FormatKey::From, *item)?;
+    Ok(())
+}
+
+/// Judges that none of these times is over when it begins.
+fn judge_ends(
+    walk: &mut Walk<'_>,
+    section: Section,
+    key: FormatKey,
+    items: &[usize],
+) -> Result<(), Memory> {
+    for item in items {
+        judge_end(walk, section, key, *item)?;
     }
-    for item in walk.added_items(FormatKey::Cut) {
-        judge_end(walk, Section::Cut, FormatKey::At, *item)?;
-    }
-    for item in walk.pauses() {
-        judge_end(walk, Section::Pause, FormatKey::From, *item)?;
-    }
-    for item in walk.items(FormatKey::Crash) {
-        judge_departure(walk, roster, Departure::Crash, *item)?;
-    }
-    for item in walk.added_items(FormatKey::Leave) {
-        judge_departure(walk, roster, Departure::Leave, *item)?;
+    Ok(())
+}
+
+/// Judges that each of these members goes after its start.
+fn judge_departures(
+    walk: &mut Walk<'_>,
+    roster: &Roster,
+    departure: Departure,
+    items: &[usize],
+) -> Result<(), Memory> {
+    for item in items {
+        judge_departure(walk, roster, departure, *item)?;
     }
     Ok(())
 }

@@ -2,7 +2,7 @@
 use crate::cause::{Cause, Found};
 use crate::departures::judge_departures;
 use crate::list::{Mistake, Mistakes};
-use crate::members::Known;
+use crate::members::{Known, Roster};
 use crate::names::judge_names;
 use crate::shape::judge_shape;
 use crate::sizes::judge_size;
@@ -167,37 +167,47 @@ fn document_fault(alloc: Global, text: &str) -> Result<Mistakes, Memory> {
 
 /// A single mistake of rule 1.
 fn one_mistake(alloc: Global, cause: Cause, span: Span, fault: &str) -> Result<Mistakes, Memory> {
-    let mut list = Vec::new(alloc);
-    list.push(Mistake {
+    let fault = String::from_str(alloc, fault)?;
+    let mistake = Mistake {
         rule: 1,
         cause,
         span,
-    })?;
+    };
     Ok(Mistakes {
-        list,
+        list: listed(alloc, mistake)?,
         rule: 1,
         version: Version::One,
         groups: IndexMap::new(alloc),
-        fault: String::from_str(alloc, fault)?,
+        fault,
     })
+}
+
+/// A list of one mistake.
+fn listed(alloc: Global, mistake: Mistake) -> Result<Vec<Mistake>, Memory> {
+    let mut list = Vec::new(alloc);
+    list.push(mistake)?;
+    Ok(list)
 }
 
 /// The mistakes of a document that is refused by a rule.
 fn walk_over(alloc: Global, text: &str, rule: u8) -> Result<Mistakes, Memory> {
     let places = toml_places::read(alloc, text)?;
+    walk_places(alloc, &places, rule)
+}
+
+/// The same, by the places of the document.
+fn walk_places(alloc: Global, places: &Places, rule: u8) -> Result<Mistakes, Memory> {
     let mut walk = Walk {
         alloc,
-        places: &places,
-        version: version_of(&places),
+        places,
+        version: version_of(places),
         list: Vec::new(alloc),
     };
     judge_shape(&mut walk)?;
     let groups = judge_values(&mut walk)?;
     let version = walk.version;
-    let mut list = walk.list;
-    list.sort_by_key(|mistake| mistake.span.start)?;
     Ok(Mistakes {
-        list,
+        list: sorted(walk.list)?,
         rule,
         version,
         groups,
@@ -205,13 +215,25 @@ fn walk_over(alloc: Global, text: &str, rule: u8) -> Result<Mistakes, Memory> {
     })
 }
 
+/// Mistakes by their places.
+fn sorted(list: Vec<Mistake>) -> Result<Vec<Mistake>, Memory> {
+    let mut list = list;
+    list.sort_by_key(|mistake| mistake.span.start)?;
+    Ok(list)
+}
+
 /// Judges what the values mean together. What comes out are the groups by their names.
 fn judge_values(walk: &mut Walk<'_>) -> Result<IndexMap<String, Known>, Memory> {
     let roster = judge_names(walk)?;
-    judge_departures(walk, &roster)?;
-    judge_times(walk, &roster)?;
-    judge_size(walk)?;
+    judge_moments(walk, &roster)?;
     Ok(roster.groups)
+}
+
+/// Judges what members do, and how many there are.
+fn judge_moments(walk: &mut Walk<'_>, roster: &Roster) -> Result<(), Memory> {
+    judge_departures(walk, roster)?;
+    judge_times(walk, roster)?;
+    judge_size(walk)
 }
 
 /// The version by which a text is judged.

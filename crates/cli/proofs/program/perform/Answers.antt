@@ -1,6 +1,6 @@
 -- a run or a sweep that the words ask for, done and told or not done
 use Rattle.std.proofs.lemmas.Result.{IfErr-weaker, on_ok_weaker}
-use Rattle.cli.proofs.Commands.{asked_explain_done, asked_explain_failed, asked_init_done, asked_init_fails, asked_join_done, asked_join_fails, asked_join_unprinted, asked_page_done, asked_page_failed, asked_piece, asked_run_done, asked_run_fails, asked_run_unprinted, asked_run_untold, asked_sweep_done, asked_sweep_fails, asked_sweep_unprinted, asked_untold, asked_wants, is_command, joined_wants, on_done}
+use Rattle.cli.proofs.Commands.{asked_explain_done, asked_explain_failed, asked_init_done, asked_init_failed, asked_join_done, asked_join_fails, asked_join_unprinted, asked_page_done, asked_page_failed, asked_piece, asked_run_done, asked_run_fails, asked_run_unprinted, asked_run_untold, asked_sweep_done, asked_sweep_fails, asked_sweep_unprinted, asked_untold, asked_wants, is_command, joined_wants, on_done}
 use Rattle.scenario_files.proofs.Held.{handed_on}
 use Rattle.cli.proofs.program.perform.Goals as goal
 
@@ -119,7 +119,7 @@ returns-in-Init-clause-done g c =
 
 pub returns-in-Init-clause-failed : goal.returns-in-Init-clause-failed
 returns-in-Init-clause-failed g c =
-    IfErr-weaker c.print_preset.result _ _ (λ failure fails. asked_init_fails _ _ _ _ _ _ _ _ _ failure c.in-Init.is c.in_ok-help.ensures.answer fails) c.print_preset.ensures.failed
+    asked_init_failed _ _ _ _ _ _ _ _ _ c.print_preset.result c.in-Init.is c.in_ok-help.ensures.answer c.print_preset.ensures.failed
 
 pub returns-in-Init-clause-other : goal.returns-in-Init-clause-other
 returns-in-Init-clause-other g c none = absurd (none (is_command _ _ c.in_ok-help.ensures.answer))

@@ -1,8 +1,4 @@
 use Rattle.command_line.proofs.joining.join_command.Goals as goal
 
 pub returns : goal.returns
-returns c =
-    let filed = c.in_ok-filed.ensures _ c.new_command.ensures in
-    let tabled = c.in_ok-tabled.ensures _ filed in
-    let told = c.in_ok-told.ensures _ tabled in
-    c.with_option.ensures _ told
+returns c = c.and_option.ensures _ (c.with_telling-told.ensures _ (c.and_required-tabled.ensures _ (c.with_pieces-filed.ensures _ c.new_command.ensures)))

@@ -1,7 +1,4 @@
 use Rattle.command_line.proofs.running.with_outputs.Goals as goal
 
 pub returns : goal.returns
-returns c app is =
-    let traced = c.in_ok-traced.ensures _ is in
-    let reported = c.in_ok-reported.ensures _ traced in
-    c.with_option-2.ensures _ reported
+returns c app is = c.and_option.ensures _ (c.and_option-reported.ensures _ (c.and_required-traced.ensures _ is))

@@ -1,9 +1,4 @@
 use Rattle.command_line.proofs.sweeping.with_runs.Goals as goal
 
 pub returns : goal.returns
-returns c app is =
-    let tabled = c.in_ok-tabled.ensures _ is in
-    let set = c.in_ok-set.ensures _ tabled in
-    let sharded = c.in_ok-sharded.ensures _ set in
-    let resumed = c.in_ok-resumed.ensures _ sharded in
-    c.with_option-2.ensures _ resumed
+returns c app is = c.and_option.ensures _ (c.and_flag-resumed.ensures _ (c.and_option-sharded.ensures _ (c.with_cases-set.ensures _ (c.and_required-tabled.ensures _ is))))

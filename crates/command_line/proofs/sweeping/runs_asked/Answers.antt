@@ -1,0 +1,30 @@
+use Rattle.std.proofs.Common.{rules, refl}
+use Rattle.clap.specs.Words.{found_of, rows_of}
+use Rattle.command_line.proofs.Sweeps.{no_plan, no_piece, no_wants}
+use Rattle.command_line.proofs.sweeping.runs_asked.Goals as goal
+
+pub returns-in_err-plan-clause-usage : goal.returns-in_err-plan-clause-usage
+returns-in_err-plan-clause-usage c e wish h = no_plan (rows_of (found_of c.args.sweep.now)) wish h (c.in_err-plan.ensures.usage (search rules))
+
+pub returns-in_err-piece-clause-usage : goal.returns-in_err-piece-clause-usage
+returns-in_err-piece-clause-usage c e wish h = no_piece (rows_of (found_of c.args.sweep.now)) wish h (c.in_err-piece.ensures.usage (search rules))
+
+pub returns-in_err-wants-clause-usage : goal.returns-in_err-wants-clause-usage
+returns-in_err-wants-clause-usage c e wish h = no_wants (rows_of (found_of c.args.sweep.now)) wish h (c.in_err-wants.ensures.usage (search rules))
+
+pub returns-clause-sweep : goal.returns-clause-sweep
+returns-clause-sweep c = record {
+  rows = rows_of (found_of c.args.sweep.now);
+  met_sweep = refl;
+  file = c.requires.file;
+  table = c.requires.table;
+  plan = c.in_ok-plan.ensures.plan;
+  piece = c.in_ok-piece.ensures.piece;
+  wants = c.in_ok-wants.ensures.wants;
+  workers = search rules;
+  progress = search rules;
+  resume = search rules;
+  jsonl = search rules;
+  page = search rules;
+  sense = c.requires.sense;
+}
