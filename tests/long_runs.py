@@ -3,6 +3,7 @@ sites that go to workers in every way."""
 
 import itertools
 
+from hasty import LONG
 from model import rows_of
 from model_text import report_of, trace_of
 from program import Case, expect, expect_ran
@@ -10,20 +11,6 @@ from worked import scenario_of
 
 REFUSED = (5, b'', b'swimsim: run F3\n')
 
-# a quiet cluster of some 46,000 rows: more batches than those that write and those that simulate hold between them
-MANY_ROWS = '''version = 1
-seed = 3
-end = 36000
-[swim]
-period = 100
-timeout = 30
-spread = 1
-[link]
-delay = 2
-[[group]]
-name = "n"
-count = 64
-'''
 WAYS = (['--workers', '2'], ['--workers', '3', '--parts', '3'], ['--workers', '64', '--parts', '64'])
 
 FAR_HEAD = '''version = 1
@@ -70,7 +57,7 @@ def check_same(program, text, ways):
 def check_cut_off(program, way, room):
     """A trace that has room for so many bytes is a beginning, in the first batch or in a later one. More batches come
     behind it than there is room for on the way: whoever sends comes to its end all the same."""
-    program.keep('s.toml', MANY_ROWS)
+    program.keep('s.toml', LONG)
     whole = run(program, [])[1]
     program.keep('t.csv', '')
     ran = program.call(['run', 's.toml', '--trace', 't.csv', '--report', 'r.txt', *way], room=room)
@@ -85,7 +72,7 @@ def divided(deal, count):
 
 
 def cases():
-    yield Case('long run: many rows', check_same, (MANY_ROWS, WAYS))
+    yield Case('long run: many rows', check_same, (LONG, WAYS))
     for way in WAYS:
         for room in (0, 1000, 200_000, 1_500_000):
             yield Case(f'long run: {way}, {room} bytes', check_cut_off, (way, room))

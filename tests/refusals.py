@@ -28,6 +28,8 @@ import sys
 import tempfile
 from pathlib import Path
 
+from hasty import HASTY, LONG
+
 BUILT = Path(__file__).resolve().parent.parent / 'crates' / 'swimsim' / 'out' / 'swimsim'
 
 # Stands before the C library's: of the calls of KIND it refuses the one of the number in REFUSED, and leaves a file of
@@ -117,24 +119,6 @@ member = "n-1"
 from = 3000
 until = 6000
 extra = 1200
-'''
-
-# members that probe each other every 100 ticks
-HASTY = '''version = 1
-seed = 3
-end = {end}
-[swim]
-period = 100
-timeout = 30
-spread = 1
-[link]
-delay = 2
-'''
-
-# so many rows that most are still to come once the first batch was written
-LONG = HASTY.format(end=36000) + '''[[group]]
-name = "n"
-count = 64
 '''
 
 # two sites so far apart that each has windows of its own that are long enough for a thread
