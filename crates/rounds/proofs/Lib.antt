@@ -1,0 +1,10 @@
+pub mod Until
+pub mod Worlds
+pub mod Bounded
+pub mod Turns
+pub mod Pending
+pub mod Heard
+pub mod Lots
+pub mod OwnRows
+pub mod LotWindows
+pub mod Lasting

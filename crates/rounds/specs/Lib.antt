@@ -1,0 +1,4 @@
+pub mod Before
+pub mod Starts
+pub mod Messages
+pub mod Lots
