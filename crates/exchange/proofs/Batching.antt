@@ -7,7 +7,7 @@ use Rattle.windows.specs.declared.bounded.Bounded.{Bounded}
 use Rattle.windows.specs.Several.{numbers_of, parts_of}
 use Rattle.turns.specs.Parts.{CountFrom}
 use Rattle.exchange.specs.Batches.{AreNumberedFrom, AreBatches}
-use Rattle.workers.specs.Gates.{AwaitsAll}
+use Rattle.gates.specs.Gates.{AwaitsAll}
 
 numbered_on : (n : ℕ) (lots : List Lot) (lot : Lot) → AreNumberedFrom n lots → lot.number ≡ n + length lots → AreNumberedFrom n (lots ++ lot ∷ [])
 numbered_on n [] lot are is = (omega (arith, is), tt)

@@ -4,7 +4,7 @@ use Rattle.std.specs.Result.{IsErrOf}
 use Rattle.std.proofs.lemmas.Bool.{false≢true}
 use Rattle.base.specs.declared.fault.Fault.{Fault}
 use Rattle.base.specs.declared.fault.Fault.TheVariants.{Memory, Worn, Write, Relay}
-use Rattle.workers.specs.Faults.{rank_of, first_of}
+use Rattle.gates.specs.Faults.{rank_of, first_of}
 use Rattle.outputs.specs.Written.{sink_failures}
 use Rattle.exchange.specs.Sending.{IsEarly}
 use Rattle.exchange.specs.Traced.{both_of}

@@ -1,8 +1,6 @@
 -- What the threads of a run take with them may go there.
-use denote.Param.Send.{IsSend, IsSync, AllSend, struct_send, recorded_send, sendable}
-use denote.Struct.Struct.{Struct}
-use denote.Struct.Declared.{Declared, shape}
-use denote.Struct.Declared as declared
+use denote.Param.Send.{IsSend, IsSync, AllSend, sendable}
+use denote.Struct.Declared.{shape}
 use denote.RattleType.{RattleType}
 use denote.Ref.{NamedLft}
 use Rattle.std.proofs.Crossing.{crosses, Vec-send}
@@ -20,9 +18,10 @@ use Rattle.worker_queue.specs.contracts.wheel_queue.WheelQueue as wheel
 use Rattle.windows.specs.contracts.part.Part as part
 use Rattle.turns.specs.contracts.turns.Course as course
 use Rattle.workers.specs.contracts.pool.WorkerPool as pool
-use Rattle.workers.specs.declared.gate.Gate as gate
 use Rattle.workers.specs.declared.pieces.OfScenario as of_scenario
-use Rattle.workers.proofs.Sent.{scenario_sync, links_sync, member_send, task_send, board_sync, seat_send, signals_sync}
+use Rattle.gates.specs.declared.gate.Gate as gate
+use Rattle.gates.proofs.Sent.{declared_send, scenario_sync, links_sync, member_send}
+use Rattle.workers.proofs.Sent.{task_send, board_sync, seat_send, signals_sync}
 use Rattle.relay.specs.contracts.relay.SendSeat as send_seat
 use Rattle.relay.proofs.Sent.{relay_sync}
 use Rattle.exchange.specs.contracts.driver.Driven as driven
@@ -36,9 +35,6 @@ part_row_send Q s = search (member_send, crosses, sendable) depth 60 fits 20000
 
 pub wheel_send : (E : RattleType) (g : keyed.Ghosts E.Denot) → IsSend E → IsSend (wheel.the_row E g)
 wheel_send E g s = search (maps.crosses, crosses, sendable) depth 60 fits 20000
-
-declared_send : (T : Declared) → AllSend (shape T).fields → IsSend (declared.row T)
-declared_send T all = recorded_send (Struct (shape T)) T.D T.to T.to_one (struct_send (shape T) all)
 
 post_field_send : (β : NamedLft) (T V S P : RattleType) (p : site.Ghosts P.Denot) (g : piece_rule.Ghosts S.Denot T.Denot V.Denot) → IsSend T → IsSend (post.the_field β T V S P p g).row
 post_field_send β T V S P p g s = search (board_sync, seat_send, crosses, sendable) depth 60 fits 20000

@@ -4,7 +4,7 @@ use Rattle.base.specs.declared.fault.Fault.{Fault}
 use Rattle.scenario.specs.Setup.{Setup, IsSound}
 use Rattle.trace.specs.declared.row.Row.{Row}
 use Rattle.relay.specs.declared.relay.Relay.{Relay}
-use Rattle.workers.specs.Faults.{first_of}
+use Rattle.gates.specs.Faults.{first_of}
 use Rattle.outputs.specs.Traced.{KeepsTrace}
 use Rattle.exchange.specs.declared.threads.Ended.{Ended}
 use Rattle.exchange.specs.Sending.{HasEnded}

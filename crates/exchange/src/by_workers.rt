@@ -8,7 +8,7 @@ ghost use Rattle.scenario.specs.Setup.{IsSound, member_count};
 ghost use Rattle.trace.specs.Text.{NamesMembers};
 ghost use Rattle.member_laws.specs.Runs.{IsRunOf, WearsOut};
 ghost use Rattle.exchange.specs.Sending.{CanBegin, MaySend, MayTake, MayWrite, IsEarly, GathersAll, HasEnded};
-ghost use Rattle.workers.specs.Gates.{KnowsAll, AwaitsAll};
+ghost use Rattle.gates.specs.Gates.{KnowsAll, AwaitsAll};
 ghost use Rattle.exchange.specs.Settled.{TakesAll};
 ghost use Rattle.outputs.specs.Promise.{KeepsPromise, WearsOutReport, summed};
 ghost use Rattle.outputs.specs.Traced.{KeepsTrace};
@@ -19,6 +19,7 @@ use crate::threads::{Ended, within};
 use crate::writer::Writer;
 use base::{Fault, Memory};
 use board::{Site, posts_at, seats_of};
+use gates::Gate;
 use links::Links;
 use member::Event;
 use outputs::{
@@ -37,7 +38,7 @@ use trace::Sink;
 use turns::{Course, course_of, open_wheels};
 use windows::{Cluster, Part};
 use worker_queue::{EventQueue, WheelQueue};
-use workers::{Gate, OfScenario, Signals, TaskBoard, TaskPost, TaskSeat, WorkerPool, open_board};
+use workers::{OfScenario, Signals, TaskBoard, TaskPost, TaskSeat, WorkerPool, open_board};
 
 /// Runs the scenario by the parts of a division of its members: window after window, in each the parts by as
 /// many workers as are asked for, but no more than there are parts. It writes what `run_one` writes, whatever

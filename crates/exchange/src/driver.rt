@@ -4,12 +4,13 @@ ghost use Rattle.turns.specs.Bounds.{AreHorizonsOf};
 ghost use Rattle.turns.specs.Course.{IsCourse};
 ghost use Rattle.turns.specs.Parts.{StandFor};
 ghost use Rattle.exchange.specs.Batches.{CountsBatches};
-ghost use Rattle.workers.specs.Gates.{AwaitsAll};
+ghost use Rattle.gates.specs.Gates.{AwaitsAll};
 ghost use Rattle.exchange.specs.Sending.{rows_so_far, CanBegin, IsOpen, MaySend, ComeTo, IsDriven};
 
 use crate::row_sender::RowSender;
 use base::Fault;
 use board::Site;
+use gates::Gate;
 use horizons::{Horizons, horizons};
 use member::Event;
 use relay::{Relay, SendSeat};
@@ -22,7 +23,7 @@ use std::thread::{Promise, Threads};
 use turns::{Course, TurnLimit, Turned, bounded_by_horizons, exchanged, first_moment};
 use windows::Part;
 use worker_queue::EventQueue;
-use workers::{Gate, OfScenario, TaskPost, WorkerPool};
+use workers::{OfScenario, TaskPost, WorkerPool};
 
 /// What the driver of a run gives back.
 #[derive(Drop)]

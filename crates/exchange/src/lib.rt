@@ -15,4 +15,3 @@ pub use whole_runs::{
     run_streamed_gathered, tally_run, the_first_version_is_kept, the_run_is_one,
     the_window_of_all_is_the_run,
 };
-pub use workers::{Gate, OpenGate};

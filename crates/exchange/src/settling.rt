@@ -7,6 +7,7 @@ ghost use Rattle.exchange.specs.Traced.{both_of, Settles, StillKeeps};
 
 use crate::threads::Ended;
 use base::{Fault, Memory};
+use gates::{Gate, first_of};
 use member::Event;
 use relay::{Relay, close};
 use reports::Tallies;
@@ -14,7 +15,7 @@ use std::alloc::Global;
 use std::snapshot::Snapshot;
 use std::sync::Wait;
 use worker_queue::EventQueue;
-use workers::{Gate, OfScenario, TaskBoard, TaskSeat, close_board, first_of};
+use workers::{OfScenario, TaskBoard, TaskSeat, close_board};
 
 /// Closes the relay, over which the rows came that were written: what came of both sides of the run.
 pub(crate) fn settled(relay: Relay, ended: Ended) -> Result<Tallies, Fault>

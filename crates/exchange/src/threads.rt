@@ -1,13 +1,14 @@
 //! The threads of a run, from their start to their end.
 ghost use Rattle.std.specs.Prelude.{◌≡◌, ◌<◌, ◌≤◌, Some, IfOk, OnErr, IfErr};
 ghost use Rattle.std.specs.Thread.{IsSync, IsSend};
-ghost use Rattle.workers.specs.Gates.{KnowsAll, AwaitsAll};
+ghost use Rattle.gates.specs.Gates.{KnowsAll, AwaitsAll};
 ghost use Rattle.exchange.specs.Sending.{CanBegin, MaySend, MayWrite, IsEarly, IsDriven, GathersAll, HasEnded};
 
 use crate::driver::{Driven, DriverTask, Drives, drive};
 use crate::writer::{Writer, Written, write_all};
 use base::{Fault, Memory};
 use board::Site;
+use gates::Gate;
 use member::Event;
 use outputs::TakeRows;
 use std::alloc::Global;
@@ -17,7 +18,7 @@ use std::sync::Wait;
 use std::thread;
 use std::thread::{JoinHandle, Scope, Threads};
 use worker_queue::EventQueue;
-use workers::{Gate, OfScenario, Signals, TaskPost, work};
+use workers::{OfScenario, Signals, TaskPost, work};
 
 /// What the threads of a run leave once they have ended.
 #[derive(Drop)]

@@ -13,6 +13,7 @@ ghost use Rattle.windows.specs.Window.{IsConsistentPart};
 use crate::watched::{Watch, WatchedQueue};
 use base::{Fault, Memory, Moment};
 use board::{Site, posts_at, seats_of};
+use gates::Gate;
 use links::Links;
 use member::Event;
 use scenario::Scenario;
@@ -29,8 +30,7 @@ use trace::Row;
 use windows::{Bounded, Cluster, Done, Part};
 use worker_queue::{EventQueue, TreeQueue};
 use workers::{
-    Gate, OfScenario, Signals, TaskBoard, TaskPost, TaskSeat, WorkerPool, close_board, open_board,
-    work,
+    OfScenario, Signals, TaskBoard, TaskPost, TaskSeat, WorkerPool, close_board, open_board, work,
 };
 
 const TWO_MEMBERS: &str = "version = 1

@@ -3,5 +3,4 @@ pub mod Pools
 pub mod Faults
 pub mod Pieces
 pub mod Props
-pub mod Gates
 pub mod Closing

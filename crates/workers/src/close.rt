@@ -5,10 +5,10 @@ ghost use Rattle.board.specs.Seats.{AreAllSeats, dealt, taken};
 ghost use Rattle.board.specs.Sites.{AreSingleSeats};
 ghost use Rattle.workers.specs.Closing.{IsUnsettled};
 
-use crate::gate::Gate;
 use crate::pieces::{OfScenario, TaskBoard, TaskSeat};
 use base::Fault;
 use board::settle;
+use gates::Gate;
 use member::Event;
 use std::sync::Wait;
 use worker_queue::EventQueue;

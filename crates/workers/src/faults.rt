@@ -1,7 +1,8 @@
 ghost use Rattle.std.specs.Prelude.{◌≡◌, ◌≢◌, ◌++◌, ◌∷◌, [], ◌⊎◌, IfOk, IfErr, IsErrOf};
-ghost use Rattle.workers.specs.Faults.{rank_of, first_of, Joins};
+ghost use Rattle.workers.specs.Faults.{Joins};
 
 use base::Fault;
+use gates::first_of;
 use member::Event;
 use windows::Done;
 use worker_queue::EventQueue;
@@ -36,25 +37,5 @@ fn added<T: Drop>(mut all: Vec<T>, one: T) -> Result<Vec<T>, Fault>
     match all.push(one) {
         Ok(()) => Ok(all),
         Err(_) => Err(Fault::Memory),
-    }
-}
-
-/// Of two faults the one that a run answers, whichever came first: want of memory goes before a worn
-/// counter, that before a sink that failed, and that before what threads lost.
-pub fn first_of(one: Fault, other: Fault) -> Fault
-    ensures { result ≡ first_of one other }
-{
-    if rank(other) < rank(one) { other } else { one }
-}
-
-/// The place of a fault in the order in which faults are answered.
-fn rank(fault: Fault) -> u8
-    ensures { result ≡ rank_of fault }
-{
-    match fault {
-        Fault::Memory => 1,
-        Fault::Worn => 2,
-        Fault::Write => 3,
-        Fault::Relay => 4,
     }
 }

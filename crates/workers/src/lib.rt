@@ -5,7 +5,6 @@
 
 mod close;
 mod faults;
-mod gate;
 mod looks;
 mod open;
 mod pieces;
@@ -19,8 +18,6 @@ mod window_task;
 mod worker;
 
 pub use close::{SEATS, close_board};
-pub use faults::first_of;
-pub use gate::{Gate, OpenGate};
 pub use open::open_board;
 pub use pieces::{OfScenario, TaskBoard, TaskPost, TaskSeat, WindowTasks};
 pub use pool::WorkerPool;

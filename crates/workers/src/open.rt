@@ -3,10 +3,10 @@ ghost use Rattle.board.specs.Deal.{whole};
 ghost use Rattle.board.specs.Seats.{AreAllSeats, HasEmptyBags, room};
 
 use crate::close::SEATS;
-use crate::gate::Gate;
 use crate::pieces::{OfScenario, TaskBoard, TaskSeat};
 use base::Memory;
 use board::Board;
+use gates::Gate;
 use member::Event;
 use scenario::Scenario;
 use std::alloc::Global;

@@ -1,6 +1,6 @@
-use crate::gate::Gate;
 use crate::window_task::WindowTask;
 use board::{Board, PieceRule, Post, Seat};
+use gates::Gate;
 use member::Event;
 use std::marker::{Brand, PhantomData};
 use windows::Part;

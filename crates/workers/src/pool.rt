@@ -9,13 +9,13 @@ ghost use Rattle.workers.specs.Pools.{all_bounded, IsOfScenario};
 ghost use Rattle.workers.specs.Pieces.{Belongs};
 
 use crate::faults::joined;
-use crate::gate::Gate;
 use crate::pieces::{OfScenario, TaskPost};
 use crate::ring::Ticket;
 use crate::signals::{Signals, StopGuard};
 use crate::window_task::{WindowTask, ask};
 use base::{Fault, Memory};
 use board::Site;
+use gates::Gate;
 use member::Event;
 use scenario::Scenario;
 use std::alloc::Global;

@@ -3,10 +3,10 @@ ghost use Rattle.windows.specs.WorldOf.{world_of};
 ghost use Rattle.windows.specs.Window.{IsConsistentPart};
 ghost use Rattle.workers.specs.Pools.{bounded_of, IsOfScenario};
 
-use crate::gate::Gate;
 use crate::ring::{Reply, Ticket, ring_for};
 use crate::terms::Terms;
 use base::Memory;
+use gates::Gate;
 use member::Event;
 use std::alloc::Global;
 use std::snapshot::Snapshot;

@@ -1,7 +1,7 @@
-use crate::gate::Gate;
 use crate::pieces::{OfScenario, TaskPost};
 use crate::signals::Signals;
 use board::Site;
+use gates::Gate;
 use member::Event;
 use std::alloc::Global;
 use std::sync::Wait;

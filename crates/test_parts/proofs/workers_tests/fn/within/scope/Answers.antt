@@ -4,7 +4,8 @@ use denote.Struct.Declared.{shape}
 use Rattle.std.proofs.Crossing.{crosses}
 use Rattle.std.proofs.MapsCrossing as maps
 use Rattle.std.proofs.alloc.Global.TheSendSync as heap
-use Rattle.workers.proofs.Sent.{post_send, task_send, signals_sync, event_send}
+use Rattle.gates.proofs.Sent.{event_send}
+use Rattle.workers.proofs.Sent.{post_send, task_send, signals_sync}
 use Rattle.base.specs.declared.keyed.Keyed as keyed
 use Rattle.member.specs.contracts.event.Event as event
 use Rattle.member.specs.contracts.event.EventKeyed.TheImpl as event_keyed

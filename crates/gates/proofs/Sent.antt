@@ -1,0 +1,95 @@
+-- A part, its events and rows may go to another thread, and a scenario and its links may be seen by several.
+use denote.Param.Send.{IsSend, IsSync, AllSend, recorded_send, struct_send, sendable}
+use denote.Struct.Struct.{Struct}
+use denote.Struct.Declared as declared
+use denote.Struct.Declared.{Declared, shape}
+use denote.RattleType.{RattleType}
+use Rattle.std.proofs.Crossing.{crosses, Vec-send}
+use Rattle.std.proofs.MapsCrossing as maps
+use Rattle.std.proofs.MapsCrossingOver as over
+use Rattle.scenario.specs.contracts.settings.Group as group
+use Rattle.scenario.specs.contracts.settings.Path as path
+use Rattle.scenario.specs.contracts.settings.Slow as slow
+use Rattle.scenario.specs.contracts.settings.Crash as crash
+use Rattle.scenario.specs.contracts.settings.Leave as leave
+use Rattle.scenario.specs.contracts.settings.Cut as cut
+use Rattle.scenario.specs.contracts.scenario.Scenario as scenario
+use Rattle.links.specs.contracts.table.Links as links
+use Rattle.membership.specs.contracts.table.Table as table
+use Rattle.piggyback.specs.contracts.Buffer as buffer
+use Rattle.probing.specs.contracts.Rota as rota
+use Rattle.suspicion.specs.contracts.suspicions.Suspicions as suspicions
+use Rattle.lifeguard.specs.contracts.relays.Relays as relays
+use Rattle.streams.specs.contracts.Stream as stream
+use Rattle.member.specs.contracts.member.Member as member
+use Rattle.member.specs.contracts.updates.Updates as updates
+use Rattle.member.specs.contracts.event.Event as event
+use Rattle.trace.specs.contracts.row.Row as row
+use Rattle.windows.specs.contracts.part.Part as part
+use Rattle.windows.specs.contracts.part.Done as done
+
+-- a struct may go where its fields may: for those that `search` can't take apart
+pub declared_send : (T : Declared) → AllSend (shape T).fields → IsSend (declared.row T)
+declared_send T all = recorded_send (Struct (shape T)) T.D T.to T.to_one (struct_send (shape T) all)
+
+pub group_sync : IsSync group.the_row
+group_sync = search (crosses, sendable) depth 60 fits 20000
+
+pub path_sync : IsSync path.the_row
+path_sync = search (crosses, sendable) depth 60 fits 20000
+
+pub slow_sync : IsSync slow.the_row
+slow_sync = search (crosses, sendable) depth 60 fits 20000
+
+pub crash_sync : IsSync crash.the_row
+crash_sync = search (crosses, sendable) depth 60 fits 20000
+
+pub leave_sync : IsSync leave.the_row
+leave_sync = search (crosses, sendable) depth 60 fits 20000
+
+pub cut_sync : IsSync cut.the_row
+cut_sync = search (crosses, sendable) depth 60 fits 20000
+
+pub scenario_sync : IsSync scenario.the_row
+scenario_sync = search (crosses, group_sync, path_sync, slow_sync, crash_sync, leave_sync, cut_sync, sendable) depth 60 fits 20000
+
+pub links_sync : IsSync links.the_row
+links_sync = search (maps.crosses, crosses, sendable) depth 60 fits 20000
+
+pub table_send : IsSend table.the_row
+table_send = search (maps.crosses, crosses, sendable) depth 60 fits 20000
+
+pub buffer_send : IsSend buffer.the_row
+buffer_send = search (crosses, sendable) depth 60 fits 20000
+
+pub rota_send : IsSend rota.the_row
+rota_send = search (crosses, sendable) depth 60 fits 20000
+
+pub suspicions_send : IsSend suspicions.the_row
+suspicions_send = search (maps.crosses, crosses, sendable) depth 60 fits 20000
+
+pub relays_send : IsSend relays.the_row
+relays_send = search (over.crosses, crosses, sendable) depth 60 fits 20000
+
+pub stream_send : IsSend stream.the_row
+stream_send = search (crosses, sendable) depth 60 fits 20000
+
+pub member_send : IsSend member.the_row
+member_send = search (table_send, buffer_send, rota_send, suspicions_send, relays_send, stream_send, crosses, sendable) depth 60 fits 20000
+
+pub part_send : (Q : RattleType) → IsSend Q → IsSend (part.the_field Q).row
+part_send Q s = search (member_send, crosses, sendable) depth 60 fits 20000
+
+pub updates_send : IsSend updates.the_row
+updates_send = search (crosses, sendable) depth 60 fits 20000
+
+pub event_send : IsSend event.the_row
+event_send = search (updates_send, crosses, sendable) depth 60 fits 20000
+
+pub row_send : IsSend row.the_row
+row_send = search (crosses, sendable) depth 60 fits 20000
+
+pub done_send : (Q : RattleType) → IsSend Q → IsSend (done.the_row Q)
+done_send Q s =
+    let all : AllSend (shape (done.the_type Q)).fields = (part_send Q s, (Vec-send event.the_row event_send, (Vec-send row.the_row row_send, tt))) in
+    declared_send (done.the_type Q) all
