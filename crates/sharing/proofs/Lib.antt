@@ -1,1 +1,4 @@
+mod Counting
+mod Dividing
+mod Together
 mod Unwritten

@@ -5,25 +5,30 @@ ghost use Rattle.trace.specs.Text.{NamesMembers};
 ghost use Rattle.member_laws.specs.Runs.{IsRunOf, WearsOut};
 ghost use Rattle.outputs.specs.Promise.{KeepsPromise, WearsOutReport, summed};
 
-use crate::choosing::better_parts;
+use crate::choosing::chosen_parts;
+use crate::hands::simulating;
 use base::{Fault, Memory};
-use exchange::{OpenGate, Summary, run, run_gathered, run_streamed, run_streamed_gathered};
-use outputs::{GatherRows, TraceAndGathered, end_run, end_tallied};
+use gates::OpenGate;
+use outputs::{GatherRows, Summary, TraceAndGathered, end_run, end_tallied};
 use reports::Tallies;
+use rings::{run_by_rings, run_by_rings_gathered};
 use scenario::{Division, Scenario, Workers};
 use std::alloc::Global;
 use std::marker::Sync;
 use std::sync::Wait;
 use std::thread::Threads;
 use trace::Sink;
+use whole_runs::{run_streamed, run_streamed_gathered};
 
-/// Runs the scenario by so many workers, in the way that is likely to take the least time. One alone simulates and writes. Several
-/// run the parts of the division; where a turn of these is too short to be worth handing over the cluster's sites; and
-/// where a turn of these is too short too, one runs all members while the calling thread writes. What is written is
-/// always the same: the trace, and once that is whole and its sink flushed the report, whose sink is flushed too. After
-/// a fault the sinks have got a beginning of that.
+/// Runs the scenario by so many workers, in the way that is likely to take the least time. One
+/// alone simulates and writes. Of several no more go than there are processors, and each that
+/// simulates has a part of the members for itself: as the division has them, or by the cluster's
+/// sites, or in turn, whichever have the longest rounds. Where no such rounds are long enough, one
+/// worker runs all members while the calling thread writes. What is written is always the same: the trace, and once that is whole and its
+/// sink flushed the report, whose sink is flushed too. After a fault the sinks have got a beginning
+/// of that.
 ///
-/// Faults: as of `exchange::run`.
+/// Faults: as of `rings::run_by_rings`.
 pub fn run_shared<A: Sink, B: Sink, R: Threads + Wait + Sync>(
     rt: &R,
     alloc: Global,
@@ -52,19 +57,14 @@ pub fn run_shared<A: Sink, B: Sink, R: Threads + Wait + Sync>(
     if workers.count() == 1 {
         return run_streamed(alloc, scenario, trace, report);
     }
-    match better_parts(alloc, scenario, division) {
-        Ok(None) => run(
-            rt, alloc, scenario, division, workers, &OpenGate, trace, report,
-        ),
-        Ok(Some(parts)) => run(
-            rt, alloc, scenario, &parts, workers, &OpenGate, trace, report,
-        ),
+    match chosen_parts(alloc, scenario, division, simulating(rt, workers)) {
+        Ok(parts) => run_by_rings(rt, alloc, scenario, &parts, &OpenGate, trace, report),
         Err(Memory) => end_run(alloc, Err(Fault::Memory), scenario, trace, report),
     }
 }
 
-/// Runs the scenario as `run_shared` does, and gathers something else of the rows of its run as they come: that and the
-/// tallies of the rows are whole where it succeeds.
+/// Runs the scenario as `run_shared` does, and gathers something else of the rows of its run as they
+/// come: that and the tallies of the rows are whole where it succeeds.
 ///
 /// Faults: as of `run_shared`.
 pub fn run_shared_gathered<A: Sink, B: Sink, C: GatherRows, R: Threads + Wait + Sync>(
@@ -98,16 +98,11 @@ pub fn run_shared_gathered<A: Sink, B: Sink, C: GatherRows, R: Threads + Wait + 
     ensures threads { IsErrOf result Fault.Relay → 2 ≤ workers }
 {
     let _end = scenario.end();
-    if workers.count() < 2 {
+    if workers.count() == 1 {
         return run_streamed_gathered(alloc, scenario, place, report);
     }
-    match better_parts(alloc, scenario, division) {
-        Ok(None) => run_gathered(
-            rt, alloc, scenario, division, workers, &OpenGate, place, report,
-        ),
-        Ok(Some(parts)) => run_gathered(
-            rt, alloc, scenario, &parts, workers, &OpenGate, place, report,
-        ),
+    match chosen_parts(alloc, scenario, division, simulating(rt, workers)) {
+        Ok(parts) => run_by_rings_gathered(rt, alloc, scenario, &parts, &OpenGate, place, report),
         Err(Memory) => end_tallied(
             alloc,
             Err(Fault::Memory),

@@ -1,8 +1,9 @@
 //! The sites of a cluster: its groups, of which those are one site that are joined by short links.
-ghost use Rattle.std.specs.Prelude.{◌≡◌, length, IfOk, IfSome};
-ghost use Rattle.scenario.specs.Setup.{member_count};
+ghost use Rattle.std.specs.Prelude.{◌≡◌, ◌<◌, ◌≤◌, IfOk, All, EachIndex, length, slice_index, vec_len};
+ghost use Rattle.scenario.specs.Setup.{member_count, group_at};
+ghost use Rattle.sharing.specs.Parts.{AreSites, LeavesGroupsWhole, site_of};
 
-use crate::choosing::divided;
+use crate::divisions::{divided, numbers_in_turn};
 use base::{MemberId, Memory};
 use links::Links;
 use scenario::{Division, Scenario};
@@ -12,22 +13,22 @@ use windows::Cluster;
 /// How many groups are looked at. Members of later ones go with those of the first.
 const MOST_GROUPS: usize = 64;
 
-/// The members by their sites: two groups are of one where a link between them is shorter than so many ticks.
-pub(crate) fn by_sites(
-    alloc: Global,
-    cluster: Cluster,
-    ticks: u64,
-) -> Result<Option<Division>, Memory>
-    ensures { IfOk result (λ made. IfSome made (λ sites. length sites.part_of ≡ member_count cluster.entry.scenario.now)) }
+/// The members by their sites: two groups are of one where a link between them is shorter than so
+/// many ticks. The number of a site is that of one of its groups.
+pub(crate) fn by_sites(alloc: Global, cluster: Cluster, ticks: u64) -> Result<Division, Memory>
+    ensures divides { IfOk result (λ parts. length parts.part_of ≡ member_count cluster.entry.scenario.now) }
+    ensures whole { IfOk result (λ parts. LeavesGroupsWhole cluster.entry.scenario.now parts.part_of) }
 {
     let firsts = first_members(alloc, cluster.scenario)?;
     let sites = sites_of_groups(alloc, &firsts, cluster.links, ticks)?;
     let part_of = parts_of_members(alloc, cluster.scenario, &sites)?;
-    Ok(divided(cluster.scenario, sites.len(), part_of))
+    Ok(divided(cluster.scenario, MOST_GROUPS, part_of))
 }
 
-/// The first member of each group.
-fn first_members(alloc: Global, scenario: &Scenario) -> Result<Vec<MemberId>, Memory> {
+/// The first member of each group that is looked at.
+fn first_members(alloc: Global, scenario: &Scenario) -> Result<Vec<MemberId>, Memory>
+    ensures { IfOk result (λ firsts. vec_len firsts ≤ 64) }
+{
     let mut firsts = Vec::new(alloc);
     for member in 0..scenario.members() {
         let member = MemberId(member as u16);
@@ -38,14 +39,17 @@ fn first_members(alloc: Global, scenario: &Scenario) -> Result<Vec<MemberId>, Me
     Ok(firsts)
 }
 
-/// The site of each group, given a member of each: the number of one of the site's groups.
+/// The site of each group, given a member of each of the first ones.
 fn sites_of_groups(
     alloc: Global,
     firsts: &[MemberId],
     links: &Links,
     ticks: u64,
-) -> Result<Vec<usize>, Memory> {
-    let mut sites: Vec<usize> = (0..firsts.len()).collect(alloc)?;
+) -> Result<Vec<u8>, Memory>
+    requires few { length firsts.now ≤ 64 }
+    ensures { IfOk result (λ sites. AreSites sites.items) }
+{
+    let mut sites = numbers_in_turn(alloc, MOST_GROUPS, MOST_GROUPS)?;
     for (group, first) in firsts.iter().enumerate() {
         join_neighbours(&mut sites, firsts, links, ticks, group, *first);
     }
@@ -54,13 +58,18 @@ fn sites_of_groups(
 
 /// Puts the groups to which this one has a short link into its site.
 fn join_neighbours(
-    sites: &mut [usize],
+    sites: &mut [u8],
     firsts: &[MemberId],
     links: &Links,
     ticks: u64,
     group: usize,
     first: MemberId,
-) {
+)
+    requires few { length firsts.now ≤ 64 }
+    requires group { group < 64 }
+    requires sites { AreSites sites.old }
+    ensures { AreSites sites.new }
+{
     for (other, other_first) in firsts.iter().enumerate() {
         if links.delay(first, *other_first) < ticks {
             join(sites, group, other);
@@ -69,13 +78,14 @@ fn join_neighbours(
 }
 
 /// Makes one site of those of two groups.
-fn join(sites: &mut [usize], group: usize, other: usize) {
-    let Some(kept) = sites.get(group).copied() else {
-        return;
-    };
-    let Some(gone) = sites.get(other).copied() else {
-        return;
-    };
+fn join(sites: &mut [u8], group: usize, other: usize)
+    requires group { group < 64 }
+    requires other { other < 64 }
+    requires sites { AreSites sites.old }
+    ensures { AreSites sites.new }
+{
+    let kept = sites[group];
+    let gone = sites[other];
     for site in sites.iter_mut() {
         if *site == gone {
             *site = kept;
@@ -83,35 +93,18 @@ fn join(sites: &mut [usize], group: usize, other: usize) {
     }
 }
 
-/// The part of each member: that of its group's site, which sites have in turn.
-fn parts_of_members(
-    alloc: Global,
-    scenario: &Scenario,
-    sites: &[usize],
-) -> Result<Vec<u8>, Memory> {
+/// The part of each member: its group's site.
+fn parts_of_members(alloc: Global, scenario: &Scenario, sites: &[u8]) -> Result<Vec<u8>, Memory>
+    requires { AreSites sites.now }
+    ensures each { IfOk result (λ part_of. vec_len part_of ≡ member_count scenario.now) }
+    ensures below { IfOk result (λ part_of. All (λ part. part < 64) part_of.items) }
+    ensures by_group { IfOk result (λ part_of. EachIndex part_of.items (λ m. slice_index part_of.items m ≡ site_of sites.now (group_at scenario.now.groups m))) }
+{
     let mut part_of = Vec::new(alloc);
     for member in 0..scenario.members() {
         let group = scenario.group_number(MemberId(member as u16));
-        part_of.push(part_of_group(sites, group))?;
+        let looked_at = if group < MOST_GROUPS { group } else { 0 };
+        part_of.push(sites[looked_at])?;
     }
     Ok(part_of)
-}
-
-/// How many sites have a lesser number than that of this group.
-fn part_of_group(sites: &[usize], group: usize) -> u8 {
-    match sites.get(group) {
-        Some(site) => sites_before(sites, *site),
-        None => 0,
-    }
-}
-
-/// How many sites have a lesser number.
-fn sites_before(sites: &[usize], site: usize) -> u8 {
-    let mut before: u8 = 0;
-    for (group, other) in sites.iter().enumerate() {
-        if *other == group && *other < site {
-            before = before.saturating_add(1);
-        }
-    }
-    before
 }

@@ -1,9 +1,13 @@
 //! Each part runs up to its own horizon: how many windows that takes, as a gate counts them.
 
-use crate::gates::{Book, run_told};
+use crate::book::{Book, Engine, run_told};
 use crate::ways::{Way, run_by};
 use scenario_reader::read;
+use std::marker::Sync;
+use std::process::Abort;
+use std::sync::Wait;
 use std::test::Fail;
+use std::thread::Threads;
 use trace::Sink;
 use trace::testing::MemorySink;
 
@@ -47,28 +51,35 @@ to = \"d\"
 delay = 1
 ";
 
-/// By site each of the four parts runs some hundred ticks by itself, so there are some thirty windows of each. Below
-/// a common bound, one tick past what pends first, there would be hundreds.
-#[test]
-fn parts_of_far_sites_have_few_windows(rt: HostRuntime) -> Result<(), Fail> {
-    let gate = Book::new(rt.alloc(), 4, 2, false)?;
+/// Asserts that the run's trace by these workers, in as many parts as the gate is for, is that of one thread, and that it has
+/// few windows.
+fn assert_few_windows(
+    rt: &(impl Abort + AllocGlobal + Threads + Wait + Sync),
+    engine: Engine,
+    gate: &Book,
+) {
     let mut trace = MemorySink::new(rt.alloc());
-    let outcome = run_told(
-        &rt,
-        &gate,
-        FOUR_SITES,
-        &[0, 0, 1, 1, 2, 2, 3, 3],
-        &mut trace,
-    );
+    let parts = [0, 0, 1, 1, 2, 2, 3, 3];
+    let outcome = run_told(rt, engine, gate, FOUR_SITES, &parts, &mut trace);
     assert!(rt; outcome.is_ok());
-    let scenario = read(rt.alloc(), FOUR_SITES.as_bytes())?;
+    let scenario = read(rt.alloc(), FOUR_SITES.as_bytes()).expect(rt, "scenario");
     let mut one_trace = MemorySink::new(rt.alloc());
     let mut one_report = MemorySink::new(rt.alloc());
-    let as_one = run_by(&rt, Way::AsOne, &scenario, &mut one_trace, &mut one_report);
+    let as_one = run_by(rt, Way::AsOne, &scenario, &mut one_trace, &mut one_report);
     assert!(rt; as_one == outcome);
     assert!(rt; trace.bytes() == one_trace.bytes());
     assert!(rt; gate.wrong() == 0);
     let windows = gate.windows();
     assert!(rt; 1 < windows && windows < 50, "{windows} windows");
+}
+
+/// By site each of the four parts runs some hundred ticks by itself, so there are some thirty windows of each. Below
+/// a common bound one tick past what pends first there would be hundreds.
+#[test]
+fn parts_of_far_sites_have_few_windows(rt: HostRuntime) -> Result<(), Fail> {
+    let gate = Book::new(rt.alloc(), 4, 2, false)?;
+    assert_few_windows(&rt, Engine::Board, &gate);
+    let gate = Book::new(rt.alloc(), 4, 4, false)?;
+    assert_few_windows(&rt, Engine::Rings, &gate);
     Ok(())
 }

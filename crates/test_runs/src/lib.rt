@@ -3,7 +3,7 @@
 #![tactic(auto)]
 
 #[cfg(test)]
-mod gates;
+mod book;
 #[cfg(test)]
 mod horizons_tests;
 #[cfg(test)]

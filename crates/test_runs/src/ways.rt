@@ -2,6 +2,8 @@
 
 use base::{Fault, Memory};
 use exchange::{Summary, run, run_in_turn, run_one, run_streamed};
+use gates::OpenGate;
+use rings::run_by_rings;
 use scenario::{Division, Scenario, Workers};
 use std::marker::Sync;
 use std::process::Abort;
@@ -9,7 +11,6 @@ use std::sync::Wait;
 use std::thread::Threads;
 use trace::Sink;
 use trace::testing::MemorySink;
-use workers::OpenGate;
 
 /// The division into so many parts with these members in each. `Memory` where it is refused.
 pub(crate) fn divided(
@@ -53,11 +54,13 @@ pub(crate) enum Way {
     Streamed,
     /// By so many parts, one after another.
     InTurn(u8),
-    /// By so many parts, and so many workers.
+    /// By so many parts, and so many workers that take them from a board.
     ByWorkers(u8, u8),
+    /// By so many parts, each of which a worker keeps.
+    ByRings(u8),
 }
 
-const WAYS: [Way; 7] = [
+const WAYS: [Way; 8] = [
     Way::AsOne,
     Way::Streamed,
     Way::InTurn(1),
@@ -65,6 +68,7 @@ const WAYS: [Way; 7] = [
     Way::InTurn(64),
     Way::ByWorkers(2, 1),
     Way::ByWorkers(3, 2),
+    Way::ByRings(3),
 ];
 
 /// The ways in which tests of whole runs and of failing sinks run their scenarios.
@@ -80,7 +84,9 @@ fn division_of(
 ) -> Result<Division, Memory> {
     match way {
         Way::AsOne | Way::Streamed => dealt(rt, scenario, 1),
-        Way::InTurn(parts) | Way::ByWorkers(parts, _) => dealt(rt, scenario, parts),
+        Way::InTurn(parts) | Way::ByWorkers(parts, _) | Way::ByRings(parts) => {
+            dealt(rt, scenario, parts)
+        }
     }
 }
 
@@ -108,6 +114,9 @@ pub(crate) fn run_by(
             run(
                 rt, alloc, scenario, &division, workers, &OpenGate, trace, report,
             )
+        }
+        Way::ByRings(_) => {
+            run_by_rings(rt, alloc, scenario, &division, &OpenGate, trace, report)
         }
     }
 }

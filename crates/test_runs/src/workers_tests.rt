@@ -1,7 +1,7 @@
 //! Runs by threads: the workers meet at a gate in each window, so they run at once, and each part is entered once in
 //! each window.
 
-use crate::gates::{Book, run_told};
+use crate::book::{Book, Engine, run_told};
 use crate::texts::{CRASH_DETECTED, JOIN, Worked};
 use std::marker::Sync;
 use std::process::Abort;
@@ -15,12 +15,13 @@ use trace::testing::MemorySink;
 /// part was entered once in each window, and gives the number of windows.
 fn assert_entered(
     rt: &(impl Abort + AllocGlobal + Threads + Wait + Sync),
+    engine: Engine,
     gate: &Book,
     worked: &Worked,
     part_of: &[u8],
 ) -> u64 {
     let mut trace = MemorySink::new(rt.alloc());
-    let outcome = run_told(rt, gate, worked.scenario, part_of, &mut trace);
+    let outcome = run_told(rt, engine, gate, worked.scenario, part_of, &mut trace);
     assert!(rt; outcome.is_ok());
     assert!(rt; trace.bytes() == worked.trace.as_bytes());
     assert!(rt; gate.wrong() == 0);
@@ -33,7 +34,7 @@ fn assert_entered(
 #[test]
 fn gate_two_parts(rt: HostRuntime) -> Result<(), Fail> {
     let gate = Book::new(rt.alloc(), 2, 2, true)?;
-    let windows = assert_entered(&rt, &gate, &CRASH_DETECTED, &[0, 1]);
+    let windows = assert_entered(&rt, Engine::Board, &gate, &CRASH_DETECTED, &[0, 1]);
     assert!(rt; windows > 2);
     Ok(())
 }
@@ -42,7 +43,7 @@ fn gate_two_parts(rt: HostRuntime) -> Result<(), Fail> {
 #[test]
 fn gate_three_parts_by_two_workers(rt: HostRuntime) -> Result<(), Fail> {
     let gate = Book::new(rt.alloc(), 3, 2, true)?;
-    let windows = assert_entered(&rt, &gate, &JOIN, &[0, 1, 2]);
+    let windows = assert_entered(&rt, Engine::Board, &gate, &JOIN, &[0, 1, 2]);
     assert!(rt; windows > 2);
     Ok(())
 }
@@ -51,8 +52,18 @@ fn gate_three_parts_by_two_workers(rt: HostRuntime) -> Result<(), Fail> {
 #[test]
 fn gate_three_parts_by_three_workers(rt: HostRuntime) -> Result<(), Fail> {
     let gate = Book::new(rt.alloc(), 3, 3, true)?;
-    let windows = assert_entered(&rt, &gate, &JOIN, &[0, 1, 2]);
+    let windows = assert_entered(&rt, Engine::Board, &gate, &JOIN, &[0, 1, 2]);
     assert!(rt; windows > 2);
+    Ok(())
+}
+
+/// Workers that keep a part each meet in each window too.
+#[test]
+fn gate_by_rings(rt: HostRuntime) -> Result<(), Fail> {
+    let gate = Book::new(rt.alloc(), 2, 2, true)?;
+    assert!(rt; assert_entered(&rt, Engine::Rings, &gate, &CRASH_DETECTED, &[0, 1]) > 2);
+    let gate = Book::new(rt.alloc(), 3, 3, true)?;
+    assert!(rt; assert_entered(&rt, Engine::Rings, &gate, &JOIN, &[0, 1, 2]) > 2);
     Ok(())
 }
 
@@ -61,7 +72,7 @@ fn gate_three_parts_by_three_workers(rt: HostRuntime) -> Result<(), Fail> {
 fn one_worker_tells_of_each_part(rt: HostRuntime) -> Result<(), Fail> {
     for parts in 2..=3 {
         let gate = Book::new(rt.alloc(), parts, 1, false)?;
-        let windows = assert_entered(&rt, &gate, &CRASH_DETECTED, &[0, 1]);
+        let windows = assert_entered(&rt, Engine::Board, &gate, &CRASH_DETECTED, &[0, 1]);
         assert!(rt; windows > 2);
     }
     Ok(())
@@ -72,7 +83,7 @@ fn one_worker_tells_of_each_part(rt: HostRuntime) -> Result<(), Fail> {
 fn one_part_has_one_window(rt: HostRuntime) -> Result<(), Fail> {
     for workers in [1, 2, 64] {
         let gate = Book::new(rt.alloc(), 1, workers, false)?;
-        assert!(rt; assert_entered(&rt, &gate, &CRASH_DETECTED, &[0, 0]) == 1);
+        assert!(rt; assert_entered(&rt, Engine::Board, &gate, &CRASH_DETECTED, &[0, 0]) == 1);
         assert!(rt; gate.entries() == 1);
     }
     Ok(())

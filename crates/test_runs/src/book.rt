@@ -4,6 +4,8 @@ ghost use Rattle.std.specs.Prelude.{⊤, ◌≤◌};
 use crate::ways::divided;
 use base::{Fault, Memory};
 use exchange::{Summary, run};
+use gates::Gate;
+use rings::run_by_rings;
 use scenario::Workers;
 use scenario_reader::read;
 use std::alloc::Global;
@@ -15,7 +17,6 @@ use std::thread;
 use std::thread::Threads;
 use trace::Sink;
 use trace::testing::MemorySink;
-use workers::Gate;
 
 /// Of how many windows a gate keeps account.
 const WINDOWS: usize = 1_000;
@@ -195,10 +196,20 @@ impl Gate for Book {
     }
 }
 
+/// Who runs the parts of a run that is told to a gate.
+#[derive(Clone, Copy)]
+pub(crate) enum Engine {
+    /// Workers that take parts from a board.
+    Board,
+    /// A worker for each part, which keeps it.
+    Rings,
+}
+
 /// Runs the text's scenario by as many parts and workers as the gate is for, with these members in each part. The report
 /// is dropped.
 pub(crate) fn run_told(
     rt: &(impl Abort + AllocGlobal + Threads + Wait + Sync),
+    engine: Engine,
     gate: &Book,
     text: &str,
     part_of: &[u8],
@@ -219,15 +230,21 @@ pub(crate) fn run_told(
     let mut report = MemorySink::new(rt.alloc());
     assert!(rt; trace.failures() < 1 << 62);
     assert!(rt; report.failures() < 1 << 62);
-    let workers = Workers::new(usize::from(gate.workers)).expect(rt, "workers");
-    run(
-        rt,
-        rt.alloc(),
-        &scenario,
-        &division,
-        workers,
-        gate,
-        trace,
-        &mut report,
-    )
+    let alloc = rt.alloc();
+    match engine {
+        Engine::Board => {
+            let workers = Workers::new(usize::from(gate.workers)).expect(rt, "workers");
+            run(
+                rt,
+                alloc,
+                &scenario,
+                &division,
+                workers,
+                gate,
+                trace,
+                &mut report,
+            )
+        }
+        Engine::Rings => run_by_rings(rt, alloc, &scenario, &division, gate, trace, &mut report),
+    }
 }

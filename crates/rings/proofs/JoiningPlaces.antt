@@ -1,0 +1,52 @@
+-- What holds of each item of a list at its place.
+use Rattle.std.proofs.Common.{◌≡◌, ◌≢◌, ℕ, zero, suc, ◌<◌, List, [], ◌∷◌, ◌++◌, map, length, take, slice_set, Some, refl, ap, sym, subst, arith}
+use Rattle.std.specs.List.{AllByRecursion, slice_get}
+use Rattle.std.proofs.Math.Seq.{take-append_seam}
+use Rattle.std.proofs.lemmas.Option.{none-some, same_Some}
+use Rattle.base.proofs.Rising.{all_append}
+
+-- in a list in which one place is written
+pub written_each : {X : Type 0} (P : ℕ → X → Type 0) (xs : List X) (i : ℕ) (y : X) → P i y → ((j : ℕ) (x : X) → j ≢ i → slice_get xs j ≡ Some x → P j x)
+    → (j : ℕ) (x : X) → slice_get (slice_set xs i y) j ≡ Some x → P j x
+written_each P [] i y here others j x is = absurd (none-some x is)
+written_each P (z ∷ xs) zero y here others zero x is = subst (P 0) (same_Some y x is) here
+written_each P (z ∷ xs) zero y here others (suc j) x is = others (suc j) x (λ same. omega arith) is
+written_each P (z ∷ xs) (suc i) y here others zero x is = others 0 x (λ same. omega arith) is
+written_each P (z ∷ xs) (suc i) y here others (suc j) x is =
+    written_each (λ k. P (suc k)) xs i y here (λ k w apart at. others (suc k) w (λ same. apart (omega arith)) at) j x is
+
+-- places behind the one that is written are as they were
+pub written_behind : {X : Type 0} (xs : List X) (i j : ℕ) (y : X) → i < j → slice_get (slice_set xs i y) j ≡ slice_get xs j
+written_behind [] i j y behind = refl
+written_behind (z ∷ xs) zero zero y behind = absurd (omega arith)
+written_behind (z ∷ xs) zero (suc j) y behind = refl
+written_behind (z ∷ xs) (suc i) zero y behind = absurd (omega arith)
+written_behind (z ∷ xs) (suc i) (suc j) y behind = written_behind xs i j y (omega arith)
+
+-- in a list that has one more at its end
+pub pushed_each : {X : Type 0} (P : ℕ → X → Type 0) (xs : List X) (y : X) → ((j : ℕ) (x : X) → slice_get xs j ≡ Some x → P j x) → P (length xs) y
+    → (j : ℕ) (x : X) → slice_get (xs ++ y ∷ []) j ≡ Some x → P j x
+pushed_each P [] y each here zero x is = subst (P 0) (same_Some y x is) here
+pushed_each P [] y each here (suc j) x is = absurd (none-some x is)
+pushed_each P (z ∷ xs) y each here zero x is = each 0 x is
+pushed_each P (z ∷ xs) y each here (suc j) x is = pushed_each (λ k. P (suc k)) xs y (λ k w at. each (suc k) w at) here j x is
+
+-- what holds of each item holds with one more of which it holds
+pub all_with_one : {X : Type 0} (P : X → Type 0) (xs more : List X) (x : X) → more ≡ xs ++ x ∷ [] → AllByRecursion P xs → P x → AllByRecursion P more
+all_with_one P xs more x joined all is = subst (AllByRecursion P) (sym joined) (all_append P xs (x ∷ []) all (is, tt))
+
+-- where something is read of a list's items, it is so of an item at that place
+pub slice_get_behind : {X Y : Type 0} (f : X → Y) (xs : List X) (i : ℕ) (y : Y) → slice_get (map f xs) i ≡ Some y → (x : X) × (slice_get xs i ≡ Some x) × (f x ≡ y)
+slice_get_behind f [] i y is = absurd (none-some y is)
+slice_get_behind f (x ∷ xs) zero y is = (x, refl, same_Some (f x) y is)
+slice_get_behind f (x ∷ xs) (suc i) y is = slice_get_behind f xs i y is
+
+-- what a loop over a list has written once it is through is all of it
+pub all_written : {X : Type 0} (n : ℕ) (xs ys : List X) → length xs ≡ n → take n (xs ++ ys) ≡ xs
+all_written n xs ys many = subst (λ k. take k (xs ++ ys) ≡ xs) many (take-append_seam xs ys)
+
+-- a list keeps its length where a place is written
+pub written_length : {X : Type 0} (xs : List X) (i : ℕ) (y : X) → length (slice_set xs i y) ≡ length xs
+written_length [] i y = refl
+written_length (z ∷ xs) zero y = refl
+written_length (z ∷ xs) (suc i) y = ap suc (written_length xs i y)

@@ -1,0 +1,16 @@
+mod JoiningNumbers
+mod JoiningPlaces
+mod Joining
+mod LotsFaults
+mod LotsJoined
+mod LotsNext
+mod PeersOpening
+mod TellingInTurn
+mod TellingWindows
+mod HearingMessages
+mod HearingRounds
+mod WorkerEndings
+mod WorkerRounds
+mod EndingsOfRuns
+mod SentWorkers
+mod WritingTurns

@@ -1,0 +1,43 @@
+-- A worker as the run begins.
+use Rattle.std.proofs.Common.{◌≡◌, ◌<◌, List, [], ◌∷◌, ◌++◌, length, Some, refl, ap, ◌∙◌, sym, subst, arith}
+use Rattle.std.specs.List.{slice_get}
+use Rattle.std.specs.FinMap.{FinMap}
+use Rattle.std.specs.Option.{option_map}
+use Rattle.std.proofs.lemmas.Option.{same_Some}
+use Rattle.std.proofs.lemmas.List.{length-append}
+use Rattle.base.specs.Order.{key_cmp}
+use Rattle.member.specs.declared.event.Event.{Event}
+use Rattle.member.specs.Opening.{opening}
+use Rattle.windows.specs.declared.part.Part.{Part}
+use Rattle.windows.specs.WorldOf.{world_of}
+use Rattle.turns.specs.Parts.{StandFor}
+use Rattle.rounds.specs.Starts.{IsFirstMoment}
+use Rattle.rounds.specs.Messages.{BeginsRound}
+use Rattle.rounds.proofs.Heard.{begins_opening}
+use Rattle.round_windows.specs.Basis.{Basis, division_of}
+use Rattle.rings.specs.declared.worker.Worker.{Worker}
+use Rattle.rings.specs.Peers.{AreOthers, numbers_of}
+use Rattle.rings.specs.Starting.{MayWork}
+
+-- what stands behind a beginning of a list
+item_behind : {X : Type 0} (before : List X) (x : X) (rest : List X) → slice_get (before ++ x ∷ rest) (length before) ≡ Some x
+item_behind [] x rest = refl
+item_behind (y ∷ before) x rest = item_behind before x rest
+
+module _ {K Q : Type 0} (set : Q → FinMap key_cmp Event) (basis : Basis) where
+  -- the worker of the next part
+  pub may_work : (parts before rest : List (Part Q)) (worker : Worker K Q) → StandFor set basis.deal parts (opening basis.setup) → IsFirstMoment (opening basis.setup) worker.first
+      → before ++ worker.part ∷ rest ≡ parts → worker.lines.number ≡ length before → AreOthers (length parts) (length before) (numbers_of worker.lines.peers.items) → MayWork set basis worker
+  may_work parts before rest worker stand first all number are =
+      let below : worker.lines.number < basis.deal.parts = omega (arith, number, ap length all, length-append before (worker.part ∷ rest), stand.count) in
+      let here : slice_get parts worker.lines.number ≡ Some worker.part = ap (slice_get parts) number ∙ ap (λ (l : List (Part Q)). slice_get l (length before)) (sym all) ∙ item_behind before worker.part rest in
+      let world = same_Some _ _ (sym (ap (option_map (world_of set)) here) ∙ stand.worlds worker.lines.number below) in
+      record {
+        begins =
+            subst (BeginsRound basis.setup basis.delay (division_of basis) worker.lines.number 0 worker.first) (sym world)
+            (begins_opening basis.setup basis.delay (division_of basis) worker.lines.number worker.first first);
+        lines = record {
+          own = below;
+          peers = subst (λ n. AreOthers n worker.lines.number (numbers_of worker.lines.peers.items)) stand.count (subst (λ n. AreOthers (length parts) n (numbers_of worker.lines.peers.items)) (sym number) are);
+        };
+      }

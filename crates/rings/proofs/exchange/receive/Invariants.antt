@@ -1,0 +1,12 @@
+use Rattle.std.proofs.Common.{◌≡◌, ◌++◌, map}
+use Rattle.member.specs.StateOf.{pair_of}
+use Rattle.windows.specs.Parts.{with_arrivals}
+use Rattle.windows.specs.WorldOf.{world_of}
+use Rattle.rings.proofs.exchange.receive.Given as goal
+
+abbrev pub invariant-loop-event : goal.invariant-loop-event
+invariant-loop-event g l = record {
+  left : l.yielded ++ l.event-iterator.rest.items ≡ l.fn.events.items;
+  come : world_of g.Q.EventQueue.set l.part ≡ with_arrivals (world_of g.Q.EventQueue.set l.fn.part) (map pair_of l.yielded);
+  number : l.part.number ≡ l.fn.part.number;
+}

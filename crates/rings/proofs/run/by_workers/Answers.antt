@@ -1,0 +1,56 @@
+use Rattle.std.proofs.Common.{◌≡◌, ◌↔◌, ℕ, List, Option, ◌∙◌, subst, refl}
+use Rattle.std.specs.FinMap.{FinMap, get}
+use Rattle.base.specs.Order.{key_cmp}
+use Rattle.member.specs.declared.event.Event.{Event}
+use Rattle.member.specs.Opening.{opening}
+use Rattle.windows.specs.declared.part.Part.{Part}
+use Rattle.windows.proofs.Members.{receiver_low}
+use Rattle.windows.proofs.WholeOpening.{opening_whole}
+use Rattle.turns.specs.Parts.{StandFor, NonePendsBefore}
+use Rattle.turns.proofs.Goes.{none_of_parts, none_of_world}
+use Rattle.rounds.specs.Starts.{IsUpTo, IsFirstMoment}
+use Rattle.round_windows.specs.Basis.{Basis, IsBasis, basis_of}
+use Rattle.rings.proofs.EndingsOfRuns.{no_memory}
+use Rattle.rings.proofs.WritingTurns.{one_basis}
+use Rattle.rings.proofs.run.by_workers.Goals as goal
+
+-- what pends first in the parts pends first in the world for which they stand
+first_of_parts : {Q : Type 0} (set : Q → FinMap key_cmp Event) (basis : Basis) (parts slice : List (Part Q)) (first : Option ℕ) → IsBasis basis → StandFor set basis.deal parts (opening basis.setup)
+    → slice ≡ parts → ((t : ℕ) → NonePendsBefore set slice t ↔ IsUpTo first t) → IsFirstMoment (opening basis.setup) first
+first_of_parts set basis parts slice first is stand same least t =
+    let s = basis.setup in
+    let here = subst (λ l. NonePendsBefore set l t ↔ IsUpTo first t) same (least t) in (
+      λ none. here.0 (none_of_parts set basis.deal parts (opening s) stand t none),
+      λ up. none_of_world set basis.deal parts (opening s) stand t (λ q there. is.below q.to (receiver_low s (opening s) q (get (opening s).pending q) (opening_whole s is.sound).sound refl there)) (here.1 up),
+    )
+
+pub returns-in_err-bells-clause-trace : goal.returns-in_err-bells-clause-trace
+returns-in_err-bells-clause-trace g c = no_memory c.args.rounds.now.cluster.scenario.now (g.T.TakeRows.held c.args.place.now) (g.T.TakeRows.failed c.args.place.now) c.from_residual.result c.requires.rounds.basis.sound c.from_residual.ensures.1
+
+pub returns-in_err-workers-clause-trace : goal.returns-in_err-workers-clause-trace
+returns-in_err-workers-clause-trace g c = no_memory c.args.rounds.now.cluster.scenario.now (g.T.TakeRows.held c.args.place.now) (g.T.TakeRows.failed c.args.place.now) c.from_residual-in_err-workers.result c.requires.rounds.basis.sound c.from_residual-in_err-workers.ensures.1
+
+pub workers_of-requires-clause-run : goal.workers_of-requires-clause-run
+workers_of-requires-clause-run g c = λ basis known.
+    let own = basis_of c.args.rounds.now in
+    let set = g.Q.EventQueue.set in
+    subst (λ (b : Basis). IsBasis b × StandFor set b.deal c.args.parts.items (opening b.setup) × IsFirstMoment (opening b.setup) c.first_pending-first.result) (one_basis g.K.OfRun.basis own basis c.requires.run known) (
+      c.requires.rounds.basis,
+      c.requires.opened,
+      first_of_parts set own c.args.parts.items c.deref.result.now c.first_pending-first.result c.requires.rounds.basis c.requires.opened c.deref.ensures.value c.first_pending-first.ensures,
+    )
+
+pub within-requires-clause-start : goal.within-requires-clause-start
+within-requires-clause-start g c = λ loans lives. record {
+  going = c.requires.rounds;
+  run = c.requires.run;
+  ready = c.in_ok-workers.ensures.workers (basis_of c.args.rounds.now) c.requires.run;
+  known = c.requires.known;
+  windows = c.requires.windows;
+  writes = record {
+    basis_is = c.requires.rounds.basis;
+    one = refl;
+    takers = c.in_ok-workers.ensures.takers ∙ c.requires.opened.count;
+    none_tallied = c.new.ensures;
+  };
+}

@@ -1,0 +1,5 @@
+pub mod Telling
+pub mod Peers
+pub mod Windows
+pub mod Writing
+pub mod Starting

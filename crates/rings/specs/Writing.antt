@@ -1,0 +1,34 @@
+-- What who writes knows.
+use Rattle.std.specs.Prelude.{◌≡◌, ℕ, ◌++◌, List, [], length, Result, Ok, Err}
+use Rattle.std.specs.Bool.{OnTrue}
+use Rattle.base.specs.declared.fault.Fault.{Fault}
+use Rattle.trace.specs.declared.row.Row.{Row}
+use Rattle.member_laws.specs.Runs.{IsRunOf, WearsOut}
+use Rattle.rounds.specs.Before.{AreRowsBefore}
+use Rattle.rounds.specs.Starts.{IsRoundStart}
+use Rattle.gates.specs.Faults.{first_of}
+use Rattle.rings.specs.declared.lots.Turn.{Turn}
+use Rattle.rings.specs.declared.writer.Writer.{Writer}
+use Rattle.round_windows.specs.Basis.{Basis, IsBasis}
+
+-- these rows are those of the run before the round
+abbrev pub HasComeTo : Basis → ℕ → List Row → Type 0
+HasComeTo basis round rows = (start : ℕ) × IsRoundStart basis.setup basis.delay round start × AreRowsBefore basis.setup start rows
+
+-- The turn's rows are the next of the run, from that round on; where it is the last, they are the rest, and no counter was worn out.
+pub record IsNextTurn (basis : Basis) (since : ℕ) (turn : Turn) : Type 0 where
+  pub next : (before : List Row) → HasComeTo basis since before → HasComeTo basis turn.until (before ++ turn.rows.items)
+  pub whole : OnTrue turn.last ((before : List Row) → HasComeTo basis since before → IsRunOf basis.setup (before ++ turn.rows.items))
+  pub lasts : OnTrue turn.last (¬ (WearsOut basis.setup))
+
+-- The writer is of that run: it has the rings of all workers, and nothing is tallied yet.
+pub record MayWrite {K : Type 0} (basis : Basis) (writer : Writer K) : Type 0 where
+  pub basis_is : IsBasis basis
+  pub one : writer.scenario.now ≡ basis.setup
+  pub takers : length writer.takers.items ≡ basis.deal.parts
+  pub none_tallied : writer.tallies ≡ []
+
+-- of the writer's own fault, where there is one, and another the first
+abbrev pub fault_beside : Result (Unit {0}) Fault → Fault → Fault
+fault_beside (Ok _) f = f
+fault_beside (Err own) f = first_of own f

@@ -1,0 +1,25 @@
+use base::Fault;
+use trace::Row;
+
+/// Rows of a part, on their way to who writes them.
+#[derive(Drop)]
+pub struct Lot {
+    /// The part.
+    pub from: usize,
+    /// They are of the rounds from this one on.
+    pub since: u64,
+    /// And before this one.
+    pub until: u64,
+    /// The rows, in the order made.
+    pub rows: Vec<Row>,
+    /// Whether nothing is left to happen after them.
+    pub last: bool,
+}
+
+/// What goes from a worker to who writes.
+#[derive(Drop)]
+pub enum Delivery {
+    Lot(Lot),
+    /// The worker has ended, since it found this fault or was told of it.
+    Ended(Fault),
+}

@@ -1,0 +1,172 @@
+//! The lots of all workers, as who writes takes them.
+ghost use Rattle.std.specs.Prelude.{◌≡◌, ◌≢◌, ◌++◌, length, Some, IfOk, IfErr, OnOk};
+ghost use Rattle.std.specs.Bool.{OnTrue};
+ghost use Rattle.std.specs.List.Sorted.{IsPermutation, IsSorted};
+ghost use Rattle.round_windows.specs.Basis.{Basis, IsBasis};
+ghost use Rattle.rings.specs.Telling.{MayEndBy, IsLotOfRun};
+ghost use Rattle.rings.specs.Writing.{IsNextTurn};
+
+use crate::lot::{Delivery, Lot};
+use crate::of_run::OfRun;
+use crate::patience::Patience;
+use crate::protocols::Lots;
+use crate::ring::Taker;
+use base::{Fault, Memory};
+use gates::first_of;
+use std::alloc::Global;
+use std::sync::Wait;
+use trace::Row;
+use turns::join;
+
+/// From where the lots of a worker come.
+#[derive(Drop)]
+pub(crate) struct LotTaker<'b, K: OfRun> {
+    taker: Taker<'b, Delivery, Lots<K>>,
+    // whether something is still to come
+    is_open: bool,
+}
+
+/// The rows of all parts of some rounds, in row order.
+#[derive(Drop)]
+pub(crate) struct Turn {
+    pub(crate) rows: Vec<Row>,
+    /// The round before which they are.
+    pub(crate) until: u64,
+    /// Whether nothing is left to happen after them.
+    pub(crate) last: bool,
+}
+
+impl<'b, K: OfRun> LotTaker<'b, K> {
+    /// The lots that come from there.
+    pub(crate) fn new(taker: Taker<'b, Delivery, Lots<K>>) -> Self {
+        LotTaker {
+            taker,
+            is_open: true,
+        }
+    }
+
+    /// The next lot. Faults: that by which the worker ended, `Relay` where nothing comes.
+    fn take(&mut self, rt: &impl Wait, patience: &mut Patience) -> Result<Lot, Fault>
+        ensures lot { IfOk result (λ lot. (basis : Basis) → K.basis ≡ Some basis → IsLotOfRun basis lot) }
+        ensures fault { IfErr result (λ fault. (basis : Basis) → K.basis ≡ Some basis → MayEndBy basis fault) }
+    {
+        match self.taker.take_and_tell(rt, patience) {
+            Some(Delivery::Lot(lot)) => {
+                self.is_open = !lot.last;
+                Ok(lot)
+            }
+            Some(Delivery::Ended(fault)) => {
+                self.is_open = false;
+                Err(fault)
+            }
+            None => {
+                self.is_open = false;
+                Err(Fault::Relay)
+            }
+        }
+    }
+
+    /// Takes all that is still to come, up to its end: the fault by which the worker ended, or this
+    /// one where that is first.
+    fn drain(&mut self, rt: &impl Wait, patience: &mut Patience, so_far: Fault) -> Fault
+        requires { (basis : Basis) → K.basis ≡ Some basis → MayEndBy basis so_far }
+        ensures { (basis : Basis) → K.basis ≡ Some basis → MayEndBy basis result }
+    {
+        for _ in rt.forever() {
+            if !self.is_open {
+                return so_far;
+            }
+            match self.take(rt, patience) {
+                Ok(_) => {}
+                Err(fault) => return first_of(fault, so_far),
+            }
+        }
+        unreachable!()
+    }
+}
+
+/// The rows of all parts of the next rounds, in row order.
+///
+/// Faults: `Memory`, those by which workers ended, `Relay` where the lots are not of the same
+/// rounds.
+pub(crate) fn next_turn<'b, K: OfRun>(
+    rt: &impl Wait,
+    alloc: Global,
+    takers: &mut Vec<LotTaker<'b, K>>,
+    patience: &mut Patience,
+    since: u64,
+) -> Result<Turn, Fault>
+    requires all { (basis : Basis) → K.basis ≡ Some basis → IsBasis basis × (length takers.old.items ≡ basis.deal.parts) }
+    ensures count { length takers.new.items ≡ length takers.old.items }
+    ensures next { IfOk result (λ turn. (basis : Basis) → K.basis ≡ Some basis → IsNextTurn basis since turn) }
+    ensures fault { IfErr result (λ fault. (basis : Basis) → K.basis ≡ Some basis → MayEndBy basis fault) }
+{
+    let mut all = Turn {
+        rows: Vec::new(alloc),
+        until: since,
+        last: false,
+    };
+    for (number, taker) in takers.iter_mut().enumerate() {
+        let lot = taker.take(rt, patience)?;
+        if !fits(&lot, number, since, &all) {
+            return Err(Fault::Relay);
+        }
+        all = with_lot(all, lot)?;
+    }
+    sort(&mut all.rows)?;
+    Ok(all)
+}
+
+/// Whether the lot is of the part of that number, and of the rounds from that one on, as far as
+/// those of the parts before it.
+fn fits(lot: &Lot, number: usize, since: u64, so_far: &Turn) -> bool
+    ensures { OnTrue result ((lot.now.from ≡ number) × (lot.now.since ≡ since) × (number ≢ 0 → (lot.now.until ≡ so_far.now.until) × (lot.now.last ≡ so_far.now.last))) }
+{
+    if lot.from != number || lot.since != since {
+        return false;
+    }
+    number == 0 || (lot.until == so_far.until && lot.last == so_far.last)
+}
+
+/// The rows so far, and those of one more lot.
+fn with_lot(so_far: Turn, lot: Lot) -> Result<Turn, Memory>
+    ensures { IfOk result (λ turn. (turn.rows.items ≡ so_far.rows.items ++ lot.rows.items) × (turn.until ≡ lot.until) × (turn.last ≡ lot.last)) }
+{
+    let Turn { rows, .. } = so_far;
+    let mut rows = rows;
+    let Lot {
+        rows: more,
+        until,
+        last,
+        ..
+    } = lot;
+    join(&mut rows, more)?;
+    Ok(Turn { rows, until, last })
+}
+
+/// Sorts rows into row order.
+fn sort(rows: &mut Vec<Row>) -> Result<(), Memory>
+    ensures same { IsPermutation rows.old.items rows.new.items }
+    ensures sorted { OnOk result (IsSorted ⟦<Row as Ord>⟧.cmp rows.new.items) }
+{
+    rows.sort()?;
+    Ok(())
+}
+
+/// Takes all that is still to come, up to the end of each worker: of the faults by which they ended
+/// and this one the first.
+pub(crate) fn drained<'b, K: OfRun>(
+    rt: &impl Wait,
+    takers: &mut Vec<LotTaker<'b, K>>,
+    patience: &mut Patience,
+    fault: Fault,
+) -> Fault
+    requires { (basis : Basis) → K.basis ≡ Some basis → MayEndBy basis fault }
+    ensures { (basis : Basis) → K.basis ≡ Some basis → MayEndBy basis result }
+{
+    let mut first = fault;
+    for taker in takers.iter_mut() {
+        first = taker.drain(rt, patience, first);
+    }
+    first
+}

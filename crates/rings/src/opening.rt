@@ -1,0 +1,87 @@
+//! The workers of a run and their rings, as it begins.
+ghost use Rattle.std.specs.Prelude.{◌≡◌, length, Some, IfOk};
+ghost use Rattle.std.specs.List.{AllByRecursion};
+ghost use Rattle.member.specs.Opening.{opening};
+ghost use Rattle.turns.specs.Parts.{StandFor};
+ghost use Rattle.rounds.specs.Starts.{IsFirstMoment};
+ghost use Rattle.round_windows.specs.Basis.{Basis, IsBasis};
+ghost use Rattle.rings.specs.Starting.{MayWork};
+
+use crate::bell::Bell;
+use crate::lot::Delivery;
+use crate::lots::LotTaker;
+use crate::of_run::OfRun;
+use crate::peers::peers_of;
+use crate::protocols::Lots;
+use crate::ring::{Sender, ring_between};
+use crate::worker::{Lines, Worker};
+use base::{Memory, Moment};
+use member::Event;
+use std::alloc::Global;
+use windows::Part;
+use worker_queue::EventQueue;
+
+/// How many lots of a worker may be on their way to who writes.
+const LOTS_ON_THEIR_WAY: usize = 8;
+
+/// So many bells.
+pub(crate) fn bells_of(alloc: Global, count: usize) -> Result<Vec<Bell>, Memory>
+    ensures { IfOk result (λ bells. length bells.items ≡ count) }
+{
+    let mut bells = Vec::new(alloc);
+    for _ in 0..count {
+        bells.push(Bell::new())?;
+    }
+    Ok(bells)
+}
+
+/// The same moment, where there is one.
+fn same_moment(moment: &Option<Moment>) -> Option<Moment>
+    ensures { result ≡ moment.now }
+{
+    match moment {
+        Some(moment) => Some(*moment),
+        None => None,
+    }
+}
+
+/// A worker for each of the parts, with rings between any two and to who writes, and where the lots
+/// come out there.
+pub(crate) fn workers_of<'b, K: OfRun, Q: EventQueue<Event> + Drop>(
+    alloc: Global,
+    parts: Vec<Part<Q>>,
+    first: Option<Moment>,
+    bells: &'b [Bell],
+    writers: &'b Bell,
+) -> Result<(Vec<Worker<'b, K, Q>>, Vec<LotTaker<'b, K>>), Memory>
+    requires run { (basis : Basis) → K.basis ≡ Some basis → IsBasis basis × StandFor Q.set basis.deal parts.items (opening basis.setup)
+        × IsFirstMoment (opening basis.setup) first }
+    requires bells { length bells.now ≡ length parts.items }
+    ensures workers { IfOk result (λ r. (basis : Basis) → K.basis ≡ Some basis → AllByRecursion (MayWork Q.set basis) r.0.items) }
+    ensures takers { IfOk result (λ r. length r.1.items ≡ length parts.items) }
+{
+    let mut peers = peers_of(alloc, bells)?;
+    let mut workers = Vec::new(alloc);
+    let mut takers = Vec::new(alloc);
+    for part in parts {
+        let number = workers.len();
+        let (lots, taker): (Sender<Delivery, Lots<K>>, _) = ring_between(
+            alloc,
+            LOTS_ON_THEIR_WAY,
+            &bells[number],
+            writers,
+        )?;
+        let own = std::mem::replace(&mut peers[number], Vec::new(alloc));
+        workers.push(Worker {
+            part,
+            first: same_moment(&first),
+            lines: Lines {
+                number,
+                peers: own,
+                lots,
+            },
+        })?;
+        takers.push(LotTaker::new(taker))?;
+    }
+    Ok((workers, takers))
+}

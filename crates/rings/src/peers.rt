@@ -1,0 +1,163 @@
+//! A worker's rings to and from the others.
+ghost use Rattle.std.specs.Prelude.{◌≡◌, ◌≢◌, ℕ, ◌+◌, ◌<◌, [], length, map, unwrap_or, Some, IfOk, IfErr};
+ghost use Rattle.std.specs.List.{slice_get};
+ghost use Rattle.member.specs.StateOf.{pair_of};
+ghost use Rattle.rounds.specs.Messages.{IsMessage};
+ghost use Rattle.round_windows.specs.Basis.{Basis, division_of};
+ghost use Rattle.rings.specs.Peers.{AreOthers, AreJoined, numbers_of};
+ghost use Rattle.rings.specs.Telling.{MayEndBy, IsWord};
+
+use crate::bell::Bell;
+use crate::of_run::OfRun;
+use crate::patience::Patience;
+use crate::protocols::Words;
+use crate::ring::{Sender, Taker, ring_between};
+use crate::word::{Told, Word};
+use base::{Fault, Memory, Moment};
+use member::Event;
+use std::alloc::Global;
+use std::sync::Wait;
+
+/// How many messages a ring has room for. A worker is no more than a round ahead of another, so
+/// that two words are on their way at most, and that one ended.
+const ROOM: usize = 4;
+
+/// The rings between a worker and another one.
+#[derive(Drop)]
+pub(crate) struct Peer<'b, K: OfRun> {
+    /// The part of the other.
+    pub(crate) number: usize,
+    to: Sender<'b, Told, Words<K>>,
+    from: Taker<'b, Told, Words<K>>,
+}
+
+/// What a worker tells each other of its round.
+#[derive(Drop)]
+pub(crate) struct Telling {
+    pub(crate) from: usize,
+    pub(crate) round: u64,
+    pub(crate) least: Option<Moment>,
+    pub(crate) rows: u64,
+}
+
+/// Rings between any two of so many workers, at the bells of each: for each worker those to the
+/// others, in the order of the workers.
+pub(crate) fn peers_of<'b, K: OfRun>(
+    alloc: Global,
+    bells: &'b [Bell],
+) -> Result<Vec<Vec<Peer<'b, K>>>, Memory>
+    ensures { IfOk result (λ all. AreJoined (length bells.now) (map (λ peers. peers.items) all.items)) }
+{
+    let mut all = Vec::new(alloc);
+    for bell in bells {
+        let peers = joined(alloc, &mut all, bell, bells)?;
+        all.push(peers)?;
+    }
+    Ok(all)
+}
+
+/// Joins one more worker to those before it: its peers.
+fn joined<'b, K: OfRun>(
+    alloc: Global,
+    before: &mut Vec<Vec<Peer<'b, K>>>,
+    own: &'b Bell,
+    bells: &'b [Bell],
+) -> Result<Vec<Peer<'b, K>>, Memory>
+    requires more { length before.old.items < length bells.now }
+    requires joined { AreJoined (length before.old.items) (map (λ peers. peers.items) before.old.items) }
+    ensures count { IfOk result (λ _. length before.new.items ≡ length before.old.items) }
+    ensures before { IfOk result (λ _. (i : ℕ) (peers : _) → slice_get before.new.items i ≡ Some peers → AreOthers (length before.old.items + 1) i (numbers_of peers.items)) }
+    ensures own { IfOk result (λ peers. AreOthers (length before.old.items + 1) (length before.old.items) (numbers_of peers.items)) }
+{
+    let number = before.len();
+    let mut peers = Vec::new(alloc);
+    for (other, others) in before.iter_mut().enumerate() {
+        let theirs = &bells[other];
+        let (to, there) = ring_between(alloc, ROOM, own, theirs)?;
+        let (back, from) = ring_between(alloc, ROOM, theirs, own)?;
+        peers.push(Peer {
+            number: other,
+            to,
+            from,
+        })?;
+        others.push(Peer {
+            number,
+            to: back,
+            from: there,
+        })?;
+    }
+    Ok(peers)
+}
+
+impl<'b, K: OfRun> Peer<'b, K> {
+    /// Tells the other worker of a round. False where it can't be told.
+    pub(crate) fn tell(
+        &mut self,
+        alloc: Global,
+        telling: &Telling,
+        out: &mut Vec<Vec<Event>>,
+    ) -> bool
+        requires known { (basis : Basis) → K.basis ≡ Some basis → IsMessage basis.setup basis.delay (division_of basis) telling.now.from self.old.number telling.now.round
+            (map pair_of (unwrap_or (slice_get (map (λ list. list.items) out.old.items) self.old.number) [])) telling.now.least }
+        ensures number { self.new.number ≡ self.old.number }
+        ensures others { (i : ℕ) → i ≢ self.old.number → slice_get out.new.items i ≡ slice_get out.old.items i }
+    {
+        let events = taken_out(alloc, out, self.number);
+        let word = Word {
+            from: telling.from,
+            to: self.number,
+            round: telling.round,
+            events,
+            least: telling.least,
+            rows: telling.rows,
+        };
+        self.to.send_at_once(Told::Word(word))
+    }
+
+    /// Tells the other worker that this one has ended by the fault.
+    pub(crate) fn tell_end(&mut self, fault: Fault)
+        requires { (basis : Basis) → K.basis ≡ Some basis → MayEndBy basis fault }
+        ensures number { self.new.number ≡ self.old.number }
+    {
+        let _ = self.to.send_at_once(Told::Ended(fault));
+    }
+
+    /// What the other worker tells of the round.
+    ///
+    /// Faults: that by which it ended, `Relay` where it tells of anything else.
+    pub(crate) fn hear(
+        &mut self,
+        rt: &impl Wait,
+        patience: &mut Patience,
+        own: usize,
+        round: u64,
+    ) -> Result<Word, Fault>
+        ensures number { self.new.number ≡ self.old.number }
+        ensures word { IfOk result (λ word. (basis : Basis) → K.basis ≡ Some basis → IsWord basis word) }
+        ensures place { IfOk result (λ word. (word.from ≡ self.old.number) × (word.to ≡ own) × (word.round ≡ round)) }
+        ensures fault { IfErr result (λ fault. (basis : Basis) → K.basis ≡ Some basis → MayEndBy basis fault) }
+    {
+        match self.from.take(rt, patience) {
+            Some(Told::Word(word)) => {
+                if word.from == self.number && word.to == own && word.round == round {
+                    Ok(word)
+                } else {
+                    Err(Fault::Relay)
+                }
+            }
+            Some(Told::Ended(fault)) => Err(fault),
+            None => Err(Fault::Relay),
+        }
+    }
+}
+
+/// Takes the list at that place, and leaves an empty one.
+fn taken_out(alloc: Global, lists: &mut Vec<Vec<Event>>, place: usize) -> Vec<Event>
+    ensures taken { result.items ≡ unwrap_or (slice_get (map (λ list. list.items) lists.old.items) place) [] }
+    ensures others { (i : ℕ) → i ≢ place → slice_get lists.new.items i ≡ slice_get lists.old.items i }
+{
+    match lists.get_mut(place) {
+        Some(list) => std::mem::replace(list, Vec::new(alloc)),
+        None => Vec::new(alloc),
+    }
+}

@@ -1,0 +1,3 @@
+mod Least
+mod Walking
+mod Dealing

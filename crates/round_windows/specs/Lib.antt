@@ -1,0 +1,3 @@
+pub mod Basis
+pub mod Walks
+pub mod Windows

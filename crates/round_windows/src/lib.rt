@@ -1,0 +1,14 @@
+//! The window of a part in a round of a run: how far it goes, what it gives for each other part, and
+//! the first moment that is left.
+#![tactic(auto)]
+
+mod bounds;
+mod course;
+mod firsts;
+mod outgoing;
+mod window;
+
+pub use bounds::{least_walk, round_bound, round_length};
+pub use course::{Rounds, rounds_of};
+pub use firsts::{first_of, lesser};
+pub use window::{Ran, run_window};

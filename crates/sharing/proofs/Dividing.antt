@@ -1,0 +1,31 @@
+-- Lists of the members' parts that are divisions.
+use Rattle.std.proofs.Common.{◌≡◌, ◌%◌, ◌<◌, ◌≤◌, ℕ, true, false, List, Ok, All, map, length, nat_le, nat_eq, refl, ap, ◌∙◌, arith}
+use Rattle.std.specs.List.{range_with_len}
+use Rattle.std.proofs.lemmas.Bool.Decides.{nat_tests}
+use Rattle.std.proofs.lemmas.List.Elements.{All-weaker, All-map}
+use Rattle.std.proofs.lemmas.List.FromFn.{length-map-range_with_len}
+use Rattle.std.proofs.lemmas.List.Folds.{list_any_none}
+use Rattle.scenario.specs.Division.{divided, has_part_past}
+
+-- where each is below the number of parts none is past it
+none_past : (parts : ℕ) (xs : List ℕ) → All (λ part. part < parts) xs → has_part_past parts xs ≡ false
+none_past parts xs below =
+    list_any_none (λ part. nat_le parts part) xs
+    (All-weaker (λ part. part < parts) (λ part. nat_le parts part ≡ false) (λ part low. grind (arith, nat_tests)) xs below)
+
+-- such a list is a division of as many members
+pub divides : (members parts : ℕ) (xs : List ℕ) → 1 ≤ parts → parts ≤ 64 → length xs ≡ members → All (λ part. part < parts) xs
+    → divided members parts xs ≡ Ok (record { parts = parts; part_of = xs })
+divides members parts xs some few each below =
+    let low : nat_le 1 parts ≡ true = grind (arith, nat_tests) in
+    let high : nat_le parts 64 ≡ true = grind (arith, nat_tests) in
+    let same : nat_eq (length xs) members ≡ true = grind (arith, nat_tests) in
+    rw (low, high, same, none_past parts xs below) refl
+
+-- numbers in turn are as many as were asked for, each below the limit
+pub as_many : (count limit : ℕ) (xs : List ℕ) → xs ≡ map (λ n. n % limit) (range_with_len 0 count) → length xs ≡ count
+as_many count limit xs is = ap length is ∙ length-map-range_with_len (λ n. n % limit) 0 count
+
+pub below_limit : (count limit : ℕ) (xs : List ℕ) → 1 ≤ limit → xs ≡ map (λ n. n % limit) (range_with_len 0 count) → All (λ n. n < limit) xs
+below_limit count limit xs some is =
+    rw is (All-map (λ n. n < limit) (λ n. n % limit) (range_with_len 0 count) (λ k d h. omega arith))

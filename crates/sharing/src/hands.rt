@@ -1,0 +1,28 @@
+//! How many threads simulate.
+ghost use Rattle.std.specs.Prelude.{◌≡◌, ◌≤◌, ℕ};
+ghost use Rattle.sharing.specs.Parts.{simulating_of};
+
+use scenario::Workers;
+use std::thread::{Threads, available_parallelism};
+
+/// How many of so many workers simulate, of whom no more go than there are processors: a thread that
+/// waits for others on a processor that they need makes a run slower.
+pub(crate) fn simulating(rt: &impl Threads, workers: Workers) -> usize
+    ensures value { (threads : ℕ) × (1 ≤ threads) × (threads ≤ workers) × (result ≡ simulating_of threads) }
+    ensures few { (1 ≤ result) × (result ≤ 64) }
+{
+    match available_parallelism(rt) {
+        Ok(processors) => hands_of(workers.count().min(processors.get())),
+        Err(_) => hands_of(workers.count()),
+    }
+}
+
+/// How many of so many threads simulate: all but one, which writes; of two both, while the calling
+/// thread writes.
+fn hands_of(threads: usize) -> usize
+    requires { 1 ≤ threads }
+    ensures value { result ≡ simulating_of threads }
+    ensures few { (1 ≤ result) × (result ≤ threads) }
+{
+    if threads > 2 { threads - 1 } else { threads }
+}
