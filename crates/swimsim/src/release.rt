@@ -1,8 +1,8 @@
 //! Which release of the program this is.
 
 /// The number of the version.
-pub const VERSION: &str = "1.6.1";
+pub const VERSION: &str = "1.7.0";
 /// The digest of the sources.
-pub const SOURCES: &str = "46a2432fae285d4093c8a19dda61ce6d7392bd2d601a8617610a69b8edf951d9";
+pub const SOURCES: &str = "b891743e512d65f6446f6dc92639bbf7d5af092c9bd2ac7fc0b23579bd750fca";
 /// The kit.
 pub const KIT: &str = "rattle-kit-13f logic dac8208d650f15bf";
