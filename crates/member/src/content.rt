@@ -2,7 +2,7 @@ use crate::updates::Updates;
 use base::MemberId;
 
 /// What an event asks of its receiver: an event of the script, a timer of one's own, or a message.
-#[derive(Debug, Drop)]
+#[derive(Clone, Debug, Drop)]
 pub enum Content {
     /// The member starts.
     Start,

@@ -5,7 +5,7 @@ use base::{Key, Keyed};
 use trace::Row;
 
 /// An event: its key, and what it asks of its receiver.
-#[derive(Debug, Drop)]
+#[derive(Clone, Debug, Drop)]
 pub struct Event {
     pub key: Key,
     pub content: Content,

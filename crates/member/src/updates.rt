@@ -4,7 +4,7 @@ use incarnation::Update;
 use std::marker::Model;
 
 /// The updates that a message carries, in order.
-#[derive(Debug, Drop)]
+#[derive(Clone, Debug, Drop)]
 pub struct Updates {
     items: Vec<Update>,
 }

@@ -23,14 +23,14 @@ use Rattle.turns.proofs.Turning.{low_by_part}
 use Rattle.rounds.specs.Starts.{IsUpTo}
 use Rattle.rounds.specs.Messages.{BeginsRound, IsWindowOfRound, IsLeastAfter, IsMessage, IsOneOf, Message, sender_of, all_events, AreOfAllOthers, IsLeastOfAll}
 use Rattle.rounds.proofs.Pending.{all_first, all_last}
-use Rattle.rounds.proofs.Heard.{next_round}
+use Rattle.rounds.proofs.Heard.{new_so_far, next_round, own_so_far}
 use Rattle.round_windows.specs.Basis.{Basis, IsBasis, division_of}
 use Rattle.rings.specs.declared.word.Word.{Word}
 use Rattle.rings.specs.Peers.{AreOthers}
 use Rattle.rings.specs.Telling.{IsWord}
 use Rattle.rings.specs.Windows.{AfterWindow, Begins}
 use Rattle.rings.proofs.TellingInTurn.{next_to_come}
-use Rattle.rings.proofs.HearingMessages.{new_behind, events_more, new_so_far, own_so_far}
+use Rattle.rings.proofs.HearingMessages.{new_behind, events_more}
 
 -- ---- lists
 

@@ -1,7 +1,6 @@
 -- What holds of each item of a list at its place.
-use Rattle.std.proofs.Common.{◌≡◌, ◌≢◌, ℕ, zero, suc, ◌<◌, List, [], ◌∷◌, ◌++◌, map, length, take, slice_set, Some, refl, ap, sym, subst, arith}
+use Rattle.std.proofs.Common.{◌≡◌, ◌≢◌, ℕ, zero, suc, List, [], ◌∷◌, ◌++◌, map, length, slice_set, Some, refl, sym, subst, arith}
 use Rattle.std.specs.List.{AllByRecursion, slice_get}
-use Rattle.std.proofs.Math.Seq.{take-append_seam}
 use Rattle.std.proofs.lemmas.Option.{none-some, same_Some}
 use Rattle.base.proofs.Rising.{all_append}
 
@@ -14,14 +13,6 @@ written_each P (z ∷ xs) zero y here others (suc j) x is = others (suc j) x (λ
 written_each P (z ∷ xs) (suc i) y here others zero x is = others 0 x (λ same. omega arith) is
 written_each P (z ∷ xs) (suc i) y here others (suc j) x is =
     written_each (λ k. P (suc k)) xs i y here (λ k w apart at. others (suc k) w (λ same. apart (omega arith)) at) j x is
-
--- places behind the one that is written are as they were
-pub written_behind : {X : Type 0} (xs : List X) (i j : ℕ) (y : X) → i < j → slice_get (slice_set xs i y) j ≡ slice_get xs j
-written_behind [] i j y behind = refl
-written_behind (z ∷ xs) zero zero y behind = absurd (omega arith)
-written_behind (z ∷ xs) zero (suc j) y behind = refl
-written_behind (z ∷ xs) (suc i) zero y behind = absurd (omega arith)
-written_behind (z ∷ xs) (suc i) (suc j) y behind = written_behind xs i j y (omega arith)
 
 -- in a list that has one more at its end
 pub pushed_each : {X : Type 0} (P : ℕ → X → Type 0) (xs : List X) (y : X) → ((j : ℕ) (x : X) → slice_get xs j ≡ Some x → P j x) → P (length xs) y
@@ -40,13 +31,3 @@ pub slice_get_behind : {X Y : Type 0} (f : X → Y) (xs : List X) (i : ℕ) (y :
 slice_get_behind f [] i y is = absurd (none-some y is)
 slice_get_behind f (x ∷ xs) zero y is = (x, refl, same_Some (f x) y is)
 slice_get_behind f (x ∷ xs) (suc i) y is = slice_get_behind f xs i y is
-
--- what a loop over a list has written once it is through is all of it
-pub all_written : {X : Type 0} (n : ℕ) (xs ys : List X) → length xs ≡ n → take n (xs ++ ys) ≡ xs
-all_written n xs ys many = subst (λ k. take k (xs ++ ys) ≡ xs) many (take-append_seam xs ys)
-
--- a list keeps its length where a place is written
-pub written_length : {X : Type 0} (xs : List X) (i : ℕ) (y : X) → length (slice_set xs i y) ≡ length xs
-written_length [] i y = refl
-written_length (z ∷ xs) zero y = refl
-written_length (z ∷ xs) (suc i) y = ap suc (written_length xs i y)

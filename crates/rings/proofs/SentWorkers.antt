@@ -51,7 +51,7 @@ taker_send β T P p s = search (end_send, heap.the_send, bell_sync, crosses, sen
 
 peer_send : (β : NamedLft) (K : RattleType) (k : of_run.Ghosts K.Denot) → IsSend (peer.the_row β K k)
 peer_send β K k =
-    let all : AllSend (shape (peer.the_type β K k)).fields = (search sendable, (sender_send β told.the_row _ _ told_send, (taker_send β told.the_row _ _ told_send, tt))) in
+    let all : AllSend (shape (peer.the_type β K k)).fields = (search sendable, (sender_send β told.the_row _ _ told_send, (taker_send β told.the_row _ _ told_send, (search (event_send, crosses, sendable) depth 60 fits 20000, tt)))) in
     declared_send (peer.the_type β K k) all
 
 lines_send : (β : NamedLft) (K : RattleType) (k : of_run.Ghosts K.Denot) → IsSend (lines.the_field β K k).row

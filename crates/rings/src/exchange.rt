@@ -19,7 +19,7 @@ use crate::word::Word;
 use base::{Fault, Memory, Moment};
 use member::Event;
 use round_windows::lesser;
-use std::alloc::Global;
+use std::alloc::{AllocError, Global};
 use std::sync::Wait;
 use windows::Part;
 use worker_queue::EventQueue;
@@ -80,25 +80,31 @@ pub(crate) fn hear_all<'b, K: OfRun, Q: EventQueue<Event> + Drop>(
             rows: theirs,
             ..
         } = word;
-        receive(part, events)?;
+        receive(part, &events)?;
+        peer.keep(events);
         first = lesser(first, least);
         rows = rows.saturating_add(theirs);
     }
     Ok(Heard { first, rows })
 }
 
-/// Lets these events come to the part.
-fn receive<Q: EventQueue<Event> + Drop>(
-    part: &mut Part<Q>,
-    events: Vec<Event>,
-) -> Result<(), Memory>
-    requires own { AllByRecursion (λ (e : AnEvent). is_own (world_of Q.set part.old) e.key.to ≡ true) events.items }
-    requires new { AreNew (world_of Q.set part.old).pending (map pair_of events.items) }
-    ensures come { OnOk result (world_of Q.set part.new ≡ with_arrivals (world_of Q.set part.old) (map pair_of events.items)) }
+/// Lets copies of these events come to the part. What a thread frees of another's memory keeps that
+/// one waiting, so each frees its own.
+fn receive<Q: EventQueue<Event> + Drop>(part: &mut Part<Q>, events: &[Event]) -> Result<(), Memory>
+    requires own { AllByRecursion (λ (e : AnEvent). is_own (world_of Q.set part.old) e.key.to ≡ true) events.now }
+    requires new { AreNew (world_of Q.set part.old).pending (map pair_of events.now) }
+    ensures come { OnOk result (world_of Q.set part.new ≡ with_arrivals (world_of Q.set part.old) (map pair_of events.now)) }
     ensures number { OnOk result (part.new.number ≡ part.old.number) }
 {
     for event in events {
-        part.receive(event)?;
+        part.receive(copied(event)?)?;
     }
     Ok(())
+}
+
+/// The same event in memory of this thread.
+fn copied(event: &Event) -> Result<Event, AllocError>
+    ensures { IfOk result (λ copy. copy ≡ event.now) }
+{
+    event.clone()
 }

@@ -16,6 +16,7 @@ use crate::word::{Told, Word};
 use base::{Fault, Memory, Moment};
 use member::Event;
 use std::alloc::Global;
+use std::mem;
 use std::sync::Wait;
 
 /// How many messages a ring has room for. A worker is no more than a round ahead of another, so
@@ -29,6 +30,8 @@ pub(crate) struct Peer<'b, K: OfRun> {
     pub(crate) number: usize,
     to: Sender<'b, Told, Words<K>>,
     from: Taker<'b, Told, Words<K>>,
+    // what the other sent last: it goes back, so that who took its memory frees it
+    spent: Vec<Event>,
 }
 
 /// What a worker tells each other of its round.
@@ -79,11 +82,13 @@ fn joined<'b, K: OfRun>(
             number: other,
             to,
             from,
+            spent: Vec::new(alloc),
         })?;
         others.push(Peer {
             number,
             to: back,
             from: there,
+            spent: Vec::new(alloc),
         })?;
     }
     Ok(peers)
@@ -110,8 +115,16 @@ impl<'b, K: OfRun> Peer<'b, K> {
             events,
             least: telling.least,
             rows: telling.rows,
+            spent: mem::replace(&mut self.spent, Vec::new(alloc)),
         };
         self.to.send_at_once(Told::Word(word))
+    }
+
+    /// Keeps what the other worker sent until the next word to it.
+    pub(crate) fn keep(&mut self, spent: Vec<Event>)
+        ensures number { self.new.number ≡ self.old.number }
+    {
+        self.spent = spent;
     }
 
     /// Tells the other worker that this one has ended by the fault.
@@ -157,7 +170,7 @@ fn taken_out(alloc: Global, lists: &mut Vec<Vec<Event>>, place: usize) -> Vec<Ev
     ensures others { (i : ℕ) → i ≢ place → slice_get lists.new.items i ≡ slice_get lists.old.items i }
 {
     match lists.get_mut(place) {
-        Some(list) => std::mem::replace(list, Vec::new(alloc)),
+        Some(list) => mem::replace(list, Vec::new(alloc)),
         None => Vec::new(alloc),
     }
 }

@@ -12,6 +12,8 @@ pub struct Word {
     pub round: u64,
     /// The events that went out of the window for members of that part.
     pub events: Vec<Event>,
+    /// What the other sent before, which is done with: its memory goes back to the thread that took it.
+    pub spent: Vec<Event>,
     /// The least moment of what pends in the part after its window, or went out of it. None where there is none.
     pub least: Option<Moment>,
     /// How many rows the window wrote.

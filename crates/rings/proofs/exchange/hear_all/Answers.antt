@@ -1,4 +1,11 @@
-use Rattle.std.proofs.Common.{ap, ◌∙◌, refl, subst, arith}
+use Rattle.std.proofs.Common.{◌≡◌, true, map, ap, ◌∙◌, refl, sym, subst, arith}
+use Rattle.std.specs.List.{AllByRecursion}
+use Rattle.base.specs.Rising.{AreNew}
+use Rattle.member.specs.declared.event.Event.{Event}
+use Rattle.member.specs.StateOf.{pair_of}
+use Rattle.windows.specs.Parts.{with_arrivals}
+use Rattle.windows.specs.Window.{is_own}
+use Rattle.windows.specs.WorldOf.{world_of}
 use Rattle.rings.specs.declared.peers.Peer.{Peer}
 use Rattle.rings.specs.Peers.{numbers_of}
 use Rattle.rings.proofs.TellingInTurn.{numbers_stay, numbers_back, none_to_come}
@@ -17,27 +24,31 @@ pub receive-requires-clause-own : goal.receive-requires-clause-own
 receive-requires-clause-own g c =
     let basis = c.requires.run.0 in
     let run = c.requires.run.1 in
+    let part = c.loop-peer.part in
+    subst (AllByRecursion (λ (e : Event). is_own (world_of g.Q.EventQueue.set part) e.key.to ≡ true)) (sym c.deref.ensures.value) (
     word_own g.Q.EventQueue.set basis c.args.told.from c.args.told.round c.args.told.least (numbers_of c.args.peers.now.items) (c.requires.window basis run).0 (c.requires.others basis run)
     (λ (peer : Peer g.row.K.Denot). peer.number) c.loop-peer.peer-items c.loop-peer.peer-index c.peer-item.result c.loop-peer.invariant.numbers (omega arith) c.loop-peer.part c.loop-peer.first
-    (c.loop-peer.invariant.heard basis run) c.in_ok-word.word (c.in_ok-word.ensures.word basis run) c.in_ok-word.ensures.place (c.requires.own basis run)
+    (c.loop-peer.invariant.heard basis run) c.in_ok-word.word (c.in_ok-word.ensures.word basis run) c.in_ok-word.ensures.place (c.requires.own basis run))
 
 pub receive-requires-clause-new : goal.receive-requires-clause-new
 receive-requires-clause-new g c =
     let basis = c.requires.run.0 in
     let run = c.requires.run.1 in
+    let part = c.loop-peer.part in
+    subst (λ es. AreNew (world_of g.Q.EventQueue.set part).pending (map pair_of es)) (sym c.deref.ensures.value) (
     word_new g.Q.EventQueue.set basis c.args.told.from c.args.told.round c.args.told.least (numbers_of c.args.peers.now.items) (c.requires.window basis run).0 (c.requires.others basis run)
     (λ (peer : Peer g.row.K.Denot). peer.number) c.loop-peer.peer-items c.loop-peer.peer-index c.peer-item.result c.loop-peer.invariant.numbers (omega arith) c.loop-peer.part c.loop-peer.first
-    (c.loop-peer.invariant.heard basis run) c.in_ok-word.word (c.in_ok-word.ensures.word basis run) c.in_ok-word.ensures.place
+    (c.loop-peer.invariant.heard basis run) c.in_ok-word.word (c.in_ok-word.ensures.word basis run) c.in_ok-word.ensures.place)
 
 pub loop-peer-preserved : goal.loop-peer-preserved
 loop-peer-preserved g c = record {
   numbers =
-      numbers_stay (λ (peer : Peer g.row.K.Denot). peer.number) c.loop-peer.peer-items _ c.loop-peer.peer-index c.peer-item.result c.hear.new.self c.loop-peer.invariant.numbers c.hear.ensures.number;
+      numbers_stay (λ (peer : Peer g.row.K.Denot). peer.number) c.loop-peer.peer-items _ c.loop-peer.peer-index c.peer-item.result c.keep.new.self c.loop-peer.invariant.numbers (c.keep.ensures.number ∙ c.hear.ensures.number);
   heard = λ basis run.
       word_heard g.Q.EventQueue.set basis c.args.told.from c.args.told.round c.args.told.least (numbers_of c.args.peers.now.items) (c.requires.window basis run).0 (c.requires.others basis run)
       (λ (peer : Peer g.row.K.Denot). peer.number) c.loop-peer.peer-items c.loop-peer.peer-index c.peer-item.result c.loop-peer.invariant.numbers (omega arith) c.loop-peer.part c.loop-peer.first
       (c.loop-peer.invariant.heard basis run) c.in_ok-word.word (c.in_ok-word.ensures.word basis run) c.in_ok-word.ensures.place
-      c.receive.new.part c.lesser-first.result c.in_ok-receive.ensures.come c.lesser-first.ensures;
+      c.receive.new.part c.lesser-first.result (c.in_ok-receive.ensures.come ∙ ap (λ es. with_arrivals (world_of g.Q.EventQueue.set c.loop-peer.part) (map pair_of es)) c.deref.ensures.value) c.lesser-first.ensures;
   number = c.in_ok-receive.ensures.number ∙ c.loop-peer.invariant.number;
 }
 

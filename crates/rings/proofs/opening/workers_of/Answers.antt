@@ -4,12 +4,13 @@ use Rattle.std.proofs.lemmas.List.{length-append, length-map}
 use Rattle.std.proofs.lemmas.Option.{slice_get_read}
 use Rattle.member.specs.Opening.{opening}
 use Rattle.rounds.specs.Starts.{IsFirstMoment}
+use Rattle.turns.proofs.Coming.{same_count, elsewhere}
 use Rattle.rings.specs.declared.peers.Peer.{Peer}
 use Rattle.rings.specs.declared.worker.Worker.{Worker}
 use Rattle.rings.specs.Peers.{AreJoined, AreOthers, numbers_of}
 use Rattle.rings.specs.Starting.{MayWork}
 use Rattle.rings.proofs.Joining.{rings_of, joined_there}
-use Rattle.rings.proofs.JoiningPlaces.{all_with_one, written_behind, written_length}
+use Rattle.rings.proofs.JoiningPlaces.{all_with_one}
 use Rattle.rings.proofs.PeersOpening.{may_work}
 use Rattle.rings.proofs.opening.workers_of.Goals as goal
 
@@ -51,8 +52,8 @@ loop-part-preserved g c =
       left = append_assoc yielded (part ∷ []) rest ∙ all;
       count = omega (arith, c.in_ok-push.ensures.len, more, so_far.count);
       takers = omega (arith, c.in_ok-push-2.ensures.len, more, so_far.takers);
-      rings = written_length peers number c.replace-own.new.dest ∙ so_far.rings;
-      others = λ i peers low here. so_far.others i peers (omega (arith, more)) (sym (written_behind c.loop-part.peers.items number i c.replace-own.new.dest (omega (arith, more))) ∙ here);
+      rings = same_count peers number c.replace-own.new.dest ∙ so_far.rings;
+      others = λ i peers low here. so_far.others i peers (omega (arith, more)) (sym (elsewhere c.loop-part.peers.items number i c.replace-own.new.dest (λ same. omega (arith, more))) ∙ here);
       workers = λ basis is.
           let given = c.requires.run basis is in
           all_with_one (MayWork g.Q.EventQueue.set basis) c.loop-part.workers.items c.push.new.self.items worker c.in_ok-push.ensures.items (so_far.workers basis is)

@@ -1,10 +1,11 @@
 use Rattle.std.proofs.Common.{◌≡◌, List, Vec, Global, drop, get_or, length, ap, ◌∙◌, sym, subst, refl, arith}
 use Rattle.std.specs.List.{slice_get}
 use Rattle.std.proofs.lemmas.Option.{slice_get-get_or, slice_get_within}
+use Rattle.turns.proofs.Coming.{elsewhere}
+use Rattle.turns.proofs.RowOrders.{all_written}
 use Rattle.rings.specs.declared.peers.Peer.{Peer}
 use Rattle.rings.specs.Peers.{numbers_of}
 use Rattle.rings.proofs.JoiningNumbers.{HaveNumbersBelow}
-use Rattle.rings.proofs.JoiningPlaces.{written_behind, all_written}
 use Rattle.rings.proofs.Joining.{others_of_last, own_more, joined_more, joined_there}
 use Rattle.rings.proofs.peers.joined.Goals as goal
 
@@ -14,14 +15,14 @@ loop-other-preserved g c =
     let other = c.loop-other.other in
     let item = get_or c.loop-other.others-items other c.others-item.result in
     let here = slice_get-get_or c.loop-other.others-items other c.others-item.result (omega arith) in
-    let to : Peer g.row.K.Denot = record { number = other; to = c.in_ok-to.to; from = c.in_ok-back.from } in
-    let back : Peer g.row.K.Denot = record { number = c.len-number.result; to = c.in_ok-back.back; from = c.in_ok-to.there } in
+    let to : Peer g.row.K.Denot = record { number = other; to = c.in_ok-to.to; from = c.in_ok-back.from; spent = c.new.result } in
+    let back : Peer g.row.K.Denot = record { number = c.len-number.result; to = c.in_ok-back.back; from = c.in_ok-to.there; spent = c.new-in-loop-other.result } in
     record {
       own = own_more other c.loop-other.peers.items c.push.new.self.items to c.loop-other.invariant.own c.in_ok-push.ensures.items refl;
       done =
           joined_more (length before) other c.loop-other.others-items item c.push-in-loop-other.new.self back (omega arith)
           (joined_there (length before) other before item c.requires.joined (sym (c.loop-other.invariant.rest other (omega arith)) ∙ here)) c.in_ok-push-2.ensures.items (omega (arith, c.len-number.ensures, c.args.before.now.ok.0)) c.loop-other.invariant.done;
-      rest = λ i past. written_behind c.loop-other.others-items other i _ (omega arith) ∙ c.loop-other.invariant.rest i (omega arith);
+      rest = λ i past. elsewhere c.loop-other.others-items other i _ (λ same. omega arith) ∙ c.loop-other.invariant.rest i (omega arith);
     }
 
 pub returns-clause-before : goal.returns-clause-before
