@@ -1,17 +1,15 @@
 -- Lists of the members' parts: those that are divisions, and those that the items of a list name.
 use Rattle.std.proofs.Common.{◌≡◌, ◌%◌, ◌<◌, ◌≤◌, ℕ, zero, suc, true, false, List, [], ◌∷◌, Result, Ok, All, map, fold, max, length, get_or, nat_le, nat_eq, decimal, refl, sym, ap, subst, ◌∙◌, arith}
-use Rattle.std.specs.List.{range_with_len}
 use Rattle.std.proofs.lemmas.Bool.Decides.{nat_tests}
 use Rattle.std.proofs.lemmas.List.Elements.{All-head, All-tail}
 use Rattle.std.proofs.lemmas.List.{length-map}
-use Rattle.std.proofs.lemmas.List.FromFn.{length-map-range_with_len}
 use Rattle.scenario.specs.Division.{divided, has_part_past}
 use Rattle.scenario.specs.Division.{Deal}
 use Rattle.scenario.specs.declared.division.DivisionFault.{DivisionFault}
 use Rattle.command_line.specs.Failures.{IsFaultOf}
 use Rattle.command_line.specs.declared.failure.Failure.{Failure}
 use Rattle.command_line.specs.declared.failure.Failure.TheVariants as failure
-use Rattle.command_line.specs.Division.{AreParts, in_turn, past_greatest}
+use Rattle.command_line.specs.Division.{AreParts, past_greatest}
 use Rattle.arguments.specs.Numbers.{IsNumber}
 
 -- a division of as many members as there are numbers, which are all below the number of parts
@@ -22,20 +20,6 @@ fits members parts xs some few each below =
     let high : nat_le parts 64 ≡ true = grind (arith, nat_tests) in
     let same : nat_eq (length xs) members ≡ true = grind (arith, nat_tests) in
     rw (low, high, same, below) refl
-
-remainders : (parts : ℕ) (xs : List ℕ) → 1 ≤ parts → has_part_past parts (map (λ m. m % parts) xs) ≡ false
-remainders parts [] some = refl
-remainders parts (x ∷ xs) some =
-    let lt : x % parts < parts = omega arith in
-    let test : nat_le parts (x % parts) ≡ false = grind (arith, nat_tests) in
-    rw test (remainders parts xs some)
-
--- dealing in turn is a division
-pub turns_divide : (members parts : ℕ) → 1 ≤ parts → parts ≤ 64
-    → divided members parts (map (λ m. m % parts) (range_with_len 0 members)) ≡ Ok (in_turn members parts)
-turns_divide members parts some few =
-    fits members parts (map (λ m. m % parts) (range_with_len 0 members)) some few
-    (length-map-range_with_len (λ m. m % parts) 0 members) (remainders parts (range_with_len 0 members) some)
 
 -- the greatest is over the first, and over each other
 over_first : (xs : List ℕ) (a : ℕ) → a ≤ fold max a xs
@@ -80,12 +64,6 @@ no_parts items k word inside at none numbers parts =
     let here : word ≡ get_or (map decimal numbers) k word = subst (λ (l : List (List ℕ)). word ≡ get_or l k word) same at in
     let number = named numbers k word there here parts.low in
     none number.0 number.1
-
--- the same of the list that was made for a number of members
-pub dealt : (members count parts : ℕ) (xs : List ℕ) → count ≡ members → xs ≡ map (λ m. m % parts) (range_with_len 0 count) → 1 ≤ parts → parts ≤ 64
-    → divided members parts xs ≡ Ok (in_turn members parts)
-dealt members count parts xs same is some few =
-    ap (divided members parts) (is ∙ ap (λ n. map (λ m. m % parts) (range_with_len 0 n)) same) ∙ turns_divide members parts some few
 
 -- what is a division has no fault
 pub faultless : (answer : Result Deal DivisionFault) (deal : Deal) → answer ≡ Ok deal → (failure : Failure) → IsFaultOf answer failure → ⊥

@@ -1,10 +1,9 @@
 -- How the members are divided into parts, and how many workers there are, by the words that say so.
-use Rattle.std.specs.Prelude.{◌≡◌, ◌≢◌, ℕ, ◌≤◌, ◌+◌, ◌%◌, max, List, Option, Some, None, All, map, fold, length}
+use Rattle.std.specs.Prelude.{◌≡◌, ◌≢◌, ℕ, ◌≤◌, ◌+◌, max, List, Option, Some, None, All, map, fold, length}
 use Rattle.std.specs.Fmt.{decimal}
-use Rattle.std.specs.List.{range_with_len}
 use Rattle.clap.specs.Words.{Text}
 use Rattle.decimals.specs.Items.{list_items}
-use Rattle.scenario.specs.Division.{Deal}
+use Rattle.scenario.specs.Division.{Deal, in_turn}
 use Rattle.scenario.specs.declared.division.DivisionFault.{DivisionFault}
 use Rattle.scenario.specs.declared.division.DivisionFault.TheVariants as fault
 use Rattle.arguments.specs.Numbers.{IsNumber}
@@ -19,10 +18,6 @@ IsCount = IsNumber 1 64
 abbrev pub AsksForWorkers : Option Text → ℕ → Type 0
 AsksForWorkers None workers = workers ≡ 1
 AsksForWorkers (Some word) workers = IsCount word workers
-
--- member m in part m mod the number of parts
-abbrev pub in_turn : ℕ → ℕ → Deal
-in_turn members parts = record { parts = parts; part_of = map (λ m. m % parts) (range_with_len 0 members) }
 
 -- the items are the numbers of parts, which are at most 63
 pub record AreParts (items : List Text) (numbers : List ℕ) : Type 0 where

@@ -1,17 +1,16 @@
 //! How the members are divided into parts, and how many workers there are, by the words that say so.
-ghost use Rattle.std.specs.Prelude.{◌≡◌, ℕ, ◌≤◌, Ok, option_map, map, IfOk, IfErr, IfSome, IsNone, ◌%◌, length};
-ghost use Rattle.std.specs.List.{range_with_len};
+ghost use Rattle.std.specs.Prelude.{◌≡◌, ℕ, ◌≤◌, Ok, option_map, IfOk, IfErr, IfSome, IsNone, length};
 ghost use Rattle.decimals.specs.Items.{list_items};
 ghost use Rattle.scenario.specs.Setup.{member_count};
-ghost use Rattle.scenario.specs.Division.{divided};
-ghost use Rattle.command_line.specs.Division.{AreParts, AsksForWorkers, Divides, DividesByList, IsCount, in_turn, past_greatest};
+ghost use Rattle.scenario.specs.Division.{divided, in_turn};
+ghost use Rattle.command_line.specs.Division.{AreParts, AsksForWorkers, Divides, DividesByList, IsCount, past_greatest};
 ghost use Rattle.command_line.specs.Failures.{IsFaultOf, RefusesDivision, RefusesItems, RefusesList, RefusesWorkers};
 
 use crate::failure::Failure;
 use crate::words::Split;
 use arguments::number_within;
 use scenario::{Division, DivisionFault, Scenario, Workers};
-use std::alloc::{AllocError, Global};
+use std::alloc::Global;
 
 /// The most parts of a division, and the most workers.
 const MOST: u64 = 64;
@@ -84,22 +83,10 @@ fn deal(alloc: Global, scenario: &Scenario, parts: usize) -> Result<Division, Fa
     ensures divided { IfOk result (λ division. division ≡ in_turn (member_count scenario.now) parts) }
     ensures refused { IfErr result (λ failure. failure ≡ Failure.Memory) }
 {
-    let part_of = match parts_in_turn(alloc, scenario.members(), parts) {
-        Ok(part_of) => part_of,
-        Err(_) => return Err(Failure::Memory),
-    };
-    divide(scenario, parts, part_of)
-}
-
-/// The part of each of so many members, where they are dealt to so many parts in turn.
-fn parts_in_turn(alloc: Global, members: usize, parts: usize) -> Result<Vec<u8>, AllocError>
-    requires some { 1 ≤ parts }
-    requires at_most_64 { parts ≤ 64 }
-    ensures { IfOk result (λ part_of. part_of.items ≡ map (λ m. m % parts) (range_with_len 0 members)) }
-{
-    (0..members)
-        .map(|member| (member % parts) as u8)
-        .collect(alloc)
+    match Division::in_turn(alloc, scenario, parts) {
+        Ok(division) => Ok(division),
+        Err(_) => Err(Failure::Memory),
+    }
 }
 
 /// Deals each member to the part that its item of a list names, items being parted by commas.

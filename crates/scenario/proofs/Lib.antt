@@ -2,3 +2,4 @@ pub mod Names
 pub mod Between
 pub mod Members
 pub mod Pauses
+pub mod Turns

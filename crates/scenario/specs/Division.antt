@@ -1,6 +1,6 @@
 -- Divisions of the members into parts, and numbers of workers.
-use Rattle.std.specs.Prelude.{◌≡◌, ℕ, ◌≤◌, List, Bool, false, not, ◌&&◌, if◌then◌else◌, Option, Some, None, Result, Ok, Err, nat_le, nat_eq, length}
-use Rattle.std.specs.List.{list_any}
+use Rattle.std.specs.Prelude.{◌≡◌, ℕ, ◌≤◌, ◌%◌, List, Bool, false, not, ◌&&◌, if◌then◌else◌, Option, Some, None, Result, Ok, Err, nat_le, nat_eq, length, map}
+use Rattle.std.specs.List.{list_any, range_with_len}
 use Rattle.scenario.specs.declared.division.Division.TheInside.{Inside}
 use Rattle.scenario.specs.declared.division.DivisionFault.{DivisionFault}
 use Rattle.scenario.specs.declared.division.DivisionFault.TheVariants.{Parts, Length, PartNumber}
@@ -26,6 +26,10 @@ divided members parts part_of =
     else if not (nat_eq (length part_of) members) then Err Length
     else if has_part_past parts part_of then Err PartNumber
     else Ok (record { parts = parts; part_of = part_of })
+
+-- member m in part m mod the number of parts
+abbrev pub in_turn : ℕ → ℕ → Deal
+in_turn members parts = record { parts = parts; part_of = map (λ m. m % parts) (range_with_len 0 members) }
 
 -- 1 to 64 workers
 abbrev pub workers_of : ℕ → Option ℕ

@@ -1,11 +1,12 @@
 //! How the members are divided into parts, and how many workers run them.
-ghost use Rattle.std.specs.Prelude.{◌≡◌, ◌<◌, ◌≤◌, length, Some, None};
-ghost use Rattle.std.specs.List.{slice_get};
+ghost use Rattle.std.specs.Prelude.{◌≡◌, ◌<◌, ◌≤◌, ◌%◌, IfOk, length, map, Some, None};
+ghost use Rattle.std.specs.List.{range_with_len, slice_get};
 ghost use Rattle.scenario.specs.Setup.{member_count};
-ghost use Rattle.scenario.specs.Division.{divided, has_part_past, workers_of};
+ghost use Rattle.scenario.specs.Division.{divided, in_turn, has_part_past, workers_of};
 
 use crate::scenario::Scenario;
-use base::MemberId;
+use base::{MemberId, Memory};
+use std::alloc::{AllocError, Global};
 use std::marker::Model;
 use thiserror::Error;
 
@@ -63,6 +64,15 @@ impl Division {
         Ok(Division { parts, part_of })
     }
 
+    /// Puts the members in turn into so many parts, 1 to 64.
+    pub fn in_turn(alloc: Global, scenario: &Scenario, parts: usize) -> Result<Division, Memory>
+        requires few { (1 ≤ parts) × (parts ≤ 64) }
+        ensures { IfOk result (λ division. division ≡ in_turn (member_count scenario.now) parts) }
+    {
+        let part_of = numbers_in_turn(alloc, scenario.members(), parts)?;
+        Ok(Division { parts, part_of })
+    }
+
     /// How many parts there are: 1 to 64.
     pub fn parts(&self) -> usize
         ensures value { result ≡ self.now.parts }
@@ -86,6 +96,16 @@ impl Division {
     {
         self.part_of[member.index()] as usize
     }
+}
+
+/// So many of the numbers from 0, which begin again where they come to the limit.
+fn numbers_in_turn(alloc: Global, count: usize, limit: usize) -> Result<Vec<u8>, AllocError>
+    requires few { (1 ≤ limit) × (limit ≤ 64) }
+    ensures { IfOk result (λ numbers. numbers.items ≡ map (λ n. n % limit) (range_with_len 0 count)) }
+{
+    (0..count)
+        .map(|number| (number % limit) as u8)
+        .collect(alloc)
 }
 
 /// Whether a part number isn't below the number of parts.

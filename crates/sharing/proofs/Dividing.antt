@@ -1,11 +1,13 @@
 -- Lists of the members' parts that are divisions.
-use Rattle.std.proofs.Common.{◌≡◌, ◌%◌, ◌<◌, ◌≤◌, ℕ, true, false, List, Ok, All, map, length, nat_le, nat_eq, refl, ap, ◌∙◌, arith}
+use Rattle.std.proofs.Common.{◌≡◌, ◌%◌, ◌<◌, ◌≤◌, ℕ, true, false, List, Ok, All, length, nat_le, nat_eq, refl, arith}
 use Rattle.std.specs.List.{range_with_len}
 use Rattle.std.proofs.lemmas.Bool.Decides.{nat_tests}
 use Rattle.std.proofs.lemmas.List.Elements.{All-weaker, All-map}
 use Rattle.std.proofs.lemmas.List.FromFn.{length-map-range_with_len}
 use Rattle.std.proofs.lemmas.List.Folds.{list_any_none}
-use Rattle.scenario.specs.Division.{divided, has_part_past}
+use Rattle.scenario.specs.Setup.{Setup, member_count}
+use Rattle.scenario.specs.Division.{Deal, divided, in_turn, has_part_past}
+use Rattle.sharing.specs.Parts.{Divides}
 
 -- where each is below the number of parts none is past it
 none_past : (parts : ℕ) (xs : List ℕ) → All (λ part. part < parts) xs → has_part_past parts xs ≡ false
@@ -22,10 +24,10 @@ divides members parts xs some few each below =
     let same : nat_eq (length xs) members ≡ true = grind (arith, nat_tests) in
     rw (low, high, same, none_past parts xs below) refl
 
--- numbers in turn are as many as were asked for, each below the limit
-pub as_many : (count limit : ℕ) (xs : List ℕ) → xs ≡ map (λ n. n % limit) (range_with_len 0 count) → length xs ≡ count
-as_many count limit xs is = ap length is ∙ length-map-range_with_len (λ n. n % limit) 0 count
-
-pub below_limit : (count limit : ℕ) (xs : List ℕ) → 1 ≤ limit → xs ≡ map (λ n. n % limit) (range_with_len 0 count) → All (λ n. n < limit) xs
-below_limit count limit xs some is =
-    rw is (All-map (λ n. n < limit) (λ n. n % limit) (range_with_len 0 count) (λ k d h. omega arith))
+-- members in turn are divided
+pub turns_divide : (s : Setup) (deal : Deal) (parts : ℕ) → deal ≡ in_turn (member_count s) parts → 1 ≤ parts → Divides s parts deal
+turns_divide s deal parts is some = rw is (record {
+  one_each = length-map-range_with_len (λ m. m % parts) 0 (member_count s);
+  below = All-map (λ m. m < parts) (λ m. m % parts) (range_with_len 0 (member_count s)) (λ k d h. omega arith);
+  few = omega arith;
+})

@@ -3,11 +3,11 @@ ghost use Rattle.std.specs.Prelude.{◌≡◌, ◌<◌, ◌≤◌, IfOk, All, Ea
 ghost use Rattle.scenario.specs.Setup.{member_count, group_at};
 ghost use Rattle.sharing.specs.Parts.{AreSites, LeavesGroupsWhole, site_of};
 
-use crate::divisions::{divided, numbers_in_turn};
+use crate::divisions::divided;
 use base::{MemberId, Memory};
 use links::Links;
 use scenario::{Division, Scenario};
-use std::alloc::Global;
+use std::alloc::{AllocError, Global};
 use windows::Cluster;
 
 /// How many groups are looked at. Members of later ones go with those of the first.
@@ -49,11 +49,18 @@ fn sites_of_groups(
     requires few { length firsts.now ≤ 64 }
     ensures { IfOk result (λ sites. AreSites sites.items) }
 {
-    let mut sites = numbers_in_turn(alloc, MOST_GROUPS, MOST_GROUPS)?;
+    let mut sites = lone_groups(alloc)?;
     for (group, first) in firsts.iter().enumerate() {
         join_neighbours(&mut sites, firsts, links, ticks, group, *first);
     }
     Ok(sites)
+}
+
+/// Each group as a site of its own.
+fn lone_groups(alloc: Global) -> Result<Vec<u8>, AllocError>
+    ensures { IfOk result (λ sites. AreSites sites.items) }
+{
+    (0..MOST_GROUPS).map(|group| group as u8).collect(alloc)
 }
 
 /// Puts the groups to which this one has a short link into its site.
