@@ -23,13 +23,14 @@ use Rattle.sweep_until.specs.Until.{AreMadeFrom, IsMadeUntil, all_of}
 use Rattle.sweep_until.proofs.Enough.{some_enough}
 use Rattle.noted_lines.specs.Cases.{IsCase, piece_case}
 use Rattle.noted_lines.specs.Lines.{Line, IsLine, notes_of}
+use Rattle.noted_lines.proofs.Beginnings.{one_begins_with_other}
 use Rattle.noted_lines.proofs.Items.{cut_items}
 use Rattle.noted_lines.proofs.MadeLines.{case_from, cases_from, cases_in_piece, cases_sound}
 use Rattle.noted_lines.proofs.OneCase.{same_case}
 use Rattle.noted_lines.proofs.Read.{zipped_both}
 use Rattle.begun_cases.specs.Begun.{AreCasesBegun, IsBegunCases, RefusesBegunCases}
 use Rattle.begun_cases.specs.Cut.{IsCutPieceOfCases}
-use Rattle.begun_cases.proofs.CutLines.{cases_cut, either, whole_lines}
+use Rattle.begun_cases.proofs.CutLines.{cases_cut, whole_lines}
 use Rattle.begun_cases.proofs.Divisions.{no_lines, none_need}
 use Rattle.begun_cases.proofs.Encoded.{encoded_cases, encoded_lines, encoded_made}
 use Rattle.begun_cases.proofs.Standing.{no_front}
@@ -158,7 +159,7 @@ module _ (tree : Data) (mark : List ℕ) (sweep : Sweep) (width : ℕ) (p : Piec
 
   pub taken_for_one : ¬ (RefusesBegunCases revived mark sweep width p text begun_fault.Other)
   taken_for_one refused =
-      let stands = stands_by (either text cut.rest header table cut.written) in
+      let stands = stands_by (one_begins_with_other text cut.rest header table cut.written) in
       refused stands.0 stands.1 stands.2
 
   -- ---- and what goes on behind what stands there is the piece

@@ -10,25 +10,12 @@ use Rattle.sweep.specs.Resumed.{AreWholeLines, IsOneLine, fed}
 use Rattle.sweep_until.proofs.Enough.{no_longer}
 use Rattle.noted_lines.specs.Cases.{IsCase, piece_case}
 use Rattle.noted_lines.specs.Lines.{Line, IsLine, notes_of, piece_line}
+use Rattle.noted_lines.proofs.Beginnings.{one_begins_with_other}
 use Rattle.noted_lines.proofs.Bytes.{lacks_both, lacks_cons, note_lacks}
 use Rattle.begun_cases.specs.Begun.{NeedMore}
 use Rattle.begun_cases.proofs.Divisions.{all_front, none_need}
 use Rattle.begun_cases.proofs.Encoded.{IsEncoded}
 use Rattle.begun_cases.proofs.Standing.{no_front}
-
--- of two texts with which one text begins, one begins with the other
-pub either : (text rest header table : List ℕ) → text ++ rest ≡ header ++ table → ((more : List ℕ) × (text ≡ header ++ more)) ⊎ ((more : List ℕ) × (header ≡ text ++ more))
-either [] rest header table same = inr (header, refl)
-either (x ∷ text) rest [] table same = inl (x ∷ text, refl)
-either (x ∷ text) rest (y ∷ header) table same =
-    let first : x ≡ y = cc in
-    let later : text ++ rest ≡ header ++ table = cc in
-    on (either text rest header table later) first
-  where
-    on : ((more : List ℕ) × (text ≡ header ++ more)) ⊎ ((more : List ℕ) × (header ≡ text ++ more)) → x ≡ y
-        → ((more : List ℕ) × (x ∷ text ≡ y ∷ header ++ more)) ⊎ ((more : List ℕ) × (y ∷ header ≡ x ∷ text ++ more))
-    on (inl it) first = inl (it.0, (λ i. first i ∷ it.1 i))
-    on (inr it) first = inr (it.0, (λ i. sym first i ∷ it.1 i))
 
 -- ---- a line that is cut off
 
@@ -78,7 +65,7 @@ lines_cut : (lines : List Line) (text more : List ℕ) → All IsLine lines → 
 lines_cut [] text more sound same =
     record { front = []; back = []; split = refl; torn = []; cut = nothing_torn; written = no_front text more (sym same) }
 lines_cut (line ∷ lines) text more sound same =
-    on (λ left behind. lines_cut lines left more (All-tail IsLine line lines sound) behind) (either text more (piece_line line) (piece_case lines) same)
+    on (λ left behind. lines_cut lines left more (All-tail IsLine line lines sound) behind) (one_begins_with_other text more (piece_line line) (piece_case lines) same)
   where
     at_line : (left : List ℕ) → piece_line line ≡ text ++ left → (left ≡ []) ⊎ IsOneLine text → LinesCut (line ∷ lines) text
     at_line left is (inl none) = record {
@@ -154,7 +141,7 @@ module _ (width each : ℕ) where
     cases_cut [] text more are encoded same = no_cases_cut [] text (no_front text more (sym same))
     cases_cut (case ∷ cases) text more are encoded same =
         on (λ left behind. cases_cut cases left more (All-tail (IsCase width each) case cases are) (All-tail (All IsEncoded) case cases encoded) behind)
-        (either text more (piece_case case) (flat_map piece_case cases) same)
+        (one_begins_with_other text more (piece_case case) (flat_map piece_case cases) same)
       where
         first : IsCase width each case
         first = All-head (IsCase width each) case cases are

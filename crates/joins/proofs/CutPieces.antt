@@ -21,24 +21,11 @@ use Rattle.sweep.specs.declared.begun.BegunFault.TheVariants as begun_fault
 use Rattle.sweep.proofs.PieceCourse.{rest_is_whole}
 use Rattle.sweep.proofs.Steps.{zipped_long}
 use Rattle.noted_lines.specs.Made.{IsTellable}
+use Rattle.noted_lines.proofs.Beginnings.{one_begins_with_other}
 use Rattle.noted_lines.proofs.Bytes.{lacks_both, lacks_cons, note_lacks}
 use Rattle.noted_lines.proofs.MadeLines.{line_from, line_in_piece, line_sound}
 use Rattle.noted_lines.proofs.Read.{zipped_both}
 use Rattle.joins.specs.Genuine.{IsCutPiece}
-
--- of two texts with which one text begins, one begins with the other
-either : (text rest header table : List ℕ) → text ++ rest ≡ header ++ table → ((more : List ℕ) × (text ≡ header ++ more)) ⊎ ((more : List ℕ) × (header ≡ text ++ more))
-either [] rest header table same = inr (header, refl)
-either (x ∷ text) rest [] table same = inl (x ∷ text, refl)
-either (x ∷ text) rest (y ∷ header) table same =
-    let first : x ≡ y = cc in
-    let later : text ++ rest ≡ header ++ table = cc in
-    on (either text rest header table later) first
-  where
-    on : ((more : List ℕ) × (text ≡ header ++ more)) ⊎ ((more : List ℕ) × (header ≡ text ++ more)) → x ≡ y
-        → ((more : List ℕ) × (x ∷ text ≡ y ∷ header ++ more)) ⊎ ((more : List ℕ) × (y ∷ header ≡ x ∷ text ++ more))
-    on (inl it) first = inl (it.0, (λ i. first i ∷ it.1 i))
-    on (inr it) first = inr (it.0, (λ i. sym first i ∷ it.1 i))
 
 zipped_first : {X Y : Type 0} (R : X → Y → Type 0) (xs : List X) (ys : List Y) (n : ℕ) → AllZip R xs ys → AllZip R (take n xs) (take n ys)
 zipped_first R xs ys zero all = tt
@@ -141,7 +128,7 @@ module _ (tree : Data) (mark : List ℕ) (sweep : Sweep) (p : Piece) (made : Lis
           }
 
   pub taken_for_one : RefusesBegun revived mark sweep p text begun_fault.Other → ⊥
-  taken_for_one (inl apart) = on (either text cut.rest header (flat_map (noted_line revived) made) cut.written)
+  taken_for_one (inl apart) = on (one_begins_with_other text cut.rest header (flat_map (noted_line revived) made) cut.written)
     where
       on : ((more : List ℕ) × (text ≡ header ++ more)) ⊎ ((more : List ℕ) × (header ≡ text ++ more)) → ⊥
       on (inl it) = apart.no_more it.0 it.1

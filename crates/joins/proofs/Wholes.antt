@@ -1,25 +1,19 @@
 -- All pieces put together are the whole.
-use Rattle.std.proofs.Common.{◌≤◌, ◌*◌, ◌==◌, ℕ, Bool, List, [], ◌∷◌, not, length, drop, get_or, arith}
+use Rattle.std.proofs.Common.{◌≤◌, ℕ, Bool, List, [], ◌∷◌, arith}
 use Rattle.std.specs.Prelude.{Option, Some, None, Vec, All}
 use Rattle.std.specs.List.{AllZip}
 use Rattle.std.specs.declared.alloc.Global.{Global}
 use Rattle.std.specs.Io.KnownBytes.{Appends, Keeps}
-use Rattle.std.proofs.lemmas.List.{length-take}
 use Rattle.std.proofs.lemmas.List.Elements.{All-cons, All-head, All-nil, All-tail}
-use Rattle.std.proofs.lemmas.List.Sums.{count_by-le-length}
-use Rattle.std.proofs.lemmas.Option.{slice_get-get_or}
 use Rattle.trace.proofs.Beginnings.{Appends-then, Appends-kept}
 use Rattle.answers.specs.Wants.{HasFewRuns}
 use Rattle.cases.specs.Sweep.{Sweep, seed_count}
-use Rattle.figures.specs.Cases.{IsSummaryOf}
-use Rattle.figures.specs.Notes.{Note}
 use Rattle.figures.specs.declared.summary.CaseSummary.{CaseSummary}
 use Rattle.pieces.specs.declared.piece.Piece.{Piece}
 use Rattle.pieces.specs.Pieces.{whole}
 use Rattle.sweep.specs.Pieces.{piece_header}
 use Rattle.sweep.specs.Runs.{IsAskedFor}
-use Rattle.sweep.specs.Summaries.{SumUp, runs_of_case}
-use Rattle.sweep.proofs.Sizes.{few_runs}
+use Rattle.sweep.proofs.Sizes.{few_of, few_runs, few_with_all}
 use Rattle.noted_lines.specs.Lines.{Line, notes_of}
 use Rattle.noted_lines.specs.Cases.{IsCase, SumsUpLines}
 use Rattle.joins.specs.Joined.{AreOf, IsMark, Joins, JoinsBehind}
@@ -46,17 +40,6 @@ whole_joined texts mark revived sweep of asked marked some few old begun full ne
 }
 
 -- ---- how many runs cases have
-
-few_of : (case : CaseSummary) (runs : List Note) → length runs ≤ 1000000 → IsSummaryOf case runs → HasFewRuns case
-few_of case runs few is =
-    let all = is.all in
-    let with = is.with_thrown in
-    record { few = omega (arith, few, all); within = omega (arith, count_by-le-length (λ run. not (run.thrown_out == 0)) runs, all, with) }
-
-few_with_all : (each : ℕ) (notes : List Note) (cases : List CaseSummary) → each ≤ 1000000 → SumUp each notes cases → All HasFewRuns cases
-few_with_all each notes cases few told i d inside =
-    let size = length-take each (drop (i * each) notes) in
-    few_of (get_or cases i d) (runs_of_case each notes i) (omega (arith, size, few)) (told i (get_or cases i d) (slice_get-get_or cases i d inside))
 
 few_with_own : (width each : ℕ) (own : List (List Line)) (cases : List CaseSummary) → each ≤ 1000000 → All (IsCase width each) own → AllZip SumsUpLines own cases → All HasFewRuns cases
 few_with_own width each [] [] few sound told = All-nil HasFewRuns

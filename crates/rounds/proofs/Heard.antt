@@ -78,10 +78,13 @@ module _ {X : Type 0} (number : X → ℕ) (Is : X → Type 0) (window : (x : X)
   included (x ∷ xs) all n (inl same) = inl (named x all.0 ∙ same)
   included (x ∷ xs) all n (inr more) = inr (included xs all.1 n more)
 
+abbrev pub units : {X : Type 0} (xs : List X) → AllByRecursion (λ (x : X). Unit {0}) xs
+units [] = tt
+units (x ∷ xs) = (tt, units xs)
+
 -- ---- messages
 
-module _ (s : Setup) (d : Option ℕ) (division : ℕ → ℕ) (sound : IsSound s) (round : ℕ) (window : Window State Content Row) (messages : List Message) (mine : IsWindowOfRound s d division round window)
-    (others : AreOfAllOthers s d division window.part round messages) where
+module _ (s : Setup) (d : Option ℕ) (division : ℕ → ℕ) (sound : IsSound s) (round : ℕ) (window : Window State Content Row) (messages : List Message) (mine : IsWindowOfRound s d division round window) where
   abbrev owns : ℕ → Bool
   owns = is_in division window.part
 
@@ -97,29 +100,6 @@ module _ (s : Setup) (d : Option ℕ) (division : ℕ → ℕ) (sound : IsSound 
   named : (m : Message) (is : Told m) → is.window.part ≡ sender_of m
   named m is = is.sender
 
-  abbrev their : List (Window State Content Row)
-  their = windows_in sender_of Told told_window named messages others.each
-
-  abbrev windows : List (Window State Content Row)
-  windows = window ∷ their
-
-  are : AreWindowsOfDifferentParts (step s) division (λ part. bound) mine.world windows
-  are = record {
-    windows = (
-      mine.runs,
-      windows_hold sender_of Told told_window named (IsHere s d division sound round mine.start mine.world mine.first mine.in_round)
-          (λ m is. is_here s d division sound round mine.start mine.world mine.first mine.in_round is.window is.runs) messages others.each,
-    );
-    different = (numbers_in sender_of Told told_window named (λ n. window.part ≢ n) messages others.each others.others, differ_in sender_of Told told_window named messages others.each others.different);
-  }
-
-  all_there : IsWhole s division windows
-  all_there m low = either (others.complete m low)
-    where
-      either : (window.part ≡ division m) ⊎ IsOneOf sender_of messages (division m) → IncludesPart windows (division m)
-      either (inl same) = inl same
-      either (inr more) = inr (included sender_of Told told_window named messages others.each (division m) more)
-
   -- what went out for the part is what it is told
   their_events : (ms : List Message) (all : AllByRecursion Told ms) → for_own owns (all_out (windows_in sender_of Told told_window named ms all)) ≡ all_events ms
   their_events [] all = refl
@@ -128,11 +108,51 @@ module _ (s : Setup) (d : Option ℕ) (division : ℕ → ℕ) (sound : IsSound 
       ∙ ap (λ l. l ++ for_own owns (all_out (windows_in sender_of Told told_window named ms all.1))) (sym all.0.told)
       ∙ ap (λ l. m.events ++ l) (their_events ms all.1)
 
-  events_here : for_own owns (all_out windows) ≡ all_events messages
-  events_here =
-      filter-append (λ (e : Key × Content). owns e.0.to) window.out (all_out their)
-      ∙ ap (λ l. l ++ for_own owns (all_out their)) (own_of_run (step s) owns bound window.keys (part_of owns mine.world) window.after window.out window.rows mine.runs.run)
-      ∙ their_events messages others.each
+  -- ---- from some of the others
+
+  module _ (each : AllByRecursion Told messages) where
+    abbrev their : List (Window State Content Row)
+    their = windows_in sender_of Told told_window named messages each
+
+    abbrev windows : List (Window State Content Row)
+    windows = window ∷ their
+
+    events_here : for_own owns (all_out windows) ≡ all_events messages
+    events_here =
+        filter-append (λ (e : Key × Content). owns e.0.to) window.out (all_out their)
+        ∙ ap (λ l. l ++ for_own owns (all_out their)) (own_of_run (step s) owns bound window.keys (part_of owns mine.world) window.after window.out window.rows mine.runs.run)
+        ∙ their_events messages each
+
+    -- what they send is for members of the part
+    pub own_so_far : ((m : ℕ) → division m ≡ window.part → m < member_count s) → AllByRecursion (λ (e : Key × Content). is_own window.after e.0.to ≡ true) (all_events messages)
+    own_so_far below =
+        let whole = whole_before s sound mine.start mine.world mine.in_round.world in
+        let same = own_here s mine.world whole owns (λ m is. below m (eqb-true (division m) window.part is)) in
+        subst (AllByRecursion (λ (e : Key × Content). is_own window.after e.0.to ≡ true)) events_here
+        (all_weaker _ (λ (e : Key × Content). is_own window.after e.0.to ≡ true)
+        (λ e passes.
+        own_run (step s) owns bound window.keys (part_of owns mine.world) window.after window.out window.rows mine.runs.run e.0.to
+        ∙ ap (λ (f : ℕ → Bool). f e.0.to) same ∙ passes.0)
+        (for_own owns (all_out windows)) (all_kept (λ (e : Key × Content). owns e.0.to) (λ e. Unit {0}) (all_out windows) (units (all_out windows))))
+
+    module _ (others : AllByRecursion (λ (m : Message). window.part ≢ m.from) messages) (different : IsRising (λ (m n : Message). m.from ≢ n.from) messages) where
+      are : AreWindowsOfDifferentParts (step s) division (λ part. bound) mine.world windows
+      are = record {
+        windows = (
+          mine.runs,
+          windows_hold sender_of Told told_window named (IsHere s d division sound round mine.start mine.world mine.first mine.in_round)
+              (λ m is. is_here s d division sound round mine.start mine.world mine.first mine.in_round is.window is.runs) messages each,
+        );
+        different = (numbers_in sender_of Told told_window named (λ n. window.part ≢ n) messages each others, differ_in sender_of Told told_window named messages each different);
+      }
+
+      -- and new to the part
+      pub new_so_far : AreNew window.after.pending (all_events messages)
+      new_so_far =
+          let whole = whole_before s sound mine.start mine.world mine.in_round.world in
+          subst (AreNew window.after.pending) events_here
+          (recursion_from_All (λ (x : Window State Content Row). AreNew x.after.pending (for_own (is_in division x.part) (all_out windows))) windows
+          (sent_new s division (λ part. bound) mine.world windows sound whole.numbered are)).0
 
   -- ---- the least moment
 
@@ -147,62 +167,57 @@ module _ (s : Setup) (d : Option ℕ) (division : ℕ → ℕ) (sound : IsSound 
   upto_leasts t [] all upto = tt
   upto_leasts t (m ∷ ms) all upto = ((all.0.after t).1 upto.0, upto_leasts t ms all.1 upto.1)
 
-  module _ (lies : LiesBetweenParts s division d) where
-    common : IsCommonBound s.end d mine.world bound × (mine.start ≤ bound)
-    common = round_common s d round mine.start mine.world mine.first mine.in_round
+  -- ---- from all others
 
-    abbrev led : (v : Cluster) × Schedule (step s) (IsClearOf s division (between d)) mine.world (all_keys windows) (all_rows windows) v × StandsAfter division mine.world windows v × IsSoundCluster s v
-    led = there s d sound division lies mine.start bound mine.world windows mine.in_round.world common.1 common.0 are all_there
+  module _ (others : AreOfAllOthers s d division window.part round messages) where
+    abbrev all_windows : List (Window State Content Row)
+    all_windows = windows others.each
 
-    before_bound : IsWorldBefore s bound led.0
-    before_bound = world_there s d sound division lies mine.start bound mine.world windows mine.in_round.world common.1 common.0 are all_there
+    abbrev all_are : AreWindowsOfDifferentParts (step s) division (λ part. bound) mine.world all_windows
+    all_are = are others.each others.others others.different
 
-    has : (q : Key) → IsPending led.0 q → IncludesPart windows (division q.to)
-    has q here = all_there q.to (receiver_low s led.0 q (get led.0.pending q) led.3 refl here)
+    all_there : IsWhole s division all_windows
+    all_there m low = either (others.complete m low)
+      where
+        either : (window.part ≡ division m) ⊎ IsOneOf sender_of messages (division m) → IncludesPart all_windows (division m)
+        either (inl same) = inl same
+        either (inr more) = inr (included sender_of Told told_window named messages others.each (division m) more)
 
-    pends_first : (own next : Option ℕ) → IsLeastAfter window own → IsLeastOfAll own messages next → IsFirstMoment led.0 next
-    pends_first own next after all t = (
-      λ none.
-          let late = late_windows division mine.world led.0 windows led.2 t none in
-          (all t).0 ((after t).0 late.0, leasts_upto t messages others.each late.1),
-      λ upto.
-          let each = (all t).1 upto in
-          late_world division mine.world led.0 windows led.2 t ((after t).1 each.0, upto_leasts t messages others.each each.1) has,
-    )
+    module _ (lies : LiesBetweenParts s division d) where
+      common : IsCommonBound s.end d mine.world bound × (mine.start ≤ bound)
+      common = round_common s d round mine.start mine.world mine.first mine.in_round
 
-    pub next_round : (own next : Option ℕ) → IsLeastAfter window own → IsLeastOfAll own messages next → BeginsRound s d division window.part (round + 1) next (with_arrivals window.after (all_events messages))
-    next_round own next after all = record {
-      start = bound;
-      world = led.0;
-      in_round = record {
-        starts = next_start s d round mine.start mine.world mine.first mine.in_round;
-        world = before_bound;
-        pends = pends_first own next after all;
-      };
-      cut = ap (with_arrivals window.after) (sym events_here) ∙ sym led.2.parts.0;
-    }
+      abbrev led : (v : Cluster) × Schedule (step s) (IsClearOf s division (between d)) mine.world (all_keys all_windows) (all_rows all_windows) v × StandsAfter division mine.world all_windows v
+          × IsSoundCluster s v
+      led = there s d sound division lies mine.start bound mine.world all_windows mine.in_round.world common.1 common.0 all_are all_there
 
-  pub new_here : AreNew window.after.pending (all_events messages)
-  new_here =
-      let whole = whole_before s sound mine.start mine.world mine.in_round.world in
-      subst (AreNew window.after.pending) events_here
-      (recursion_from_All (λ (x : Window State Content Row). AreNew x.after.pending (for_own (is_in division x.part) (all_out windows))) windows
-      (sent_new s division (λ part. bound) mine.world windows sound whole.numbered are)).0
+      before_bound : IsWorldBefore s bound led.0
+      before_bound = world_there s d sound division lies mine.start bound mine.world all_windows mine.in_round.world common.1 common.0 all_are all_there
 
-  anything : (es : List (Key × Content)) → AllByRecursion (λ (e : Key × Content). Unit {0}) es
-  anything [] = tt
-  anything (e ∷ es) = (tt, anything es)
+      has : (q : Key) → IsPending led.0 q → IncludesPart all_windows (division q.to)
+      has q here = all_there q.to (receiver_low s led.0 q (get led.0.pending q) led.3 refl here)
 
-  pub own_events : ((m : ℕ) → division m ≡ window.part → m < member_count s) → AllByRecursion (λ (e : Key × Content). is_own window.after e.0.to ≡ true) (all_events messages)
-  own_events below =
-      let whole = whole_before s sound mine.start mine.world mine.in_round.world in
-      let same = own_here s mine.world whole owns (λ m is. below m (eqb-true (division m) window.part is)) in
-      subst (AllByRecursion (λ (e : Key × Content). is_own window.after e.0.to ≡ true)) events_here
-      (all_weaker _ (λ (e : Key × Content). is_own window.after e.0.to ≡ true)
-      (λ e passes.
-      own_run (step s) owns bound window.keys (part_of owns mine.world) window.after window.out window.rows mine.runs.run e.0.to
-      ∙ ap (λ (f : ℕ → Bool). f e.0.to) same ∙ passes.0)
-      (for_own owns (all_out windows)) (all_kept (λ (e : Key × Content). owns e.0.to) (λ e. Unit {0}) (all_out windows) (anything (all_out windows))))
+      pends_first : (own next : Option ℕ) → IsLeastAfter window own → IsLeastOfAll own messages next → IsFirstMoment led.0 next
+      pends_first own next after all t = (
+        λ none.
+            let late = late_windows division mine.world led.0 all_windows led.2 t none in
+            (all t).0 ((after t).0 late.0, leasts_upto t messages others.each late.1),
+        λ upto.
+            let each = (all t).1 upto in
+            late_world division mine.world led.0 all_windows led.2 t ((after t).1 each.0, upto_leasts t messages others.each each.1) has,
+      )
+
+      pub next_round : (own next : Option ℕ) → IsLeastAfter window own → IsLeastOfAll own messages next → BeginsRound s d division window.part (round + 1) next (with_arrivals window.after (all_events messages))
+      next_round own next after all = record {
+        start = bound;
+        world = led.0;
+        in_round = record {
+          starts = next_start s d round mine.start mine.world mine.first mine.in_round;
+          world = before_bound;
+          pends = pends_first own next after all;
+        };
+        cut = ap (with_arrivals window.after) (sym (events_here others.each)) ∙ sym led.2.parts.0;
+      }
 
 -- ---- one part
 

@@ -21,8 +21,8 @@ use Rattle.rounds.specs.Lots.{rows_of_part, IsLot}
 use Rattle.rounds.proofs.Worlds.{whole_before}
 use Rattle.rounds.proofs.Bounded.{rising_last, rows_less, rows_there, rows_moved, known_there}
 use Rattle.rounds.proofs.Turns.{next_start, round_common, some_round}
-use Rattle.rounds.proofs.Heard.{windows_hold, differ_in, included}
-use Rattle.rounds.proofs.OwnRows.{by_places, places_order, rows_once, kept_same, is_in_range, range_differs, units, window_at, window_runs, named_at, windows_at, own_at, less_at_most, some_window}
+use Rattle.rounds.proofs.Heard.{units, windows_hold, differ_in, included}
+use Rattle.rounds.proofs.OwnRows.{by_places, places_order, rows_once, kept_same, is_in_range, range_differs, window_at, window_runs, named_at, windows_at, own_at, less_at_most, some_window}
 
 module _ (s : Setup) (d : Option ℕ) (division : ℕ → ℕ) (parts round : ℕ) (window : Window State Content Row) (sound : IsSound s) (lies : LiesBetweenParts s division d)
     (below : (m : ℕ) → m < member_count s → division m < parts) (low : window.part < parts) (mine : IsWindowOfRound s d division round window) where

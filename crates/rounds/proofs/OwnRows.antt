@@ -41,7 +41,7 @@ use Rattle.windows.proofs.Wholes.{pending_in}
 use Rattle.rounds.specs.Messages.{IsOneOf}
 use Rattle.rounds.specs.Lots.{rows_of_part}
 use Rattle.rounds.proofs.Until.{AreEarly, one_until, until_exists}
-use Rattle.rounds.proofs.Heard.{windows_in}
+use Rattle.rounds.proofs.Heard.{units, windows_in}
 
 -- ---- an order of rows by their places alone
 
@@ -187,10 +187,6 @@ range_past b a (suc n) past = (λ same. omega arith, range_past b (a + 1) n (ome
 pub range_differs : (a n : ℕ) → IsRising (λ (k l : ℕ). k ≢ l) (range_with_len a n)
 range_differs a zero = tt
 range_differs a (suc n) = (range_past a (a + 1) n (omega arith), range_differs (a + 1) n)
-
-abbrev pub units : (xs : List ℕ) → AllByRecursion (λ (k : ℕ). Unit {0}) xs
-units [] = tt
-units (x ∷ xs) = (tt, units xs)
 
 -- ---- the windows of all parts
 

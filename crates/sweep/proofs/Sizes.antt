@@ -1,12 +1,20 @@
 -- How many runs a case has.
-use Rattle.std.proofs.Common.{ℕ, ◌<◌, ◌≤◌, List, [], ◌∷◌, Option, Some, None, length, arith}
+use Rattle.std.proofs.Common.{ℕ, ◌<◌, ◌≤◌, ◌*◌, ◌==◌, List, [], ◌∷◌, Option, Some, None, not, length, drop, get_or, arith}
 use Rattle.std.specs.Prelude.{All}
 use Rattle.std.proofs.lemmas.Nat.{mul-le}
+use Rattle.std.proofs.lemmas.List.{length-take}
 use Rattle.std.proofs.lemmas.List.Elements.{All-head, All-tail}
+use Rattle.std.proofs.lemmas.List.Sums.{count_by-le-length}
+use Rattle.std.proofs.lemmas.Option.{slice_get-get_or}
+use Rattle.answers.specs.Wants.{HasFewRuns}
 use Rattle.cases.specs.Asked.{AsksForSeeds, IsSetting}
 use Rattle.cases.specs.Sweep.{KeyValues, Sweep, case_count, seed_count}
 use Rattle.cases.specs.declared.seeds.Seeds.{Seeds}
+use Rattle.figures.specs.Cases.{IsSummaryOf}
+use Rattle.figures.specs.Notes.{Note}
+use Rattle.figures.specs.declared.summary.CaseSummary.{CaseSummary}
 use Rattle.sweep.specs.Runs.{IsAskedFor}
+use Rattle.sweep.specs.Summaries.{SumUp, runs_of_case}
 
 seeds_some : (words : Option (List ℕ)) (seeds : Option Seeds) → AsksForSeeds words seeds → 0 < seed_count seeds
 seeds_some None None asks = omega arith
@@ -28,3 +36,16 @@ pub few_runs : (sweep : Sweep) → IsAskedFor sweep → seed_count sweep.seeds �
 few_runs sweep asked =
     let each = seed_count sweep.seeds in
     omega (arith, asked.asked.few, mul-le 1 each (case_count sweep.settings) each (cases_some sweep.settings asked.asked.settings.sound) (omega arith))
+
+-- a case that sums up few runs has few
+pub few_of : (case : CaseSummary) (runs : List Note) → length runs ≤ 1000000 → IsSummaryOf case runs → HasFewRuns case
+few_of case runs few is =
+    let all = is.all in
+    let with = is.with_thrown in
+    record { few = omega (arith, few, all); within = omega (arith, count_by-le-length (λ run. not (run.thrown_out == 0)) runs, all, with) }
+
+-- and so have cases of few runs each
+pub few_with_all : (each : ℕ) (notes : List Note) (cases : List CaseSummary) → each ≤ 1000000 → SumUp each notes cases → All HasFewRuns cases
+few_with_all each notes cases few told i d inside =
+    let size = length-take each (drop (i * each) notes) in
+    few_of (get_or cases i d) (runs_of_case each notes i) (omega (arith, size, few)) (told i (get_or cases i d) (slice_get-get_or cases i d inside))

@@ -1,9 +1,9 @@
-mod Coming
+pub mod Coming
 mod Bounding
 mod Limits
 mod Releasing
 pub mod Turning
-mod RowOrders
+pub mod RowOrders
 mod After
 pub mod Goes
 pub mod Ends
