@@ -1,8 +1,8 @@
 //! Which release of the program this is.
 
 /// The number of the version.
-pub const VERSION: &str = "1.7.0";
+pub const VERSION: &str = "1.7.1";
 /// The digest of the sources.
-pub const SOURCES: &str = "b891743e512d65f6446f6dc92639bbf7d5af092c9bd2ac7fc0b23579bd750fca";
+pub const SOURCES: &str = "a2fb43c4c7ab97c8929c79a07ecdc63ca778dbd708b025e0961c1e08b89fb254";
 /// The kit.
 pub const KIT: &str = "rattle-kit-13f logic dac8208d650f15bf";
