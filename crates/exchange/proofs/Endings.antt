@@ -21,12 +21,12 @@ use Rattle.outputs.specs.Promise.{BeginsTrace, WearsOutReport}
 use Rattle.outputs.specs.Written.{sink_failures}
 use Rattle.outputs.proofs.Runs.{begins_nothing}
 use Rattle.outputs.specs.Traced.{KeepsTrace}
-use Rattle.outputs.proofs.Faults.{at_ok, on_both, on_came, if_same}
+use Rattle.outputs.proofs.Faults.{at_ok, on_both, on_came}
 use Rattle.whole_runs.proofs.Reported.{wears_report, lasts_in_report}
 use Rattle.whole_runs.proofs.Streamed.{begins_trace as begins_with_these}
 use Rattle.exchange.specs.declared.driver.Driven.{Driven}
 use Rattle.exchange.specs.declared.threads.Ended.{Ended}
-use Rattle.exchange.specs.Sending.{IsEarly, ComeTo, IsDriven, GathersAll, HasEnded}
+use Rattle.exchange.specs.Sending.{IsEarly, ComeTo, IsDriven, HasEnded}
 use Rattle.exchange.specs.Batches.{AreBatches}
 use Rattle.exchange.specs.Traced.{both_of}
 use Rattle.exchange.proofs.Faults.{memory≢worn, memory≢write, worn≢relay, write≢relay, memory_early, both_ok, one_of, no_write}
@@ -163,12 +163,3 @@ module _ (s : Setup) (sound : IsSound s) (relay : ARelay) (held_old held_new : O
     unfailed = tt;
     relay = λ h. let same : fault ≡ Relay = cc in let none = no_write ended.driven.outcome ended.written.outcome (subst (IsErrOf (both_of ended.driven.outcome ended.written.outcome)) same met) in let all = is.written.failures in omega (arith, none, all);
   }
-
--- what was gathered is what the rows tell to which the run came
-pub gathers_settled : (gathered : List Row → Type 0) (ended : Ended) (so_far result : Result (List Row) Fault) → GathersAll gathered ended.written
-    → IfOk so_far (λ rows. IsOk ended.written.outcome × (rows ≡ ended.written.tallies)) → OnOk result (result ≡ so_far) → IfOk result gathered
-gathers_settled gathered ended so_far result gathers settled same = if_same gathered result so_far same (all so_far settled)
-  where
-    all : (o : Result (List Row) Fault) → IfOk o (λ rows. IsOk ended.written.outcome × (rows ≡ ended.written.tallies)) → IfOk o gathered
-    all (Ok rows) s = subst gathered (sym s.1) (at_ok (gathered ended.written.tallies) ended.written.outcome s.0 gathers)
-    all (Err fault) s = tt

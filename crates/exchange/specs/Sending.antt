@@ -49,14 +49,13 @@ pub record MayTake (s : Setup) (relay : Relay) (seat : TakeSeat) : Type 0 where
   pub one : scenario_of relay ≡ s
   pub none : taken_by seat ≡ []
 
--- the writer takes from the relay, which is for its scenario; nothing was received, tallied or gathered yet, and one failure more can
+-- the writer takes from the relay, which is for its scenario; nothing was received or tallied yet, and one failure more can
 -- be counted
-pub record MayWrite (writer : Writer) (failed : ℕ) (gathered : List Row → Type 0) : Type 0 where
+pub record MayWrite (writer : Writer) (failed : ℕ) : Type 0 where
   pub taker : IsTaker writer.relay.now writer.seat
   pub one : scenario_of writer.relay.now ≡ writer.scenario.now
   pub none : taken_by writer.seat ≡ []
   pub none_tallied : writer.tallies ≡ []
-  pub none_gathered : gathered []
   pub countable : failed < 2 ^ 63
 
 -- the sender of rows sends over its relay, which is for its scenario; the last batch was not sent yet, and what waits for the next
@@ -92,10 +91,6 @@ pub record IsWritten (s : Setup) (relay : Relay) (held_old held_new : Option (Li
   pub last : OnOk written.outcome (has_last (taken_by written.seat) ≡ true)
   pub text : HasWritten s (rows_in (taken_by written.seat)) held_old held_new written.tallies written.outcome
   pub failures : failed_new ≡ failed_old + sink_failures written.outcome
-
--- what was gathered is what the tallied rows tell, where the writer came to its end
-abbrev pub GathersAll : (List Row → Type 0) → Written → Type 0
-GathersAll gathered written = OnOk written.outcome (gathered written.tallies)
 
 -- The threads of the scenario's run have ended, and so has the writer.
 pub record HasEnded (s : Setup) (relay : Relay) (held_old held_new : Option (List ℕ)) (failed_old failed_new : ℕ) (ended : Ended) : Type 0 where

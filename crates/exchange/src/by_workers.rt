@@ -7,10 +7,10 @@ ghost use Rattle.board.specs.Sites.{table_of, AreSingleSeats};
 ghost use Rattle.scenario.specs.Setup.{IsSound, member_count};
 ghost use Rattle.trace.specs.Text.{NamesMembers};
 ghost use Rattle.member_laws.specs.Runs.{IsRunOf, WearsOut};
-ghost use Rattle.exchange.specs.Sending.{CanBegin, MaySend, MayTake, MayWrite, IsEarly, GathersAll, HasEnded};
+ghost use Rattle.exchange.specs.Sending.{CanBegin, MaySend, MayTake, MayWrite, IsEarly, HasEnded};
 ghost use Rattle.gates.specs.Gates.{KnowsAll, AwaitsAll};
 ghost use Rattle.exchange.specs.Settled.{TakesAll};
-ghost use Rattle.outputs.specs.Promise.{KeepsPromise, WearsOutReport, summed};
+ghost use Rattle.outputs.specs.Promise.{KeepsPromise, WearsOutReport};
 ghost use Rattle.outputs.specs.Traced.{KeepsTrace};
 
 use crate::driver::DriverTask;
@@ -22,10 +22,7 @@ use board::{Site, posts_at, seats_of};
 use gates::Gate;
 use links::Links;
 use member::Event;
-use outputs::{
-    GatherRows, Summary, TakeRows, TraceAndGathered, Written, WrittenAndGathered, end_run,
-    end_tallied,
-};
+use outputs::{Summary, end_run};
 use relay::{Relay, SendSeat, TakeSeat};
 use reports::Tallies;
 use scenario::{Division, Scenario, Workers};
@@ -75,69 +72,25 @@ pub fn run<A: Sink, B: Sink, G: Gate, R: Threads + Wait + Sync>(
     ensures worn { IsErrOf result Fault.Worn → WearsOut scenario.now ⊎ WearsOutReport scenario.now }
     ensures others { IsErrOf result Fault.Relay → A.failed trace.new ≡ A.failed trace.old }
 {
-    let outcome = run_into::<Written, A, G, R>(rt, alloc, scenario, division, workers, gate, trace);
+    let outcome = run_into(rt, alloc, scenario, division, workers, gate, trace);
     end_run(alloc, outcome, scenario, trace, report)
 }
 
-/// Runs the scenario as `run` does, and gathers something else of the rows of its run as they come: that and the tallies
-/// of the rows are whole where it succeeds. They stay on the calling thread too.
-///
-/// Faults: as of `run`.
-pub fn run_gathered<A: Sink, B: Sink, C: GatherRows, G: Gate, R: Threads + Wait + Sync>(
-    rt: &R,
-    alloc: Global,
-    scenario: &Scenario,
-    division: &Division,
-    workers: Workers,
-    gate: &G,
-    place: &mut TraceAndGathered<A, C>,
-    report: &mut B,
-) -> Result<Tallies, Fault>
-    requires divides { length division.now.part_of ≡ member_count scenario.now }
-    requires countable { A.failed place.old.trace < 2 ^ 63 }
-    requires countable_report { B.failed report.old < 2 ^ 63 }
-    requires none_gathered { C.has place.old.gathered scenario.now [] }
-
-    // The gate allows for each worker, and for each part in each window.
-    requires known { KnowsAll G.knows workers }
-    requires windows { AwaitsAll G.awaits division.now.parts }
-
-    // The sinks get exactly the trace of the scenario's run, and the report on it; after a fault a beginning of that.
-    ensures promise { KeepsPromise A.held A.failed B.held B.failed scenario.now place.old.trace place.new.trace report.old report.new (summed result) }
-
-    // The rows of the run are tallied, and what was gathered is what they tell.
-    ensures run { IfOk result (IsRunOf scenario.now) }
-    ensures named { IfOk result (All (NamesMembers scenario.now)) }
-    ensures gathered { IfOk result (C.has place.new.gathered scenario.now) }
-
-    // No count of its report passes 2^63, and no fault comes without its cause.
-    ensures lasts_report { OnOk result (¬ (WearsOutReport scenario.now)) }
-    ensures worn { IsErrOf result Fault.Worn → WearsOut scenario.now ⊎ WearsOutReport scenario.now }
-    ensures others { IsErrOf result Fault.Relay → A.failed place.new.trace ≡ A.failed place.old.trace }
-{
-    let outcome = run_into::<WrittenAndGathered, TraceAndGathered<A, C>, G, R>(
-        rt, alloc, scenario, division, workers, gate, place,
-    );
-    end_tallied(alloc, outcome, scenario, &mut place.trace, report)
-}
-
 /// Runs the scenario by threads and takes its rows; nothing is flushed yet.
-fn run_into<T: TakeRows<P>, P, G: Gate, R: Threads + Wait + Sync>(
+fn run_into<A: Sink, G: Gate, R: Threads + Wait + Sync>(
     rt: &R,
     alloc: Global,
     scenario: &Scenario,
     division: &Division,
     workers: Workers,
     gate: &G,
-    place: &mut P,
+    trace: &mut A,
 ) -> Result<Tallies, Fault>
     requires divides { length division.now.part_of ≡ member_count scenario.now }
-    requires countable { T.failed place.old < 2 ^ 63 }
-    requires none_gathered { T.gathered place.old scenario.now [] }
+    requires countable { A.failed trace.old < 2 ^ 63 }
     requires known { KnowsAll G.knows workers }
     requires windows { AwaitsAll G.awaits division.now.parts }
-    ensures trace { KeepsTrace scenario.now (T.held place.old) (T.held place.new) (T.failed place.old) (T.failed place.new) result }
-    ensures gathered { IfOk result (T.gathered place.new scenario.now) }
+    ensures trace { KeepsTrace scenario.now (A.held trace.old) (A.held trace.new) (A.failed trace.old) (A.failed trace.new) result }
     ensures sound { IsSound scenario.now }
 {
     let _end = scenario.end();
@@ -146,14 +99,13 @@ fn run_into<T: TakeRows<P>, P, G: Gate, R: Threads + Wait + Sync>(
     let hands = workers.count().min(division.parts());
     let cluster = Cluster { scenario, links };
     let course = &course_of(cluster, division);
-    by_pool::<T, P, WheelQueue<Event>, G, Brand, R>(rt, alloc, parts, hands, gate, course, place)
+    by_pool::<A, WheelQueue<Event>, G, Brand, R>(rt, alloc, parts, hands, gate, course, trace)
 }
 
 /// Runs these parts by a pool of so many workers, over a board that is closed at the end, and takes the rows.
 fn by_pool<
     'a,
-    T: TakeRows<P>,
-    P,
+    A: Sink,
     Q: EventQueue<Event> + Drop + Send,
     G: Gate,
     K: OfScenario + Send + Sync,
@@ -165,17 +117,15 @@ fn by_pool<
     workers: usize,
     gate: &G,
     course: &Course<'a>,
-    place: &mut P,
+    trace: &mut A,
 ) -> Result<Tallies, Fault>
     requires ready { CanBegin Q.set course.now parts.items }
-    requires countable { T.failed place.old < 2 ^ 63 }
-    requires none_gathered { T.gathered place.old course.now.cluster.scenario.now [] }
+    requires countable { A.failed trace.old < 2 ^ 63 }
     requires one { K.scenario ≡ Some course.now.cluster.scenario.now }
     requires first { G.knows 0 }
     requires known { KnowsAll G.knows workers }
     requires windows { AwaitsAll G.awaits course.now.division.now.parts }
-    ensures trace { KeepsTrace course.now.cluster.scenario.now (T.held place.old) (T.held place.new) (T.failed place.old) (T.failed place.new) result }
-    ensures gathered { IfOk result (T.gathered place.new course.now.cluster.scenario.now) }
+    ensures trace { KeepsTrace course.now.cluster.scenario.now (A.held trace.old) (A.held trace.new) (A.failed trace.old) (A.failed trace.new) result }
 {
     let tallies = Tallies::new(alloc);
     let (relay, sender, taker) = Relay::new(alloc, course.cluster.scenario)?;
@@ -184,8 +134,8 @@ fn by_pool<
         course.cluster.scenario,
         course.division.parts(),
     )?;
-    let (outcome, _settled) = over_board::<T, P, Q, G, K, R>(
-        rt, alloc, board, seats, parts, workers, gate, course, relay, sender, taker, tallies, place,
+    let (outcome, _settled) = over_board::<A, Q, G, K, R>(
+        rt, alloc, board, seats, parts, workers, gate, course, relay, sender, taker, tallies, trace,
     );
     outcome
 }
@@ -194,8 +144,7 @@ fn by_pool<
 /// Where all went well every part that was dealt was taken, as often, and no other.
 fn over_board<
     'a,
-    T: TakeRows<P>,
-    P,
+    A: Sink,
     Q: EventQueue<Event> + Drop + Send,
     G: Gate,
     K: OfScenario + Send + Sync,
@@ -213,7 +162,7 @@ fn over_board<
     sender: SendSeat,
     taker: TakeSeat,
     tallies: Tallies,
-    place: &mut P,
+    trace: &mut A,
 ) -> (Result<Tallies, Fault>, Snapshot<Vec<TaskSeat<'a, Q>>>)
     requires all { AreAllSeats board seats.items }
     requires count { length seats.items ≡ whole }
@@ -225,10 +174,8 @@ fn over_board<
     requires sends { MaySend course.now.cluster.scenario.now relay sender }
     requires takes { MayTake course.now.cluster.scenario.now relay taker }
     requires none_tallied { tallies ≡ [] }
-    requires countable { T.failed place.old < 2 ^ 63 }
-    requires none_gathered { T.gathered place.old course.now.cluster.scenario.now [] }
-    ensures trace { KeepsTrace course.now.cluster.scenario.now (T.held place.old) (T.held place.new) (T.failed place.old) (T.failed place.new) result.0 }
-    ensures gathered { IfOk result.0 (T.gathered place.new course.now.cluster.scenario.now) }
+    requires countable { A.failed trace.old < 2 ^ 63 }
+    ensures trace { KeepsTrace course.now.cluster.scenario.now (A.held trace.old) (A.held trace.new) (A.failed trace.old) (A.failed trace.new) result.0 }
     ensures settled { OnOk result.0 (TakesAll board.entry result.1.value.items) }
 {
     let writer = Writer {
@@ -238,8 +185,8 @@ fn over_board<
         tallies,
     };
     // a pair is answered, so no `?`
-    let (ended, seats) = match at_board::<T, P, Q, G, Brand, K, R>(
-        rt, alloc, &board, seats, parts, workers, gate, course, sender, writer, place,
+    let (ended, seats) = match at_board::<A, Q, G, Brand, K, R>(
+        rt, alloc, &board, seats, parts, workers, gate, course, sender, writer, trace,
     ) {
         Ok(pair) => pair,
         Err(fault) => return (Err(fault), no_seats(alloc)),
@@ -253,8 +200,7 @@ fn over_board<
 fn at_board<
     'r,
     'a,
-    T: TakeRows<P>,
-    P,
+    A: Sink,
     Q: EventQueue<Event> + Drop + Send,
     G: Gate,
     J: Site + Send,
@@ -271,7 +217,7 @@ fn at_board<
     course: &'r Course<'a>,
     sender: SendSeat,
     writer: Writer<'r>,
-    place: &mut P,
+    trace: &mut A,
 ) -> Result<(Ended, Result<Vec<TaskSeat<'a, Q>>, Memory>), Fault>
     requires here { table_of board.now ≡ J.table }
     requires board { K.scenario ≡ Some course.now.cluster.scenario.now }
@@ -282,12 +228,11 @@ fn at_board<
     requires count { length seats.items ≡ whole }
     requires ready { CanBegin Q.set course.now parts.items }
     requires sends { MaySend course.now.cluster.scenario.now writer.relay.now sender }
-    requires writes { MayWrite writer (T.failed place.old) (T.gathered place.old writer.scenario.now) }
+    requires writes { MayWrite writer (A.failed trace.old) }
     requires one { writer.scenario.now ≡ course.now.cluster.scenario.now }
     ensures seats { IfOk result (λ r. IfOk r.1 (λ seats. AreSingleSeats board.now seats.items)) }
-    ensures ended { IfOk result (λ r. HasEnded writer.entry.scenario.now writer.entry.relay.now (T.held place.old) (T.held place.new) (T.failed place.old) (T.failed place.new) r.0) }
-    ensures gathered { IfOk result (λ r. GathersAll (T.gathered place.new writer.entry.scenario.now) r.0.written) }
-    ensures unwritten { OnErr result (place.new ≡ place.old) }
+    ensures ended { IfOk result (λ r. HasEnded writer.entry.scenario.now writer.entry.relay.now (A.held trace.old) (A.held trace.new) (A.failed trace.old) (A.failed trace.new) r.0) }
+    ensures unwritten { OnErr result (trace.new ≡ trace.old) }
     ensures fault { IfErr result IsEarly }
 {
     let signals = Signals::new();
@@ -302,8 +247,8 @@ fn at_board<
         relay: writer.relay,
         seat: sender,
     };
-    let (ended, own, others) = within::<T, P, Q, G, J, K, R>(
-        rt, alloc, workers, posts, &signals, gate, task, writer, place,
+    let (ended, own, others) = within::<A, Q, G, J, K, R>(
+        rt, alloc, workers, posts, &signals, gate, task, writer, trace,
     )?;
     Ok((ended, seats_back(alloc, board, own, others)))
 }

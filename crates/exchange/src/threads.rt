@@ -2,7 +2,7 @@
 ghost use Rattle.std.specs.Prelude.{◌≡◌, ◌<◌, ◌≤◌, Some, IfOk, OnErr, IfErr};
 ghost use Rattle.std.specs.Thread.{IsSync, IsSend};
 ghost use Rattle.gates.specs.Gates.{KnowsAll, AwaitsAll};
-ghost use Rattle.exchange.specs.Sending.{CanBegin, MaySend, MayWrite, IsEarly, IsDriven, GathersAll, HasEnded};
+ghost use Rattle.exchange.specs.Sending.{CanBegin, MaySend, MayWrite, IsEarly, IsDriven, HasEnded};
 
 use crate::driver::{Driven, DriverTask, Drives, drive};
 use crate::writer::{Writer, Written, write_all};
@@ -10,13 +10,13 @@ use base::{Fault, Memory};
 use board::Site;
 use gates::Gate;
 use member::Event;
-use outputs::TakeRows;
 use std::alloc::Global;
 use std::marker::Sync;
 use std::snapshot::Snapshot;
 use std::sync::Wait;
 use std::thread;
 use std::thread::{JoinHandle, Scope, Threads};
+use trace::Sink;
 use worker_queue::EventQueue;
 use workers::{OfScenario, Signals, TaskPost, work};
 
@@ -37,8 +37,7 @@ pub(crate) fn within<
     'r,
     'b,
     'a,
-    T: TakeRows<P>,
-    P,
+    A: Sink,
     Q: EventQueue<Event> + Drop + Send,
     G: Gate,
     J: Site + Send,
@@ -53,7 +52,7 @@ pub(crate) fn within<
     gate: &G,
     task: DriverTask<'r, 'b, 'a, Q, G, J, K>,
     writer: Writer<'r>,
-    place: &mut P,
+    trace: &mut A,
 ) -> Result<
     (
         Ended,
@@ -69,15 +68,14 @@ pub(crate) fn within<
     requires fresh { task.pool.windows ≡ 0 }
     requires ready { CanBegin Q.set task.course.now task.parts.items }
     requires sends { MaySend task.course.now.cluster.scenario.now task.relay.now task.seat }
-    requires writes { MayWrite writer (T.failed place.old) (T.gathered place.old writer.scenario.now) }
+    requires writes { MayWrite writer (A.failed trace.old) }
     requires one { writer.scenario.now ≡ task.course.now.cluster.scenario.now }
     requires relay { writer.relay.now ≡ task.relay.now }
-    ensures ended { IfOk result (λ r. HasEnded writer.entry.scenario.now writer.entry.relay.now (T.held place.old) (T.held place.new) (T.failed place.old) (T.failed place.new) r.0) }
-    ensures gathered { IfOk result (λ r. GathersAll (T.gathered place.new writer.entry.scenario.now) r.0.written) }
-    ensures unwritten { OnErr result (place.new ≡ place.old) }
+    ensures ended { IfOk result (λ r. HasEnded writer.entry.scenario.now writer.entry.relay.now (A.held trace.old) (A.held trace.new) (A.failed trace.old) (A.failed trace.new) r.0) }
+    ensures unwritten { OnErr result (trace.new ≡ trace.old) }
     ensures fault { IfErr result IsEarly }
 {
-    let (ended, _place) = thread::scope(
+    let (ended, _trace) = thread::scope(
         thread::scope_env(),
         rt,
         move |scope| -> (
@@ -89,27 +87,26 @@ pub(crate) fn within<
                 ),
                 Fault,
             >,
-            &mut P,
+            &mut A,
         )
             requires { IsSync R.row × IsSync G.row × IsSend Q.row
                 × CanBegin Q.set task.course.now task.parts.items
                 × MaySend task.course.now.cluster.scenario.now task.relay.now task.seat
-                × MayWrite writer (T.failed place.now) (T.gathered place.now writer.scenario.now)
+                × MayWrite writer (A.failed trace.now)
                 × (task.course.now.cluster.scenario.now ≡ writer.scenario.now) × (task.relay.now ≡ writer.relay.now)
                 × G.knows 0 × KnowsAll G.knows workers × AwaitsAll G.awaits task.course.now.division.now.parts
                 × (K.scenario ≡ Some task.course.now.cluster.scenario.now) × (task.pool.windows ≡ 0) }
-            ensures same { result.1.ghost_name ≡ place.entry.ghost_name }
+            ensures same { result.1.ghost_name ≡ trace.entry.ghost_name }
             ensures ended { IfOk result.0 (λ r. HasEnded writer.entry.scenario.now writer.entry.relay.now
-                (T.held place.entry.now) (T.held result.1.now) (T.failed place.entry.now) (T.failed result.1.now) r.0) }
-            ensures gathered { IfOk result.0 (λ r. GathersAll (T.gathered result.1.now writer.entry.scenario.now) r.0.written) }
-            ensures unwritten { OnErr result.0 (result.1.now ≡ place.entry.now) }
+                (A.held trace.entry.now) (A.held result.1.now) (A.failed trace.entry.now) (A.failed result.1.now) r.0) }
+            ensures unwritten { OnErr result.0 (result.1.now ≡ trace.entry.now) }
             ensures fault { IfErr result.0 IsEarly }
         {
             let threads = match start_workers(
                 scope, rt, alloc, &mut posts, signals, gate, workers,
             ) {
                 Ok(threads) => threads,
-                Err(fault) => return (Err(fault), place),
+                Err(fault) => return (Err(fault), trace),
             };
             let course = task.course;
             let driver = scope.spawn_with(
@@ -127,12 +124,12 @@ pub(crate) fn within<
                 { drive(rt, alloc, task) },
             );
             let Ok(driver) = driver else {
-                return (Err(Fault::Relay), place);
+                return (Err(Fault::Relay), trace);
             };
-            let written = write_all::<T, P, R>(rt, alloc, writer, place);
+            let written = write_all(rt, alloc, writer, trace);
             let (driven, own) = driver.join(rt);
             let posts = gather(rt, threads, posts);
-            (Ok((Ended { driven, written }, own, posts)), place)
+            (Ok((Ended { driven, written }, own, posts)), trace)
         },
     );
     ended

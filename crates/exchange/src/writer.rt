@@ -1,13 +1,13 @@
 //! Who writes the trace of a run by threads, as its rows come over the relay.
-ghost use Rattle.exchange.specs.Sending.{MayWrite, IsWritten, GathersAll};
+ghost use Rattle.exchange.specs.Sending.{MayWrite, IsWritten};
 
 use base::Fault;
-use outputs::TakeRows;
 use relay::{Relay, TakeSeat};
 use reports::Tallies;
 use scenario::Scenario;
 use std::alloc::Global;
 use std::sync::Wait;
+use trace::Sink;
 use trace_writer::write_stream;
 
 /// What the writer takes with it.
@@ -30,15 +30,14 @@ pub(crate) struct Written {
 }
 
 /// Takes the rows that come over the writer's relay, up to the last batch.
-pub(crate) fn write_all<T: TakeRows<P>, P, R: Wait>(
+pub(crate) fn write_all<A: Sink, R: Wait>(
     rt: &R,
     alloc: Global,
     writer: Writer,
-    place: &mut P,
+    trace: &mut A,
 ) -> Written
-    requires { MayWrite writer (T.failed place.old) (T.gathered place.old writer.scenario.now) }
-    ensures written { IsWritten writer.entry.scenario.now writer.entry.relay.now (T.held place.old) (T.held place.new) (T.failed place.old) (T.failed place.new) result }
-    ensures gathered { GathersAll (T.gathered place.new writer.entry.scenario.now) result }
+    requires { MayWrite writer (A.failed trace.old) }
+    ensures written { IsWritten writer.entry.scenario.now writer.entry.relay.now (A.held trace.old) (A.held trace.new) (A.failed trace.old) (A.failed trace.new) result }
 {
     let Writer {
         relay,
@@ -46,14 +45,14 @@ pub(crate) fn write_all<T: TakeRows<P>, P, R: Wait>(
         mut seat,
         mut tallies,
     } = writer;
-    let outcome = write_stream::<T, P, R>(
+    let outcome = write_stream::<outputs::Written, A, R>(
         rt,
         alloc,
         relay,
         &mut seat,
         scenario,
         &mut tallies,
-        place,
+        trace,
     );
     Written {
         seat,

@@ -28,10 +28,10 @@ pub spawn_with-driver-requires-send-T : goal.spawn_with-driver-requires-send-T
 spawn_with-driver-requires-send-T g c κs within = let of_queue = c.requires.2 in search (driven_send, post_send, task_send, crosses, sendable) depth 40 fits 20000
 
 pub returns-in-Err : goal.returns-in-Err
-returns-in-Err g c = record { same = refl; ended = tt; gathered = tt; unwritten = refl; fault = c.in-Err.ensures }
+returns-in-Err g c = record { same = refl; ended = tt; unwritten = refl; fault = c.in-Err.ensures }
 
 pub returns-in_default : goal.returns-in_default
-returns-in_default g c = record { same = refl; ended = tt; gathered = tt; unwritten = refl; fault = relay_early }
+returns-in_default g c = record { same = refl; ended = tt; unwritten = refl; fault = relay_early }
 
 pub write_all-written-requires : goal.write_all-written-requires
 write_all-written-requires g c = c.requires.5
@@ -43,7 +43,6 @@ returns g c = record {
     driven = kept _ _ c.in-Ok-driver.driver.promise _ c.join-driven.result.0 c.join-driven.ensures c.in-Ok-driver.ensures.ok (c.of.ensures ∙ c.requires.6) (c.of-2.ensures ∙ c.requires.7);
     written = c.write_all-written.ensures.written;
   };
-  gathered = c.write_all-written.ensures.gathered;
   unwritten = tt;
   fault = tt;
 }
