@@ -9,11 +9,9 @@ ghost use Rattle.command_line.specs.Failures.{IsFaultOf, RefusesDivision, Refuse
 use crate::failure::Failure;
 use crate::words::Split;
 use arguments::number_within;
+use base::limits::MOST_PARTS;
 use scenario::{Division, DivisionFault, Scenario, Workers};
 use std::alloc::Global;
-
-/// The most parts of a division, and the most workers.
-const MOST: u64 = 64;
 
 /// How many workers a word asks for; one where there is no word.
 ///
@@ -67,12 +65,12 @@ pub fn division_asked(
     }
 }
 
-/// The number of parts or workers that a word names: 1 to 64.
+/// The number of parts or workers that a word names: 1 to 64, as many of these as of those.
 fn count_asked(word: &str) -> Option<usize>
     ensures some { IfSome result (IsCount word.now) }
     ensures none { IsNone result → (count : ℕ) → ¬ (IsCount word.now count) }
 {
-    let count = number_within(word, 1, MOST)?;
+    let count = number_within(word, 1, MOST_PARTS as u64)?;
     Some(count as usize)
 }
 
@@ -133,7 +131,7 @@ fn part_numbers(alloc: Global, list: &str) -> Result<Vec<u8>, Failure<'static>>
 {
     let mut numbers = Vec::new(alloc);
     for item in list.split(',') {
-        match number_within(item, 0, MOST - 1) {
+        match number_within(item, 0, MOST_PARTS as u64 - 1) {
             Some(part) => {
                 if numbers.push(part as u8).is_err() {
                     return Err(Failure::Memory);

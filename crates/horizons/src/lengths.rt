@@ -2,11 +2,9 @@ ghost use Rattle.std.specs.Prelude.{◌≡◌, ℕ, ◌+◌, ◌*◌, ◌^◌, �
 ghost use Rattle.horizons.specs.Lengths.{length_at, weight_of, weight};
 
 use base::Memory;
+use base::limits::MOST_PARTS;
 use std::alloc::Global;
 use std::marker::Model;
-
-/// The most parts of a cluster.
-pub(crate) const MOST_PARTS: usize = 64;
 
 /// A length, in ticks, from each part to each, or None. It has a place for each two of 64 parts.
 #[derive(Drop)]

@@ -6,7 +6,8 @@ ghost use Rattle.horizons.specs.Lengths.{length_at, weight, IsSettledAt};
 ghost use Rattle.horizons.specs.Walks.{AreLengthsOfWalks};
 
 use crate::least::{lesser, sum};
-use crate::lengths::{Lengths, MOST_PARTS};
+use crate::lengths::Lengths;
+use base::limits::MOST_PARTS;
 
 /// Makes each length from one of so many parts to another that of the least walk, given those of
 /// one link. Where none can be made less by way of one part, none can be by way of several.

@@ -7,6 +7,7 @@ use crate::batch::Batch;
 use crate::roles::part;
 use crate::rule::{InOrder, Log, Sent, Taken};
 use base::Memory;
+use base::limits::BATCHES_OF_A_RELAY;
 pub use closing::close;
 use crossbeam_channel::{Pass, RuledReceiver, RuledSender, bounded_with};
 use scenario::Scenario;
@@ -14,9 +15,6 @@ use std::alloc::Global;
 use std::marker::Brand;
 use std::snapshot::Snapshot;
 use std::sync::Wait;
-
-/// How many batches a relay has room for.
-const ROOM: usize = 8;
 
 /// Carries batches in order from the one that sends to the one that receives, each in a thread of its own.
 #[derive(Drop)]
@@ -54,8 +52,10 @@ impl Relay {
         ensures sent { IfOk result (λ r. sent_by r.1 ≡ []) }
         ensures taken { IfOk result (λ r. taken_by r.2 ≡ []) }
     {
-        let Ok((sender, taker, mut pass)) = bounded_with::<Batch, Log, InOrder, Global>(alloc, ROOM)
-        else {
+        let Ok((sender, taker, mut pass)) = bounded_with::<Batch, Log, InOrder, Global>(
+            alloc,
+            BATCHES_OF_A_RELAY,
+        ) else {
             return Err(Memory);
         };
         let other = part::<Brand>(&sender, &mut pass, scenario);

@@ -5,6 +5,7 @@ ghost use Rattle.scenario.specs.Setup.{member_count};
 ghost use Rattle.scenario.specs.Division.{divided, in_turn, has_part_past, workers_of};
 
 use crate::scenario::Scenario;
+use base::limits::{MOST_PARTS, MOST_WORKERS};
 use base::{MemberId, Memory};
 use std::alloc::{AllocError, Global};
 use std::marker::Model;
@@ -52,7 +53,7 @@ impl Division {
     ) -> Result<Division, DivisionFault>
         ensures { result ≡ divided (member_count scenario.now) parts part_of.items }
     {
-        if parts == 0 || parts > 64 {
+        if parts == 0 || parts > MOST_PARTS {
             return Err(DivisionFault::Parts);
         }
         if part_of.len() != scenario.members() {
@@ -138,7 +139,7 @@ impl Workers {
     pub fn new(count: usize) -> Option<Workers>
         ensures { result ≡ workers_of count }
     {
-        if count == 0 || count > 64 {
+        if count == 0 || count > MOST_WORKERS {
             return None;
         }
         Some(Workers { count })

@@ -7,6 +7,7 @@ use crate::tables::{
     CUT, DEPARTURE, GOSSIP, GROUP_1, GROUP_2, LIFEGUARD, LINK, PATH, PAUSE, SLOW, STREAM,
     SUSPICION, SWIM_1, SWIM_3, TOP_1, TOP_2, TOP_3,
 };
+use base::limits::{MOST_MEMBERS, MOST_MEMBERS_AT_FIRST};
 
 /// A version of the format.
 #[derive(Clone, Copy, Debug, PartialEq, Eq)]
@@ -25,8 +26,8 @@ impl Version {
         ensures { result ≡ most_members self }
     {
         match self {
-            Version::One => 1024,
-            Version::Two | Version::Three => 4096,
+            Version::One => MOST_MEMBERS_AT_FIRST,
+            Version::Two | Version::Three => MOST_MEMBERS,
         }
     }
 }

@@ -1,5 +1,6 @@
 //! The rows of the format: a constant for each kind of table, and for each version where they differ.
 use crate::schema::{Absence, FormatKey, KeyRule, Kind, Section};
+use base::limits::{LATEST_MOMENT, MOST_MEMBERS, MOST_MEMBERS_AT_FIRST};
 
 const VERSION_1: KeyRule = KeyRule {
     key: FormatKey::Version,
@@ -33,7 +34,7 @@ const END: KeyRule = KeyRule {
     absence: Absence::Refused,
     kind: Kind::Whole {
         least: 0,
-        most: 0x100_0000_0000,
+        most: LATEST_MOMENT,
     },
 };
 
@@ -323,7 +324,7 @@ const COUNT_1: KeyRule = KeyRule {
     absence: Absence::Refused,
     kind: Kind::Whole {
         least: 1,
-        most: 1024,
+        most: MOST_MEMBERS_AT_FIRST,
     },
 };
 
@@ -332,7 +333,7 @@ const COUNT_2: KeyRule = KeyRule {
     absence: Absence::Refused,
     kind: Kind::Whole {
         least: 1,
-        most: 4096,
+        most: MOST_MEMBERS,
     },
 };
 
@@ -341,7 +342,7 @@ const START: KeyRule = KeyRule {
     absence: Absence::Default(0),
     kind: Kind::Whole {
         least: 0,
-        most: 0x100_0000_0000,
+        most: LATEST_MOMENT,
     },
 };
 
@@ -407,7 +408,7 @@ pub(crate) const SLOW: [KeyRule; 4] = [
         absence: Absence::Refused,
         kind: Kind::Whole {
             least: 0,
-            most: 0x100_0000_0000,
+            most: LATEST_MOMENT,
         },
     },
     KeyRule {
@@ -415,7 +416,7 @@ pub(crate) const SLOW: [KeyRule; 4] = [
         absence: Absence::Refused,
         kind: Kind::Whole {
             least: 0,
-            most: 0x100_0000_0000,
+            most: LATEST_MOMENT,
         },
     },
     KeyRule {
@@ -440,7 +441,7 @@ pub(crate) const DEPARTURE: [KeyRule; 2] = [
         absence: Absence::Refused,
         kind: Kind::Whole {
             least: 0,
-            most: 0x100_0000_0000,
+            most: LATEST_MOMENT,
         },
     },
 ];
@@ -462,7 +463,7 @@ pub(crate) const CUT: [KeyRule; 4] = [
         absence: Absence::Refused,
         kind: Kind::Whole {
             least: 0,
-            most: 0x100_0000_0000,
+            most: LATEST_MOMENT,
         },
     },
     KeyRule {
@@ -470,7 +471,7 @@ pub(crate) const CUT: [KeyRule; 4] = [
         absence: Absence::Refused,
         kind: Kind::Whole {
             least: 0,
-            most: 0x100_0000_0000,
+            most: LATEST_MOMENT,
         },
     },
 ];
@@ -495,7 +496,7 @@ pub(crate) const GOSSIP: [KeyRule; 4] = [
         absence: Absence::Default(0),
         kind: Kind::Whole {
             least: 0,
-            most: 0x100_0000_0000,
+            most: LATEST_MOMENT,
         },
     },
     KeyRule {
@@ -540,7 +541,7 @@ pub(crate) const PAUSE: [KeyRule; 3] = [
         absence: Absence::Refused,
         kind: Kind::Whole {
             least: 0,
-            most: 0x100_0000_0000,
+            most: LATEST_MOMENT,
         },
     },
     KeyRule {
@@ -548,7 +549,7 @@ pub(crate) const PAUSE: [KeyRule; 3] = [
         absence: Absence::Refused,
         kind: Kind::Whole {
             least: 0,
-            most: 0x100_0000_0000,
+            most: LATEST_MOMENT,
         },
     },
 ];

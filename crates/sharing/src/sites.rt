@@ -4,17 +4,16 @@ ghost use Rattle.scenario.specs.Setup.{member_count, group_at};
 ghost use Rattle.sharing.specs.Parts.{AreSites, LeavesGroupsWhole, site_of};
 
 use crate::divisions::divided;
+use base::limits::MOST_PARTS;
 use base::{MemberId, Memory};
 use links::Links;
 use scenario::{Division, Scenario};
 use std::alloc::{AllocError, Global};
 use windows::Cluster;
 
-/// How many groups are looked at. Members of later ones go with those of the first.
-const MOST_GROUPS: usize = 64;
-
 /// The members by their sites: two groups are of one where a link between them is shorter than so
-/// many ticks. The number of a site is that of one of its groups.
+/// many ticks. The number of a site is that of one of its groups. As many groups are looked at as
+/// there may be parts: members of later ones go with those of the first.
 pub(crate) fn by_sites(alloc: Global, cluster: Cluster, ticks: u64) -> Result<Division, Memory>
     ensures divides { IfOk result (λ parts. length parts.part_of ≡ member_count cluster.entry.scenario.now) }
     ensures whole { IfOk result (λ parts. LeavesGroupsWhole cluster.entry.scenario.now parts.part_of) }
@@ -22,7 +21,7 @@ pub(crate) fn by_sites(alloc: Global, cluster: Cluster, ticks: u64) -> Result<Di
     let firsts = first_members(alloc, cluster.scenario)?;
     let sites = sites_of_groups(alloc, &firsts, cluster.links, ticks)?;
     let part_of = parts_of_members(alloc, cluster.scenario, &sites)?;
-    Ok(divided(cluster.scenario, MOST_GROUPS, part_of))
+    Ok(divided(cluster.scenario, MOST_PARTS, part_of))
 }
 
 /// The first member of each group that is looked at.
@@ -32,7 +31,7 @@ fn first_members(alloc: Global, scenario: &Scenario) -> Result<Vec<MemberId>, Me
     let mut firsts = Vec::new(alloc);
     for member in 0..scenario.members() {
         let member = MemberId(member as u16);
-        if firsts.len() < MOST_GROUPS && scenario.group_number(member) == firsts.len() {
+        if firsts.len() < MOST_PARTS && scenario.group_number(member) == firsts.len() {
             firsts.push(member)?;
         }
     }
@@ -60,7 +59,7 @@ fn sites_of_groups(
 fn lone_groups(alloc: Global) -> Result<Vec<u8>, AllocError>
     ensures { IfOk result (λ sites. AreSites sites.items) }
 {
-    (0..MOST_GROUPS).map(|group| group as u8).collect(alloc)
+    (0..MOST_PARTS).map(|group| group as u8).collect(alloc)
 }
 
 /// Puts the groups to which this one has a short link into its site.
@@ -110,7 +109,7 @@ fn parts_of_members(alloc: Global, scenario: &Scenario, sites: &[u8]) -> Result<
     let mut part_of = Vec::new(alloc);
     for member in 0..scenario.members() {
         let group = scenario.group_number(MemberId(member as u16));
-        let looked_at = if group < MOST_GROUPS { group } else { 0 };
+        let looked_at = if group < MOST_PARTS { group } else { 0 };
         part_of.push(sites[looked_at])?;
     }
     Ok(part_of)

@@ -7,14 +7,15 @@ ghost use Rattle.workers.specs.Closing.{IsUnsettled};
 
 use crate::pieces::{OfScenario, TaskBoard, TaskSeat};
 use base::Fault;
+use base::limits::MOST_WORKERS;
 use board::settle;
 use gates::Gate;
 use member::Event;
 use std::sync::Wait;
 use worker_queue::EventQueue;
 
-/// How many seats the board of a run has: as many as a board may have.
-pub const SEATS: usize = 65;
+/// How many seats the board of a run has: as many as a board may have, one more than there may be workers.
+pub const SEATS: usize = MOST_WORKERS + 1;
 
 /// Closes the board of a run, given the seats that came back. `Relay` where one is missing or a part still lies
 /// on the board: else every part that was dealt was taken, as often, and no other.
