@@ -32,6 +32,19 @@ pub all_weaker : {A : Type 0} (P Q : A → Type 0) → ((x : A) → P x → Q x)
 all_weaker P Q f [] a = tt
 all_weaker P Q f (x ∷ xs) a = (f x a.0, all_weaker P Q f xs a.1)
 
+-- what holds of all of two lists holds of each of them
+pub all_front : {A : Type 0} (P : A → Type 0) (xs ys : List A) → AllByRecursion P (xs ++ ys) → AllByRecursion P xs
+all_front P [] ys all = tt
+all_front P (x ∷ xs) ys all = (all.0, all_front P xs ys all.1)
+
+pub all_back : {A : Type 0} (P : A → Type 0) (xs ys : List A) → AllByRecursion P (xs ++ ys) → AllByRecursion P ys
+all_back P [] ys all = all
+all_back P (x ∷ xs) ys all = all_back P xs ys all.1
+
+pub rising_front : {A : Type 0} (before : A → A → Type 0) (xs ys : List A) → IsRising before (xs ++ ys) → IsRising before xs
+rising_front before [] ys up = tt
+rising_front before (x ∷ xs) ys up = (all_front (before x) xs ys up.0, rising_front before xs ys up.1)
+
 pub rising_append : {A : Type 0} (before : A → A → Type 0) (xs ys : List A) → IsRising before xs → IsRising before ys → AllByRecursion (λ x. AllByRecursion (before x) ys) xs → IsRising before (xs ++ ys)
 rising_append before [] ys a b across = b
 rising_append before (x ∷ xs) ys a b across = (all_append (before x) xs ys a.0 across.0, rising_append before xs ys a.1 b across.1)

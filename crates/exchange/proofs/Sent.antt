@@ -11,7 +11,6 @@ use Rattle.base.specs.declared.keyed.Keyed as keyed
 use Rattle.board.specs.contracts.post.Post as post
 use Rattle.board.specs.declared.rule.PieceRule as piece_rule
 use Rattle.board.specs.declared.site.Site as site
-use Rattle.scenario.specs.contracts.division.Division as division
 use Rattle.member.specs.declared.event.Event.{Event}
 use Rattle.worker_queue.specs.declared.queue.EventQueue.{Ghosts}
 use Rattle.worker_queue.specs.contracts.wheel_queue.WheelQueue as wheel
@@ -20,15 +19,12 @@ use Rattle.turns.specs.contracts.turns.Course as course
 use Rattle.workers.specs.contracts.pool.WorkerPool as pool
 use Rattle.workers.specs.declared.pieces.OfScenario as of_scenario
 use Rattle.gates.specs.declared.gate.Gate as gate
-use Rattle.gates.proofs.Sent.{declared_send, scenario_sync, links_sync, member_send}
+use Rattle.gates.proofs.Sent.{declared_send, scenario_sync, links_sync, member_send, division_sync}
 use Rattle.workers.proofs.Sent.{task_send, board_sync, seat_send, signals_sync}
 use Rattle.relay.specs.contracts.relay.SendSeat as send_seat
 use Rattle.relay.proofs.Sent.{relay_sync}
 use Rattle.exchange.specs.contracts.driver.Driven as driven
 use Rattle.exchange.specs.contracts.driver.DriverTask as task
-
-pub division_sync : IsSync division.the_row
-division_sync = search (crosses, sendable) depth 60 fits 20000
 
 pub part_row_send : (Q : RattleType) → IsSend Q → IsSend (part.the_row Q)
 part_row_send Q s = search (member_send, crosses, sendable) depth 60 fits 20000

@@ -66,10 +66,6 @@ pub record IsOpen {R : Type 0} (row_sender : RowSender R) : Type 0 where
   pub more : has_last (sent_by row_sender.seat) ≡ false
   pub named : All (NamesMembers row_sender.scenario.now) row_sender.rows.items
 
--- a fault that comes before anything is written
-abbrev pub IsEarly : Fault → Type 0
-IsEarly f = (f ≢ fault.Worn) × (f ≢ fault.Write)
-
 -- The turns of the scenario's run gave these rows, and came to this: all rows of the run, or after a fault the first of them.
 pub record ComeTo (s : Setup) (rows : List Row) (outcome : Result (Unit {0}) Fault) : Type 0 where
   pub whole : OnOk outcome (IsRunOf s rows)

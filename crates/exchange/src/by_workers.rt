@@ -7,11 +7,11 @@ ghost use Rattle.board.specs.Sites.{table_of, AreSingleSeats};
 ghost use Rattle.scenario.specs.Setup.{IsSound, member_count};
 ghost use Rattle.trace.specs.Text.{NamesMembers};
 ghost use Rattle.member_laws.specs.Runs.{IsRunOf, WearsOut};
-ghost use Rattle.exchange.specs.Sending.{CanBegin, MaySend, MayTake, MayWrite, IsEarly, HasEnded};
+ghost use Rattle.exchange.specs.Sending.{CanBegin, MaySend, MayTake, MayWrite, HasEnded};
 ghost use Rattle.gates.specs.Gates.{KnowsAll, AwaitsAll};
 ghost use Rattle.exchange.specs.Settled.{TakesAll};
 ghost use Rattle.outputs.specs.Promise.{KeepsPromise, WearsOutReport};
-ghost use Rattle.outputs.specs.Traced.{KeepsTrace};
+ghost use Rattle.outputs.specs.Traced.{IsEarly, KeepsTrace};
 
 use crate::driver::DriverTask;
 use crate::settling::{closed, no_seats, settled};

@@ -2,7 +2,8 @@
 ghost use Rattle.std.specs.Prelude.{◌≡◌, ◌<◌, ◌≤◌, Some, IfOk, OnErr, IfErr};
 ghost use Rattle.std.specs.Thread.{IsSync, IsSend};
 ghost use Rattle.gates.specs.Gates.{KnowsAll, AwaitsAll};
-ghost use Rattle.exchange.specs.Sending.{CanBegin, MaySend, MayWrite, IsEarly, IsDriven, HasEnded};
+ghost use Rattle.outputs.specs.Traced.{IsEarly};
+ghost use Rattle.exchange.specs.Sending.{CanBegin, MaySend, MayWrite, IsDriven, HasEnded};
 
 use crate::driver::{Driven, DriverTask, Drives, drive};
 use crate::writer::{Writer, Written, write_all};

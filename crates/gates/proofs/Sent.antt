@@ -14,6 +14,7 @@ use Rattle.scenario.specs.contracts.settings.Crash as crash
 use Rattle.scenario.specs.contracts.settings.Leave as leave
 use Rattle.scenario.specs.contracts.settings.Cut as cut
 use Rattle.scenario.specs.contracts.scenario.Scenario as scenario
+use Rattle.scenario.specs.contracts.division.Division as division
 use Rattle.links.specs.contracts.table.Links as links
 use Rattle.membership.specs.contracts.table.Table as table
 use Rattle.piggyback.specs.contracts.Buffer as buffer
@@ -52,6 +53,9 @@ cut_sync = search (crosses, sendable) depth 60 fits 20000
 
 pub scenario_sync : IsSync scenario.the_row
 scenario_sync = search (crosses, group_sync, path_sync, slow_sync, crash_sync, leave_sync, cut_sync, sendable) depth 60 fits 20000
+
+pub division_sync : IsSync division.the_row
+division_sync = search (crosses, sendable) depth 60 fits 20000
 
 pub links_sync : IsSync links.the_row
 links_sync = search (maps.crosses, crosses, sendable) depth 60 fits 20000

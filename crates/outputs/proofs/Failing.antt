@@ -3,6 +3,7 @@ use Rattle.std.proofs.Common.{◌≡◌, ◌≢◌, ◌∙◌, ◌⊎◌, ℕ, �
 use Rattle.std.specs.Result.{IfErr, IsErrOf}
 use Rattle.base.specs.declared.fault.Fault.{Fault}
 use Rattle.base.specs.declared.fault.Fault.TheVariants.{Memory, Worn, Write, Relay}
+use Rattle.base.proofs.Faults.{memory≢worn, memory≢write, memory≢relay, worn≢write, write≢relay}
 use Rattle.scenario.specs.Setup.{Setup}
 use Rattle.trace.specs.declared.row.Row.{Row}
 use Rattle.trace.specs.declared.write.WriteError.{WriteError}
@@ -12,21 +13,6 @@ use Rattle.reports.proofs.Faults.{is_err}
 use Rattle.outputs.specs.declared.summary.Summary.{Summary}
 use Rattle.outputs.specs.Written.{sink_failures}
 use Rattle.outputs.specs.Promise.{WritesBeginning, KeepsPromise, summed}
-
-memory≢worn : Memory ≢ Worn
-memory≢worn is = cc
-
-memory≢write : Memory ≢ Write
-memory≢write is = cc
-
-memory≢relay : Memory ≢ Relay
-memory≢relay is = cc
-
-write≢worn : Write ≢ Worn
-write≢worn is = cc
-
-write≢relay : Write ≢ Relay
-write≢relay is = cc
 
 -- the sink failed where its failure is answered, and only there
 pub write_fails : (e : WriteError) → fault_of_write e ≡ Write → failures_of_write {T = Unit {0}} (Err e) ≡ 1
@@ -53,7 +39,7 @@ one_failure r gives = ap failures_of_write (is_err r _ gives)
 -- it has no other fault
 pub never_worn : {T : Type 0} (r : Result T Fault) (e : WriteError) → IsErrAnd r (λ f. f ≡ fault_of_write e) → ¬ (IsErrOf r Worn)
 never_worn r error.Memory gives is = let same : Memory ≡ Worn = cc (is_err r Memory gives) in memory≢worn same
-never_worn r error.Stopped gives is = let same : Write ≡ Worn = cc (is_err r Write gives) in write≢worn same
+never_worn r error.Stopped gives is = let same : Write ≡ Worn = cc (is_err r Write gives) in worn≢write (sym same)
 
 -- what holds of a fault holds of what answers it
 pub answered : {T E : Type 0} (P : E → Type 0) (r : Result T E) (e : E) → IsErrAnd r (λ f. f ≡ e) → P e → IfErr r P

@@ -1,7 +1,8 @@
 -- The trace of a run that is written batch after batch.
-use Rattle.std.proofs.Common.{◌≡◌, ℕ, ◌≤◌, ◌<◌, ◌^◌, List, [], ◌++◌, length, Option, Result, Ok, Err, IsErrAnd, append_assoc, ap, ◌∙◌, sym, subst}
+use Rattle.std.proofs.Common.{◌≡◌, ℕ, ◌+◌, ◌≤◌, ◌<◌, ◌^◌, List, [], ◌++◌, length, Option, Result, Ok, Err, IsErrAnd, append_assoc, ap, ◌∙◌, sym, subst, arith}
 use Rattle.std.specs.Result.{OnOk, OnErr, IsErrOf}
 use Rattle.std.specs.Io.KnownBytes.{Appends}
+use Rattle.std.proofs.lemmas.List.{length-append}
 use Rattle.std.proofs.lemmas.Grind.{flat_map-append}
 use Rattle.base.specs.declared.fault.Fault.{Fault}
 use Rattle.base.specs.declared.fault.Fault.TheVariants.{Worn}
@@ -33,6 +34,19 @@ module _ (s : Setup) (before rows : List Row) (held : Option (List ℕ)) where
     part = beginning-of held new _ _ (text_on s before rows) (beginning-then held old new (trace_text s before) (rows_text s rows) wrote.whole.0 part);
     lasts = tt;
     worn = λ h. subst (λ l. 2 ^ 63 < length (l ++ rows)) wrote.whole.1 (worn h);
+  }
+
+  longer : (n : ℕ) → n < length before → n < length (before ++ rows)
+  longer n many = let all = length-append before rows in omega (arith, all, many)
+
+  -- after a fault nothing more is written
+  pub stays_written : (now : Option (List ℕ)) (tallied : List Row) (fault : Fault) → HasWritten {T = Unit {0}} s before held now tallied (Err fault)
+      → HasWritten {T = Unit {0}} s (before ++ rows) held now tallied (Err fault)
+  stays_written now tallied fault wrote = record {
+    whole = tt;
+    part = beginning-of held now _ _ (text_on s before rows) (beginning-first held now (trace_text s before) (rows_text s rows) wrote.part);
+    lasts = tt;
+    worn = λ h. longer (2 ^ 63) (wrote.worn h);
   }
 
 -- where not even the header was written whole

@@ -1,5 +1,5 @@
 -- What a run keeps of the sink of its trace, while its rows are written as they come.
-use Rattle.std.specs.Prelude.{◌≡◌, ℕ, ◌<◌, ◌⊎◌, List, Option, Result, IfOk, OnOk, OnErr, IsErrOf}
+use Rattle.std.specs.Prelude.{◌≡◌, ◌≢◌, ℕ, ◌<◌, ◌⊎◌, List, Option, Result, IfOk, OnOk, OnErr, IsErrOf}
 use Rattle.std.specs.Io.KnownBytes.{Appends}
 use Rattle.base.specs.declared.fault.Fault.{Fault}
 use Rattle.base.specs.declared.fault.Fault.TheVariants as fault
@@ -8,6 +8,10 @@ use Rattle.trace.specs.declared.row.Row.{Row}
 use Rattle.trace.specs.Text.{trace_text}
 use Rattle.member_laws.specs.Runs.{IsRunOf, WearsOut}
 use Rattle.outputs.specs.Promise.{BeginsTrace, WearsOutReport}
+
+-- a fault that comes before anything is written
+abbrev pub IsEarly : Fault → Type 0
+IsEarly f = (f ≢ fault.Worn) × (f ≢ fault.Write)
 
 -- What every way to run the scenario keeps of the trace's sink, which isn't flushed yet: what it holds, and how many of its failures
 -- were counted.

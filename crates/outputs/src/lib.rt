@@ -10,5 +10,5 @@ mod writing;
 pub use ending::{end_run, end_tallied};
 pub use gathering::GatherRows;
 pub use summary::Summary;
-pub use taking::{TakeRows, TalliedAlone, TraceAndGathered, Written, WrittenAndGathered};
+pub use taking::{TakeRows, TalliedAlone, TraceAndGathered, Written, WrittenAndGathered, take_on};
 pub use writing::{flush, write_run, write_tallied};

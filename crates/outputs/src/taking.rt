@@ -59,6 +59,29 @@ pub trait TakeRows<P> {
         ensures relay { IfErr result (λ fault. fault ≢ Fault.Relay) };
 }
 
+/// Takes the next rows of a run, unless a fault came before: then nothing more is taken.
+///
+/// Faults: the one that came before; else those of `take`.
+pub fn take_on<T: TakeRows<P>, P>(
+    so_far: Result<(), Fault>,
+    alloc: Global,
+    rows: &[Row],
+    scenario: &Scenario,
+    tallies: &mut Tallies,
+    place: &mut P,
+) -> Result<(), Fault>
+    requires named { All (NamesMembers scenario.now) rows.now }
+    requires countable { OnOk so_far (T.failed place.old < 2 ^ 63) }
+    requires gathered { OnOk so_far (T.gathered place.old scenario.now tallies.old) }
+    ensures written { (before : List ARow) (held : Option (List ℕ)) → HasWritten scenario.now before held (T.held place.old) tallies.old so_far
+        → HasWritten scenario.now (before ++ rows.now) held (T.held place.new) tallies.new result }
+    ensures gathered { OnOk result (T.gathered place.new scenario.now tallies.new) }
+    ensures failures { T.failed place.new + sink_failures so_far ≡ T.failed place.old + sink_failures result }
+{
+    so_far?;
+    T::take(alloc, rows, scenario, tallies, place)
+}
+
 /// Rows that are written too: their text goes to a sink.
 pub struct Written;
 

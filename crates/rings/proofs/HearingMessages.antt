@@ -1,21 +1,15 @@
 -- The events of messages that came to a part so far, and those of one more.
 use Rattle.std.proofs.Common.{◌≡◌, ◌≢◌, false, List, [], ◌∷◌, ◌++◌, append_assoc, append-nil, ap, ◌∙◌, sym}
 use Rattle.std.specs.FinMap.{FinMap, contains_key, insert}
-use Rattle.std.proofs.lemmas.Bool.{false≢true}
 use Rattle.base.specs.declared.key.Key.{Key}
 use Rattle.base.specs.Order.{key_cmp}
 use Rattle.base.specs.World.{with_events}
-use Rattle.base.specs.Run.{holds-with_events}
 use Rattle.base.specs.Rising.{AreNew}
 use Rattle.base.proofs.Rising.{all_weaker}
 use Rattle.member.specs.declared.content.Content.{Content}
-use Rattle.windows.proofs.Admitting.{absent}
+use Rattle.windows.proofs.Deliveries.{absent_inserted}
 use Rattle.windows.proofs.Far.{all_both}
 use Rattle.rounds.specs.Messages.{Message, all_events}
-
-absent_beside : (pending : FinMap key_cmp Content) (k : Key) (c : Content) (q : Key) → k ≢ q → contains_key pending q ≡ false → contains_key (insert pending k c) q ≡ false
-absent_beside pending k c q other none =
-    absent (insert pending k c) q (holds-with_events (λ r. r ≢ q) ((k, c) ∷ []) pending (λ r here same. false≢true (sym none ∙ ap (contains_key pending) (sym same) ∙ here)) (other, tt))
 
 -- events that are new beside others are new once those pend
 pub new_behind : (es fs : List (Key × Content)) (pending : FinMap key_cmp Content) → AreNew pending (es ++ fs) → AreNew (with_events pending es) fs
@@ -24,7 +18,7 @@ new_behind (e ∷ es) fs pending new =
     new_behind es fs (insert pending e.0 e.1)
     (record {
       unlike_pending =
-          all_weaker (λ f. (e.0 ≢ f.0) × (contains_key pending f.0 ≡ false)) (λ f. contains_key (insert pending e.0 e.1) f.0 ≡ false) (λ f both. absent_beside pending e.0 e.1 f.0 both.0 both.1) (es ++ fs)
+          all_weaker (λ f. (e.0 ≢ f.0) × (contains_key pending f.0 ≡ false)) (λ f. contains_key (insert pending e.0 e.1) f.0 ≡ false) (λ f both. absent_inserted pending e.0 f.0 e.1 both.0 both.1) (es ++ fs)
           (all_both (λ f. e.0 ≢ f.0) (λ f. contains_key pending f.0 ≡ false) (es ++ fs) new.unlike_each_other.0 new.unlike_pending.1);
       unlike_each_other = new.unlike_each_other.1;
     })

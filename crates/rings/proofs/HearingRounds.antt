@@ -6,7 +6,7 @@ use Rattle.std.proofs.lemmas.List.{map-append}
 use Rattle.base.specs.declared.key.Key.{Key}
 use Rattle.base.specs.Order.{key_cmp}
 use Rattle.base.specs.Rising.{IsRising, AreNew}
-use Rattle.base.proofs.Rising.{all_append, all_weaker}
+use Rattle.base.proofs.Rising.{all_append, all_weaker, rising_front, all_front, all_back}
 use Rattle.scenario.specs.Setup.{member_count}
 use Rattle.trace.specs.declared.row.Row.{Row}
 use Rattle.member.specs.declared.content.Content.{Content}
@@ -20,9 +20,9 @@ use Rattle.windows.specs.Window.{is_own}
 use Rattle.windows.specs.WorldOf.{world_of}
 use Rattle.windows.proofs.Cuts.{joined_joined}
 use Rattle.turns.proofs.Turning.{low_by_part}
+use Rattle.turns.proofs.After.{of_events}
 use Rattle.rounds.specs.Starts.{IsUpTo}
 use Rattle.rounds.specs.Messages.{BeginsRound, IsWindowOfRound, IsLeastAfter, IsMessage, IsOneOf, Message, sender_of, all_events, AreOfAllOthers, IsLeastOfAll}
-use Rattle.rounds.proofs.Pending.{all_first, all_last}
 use Rattle.rounds.proofs.Heard.{new_so_far, next_round, own_so_far}
 use Rattle.round_windows.specs.Basis.{Basis, IsBasis, division_of}
 use Rattle.rings.specs.declared.word.Word.{Word}
@@ -33,10 +33,6 @@ use Rattle.rings.proofs.TellingInTurn.{next_to_come}
 use Rattle.rings.proofs.HearingMessages.{new_behind, events_more}
 
 -- ---- lists
-
-rising_first : {A : Type 0} (before : A → A → Type 0) (xs ys : List A) → IsRising before (xs ++ ys) → IsRising before xs
-rising_first before [] ys up = tt
-rising_first before (x ∷ xs) ys up = (all_first (before x) xs ys up.0, rising_first before xs ys up.1)
 
 by_sender : (P : ℕ → Type 0) (ms : List Message) → AllByRecursion P (map sender_of ms) → AllByRecursion (λ (m : Message). P m.from) ms
 by_sender P [] all = tt
@@ -51,11 +47,6 @@ one_by_sender [] n none = none
 one_by_sender (m ∷ ms) n (inl same) = inl same
 one_by_sender (m ∷ ms) n (inr more) = inr (one_by_sender ms n more)
 
--- events and their pairs
-pub of_pairs : (P : Key → Type 0) (es : List Event) → AllByRecursion (λ (e : Key × Content). P e.0) (map pair_of es) → AllByRecursion (λ (e : Event). P e.key) es
-of_pairs P [] all = tt
-of_pairs P (e ∷ es) all = (all.0, of_pairs P es all.1)
-
 pub to_pairs : (P : Key → Type 0) (es : List Event) → AllByRecursion (λ (e : Event). P e.key) es → AllByRecursion (λ (e : Key × Content). P e.0) (map pair_of es)
 to_pairs P [] all = tt
 to_pairs P (e ∷ es) all = (all.0, to_pairs P es all.1)
@@ -67,7 +58,7 @@ own_member basis own is low m same = let below = low_by_part basis.deal m own lo
 -- the least moment, with that of one message more
 least_more : (own first next : Option ℕ) (ms : List Message) (m : Message) → IsLeastOfAll own ms first → ((t : ℕ) → (IsUpTo first t × IsUpTo m.least t) ↔ IsUpTo next t) → IsLeastOfAll own (ms ++ m ∷ []) next
 least_more own first next ms m so_far lesser t = (
-  λ both. (lesser t).0 ((so_far t).0 (both.0, all_first (λ (n : Message). IsUpTo n.least t) ms (m ∷ []) both.1), (all_last (λ (n : Message). IsUpTo n.least t) ms (m ∷ []) both.1).0),
+  λ both. (lesser t).0 ((so_far t).0 (both.0, all_front (λ (n : Message). IsUpTo n.least t) ms (m ∷ []) both.1), (all_back (λ (n : Message). IsUpTo n.least t) ms (m ∷ []) both.1).0),
   λ upto.
       let two = (lesser t).1 upto in
       let old = (so_far t).1 two.0 in
@@ -135,10 +126,10 @@ module _ {Q : Type 0} (set : Q → FinMap key_cmp Event) (basis : Basis) (own ro
       others_here =
           by_sender (λ n. heard.window.part ≢ n) more
           (all_weaker (λ n. (n ≢ own) × (n < basis.deal.parts)) (λ n. heard.window.part ≢ n) (λ n other same. other.0 (sym same ∙ heard.named)) (map sender_of more)
-          (all_first (λ n. (n ≢ own) × (n < basis.deal.parts)) (map sender_of more) left (subst (AllByRecursion (λ n. (n ≢ own) × (n < basis.deal.parts))) (sym senders_more) others.others)))
+          (all_front (λ n. (n ≢ own) × (n < basis.deal.parts)) (map sender_of more) left (subst (AllByRecursion (λ n. (n ≢ own) × (n < basis.deal.parts))) (sym senders_more) others.others)))
 
       differ_here : IsRising (λ (m n : Message). m.from ≢ n.from) more
-      differ_here = differ_by_sender more (rising_first (λ m n. m ≢ n) (map sender_of more) left (subst (IsRising (λ m n. m ≢ n)) (sym senders_more) others.different))
+      differ_here = differ_by_sender more (rising_front (λ m n. m ≢ n) (map sender_of more) left (subst (IsRising (λ m n. m ≢ n)) (sym senders_more) others.different))
 
       -- its events are new, and for members of the part
       new_next : AreNew (world_of set part).pending (map pair_of events)
@@ -150,9 +141,9 @@ module _ {Q : Type 0} (set : Q → FinMap key_cmp Event) (basis : Basis) (own ro
 
       own_next : own < basis.deal.parts → AllByRecursion (λ (e : Event). is_own (world_of set part) e.key.to ≡ true) events
       own_next low =
-          of_pairs (λ k. is_own (world_of set part) k.to ≡ true) events
+          of_events (λ k. is_own (world_of set part) k.to ≡ true) events
           (subst (λ (w : Cluster). AllByRecursion (λ (e : Key × Content). is_own w e.0.to ≡ true) (map pair_of events)) (sym heard.come)
-          (all_last (λ (e : Key × Content). is_own heard.window.after e.0.to ≡ true) (all_events heard.messages) (map pair_of events)
+          (all_back (λ (e : Key × Content). is_own heard.window.after e.0.to ≡ true) (all_events heard.messages) (map pair_of events)
           (subst (AllByRecursion (λ (e : Key × Content). is_own heard.window.after e.0.to ≡ true)) (events_more heard.messages message)
           (own_so_far basis.setup basis.delay (division_of basis) is.sound round heard.window more heard.runs each_here (λ m same. own_member basis own is low m (same ∙ heard.named))))))
 

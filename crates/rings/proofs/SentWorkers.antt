@@ -7,8 +7,7 @@ use Rattle.std.proofs.Crossing.{crosses}
 use Rattle.rtrb.proofs.end.End.TheSendSync.{the_send as end_send}
 use Rattle.rtrb.specs.declared.Protocol as protocol
 use Rattle.std.proofs.alloc.Global.TheSendSync as heap
-use Rattle.scenario.specs.contracts.division.Division as division
-use Rattle.gates.proofs.Sent.{declared_send, scenario_sync, links_sync, part_send, event_send, row_send}
+use Rattle.gates.proofs.Sent.{declared_send, scenario_sync, links_sync, part_send, event_send, row_send, division_sync}
 use Rattle.round_windows.specs.contracts.course.Rounds as rounds
 use Rattle.rings.specs.declared.of_run.OfRun as of_run
 use Rattle.rings.specs.contracts.bell.Bell as bell
@@ -24,9 +23,6 @@ use Rattle.rings.specs.contracts.worker.Worker as worker
 
 pub bell_sync : IsSync bell.the_row
 bell_sync = search (crosses, sendable) depth 60 fits 20000
-
-division_sync : IsSync division.the_row
-division_sync = search (crosses, sendable) depth 60 fits 20000
 
 pub rounds_sync : (α : NamedLft) → IsSync (rounds.the_row α)
 rounds_sync α = search (scenario_sync, links_sync, division_sync, crosses, sendable) depth 60 fits 20000

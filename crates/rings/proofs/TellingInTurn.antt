@@ -5,8 +5,8 @@ use Rattle.std.proofs.Math.ListN.{drop_of_length-le}
 use Rattle.std.proofs.Math.Seq.{map-set_same, take-append_seam}
 use Rattle.std.proofs.lemmas.List.{length-map, drop-map, drop_more, take-append-drop}
 use Rattle.base.specs.Rising.{IsRising}
+use Rattle.base.proofs.Rising.{all_back}
 use Rattle.rounds.proofs.Bounded.{rising_last}
-use Rattle.rounds.proofs.Pending.{all_last}
 
 -- ---- the numbers of the peers
 
@@ -55,7 +55,7 @@ module _ {A : Type 0} (f : A → ℕ) (now : List A) (numbers : List ℕ) (i : �
 
   -- what holds of all numbers holds of it and of those behind it
   from_next : (P : ℕ → Type 0) → AllByRecursion P numbers → AllByRecursion P (n ∷ drop (i + 1) numbers)
-  from_next P all = subst (AllByRecursion P) (next_to_come f now numbers i d so_far low) (all_last P (take i numbers) (drop i numbers) (subst (AllByRecursion P) (sym (take-append-drop i numbers)) all))
+  from_next P all = subst (AllByRecursion P) (next_to_come f now numbers i d so_far low) (all_back P (take i numbers) (drop i numbers) (subst (AllByRecursion P) (sym (take-append-drop i numbers)) all))
 
   pub of_next : (P : ℕ → Type 0) → AllByRecursion P numbers → P n
   of_next P all = (from_next P all).0

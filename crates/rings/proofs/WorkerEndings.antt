@@ -5,6 +5,7 @@ use Rattle.std.specs.Result.{IsErrAnd}
 use Rattle.std.proofs.lemmas.Option.{same_Some}
 use Rattle.base.specs.declared.fault.Fault.{Fault}
 use Rattle.base.specs.declared.fault.Fault.TheVariants as fault
+use Rattle.base.proofs.Faults.{memory≢worn, memory≢write, worn≢write, worn≢relay, write≢relay}
 use Rattle.member_laws.specs.Runs.{WearsOut}
 use Rattle.rounds.specs.Lots.{IsLot, HasLasted}
 use Rattle.round_windows.specs.Basis.{Basis, division_of}
@@ -27,26 +28,11 @@ may_deliver (Some basis) before delivery is = is basis refl
 
 -- ---- faults
 
-relay≢worn : fault.Relay ≢ fault.Worn
-relay≢worn is = cc
-
-relay≢write : fault.Relay ≢ fault.Write
-relay≢write is = cc
-
-memory≢worn : fault.Memory ≢ fault.Worn
-memory≢worn is = cc
-
-memory≢write : fault.Memory ≢ fault.Write
-memory≢write is = cc
-
 pub ends_by_relay : (basis : Basis) → MayEndBy basis fault.Relay
-ends_by_relay basis = (λ is. absurd (relay≢worn is), relay≢write)
+ends_by_relay basis = (λ is. absurd (worn≢relay (sym is)), λ is. write≢relay (sym is))
 
 pub ends_by_memory : (basis : Basis) → MayEndBy basis fault.Memory
 ends_by_memory basis = (λ is. absurd (memory≢worn is), memory≢write)
-
-worn≢write : fault.Worn ≢ fault.Write
-worn≢write is = cc
 
 -- the fault of a window, where a counter that it wears out the run wears out
 pub ends_by_window : (basis : Basis) (f : Fault) (Wears : Type 0) → (Wears → WearsOut basis.setup) → (f ≡ fault.Memory) ⊎ ((f ≡ fault.Worn) × Wears) → MayEndBy basis f

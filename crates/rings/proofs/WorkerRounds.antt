@@ -22,12 +22,13 @@ use Rattle.rounds.proofs.LotWindows.{lot_of_window}
 use Rattle.round_windows.specs.declared.window.Ran.{Ran}
 use Rattle.round_windows.specs.Basis.{Basis, IsBasis, division_of}
 use Rattle.round_windows.specs.Windows.{HasRan}
+use Rattle.turns.proofs.After.{of_events}
 use Rattle.rings.specs.declared.rows.Gathered.{Gathered}
 use Rattle.rings.specs.declared.peers.Peer.{Peer}
 use Rattle.rings.specs.declared.worker.Lines.{Lines}
 use Rattle.rings.specs.Peers.{AreOthers, AreLines, numbers_of}
 use Rattle.rings.specs.Windows.{HasRanRound, Begins, GathersUpTo}
-use Rattle.rings.proofs.HearingRounds.{of_pairs, to_pairs, own_member}
+use Rattle.rings.proofs.HearingRounds.{to_pairs, own_member}
 
 -- the bound that was chosen is the round's
 pub bound_here : (delay first : Option ℕ) (from bound end last : ℕ) → bound ≡ round_bound end delay (Some from) → end ≡ last → first ≡ Some from → bound ≡ round_bound last delay first
@@ -71,7 +72,7 @@ module _ {Q : Type 0} (set : Q → FinMap key_cmp Event) (basis : Basis) (is : I
           sent = refl;
           dealt = has.dealt;
           least = λ t. (
-            λ both. (has.least t).0 (both.0, of_pairs (λ k. t ≤ k.at) has.out both.1),
+            λ both. (has.least t).0 (both.0, of_events (λ k. t ≤ k.at) has.out both.1),
             λ upto. let two = (has.least t).1 upto in (two.0, to_pairs (λ k. t ≤ k.at) has.out two.1),
           );
         }

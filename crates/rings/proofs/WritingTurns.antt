@@ -2,14 +2,12 @@
 use Rattle.std.proofs.Common.{◌≡◌, ◌≢◌, ◌+◌, ◌<◌, ◌^◌, ℕ, true, All, List, [], ◌++◌, length, Option, Some, Result, Ok, Err, zero-le, ◌∙◌, sym, subst, refl, arith}
 use Rattle.std.specs.Result.{IfOk, OnOk, IfErr}
 use Rattle.std.specs.Bool.{OnTrue}
-use Rattle.std.proofs.lemmas.List.{length-append}
 use Rattle.std.proofs.lemmas.Option.{same_Some}
 use Rattle.base.specs.declared.fault.Fault.{Fault}
 use Rattle.base.specs.declared.fault.Fault.TheVariants.{Worn, Write}
 use Rattle.scenario.specs.Setup.{Setup, IsSound}
 use Rattle.trace.specs.declared.row.Row.{Row}
 use Rattle.trace.specs.Text.{NamesMembers, rows_text, trace_text}
-use Rattle.trace.proofs.Beginnings.{beginning-first, beginning-of}
 use Rattle.member.specs.Opening.{opening}
 use Rattle.member_laws.specs.Runs.{IsRunOf, WearsOut}
 use Rattle.turns.specs.Beginning.{BeginsRun}
@@ -18,31 +16,12 @@ use Rattle.rounds.proofs.Worlds.{opening_before, beginning_before}
 use Rattle.outputs.specs.Written.{sink_failures, HasWritten}
 use Rattle.outputs.specs.Traced.{KeepsTrace}
 use Rattle.outputs.proofs.Runs.{some_run}
-use Rattle.outputs.proofs.Streaming.{text_on}
 use Rattle.round_windows.specs.Basis.{Basis, IsBasis}
 use Rattle.rings.specs.declared.lots.Turn.{Turn}
 use Rattle.rings.specs.Telling.{MayEndBy}
 use Rattle.rings.specs.Writing.{HasComeTo, IsNextTurn, fault_beside}
-use Rattle.rings.proofs.EndingsOfRuns.{breaks_off, comes_to}
-
--- ---- after a fault
-
-abbrev pub failed_by : Fault → Result (Unit {0}) Fault
-failed_by fault = Err fault
-
-longer : {A : Type 0} (xs ys : List A) (n : ℕ) → n < length xs → n < length (xs ++ ys)
-longer xs ys n many = let all = length-append xs ys in omega (arith, all, many)
-
--- nothing more is written
-pub stays_written : (s : Setup) (before rows : List Row) (held now : Option (List ℕ)) (tallied : List Row) (fault : Fault) → HasWritten s before held now tallied (failed_by fault) → HasWritten s (before ++ rows) held now tallied (failed_by fault)
-stays_written s before rows held now tallied fault wrote = record {
-  whole = tt;
-  part = beginning-of held now _ _ (text_on s before rows) (beginning-first held now (trace_text s before) (rows_text s rows) wrote.part);
-  lasts = tt;
-  worn = λ h. longer before rows (2 ^ 63) (wrote.worn h);
-}
-
--- ---- the turns
+use Rattle.whole_runs.proofs.Endings.{comes_to}
+use Rattle.rings.proofs.EndingsOfRuns.{breaks_off}
 
 -- a run goes by one basis
 pub one_basis : (given : Option Basis) (a b : Basis) → given ≡ Some a → given ≡ Some b → a ≡ b

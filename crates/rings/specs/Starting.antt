@@ -1,10 +1,8 @@
 -- What the threads of a run begin with.
-use Rattle.std.specs.Prelude.{◌≡◌, ◌≢◌, ℕ, List, Option, Some}
+use Rattle.std.specs.Prelude.{◌≡◌, ℕ, List, Option, Some}
 use Rattle.std.specs.List.{AllByRecursion}
 use Rattle.std.specs.FinMap.{FinMap}
 use Rattle.base.specs.Order.{key_cmp}
-use Rattle.base.specs.declared.fault.Fault.{Fault}
-use Rattle.base.specs.declared.fault.Fault.TheVariants as fault
 use Rattle.member.specs.declared.event.Event.{Event}
 use Rattle.gates.specs.Gates.{KnowsAll, AwaitsAll}
 use Rattle.rings.specs.declared.worker.Worker.{Worker}
@@ -19,10 +17,6 @@ use Rattle.rings.specs.Writing.{MayWrite}
 pub record MayWork {K Q : Type 0} (set : Q → FinMap key_cmp Event) (basis : Basis) (worker : Worker K Q) : Type 0 where
   pub begins : Begins set basis worker.lines.number 0 worker.first worker.part
   pub lines : AreLines basis worker.lines
-
--- a fault that comes before anything is written
-abbrev pub IsEarly : Fault → Type 0
-IsEarly f = (f ≢ fault.Worn) × (f ≢ fault.Write)
 
 -- The threads of the run that goes by these rounds may start: each worker begins the first round, and who writes has written nothing
 -- yet. The gate allows for each worker, of which each part has one, and for each part in each window.

@@ -3,9 +3,9 @@ ghost use Rattle.std.specs.Prelude.{◌≡◌, ◌<◌, ◌^◌, [], Some, IfOk,
 ghost use Rattle.std.specs.List.{AllByRecursion};
 ghost use Rattle.std.specs.Thread.{IsSync, IsSend};
 ghost use Rattle.gates.specs.Gates.{KnowsAll, AwaitsAll};
-ghost use Rattle.outputs.specs.Traced.{KeepsTrace};
+ghost use Rattle.outputs.specs.Traced.{IsEarly, KeepsTrace};
 ghost use Rattle.round_windows.specs.Basis.{basis_of, GoBy};
-ghost use Rattle.rings.specs.Starting.{IsEarly, MayWork, MayStart};
+ghost use Rattle.rings.specs.Starting.{MayWork, MayStart};
 
 use crate::bell::Bell;
 use crate::of_run::OfRun;

@@ -1,8 +1,5 @@
 //! Who writes the rows of a run by rings, on the thread that calls.
-ghost use Rattle.std.specs.Prelude.{◌≡◌, ◌+◌, ◌++◌, ◌<◌, ◌^◌, [], ℕ, List, Option, Ok, Err, Some, OnOk, IfOk, IfErr, All};
-ghost use Rattle.trace.specs.Text.{NamesMembers};
-ghost use Rattle.trace.specs.declared.row.Row.{Row as ARow};
-ghost use Rattle.outputs.specs.Written.{sink_failures, HasWritten};
+ghost use Rattle.std.specs.Prelude.{◌≡◌, ◌<◌, ◌^◌, [], Ok, Err, Some, IfOk, IfErr};
 ghost use Rattle.outputs.specs.Traced.{KeepsTrace};
 ghost use Rattle.round_windows.specs.Basis.{Basis};
 ghost use Rattle.rings.specs.Writing.{MayWrite, fault_beside};
@@ -12,12 +9,11 @@ use crate::of_run::OfRun;
 use crate::patience::Patience;
 use base::Fault;
 use gates::first_of;
-use outputs::TakeRows;
+use outputs::{TakeRows, take_on};
 use reports::Tallies;
 use scenario::Scenario;
 use std::alloc::Global;
 use std::sync::Wait;
-use trace::Row;
 
 /// What the writer takes with it.
 #[derive(Drop)]
@@ -63,34 +59,13 @@ pub(crate) fn write_all<'r, 'b, T: TakeRows<P>, P, K: OfRun, R: Wait>(
                 return Err(first_fault(so_far, fault));
             }
         };
-        so_far = go_on::<T, P>(so_far, alloc, &turn.rows, scenario, &mut tallies, place);
+        so_far = take_on::<T, P>(so_far, alloc, &turn.rows, scenario, &mut tallies, place);
         if turn.last {
             return ended(so_far, tallies);
         }
         since = turn.until;
     }
     unreachable!()
-}
-
-/// Takes rows, unless a fault came before.
-fn go_on<T: TakeRows<P>, P>(
-    so_far: Result<(), Fault>,
-    alloc: Global,
-    rows: &[Row],
-    scenario: &Scenario,
-    tallies: &mut Tallies,
-    place: &mut P,
-) -> Result<(), Fault>
-    requires named { All (NamesMembers scenario.now) rows.now }
-    requires countable { OnOk so_far (T.failed place.old < 2 ^ 63) }
-    requires gathered { OnOk so_far (T.gathered place.old scenario.now tallies.old) }
-    ensures written { (before : List ARow) (held : Option (List ℕ)) → HasWritten scenario.now before held (T.held place.old) tallies.old so_far
-        → HasWritten scenario.now (before ++ rows.now) held (T.held place.new) tallies.new result }
-    ensures gathered { OnOk result (T.gathered place.new scenario.now tallies.new) }
-    ensures failures { T.failed place.new + sink_failures so_far ≡ T.failed place.old + sink_failures result }
-{
-    so_far?;
-    T::take(alloc, rows, scenario, tallies, place)
 }
 
 /// Of the writer's own fault, where there is one, and another the first.

@@ -1,4 +1,3 @@
 mod Counting
 mod Dividing
 mod Together
-mod Unwritten

@@ -1,22 +1,17 @@
 -- The trace of a run that is written batch after batch.
-use Rattle.std.proofs.Common.{◌≡◌, ℕ, ◌<◌, ◌^◌, Bool, true, false, ◌||◌, List, [], ◌∷◌, ◌++◌, length, Option, Result, Ok, Err, append-nil, ap, ◌∙◌, sym, subst, refl, arith}
+use Rattle.std.proofs.Common.{◌≡◌, ℕ, Bool, true, false, ◌||◌, List, [], ◌∷◌, ◌++◌, Option, Result, Ok, Err, append-nil, ap, ◌∙◌, sym, subst, refl}
 use Rattle.std.specs.Result.{OnOk, OnErr, IsErrOf}
-use Rattle.std.proofs.lemmas.List.{length-append}
 use Rattle.std.proofs.lemmas.List.Folds.{list_any-append}
 use Rattle.std.proofs.lemmas.Grind.{flat_map-append}
 use Rattle.base.specs.declared.fault.Fault.{Fault}
-use Rattle.base.specs.declared.fault.Fault.TheVariants.{Worn, Relay}
+use Rattle.base.specs.declared.fault.Fault.TheVariants.{Relay}
 use Rattle.scenario.specs.Setup.{Setup}
 use Rattle.trace.specs.declared.row.Row.{Row}
-use Rattle.trace.specs.Text.{rows_text, trace_text}
-use Rattle.trace.proofs.Beginnings.{beginning-first, beginning-whole, beginning-of}
+use Rattle.trace.specs.Text.{trace_text}
+use Rattle.trace.proofs.Beginnings.{beginning-whole}
 use Rattle.relay.specs.declared.batch.Lot.{Lot}
 use Rattle.relay.specs.Lots.{rows_in, has_last}
 use Rattle.outputs.specs.Written.{HasWritten}
-use Rattle.outputs.proofs.Streaming.{text_on}
-
-abbrev pub failed_by : Fault → Result (Unit {0}) Fault
-failed_by fault = Err fault
 
 -- the rows of one batch more
 pub rows_on : (lots : List Lot) (lot : Lot) → rows_in (lots ++ lot ∷ []) ≡ rows_in lots ++ lot.rows
@@ -29,18 +24,6 @@ last_on lots lot is = list_any-append (λ (l : Lot). l.last) lots (lot ∷ []) �
     either true = refl
     either false = refl
 
-longer : {A : Type 0} (xs ys : List A) (n : ℕ) → n < length xs → n < length (xs ++ ys)
-longer xs ys n many = let all = length-append xs ys in omega (arith, all, many)
-
--- after a fault nothing more is written
-pub stays_written : (s : Setup) (before rows : List Row) (held now : Option (List ℕ)) (tallied : List Row) (fault : Fault) → HasWritten s before held now tallied (failed_by fault) → HasWritten s (before ++ rows) held now tallied (failed_by fault)
-stays_written s before rows held now tallied fault wrote = record {
-  whole = tt;
-  part = beginning-of held now _ _ (text_on s before rows) (beginning-first held now (trace_text s before) (rows_text s rows) wrote.part);
-  lasts = tt;
-  worn = λ h. longer before rows (2 ^ 63) (wrote.worn h);
-}
-
 -- where no batch comes any more
 pub cut_short : (s : Setup) (rows : List Row) (held now : Option (List ℕ)) (tallied : List Row) (so_far outcome : Result (Unit {0}) Fault) → HasWritten s rows held now tallied so_far
     → OnOk so_far (IsErrOf outcome Relay) → OnErr so_far (outcome ≡ so_far) → HasWritten s rows held now tallied outcome
@@ -48,9 +31,6 @@ cut_short s rows held now tallied (Ok u) outcome wrote relay first = subst (HasW
   whole = tt;
   part = beginning-whole held now (trace_text s rows) wrote.whole.0;
   lasts = tt;
-  worn = λ h. absurd (relay≢worn h);
+  worn = λ is. cc;
 })
-  where
-    relay≢worn : ¬ (IsErrOf (failed_by Relay) Worn)
-    relay≢worn h = cc
 cut_short s rows held now tallied (Err fault) outcome wrote relay first = subst (HasWritten s rows held now tallied) (sym first) wrote

@@ -1,18 +1,15 @@
-ghost use Rattle.std.specs.Prelude.{◌≡◌, ◌+◌, ◌++◌, ◌<◌, ◌^◌, [], true, List, Option, OnOk, OnErr, IsErr, IsErrOf, All, ℕ};
-ghost use Rattle.trace.specs.Text.{NamesMembers};
-ghost use Rattle.trace.specs.declared.row.Row.{Row as ARow};
+ghost use Rattle.std.specs.Prelude.{◌≡◌, ◌+◌, ◌<◌, ◌^◌, [], true, OnOk, OnErr, IsErr, IsErrOf};
 ghost use Rattle.relay.specs.Lots.{rows_in, has_last};
 ghost use Rattle.relay.specs.Seats.{scenario_of, taken_by, IsTaker};
 ghost use Rattle.outputs.specs.Written.{sink_failures, HasWritten};
 
 use base::Fault;
-use outputs::TakeRows;
+use outputs::{TakeRows, take_on};
 use relay::{Relay, TakeSeat};
 use reports::Tallies;
 use scenario::Scenario;
 use std::alloc::Global;
 use std::sync::Wait;
-use trace::Row;
 
 /// Begins the trace and takes its rows as they come over the relay, up to the last batch. After a fault it goes on
 /// receiving, so that whoever sends can come to an end, but takes nothing more.
@@ -45,33 +42,12 @@ pub fn write_stream<T: TakeRows<P>, P, R: Wait>(
         let Some(batch) = relay.receive(rt, seat) else {
             return lost(so_far);
         };
-        so_far = go_on::<T, P>(so_far, alloc, &batch.rows, scenario, tallies, place);
+        so_far = take_on::<T, P>(so_far, alloc, &batch.rows, scenario, tallies, place);
         if batch.last {
             return so_far;
         }
     }
     unreachable!()
-}
-
-/// Takes the rows of a batch, unless a fault came before.
-fn go_on<T: TakeRows<P>, P>(
-    so_far: Result<(), Fault>,
-    alloc: Global,
-    rows: &[Row],
-    scenario: &Scenario,
-    tallies: &mut Tallies,
-    place: &mut P,
-) -> Result<(), Fault>
-    requires named { All (NamesMembers scenario.now) rows.now }
-    requires countable { OnOk so_far (T.failed place.old < 2 ^ 63) }
-    requires gathered { OnOk so_far (T.gathered place.old scenario.now tallies.old) }
-    ensures written { (before : List ARow) (held : Option (List ℕ)) → HasWritten scenario.now before held (T.held place.old) tallies.old so_far
-        → HasWritten scenario.now (before ++ rows.now) held (T.held place.new) tallies.new result }
-    ensures gathered { OnOk result (T.gathered place.new scenario.now tallies.new) }
-    ensures failures { T.failed place.new + sink_failures so_far ≡ T.failed place.old + sink_failures result }
-{
-    so_far?;
-    T::take(alloc, rows, scenario, tallies, place)
 }
 
 /// What is answered where the last batch came back, or never came.

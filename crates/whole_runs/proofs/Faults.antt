@@ -3,13 +3,11 @@ use Rattle.std.proofs.Common.{◌≡◌, ◌≢◌, ◌∙◌, ℕ, Result, Ok, 
 use Rattle.std.specs.Result.{IfErr, OnOk, IsErrOf}
 use Rattle.base.specs.declared.fault.Fault.{Fault}
 use Rattle.base.specs.declared.fault.Fault.TheVariants.{Memory, Worn, Write, Relay}
+use Rattle.base.proofs.Faults.{memory≢worn}
 use Rattle.member.specs.Faults.{fault_of}
 use Rattle.member.specs.declared.step_error.StepError.{StepError}
 use Rattle.member.specs.declared.step_error.StepError.TheVariants as step_error
 use Rattle.outputs.specs.Written.{sink_failures}
-
-memory≢worn : Memory ≢ Worn
-memory≢worn is = cc
 
 -- a step's refusal is answered as Worn where a counter would pass its limit
 pub worn_step : {T U : Type 0} (r : Result T Fault) (e : StepError) → IsErrAnd r (λ y. y ≡ fault_of e) → IsErrOf r Worn → IsErrOf {T = U} (Err e) step_error.Worn

@@ -8,6 +8,7 @@ use Rattle.base.specs.declared.key.Key.{Key}
 use Rattle.base.specs.World.{Outcome, IsPending, IsOver, NextStep, Run, SequentialRun, settled, outcome, events_of}
 use Rattle.base.specs.Run.{handled, trace, run-exists}
 use Rattle.base.proofs.Rising.{all_weaker}
+use Rattle.base.proofs.Joined.{run_joins}
 use Rattle.scenario.specs.Setup.{Setup, IsSound, member_count}
 use Rattle.trace.specs.declared.row.Row.{Row}
 use Rattle.member.specs.declared.content.Content.{Content}
@@ -26,8 +27,8 @@ use Rattle.windows.specs.Parts.{PartStep, PartRun, PartWindow, kept_by, for_own}
 use Rattle.windows.specs.Window.{is_own, RunsWindow}
 use Rattle.windows.specs.Wears.{WearsInWindow}
 use Rattle.windows.proofs.Members.{sound_stays, sound_opening}
+use Rattle.windows.proofs.PartRuns.{members_settled}
 use Rattle.turns.specs.Beginning.{BeginsRun}
-use Rattle.turns.proofs.Ends.{run_joins, settled_same}
 use Rattle.turns.proofs.Lasting.{reached_sound, wears_nothing}
 
 -- ---- a window of a part that owns every member
@@ -91,7 +92,7 @@ pub record HasComeTo (s : Setup) (from : ℕ) (w : Cluster) (rows : List Row) : 
 still_own : (s : Setup) (ks : List Key) (w v : Cluster) (rows : List Row) → Run (step s) s.end w ks rows v → (m : ℕ) → is_own v m ≡ is_own w m
 still_own s [] w v rows run m = ap (λ (u : Cluster). is_own u m) run.0
 still_own s (k ∷ ks) w v rows run m =
-    still_own s ks run.0 v run.2 run.5 m ∙ ap (λ (u : Cluster). is_own u m) run.4.world ∙ settled_same s w k run.4.content (get w.members k.to) refl m
+    still_own s ks run.0 v run.2 run.5 m ∙ ap (λ (u : Cluster). is_own u m) run.4.world ∙ members_settled (step s) w k run.4.content (get w.members k.to) refl m
 
 module _ (s : Setup) (sound : IsSound s) where
   -- as it begins

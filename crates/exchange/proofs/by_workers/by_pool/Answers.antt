@@ -1,4 +1,4 @@
-use Rattle.exchange.proofs.Endings.{no_memory}
+use Rattle.outputs.proofs.Early.{no_memory}
 use Rattle.exchange.proofs.by_workers.by_pool.Goals as goal
 
 pub returns-in_err-relay : goal.returns-in_err-relay

@@ -1,6 +1,6 @@
 use Rattle.std.proofs.Common.{Err, refl, sym, subst}
 use Rattle.outputs.specs.Traced.{KeepsTrace}
-use Rattle.exchange.proofs.Endings.{unwritten}
+use Rattle.outputs.proofs.Early.{unwritten}
 use Rattle.exchange.proofs.by_workers.over_board.Goals as goal
 
 pub returns-in-Err-clause-trace : goal.returns-in-Err-clause-trace

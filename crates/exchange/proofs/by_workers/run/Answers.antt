@@ -5,7 +5,7 @@ use Rattle.base.specs.declared.fault.Fault.TheVariants.{Write}
 use Rattle.turns.proofs.Goes.{names_run}
 use Rattle.outputs.specs.Promise.{WearsOutReport}
 use Rattle.outputs.proofs.Faults.{on_came, still_countable}
-use Rattle.exchange.proofs.Faults.{write≢relay}
+use Rattle.base.proofs.Faults.{write≢relay}
 use Rattle.exchange.proofs.by_workers.run.Goals as goal
 
 pub end_run-requires-clause-named : goal.end_run-requires-clause-named

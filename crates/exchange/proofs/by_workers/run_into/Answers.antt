@@ -1,5 +1,5 @@
 use Rattle.std.proofs.Common.{arith}
-use Rattle.exchange.proofs.Endings.{no_memory}
+use Rattle.outputs.proofs.Early.{no_memory}
 use Rattle.exchange.proofs.by_workers.run_into.Goals as goal
 
 pub returns-in_err-links-clause-trace : goal.returns-in_err-links-clause-trace

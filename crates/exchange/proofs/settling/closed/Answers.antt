@@ -2,7 +2,8 @@ use Rattle.std.proofs.Common.{IsOk, Vec, Global, sym, subst, refl}
 use Rattle.exchange.specs.Settled.{TakesAll}
 use Rattle.base.specs.declared.fault.Fault.TheVariants.{Memory, Relay}
 use Rattle.exchange.proofs.Endings.{breaks_off}
-use Rattle.exchange.proofs.Faults.{memory_early, relay_early, memory≢relay}
+use Rattle.base.proofs.Faults.{memory≢relay}
+use Rattle.outputs.proofs.Early.{memory_early, relay_early}
 use Rattle.exchange.proofs.settling.closed.Goals as goal
 
 pub returns-in_default-clause-keeps : goal.returns-in_default-clause-keeps

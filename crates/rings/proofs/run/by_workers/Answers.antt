@@ -10,7 +10,7 @@ use Rattle.turns.specs.Parts.{StandFor, NonePendsBefore}
 use Rattle.turns.proofs.Goes.{none_of_parts, none_of_world}
 use Rattle.rounds.specs.Starts.{IsUpTo, IsFirstMoment}
 use Rattle.round_windows.specs.Basis.{Basis, IsBasis, basis_of}
-use Rattle.rings.proofs.EndingsOfRuns.{no_memory}
+use Rattle.outputs.proofs.Early.{no_memory}
 use Rattle.rings.proofs.WritingTurns.{one_basis}
 use Rattle.rings.proofs.run.by_workers.Goals as goal
 

@@ -6,7 +6,7 @@ use Rattle.member_laws.specs.Runs.{IsRunOf}
 use Rattle.turns.proofs.Goes.{names_run}
 use Rattle.outputs.specs.Promise.{WearsOutReport}
 use Rattle.outputs.proofs.Faults.{if_same, ok_too, on_came, still_countable}
-use Rattle.rings.proofs.EndingsOfRuns.{write≢relay}
+use Rattle.base.proofs.Faults.{write≢relay}
 use Rattle.rings.proofs.run.run_by_rings_gathered.Goals as goal
 
 pub end_tallied-requires-clause-named : goal.end_tallied-requires-clause-named

@@ -1,4 +1,4 @@
-use Rattle.rings.proofs.EndingsOfRuns.{no_memory}
+use Rattle.outputs.proofs.Early.{no_memory}
 use Rattle.rings.proofs.run.run_into.Goals as goal
 
 pub returns-in_err-links-clause-trace : goal.returns-in_err-links-clause-trace

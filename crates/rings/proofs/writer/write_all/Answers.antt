@@ -27,30 +27,30 @@ returns-in-Err-clause-trace g c =
     subst (λ fault. KeepsTrace c.args.writer.scenario.now (g.T.TakeRows.held c.args.place.now) (g.T.TakeRows.held c.loop.place) (failed c.args.place.now) (failed c.loop.place) (Err fault)) (sym c.first_fault.ensures)
     (ends_by _ _ _ _ _ _ _ _ _ _ c.loop.invariant.writing c.drained-fault.result c.drained-fault.ensures)
 
-pub go_on-so_far-requires-clause-named : goal.go_on-so_far-requires-clause-named
-go_on-so_far-requires-clause-named g c = names _ _ _ _ _ _ _ _ _ _ c.loop.invariant.writing c.in-Ok.turn c.in-Ok.ensures.next c.deref.result.now c.deref.ensures.value
+pub take_on-so_far-requires-clause-named : goal.take_on-so_far-requires-clause-named
+take_on-so_far-requires-clause-named g c = names _ _ _ _ _ _ _ _ _ _ c.loop.invariant.writing c.in-Ok.turn c.in-Ok.ensures.next c.deref.result.now c.deref.ensures.value
 
-pub go_on-so_far-requires-clause-countable : goal.go_on-so_far-requires-clause-countable
-go_on-so_far-requires-clause-countable g c = countable _ _ _ _ _ _ _ _ _ _ c.loop.invariant.writing (2 ^ 63) c.requires.countable
+pub take_on-so_far-requires-clause-countable : goal.take_on-so_far-requires-clause-countable
+take_on-so_far-requires-clause-countable g c = countable _ _ _ _ _ _ _ _ _ _ c.loop.invariant.writing (2 ^ 63) c.requires.countable
 
-pub go_on-so_far-requires-clause-gathered : goal.go_on-so_far-requires-clause-gathered
-go_on-so_far-requires-clause-gathered g c = c.loop.invariant.gathered
+pub take_on-so_far-requires-clause-gathered : goal.take_on-so_far-requires-clause-gathered
+take_on-so_far-requires-clause-gathered g c = c.loop.invariant.gathered
 
 pub returns-then-turn-clause-trace : goal.returns-then-turn-clause-trace
 returns-then-turn-clause-trace g c =
-    let went = c.go_on-so_far.ensures in
-    ends _ _ _ _ _ _ _ _ _ _ c.loop.invariant.writing c.in-Ok.turn c.in-Ok.ensures.next _ _ _ c.go_on-so_far.result c.deref.result.now c.deref.ensures.value went.written went.failures c.if-turn.true c.ended.result c.ended.ensures.ok c.ended.ensures.err
+    let went = c.take_on-so_far.ensures in
+    ends _ _ _ _ _ _ _ _ _ _ c.loop.invariant.writing c.in-Ok.turn c.in-Ok.ensures.next _ _ _ c.take_on-so_far.result c.deref.result.now c.deref.ensures.value went.written went.failures c.if-turn.true c.ended.result c.ended.ensures.ok c.ended.ensures.err
 
 pub returns-then-turn-clause-gathered : goal.returns-then-turn-clause-gathered
-returns-then-turn-clause-gathered g c = gathers _ c.go_on-so_far.result _ c.ended.result c.go_on-so_far.ensures.gathered c.ended.ensures.ok
+returns-then-turn-clause-gathered g c = gathers _ c.take_on-so_far.result _ c.ended.result c.take_on-so_far.ensures.gathered c.ended.ensures.ok
 
 pub loop-preserved : goal.loop-preserved
 loop-preserved g c =
-    let went = c.go_on-so_far.ensures in
+    let went = c.take_on-so_far.ensures in
     record {
       goes_on = (tt, tt);
       writing =
-          goes_on _ _ _ _ _ _ _ _ _ _ c.loop.invariant.writing c.in-Ok.turn c.in-Ok.ensures.next _ _ _ c.go_on-so_far.result c.deref.result.now c.deref.ensures.value went.written went.failures
+          goes_on _ _ _ _ _ _ _ _ _ _ c.loop.invariant.writing c.in-Ok.turn c.in-Ok.ensures.next _ _ _ c.take_on-so_far.result c.deref.result.now c.deref.ensures.value went.written went.failures
           (length c.next_turn.new.takers.items) c.in-Ok.ensures.count;
       gathered = went.gathered;
     }

@@ -1,15 +1,15 @@
-use Rattle.std.proofs.Common.{List, Err}
+use Rattle.std.proofs.Common.{List, Err, refl}
 use Rattle.base.specs.declared.fault.Fault.TheVariants.{Memory}
 use Rattle.trace.specs.declared.row.Row.{Row}
 use Rattle.outputs.specs.Promise.{WearsOutReport}
 use Rattle.outputs.proofs.Faults.{if_same, ok_too, on_came}
-use Rattle.sharing.proofs.Unwritten.{no_memory}
+use Rattle.outputs.proofs.Early.{no_memory}
 use Rattle.sharing.proofs.shared.run_shared_gathered.Goals as goal
 
 pub returns-in-Err-clause-promise : goal.returns-in-Err-clause-promise
 returns-in-Err-clause-promise g c =
     c.end_tallied.ensures.promise c.args.place.now.trace
-    (no_memory c.args.scenario.now (g.A.Sink.held c.args.place.now.trace) (g.A.Sink.failed c.args.place.now.trace) c.end-end.ensures.sound)
+    (no_memory c.args.scenario.now (g.A.Sink.held c.args.place.now.trace) (g.A.Sink.failed c.args.place.now.trace) (Err Memory) c.end-end.ensures.sound refl)
 
 pub returns-in-Err-clause-run : goal.returns-in-Err-clause-run
 returns-in-Err-clause-run g c = if_same _ c.end_tallied.result (Err Memory) c.end_tallied.ensures.came tt

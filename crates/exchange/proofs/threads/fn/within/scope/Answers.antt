@@ -8,7 +8,7 @@ use Rattle.workers.proofs.Sent.{post_send, task_send}
 use Rattle.exchange.specs.declared.driver.Driven.{Driven}
 use Rattle.exchange.specs.declared.driver.Drives.{Drives}
 use Rattle.exchange.specs.Sending.{IsDriven}
-use Rattle.exchange.proofs.Faults.{relay_early}
+use Rattle.outputs.proofs.Early.{relay_early}
 use Rattle.exchange.proofs.Sent.{driven_send, driver_task_send}
 use Rattle.exchange.proofs.threads.fn.within.scope.Goals as goal
 

@@ -2,7 +2,7 @@ use Rattle.std.proofs.Common.{sym, subst, refl}
 use Rattle.scenario.specs.Setup.{IsSound}
 use Rattle.round_windows.specs.Basis.{Basis, basis_of}
 use Rattle.rings.specs.Writing.{MayWrite}
-use Rattle.rings.proofs.EndingsOfRuns.{unwritten}
+use Rattle.outputs.proofs.Early.{unwritten}
 use Rattle.rings.proofs.WritingTurns.{one_basis}
 use Rattle.rings.proofs.threads.fn.within.scope.Goals as goal
 

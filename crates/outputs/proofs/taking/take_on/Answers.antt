@@ -1,9 +1,8 @@
 use Rattle.std.proofs.Common.{◌+◌, ◌++◌, ◌∙◌, ap, sym, subst, arith}
 use Rattle.reports.proofs.Faults.{is_err}
 use Rattle.outputs.specs.Written.{sink_failures, HasWritten}
-use Rattle.outputs.proofs.Streaming.{written_on}
-use Rattle.trace_writer.proofs.Batches.{stays_written}
-use Rattle.trace_writer.proofs.stream_writer.go_on.Goals as goal
+use Rattle.outputs.proofs.Streaming.{written_on, stays_written}
+use Rattle.outputs.proofs.taking.take_on.Goals as goal
 
 pub returns-in_err-so_far-clause-written : goal.returns-in_err-so_far-clause-written
 returns-in_err-so_far-clause-written g c = λ before held wrote.
