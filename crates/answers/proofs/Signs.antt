@@ -1,21 +1,13 @@
 -- What stands behind the sign of a word by which something is wanted.
-use Rattle.std.proofs.Common.{◌≡◌, ◌==◌, ℕ, List, [], ◌∷◌, ◌++◌, Option, Some, false, Bor, codes, refl, sym, subst, lit<}
+use Rattle.std.proofs.Common.{◌≡◌, ◌==◌, ℕ, List, ◌++◌, Option, Some, false, Bor, codes, refl, sym, subst, lit<}
 use Rattle.std.specs.List.{list_any}
-use Rattle.std.proofs.lemmas.Bool.{or_parts}
-use Rattle.std.proofs.lemmas.List.Elements.{All-cons, All-nil}
 use Rattle.std.proofs.lemmas.Str.Pattern.{IsSplitOnceResult, split_after}
-use Rattle.cases.proofs.Words.{Lacks, unlike}
+use Rattle.cases.proofs.Words.{unlike, lacks_from_test}
 use Rattle.answers.specs.declared.statistic.Statistic.{Statistic}
 use Rattle.answers.specs.declared.statistic.Statistic.TheVariants.{Out, SuspectP50, ConfirmP50, ConfirmP99, ConfirmGreatest, LastP50, LastGreatest, FalseSuspect, ThrownOut, Messages}
 use Rattle.answers.specs.declared.want.Want.{Want}
 use Rattle.answers.specs.Statistics.{word_of}
 use Rattle.answers.specs.Words.{IsNumber, IsWantWord}
-
-lacks_from_test : (c : ℕ) (xs : List ℕ) → list_any (λ byte. byte == c) xs ≡ false → Lacks c xs
-lacks_from_test c [] none = All-nil (λ x. (x == c) ≡ false)
-lacks_from_test c (x ∷ xs) none =
-    let parts = or_parts (x == c) (list_any (λ byte. byte == c) xs) none in
-    All-cons (λ y. (y == c) ≡ false) x xs parts.0 (lacks_from_test c xs parts.1)
 
 no_sign : (statistic : Statistic) → list_any (λ byte. byte == 61) (word_of statistic ++ codes "<") ≡ false
 no_sign Out = refl

@@ -91,7 +91,7 @@ same_listed j k known known_too same =
 
 -- ---- dots
 
-not_within : (c : ℕ) (xs ys : List ℕ) → Lacks c (xs ++ c ∷ ys) → ⊥
+pub not_within : (c : ℕ) (xs ys : List ℕ) → Lacks c (xs ++ c ∷ ys) → ⊥
 not_within c [] ys lacks = let here : (c == c) ≡ false = All-head (λ x. (x == c) ≡ false) c ys lacks in grind (arith, nat_tests)
 not_within c (x ∷ xs) ys lacks = not_within c xs ys (All-tail (λ y. (y == c) ≡ false) x (xs ++ c ∷ ys) lacks)
 

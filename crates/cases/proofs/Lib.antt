@@ -11,6 +11,7 @@ pub mod Written
 pub mod Gathered
 pub mod Planning
 pub mod Choices
+pub mod Joined
 pub mod Told
 pub mod Counted
 pub mod Puts

@@ -1,31 +1,21 @@
 -- The settings of a case as they are told, one choice more at a time.
-use Rattle.std.proofs.Common.{◌≡◌, ◌<◌, ◌+◌, ℕ, zero, suc, List, [], ◌∷◌, ◌++◌, map, length, get_or, take, min, sym, ap, ◌∙◌, append_assoc, arith}
+use Rattle.std.proofs.Common.{◌≡◌, ◌<◌, ◌+◌, ℕ, zero, suc, List, [], ◌∷◌, ◌++◌, map, length, get_or, take, min, sym, ap, ◌∙◌, arith}
 use Rattle.std.specs.List.{join_with_byte}
-use Rattle.std.proofs.lemmas.List.{take_more, map-append, length-map, length-take}
+use Rattle.std.proofs.lemmas.List.{length-map, length-take}
 use Rattle.cases.specs.Cases.{choice_text, settings_text}
 use Rattle.cases.specs.declared.choice.Choice.{Choice}
-
-join_with_byte-push : (c : ℕ) (xs : List (List ℕ)) (x : List ℕ) → 0 < length xs → join_with_byte c (xs ++ x ∷ []) ≡ (join_with_byte c xs ++ c ∷ []) ++ x
-join_with_byte-push c [] x some = absurd (omega arith)
-join_with_byte-push c (y ∷ []) x some = sym (append_assoc y (c ∷ []) x)
-join_with_byte-push c (y ∷ z ∷ xs) x some =
-    let rest = join_with_byte c (z ∷ xs) in
-    ap (λ (more : List ℕ). y ++ c ∷ more) (join_with_byte-push c (z ∷ xs) x (omega arith))
-    ∙ sym (ap (λ (front : List ℕ). front ++ x) (append_assoc y (c ∷ rest) (c ∷ [])) ∙ append_assoc y ((c ∷ rest) ++ c ∷ []) x)
-
-chosen_more : (case : List Choice) (i : ℕ) (d : Choice) → i < length case → map choice_text (take (i + 1) case) ≡ map choice_text (take i case) ++ choice_text (get_or case i d) ∷ []
-chosen_more case i d inside = ap (map choice_text) (take_more case i d inside) ∙ map-append choice_text (take i case) (get_or case i d ∷ [])
+use Rattle.cases.proofs.Joined.{join_with_byte-push, texts_more}
 
 -- the first choice
 pub first_told : (case : List Choice) (d : Choice) → 0 < length case → choice_text (get_or case 0 d) ≡ settings_text (take (0 + 1) case)
 first_told [] d some = absurd (omega arith)
-first_told (c ∷ case) d some = sym (ap (join_with_byte 32) (chosen_more (c ∷ case) 0 d some))
+first_told (c ∷ case) d some = sym (ap (join_with_byte 32) (texts_more choice_text (c ∷ case) 0 d some))
 
 -- a choice after others
 pub told_more : (case : List Choice) (i : ℕ) (d : Choice) → i < length case → 0 < i → (settings_text (take i case) ++ 32 ∷ []) ++ choice_text (get_or case i d) ≡ settings_text (take (i + 1) case)
 told_more case i d inside later =
     let size : length (map choice_text (take i case)) ≡ min i (length case) = length-map (take i case) choice_text ∙ length-take i case in
-    sym (ap (join_with_byte 32) (chosen_more case i d inside) ∙ join_with_byte-push 32 (map choice_text (take i case)) (choice_text (get_or case i d)) (omega arith))
+    sym (ap (join_with_byte 32) (texts_more choice_text case i d inside) ∙ join_with_byte-push 32 (map choice_text (take i case)) (choice_text (get_or case i d)) (omega arith))
 
 -- the text after one choice more: with a space before it, or with none where it is the first
 pub pushed_after : (case : List Choice) (i : ℕ) (d : Choice) (new old before : List ℕ) → i < length case → 0 < i → new ≡ old ++ choice_text (get_or case i d) → old ≡ before ++ 32 ∷ []

@@ -1,10 +1,11 @@
 -- Words that are put together with a byte between their parts, and what the parts are then.
 use Rattle.std.proofs.Common.{◌≡◌, ◌≢◌, ◌<◌, ◌^◌, ◌==◌, ℕ, Bool, true, false, List, [], ◌∷◌, ◌++◌, All, length, get_or, decimal, sym, ap, subst, ◌∙◌, arith}
-use Rattle.std.specs.List.{slice_split, join_with_byte}
+use Rattle.std.specs.List.{slice_split, join_with_byte, list_any}
+use Rattle.std.proofs.lemmas.Bool.{or_parts}
 use Rattle.std.specs.Str.Parse.{AllDigits, digits_value}
 use Rattle.std.proofs.lemmas.Bool.Decides.{nat_tests}
 use Rattle.std.proofs.lemmas.List.{append_cancel_left, get_or_default}
-use Rattle.std.proofs.lemmas.List.Elements.{All-head, All-tail}
+use Rattle.std.proofs.lemmas.List.Elements.{All-cons, All-head, All-nil, All-tail}
 use Rattle.std.proofs.lemmas.List.Splits.{slice_split_none, slice_split_at}
 use Rattle.std.proofs.lemmas.Str.Parse.{IsNumeralModel, numerals_by_value, tells_digits, not_in_digits}
 use Rattle.std.proofs.lemmas.Fmt.{decimal_is_IsNumeral}
@@ -12,6 +13,13 @@ use Rattle.std.proofs.lemmas.Fmt.{decimal_is_IsNumeral}
 -- the byte is none of these
 abbrev pub Lacks : ℕ → List ℕ → Type 0
 Lacks c xs = All (λ x. (x == c) ≡ false) xs
+
+-- as a test says
+pub lacks_from_test : (c : ℕ) (xs : List ℕ) → list_any (λ byte. byte == c) xs ≡ false → Lacks c xs
+lacks_from_test c [] none = All-nil (λ x. (x == c) ≡ false)
+lacks_from_test c (x ∷ xs) none =
+    let parts = or_parts (x == c) (list_any (λ byte. byte == c) xs) none in
+    All-cons (λ y. (y == c) ≡ false) x xs parts.0 (lacks_from_test c xs parts.1)
 
 pub unlike : (c : ℕ) (xs : List ℕ) → Lacks c xs → (i : ℕ) → i < length xs → get_or xs i 0 ≢ c
 unlike c xs lacks i inside is =

@@ -1,10 +1,10 @@
 -- Settings and the words that they are written as.
 use Rattle.std.proofs.Common.{◌≡◌, ◌<◌, ◌^◌, ◌==◌, ℕ, zero, suc, Bool, true, false, List, [], ◌∷◌, ◌++◌, Option, Some, None, Bor, All, Contains, cond, map, find, length, get_or, decimal, codes, bytes_eq, sym, ap, subst, refl, ◌∙◌, lit<, inl, inr, arith}
-use Rattle.std.specs.List.{join_with_byte, list_any}
+use Rattle.std.specs.List.{join_with_byte}
 use Rattle.std.specs.Option.{MatchOption}
-use Rattle.std.proofs.lemmas.Bool.{cases_Bool, false≢true, or_parts}
+use Rattle.std.proofs.lemmas.Bool.{cases_Bool, false≢true}
 use Rattle.std.proofs.lemmas.List.{length-map}
-use Rattle.std.proofs.lemmas.List.Elements.{All-head, All-tail, All-nil, All-cons, All-map, All-weaker}
+use Rattle.std.proofs.lemmas.List.Elements.{All-head, All-tail, All-map, All-weaker}
 use Rattle.std.proofs.lemmas.List.Splits.{join_with_byte-slice_split, length-slice_split}
 use Rattle.std.proofs.lemmas.Str.Pattern.{IsSplitOnceResult, split_after, split_parts}
 use Rattle.std.proofs.lemmas.Fmt.{decimal_injective, decimal_is_IsNumeral}
@@ -20,15 +20,9 @@ use Rattle.cases.specs.declared.keys.SettingKey.{SettingKey}
 use Rattle.cases.specs.declared.values.SettingValue.{SettingValue}
 use Rattle.cases.specs.declared.values.SettingValue.TheVariants.{Whole, Switch}
 use Rattle.cases.proofs.Names.{bytes_eq_same}
-use Rattle.cases.proofs.Words.{Lacks, unlike, decimal_lacks, cut_once, joined_split}
+use Rattle.cases.proofs.Words.{Lacks, unlike, decimal_lacks, cut_once, joined_split, lacks_from_test}
 
 -- ---- keys
-
-lacks_from_test : (c : ℕ) (xs : List ℕ) → list_any (λ byte. byte == c) xs ≡ false → Lacks c xs
-lacks_from_test c [] none = All-nil (λ x. (x == c) ≡ false)
-lacks_from_test c (x ∷ xs) none =
-    let parts = or_parts (x == c) (list_any (λ byte. byte == c) xs) none in
-    All-cons (λ y. (y == c) ≡ false) x xs parts.0 (lacks_from_test c xs parts.1)
 
 -- no name has an equals sign
 unsigned : (k : SettingKey) → Lacks 61 (key_name k)

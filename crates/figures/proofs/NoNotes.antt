@@ -1,6 +1,6 @@
 -- Words that say no note, and figures that no note has.
-use Rattle.std.proofs.Common.{◌≡◌, ◌≢◌, ◌<◌, ◌≤◌, ◌+◌, ◌-◌, ◌*◌, ◌%◌, ◌^◌, ◌==◌, ℕ, zero, suc, List, [], ◌∷◌, map, length, length-drop, get_or, take, drop, codes, refl, sym, ap, subst, ◌∙◌, arith}
-use Rattle.std.specs.Prelude.{Option, Some, None, All, Result, Ok, Err, IfErr, IsErrAnd}
+use Rattle.std.proofs.Common.{◌≡◌, ◌≢◌, ◌<◌, ◌-◌, ◌*◌, ◌%◌, ◌^◌, ◌==◌, ℕ, zero, suc, List, [], ◌∷◌, map, length, length-drop, get_or, take, drop, codes, refl, sym, ap, subst, ◌∙◌, arith}
+use Rattle.std.specs.Prelude.{Option, Some, None, All}
 use Rattle.std.specs.Option.{ForSome}
 use Rattle.std.specs.List.{flat_map, slice_split}
 use Rattle.std.proofs.lemmas.List.{take_all}
@@ -10,18 +10,8 @@ use Rattle.decimals.specs.Numbers.{IsDecimal}
 use Rattle.figures.specs.declared.crashes.CrashTimes.{CrashTimes}
 use Rattle.figures.specs.declared.note_words.NoteFault.{NoteFault}
 use Rattle.figures.specs.declared.note_words.NoteFault.TheVariants as unread
-use Rattle.figures.specs.Notes.{Note, AreFigureWords, IsFigureWord, IsNoteWord, RefusesFigures, RefusesNote, RefusesNoteOf, RefusesTimes, note_figures, note_text, times_in_order}
+use Rattle.figures.specs.Notes.{Note, AreFigureWords, IsFigureWord, RefusesFigures, RefusesNote, RefusesNoteOf, RefusesTimes, note_figures, times_in_order}
 use Rattle.figures.proofs.SameFigures.{figures_cut, same_figures}
-
--- what is known of an error that is handed on
-pub handed : {T E : Type 0} (r : Result T E) (G Q : E → Type 0) → IsErrAnd r G → ((e : E) → G e → Q e) → IfErr r Q
-handed (Ok x) G Q gives turn = tt
-handed (Err e) G Q gives turn = turn e gives
-
--- what is said of an error, and what follows from that
-pub if_err_then : {T E : Type 0} (r : Result T E) (G Q : E → Type 0) → IfErr r G → ((e : E) → G e → Q e) → IfErr r Q
-if_err_then (Ok x) G Q gives turn = tt
-if_err_then (Err e) G Q gives turn = turn e gives
 
 -- a word that is no dash and no number says no figure
 pub no_figure : (word : List ℕ) → word ≢ codes "-" → ((n : ℕ) → ¬ (IsDecimal word n)) → (f : Option ℕ) → ¬ (IsFigureWord word f)

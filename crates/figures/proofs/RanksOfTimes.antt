@@ -4,13 +4,13 @@ use Rattle.std.specs.Prelude.{Some, None, ◌⊎◌, nat_le, filter, count_by, A
 use Rattle.std.specs.List.{fold, reduce, list_any}
 use Rattle.std.specs.List.Sorted.{IsPermutation, IsNonDecreasing}
 use Rattle.std.proofs.lemmas.Bool.{false≢true}
-use Rattle.std.proofs.lemmas.Bool.Decides.{nat_tests}
 use Rattle.std.proofs.lemmas.List.{get_or-take, get_or-drop, length-take-le, length-drop}
 use Rattle.std.proofs.lemmas.List.Folds.{list_any_at}
 use Rattle.std.proofs.lemmas.List.Sums.{sum_by-cons, sum_by-take-le, sum_by-take-drop, count_by-le-length}
 use Rattle.std.proofs.lemmas.List.Sorted.{sum_by-IsPermutation, list_any-IsPermutation}
 use Rattle.std.proofs.lemmas.List.Elements.{All-head, All-tail, All-from_get_or}
 use Rattle.figures.specs.Cases.{up_to, at_rank}
+use Rattle.figures.proofs.Roots.{le_true, le_false, le_from}
 
 -- v is among the numbers, or it is the first one
 abbrev IsLeastSoFar : ℕ → ℕ → List ℕ → Type 0
@@ -100,15 +100,6 @@ none_counted test (time ∷ times) none =
       not_counted (test time) (none 0 (omega arith)),
       none_counted test times (λ i lt. none (suc i) (omega (arith, lt))),
     )
-
-le_true : (a b : ℕ) → a ≤ b → nat_le a b ≡ true
-le_true a b le = grind (arith, nat_tests)
-
-le_false : (a b : ℕ) → b < a → nat_le a b ≡ false
-le_false a b lt = grind (arith, nat_tests)
-
-le_from : (a b : ℕ) → nat_le a b ≡ true → a ≤ b
-le_from a b held = grind (arith, nat_tests)
 
 module _ (times : List ℕ) (ascend : IsNonDecreasing times) (k : ℕ) (here : k < length times) where
   abbrev ranked : ℕ

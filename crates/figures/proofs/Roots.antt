@@ -7,16 +7,16 @@ use Rattle.std.proofs.lemmas.Bool.Decides.{nat_tests}
 use Rattle.std.proofs.lemmas.List.Sums.{sum_by-cons}
 use Rattle.figures.specs.Cases.{root}
 
-le_true : (a b : ℕ) → a ≤ b → nat_le a b ≡ true
+pub le_true : (a b : ℕ) → a ≤ b → nat_le a b ≡ true
 le_true a b le = grind (arith, nat_tests)
 
-le_false : (a b : ℕ) → b < a → nat_le a b ≡ false
+pub le_false : (a b : ℕ) → b < a → nat_le a b ≡ false
 le_false a b lt = grind (arith, nat_tests)
 
-le_from : (a b : ℕ) → nat_le a b ≡ true → a ≤ b
+pub le_from : (a b : ℕ) → nat_le a b ≡ true → a ≤ b
 le_from a b held = grind (arith, nat_tests)
 
-lt_from : (a b : ℕ) → nat_le a b ≡ false → b < a
+pub lt_from : (a b : ℕ) → nat_le a b ≡ false → b < a
 lt_from a b failed = grind (arith, nat_tests)
 
 module _ (n r : ℕ) (low : r * r ≤ n) (high : n < (r + 1) * (r + 1)) where

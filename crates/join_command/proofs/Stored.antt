@@ -1,6 +1,6 @@
 -- What the files hold of a text, or of a table and a page.
 use Rattle.std.proofs.Common.{◌≡◌, ◌≢◌, ◌<◌, ◌+◌, ◌∙◌, ◌⊎◌, ℕ, List, [], Option, Some, Result, Ok, Err, IfSome, IfErr, OnErr, OnOk, false, arith, inl, inr, sym, subst}
-use Rattle.std.specs.Io.KnownBytes.{Appends, Keeps}
+use Rattle.std.specs.Io.KnownBytes.{Appends}
 use Rattle.clap.specs.Words.{Text}
 use Rattle.base.specs.declared.fault.Fault.{Fault}
 use Rattle.base.specs.declared.fault.Fault.TheVariants as cause
@@ -12,7 +12,7 @@ use Rattle.command_line.specs.declared.failure.Failure.TheVariants.{Run}
 use Rattle.scenario_files.specs.Shelves.{Shelf, HoldsBeginning}
 use Rattle.scenario_files.specs.Told.{run_told}
 use Rattle.scenario_files.proofs.Held.{holds_beginning, holds_text}
-use Rattle.case_telling.proofs.Pairs.{first_begins, first_holds, others_kept, second_begins, second_holds}
+use Rattle.scenario_files.proofs.Pairs.{first_begins, first_holds, others_kept, second_begins, second_holds}
 use Rattle.join_command.specs.Outcomes.{AppendsBoth, BeginsBoth, FailsToStore, FailsToStoreBoth, Stores, StoresBoth}
 
 -- what a success gives, from what holds of it
@@ -24,16 +24,6 @@ each_on_ok (Err e) a turn = tt
 pub each_on_err : {T E A B : Type 0} (r : Result T E) → OnErr r A → (A → B) → OnErr r B
 each_on_err (Ok x) a turn = tt
 each_on_err (Err e) a turn = turn a
-
--- what holds anyway holds of an error
-pub on_err_of : {T E P : Type 0} (r : Result T E) → P → OnErr r P
-on_err_of (Ok x) h = tt
-on_err_of (Err e) h = h
-
--- what holds of an error, by what holds where there is one and what holds of it
-pub each_err_with : {T E P : Type 0} {Q R : E → Type 0} (r : Result T E) → OnErr r P → IfErr r Q → ((e : E) → P → Q e → R e) → IfErr r R
-each_err_with (Ok x) h q more = tt
-each_err_with (Err e) h q more = more e h q
 
 -- what holds where a run was done holds where it is told as done
 pub told_on_ok : {T : Type 0} (P : Type 0) (outcome : Result T Fault) (told : Result T Failure) → told ≡ run_told outcome → OnOk outcome P → OnOk told P

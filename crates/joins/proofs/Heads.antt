@@ -14,7 +14,7 @@ use Rattle.cases.specs.declared.fault.PlanFault.{PlanFault}
 use Rattle.cases.specs.declared.fault.PlanFault.TheVariants as unread
 use Rattle.cases.specs.declared.seeds.Seeds.{Seeds}
 use Rattle.cases.proofs.Names.{bytes_eq_false}
-use Rattle.cases.proofs.Words.{cut_once, decimal_lacks, joined_split, unlike}
+use Rattle.cases.proofs.Words.{cut_once, decimal_lacks, joined_split, unlike, lacks_from_test}
 use Rattle.pieces.specs.declared.piece.Piece.{Piece}
 use Rattle.pieces.specs.Pieces.{IsPiece, IsPieceWord, piece_text}
 use Rattle.pieces.specs.Names.{plan_text, seeds_word}
@@ -22,7 +22,6 @@ use Rattle.sweep.specs.Runs.{IsAskedFor}
 use Rattle.sweep.specs.Pieces.{piece_header}
 use Rattle.joins.specs.Joined.{IsMark}
 use Rattle.joins.specs.Reasons.{BeginsAs, BeginsAsNone, RefusesName, SaysWidth}
-use Rattle.noted_lines.proofs.Bytes.{lacks_from_test}
 use Rattle.joins.proofs.SameSweep.{joined_is, no_dash, no_setting_says, same_rest, same_seeds, same_settings, until_words, words_lack, words_of}
 
 -- the piece of a word is one

@@ -4,7 +4,6 @@ use Rattle.std.specs.Prelude.{Option, Some, None, All}
 use Rattle.std.specs.List.{AllByRecursion, flat_map, join_with_byte, list_any, slice_split}
 use Rattle.std.specs.Option.{ForSome}
 use Rattle.std.proofs.lemmas.Bool.{false≢true}
-use Rattle.std.proofs.lemmas.Bool.Decides.{nat_tests}
 use Rattle.std.proofs.lemmas.List.{append_cancel_left}
 use Rattle.std.proofs.lemmas.Fmt.{decimal_injective, decimal_is_IsNumeral}
 use Rattle.std.proofs.lemmas.Str.Parse.{digit_at}
@@ -19,16 +18,16 @@ use Rattle.cases.specs.Asked.{AsksForSeeds, IsRange, IsSetting, IsWidth, seeds_t
 use Rattle.cases.specs.declared.items.ItemName.{ItemName}
 use Rattle.cases.specs.declared.keys.SettingKey.{SettingKey}
 use Rattle.cases.specs.declared.seeds.Seeds.{Seeds}
-use Rattle.cases.proofs.Apart.{named_itself}
+use Rattle.cases.proofs.Apart.{named_itself, not_within}
 use Rattle.cases.proofs.Letters.{is_key_byte, name_lacks}
-use Rattle.cases.proofs.Words.{Lacks, cut_once, decimal_lacks, joined_split}
+use Rattle.cases.proofs.Words.{Lacks, cut_once, decimal_lacks, joined_split, lacks_from_test}
 use Rattle.cases.proofs.Written.{same_setting}
 use Rattle.pieces.specs.declared.piece.Piece.{Piece}
 use Rattle.pieces.specs.Pieces.{IsPiece, piece_text}
 use Rattle.pieces.specs.Names.{head_cell, piece_name, plan_text, seeds_word, until_text}
 use Rattle.sweep.specs.Runs.{IsAskedFor}
 use Rattle.joins.specs.Joined.{IsMark}
-use Rattle.noted_lines.proofs.Bytes.{lacks_both, lacks_cons, lacks_from_test, lacks_joined, value_lacks}
+use Rattle.noted_lines.proofs.Bytes.{lacks_both, lacks_cons, lacks_joined, value_lacks}
 
 -- ---- which bytes the words of a sweep don't have
 
@@ -153,10 +152,6 @@ unnamed = refl
 tabled_each : AllByRecursion (λ j. is_some j.table ≡ true) listed
 unfolding listed key_rules_of spelling_of
 tabled_each = (refl, (refl, (refl, (refl, (refl, (refl, (refl, (refl, (refl, (refl, (refl, (refl, (refl, (refl, tt))))))))))))))
-
-not_within : (c : ℕ) (xs ys : List ℕ) → Lacks c (xs ++ c ∷ ys) → ⊥
-not_within c [] ys lacks = let here : (c == c) ≡ false = All-head (λ x. (x == c) ≡ false) c ys lacks in grind (arith, nat_tests)
-not_within c (x ∷ xs) ys lacks = not_within c xs ys (All-tail (λ y. (y == c) ≡ false) x (xs ++ c ∷ ys) lacks)
 
 -- a key of a table has a dot in its name
 not_of_table : (table : Option FormatKey) (item : Option ItemName) (k : FormatKey) → is_some table ≡ true → key_name (record { table = table; item = item; key = k }) ≡ codes "until" → ⊥

@@ -2,8 +2,7 @@
 use Rattle.std.proofs.Common.{◌≡◌, ◌<◌, ◌^◌, ◌==◌, ℕ, Bool, true, false, List, [], ◌∷◌, ◌++◌, map, lit<, arith, refl}
 use Rattle.std.specs.Prelude.{Option, Some, None, All, if◌then◌else◌}
 use Rattle.std.specs.Option.{ForSome}
-use Rattle.std.specs.List.{AllByRecursion, join_with_byte, list_any}
-use Rattle.std.proofs.lemmas.Bool.{or_parts}
+use Rattle.std.specs.List.{AllByRecursion, join_with_byte}
 use Rattle.std.proofs.lemmas.Bool.Decides.{nat_tests}
 use Rattle.std.proofs.lemmas.List.Elements.{All-append, All-cons, All-head, All-map, All-nil, All-tail, All-weaker, All-from_recursion}
 use Rattle.csv.specs.Writing.{default_writer, escaped, field_text, quoted}
@@ -13,12 +12,6 @@ use Rattle.cases.specs.declared.values.SettingValue.{SettingValue}
 use Rattle.cases.specs.declared.values.SettingValue.TheVariants.{Whole, Switch}
 use Rattle.cases.proofs.Words.{Lacks, decimal_lacks}
 use Rattle.figures.specs.Notes.{Note, IsSmall, note_figures, note_text}
-
-pub lacks_from_test : (c : ℕ) (xs : List ℕ) → list_any (λ byte. byte == c) xs ≡ false → Lacks c xs
-lacks_from_test c [] none = All-nil (λ x. (x == c) ≡ false)
-lacks_from_test c (x ∷ xs) none =
-    let parts = or_parts (x == c) (list_any (λ byte. byte == c) xs) none in
-    All-cons (λ y. (y == c) ≡ false) x xs parts.0 (lacks_from_test c xs parts.1)
 
 pub lacks_cons : (c x : ℕ) (xs : List ℕ) → (x == c) ≡ false → Lacks c xs → Lacks c (x ∷ xs)
 lacks_cons c x xs = All-cons (λ y. (y == c) ≡ false) x xs

@@ -4,6 +4,7 @@ use Rattle.std.specs.Result.{IfOk, IfErr, OnOk, OnErr, IsErrOf}
 use Rattle.std.specs.Io.KnownBytes.{Appends, Keeps}
 use Rattle.base.specs.declared.fault.Fault.{Fault}
 use Rattle.base.specs.declared.fault.Fault.TheVariants.{Memory, Write}
+use Rattle.base.proofs.Faults.{memory≢write}
 use Rattle.scenario.specs.Setup.{Setup, IsSound}
 use Rattle.trace.specs.Sinks.{AppendsBeginning}
 use Rattle.trace.specs.Text.{trace_text}
@@ -19,9 +20,6 @@ use Rattle.page_runs.specs.Pages.{BeginsPage, WritesPage}
 use Rattle.page_runs.specs.Promise.{KeepsPagePromise}
 use Rattle.page_runs.specs.Told.{TellsRun, rows_told}
 use Rattle.page_runs.specs.declared.told.RunTold.{RunTold}
-
-memory≢write : Memory ≢ Write
-memory≢write is = cc
 
 module _ {A B : Type 0} (held : A → Option (List ℕ)) (failed : A → ℕ) (held_report : B → Option (List ℕ)) (failed_report : B → ℕ) (s : Setup) where
   -- a run that was refused memory before it began

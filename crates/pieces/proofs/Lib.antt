@@ -1,4 +1,4 @@
 pub mod Slashes
-pub mod Joined
+pub mod Laid
 pub mod Bounds
 pub mod Whole

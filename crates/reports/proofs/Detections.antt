@@ -19,7 +19,7 @@ use Rattle.reports.specs.Failures.{moment_if, detection_if, detection_with}
 
 -- ---- the first and the last of rows with one more
 
-first-or : (a b : Option Row) → moment_of (option_or a b) ≡ option_or (moment_of a) (moment_of b)
+pub first-or : (a b : Option Row) → moment_of (option_or a b) ≡ option_or (moment_of a) (moment_of b)
 first-or None b = refl
 first-or (Some x) b = refl
 
@@ -79,7 +79,7 @@ has_kind-not kind row not_it = false_same the_type tt row.what kind not_it
 
 -- ---- what is then told
 
-or-none : (o : Option ℕ) → option_or o None ≡ o
+pub or-none : (o : Option ℕ) → option_or o None ≡ o
 or-none None = refl
 or-none (Some x) = refl
 

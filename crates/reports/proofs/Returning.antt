@@ -1,6 +1,6 @@
 -- What one row more makes of who holds whom to have failed, and of those that are taken for alive again.
 use Rattle.std.proofs.Common.{◌≡◌, ℕ, suc, ◌+◌, ◌≤◌, Bool, true, false, cond, ◌&&◌, List, [], ◌∷◌, ◌++◌, length, map, Option, Some, None, refl, sym, ap, ◌∙◌, arith, append-nil, length-append}
-use Rattle.std.specs.Prelude.{filter, count_by, if◌then◌else◌}
+use Rattle.std.specs.Prelude.{filter, if◌then◌else◌}
 use Rattle.std.specs.Option.{option_map_or}
 use Rattle.std.specs.List.{last_or}
 use Rattle.std.specs.Int.{from_bool}
@@ -33,7 +33,7 @@ held-push rows row member subject = ap (λ o. option_map_or (has_kind what.Confi
 
 -- ---- how often somebody is taken for alive again
 
-length-one : (keep : Bool) (p : Placed) → length (cond keep (p ∷ []) []) ≡ cond keep 1 0
+pub length-one : (keep : Bool) (p : Placed) → length (cond keep (p ∷ []) []) ≡ cond keep 1 0
 length-one true p = refl
 length-one false p = refl
 
@@ -47,7 +47,7 @@ revivals-push rows row =
     ∙ ap (λ n. n + length one) (length-map (filter is_revival (rows_in_place rows)) (with_later row) ∙ length-filter is_revival (rows_in_place rows))
     ∙ ap (λ n. revivals rows + n) (length-one (is_back (holds_failed rows) row) (last_placed rows row))
 
-length-placed : (earlier rows : List Row) → length (placed_after earlier rows) ≡ length rows
+pub length-placed : (earlier rows : List Row) → length (placed_after earlier rows) ≡ length rows
 length-placed earlier [] = refl
 length-placed earlier (row ∷ rows) = ap suc (length-placed (earlier ++ row ∷ []) rows)
 

@@ -11,19 +11,8 @@ use Rattle.member.specs.declared.content.Content.{Content}
 use Rattle.member.specs.declared.event.Event.{Event}
 use Rattle.member.specs.StateOf.{pair_of}
 use Rattle.windows.specs.Parts.{is_in, for_own}
+use Rattle.turns.proofs.Coming.{at_place, elsewhere}
 use Rattle.round_windows.specs.Windows.{AreDealt}
-
-at_place : {X : Type 0} (xs : List X) (i : ℕ) (x : X) → i < length xs → slice_get (slice_set xs i x) i ≡ Some x
-at_place [] i x h = absurd (omega arith)
-at_place (y ∷ ys) zero x h = refl
-at_place (y ∷ ys) (suc i) x h = at_place ys i x (omega arith)
-
-elsewhere : {X : Type 0} (xs : List X) (i q : ℕ) (x : X) → ¬ (q ≡ i) → slice_get (slice_set xs i x) q ≡ slice_get xs q
-elsewhere [] i q x h = refl
-elsewhere (y ∷ ys) zero zero x h = absurd (h refl)
-elsewhere (y ∷ ys) zero (suc q) x h = refl
-elsewhere (y ∷ ys) (suc i) zero x h = refl
-elsewhere (y ∷ ys) (suc i) (suc q) x h = elsewhere ys i q x (λ e. h (ap suc e))
 
 nothing_at : {V : Type 0} (items : V → List Event) (lists : List V) (i : ℕ) → i < length lists → AllByRecursion (λ list. items list ≡ []) lists → option_map (map pair_of) (slice_get (map items lists) i) ≡ Some []
 nothing_at items [] i low all = absurd (omega arith)

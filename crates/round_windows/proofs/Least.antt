@@ -10,16 +10,13 @@ use Rattle.base.proofs.Rising.{all_append}
 use Rattle.member.specs.declared.event.Event.{Event}
 use Rattle.worker_queue.specs.Queue.{IsLeastKey, NoneIsBelow}
 use Rattle.rounds.specs.Starts.{IsUpTo}
+use Rattle.turns.proofs.Bounding.{split_all}
 
 -- no event of a queue is before a moment just where that is up to its least
 pub below_least : {C : Type 0} (events : FinMap key_cmp C) (least : Option Key) → IfSome least (IsLeastKey events) → IfNone least (events ≡ empty)
     → (t : ℕ) → NoneIsBelow events t ↔ IsUpTo (option_map (λ (k : Key). k.at) least) t
 below_least events None some none t = (λ h. tt, λ h q here. absurd (false≢true (ap is_some (sym (get-empty key_cmp q)) ∙ ap (λ m. contains_key m q) (sym none) ∙ here)))
 below_least events (Some k) some none t = (λ h. h k some.here, λ h q here. let least = moments-from_not_before q k (some.least q here) in omega arith)
-
-split_all : {A : Type 0} (P : A → Type 0) (xs ys : List A) → AllByRecursion P (xs ++ ys) → AllByRecursion P xs × AllByRecursion P ys
-split_all P [] ys all = (tt, all)
-split_all P (x ∷ xs) ys all = let rest = split_all P xs ys all.1 in ((all.0, rest.0), rest.1)
 
 abbrev IsFrom : ℕ → Event → Type 0
 IsFrom t e = t ≤ e.key.at

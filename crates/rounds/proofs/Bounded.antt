@@ -10,6 +10,7 @@ use Rattle.base.specs.declared.key.Key.{Key}
 use Rattle.base.specs.World.{IsPending}
 use Rattle.base.specs.Rising.{IsRising, IsPlaceBefore}
 use Rattle.base.proofs.Rising.{all_append, all_weaker, rows_rise}
+use Rattle.base.proofs.Joined.{run_joins}
 use Rattle.scenario.specs.Setup.{Setup, IsSound}
 use Rattle.trace.specs.declared.row.Row.{Row}
 use Rattle.worker_queue.specs.Queue.{NoneIsBelow}
@@ -32,7 +33,7 @@ use Rattle.windows.proofs.Released.{rising_mapped}
 use Rattle.windows.proofs.Sorting.{IsLess, rising_from_sorted, one_order}
 use Rattle.rounds.specs.Before.{RunsBefore, IsWorldBefore, AreRowsBefore}
 use Rattle.rounds.specs.Starts.{LiesBetweenParts}
-use Rattle.rounds.proofs.Until.{AreEarly, Until, run_joins, schedule_until}
+use Rattle.rounds.proofs.Until.{AreEarly, Until, schedule_until}
 use Rattle.rounds.proofs.Worlds.{one_world, sound_before}
 
 pub rising_last : {A : Type 0} (before : A → A → Type 0) (xs ys : List A) → IsRising before (xs ++ ys) → IsRising before ys

@@ -8,6 +8,7 @@ use Rattle.base.specs.declared.key.Key.{Key}
 use Rattle.base.specs.World.{IsPending}
 use Rattle.base.specs.Rising.{IsRising, AreNew}
 use Rattle.base.proofs.Rising.{all_weaker}
+use Rattle.base.proofs.Joined.{run_joins}
 use Rattle.scenario.specs.Setup.{Setup, IsSound, member_count}
 use Rattle.trace.specs.declared.row.Row.{Row}
 use Rattle.worker_queue.specs.Queue.{NoneIsBelow}
@@ -32,7 +33,6 @@ use Rattle.windows.specs.Schedule.{Schedule}
 use Rattle.rounds.specs.Before.{IsWorldBefore}
 use Rattle.rounds.specs.Starts.{LiesBetweenParts, IsUpTo, IsFirstMoment, round_bound, IsRound, IsOverBy}
 use Rattle.rounds.specs.Messages.{BeginsRound, IsWindowOfRound, IsLeastAfter, IsMessage, IsOneOf, Message, sender_of, all_events, AreOfAllOthers, IsLeastOfAll}
-use Rattle.rounds.proofs.Until.{run_joins}
 use Rattle.rounds.proofs.Worlds.{whole_before}
 use Rattle.rounds.proofs.Bounded.{between, lies_between, common_horizons, there, world_there}
 use Rattle.rounds.proofs.Turns.{opening_round, next_start, round_common, one_round}

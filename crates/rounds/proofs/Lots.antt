@@ -8,7 +8,7 @@ use Rattle.std.proofs.lemmas.List.{append_cancel_left}
 use Rattle.std.proofs.lemmas.List.Elements.{filter-append, recursion_from_All}
 use Rattle.std.proofs.lemmas.List.Sorted.{IsPermutation-refl, IsPermutation-sym, IsPermutation-trans, IsPermutation-append_right, IsPermutation-filter_both}
 use Rattle.base.specs.Rising.{IsRising}
-use Rattle.base.proofs.Rising.{all_weaker}
+use Rattle.base.proofs.Rising.{all_weaker, all_back}
 use Rattle.scenario.specs.Setup.{Setup, IsSound, member_count}
 use Rattle.trace.specs.declared.row.Row.{Row}
 use Rattle.trace.specs.Text.{NamesMembers}
@@ -26,7 +26,6 @@ use Rattle.rounds.specs.Lots.{AreRowsBetween, rows_of_part, IsLot, PartRows, wri
 use Rattle.rounds.proofs.Worlds.{some_world, one_list}
 use Rattle.rounds.proofs.Bounded.{rising_last, rows_less}
 use Rattle.rounds.proofs.Turns.{start_in_time, one_start, some_start, round_over}
-use Rattle.rounds.proofs.Pending.{all_last}
 
 -- ---- lists
 
@@ -147,7 +146,7 @@ module _ (s : Setup) (sound : IsSound s) where
         (λ lot h. h.2 ∙ ap (rows_of_part division lot.part) (one_between s sound d since until h.0 between h.1 is)) lots are.each in
         let named : AllByRecursion (λ (row : Row). IsOneOf writer_of lots (division row.member)) between =
         all_weaker (λ (row : Row). row.member < member_count s) (λ row. IsOneOf writer_of lots (division row.member)) (λ row low. are.complete row.member low) between
-        (all_last (λ (row : Row). row.member < member_count s) is.before between (rows_members is.to (is.before ++ between) is.together)) in
+        (all_back (λ (row : Row). row.member < member_count s) is.before between (rows_members is.to (is.before ++ between) is.together)) in
         let all = in_lots division lots between each are.different named in
         one_order cmp order.total between sorted (rising_last (IsLess cmp) is.before between (rows_less s sound cmp order is.to (is.before ++ between) is.together))
         (IsPermutation-trans between (every_row lots) sorted (IsPermutation-sym (every_row lots) between all) items)

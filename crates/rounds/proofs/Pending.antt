@@ -1,5 +1,5 @@
 -- What pends in the world after windows: what pends in the parts after theirs, and what went out.
-use Rattle.std.proofs.Common.{◌≡◌, ◌≢◌, ◌⊎◌, ℕ, ◌≤◌, Bool, true, false, eqb, cond, List, [], ◌∷◌, ◌++◌, Some, None, ap, inl, inr, ◌∙◌, sym, subst, refl}
+use Rattle.std.proofs.Common.{◌≡◌, ◌≢◌, ◌⊎◌, ℕ, ◌≤◌, Bool, true, false, eqb, cond, List, [], ◌∷◌, Some, None, ap, inl, inr, ◌∙◌, sym, subst, refl}
 use Rattle.std.specs.Option.{is_some}
 use Rattle.std.specs.List.{AllByRecursion, filter}
 use Rattle.std.specs.Ordering.{eq_by_cmp, is_eq}
@@ -11,7 +11,7 @@ use Rattle.base.specs.declared.key.Key.{Key}
 use Rattle.base.specs.Order.{key_cmp, key_total, key_exact}
 use Rattle.base.specs.World.{IsPending, with_events}
 use Rattle.base.specs.Run.{holds-with_events}
-use Rattle.base.proofs.Rising.{all_append, all_weaker}
+use Rattle.base.proofs.Rising.{all_append, all_weaker, all_front, all_back}
 use Rattle.trace.specs.declared.row.Row.{Row}
 use Rattle.worker_queue.specs.Queue.{NoneIsBelow}
 use Rattle.member.specs.declared.content.Content.{Content}
@@ -22,14 +22,6 @@ use Rattle.windows.proofs.Cuts.{get_retained, all_kept}
 use Rattle.windows.proofs.Wholes.{pending_kept}
 
 -- ---- lists
-
-pub all_first : {A : Type 0} (P : A → Type 0) (xs ys : List A) → AllByRecursion P (xs ++ ys) → AllByRecursion P xs
-all_first P [] ys all = tt
-all_first P (x ∷ xs) ys all = (all.0, all_first P xs ys all.1)
-
-pub all_last : {A : Type 0} (P : A → Type 0) (xs ys : List A) → AllByRecursion P (xs ++ ys) → AllByRecursion P ys
-all_last P [] ys all = all
-all_last P (x ∷ xs) ys all = all_last P xs ys all.1
 
 module _ {A : Type 0} (test : A → Bool) where
   -- what holds of all that is kept holds of what passes
@@ -128,9 +120,9 @@ module _ (division : ℕ → ℕ) (w v : Cluster) (ds : List (Window State Conte
           (
             λ q here. none q (pending_kept (is_in division d.part) v q
                 (subst (λ (x : Cluster). contains_key x.pending q ≡ true) (sym parts.0) (pends_still (for_own (is_in division d.part) (all_out ds)) d.after.pending q here))),
-            all_first (λ (e : Key × Content). t ≤ e.0.at) d.out (all_out es) late,
+            all_front (λ (e : Key × Content). t ≤ e.0.at) d.out (all_out es) late,
           ),
-          each es parts.1 (all_last (λ (e : Key × Content). t ≤ e.0.at) d.out (all_out es) late),
+          each es parts.1 (all_back (λ (e : Key × Content). t ≤ e.0.at) d.out (all_out es) late),
         )
 
     out_late : (es : List (Window State Content Row)) → AllByRecursion IsLate es → AllByRecursion (λ (e : Key × Content). t ≤ e.0.at) (all_out es)

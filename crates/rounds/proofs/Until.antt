@@ -9,6 +9,7 @@ use Rattle.base.specs.Order.{IsBefore, moments-from_before}
 use Rattle.base.specs.World.{Machine, World, IsPending, NextStep, Run}
 use Rattle.base.specs.Run.{MakesLater, handled, trace, run-exists, one_step, run_more}
 use Rattle.base.proofs.Rising.{all_append, all_weaker, keys_rise}
+use Rattle.base.proofs.Joined.{run_joins}
 use Rattle.windows.specs.Schedule.{TestedStep, Schedule, CatchesUp}
 use Rattle.windows.proofs.Deliveries.{all_before}
 
@@ -28,12 +29,6 @@ abbrev pub PendsNoEarlier : {S C : Type 0} → ℕ → World S C → Type 0
 PendsNoEarlier t w = (q : Key) → IsPending w q → t ≤ q.at
 
 module _ {S C R : Type 0} (step : Machine S C R) (end : ℕ) where
-  pub run_joins : (ks ls : List Key) (w v u : World S C) (rows more : List R) → Run step end w ks rows v → Run step end v ls more u → Run step end w (ks ++ ls) (rows ++ more) u
-  run_joins [] ls w v u rows more run next =
-      subst (λ l. Run step end w ls (l ++ more) u) (sym run.1) (subst (λ x. Run step end x ls more u) run.0 next)
-  run_joins (k ∷ ks) ls w v u rows more run next =
-      (run.0, run.1, run.2 ++ more, run.3, run.4, run_joins ks ls run.0 v u run.2 more run.5 next, ap (λ l. l ++ more) run.6 ∙ append_assoc run.1 run.2 more)
-
   -- all that it handles is no later than the end
   pub run_in_time : (ks : List Key) (w v : World S C) (rows : List R) → Run step end w ks rows v → AreEarly (end + 1) ks
   run_in_time [] w v rows run = tt
@@ -127,7 +122,7 @@ module _ {S C R : Type 0} (step : Machine S C R) (end : ℕ) where
             record {
               keys = caught.before ++ k ∷ left.keys;
               rows = caught.front ++ (is.1 ++ left.more);
-              run = run_joins caught.before (k ∷ left.keys) w caught.there v caught.front (is.1 ++ left.more) caught.until (caught.after, is.1, left.more, soon, caught.turn, left.run, refl);
+              run = run_joins step end caught.before (k ∷ left.keys) w caught.there v caught.front (is.1 ++ left.more) caught.until (caught.after, is.1, left.more, soon, caught.turn, left.run, refl);
               early = all_append (λ q. q.at < t) caught.before (k ∷ left.keys) before (early.0, left.early);
             },
             subst (λ l. IsPermutation l (caught.front ++ (is.1 ++ left.more))) (sym is.5)

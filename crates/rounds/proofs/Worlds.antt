@@ -1,15 +1,13 @@
 -- Worlds before a moment: there is one, and one alone, and it is whole.
-use Rattle.std.proofs.Common.{◌≡◌, ℕ, ◌+◌, ◌<◌, ◌≤◌, List, [], ◌∷◌, Option, Some, None, append-nil, ap, ◌∙◌, sym, refl, arith}
-use Rattle.std.specs.Option.{option_map}
+use Rattle.std.proofs.Common.{◌≡◌, ℕ, ◌+◌, ◌<◌, ◌≤◌, List, [], ◌∷◌, append-nil, ap, ◌∙◌, sym, refl, arith}
 use Rattle.std.specs.FinMap.{get, contains_key}
 use Rattle.base.specs.declared.key.Key.{Key}
-use Rattle.base.specs.World.{Run, settled}
+use Rattle.base.specs.World.{Run}
 use Rattle.base.specs.Run.{trace, trace-run}
 use Rattle.base.proofs.Rising.{numbered_run}
 use Rattle.scenario.specs.Setup.{Setup, IsSound}
 use Rattle.trace.specs.declared.row.Row.{Row}
 use Rattle.worker_queue.specs.Queue.{NoneIsBelow}
-use Rattle.member.specs.declared.content.Content.{Content}
 use Rattle.member.specs.State.{State}
 use Rattle.member.specs.Opening.{opening}
 use Rattle.member.specs.Step.{step}
@@ -20,21 +18,15 @@ use Rattle.member_laws.proofs.Reached.{consistent_reached, pending_among}
 use Rattle.windows.specs.Play.{IsBeginning}
 use Rattle.windows.specs.Cluster.{IsWholeCluster}
 use Rattle.windows.proofs.Early.{begins}
-use Rattle.windows.proofs.PartRuns.{same_own}
+use Rattle.windows.proofs.PartRuns.{members_settled}
 use Rattle.windows.proofs.WholeOpening.{opening_whole}
 use Rattle.rounds.specs.Before.{RunsBefore, IsWorldBefore, AreRowsBefore}
 use Rattle.rounds.proofs.Until.{run_in_time, one_until, until_exists}
 
--- a step leaves the numbers of the members
-members_settled : (s : Setup) (w : Cluster) (k : Key) (c : Content) (o : Option State) → get w.members k.to ≡ o → (m : ℕ)
-    → contains_key (settled w k (option_map (step s k c) o)).members m ≡ contains_key w.members m
-members_settled s w k c None none m = refl
-members_settled s w k c (Some t) here m = same_own w.members k.to t (step s k c t).state here m
-
 same_members : (s : Setup) (ks : List Key) (w v : Cluster) (rows : List Row) → Run (step s) s.end w ks rows v → (m : ℕ) → contains_key v.members m ≡ contains_key w.members m
 same_members s [] w v rows run m = ap (λ (u : Cluster). contains_key u.members m) run.0
 same_members s (k ∷ ks) w v rows run m =
-    same_members s ks run.0 v run.2 run.5 m ∙ ap (λ (u : Cluster). contains_key u.members m) run.4.world ∙ members_settled s w k run.4.content (get w.members k.to) refl m
+    same_members s ks run.0 v run.2 run.5 m ∙ ap (λ (u : Cluster). contains_key u.members m) run.4.world ∙ members_settled (step s) w k run.4.content (get w.members k.to) refl m
 
 -- the opening is the world before each moment before which nothing pends
 pub opening_before : (s : Setup) (t : ℕ) → NoneIsBelow (opening s).pending t → RunsBefore s t [] [] (opening s)

@@ -15,6 +15,7 @@ use Rattle.outputs.specs.Promise.{WearsOutReport}
 use Rattle.page_runs.specs.Pages.{BeginsPage, BeginsRunAndPage, IsPageOf, WritesRunAndPage}
 use Rattle.scenario_files.specs.Shelves.{Shelf, HoldsBeginning}
 use Rattle.scenario_files.proofs.Held.{holds_text}
+use Rattle.scenario_files.proofs.Pairs.{apart_too, known_or}
 use Rattle.run_command.specs.Outcomes.{BeginsReport, BreaksOffPaged, HoldsReport, KeepsAllRest, StoresPaged}
 
 -- ---- what is stored, where each file holds what was appended whole to its writer
@@ -93,19 +94,6 @@ module _ (s : Setup) (name release : List ℕ) (start end : Shelf) (trace : Text
       by (inr (inr part)) = in_page part.0 part.1 part.2
 
 -- ---- which names differ
-
--- where something is known of two names and they are one, something is known of the other
-pub apart_too : (start : Shelf) (first second : Text) → IfSome (start first) (λ _. second ≢ first) → IfSome (start second) (λ _. second ≢ first)
-apart_too start first second apart = go (start second) refl
-  where
-    go : (known : KnownFile) → start second ≡ known → IfSome known (λ _. second ≢ first)
-    go None is = tt
-    go (Some held) is = λ same. subst (λ k. IfSome k (λ _. second ≢ first)) (ap start (sym same) ∙ is) apart same
-
--- what holds of a file of which something is known
-known_or : {P : Type 0} (known : KnownFile) (X : Option (List ℕ) → Type 0) → IfSome known (λ _. P) → (P → IfSome known X) → IfSome known X
-known_or None X p then = tt
-known_or (Some held) X p then = then p
 
 -- A file that was made empty and then closed: from when it was made to its closing it is as it was, and from then on too, as other names are
 -- no other names for it.

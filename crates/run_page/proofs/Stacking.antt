@@ -1,11 +1,9 @@
 -- Areas that stand on one another, one more.
 use Rattle.std.proofs.Common.{◌≡◌, ℕ, ◌+◌, ◌<◌, true, List, [], ◌∷◌, ◌++◌, map, length, get_or, take, drop, flat_map, min, sum_by, Option, Some, None, sym, ap, ◌∙◌, arith, append_assoc, add-one}
-use Rattle.std.specs.List.{range_with_len}
 use Rattle.std.specs.Option.{is_some}
 use Rattle.std.proofs.lemmas.Bool.{false≢true}
 use Rattle.std.proofs.lemmas.List.{take_more, flat_map_more}
 use Rattle.std.proofs.lemmas.List.Sums.{sum_by-append, sum_by-cons}
-use Rattle.std.proofs.lemmas.List.FromFn.{map-range_with_len_more}
 use Rattle.std.proofs.Math.Seq.{drop-cons}
 use Rattle.scenario.specs.Setup.{Setup}
 use Rattle.trace.specs.declared.row.What.{What}
@@ -37,10 +35,6 @@ items_step f items place d within = ap (map f) (drop-cons items place d within) 
 pub where_counted : (kind : What) (found count : ℕ) (place : Option ℕ) → kind_place kind ≡ place → is_some place ≡ true → ((at : ℕ) → kind_place kind ≡ Some at → found ≡ count) → found ≡ count
 where_counted kind found count (Some at) is some each = each at is
 where_counted kind found count None is some each = absurd (false≢true some)
-
--- a list of what is made of each number, with one number more
-pub map_more : (f : ℕ → ℕ) (n : ℕ) (old new : List ℕ) (x : ℕ) → old ≡ map f (range_with_len 0 n) → new ≡ old ++ x ∷ [] → x ≡ f n → new ≡ map f (range_with_len 0 (n + 1))
-map_more f n old new x held goes is = goes ∙ ap (λ l. l ++ x ∷ []) held ∙ ap (λ y. map f (range_with_len 0 n) ++ y ∷ []) is ∙ sym (map-range_with_len_more f 0 n n (omega arith))
 
 -- a sum of items as far as a limit allows, with one item more
 pub sum_of_items : {X : Type 0} (f : X → ℕ) (items : List X) (place : ℕ) (d : X) (most before after : ℕ) → place < length items

@@ -12,7 +12,7 @@ use Rattle.figures.specs.Cases.{rank, at_rank}
 use Rattle.series.specs.declared.spread.Spread.{Spread}
 use Rattle.series.specs.Watched.{watched, places}
 use Rattle.series.specs.Stories.{IsSpreadOf}
-use Rattle.run_lanes.proofs.Steps.{range_more}
+use Rattle.drawing.proofs.Ranges.{range_more}
 use Rattle.run_spread.specs.declared.news.ShareTimes.{ShareTimes}
 use Rattle.run_spread.specs.Spread.{told_after, learned, stays, staying, time_of_one, times, last_learned, last_told, last_of, shares, reached, crash_part, crash_text, watched_crash}
 use mir.Val.{bool_byte}

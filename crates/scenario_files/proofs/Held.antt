@@ -59,3 +59,13 @@ each_err (Err e) h more = more e refl h
 pub handed_on : {T E : Type 0} (Q : E → Type 0) (r : Result T E) (e : E) → IsErrAnd r (λ y. y ≡ e) → Q e → IfErr r Q
 handed_on Q (Ok x) e gives h = absurd gives
 handed_on Q (Err y) e gives h = subst Q (sym gives) h
+
+-- what holds anyway holds of an error
+pub on_err_of : {T E P : Type 0} (r : Result T E) → P → OnErr r P
+on_err_of (Ok x) h = tt
+on_err_of (Err e) h = h
+
+-- what holds of an error, by what holds where there is one and what holds of it
+pub each_err_with : {T E P : Type 0} {Q R : E → Type 0} (r : Result T E) → OnErr r P → IfErr r Q → ((e : E) → P → Q e → R e) → IfErr r R
+each_err_with (Ok x) h q more = tt
+each_err_with (Err e) h q more = more e h q

@@ -1,2 +1,3 @@
 mod Divided
 pub mod Held
+pub mod Pairs

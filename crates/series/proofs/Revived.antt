@@ -1,5 +1,5 @@
 -- What one row more makes of how often a member was taken for alive again.
-use Rattle.std.proofs.Common.{◌≡◌, ℕ, suc, ◌+◌, ◌<◌, ◌^◌, Bool, true, false, cond, ◌&&◌, ◌==◌, List, [], ◌∷◌, ◌++◌, length, map, Option, Some, None, refl, sym, ap, subst, ◌∙◌, arith, add-zero, length-append}
+use Rattle.std.proofs.Common.{◌≡◌, ℕ, ◌+◌, ◌<◌, ◌^◌, Bool, true, false, cond, ◌&&◌, ◌==◌, List, [], ◌∷◌, ◌++◌, length, map, Option, Some, None, refl, sym, ap, subst, ◌∙◌, arith, add-zero, length-append}
 use Rattle.std.specs.Prelude.{filter, count_by, if◌then◌else◌, slice_index}
 use Rattle.std.specs.Option.{option_map, option_map_or}
 use Rattle.std.specs.List.{last_or, cons_option, list_any}
@@ -11,9 +11,10 @@ use Rattle.trace.specs.contracts.row.What.{the_type}
 use Rattle.trace.specs.declared.row.What.{What}
 use Rattle.trace.specs.declared.row.What.TheVariants as what
 use Rattle.trace.specs.declared.row.Row.{Row}
-use Rattle.reports.specs.Rows.{Placed, placed_after, rows_in_place, has_kind, is_about}
+use Rattle.reports.specs.Rows.{Placed, rows_in_place, has_kind, is_about}
 use Rattle.reports.specs.Revivals.{views, is_view, is_view_of, holds_failed, is_back}
 use Rattle.reports.proofs.Pushes.{with_later, last_placed, kept-push}
+use Rattle.reports.proofs.Returning.{length-one, length-placed}
 use Rattle.series.specs.declared.story.Story.{Story}
 use Rattle.series.specs.Grid.{count_at}
 use Rattle.series.specs.Spans.{span_at}
@@ -21,10 +22,6 @@ use Rattle.series.specs.Changes.{Change, is_of, state_after, AreFlowsOf}
 use Rattle.series.specs.Stories.{claimed_state, claims_of, revives_in}
 
 -- ---- rows in their places
-
-length-one : (keep : Bool) (p : Placed) → length (cond keep (p ∷ []) []) ≡ cond keep 1 0
-length-one true p = refl
-length-one false p = refl
 
 -- how many pass a test that doesn't ask for later rows, with one row more
 placed-push : (test : Placed → Bool) (rows : List Row) (row : Row) → ((p : Placed) → test (with_later row p) ≡ test p)
@@ -37,10 +34,6 @@ placed-push test rows row same =
     ∙ length-append before one
     ∙ ap (λ n. n + length one) (length-map (filter test (rows_in_place rows)) (with_later row) ∙ length-filter test (rows_in_place rows))
     ∙ ap (λ n. count_by test (rows_in_place rows) + n) (length-one (test (last_placed rows row)) (last_placed rows row))
-
-length-placed : (earlier rows : List Row) → length (placed_after earlier rows) ≡ length rows
-length-placed earlier [] = refl
-length-placed earlier (row ∷ rows) = ap suc (length-placed (earlier ++ row ∷ []) rows)
 
 -- no more are taken for alive again than there are rows
 pub few_revived : (s : Setup) (subject k n : ℕ) (rows : List Row) → n ≡ count_by (revives_in s subject k) (rows_in_place rows) → length rows < 2 ^ 63 → n < 2 ^ 63

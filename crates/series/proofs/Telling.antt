@@ -10,7 +10,7 @@ use Rattle.trace.specs.declared.row.What.{What}
 use Rattle.trace.specs.declared.row.Row.{Row}
 use Rattle.reports.specs.Rows.{has_kind, is_about, tells_of}
 use Rattle.reports.specs.Departures.{moment_of}
-use Rattle.reports.proofs.Detections.{tells_of-it}
+use Rattle.reports.proofs.Detections.{tells_of-it, first-or, or-none}
 use Rattle.series.specs.Stories.{says, first_said}
 use Rattle.series.specs.declared.lines.Line.{Line}
 use Rattle.series.specs.Lines.{line_at, lines_from, lines_of}
@@ -93,10 +93,6 @@ count_other test xs x none = sym (count-push test xs x ∙ ap (λ t. count_by te
 
 -- ---- when members first said it
 
-moment-or : (a b : Option Row) → moment_of (option_or a b) ≡ option_or (moment_of a) (moment_of b)
-moment-or None b = refl
-moment-or (Some x) b = refl
-
 moment-one : (test : Bool) (row : Row) → moment_of (cond test (Some row) None) ≡ (if test then Some row.at else None)
 moment-one true row = refl
 moment-one false row = refl
@@ -105,12 +101,8 @@ pub said-push : (kind : What) (subject from member : ℕ) (rows : List Row) (row
     ≡ option_or (first_said kind subject from member rows) (if says kind subject member row && nat_le from row.at then Some row.at else None)
 said-push kind subject from member rows row =
     let test : Row → Bool = λ r. says kind subject member r && nat_le from r.at in
-    ap moment_of (find-append test rows (row ∷ [])) ∙ moment-or (find test rows) (find test (row ∷ []))
+    ap moment_of (find-append test rows (row ∷ [])) ∙ first-or (find test rows) (find test (row ∷ []))
     ∙ ap (option_or (first_said kind subject from member rows)) (moment-one (test row) row)
-
-or-none : (o : Option ℕ) → option_or o None ≡ o
-or-none None = refl
-or-none (Some x) = refl
 
 pub said_other : (kind : What) (subject from member : ℕ) (rows : List Row) (row : Row) → tells_of kind subject row ≡ false
     → first_said kind subject from member rows ≡ first_said kind subject from member (rows ++ row ∷ [])

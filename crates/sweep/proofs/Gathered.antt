@@ -3,7 +3,6 @@ use Rattle.std.proofs.Common.{◌≡◌, ℕ, ◌+◌, ◌-◌, ◌*◌, ◌<◌
 use Rattle.std.specs.Prelude.{nat_le}
 use Rattle.std.proofs.Math.Seq.{drop-nil}
 use Rattle.std.proofs.lemmas.Nat.{mul-le}
-use Rattle.std.proofs.lemmas.Bool.Decides.{nat_tests}
 use Rattle.std.proofs.lemmas.List.{take_all, drop_all, take-append-le, drop-append-le}
 use Rattle.std.proofs.lemmas.Option.{none-some, slice_get_within}
 use Rattle.figures.specs.declared.summary.CaseSummary.{CaseSummary}
@@ -11,16 +10,11 @@ use Rattle.figures.specs.declared.case.CaseFigures.{CaseFigures}
 use Rattle.figures.specs.Notes.{Note}
 use Rattle.figures.specs.Cases.{IsSummaryOf}
 use Rattle.figures.specs.Kept.{AreFiguresOf, runs_kept}
+use Rattle.figures.proofs.Roots.{le_from, lt_from}
 use Rattle.cases.specs.Sweep.{Sweep, case_count, seed_count, run_count}
 use Rattle.sweep.specs.declared.gathering.Gathering.{Gathering}
 use Rattle.sweep.specs.Summaries.{runs_of_case, SumUp, IsGathered}
 use Rattle.sweep.proofs.Pushed.{pushed}
-
-le_from : (a b : ℕ) → nat_le a b ≡ true → a ≤ b
-le_from a b held = grind (arith, nat_tests)
-
-lt_from : (a b : ℕ) → nat_le a b ≡ false → b < a
-lt_from a b failed = grind (arith, nat_tests)
 
 -- between a multiple and the next there is no other
 same_multiple : (k n m : ℕ) → k * m ≤ n * m → n * m < k * m + m → k ≡ n

@@ -11,12 +11,7 @@ use Rattle.cases.specs.Sweep.{Sweep}
 use Rattle.sweep.specs.Table.{HasCause}
 use Rattle.outputs.specs.Written.{sink_failures}
 
--- what holds holds at an error too
-pub on_err : {T E P : Type 0} (r : Result T E) → P → OnErr r P
-on_err (Ok x) p = tt
-on_err (Err e) p = p
-
--- and at a success
+-- what holds holds at a success too
 pub on_ok : {T E P : Type 0} (r : Result T E) → P → OnOk r P
 on_ok (Ok x) p = p
 on_ok (Err e) p = tt
@@ -30,16 +25,6 @@ on_ok_then A B (Err e) a turn = tt
 pub on_err_then : {T E : Type 0} (A B : Type 0) (r : Result T E) → OnErr r A → (A → B) → OnErr r B
 on_err_then A B (Ok x) a turn = tt
 on_err_then A B (Err e) a turn = turn a
-
--- what is said of an error, and what follows from that
-pub if_err_then : {T E : Type 0} (r : Result T E) (G Q : E → Type 0) → IfErr r G → ((e : E) → G e → Q e) → IfErr r Q
-if_err_then (Ok x) G Q gives turn = tt
-if_err_then (Err e) G Q gives turn = turn e gives
-
--- what is known of the error gives what is said of it
-pub handed : {T E : Type 0} (r : Result T E) (G Q : E → Type 0) → IsErrAnd r G → ((e : E) → G e → Q e) → IfErr r Q
-handed (Ok x) G Q gives turn = tt
-handed (Err e) G Q gives turn = turn e gives
 
 -- want of memory is no failure of a sink
 pub memory_fails_none : {T : Type 0} (r : Result T Fault) (n : ℕ) → IsErrAnd r (λ f. f ≡ fault.Memory) → n ≡ n + sink_failures r

@@ -10,7 +10,7 @@ use Rattle.trace.proofs.Beginnings.{Appends-none}
 use Rattle.pieces.specs.Pieces.{whole}
 use Rattle.command_line.specs.declared.words.SweepWords.{SweepWords}
 use Rattle.scenario_files.specs.Shelves.{Shelf, HoldsBeginning}
-use Rattle.case_telling.proofs.Pairs.{first_begins, first_holds, others_kept, second_begins, second_holds}
+use Rattle.scenario_files.proofs.Pairs.{first_begins, first_holds, others_kept, second_begins, second_holds}
 use Rattle.sweep_command.specs.Outcomes.{BeginsPaged, BreaksOffPaged, IsCaused, IsPageOfRuns, MakesPaged, StoresPaged}
 use Rattle.sweep_command.specs.Runs.{runs_table}
 

@@ -1,5 +1,5 @@
 -- What the file holds that the table of a sweep was written to.
-use Rattle.std.proofs.Common.{◌≡◌, ◌∙◌, ℕ, Bool, false, true, List, [], Option, Some, None, Result, Ok, Err, IfSome, IfOk, IfErr, OnOk, OnErr, refl, sym, subst}
+use Rattle.std.proofs.Common.{◌≡◌, ◌∙◌, ℕ, Bool, false, true, List, [], Option, Some, None, Result, Ok, Err, IfSome, IfOk, OnOk, OnErr, refl, sym, subst}
 use Rattle.std.specs.Option.{ForSome}
 use Rattle.std.specs.Io.KnownBytes.{Appends}
 use Rattle.toml.specs.Data.{Data}
@@ -17,16 +17,6 @@ use Rattle.scenario_files.specs.Shelves.{Shelf, HoldsBeginning}
 use Rattle.sweep_command.specs.Outcomes.{BeginsAsked, BeginsPart, BreaksOff, BreaksOffPart, BreaksOffRuns, FitResumed, GoesOn, IsCaused, MakesAsked, MakesLines, MakesPart, StoresPlain, StoresPart, StoresRuns, Stood, piece_resumed}
 use Rattle.sweep_command.specs.Runs.{AreBegun, AreRuns, BeginsAllRuns, BeginsRuns, FitPiece, MakesRuns, RunsBy, rest_table, runs_table}
 use Rattle.scenario_files.proofs.Held.{holds_beginning, holds_text}
-
--- what holds of an error, by what holds where there is one and what holds of it
-pub each_err_with : {T E P : Type 0} {Q R : E → Type 0} (r : Result T E) → OnErr r P → IfErr r Q → ((e : E) → P → Q e → R e) → IfErr r R
-each_err_with (Ok x) h q more = tt
-each_err_with (Err e) h q more = more e h q
-
--- what holds anyway holds of an error
-pub each_err_of : {T E P : Type 0} (r : Result T E) → P → OnErr r P
-each_err_of (Ok x) h = tt
-each_err_of (Err e) h = h
 
 -- what is said of a success, with what holds of it
 both_ok : {T E : Type 0} (P : Type 0) (Q : T → Type 0) (r : Result T E) → OnOk r P → IfOk r Q → IfOk r (λ x. P × Q x)

@@ -4,7 +4,7 @@ use Rattle.std.specs.Option.{option_map}
 use Rattle.std.specs.List.{AllByRecursion, slice_get}
 use Rattle.std.specs.Cmp.{IsTotalOrder, nat_cmp_total}
 use Rattle.std.specs.declared.cmp.Ordering.{Ordering}
-use Rattle.std.specs.FinMap.{FinMap, IsAntisymmetric, nat_cmp-IsAntisymmetric, empty, insert, retain_keys, get-empty, same_map}
+use Rattle.std.specs.FinMap.{FinMap, IsAntisymmetric, nat_cmp-IsAntisymmetric, empty, retain_keys, get-empty, same_map}
 use Rattle.std.proofs.lemmas.Bool.{eqb-true, eqb-false, eq-eqb}
 use Rattle.std.proofs.lemmas.List.Elements.{filter-append}
 use Rattle.std.proofs.lemmas.Option.{slice_get_within}
@@ -22,7 +22,7 @@ use Rattle.member_laws.specs.Runs.{Cluster}
 use Rattle.windows.specs.declared.part.Part.{Part}
 use Rattle.windows.specs.Parts.{part_of, is_in, for_own}
 use Rattle.windows.specs.WorldOf.{world_of}
-use Rattle.windows.proofs.Cuts.{get_retained, retain_insert, retain_insert_other}
+use Rattle.windows.proofs.Cuts.{get_retained, retain_insert, retain_insert_other, retain_events}
 use Rattle.windows.specs.Admitting.{AreFromBelow, with_member, opened_below}
 use Rattle.windows.proofs.Admitting.{scripts_from_below, one_more_opened}
 use Rattle.windows.proofs.Wholes.{pending_kept}
@@ -49,18 +49,8 @@ nobody_in owns =
     let pending = retain_none Content key_total key_exact (λ k. owns k.to) in
     λ i. record { members = members i; pending = pending i }
 
-module _ {C : Type 0} (owns : ℕ → Bool) where
-  abbrev own_keys : FinMap key_cmp C → FinMap key_cmp C
-  own_keys pending = retain_keys pending (λ k. owns k.to)
-
-  retain_either : (pending : FinMap key_cmp C) (e : Key × C) (es : List (Key × C)) (b : Bool) → owns e.0.to ≡ b
-      → with_events (own_keys (insert pending e.0 e.1)) (for_own owns es) ≡ with_events (own_keys pending) (cond b (e ∷ for_own owns es) (for_own owns es))
-  retain_either pending e es true mine = ap (λ m. with_events m (for_own owns es)) (retain_insert key_total key_exact (λ k. owns k.to) pending e.0 e.1 mine)
-  retain_either pending e es false other = ap (λ m. with_events m (for_own owns es)) (retain_insert_other key_total key_exact (λ k. owns k.to) pending e.0 e.1 other)
-
-  retain_events : (es : List (Key × C)) (pending : FinMap key_cmp C) → own_keys (with_events pending es) ≡ with_events (own_keys pending) (for_own owns es)
-  retain_events [] pending = refl
-  retain_events (e ∷ es) pending = retain_events es (insert pending e.0 e.1) ∙ retain_either pending e es (owns e.0.to) refl
+abbrev own_keys : {C : Type 0} (owns : ℕ → Bool) → FinMap key_cmp C → FinMap key_cmp C
+own_keys owns pending = retain_keys pending (λ k. owns k.to)
 
 module _ (owns : ℕ → Bool) (m : ℕ) where
   ending_own : (content : Content) (b : Bool) → owns m ≡ b → (ending : Option ℕ) → for_own owns (ending_event content m ending) ≡ cond b (ending_event content m ending) []

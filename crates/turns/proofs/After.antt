@@ -70,7 +70,7 @@ among_all test P (x ∷ xs) all = either (test x) refl all (among_all test P xs)
     either true e all rest = (λ passes. all.0, rest all.1)
     either false e all rest = (λ passes. absurd (false≢true (sym e ∙ passes)), rest all)
 
-of_events : (P : Key → Type 0) (es : List Event) → AllByRecursion (λ (e : Key × Content). P e.0) (map pair_of es) → AllByRecursion (λ (e : Event). P e.key) es
+pub of_events : (P : Key → Type 0) (es : List Event) → AllByRecursion (λ (e : Key × Content). P e.0) (map pair_of es) → AllByRecursion (λ (e : Event). P e.key) es
 of_events P [] all = tt
 of_events P (e ∷ es) all = (all.0, of_events P es all.1)
 

@@ -27,7 +27,7 @@ up_to_lesser None b t = (λ h. h.1, λ h. (tt, h))
 up_to_lesser (Some a) None t = (λ h. h.0, λ h. (h, tt))
 up_to_lesser (Some a) (Some b) t = (λ h. let x = h.0 in let y = h.1 in omega arith, λ h. (omega arith, omega arith))
 
-split_all : {A : Type 0} (P : A → Type 0) (xs ys : List A) → AllByRecursion P (xs ++ ys) → AllByRecursion P xs × AllByRecursion P ys
+pub split_all : {A : Type 0} (P : A → Type 0) (xs ys : List A) → AllByRecursion P (xs ++ ys) → AllByRecursion P xs × AllByRecursion P ys
 split_all P [] ys all = (tt, all)
 split_all P (x ∷ xs) ys all = let rest = split_all P xs ys all.1 in ((all.0, rest.0), rest.1)
 

@@ -1,14 +1,13 @@
 -- A schedule of clear steps leads to where the run ends, and keeps a cluster whole.
-use Rattle.std.proofs.Common.{◌≡◌, ℕ, ◌<◌, ◌≤◌, List, [], ◌∷◌, ◌++◌, Option, Some, None, append_assoc, ap, ◌∙◌, sym, subst, refl, arith}
-use Rattle.std.specs.Option.{is_some, option_map}
+use Rattle.std.proofs.Common.{◌≡◌, ℕ, ◌<◌, ◌≤◌, List, [], ◌∷◌, ◌++◌, ap, ◌∙◌, sym, subst, refl, arith}
+use Rattle.std.specs.Option.{is_some}
 use Rattle.std.specs.FinMap.{get, contains_key}
 use Rattle.base.specs.declared.key.Key.{Key}
-use Rattle.base.specs.World.{Machine, World, IsOver, Run, NextStep, settled}
+use Rattle.base.specs.World.{Machine, World, IsOver, Run, NextStep}
 use Rattle.base.specs.Run.{MakesLater, handled, trace, run-exists, one_step, run_more}
+use Rattle.base.proofs.Joined.{run_joins}
 use Rattle.scenario.specs.Setup.{Setup, IsSound}
 use Rattle.trace.specs.declared.row.Row.{Row}
-use Rattle.member.specs.declared.content.Content.{Content}
-use Rattle.member.specs.State.{State}
 use Rattle.member.specs.Step.{step}
 use Rattle.member.proofs.Fair.{steps_later}
 use Rattle.member_laws.specs.Runs.{Cluster, IsSoundCluster}
@@ -16,7 +15,7 @@ use Rattle.windows.specs.Schedule.{TestedStep, Schedule}
 use Rattle.windows.specs.Cluster.{LiesBetween, IsClearOf, IsWholeCluster}
 use Rattle.windows.proofs.Members.{sound_stays, numbered_by}
 use Rattle.windows.proofs.Horizons.{clear_early}
-use Rattle.windows.proofs.PartRuns.{same_own}
+use Rattle.windows.proofs.PartRuns.{members_settled}
 
 module _ {S C R : Type 0} (step : Machine S C R) (end : ℕ) where
   -- the run from this world ends there
@@ -25,12 +24,6 @@ module _ {S C R : Type 0} (step : Machine S C R) (end : ℕ) where
     pub rows : List R
     pub run : Run step end w keys rows last
     pub over : IsOver end last
-
-  pub run_joins : (ks ls : List Key) (w v u : World S C) (rows more : List R) → Run step end w ks rows v → Run step end v ls more u → Run step end w (ks ++ ls) (rows ++ more) u
-  run_joins [] ls w v u rows more run next =
-      subst (λ l. Run step end w ls (l ++ more) u) (sym run.1) (subst (λ x. Run step end x ls more u) run.0 next)
-  run_joins (k ∷ ks) ls w v u rows more run next =
-      (run.0, run.1, run.2 ++ more, run.3, run.4, run_joins ks ls run.0 v u run.2 more run.5 next, ap (λ l. l ++ more) run.6 ∙ append_assoc run.1 run.2 more)
 
   over_or_step : (w u v : World S C) (k : Key) (made : List R) → v ≡ w → IsOver end v → k.at ≤ end → NextStep step w k u made → ⊥
   over_or_step w u v k made same over in_time next = let past : end < k.at = subst (IsOver end) same over k (ap is_some next.here) in omega arith
@@ -56,7 +49,7 @@ module _ {S C R : Type 0} (step : Machine S C R) (end : ℕ) where
   end_before ks w v last rows run is = record {
     keys = ks ++ is.keys;
     rows = rows ++ is.rows;
-    run = run_joins ks is.keys w v last rows is.rows run is.run;
+    run = run_joins step end ks is.keys w v last rows is.rows run is.run;
     over = is.over;
   }
 
@@ -81,16 +74,11 @@ module _ (s : Setup) (sound : IsSound s) (division : ℕ → ℕ) (between : ℕ
 
 -- ---- what a schedule keeps
 
-pub settled_same : (s : Setup) (w : Cluster) (k : Key) (c : Content) (o : Option State) → get w.members k.to ≡ o → (m : ℕ)
-    → contains_key (settled w k (option_map (step s k c) o)).members m ≡ contains_key w.members m
-settled_same s w k c None none m = refl
-settled_same s w k c (Some t) here m = same_own w.members k.to t (step s k c t).state here m
-
 module _ (s : Setup) (sound : IsSound s) (Test : Cluster → Key → Type 0) where
   same_members : (ks : List Key) (w v : Cluster) (rows : List Row) → Schedule (step s) Test w ks rows v → (m : ℕ) → contains_key v.members m ≡ contains_key w.members m
   same_members [] w v rows is m = ap (λ (u : Cluster). contains_key u.members m) is.0
   same_members (k ∷ ks) w v rows is m =
-      same_members ks is.0 v is.2 is.4 m ∙ ap (λ (u : Cluster). contains_key u.members m) is.3.world ∙ settled_same s w k is.3.content (get w.members k.to) refl m
+      same_members ks is.0 v is.2 is.4 m ∙ ap (λ (u : Cluster). contains_key u.members m) is.3.world ∙ members_settled (step s) w k is.3.content (get w.members k.to) refl m
 
   pub whole_after : (ks : List Key) (w v : Cluster) (rows : List Row) → Schedule (step s) Test w ks rows v → IsSoundCluster s v → IsWholeCluster s w → IsWholeCluster s v
   whole_after ks w v rows is there whole = record {

@@ -16,7 +16,7 @@ use Rattle.base.specs.Order.{key_cmp, key_total, key_exact}
 use Rattle.base.specs.World.{IsPending, IsOver, Run}
 use Rattle.base.specs.Run.{handled, trace, run-exists}
 use Rattle.base.specs.Rising.{IsRising, IsPlaceBefore}
-use Rattle.base.proofs.Rising.{all_weaker, rows_rise}
+use Rattle.base.proofs.Rising.{all_weaker, rows_rise, all_front, all_back}
 use Rattle.member.proofs.Fair.{steps_later, steps_counted}
 use Rattle.links.specs.Least.{IsDelayOfAPair, IsNoGreater}
 use Rattle.scenario.specs.Setup.{Setup, IsSound, member_count}
@@ -333,24 +333,16 @@ module _ {Q : Type 0} (set : Q → FinMap key_cmp Event) (course : Course) (is :
 
 -- ---- the first rows of a run
 
-first_ones : {A : Type 0} (P : A → Type 0) (xs ys : List A) → AllByRecursion P (xs ++ ys) → AllByRecursion P xs
-first_ones P [] ys all = tt
-first_ones P (x ∷ xs) ys all = (all.0, first_ones P xs ys all.1)
-
-later_ones : {A : Type 0} (P : A → Type 0) (xs ys : List A) → AllByRecursion P (xs ++ ys) → AllByRecursion P ys
-later_ones P [] ys all = all
-later_ones P (x ∷ xs) ys all = later_ones P xs ys all.1
-
 module _ (s : Setup) (sound : IsSound s) where
   names_first : (rows : List Row) → BeginsRun s rows → AllByRecursion (NamesMembers s) rows
   names_first rows begun =
       let run = begun.1 in
-      first_ones (NamesMembers s) rows begun.2.0
+      all_front (NamesMembers s) rows begun.2.0
       (recursion_from_All (NamesMembers s) (rows ++ begun.2.0) (subst (All (NamesMembers s)) begun.2.1 (rows_named s sound run.0 begun.0 run.1.last run.1.run)))
 
   -- they name members of the scenario
   pub names_next : (before made : List Row) → BeginsRun s (before ++ made) → All (NamesMembers s) made
-  names_next before made begun = All-from_recursion (NamesMembers s) made (later_ones (NamesMembers s) before made (names_first (before ++ made) begun))
+  names_next before made begun = All-from_recursion (NamesMembers s) made (all_back (NamesMembers s) before made (names_first (before ++ made) begun))
 
   pub names_run : (rows : List Row) → IsRunOf s rows → All (NamesMembers s) rows
   names_run rows run = names_next [] rows (rows, run, ([], sym (append-nil rows)))

@@ -1,10 +1,10 @@
 pub mod Coming
-mod Bounding
+pub mod Bounding
 mod Limits
 mod Releasing
 pub mod Turning
 pub mod RowOrders
-mod After
+pub mod After
 pub mod Goes
 pub mod Ends
 mod Wearing

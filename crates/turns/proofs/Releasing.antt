@@ -17,6 +17,7 @@ use Rattle.trace.specs.declared.row.Row.{Row}
 use Rattle.member.specs.Places.{place_of}
 use Rattle.windows.proofs.Numbers.{rising_kept}
 use Rattle.windows.proofs.Sorting.{IsLess, IsAtMost, Tells, rising_from_sorted, tells_itself, same_order}
+use Rattle.windows.proofs.Merge.{filter_none}
 use Rattle.turns.specs.Parts.{is_before}
 
 -- ---- lists with the same items
@@ -95,10 +96,6 @@ module _ {A : Type 0} where
       either rest false e (inl same) = absurd (false≢true (sym e ∙ ap test (sym same) ∙ passes))
       either rest false e (inr more) = rest more
 
-  none_kept : (test : A → Bool) (xs : List A) → AllByRecursion (λ x. test x ≡ false) xs → filter test xs ≡ []
-  none_kept test [] none = refl
-  none_kept test (x ∷ xs) none = ap (λ b. cond b (x ∷ filter test xs) (filter test xs)) none.0 ∙ none_kept test xs none.1
-
   pub kept_append : (test : A → Bool) (xs ys : List A) → filter test (xs ++ ys) ≡ filter test xs ++ filter test ys
   kept_append test [] ys = refl
   kept_append test (x ∷ xs) ys = either (kept_append test xs ys) (test x)
@@ -123,7 +120,7 @@ module _ {A : Type 0} where
   all_kept test xs all = sym (all_kept_same test xs (each_passes test xs all))
 
   pub no_others : (test : A → Bool) (xs : List A) → list_all test xs ≡ true → [] ≡ filter (others test) xs
-  no_others test xs all = sym (none_kept (others test) xs (all_weaker _ _ (λ x passes. ap not passes) xs (each_passes test xs all)))
+  no_others test xs all = sym (filter_none (others test) xs (all_weaker _ _ (λ x passes. ap not passes) xs (each_passes test xs all)))
 
   -- those of a list are those of its items
   kept_items : (test : A → Bool) (whole items : List A) → AreItemsOf whole items → AreItemsOf (filter test whole) (filter test items)
@@ -150,7 +147,7 @@ module _ {A : Type 0} where
         by_test rest false e =
             let none = none_after x xs e up.0 in
             sym
-            (ap (λ l. l ++ x ∷ filter (others test) xs) (none_kept test xs none)
+            (ap (λ l. l ++ x ∷ filter (others test) xs) (filter_none test xs none)
             ∙ ap (λ l. x ∷ l) (all_kept_same (others test) xs (all_weaker _ (λ y. not (test y) ≡ true) (λ y h. ap not h) xs none)))
 
 -- ---- rows before a moment
@@ -176,7 +173,7 @@ module _ (cmp : Row → Row → Ordering) (total : IsTotalOrder cmp) (agrees : (
     first_items : AreItemsOf (filter (is_before least) rest) (filter (is_before least) sorted)
     first_items =
         subst (AreItemsOf (filter (is_before least) rest))
-        (kept_append (is_before least) sorted left ∙ ap (λ l. filter (is_before least) sorted ++ l) (none_kept (is_before least) left late) ∙ append_none (filter (is_before least) sorted))
+        (kept_append (is_before least) sorted left ∙ ap (λ l. filter (is_before least) sorted ++ l) (filter_none (is_before least) left late) ∙ append_none (filter (is_before least) sorted))
         (kept_items (is_before least) rest (sorted ++ left) are)
       where
         append_none : (xs : List Row) → xs ++ [] ≡ xs

@@ -63,7 +63,7 @@ module _ {C : Type 0} (owns : ℕ → Bool) where
   retain_either pending e es true mine = ap (λ m. with_events m (for_own owns es)) (retain_insert key_total key_exact (λ k. owns k.to) pending e.0 e.1 mine)
   retain_either pending e es false other = ap (λ m. with_events m (for_own owns es)) (retain_insert_other key_total key_exact (λ k. owns k.to) pending e.0 e.1 other)
 
-  retain_events : (es : List (Key × C)) (pending : FinMap key_cmp C) → own_keys (with_events pending es) ≡ with_events (own_keys pending) (for_own owns es)
+  pub retain_events : (es : List (Key × C)) (pending : FinMap key_cmp C) → own_keys (with_events pending es) ≡ with_events (own_keys pending) (for_own owns es)
   retain_events [] pending = refl
   retain_events (e ∷ es) pending = retain_events es (insert pending e.0 e.1) ∙ retain_either pending e es (owns e.0.to) refl
 

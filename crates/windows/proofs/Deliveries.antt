@@ -64,7 +64,8 @@ all_before before [] ys x rising = tt
 all_before before (y ∷ xs) ys x rising = (all_at (before y) xs ys x rising.0, all_before before xs ys x rising.1)
 
 module _ {C : Type 0} where
-  absent_inserted : (pending : FinMap key_cmp C) (k q : Key) (c : C) → k ≢ q → contains_key pending q ≡ false → contains_key (insert pending k c) q ≡ false
+  -- a key that isn't there isn't once another is
+  pub absent_inserted : (pending : FinMap key_cmp C) (k q : Key) (c : C) → k ≢ q → contains_key pending q ≡ false → contains_key (insert pending k c) q ≡ false
   absent_inserted pending k q c other absent = either (eq_by_cmp key_cmp q k) refl
     where
       either : (b : Bool) → eq_by_cmp key_cmp q k ≡ b → contains_key (insert pending k c) q ≡ false

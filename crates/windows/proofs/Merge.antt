@@ -21,7 +21,7 @@ module _ {A : Type 0} where
       (subst (IsPermutation (made ++ front ++ back)) (append_assoc front made back)
       (IsPermutation-append_left back (made ++ front) (front ++ made) (IsPermutation-append_comm made front)))
 
-  filter_none : (test : A → Bool) (xs : List A) → AllByRecursion (λ x. test x ≡ false) xs → filter test xs ≡ []
+  pub filter_none : (test : A → Bool) (xs : List A) → AllByRecursion (λ x. test x ≡ false) xs → filter test xs ≡ []
   filter_none test [] none = refl
   filter_none test (x ∷ xs) none = ap (λ b. cond b (x ∷ filter test xs) (filter test xs)) none.0 ∙ filter_none test xs none.1
 

@@ -20,6 +20,12 @@ there_again members m q t u false here e = refl
 pub same_own : {S : Type 0} (members : FinMap nat_cmp S) (m : ℕ) (t u : S) → get members m ≡ Some t → (q : ℕ) → contains_key (insert members m u) q ≡ contains_key members q
 same_own members m t u here q = ap is_some (get-insert nat_cmp_total members m u q) ∙ there_again members m q t u (eq_by_cmp nat_cmp q m) here refl
 
+-- a step leaves the numbers of members
+pub members_settled : {S C R : Type 0} (step : Machine S C R) (w : World S C) (k : Key) (c : C) (o : Option S) → get w.members k.to ≡ o → (m : ℕ)
+    → contains_key (settled w k (option_map (step k c) o)).members m ≡ contains_key w.members m
+members_settled step w k c None none m = refl
+members_settled step w k c (Some t) here m = same_own w.members k.to t (step k c t).state here m
+
 module _ {S C R : Type 0} (step : Machine S C R) (owns : ℕ → Bool) where
   -- what a member makes of an event, less what is for others
   abbrev pub Kept : Machine S C R

@@ -1,5 +1,5 @@
 -- The rows of one member among rows that were sorted.
-use Rattle.std.proofs.Common.{◌≡◌, ℕ, ◌+◌, Bool, true, false, cond, List, [], ◌∷◌, ◌++◌, ap, ◌∙◌, sym, refl, arith}
+use Rattle.std.proofs.Common.{◌≡◌, ℕ, ◌+◌, Bool, true, false, cond, List, [], ◌∷◌, ap, ◌∙◌, sym, refl, arith}
 use Rattle.std.specs.List.{AllByRecursion, filter, sum_by}
 use Rattle.std.specs.List.Sorted.{IsPermutation, IsSorted}
 use Rattle.std.specs.Cmp.{IsTotalOrder}
@@ -13,15 +13,6 @@ use Rattle.base.proofs.Rising.{all_weaker}
 use Rattle.windows.proofs.Cuts.{all_kept}
 use Rattle.windows.proofs.Numbers.{rising_kept}
 use Rattle.windows.proofs.Sorting.{IsAtMost, IsLess, Tells, tells_itself, same_order, rising_from_sorted}
-
--- a beginning of a rising list rises
-all_front : {A : Type 0} (P : A → Type 0) (xs ys : List A) → AllByRecursion P (xs ++ ys) → AllByRecursion P xs
-all_front P [] ys all = tt
-all_front P (x ∷ xs) ys all = (all.0, all_front P xs ys all.1)
-
-pub rising_front : {A : Type 0} (before : A → A → Type 0) (xs ys : List A) → IsRising before (xs ++ ys) → IsRising before xs
-rising_front before [] ys up = tt
-rising_front before (x ∷ xs) ys up = (all_front (before x) xs ys up.0, rising_front before xs ys up.1)
 
 module _ {A : Type 0} (test : A → Bool) where
   -- what holds of all that is kept holds of each that passes

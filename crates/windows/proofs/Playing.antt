@@ -8,6 +8,7 @@ use Rattle.base.specs.declared.key.Key.{Key}
 use Rattle.base.specs.World.{IsOver}
 use Rattle.base.specs.Run.{handled, trace, run-exists, trace-run}
 use Rattle.base.specs.Rising.{IsRising}
+use Rattle.base.proofs.Rising.{rising_front}
 use Rattle.scenario.specs.Setup.{Setup, IsSound, member_count}
 use Rattle.trace.specs.declared.row.Row.{Row}
 use Rattle.member.specs.State.{State}
@@ -27,7 +28,7 @@ use Rattle.windows.proofs.Numbers.{rising_kept}
 use Rattle.windows.proofs.Released.{trace_rises}
 use Rattle.windows.proofs.Sorting.{IsLess}
 use Rattle.windows.proofs.Plays.{schedule_of}
-use Rattle.windows.proofs.PlayRows.{rising_front, kept_sorted}
+use Rattle.windows.proofs.PlayRows.{kept_sorted}
 use Rattle.windows.proofs.PlayWorlds.{still_has}
 
 module _ (s : Setup) (d : Option ℕ) (choices : List ℕ) (keys : List Key) (made : List Row) (v : Cluster) (sound : IsSound s) (least : IsLeastDelay s d) (plays : Plays s d (opening s) choices keys made v) where

@@ -2,7 +2,7 @@ use Rattle.std.proofs.Common.{subst}
 use Rattle.std.proofs.lemmas.Result.{IfOk-weaker}
 use Rattle.toml.specs.View.{view}
 use Rattle.cases.specs.Sweep.{seed_count}
-use Rattle.sweep.proofs.Handing.{if_err_then}
+use Rattle.figures.proofs.Handing.{if_err_then}
 use Rattle.sweep.specs.Table.{tells_revived}
 use Rattle.begun_cases.specs.Begun.{AreCasesBegun, RefusesCases}
 use Rattle.begun_cases.proofs.OneByOne.{cases_stand, no_cases_stand}

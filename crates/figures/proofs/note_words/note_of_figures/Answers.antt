@@ -1,6 +1,7 @@
 use Rattle.std.proofs.Common.{◌≡◌, sym, subst, arith}
 use Rattle.figures.specs.Notes.{RefusesNoteOf}
-use Rattle.figures.proofs.NoNotes.{behind_five, first_missing, fifth_missing, fourth_missing, handed, no_note_of, second_missing, third_missing, times_refused, too_few}
+use Rattle.figures.proofs.Handing.{handed}
+use Rattle.figures.proofs.NoNotes.{behind_five, first_missing, fifth_missing, fourth_missing, no_note_of, second_missing, third_missing, times_refused, too_few}
 use Rattle.figures.proofs.note_words.note_of_figures.Goals as goal
 
 pub returns-then-figures-lt5-clause-refused : goal.returns-then-figures-lt5-clause-refused

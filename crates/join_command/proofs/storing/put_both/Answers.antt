@@ -1,7 +1,8 @@
 -- a table and then a page, or a beginning of that
 use Rattle.std.proofs.Common.{inl, inr}
 use Rattle.trace.proofs.Beginnings.{Keeps-same}
-use Rattle.join_command.proofs.Stored.{each_on_err, each_on_ok, on_err_of}
+use Rattle.scenario_files.proofs.Held.{on_err_of}
+use Rattle.join_command.proofs.Stored.{each_on_err, each_on_ok}
 use Rattle.join_command.proofs.storing.put_both.Goals as goal
 
 pub returns-clause-whole : goal.returns-clause-whole

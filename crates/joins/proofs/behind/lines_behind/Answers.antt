@@ -3,7 +3,7 @@ use Rattle.std.specs.Str.{IsUtf8}
 use Rattle.std.proofs.lemmas.Bool.Decides.{Decides-eqb}
 use Rattle.std.proofs.lemmas.Slice.Eq.{strip_prefix_is}
 use Rattle.sweep.specs.Pieces.{piece_header}
-use Rattle.sweep.proofs.Handing.{handed}
+use Rattle.figures.proofs.Handing.{handed}
 use Rattle.joins.specs.Reasons.{IsReason}
 use Rattle.joins.proofs.PlacesMore.{begins_there, memory_reason, missing, torn}
 use Rattle.joins.proofs.behind.lines_behind.Goals as goal

@@ -1,5 +1,5 @@
 use Rattle.std.proofs.Common.{◌∙◌, ap, is_some, sym}
-use Rattle.sweep.proofs.Handing.{handed}
+use Rattle.figures.proofs.Handing.{handed}
 use Rattle.joins.proofs.Heads.{same_piece, name_refused}
 use Rattle.joins.proofs.Names.{mark_read, marked_words}
 use Rattle.joins.proofs.head.read_head.Goals as goal

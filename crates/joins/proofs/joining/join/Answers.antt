@@ -1,5 +1,5 @@
 use Rattle.std.proofs.Common.{sym, subst, arith}
-use Rattle.sweep.proofs.Handing.{handed}
+use Rattle.figures.proofs.Handing.{handed}
 use Rattle.joins.specs.Reasons.{IsReason}
 use Rattle.joins.proofs.PlacesMore.{of_sink}
 use Rattle.joins.proofs.Wholes.{few_joined, whole_joined}

@@ -1,5 +1,6 @@
 use Rattle.std.proofs.Common.{refl, sym, subst}
-use Rattle.sweep.proofs.Handing.{handed, if_err_then, on_ok_then}
+use Rattle.figures.proofs.Handing.{handed, if_err_then}
+use Rattle.sweep.proofs.Handing.{on_ok_then}
 use Rattle.joins.specs.Behind.{AreBehind, ReadsBehind}
 use Rattle.joins.specs.Reasons.{IsReason}
 use Rattle.joins.proofs.PlacesMore.{among, of_sink, torn}

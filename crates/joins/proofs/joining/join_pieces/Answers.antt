@@ -1,6 +1,6 @@
 use Rattle.std.proofs.Common.{◌≡◌, ◌≤◌, [], refl, rules, sym, subst, arith}
 use Rattle.sweep.specs.Summaries.{IsGathered}
-use Rattle.sweep.proofs.Handing.{handed}
+use Rattle.figures.proofs.Handing.{handed}
 use Rattle.sweep.proofs.Sizes.{few_runs, some_runs}
 use Rattle.joins.specs.Behind.{summaries_told}
 use Rattle.joins.specs.Joined.{JoinsPieces}

@@ -1,7 +1,7 @@
 use Rattle.std.proofs.Common.{◌≡◌, ◌∙◌, ℕ, Bool, List, ap, inr, is_some, refl, subst, arith}
 use Rattle.cases.specs.Sweep.{Sweep}
 use Rattle.pieces.specs.declared.piece.Piece.{Piece}
-use Rattle.sweep.proofs.Handing.{handed}
+use Rattle.figures.proofs.Handing.{handed}
 use Rattle.joins.specs.Reasons.{BeginsAs, BeginsAsNone}
 use Rattle.joins.proofs.Numbered.{memory_text, none_of_these, past_all}
 use Rattle.joins.proofs.places.number_at.Goals as goal

@@ -2,7 +2,7 @@ use Rattle.std.proofs.Common.{◌≡◌, sym, subst, arith}
 use Rattle.std.specs.Prelude.{Some, slice_get}
 use Rattle.std.proofs.lemmas.Option.{gets}
 use Rattle.joins.specs.Reasons.{IsReason}
-use Rattle.sweep.proofs.Handing.{handed}
+use Rattle.figures.proofs.Handing.{handed}
 use Rattle.joins.proofs.PlacesMore.{memory_reason, no_places, place_reason, text_reason}
 use Rattle.joins.proofs.places.places_of.Goals as goal
 

@@ -1,5 +1,5 @@
 use Rattle.std.proofs.Common.{rules, sym, subst, arith}
-use Rattle.sweep.proofs.Handing.{handed}
+use Rattle.figures.proofs.Handing.{handed}
 use Rattle.noted_lines.specs.Cases.{HasCase}
 use Rattle.noted_lines.specs.Lines.{HasLine}
 use Rattle.noted_lines.specs.Refused.{Refuses}

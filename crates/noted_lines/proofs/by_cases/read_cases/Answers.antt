@@ -1,5 +1,5 @@
 use Rattle.std.proofs.Common.{◌≡◌, [], rules, sym, subst, arith}
-use Rattle.sweep.proofs.Handing.{handed}
+use Rattle.figures.proofs.Handing.{handed}
 use Rattle.noted_lines.specs.Cases.{AreCases, HasCase, IsCase, piece_case}
 use Rattle.noted_lines.specs.Refused.{Refuses}
 use Rattle.noted_lines.proofs.Items.{nothing_left, one_there, refused_so}

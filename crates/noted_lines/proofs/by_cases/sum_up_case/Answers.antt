@@ -1,5 +1,5 @@
 use Rattle.std.proofs.Common.{sym, subst}
-use Rattle.sweep.proofs.Handing.{handed}
+use Rattle.figures.proofs.Handing.{handed}
 use Rattle.noted_lines.specs.Cases.{HasCase}
 use Rattle.noted_lines.specs.Refused.{Refuses}
 use Rattle.noted_lines.proofs.OneCase.{has_some}

@@ -1,5 +1,5 @@
 use Rattle.cases.specs.Values.{value_text}
-use Rattle.pieces.proofs.Joined.{joined_more}
+use Rattle.cases.proofs.Joined.{joined_more}
 use Rattle.pieces.proofs.words.values_text.Goals as goal
 
 pub loop-place-preserved : goal.loop-place-preserved

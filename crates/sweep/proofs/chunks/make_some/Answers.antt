@@ -4,7 +4,7 @@ use Rattle.toml.specs.View.{view}
 use Rattle.cases.specs.Sweep.{seed_count}
 use Rattle.sweep.specs.Table.{IsMadeOf, IsMadeRun}
 use Rattle.sweep.specs.Summaries.{HasCome}
-use Rattle.sweep.proofs.Handing.{on_err}
+use Rattle.outputs.proofs.Faults.{on_err}
 use Rattle.sweep.proofs.Numbers.{is_next, none_left}
 use Rattle.sweep.proofs.Steps.{cause_fails_none, cause_handed, have_begun, line_part, line_whole}
 use Rattle.sweep.proofs.chunks.make_some.Goals as goal

@@ -4,7 +4,7 @@ use Rattle.cases.specs.Sweep.{run_count}
 use Rattle.pieces.specs.Pieces.{first_run, past_run, whole}
 use Rattle.pieces.proofs.Whole.{first_of_whole, past_of_whole}
 use Rattle.sweep.specs.Summaries.{IsGathered, MakesAll}
-use Rattle.sweep.proofs.Handing.{on_err}
+use Rattle.outputs.proofs.Faults.{on_err}
 use Rattle.sweep.proofs.Sizes.{few_runs}
 use Rattle.sweep.proofs.WholeSweep.{begins_table, makes_all}
 use Rattle.sweep.proofs.chunks.sweep.Goals as goal

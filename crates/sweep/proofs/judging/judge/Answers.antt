@@ -2,7 +2,7 @@ use Rattle.std.proofs.Common.{◌≢◌, sym, subst, arith}
 use Rattle.toml.specs.View.{view}
 use Rattle.sweep.specs.Runs.{planned_as}
 use Rattle.sweep.specs.Judged.{IsFirstRefused}
-use Rattle.sweep.proofs.Handing.{handed}
+use Rattle.figures.proofs.Handing.{handed}
 use Rattle.sweep.proofs.Steps.{accepted_more, accepted_all}
 use Rattle.sweep.proofs.judging.judge.Goals as goal
 

@@ -1,6 +1,6 @@
 use Rattle.trace.proofs.Beginnings.{Appends-then, beginning-first, beginning-then}
 use Rattle.sweep.specs.Pieces.{piece_header}
-use Rattle.sweep.proofs.Handing.{on_err}
+use Rattle.outputs.proofs.Faults.{on_err}
 use Rattle.sweep.proofs.piece_tables.write_begun.Goals as goal
 
 pub returns-in_err-write_front-clause-part : goal.returns-in_err-write_front-clause-part

@@ -6,7 +6,8 @@ use Rattle.trace.proofs.Beginnings.{Appends-then, beginning-first, beginning-the
 use Rattle.figures.specs.Lines.{header_line}
 use Rattle.pieces.specs.Names.{head_cell}
 use Rattle.sweep.specs.Table.{names_of}
-use Rattle.sweep.proofs.Handing.{on_err, on_ok_then, on_err_then}
+use Rattle.outputs.proofs.Faults.{on_err}
+use Rattle.sweep.proofs.Handing.{on_ok_then, on_err_then}
 use Rattle.sweep.proofs.piece_tables.write_front.Goals as goal
 
 pub returns-in_err-write_head-clause-part : goal.returns-in_err-write_head-clause-part

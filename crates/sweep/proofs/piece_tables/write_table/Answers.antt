@@ -8,7 +8,8 @@ use Rattle.pieces.specs.Pieces.{first_run, past_run}
 use Rattle.sweep.specs.Pieces.{piece_header}
 use Rattle.sweep.specs.Resumed.{rest_course}
 use Rattle.sweep.specs.Summaries.{HasCome}
-use Rattle.sweep.proofs.Handing.{on_err, write_caused}
+use Rattle.outputs.proofs.Faults.{on_err}
+use Rattle.sweep.proofs.Handing.{write_caused}
 use Rattle.sweep.proofs.Steps.{front_come, front_part, have_begun, begun_kept, come_kept}
 use Rattle.sweep.proofs.PieceCourse.{rest_begun}
 use Rattle.sweep.proofs.piece_tables.write_table.Goals as goal

@@ -4,12 +4,12 @@ use Rattle.std.specs.Prelude.{All}
 use Rattle.answers.specs.Wants.{HasFewRuns}
 use Rattle.figures.specs.declared.summary.CaseSummary.{CaseSummary}
 use Rattle.trace.proofs.Beginnings.{Keeps-same}
-use Rattle.scenario_files.proofs.Held.{handed_on}
+use Rattle.scenario_files.proofs.Held.{handed_on, on_err_of}
 use Rattle.sweep_command.specs.Outcomes.{WritesPage}
 use Rattle.sweep_command.proofs.Few.{few_runs_each}
 use Rattle.sweep_command.proofs.Paged.{page_broke, table_broke}
 use Rattle.sweep_command.proofs.Told.{told_as}
-use Rattle.sweep_command.proofs.Tables.{each_err_of, marked_begins, marked_makes}
+use Rattle.sweep_command.proofs.Tables.{marked_begins, marked_makes}
 use Rattle.sweep_command.proofs.paging.tell_both.Goals as goal
 
 pub cases_told-requires-clause-few : goal.cases_told-requires-clause-few
@@ -24,16 +24,16 @@ returns-clause-whole g c = record {
 }
 
 pub returns-in_err-cases-clause-part : goal.returns-in_err-cases-clause-part
-returns-in_err-cases-clause-part g c = each_err_of c.from_residual.result (table_broke _ _ _ c.args.release.now.version.now _ _ _ _ (marked_begins _ _ _ _ _ _ _ c.as_str-mark.ensures.value c.in_err-cases.ensures.part) (Keeps-same _))
+returns-in_err-cases-clause-part g c = on_err_of c.from_residual.result (table_broke _ _ _ c.args.release.now.version.now _ _ _ _ (marked_begins _ _ _ _ _ _ _ c.as_str-mark.ensures.value c.in_err-cases.ensures.part) (Keeps-same _))
 
 pub returns-in_err-lines-clause-part : goal.returns-in_err-lines-clause-part
 returns-in_err-lines-clause-part g c =
-    each_err_of c.from_residual-in_err-lines.result (page_broke _ _ _ c.args.release.now.version.now _ _ _ _ _ _ c.deref-2.ensures.value
+    on_err_of c.from_residual-in_err-lines.result (page_broke _ _ _ c.args.release.now.version.now _ _ _ _ _ _ c.deref-2.ensures.value
     (marked_makes _ _ _ _ _ _ _ _ c.as_str-mark.ensures.value c.in_ok-cases.ensures.whole) (inl (Keeps-same _)))
 
 pub returns-in_err-write_page-clause-part : goal.returns-in_err-write_page-clause-part
 returns-in_err-write_page-clause-part g c =
-    each_err_of c.from_residual-in_err-write_page.result (page_broke _ _ _ c.args.release.now.version.now _ _ _ _ _ _ c.deref-3.ensures.value
+    on_err_of c.from_residual-in_err-write_page.result (page_broke _ _ _ c.args.release.now.version.now _ _ _ _ _ _ c.deref-3.ensures.value
     (marked_makes _ _ _ _ _ _ _ _ c.as_str-mark.ensures.value c.in_ok-cases.ensures.whole) c.in_err-write_page.ensures.part)
 
 pub returns-in_err-write_page-clause-causes : goal.returns-in_err-write_page-clause-causes

@@ -2,8 +2,8 @@
 use Rattle.std.proofs.Common.{◌≡◌, ℕ, List, inl, inr, rules, string_bytes, subst}
 use Rattle.trace.specs.Sinks.{AppendsBeginning}
 use Rattle.trace.proofs.Beginnings.{Keeps-same}
-use Rattle.sweep_command.proofs.Tables.{each_err_of}
+use Rattle.scenario_files.proofs.Held.{on_err_of}
 use Rattle.sweep_command.proofs.paging.write_page.Goals as goal
 
 pub returns-in_err-text-clause-part : goal.returns-in_err-text-clause-part
-returns-in_err-text-clause-part g c = each_err_of c.from_residual.result (inl (Keeps-same _))
+returns-in_err-text-clause-part g c = on_err_of c.from_residual.result (inl (Keeps-same _))

@@ -1,8 +1,8 @@
 -- what the file holds of a sweep that was done, and of one that broke off
-use Rattle.scenario_files.proofs.Held.{each_ok, told_done, told_failed}
+use Rattle.scenario_files.proofs.Held.{each_ok, told_done, told_failed, each_err_with}
 use Rattle.case_telling.proofs.Counted.{one_closed}
 use Rattle.sweep_command.proofs.Refused.{is_caused}
-use Rattle.sweep_command.proofs.Tables.{each_err_with, stood_few, table_begun, table_stored}
+use Rattle.sweep_command.proofs.Tables.{stood_few, table_begun, table_stored}
 use Rattle.sweep_command.proofs.sweeping.store_table.Goals as goal
 
 pub fill_table-made-requires-clause-few : goal.fill_table-made-requires-clause-few

@@ -3,9 +3,10 @@ use Rattle.std.proofs.Common.{ℕ, List, string_bytes, subst, sym}
 use Rattle.std.specs.Prelude.{All}
 use Rattle.answers.specs.Wants.{HasFewRuns}
 use Rattle.figures.specs.declared.summary.CaseSummary.{CaseSummary}
+use Rattle.scenario_files.proofs.Held.{on_err_of}
 use Rattle.sweep_command.proofs.Few.{few_runs_each}
 use Rattle.sweep_command.proofs.Told.{told_as}
-use Rattle.sweep_command.proofs.Tables.{all_begins, each_err_of, marked_makes}
+use Rattle.sweep_command.proofs.Tables.{all_begins, marked_makes}
 use Rattle.sweep_command.proofs.sweeping.tell_runs.Goals as goal
 
 pub cases_told-requires-clause-few : goal.cases_told-requires-clause-few
@@ -19,4 +20,4 @@ returns-clause-whole g c = record {
 }
 
 pub returns-in_err-lines-clause-part : goal.returns-in_err-lines-clause-part
-returns-in_err-lines-clause-part g c = each_err_of c.from_residual-in_err-lines.result (all_begins _ _ _ _ _ _ _ (marked_makes _ _ _ _ _ _ _ _ c.as_str-mark.ensures.value c.in_ok-cases.ensures.whole))
+returns-in_err-lines-clause-part g c = on_err_of c.from_residual-in_err-lines.result (all_begins _ _ _ _ _ _ _ (marked_makes _ _ _ _ _ _ _ _ c.as_str-mark.ensures.value c.in_ok-cases.ensures.whole))

@@ -5,7 +5,8 @@ use Rattle.trace.specs.Sinks.{AppendsBeginning}
 use Rattle.cases.specs.Sweep.{case_count}
 use Rattle.pieces.specs.Pieces.{first_run, past_run}
 use Rattle.sweep.specs.Pieces.{piece_header}
-use Rattle.sweep.proofs.Handing.{on_err, write_caused}
+use Rattle.outputs.proofs.Faults.{on_err}
+use Rattle.sweep.proofs.Handing.{write_caused}
 use Rattle.sweep_until.specs.Until.{HasCases}
 use Rattle.sweep_until.specs.Pieces.{cases_in, first_case, rest_cases}
 use Rattle.sweep_until.proofs.Cases.{begins_cases, begins_front, cases_kept, no_case}

@@ -1,7 +1,7 @@
 use Rattle.std.proofs.Common.{◌∙◌, ◌+◌, subst, arith, rules}
 use Rattle.toml.specs.View.{view}
 use Rattle.sweep.specs.Table.{IsMadeOf, IsMadeRun}
-use Rattle.sweep.proofs.Handing.{on_err}
+use Rattle.outputs.proofs.Faults.{on_err}
 use Rattle.sweep.proofs.Numbers.{is_next, none_left}
 use Rattle.sweep.proofs.Steps.{cause_fails_none, cause_handed, line_part, line_whole}
 use Rattle.sweep_until.specs.Kept.{AreKept}

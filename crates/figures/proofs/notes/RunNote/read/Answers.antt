@@ -1,7 +1,8 @@
 use Rattle.std.proofs.Common.{◌≡◌, ap, subst, ◌∙◌, sym}
 use Rattle.std.specs.Prelude.{IfOk}
 use Rattle.figures.specs.Notes.{IsNoteWord, RefusesFigures, RefusesNote, note_figures}
-use Rattle.figures.proofs.NoNotes.{figures_refused, handed, if_err_then, note_refused}
+use Rattle.figures.proofs.Handing.{handed, if_err_then}
+use Rattle.figures.proofs.NoNotes.{figures_refused, note_refused}
 use Rattle.figures.proofs.NoteWords.{note_read, if_ok_then}
 use Rattle.figures.proofs.notes.RunNote.read.Goals as goal
 
