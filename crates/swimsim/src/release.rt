@@ -1,8 +1,8 @@
 //! Which release of the program this is.
 
 /// The number of the version.
-pub const VERSION: &str = "1.7.1";
+pub const VERSION: &str = "1.7.2";
 /// The digest of the sources.
-pub const SOURCES: &str = "a2fb43c4c7ab97c8929c79a07ecdc63ca778dbd708b025e0961c1e08b89fb254";
+pub const SOURCES: &str = "b12e1f12964530842ff91cd7497de1e29d50690c1068809a945d0fb8004f5dc0";
 /// The kit.
 pub const KIT: &str = "rattle-kit-13f logic dac8208d650f15bf";
