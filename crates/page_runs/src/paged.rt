@@ -17,6 +17,7 @@ use sharing::run_shared_gathered;
 use std::alloc::Global;
 use std::io::Write;
 use std::marker::Sync;
+use std::rt::Files;
 use std::sync::Wait;
 use std::thread::Threads;
 use trace::Sink;
@@ -28,7 +29,7 @@ use whole_runs::the_run_is_one;
 /// of that. Where there is a `watch` it is told how far the run has come, as far as it takes that.
 ///
 /// Faults: as of `run_shared`; `Write` also where the page's sink failed.
-pub fn run_with_page<A: Sink, B: Sink, C: Sink, W: Write, R: Threads + Wait + Sync>(
+pub fn run_with_page<A: Sink, B: Sink, C: Sink, W: Write, R: Threads + Wait + Sync + Files + AllocGlobal>(
     rt: &R,
     alloc: Global,
     scenario: &Scenario,
@@ -67,7 +68,7 @@ pub fn run_with_page<A: Sink, B: Sink, C: Sink, W: Write, R: Threads + Wait + Sy
 }
 
 /// Runs the scenario, writes its trace and its report, and tells what its page goes by.
-fn run_told<A: Sink, B: Sink, W: Write, R: Threads + Wait + Sync>(
+fn run_told<A: Sink, B: Sink, W: Write, R: Threads + Wait + Sync + Files + AllocGlobal>(
     rt: &R,
     alloc: Global,
     scenario: &Scenario,
@@ -103,7 +104,7 @@ fn run_told<A: Sink, B: Sink, W: Write, R: Threads + Wait + Sync>(
 }
 
 /// Runs the scenario, and gathers at the place what its page goes by.
-fn run_gathering<A: Sink, B: Sink, R: Threads + Wait + Sync>(
+fn run_gathering<A: Sink, B: Sink, R: Threads + Wait + Sync + Files + AllocGlobal>(
     rt: &R,
     alloc: Global,
     scenario: &Scenario,
@@ -132,7 +133,7 @@ fn run_gathering<A: Sink, B: Sink, R: Threads + Wait + Sync>(
 }
 
 /// Runs the scenario, gathers what its page goes by, and tells on `out` how far it has come.
-fn run_watching<A: Sink, B: Sink, W: Write, R: Threads + Wait + Sync>(
+fn run_watching<A: Sink, B: Sink, W: Write, R: Threads + Wait + Sync + Files + AllocGlobal>(
     rt: &R,
     alloc: Global,
     scenario: &Scenario,
