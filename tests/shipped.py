@@ -12,22 +12,21 @@ import os
 import re
 import shutil
 import subprocess
+import sys
 from pathlib import Path
 
 from rooms import run_cases
 
 TOP = Path(__file__).resolve().parent.parent
+sys.path.append(str(TOP / 'tools'))
+
+from sources import call  # noqa: E402
+
 BUILT = TOP / 'crates' / 'swimsim' / 'out' / 'swimsim'
 SHIPPED = TOP / 'dist' / 'swimsim-x86_64-linux-gnu'
 PLAIN_TOOLS = ('awk', 'bash', 'cut', 'dirname', 'find', 'grep', 'install', 'readlink', 'sed', 'sha256sum', 'sort', 'tr',
                'xargs')
 CRASH = ('run', 'examples/crash.toml', '--trace', 't.csv', '--report', 'r.txt')
-
-
-def bash(line):
-    """What a line prints that knows the functions of tools/sources.sh."""
-    line = f'top={TOP}; source {TOP}/tools/sources.sh; {line}'
-    return subprocess.run(['bash', '-c', line], check=True, capture_output=True, text=True).stdout.strip()
 
 
 def provenance():
@@ -37,7 +36,8 @@ def provenance():
 
 def clone(room):
     """A copy of what the repository holds, and the few plain commands that a machine without a kit has."""
-    for name in bash(f'cd {TOP} && git ls-files').splitlines():
+    listed = subprocess.run(['git', 'ls-files', '-z'], cwd=TOP, check=True, stdout=subprocess.PIPE, text=True).stdout
+    for name in listed.split('\0')[:-1]:
         (room / 'clone' / name).parent.mkdir(parents=True, exist_ok=True)
         shutil.copy(TOP / name, room / 'clone' / name)
     (room / 'plain').mkdir()
@@ -54,19 +54,19 @@ def run_bare(copy, *words):
 
 def the_record_is_that_of_these_sources(_):
     sum_of = hashlib.sha256(SHIPPED.read_bytes()).hexdigest()
-    assert provenance() == {'kit': bash('rt version'), 'sources': bash('sources_digest'), 'program': sum_of}
+    assert provenance() == {'kit': call('rt', 'version'), 'sources': call('sources_digest'), 'program': sum_of}
 
 
 def the_program_tells_its_digest_and_kit(_):
-    assert bash('release_value SOURCES') == bash('sources_digest'), 'tools/ready writes it'
-    assert bash('release_value KIT') == bash('rt version'), 'tools/ready writes it'
+    assert call('release_value', 'SOURCES') == call('sources_digest'), 'tools/ready writes it'
+    assert call('release_value', 'KIT') == call('rt', 'version'), 'tools/ready writes it'
     told = subprocess.run([SHIPPED, '--version'], capture_output=True, text=True).stdout
     record = provenance()
-    assert told == f'swimsim {bash("release_value VERSION")} (sources {record["sources"]}, {record["kit"]})\n', told
+    assert told == f'swimsim {call("release_value", "VERSION")} (sources {record["sources"]}, {record["kit"]})\n', told
 
 
 def what_was_built_is_what_is_shipped(room):
-    bash(f'strip_program {BUILT} {room / "stripped"}')
+    call('strip_program', BUILT, room / 'stripped')
     assert (room / 'stripped').read_bytes() == SHIPPED.read_bytes()
 
 
@@ -102,8 +102,10 @@ def the_manual_page_is_that_of_the_program(_):
 
 def it_is_installed_where_people_look(room):
     copy, prefix = clone(room), room / 'prefix'
-    ran = run_bare(copy, 'tools/install', prefix)
-    assert ran.returncode == 0, ran
+    for named in (prefix, 'below the current folder'):
+        ran = run_bare(copy, 'tools/install', named)
+        assert ran.returncode == 0, ran
+    assert (copy / 'below the current folder' / 'bin' / 'swimsim').is_file()
     installed = prefix / 'bin' / 'swimsim'
     assert installed.read_bytes() == SHIPPED.read_bytes() and os.access(installed, os.X_OK)
     assert (prefix / 'share/man/man1/swimsim.1').is_file()
