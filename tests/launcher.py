@@ -13,15 +13,10 @@ import shutil
 import subprocess
 import sys
 import time
-from pathlib import Path
 
-from rooms import run_cases
-
-TOP = Path(__file__).resolve().parent.parent
-sys.path.append(str(TOP / 'tools'))
-
-from schedule import Schedule, chains, crates_in, longest_chain, minutes_in  # noqa: E402
-from sources import call  # noqa: E402
+from harness import TOP, call, run_cases
+from schedule import Schedule, chains, crates_in, longest_chain, minutes_in
+from sources import sourced
 
 PLAIN_TOOLS = ('awk', 'bash', 'cat', 'cut', 'dirname', 'find', 'grep', 'readlink', 'sed', 'sha256sum', 'sort', 'tr', 'xargs')
 CRATES = '# the program stands on two crates, beside one of tests\nlow:\nhigh: low toml\nswimsim: high\ntests: high\n'
@@ -77,20 +72,20 @@ class House:
         """What a script of the repository answers, and in asked.log the crates that were proved for it."""
         path = f'{self.kit}:{os.environ["PATH"]}' if with_kit else str(self.plain)
         self.asked.write_text('')
-        return subprocess.run([self.top / script, *words], cwd=self.room, capture_output=True, text=True,
-                              env={'PATH': path, 'ASKED': str(self.asked), **environment})
+        return call([self.top / script, *words], cwd=self.room, text=True,
+                    env={'PATH': path, 'ASKED': str(self.asked), **environment})
 
     def run(self, *words, **how):
         """Standard output of the launcher, its status, and the crates that were proved for it."""
         ran = self.call('swimsim', *words, **how)
-        return ran.stdout, ran.returncode, self.asked.read_text().split()
+        return ran.out, ran.status, self.asked.read_text().split()
 
     def change(self):
         """Changes a source of the program."""
         (self.top / 'crates' / 'low' / 'src' / 'lib.rt').write_text('// changed\n')
 
     def digest(self):
-        return call('sources_digest', top=self.top)
+        return sourced('sources_digest', top=self.top)
 
     def ship(self):
         """Puts a program into dist/ that says that it is the shipped one."""
@@ -158,7 +153,7 @@ def any_path_will_do(plain):
     assert house.digest() == plain.digest()
     assert house.run('a') == ('built a\n', 0, ['low', 'high', 'swimsim'])
     assert house.run('--which')[0] == f'{house.top}/crates/swimsim/out/swimsim\n'
-    assert house.call('tools/dist').returncode == 0 and house.call('tools/dist', '--compare').returncode == 0
+    assert house.call('tools/dist').status == 0 and house.call('tools/dist', '--compare').status == 0
     assert house.run('a', with_kit=False) == ('built a\n', 0, [])
     assert not list(plain.room.rglob('*lost')), 'nothing of the path was run'
 
@@ -191,7 +186,7 @@ def a_refused_crate_is_told(house):
 
 def is_told_in_a_sentence(ran, status, *words):
     """Whether a script ended with this status, and with one line on standard error alone that has these words."""
-    return (ran.returncode, ran.stdout, ran.stderr.count('\n')) == (status, '', 1) and all(word in ran.stderr for word in words)
+    return (ran.status, ran.out, ran.err.count('\n')) == (status, '', 1) and all(word in ran.err for word in words)
 
 
 def without_a_kit_a_build_fails(house):
@@ -212,7 +207,7 @@ def another_shell_is_told_what_is_wanted(house):
     shells = [['bash', '-c', 'unset BASH_VERSION; source "$0"'], *([name] for name in ('dash', 'zsh', 'ksh') if shutil.which(name))]
     for shell in shells:
         for script in ('swimsim', 'test', 'tools/dist', 'tools/install'):
-            ran = subprocess.run([*shell, house.top / script, 'a'], cwd=house.room, capture_output=True, text=True)
+            ran = call([*shell, house.top / script, 'a'], cwd=house.room, text=True)
             assert is_told_in_a_sentence(ran, 127, 'needs bash'), (shell, ran)
 
 
@@ -223,24 +218,24 @@ def nothing_is_installed_without_a_place(house):
 
 
 def ones_own_build_is_compared(house):
-    assert house.call('tools/dist').returncode == 0
+    assert house.call('tools/dist').status == 0
     program = house.top / 'dist' / 'swimsim-x86_64-linux-gnu'
     assert '# debug' not in program.read_text(), 'what is shipped is stripped'
     shutil.rmtree(house.top / 'crates' / 'swimsim' / 'out')
     ran = house.call('tools/dist', '--compare')
     wanted = hashlib.sha256(program.read_bytes()).hexdigest()
-    assert (ran.returncode, ran.stdout) == (0, f'the same program: SHA-256 {wanted}\n'), ran
+    assert (ran.status, ran.out) == (0, f'the same program: SHA-256 {wanted}\n'), ran
     assert 'swimsim' in house.asked.read_text(), 'it was built for that'
     program.write_text('another program\n')
-    assert is_told_in_a_sentence(house.call('tools/dist', '--compare'), 1, 'dist/ has another program')
+    assert is_told_in_a_sentence(house.call('tools/dist', '--compare'), 1, 'the program in dist/ is another')
     assert program.read_text() == 'another program\n', 'nothing is changed'
 
 
 def only_what_is_made_alike_is_compared(house):
-    assert house.call('tools/dist').returncode == 0
+    assert house.call('tools/dist').status == 0
     assert is_told_in_a_sentence(house.call('tools/dist', '--compare', KIT_NAME='kit-2'), 1, 'kit-1', 'kit-2')
     house.change()
-    assert is_told_in_a_sentence(house.call('tools/dist', '--compare'), 1, 'of other sources')
+    assert is_told_in_a_sentence(house.call('tools/dist', '--compare'), 1, 'from other sources')
     assert house.asked.read_text() == '', 'nothing is built for that'
 
 

@@ -7,7 +7,7 @@ TOP = Path(__file__).resolve().parent.parent
 LINE = 'top=$1; source "$top/tools/sources.sh"; shift; "$@"'
 
 
-def call(*words, top=TOP):
+def sourced(*words, top=TOP):
     """What a function of tools/sources.sh prints on standard output, called with these words; it has to end well."""
     ran = subprocess.run(['bash', '-c', LINE, 'bash', top, *words], check=True, stdout=subprocess.PIPE, text=True)
     return ran.stdout.strip()
