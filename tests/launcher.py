@@ -139,7 +139,8 @@ def what_no_build_reads_is_no_reason(house):
 def what_a_build_reads_counts(house):
     house.ship()
     digests = {house.digest()}
-    for number, name in enumerate(('src/more.rt', 'src/deep/er.rt', 'specs/More.antt', 'proofs/deep/More.antt', 'src/two\nlines.rt')):
+    names = ('src/more.rt', 'src/deep/er.rt', 'specs/More.antt', 'proofs/deep/More.antt', 'src/two\nlines.rt')
+    for number, name in enumerate(names):
         path = house.top / 'crates' / 'low' / name
         path.parent.mkdir(parents=True, exist_ok=True)
         path.write_text('// more\n')
@@ -190,7 +191,8 @@ def is_told_in_a_sentence(ran, status, *words):
 
 
 def without_a_kit_a_build_fails(house):
-    python, calls = house.plain / 'python3', [('swimsim', 'a'), ('swimsim', '--from-source', 'a'), ('tools/dist',), ('tools/dist', '--compare')]
+    python = house.plain / 'python3'
+    calls = [('swimsim', 'a'), ('swimsim', '--from-source', 'a'), ('tools/dist',), ('tools/dist', '--compare')]
     for is_python_there in (False, True):
         if is_python_there:
             python.symlink_to(sys.executable)
@@ -204,7 +206,8 @@ def without_a_kit_a_build_fails(house):
 
 
 def another_shell_is_told_what_is_wanted(house):
-    shells = [['bash', '-c', 'unset BASH_VERSION; source "$0"'], *([name] for name in ('dash', 'zsh', 'ksh') if shutil.which(name))]
+    others = [[name] for name in ('dash', 'zsh', 'ksh') if shutil.which(name)]
+    shells = [['bash', '-c', 'unset BASH_VERSION; source "$0"'], *others]
     for shell in shells:
         for script in ('swimsim', 'test', 'tools/dist', 'tools/install'):
             ran = call([*shell, house.top / script, 'a'], cwd=house.room, text=True)
@@ -275,8 +278,8 @@ def the_longest_chain_goes_first(_):
 CASES = (
     the_shipped_program_runs_without_a_kit, a_changed_byte_of_it_is_not_run, changed_sources_are_built,
     a_changed_test_is_no_reason, what_no_build_reads_is_no_reason, what_a_build_reads_counts, any_path_will_do,
-    from_source_takes_its_own, a_new_kit_builds_anew, a_build_tells_its_digest_and_kit, a_refused_crate_is_told, without_a_kit_a_build_fails,
-    another_shell_is_told_what_is_wanted, nothing_is_installed_without_a_place, ones_own_build_is_compared,
+    from_source_takes_its_own, a_new_kit_builds_anew, a_build_tells_its_digest_and_kit, a_refused_crate_is_told,
+    without_a_kit_a_build_fails, another_shell_is_told_what_is_wanted, nothing_is_installed_without_a_place, ones_own_build_is_compared,
     only_what_is_made_alike_is_compared, a_build_that_is_ended_stops_what_it_began, what_a_killed_build_left_is_put_back,
     the_longest_chain_goes_first,
 )

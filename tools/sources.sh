@@ -28,11 +28,15 @@ crates_below() {
 # The files of the program's sources, sorted, a zero byte after each: those that a build reads. What an editor or a
 # system leaves beside them counts for nothing, nor does a folder out/. The program's lines of crates.txt are apart.
 source_files() {
-    local crate
+    local crate code=() logic=()
     for crate in $(crates_below swimsim); do
-        find "crates/$crate/src" -name out -prune -o -type f -name '*.rt' -print0 2>/dev/null
-        find "crates/$crate/specs" "crates/$crate/proofs" -name out -prune -o -type f -name '*.antt' -print0 2>/dev/null
-    done | LC_ALL=C sort -z
+        code+=("crates/$crate/src")
+        logic+=("crates/$crate/specs" "crates/$crate/proofs")
+    done
+    {
+        find "${code[@]}" -name out -prune -o -type f -name '*.rt' -print0
+        find "${logic[@]}" -name out -prune -o -type f -name '*.antt' -print0
+    } 2>/dev/null | LC_ALL=C sort -z
 }
 
 # The SHA-256 over all that the program is made from: its crates' lines of crates.txt, and its crates' files. The
