@@ -1,11 +1,16 @@
 #!/usr/bin/env python3
 """Measures the program on quiet and busy clusters of growing size.
 
-    bench/run.py [--program FILE] [--seconds S] [--sizes 64,256,512,1024] [-- WORDS]
+    bench/run.py [--program FILE] [--seconds S] [--sizes 64,256,512,1024] [--counts] [-- WORDS]
 
 The program is the one that ./swimsim has built, or FILE; nothing is built here. Each scenario simulates S seconds
 (10 without it), a tick being a millisecond. WORDS, such as --workers 4, are handed on to the program.
 A new process begins as a copy of this script, so peak memory below the script's own isn't seen, and is printed as <14 or so.
+
+With --counts each line has the instructions and the writes to memory per event, and how many of the writes miss a first
+cache of 32 KB. Other work on the machine doesn't change them. Valgrind's cachegrind counts them, in some fifty times the time
+of a run; those of the same run up to moment 0 are subtracted, and printed in thousands. The second simulator
+(tests/model.py) counts the events.
 """
 
 import argparse
@@ -17,7 +22,12 @@ import tempfile
 import time
 from pathlib import Path
 
-BUILT = Path(__file__).resolve().parent.parent / 'crates' / 'swimsim' / 'out' / 'swimsim'
+TOP = Path(__file__).resolve().parent.parent
+BUILT = TOP / 'crates' / 'swimsim' / 'out' / 'swimsim'
+sys.path.append(str(TOP / 'tests'))
+
+import model  # noqa: E402
+from scenarios import NEWEST, document_of, judge  # noqa: E402
 
 # every member pings one other each second; both clusters have it
 COMMON = '''version = 1
@@ -62,13 +72,16 @@ def busy_cluster(members, end):
     return text
 
 
+# what cachegrind simulates: else it takes the sizes of this machine's caches
+CACHES = ('--I1=32768,8,64', '--D1=32768,8,64', '--LL=8388608,16,64')
+
 CLUSTERS = {'quiet': quiet_cluster, 'busy': busy_cluster}
 
 
-def measure(command):
-    """The standard output, seconds and peak memory in megabytes of one run of the command."""
+def measure(command, enter=None):
+    """The standard output, seconds and peak memory in megabytes of one run of the command; its process calls `enter` first."""
     begin = time.monotonic()
-    process = subprocess.Popen(command, stdout=subprocess.PIPE, text=True)
+    process = subprocess.Popen(command, stdout=subprocess.PIPE, text=True, preexec_fn=enter)
     output = process.stdout.read()
     _, status, usage = os.wait4(process.pid, 0)
     seconds = time.monotonic() - begin
@@ -78,12 +91,16 @@ def measure(command):
     return output, seconds, usage.ru_maxrss / 1024
 
 
-def measure_run(program, words, text, folder):
-    """Rows, seconds and megabytes of a run of the scenario."""
+def run_of(program, words, text, folder):
+    """The command that runs the scenario."""
     scenario = folder / 'scenario.toml'
     scenario.write_text(text)
-    command = [program, 'run', scenario, '--trace', folder / 't.csv', '--report', folder / 'r.csv', *words]
-    output, seconds, megabytes = measure(command)
+    return [program, 'run', scenario, '--trace', folder / 't.csv', '--report', folder / 'r.csv', *words]
+
+
+def measure_run(program, words, text, folder):
+    """Rows, seconds and megabytes of a run of the scenario."""
+    output, seconds, megabytes = measure(run_of(program, words, text, folder))
     kind, rows = output.split()
     assert kind == 'rows', output
     return int(rows), seconds, megabytes
@@ -106,6 +123,50 @@ def print_table(name, program, words, sizes, end, folder):
     print()
 
 
+class Counted(model.Run):
+    """A run of the second simulator that counts the events which it was given."""
+
+    pended = 0
+
+    def pend(self, event):
+        self.pended += 1
+        super().pend(event)
+
+
+def events_of(text):
+    """How many events a run of the scenario handles."""
+    rule, scenario = judge(document_of(text.encode()), NEWEST)
+    assert rule == 0, rule
+    run = Counted(scenario)
+    run.go()
+    return run.pended - len(run.pending)
+
+
+def count_run(program, words, text, folder):
+    """The instructions, the writes to memory, and those of them that miss the first cache, of a run of the scenario."""
+    counts = folder / 'counts'
+    valgrind = ['valgrind', '--tool=cachegrind', '--cache-sim=yes', *CACHES, f'--cachegrind-out-file={counts}',
+                f'--log-file={folder / "log"}']
+    measure([*valgrind, *run_of(program, words, text, folder)])
+    lines = dict(line.split(': ', 1) for line in counts.read_text().splitlines() if line.startswith(('events: ', 'summary: ')))
+    counted = dict(zip(lines['events'].split(), map(int, lines['summary'].split())))
+    return counted['Ir'], counted['Dw'], counted['D1mw']
+
+
+def print_counts(name, program, words, sizes, end, folder):
+    print(f'{name} cluster, {end // 1000} s simulated')
+    print(f'{"members":>8}{"events":>11}{"instructions/event":>20}{"writes/event":>14}{"missing":>9}   up to moment 0, thousands')
+    for size in sizes:
+        text = CLUSTERS[name](size, end)
+        opening = text.replace(f'end = {end}', 'end = 0')
+        events = events_of(text) - events_of(opening)
+        begun, whole = (count_run(program, words, it, folder) for it in (opening, text))
+        instructions, writes, missing = ((after - before) / events for before, after in zip(begun, whole))
+        print(f'{size:>8}{events:>11}{instructions:>20.1f}{writes:>14.1f}{missing:>9.2f}   '
+              f'{begun[0] // 1000} instructions, {begun[1] // 1000} writes', flush=True)
+    print()
+
+
 def main():
     own, words = sys.argv[1:], []
     if '--' in own:
@@ -115,14 +176,18 @@ def main():
     parser.add_argument('--program', type=Path, default=BUILT)
     parser.add_argument('--seconds', type=int, default=10)
     parser.add_argument('--sizes', default='64,256,512,1024')
+    parser.add_argument('--counts', action='store_true')
     options = parser.parse_args(own)
     program = shutil.which(options.program)
     if program is None:
         sys.exit(f'bench: {options.program} is not there; ./swimsim --help builds it')
+    if options.counts and shutil.which('valgrind') is None:
+        sys.exit('bench: --counts needs valgrind, and there is none on the path')
+    show = print_counts if options.counts else print_table
     sizes = [int(size) for size in options.sizes.split(',')]
     with tempfile.TemporaryDirectory() as folder:
         for name in CLUSTERS:
-            print_table(name, program, words, sizes, options.seconds * 1000, Path(folder))
+            show(name, program, words, sizes, options.seconds * 1000, Path(folder))
 
 
 if __name__ == '__main__':

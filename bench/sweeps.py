@@ -20,8 +20,8 @@ import tempfile
 import time
 from pathlib import Path
 
-TOP = Path(__file__).resolve().parent.parent
-BUILT = TOP / 'crates' / 'swimsim' / 'out' / 'swimsim'
+from run import BUILT, TOP
+
 EXAMPLES = ('crash.toml', 'slow-member.toml', 'lossy-lan.toml')
 WORKERS = 4
 LEAST_GAIN = 0.30

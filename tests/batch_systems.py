@@ -9,19 +9,17 @@ package isn't there, its case is told as skipped. It takes some ten seconds. The
 `N passed, M failed, K skipped`, and the status is 1 where M is over 0.
 """
 
-import argparse
 import os
 import shutil
 import socket
 import subprocess
-import sys
 import tempfile
 import time
 from pathlib import Path
 
-ROOT = Path(__file__).resolve().parent.parent
-BUILT = ROOT / 'crates' / 'swimsim' / 'out' / 'swimsim'
-SCENARIO = ROOT / 'tests' / 'sweeps' / 'lossy.toml'
+from harness import TOP, end, parser_of
+
+SCENARIO = TOP / 'tests' / 'sweeps' / 'lossy.toml'
 OPTIONS = ['--seeds', '1..5', '--set', 'suspicion.alpha=1,3,10']
 PIECES = 8
 SECONDS = 60
@@ -77,9 +75,9 @@ def free_port():
 
 def await_(what, seconds=20):
     """Waits until a test holds."""
-    end = time.monotonic() + seconds
+    last = time.monotonic() + seconds
     while not what():
-        if time.monotonic() > end:
+        if time.monotonic() > last:
             raise RuntimeError('waited in vain')
         time.sleep(0.1)
 
@@ -138,7 +136,7 @@ def by_slurm(program, room):
     own.mkdir()
     with Cluster(own) as cluster:
         cluster.environment['SWIMSIM'] = str(program)
-        told = cluster.call('sbatch', '--wait', f'--array=1-{PIECES}', str(ROOT / 'examples/slurm/pieces.sbatch'),
+        told = cluster.call('sbatch', '--wait', f'--array=1-{PIECES}', str(TOP / 'examples/slurm/pieces.sbatch'),
                             str(SCENARIO), *OPTIONS, cwd=room)
         if b'Submitted' not in told:
             raise RuntimeError(told.decode())
@@ -172,9 +170,7 @@ def check(program, make):
 
 
 def main():
-    parser = argparse.ArgumentParser(description=__doc__, formatter_class=argparse.RawDescriptionHelpFormatter)
-    parser.add_argument('--program', default=str(BUILT), help='default: the one that ./swimsim builds')
-    program = Path(parser.parse_args().program).resolve()
+    program = parser_of(__doc__).parse_args().program.resolve()
     passed = failed = skipped = 0
     for make in (by_slurm, by_parallel):
         try:
@@ -186,8 +182,7 @@ def main():
         except (RuntimeError, OSError, subprocess.SubprocessError) as error:
             print(f'FAILED {make.__name__}: {error}')
             failed += 1
-    print(f'{passed} passed, {failed} failed, {skipped} skipped')
-    sys.exit(failed > 0)
+    end(passed, failed, skipped)
 
 
 if __name__ == '__main__':

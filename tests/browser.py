@@ -9,20 +9,16 @@ nothing from elsewhere. With --keep a picture of each is left in FOLDER. The las
 there is no Chromium all are skipped.
 """
 
-import argparse
 import json
-import os
 import re
 import shutil
 import subprocess
-import sys
 import tempfile
 from pathlib import Path
 
+from harness import TOP, end, parser_of, program_at
 from program import Program
 
-TOP = Path(__file__).resolve().parent.parent
-BUILT = TOP / 'crates' / 'swimsim' / 'out' / 'swimsim'
 RUNS = ('crash', 'slow-member-without-lifeguard', 'cut-between-sites', 'rolling-join', 'pauses', 'three-sites-wan', 'quiet')
 SWEEPS = (('slow-member', ['--seeds', '1..5', '--set', 'suspicion.alpha=2,4,6', '--set', 'swim.helpers=0,3']),
           ('crash', ['--seeds', '1..3']))
@@ -161,19 +157,17 @@ def pages(path, room):
 
 
 def main():
-    parser = argparse.ArgumentParser(description=__doc__, formatter_class=argparse.RawDescriptionHelpFormatter)
-    parser.add_argument('--program', default=str(BUILT), help='default: the one that ./swimsim builds')
+    parser = parser_of(__doc__)
     parser.add_argument('--keep', type=Path, help='a folder that takes pictures')
     options = parser.parse_args()
     chromium = shutil.which('chromium')
     ways = [(width, scheme) for width in WIDTHS for scheme in SCHEMES]
     if chromium is None:
         print('skipped: Chromium is not installed (chromium)')
-        print(f'0 passed, 0 failed, {len(ways) * (len(RUNS) + len(SWEEPS)) + len(BROKEN)} skipped')
-        return 0
+        end(0, 0, len(ways) * (len(RUNS) + len(SWEEPS)) + len(BROKEN))
     passed = failed = 0
     with tempfile.TemporaryDirectory() as room:
-        for name, page in pages(os.path.abspath(options.program), room):
+        for name, page in pages(program_at(options.program), room):
             for width, scheme in ways:
                 picture = options.keep and options.keep / f'{name.replace(" ", "-")}-{width}-{scheme}.png'
                 told = wrong_with(chromium, page, width, scheme, picture)
@@ -184,9 +178,8 @@ def main():
         passed, failed = passed + len(BROKEN) - len(missed), failed + len(missed)
         for wanted in missed:
             print(f'a page that is wrong: {wanted} was not seen')
-    print(f'{passed} passed, {failed} failed, 0 skipped')
-    return 1 if failed else 0
+    end(passed, failed, 0)
 
 
 if __name__ == '__main__':
-    sys.exit(main())
+    main()

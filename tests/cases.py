@@ -7,13 +7,10 @@ Each case that fails is told with the first line that differs. The last line is 
 status is 1 where M is over 0. tests/README.md tells what the data is.
 """
 
-import argparse
 import os
 import shutil
-import sys
 import tempfile
 from concurrent.futures import ProcessPoolExecutor
-from pathlib import Path
 
 import commands
 import draws
@@ -29,9 +26,9 @@ import sweeps
 import texts
 import worked
 import writes
+from harness import end, parser_of, program_at
 from program import Program, Wrong
 
-BUILT = Path(__file__).resolve().parent.parent / 'crates' / 'swimsim' / 'out' / 'swimsim'
 KINDS = (worked, steps, parts, rows, draws, texts, commands, presets, sweeps, pieces, pages, large_pages, long_runs, writes)
 
 
@@ -57,24 +54,19 @@ def failures_of(path, room, cases):
 
 
 def main():
-    parser = argparse.ArgumentParser(description=__doc__,
-                                     formatter_class=argparse.RawDescriptionHelpFormatter)
-    parser.add_argument('--program', default=str(BUILT), help='default: the one that ./swimsim builds')
+    parser = parser_of(__doc__)
     parser.add_argument('--only', default='', help='run only the cases whose name has this word')
     options = parser.parse_args()
-    path = shutil.which(options.program)
-    if path is None:
-        sys.exit(f'cases: no program {options.program}')
+    path = program_at(options.program)
     cases = [case for kind in KINDS for case in kind.cases() if options.only in case.name]
     with tempfile.TemporaryDirectory() as room:
         failed = 0
-        for failure in failures_of(os.path.abspath(path), room, cases):
+        for failure in failures_of(path, room, cases):
             if failure:
                 failed += 1
                 print(failure, flush=True)
-    print(f'{len(cases) - failed} passed, {failed} failed')
-    return 1 if failed else 0
+    end(len(cases) - failed, failed)
 
 
 if __name__ == '__main__':
-    sys.exit(main())
+    main()

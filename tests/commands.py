@@ -2,9 +2,9 @@
 
 import json
 import os
-import subprocess
 
-from program import Case, DATA, Ran, expect, expect_ran
+from harness import call
+from program import Case, DATA, expect, expect_ran
 from worked import FOLDER as WORKED, text_of
 
 FOLDER = DATA / 'commands'
@@ -91,9 +91,8 @@ def check(program, files, words, case):
 def check_own_name(program):
     """Calls the program under a name that is no text, which is none of its words."""
     make(program.folder, 'two.toml', '@two-members.toml')
-    ran = subprocess.run([b'\xff', b'check', b'two.toml'], executable=program.path, cwd=program.folder,
-                         stdin=subprocess.DEVNULL, capture_output=True, check=False)
-    expect_ran(Ran(ran.returncode, ran.stdout, ran.stderr), 0, b'members 2\n', b'')
+    ran = call([b'\xff', b'check', b'two.toml'], executable=program.path, cwd=program.folder)
+    expect_ran(ran, 0, b'members 2\n', b'')
 
 
 def cases():

@@ -12,18 +12,16 @@ command which isn't there are skipped, and told. The last line is `N passed, M f
 0. It takes seconds.
 """
 
-import argparse
 import os
 import re
 import shutil
-import subprocess
 import sys
 import tempfile
 from collections import namedtuple
 from pathlib import Path
 
-TOP = Path(__file__).resolve().parent.parent
-BUILT = TOP / 'crates' / 'swimsim' / 'out' / 'swimsim'
+from harness import TOP, call, end, parser_of, program_at
+
 DOCUMENTS = ('README.md', 'docs/GUIDE.md', 'docs/FORMAT.md', 'docs/SWEEPS.md', 'docs/MEMBERLIST.md')
 REFUSED = TOP / 'tests' / 'explain' / 'refused'
 # commands that build, test or install are no business of this script
@@ -60,7 +58,7 @@ class Reader:
         self.folder = Path(folder)
         shutil.copytree(TOP / 'examples', self.folder / 'examples')
         (self.folder / 'swimsim').symlink_to(program)
-        self.commands = subprocess.run([program, '--help'], capture_output=True, text=True).stdout
+        self.commands = call([program, '--help'], text=True).out
         # what the last command printed, and each text that is there; of which example the run in t.csv and r.txt is
         self.told, self.example = [''], None
 
@@ -74,19 +72,19 @@ class Reader:
             if re.search(rf'^{tool} ', words, re.M) and not shutil.which(tool):
                 raise Skipped(f'no {tool} here')
         environment = os.environ | {'PATH': f'{self.folder}:{os.environ["PATH"]}'}
-        ran = subprocess.run(['bash', '-ec', words], cwd=self.folder, env=environment, capture_output=True, text=True)
-        if ran.returncode != 0:
-            raise Wrong(f'ends with status {ran.returncode}: {ran.stderr.strip()}')
+        ran = call(['bash', '-ec', words], cwd=self.folder, env=environment, text=True)
+        if ran.status != 0:
+            raise Wrong(f'ends with status {ran.status}: {ran.err.strip()}')
         reports = [path.read_text() for path in sorted(self.folder.glob('*.txt'))]
-        self.told = [ran.stdout, *reports]
+        self.told = [ran.out, *reports]
 
     def explain(self, text):
         """What is told of a refused text of tests/."""
         name = re.search(r'--> ([\w./-]+):\d', text)[1]
         shutil.copy(REFUSED / name, self.folder)
-        ran = subprocess.run(['./swimsim', 'explain', name], cwd=self.folder, capture_output=True, text=True)
-        if ran.stdout != text:
-            raise Wrong(f'`explain {name}` tells\n{ran.stdout}')
+        ran = call(['./swimsim', 'explain', name], cwd=self.folder, text=True)
+        if ran.out != text:
+            raise Wrong(f'`explain {name}` tells\n{ran.out}')
 
     def compare(self, block):
         """Whether what is shown is what was told."""
@@ -135,25 +133,19 @@ def read_document(name, program):
 
 def check_picture(program):
     """Compares README.md's picture with what the program's page of that run shows, as `read_document` answers."""
-    ran = subprocess.run([sys.executable, TOP / 'tools' / 'picture', '--check', '--program', program], capture_output=True, text=True)
-    return (1, [], []) if ran.returncode == 0 else (0, [ran.stderr.strip()], [])
+    ran = call([sys.executable, TOP / 'tools' / 'picture', '--check', '--program', program], text=True)
+    return (1, [], []) if ran.status == 0 else (0, [ran.err.strip()], [])
 
 
 def main():
     """Reads the documents, and tells what is wrong in them."""
-    parser = argparse.ArgumentParser(description=__doc__, formatter_class=argparse.RawDescriptionHelpFormatter)
-    parser.add_argument('--program', default=str(BUILT), help='default: the one that ./swimsim builds')
-    program = Path(parser.parse_args().program).resolve()
-    if not program.exists():
-        sys.exit(f'documents: no program {program}')
+    program = program_at(parser_of(__doc__).parse_args().program)
     results = [*(read_document(name, program) for name in DOCUMENTS), check_picture(program)]
     failures = [line for _, lines, _ in results for line in lines]
     skipped = [line for _, _, lines in results for line in lines]
     print(*failures, *skipped, sep='\n', end='\n' if failures or skipped else '')
-    told = f'{sum(passed for passed, _, _ in results)} passed, {len(failures)} failed'
-    print(told + (f', {len(skipped)} skipped' if skipped else ''))
-    return 1 if failures else 0
+    end(sum(passed for passed, _, _ in results), len(failures), len(skipped) or None)
 
 
 if __name__ == '__main__':
-    sys.exit(main())
+    main()

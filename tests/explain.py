@@ -11,11 +11,8 @@ has to be answered in words, in time and without a crash. With --large they are 
 `N passed, M failed`.
 """
 
-import argparse
 import difflib
 import json
-import subprocess
-import sys
 import tempfile
 import threading
 import time
@@ -23,9 +20,8 @@ import zlib
 from pathlib import Path
 
 import explain_places
+from harness import TESTS, call, end, parser_of, program_at
 
-TESTS = Path(__file__).resolve().parent
-BUILT = TESTS.parent / 'crates' / 'swimsim' / 'out' / 'swimsim'
 REFUSED = TESTS / 'explain' / 'refused'
 HEAD = b'version = 1\nseed = 7\nend = 5000\nswim = { period = 1000, timeout = 300 }\nlink = { delay = 10 }\n'
 GROUP = b'[[group]]\nname = "n"\ncount = 2\n'
@@ -36,10 +32,8 @@ class Explained:
 
     def __init__(self, program, folder, *words):
         began = time.monotonic()
-        words = [program, *words]
-        ran = subprocess.run(words, cwd=folder, capture_output=True, timeout=300)
+        self.status, self.output, self.error = call([program, *words], cwd=folder)
         self.seconds = time.monotonic() - began
-        self.status, self.output, self.error = ran.returncode, ran.stdout, ran.stderr
 
     def document(self):
         """What was printed, as JSON."""
@@ -137,20 +131,18 @@ def cases(program, folder, size):
 
 
 def main():
-    parser = argparse.ArgumentParser(description=__doc__.splitlines()[0])
-    parser.add_argument('--program', type=Path, default=BUILT)
+    parser = parser_of(__doc__)
     parser.add_argument('--large', action='store_true', help='great texts have 100 MB')
     options = parser.parse_args()
     size = 100_000_000 if options.large else 1_000_000
     passed = failed = 0
     with tempfile.TemporaryDirectory() as room:
-        for name, fault in cases(options.program.resolve(), Path(room), size):
+        for name, fault in cases(program_at(options.program), Path(room), size):
             print(f'{"WRONG" if fault else "well "} {name}{": " + fault if fault else ""}')
             passed += not fault
             failed += bool(fault)
-    print(f'{passed} passed, {failed} failed')
-    return 1 if failed else 0
+    end(passed, failed)
 
 
 if __name__ == '__main__':
-    sys.exit(main())
+    main()

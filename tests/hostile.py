@@ -8,7 +8,6 @@ own, with a scenario that takes, prints what it tried, and is wrong where it end
 is wanted, or leaves other bytes. Its last line is `N passed, M failed`. Linux only; it takes seconds.
 """
 
-import argparse
 import os
 import shutil
 import subprocess
@@ -18,7 +17,8 @@ import threading
 import time
 from pathlib import Path
 
-BUILT = Path(__file__).resolve().parent.parent / 'crates' / 'swimsim' / 'out' / 'swimsim'
+from harness import call, end, parser_of, program_at
+
 SCENARIO = '''version = 1
 seed = 7
 end = 3
@@ -42,12 +42,8 @@ class Uses:
         self.program, self.well, self.wrong = program, 0, 0
 
     def call(self, folder, words, **how):
-        """Status, standard output and error of the program; None where it didn't end within 20 seconds."""
-        try:
-            ran = subprocess.run([self.program, *words], cwd=folder, capture_output='stdout' not in how, timeout=20, **how)
-        except subprocess.TimeoutExpired:
-            return None, b'', b''
-        return ran.returncode, ran.stdout or b'', ran.stderr or b''
+        """Status, standard output and error of the program, which has to end within 20 seconds."""
+        return call([self.program, *words], 20, cwd=folder, **how)
 
     def judge(self, what, is_well, seen=''):
         """Prints what was tried, and whether it went well."""
@@ -94,7 +90,10 @@ def name_in_again(folder, way):
 def texts(uses, room, whole):
     """Texts that no scenario is: deep, long, or no text."""
     folder = folder_of(room, 'texts')
+    path = b'.'.join([b'a'] * 80) + b' = '
+    deepest = path + (b'{' + path) * 80 + b'1' + b'}' * 80 + b'\n'
     for what, text in (('100,000 lists within each other', b'a = ' + b'[' * 100_000), ('100 MB', b'#' + b'x' * 100_000_000),
+                       ('6,480 tables within each other', deepest),
                        ('bytes that are no text', bytes(range(256))), ('nothing', b'')):
         (folder / 'f').write_bytes(text)
         left = uses.call(folder, ['check', 'f'])
@@ -118,12 +117,12 @@ def outputs(uses, room, whole):
     with open('/dev/full', 'wb') as full:
         left = uses.call(folder, [*RUN, 'u'], stdout=full, stderr=subprocess.PIPE)
         uses.judge('standard output that is full', left[0] == 1, left)
-        ran = subprocess.run([uses.program, 'check', 'absent'], cwd=folder, stderr=full, stdout=subprocess.PIPE)
-        uses.judge('standard error that is full', ran.returncode == 1, ran)
+        left = uses.call(folder, ['check', 'absent'], stderr=full)
+        uses.judge('standard error that is full', left[0] == 1, left)
     for closed in ('>&-', '2>&-', '>&- 2>&-', '<&-'):
-        ran = subprocess.run(['sh', '-c', f'"$0" run s.toml --trace u {closed}', uses.program], cwd=folder, capture_output=True)
+        ran = call(['sh', '-c', f'"$0" run s.toml --trace u {closed}', uses.program], cwd=folder)
         wanted = 1 if closed.startswith('>') else 0
-        uses.judge(f'outputs closed by {closed}', ran.returncode == wanted and (folder / 'u').read_bytes() == whole, ran)
+        uses.judge(f'outputs closed by {closed}', ran.status == wanted and (folder / 'u').read_bytes() == whole, ran)
 
 
 def pipes(uses, room, whole):
@@ -155,11 +154,11 @@ def ends(uses, room, whole):
     for kilobytes in (4_000, 8_000, 16_000, 32_000, 64_000, 256_000):
         (folder / 'm').unlink(missing_ok=True)
         line = f'ulimit -v {kilobytes}; exec "$0" run s.toml --trace m --workers 2 --parts 2'
-        ran = subprocess.run(['sh', '-c', line, uses.program], cwd=folder, capture_output=True)
+        ran = call(['sh', '-c', line, uses.program], cwd=folder)
         left = (folder / 'm').read_bytes() if (folder / 'm').exists() else b''
         # below some size the system itself can't start a program
-        is_well = (left == whole) if ran.returncode == 0 else whole.startswith(left) and (ran.returncode in (5, 127, 126) or not left)
-        uses.judge(f'{kilobytes} kB of memory (status {ran.returncode})', is_well, ran)
+        is_well = (left == whole) if ran.status == 0 else whole.startswith(left) and (ran.status in (5, 127, 126) or not left)
+        uses.judge(f'{kilobytes} kB of memory (status {ran.status})', is_well, ran)
     both = [subprocess.Popen([uses.program, *RUN, 'b'], cwd=folder, stdout=subprocess.PIPE) for _ in range(2)]
     statuses = [it.wait(20) for it in both]
     uses.judge('two runs on one file', statuses == [0, 0] and (folder / 'b').read_bytes() == whole, statuses)
@@ -172,8 +171,8 @@ def words(uses, room, whole):
     uses.judge('a word that is no text', left[0] == 2, left)
     odd = os.fsencode(folder) + b'/\xff'
     shutil.copy(uses.program, odd)
-    ran = subprocess.run([odd, b'check', b's.toml'], cwd=folder, capture_output=True)
-    uses.judge('the program under a name that is no text', ran.returncode == 0, ran)
+    ran = call([odd, b'check', b's.toml'], cwd=folder)
+    uses.judge('the program under a name that is no text', ran.status == 0, ran)
     left = uses.call(folder, ['check', 'a\nb'])
     uses.judge('a name of two lines is told in one', left[0] == 1 and left[2].count(b'\n') == 1, left)
 
@@ -201,12 +200,7 @@ def sizes(uses, room, whole):
 
 
 def main():
-    parser = argparse.ArgumentParser(description=__doc__, formatter_class=argparse.RawDescriptionHelpFormatter)
-    parser.add_argument('--program', type=Path, default=BUILT)
-    program = shutil.which(parser.parse_args().program)
-    if program is None:
-        sys.exit('hostile: the program is not there; ./swimsim --help builds it')
-    uses = Uses(Path(program).resolve())
+    uses = Uses(program_at(parser_of(__doc__).parse_args().program))
     with tempfile.TemporaryDirectory() as name:
         room = Path(name)
         folder = folder_of(room, 'whole')
@@ -216,8 +210,7 @@ def main():
         whole = (folder / 't').read_bytes()
         for group in (names, texts, outputs, pipes, ends, words, sizes):
             group(uses, room, whole)
-    print(f'{uses.well} passed, {uses.wrong} failed')
-    sys.exit(1 if uses.wrong else 0)
+    end(uses.well, uses.wrong)
 
 
 if __name__ == '__main__':

@@ -9,16 +9,14 @@ of NAME.txt and the JSON value that of NAME.json, both with status 0 and nothing
 is 1 where one failed. tests/meaning_expected.py writes these files.
 """
 
-import argparse
 import json
-import subprocess
-import sys
 import tempfile
 import time
 from pathlib import Path
 
-TOP = Path(__file__).resolve().parent.parent
-ROOM = TOP / 'tests' / 'meaning'
+from harness import TESTS, TOP, call, end, parser_of, program_at
+
+ROOM = TESTS / 'meaning'
 LINES = ('explain',)
 JSON = ('explain', '--json')
 SECONDS = 10  # it takes less than one on a machine that does nothing else
@@ -32,8 +30,8 @@ def scenario_of(name):
 
 def told(program, words, scenario):
     """What the program writes of a scenario, called within its folder; None where it refuses or complains."""
-    done = subprocess.run([program, *words, scenario.name], cwd=scenario.parent, capture_output=True, text=True)
-    return done.stdout if done.returncode == 0 and not done.stderr else None
+    ran = call([program, *words, scenario.name], cwd=scenario.parent, text=True)
+    return ran.out if ran.status == 0 and not ran.err else None
 
 
 def value_of(text):
@@ -87,9 +85,7 @@ def delay(program):
 
 
 def main():
-    parser = argparse.ArgumentParser(description=__doc__.splitlines()[0])
-    parser.add_argument('--program', type=Path, default=TOP / 'swimsim', help='the program, else the launcher')
-    program = parser.parse_args().program.resolve()
+    program = program_at(parser_of(__doc__, TOP / 'swimsim').parse_args().program)
     names = sorted(file.stem for file in ROOM.glob('*.txt'))
     failed = 0
     for name in names:
@@ -99,9 +95,8 @@ def main():
     late = delay(program)
     failed += bool(late)
     print(f'large: {late or "in time"}')
-    print(f'{len(names) + 1 - failed} passed, {failed} failed')
-    return 1 if failed else 0
+    end(len(names) + 1 - failed, failed)
 
 
 if __name__ == '__main__':
-    sys.exit(main())
+    main()

@@ -6,16 +6,12 @@ import subprocess
 from collections import namedtuple
 from pathlib import Path
 
-DATA = Path(__file__).resolve().parent
+from harness import TESTS, call
 
-# what a call answered: its status, the bytes of standard output and of standard error
-Ran = namedtuple('Ran', 'status out err')
+DATA = TESTS
 
 # a case: what it is called, the function that makes it, and what that takes beside the program
 Case = namedtuple('Case', 'name check arguments')
-
-# no call takes as long as this
-SECONDS = 300
 
 
 class Wrong(Exception):
@@ -35,13 +31,10 @@ class Program:
             resource.setrlimit(resource.RLIMIT_FSIZE, (room, resource.RLIM_INFINITY))
         try:
             # Python ignores the signal of a file that grew too large, and so then does the program
-            ran = subprocess.run([self.path, *map(os.fsencode, words)], cwd=self.folder,
-                                 stdin=subprocess.DEVNULL, stdout=out, stderr=subprocess.PIPE,
-                                 timeout=SECONDS, restore_signals=room is None)
+            return call([self.path, *map(os.fsencode, words)], cwd=self.folder, stdout=out, restore_signals=room is None)
         finally:
             if room is not None:
                 resource.setrlimit(resource.RLIMIT_FSIZE, (resource.RLIM_INFINITY, resource.RLIM_INFINITY))
-        return Ran(ran.returncode, ran.stdout or b'', ran.stderr)
 
     def keep(self, name, text):
         """Makes a file of the folder that holds this text, or these bytes."""

@@ -19,7 +19,6 @@ Its last line is `N passed, M failed`, a refusal being one. It needs a C compile
 where there is none it is skipped.
 """
 
-import argparse
 import itertools
 import os
 import shutil
@@ -28,9 +27,8 @@ import sys
 import tempfile
 from pathlib import Path
 
+from harness import call, end, parser_of, program_at
 from hasty import HASTY, LONG
-
-BUILT = Path(__file__).resolve().parent.parent / 'crates' / 'swimsim' / 'out' / 'swimsim'
 
 # Stands before the C library's: of the calls of KIND it refuses the one of the number in REFUSED, and leaves a file of
 # the name in SAID once it did. Of the kind `a` is each allocation, of `w` each after a write that failed, of `s` each
@@ -154,12 +152,11 @@ def read(path):
     return path.read_bytes() if path.exists() else b''
 
 
-def call(words, folder, environment=None):
+def left_by(words, folder, environment=None):
     """Status, standard output and error, and the trace, the report and the page of the program with these words."""
     for name in WRITTEN:
         (folder / name).unlink(missing_ok=True)
-    ran = subprocess.run(words, capture_output=True, env=environment)
-    return ran.returncode, ran.stdout, ran.stderr, *(read(folder / name) for name in WRITTEN)
+    return *call(words, env=environment), *(read(folder / name) for name in WRITTEN)
 
 
 def is_refusal(left, whole):
@@ -178,7 +175,7 @@ def refused(words, folder, kind, numbers):
     shared = {**os.environ, 'LD_PRELOAD': str(folder / 'malloc.so'), 'KIND': kind, 'SAID': str(said)}
     for number in numbers:
         said.unlink(missing_ok=True)
-        left = call(words, folder, {**shared, 'REFUSED': str(number)})
+        left = left_by(words, folder, {**shared, 'REFUSED': str(number)})
         if not said.exists():
             return
         yield number, left
@@ -186,7 +183,7 @@ def refused(words, folder, kind, numbers):
 
 def ended(words, folder, wanted):
     """What a call leaves that isn't refused anything, and ends with this status and this on standard error."""
-    whole = call(words, folder)
+    whole = left_by(words, folder)
     if (whole[0], whole[2]) != wanted:
         sys.exit(f'refusals: status {whole[0]}, {whole[2]!r} from {" ".join(map(str, words))}')
     return whole
@@ -255,18 +252,15 @@ def compiled_malloc(folder):
 
 
 def main():
-    parser = argparse.ArgumentParser(description=__doc__, formatter_class=argparse.RawDescriptionHelpFormatter)
-    parser.add_argument('--program', type=Path, default=BUILT)
+    parser = parser_of(__doc__)
     parser.add_argument('--scenario', type=Path)
     options = parser.parse_args()
-    program = shutil.which(options.program)
-    if program is None:
-        sys.exit(f'refusals: {options.program} is not there; ./swimsim --help builds it')
+    program = program_at(options.program)
     with tempfile.TemporaryDirectory() as name:
         folder = Path(name)
         if compiled_malloc(folder) is None:
-            print('no C compiler is there\n0 passed, 0 failed, 1 skipped')
-            return
+            print('no C compiler is there')
+            end(0, 0, 1)
         scenario = options.scenario or folder / 'scenario.toml'
         if options.scenario is None:
             scenario.write_text(SCENARIO)
@@ -283,8 +277,7 @@ def main():
             words = [program, 'run', long, '--trace', '/dev/full', '--report', folder / 'r.txt', '--workers', '3']
             counts.append(refuse_after_write(words, folder))
     well, wrong = map(sum, zip(*counts))
-    print(f'{well} passed, {wrong} failed')
-    sys.exit(1 if wrong else 0)
+    end(well, wrong)
 
 
 if __name__ == '__main__':

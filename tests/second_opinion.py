@@ -12,10 +12,7 @@ differing line. The last line is `N passed, M failed`, and the status is 1 where
 Python 3.11.
 """
 
-import argparse
 import hashlib
-import subprocess
-import sys
 import tempfile
 from concurrent.futures import ProcessPoolExecutor
 from pathlib import Path
@@ -24,12 +21,8 @@ import generate
 import model
 import model_sweeps
 import model_text
+from harness import TOP, call, end, parser_of, program_at
 from scenarios import NEWEST_TAKEN, document_of, judge
-
-TOP = Path(__file__).resolve().parent.parent
-BUILT = TOP / 'crates' / 'swimsim' / 'out' / 'swimsim'
-# a run takes the program some milliseconds
-SECONDS = 300
 
 
 def seed_of_sources():
@@ -39,15 +32,6 @@ def seed_of_sources():
     for path in sorted(path for path in [*paths, TOP / 'crates.txt'] if path.is_file()):
         digest.update(f'{path.relative_to(TOP)}\n'.encode() + path.read_bytes())
     return int.from_bytes(digest.digest()[:6], 'big')
-
-
-def ran(words):
-    """The program's status, standard output and standard error."""
-    try:
-        done = subprocess.run(words, capture_output=True, timeout=SECONDS)
-    except subprocess.TimeoutExpired:
-        return f'no end in {SECONDS} s', b'', b''
-    return done.returncode, done.stdout, done.stderr
 
 
 def first_difference(name, expected, found):
@@ -111,7 +95,7 @@ def tried(program, folder, case, words_of, newest):
     _, scenario = judge(document_of(text), newest)
     rows = model.rows_of(scenario)
     options = words_of(rng, scenario['members'])
-    done = ran([program, 'run', file, '--trace', trace, '--report', report, *options])
+    done = call([program, 'run', file, '--trace', trace, '--report', report, *options])
     expected = {**outcome(0, f'rows {len(rows)}\n'.encode(), b''),
                 'trace': model_text.trace_of(scenario, rows).encode(),
                 'report': model_text.report_of(scenario, rows).encode()}
@@ -128,7 +112,7 @@ def try_text(program, folder, seed, number, newest):
     expected = outcome(3, b'', f'swimsim: scenario rule {rule}\n'.encode())
     if rule == 0:
         expected = outcome(0, f'members {len(scenario["members"])}\n'.encode(), b'')
-    return ['check', 'FILE'], text, compared(expected, outcome(*ran([program, 'check', file])))
+    return ['check', 'FILE'], text, compared(expected, outcome(*call([program, 'check', file])))
 
 
 def try_sweep(program, folder, seed, number, newest):
@@ -142,7 +126,7 @@ def try_sweep(program, folder, seed, number, newest):
     options = ['--workers', str(number % 3 + 1), *(['--seeds', asked[0]] if seeds else [])]
     options += [word for setting in asked[1:] for word in ('--set', setting)]
     refusal, cases = model_sweeps.swept(document, settings, seeds, newest)
-    done = ran([program, 'sweep', file, '--table', table, *options])
+    done = call([program, 'sweep', file, '--table', table, *options])
     expected = {**outcome(0, model_sweeps.cases_text(settings, cases).encode(), b''),
                 'table': model_sweeps.table_of(text, settings, asked, cases).encode()}
     if refusal:
@@ -168,8 +152,7 @@ def fault_of(case):
 
 
 def main():
-    arguments = argparse.ArgumentParser()
-    arguments.add_argument('--program', type=Path, default=BUILT)
+    arguments = parser_of(__doc__)
     arguments.add_argument('--seed', type=int)
     arguments.add_argument('--runs', type=int, default=300)
     arguments.add_argument('--far', type=int, default=12)
@@ -177,18 +160,15 @@ def main():
     arguments.add_argument('--sweeps', type=int, default=20)
     arguments.add_argument('--newest', type=int, default=NEWEST_TAKEN)
     options = arguments.parse_args()
-    if not options.program.is_file():
-        sys.exit(f'{options.program} is not there; ./swimsim builds it')
+    program = program_at(options.program)
     seed = seed_of_sources() if options.seed is None else options.seed
     print(f'seed {seed}, versions 1 to {options.newest}')
     counts = {'run': options.runs, 'far': options.far, 'text': options.texts, 'sweep': options.sweeps}
-    program = options.program.resolve()
     cases = [(program, seed, kind, number, options.newest) for kind in counts for number in range(counts[kind])]
     with ProcessPoolExecutor() as pool:
         faults = [fault for fault in pool.map(fault_of, cases, chunksize=4) if fault]
     print(''.join(faults), end='')
-    print(f'{len(cases) - len(faults)} passed, {len(faults)} failed')
-    sys.exit(bool(faults))
+    end(len(cases) - len(faults), len(faults))
 
 
 if __name__ == '__main__':

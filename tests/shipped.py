@@ -12,22 +12,14 @@ import os
 import re
 import shutil
 import subprocess
-from pathlib import Path
 
-from rooms import run_cases
+from harness import BUILT, TOP, call, run_cases
+from sources import sourced
 
-TOP = Path(__file__).resolve().parent.parent
-BUILT = TOP / 'crates' / 'swimsim' / 'out' / 'swimsim'
 SHIPPED = TOP / 'dist' / 'swimsim-x86_64-linux-gnu'
 PLAIN_TOOLS = ('awk', 'bash', 'cut', 'dirname', 'find', 'grep', 'install', 'readlink', 'sed', 'sha256sum', 'sort', 'tr',
                'xargs')
 CRASH = ('run', 'examples/crash.toml', '--trace', 't.csv', '--report', 'r.txt')
-
-
-def bash(line):
-    """What a line prints that knows the functions of tools/sources.sh."""
-    line = f'top={TOP}; source {TOP}/tools/sources.sh; {line}'
-    return subprocess.run(['bash', '-c', line], check=True, capture_output=True, text=True).stdout.strip()
 
 
 def provenance():
@@ -37,7 +29,8 @@ def provenance():
 
 def clone(room):
     """A copy of what the repository holds, and the few plain commands that a machine without a kit has."""
-    for name in bash(f'cd {TOP} && git ls-files').splitlines():
+    listed = subprocess.run(['git', 'ls-files', '-z'], cwd=TOP, check=True, stdout=subprocess.PIPE, text=True).stdout
+    for name in listed.split('\0')[:-1]:
         (room / 'clone' / name).parent.mkdir(parents=True, exist_ok=True)
         shutil.copy(TOP / name, room / 'clone' / name)
     (room / 'plain').mkdir()
@@ -49,24 +42,24 @@ def clone(room):
 def run_bare(copy, *words):
     """A command of a copy, called where there is neither a kit nor Python."""
     environment = {'PATH': str(copy.parent / 'plain')}
-    return subprocess.run([copy / words[0], *words[1:]], cwd=copy, env=environment, capture_output=True, text=True)
+    return call([copy / words[0], *words[1:]], cwd=copy, env=environment, text=True)
 
 
 def the_record_is_that_of_these_sources(_):
     sum_of = hashlib.sha256(SHIPPED.read_bytes()).hexdigest()
-    assert provenance() == {'kit': bash('rt version'), 'sources': bash('sources_digest'), 'program': sum_of}
+    assert provenance() == {'kit': sourced('rt', 'version'), 'sources': sourced('sources_digest'), 'program': sum_of}
 
 
 def the_program_tells_its_digest_and_kit(_):
-    assert bash('release_value SOURCES') == bash('sources_digest'), 'tools/ready writes it'
-    assert bash('release_value KIT') == bash('rt version'), 'tools/ready writes it'
-    told = subprocess.run([SHIPPED, '--version'], capture_output=True, text=True).stdout
+    assert sourced('release_value', 'SOURCES') == sourced('sources_digest'), 'tools/ready writes it'
+    assert sourced('release_value', 'KIT') == sourced('rt', 'version'), 'tools/ready writes it'
+    told = call([SHIPPED, '--version'], text=True).out
     record = provenance()
-    assert told == f'swimsim {bash("release_value VERSION")} (sources {record["sources"]}, {record["kit"]})\n', told
+    assert told == f'swimsim {sourced("release_value", "VERSION")} (sources {record["sources"]}, {record["kit"]})\n', told
 
 
 def what_was_built_is_what_is_shipped(room):
-    bash(f'strip_program {BUILT} {room / "stripped"}')
+    sourced('strip_program', BUILT, room / 'stripped')
     assert (room / 'stripped').read_bytes() == SHIPPED.read_bytes()
 
 
@@ -74,8 +67,8 @@ def a_bare_machine_has_its_first_page(room):
     copy, readme = clone(room), (TOP / 'README.md').read_text()
     words = re.search(r'^```sh\n\./swimsim (.*?)\n```$', readme, re.M)[1].split()
     ran = run_bare(copy, 'swimsim', *words)
-    assert (ran.returncode, ran.stderr) == (0, ''), ran
-    assert f'`{ran.stdout.strip()}`' in readme, 'README tells what its first command prints'
+    assert (ran.status, ran.err) == (0, ''), ran
+    assert f'`{ran.out.strip()}`' in readme, 'README tells what its first command prints'
     assert (copy / words[-1]).read_text().startswith('<!DOCTYPE html>'), 'the first command leaves a page'
 
 
@@ -85,14 +78,14 @@ def a_changed_byte_is_not_run(room):
     changed = bytearray(program.read_bytes())
     changed[-1] ^= 1
     program.write_bytes(changed)
-    assert run_bare(copy, 'swimsim', *CRASH).returncode != 0 and not (copy / 't.csv').exists()
+    assert run_bare(copy, 'swimsim', *CRASH).status != 0 and not (copy / 't.csv').exists()
 
 
 def changed_sources_are_not_run(room):
     copy = clone(room)
     with open(copy / 'crates' / 'base' / 'src' / 'lib.rt', 'a') as source:
         source.write('// a change\n')
-    assert run_bare(copy, 'swimsim', *CRASH).returncode != 0 and not (copy / 't.csv').exists()
+    assert run_bare(copy, 'swimsim', *CRASH).status != 0 and not (copy / 't.csv').exists()
 
 
 def the_manual_page_is_that_of_the_program(_):
@@ -102,8 +95,10 @@ def the_manual_page_is_that_of_the_program(_):
 
 def it_is_installed_where_people_look(room):
     copy, prefix = clone(room), room / 'prefix'
-    ran = run_bare(copy, 'tools/install', prefix)
-    assert ran.returncode == 0, ran
+    for named in (prefix, 'below the current folder'):
+        ran = run_bare(copy, 'tools/install', named)
+        assert ran.status == 0, ran
+    assert (copy / 'below the current folder' / 'bin' / 'swimsim').is_file()
     installed = prefix / 'bin' / 'swimsim'
     assert installed.read_bytes() == SHIPPED.read_bytes() and os.access(installed, os.X_OK)
     assert (prefix / 'share/man/man1/swimsim.1').is_file()

@@ -1,11 +1,11 @@
 """Files and outputs that take less than they are given: what the program answers, and what is left."""
 
 import os
-import subprocess
 import threading
 from contextlib import contextmanager
 
-from program import Case, DATA, Ran, expect, expect_ran
+from harness import call
+from program import Case, DATA, expect, expect_ran
 from worked import text_of
 
 WORKED = DATA / 'worked'
@@ -133,9 +133,7 @@ def closed_pipe():
 
 def without(program, words, closed):
     """Calls the program by a shell with a stream closed, as by `>&-`."""
-    ran = subprocess.run(['sh', '-c', f'exec "$0" "$@" {closed}', program.path, *words], cwd=program.folder,
-                         stdin=subprocess.DEVNULL, capture_output=True, check=False)
-    return Ran(ran.returncode, ran.stdout, ran.stderr)
+    return call(['sh', '-c', f'exec "$0" "$@" {closed}', program.path, *words], cwd=program.folder)
 
 
 def check_output(program, words, how, left):

@@ -1,5 +1,9 @@
 # What the program is made from, for the scripts beside it. `top` is the repository's folder.
 
+# The program that was built here, and the one in the repository.
+built=$top/crates/swimsim/out/swimsim
+shipped=$top/dist/swimsim-x86_64-linux-gnu
+
 # The crates of the repository that stand below one, and it itself, a line each, sorted.
 crates_below() {
     awk -v wanted="$1" '
@@ -21,12 +25,18 @@ crates_below() {
         }' "$top/crates.txt" | LC_ALL=C sort
 }
 
-# The files of the program's sources, a line each, sorted: its lines of crates.txt are told apart from them.
+# The files of the program's sources, sorted, a zero byte after each: those that a build reads. What an editor or a
+# system leaves beside them counts for nothing, nor does a folder out/. The program's lines of crates.txt are apart.
 source_files() {
-    local crate
+    local crate code=() logic=()
     for crate in $(crates_below swimsim); do
-        find "crates/$crate/src" "crates/$crate/specs" "crates/$crate/proofs" -type f 2>/dev/null
-    done | LC_ALL=C sort
+        code+=("crates/$crate/src")
+        logic+=("crates/$crate/specs" "crates/$crate/proofs")
+    done
+    {
+        find "${code[@]}" -name out -prune -o -type f -name '*.rt' -print0
+        find "${logic[@]}" -name out -prune -o -type f -name '*.antt' -print0
+    } 2>/dev/null | LC_ALL=C sort -z
 }
 
 # The SHA-256 over all that the program is made from: its crates' lines of crates.txt, and its crates' files. The
@@ -37,7 +47,7 @@ sources_digest() (
         for crate in $(crates_below swimsim); do
             grep "^$crate[ :]" crates.txt
         done
-        source_files | grep -v "^$release_file$" | tr '\n' '\0' | xargs -0 sha256sum
+        source_files | grep -zv "^$release_file$" | xargs -0 sha256sum
         grep -Ev '^pub const (SOURCES|KIT):' "$release_file"
     } | sha256sum | cut -d ' ' -f 1
 )
@@ -50,9 +60,31 @@ release_value() {
     sed -nE "s/^pub const $1: &str = *\"(.*)\";/\1/p" "$top/$release_file"
 }
 
+# The SHA-256 of a file.
+digest_of() {
+    sha256sum <"$1" | cut -d ' ' -f 1
+}
+
 # The value that a file of lines `NAME VALUE` gives a name, nothing where it has none.
 value_in() {
     sed -n "s/^$2 //p" "$1" 2>/dev/null
+}
+
+# Whether the program that was built here is made from sources with this digest, by the kit that is there, if one is.
+is_built_fit() {
+    [[ -x $built && $(value_in "$built.made" sources) == "$1" ]] || return 1
+    ! command -v rt >/dev/null || [[ $(value_in "$built.made" kit) == "$(rt version)" ]]
+}
+
+# Whether what a build takes is there. Where it isn't, a sentence that begins with what the build is for says what is missing.
+has_kit() {
+    local tool
+    for tool in rt python3; do
+        if ! command -v "$tool" >/dev/null; then
+            echo "swimsim: $1 needs Rattle's kit (rt) and Python 3.11 (python3), and there is no $tool on the path" >&2
+            return 127
+        fi
+    done
 }
 
 # Writes today's digest and kit into the program's crate, where they aren't there yet.
