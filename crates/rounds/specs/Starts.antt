@@ -21,10 +21,10 @@ abbrev pub IsFirstMoment : Cluster → Option ℕ → Type 0
 IsFirstMoment w first = (t : ℕ) → NoneIsBelow w.pending t ↔ IsUpTo first t
 
 -- The windows of all parts in a world, one of each, below their bounds where this is the first moment that pends.
-pub record AreWindowsOfAll (plan : Plan) (first : Option ℕ) (w : Cluster) (windows : List (Window State Content Row)) : Type 0 where
-  pub windows : AreWindowsOfDifferentParts (step plan.setup) plan.division (bound_of plan first) w windows
-  pub named : AllByRecursion (λ (d : Window State Content Row). d.part < plan.parts) windows
-  pub all : (part : ℕ) → part < plan.parts → IncludesPart windows part
+pub record AreWindowsOfAll (plan : Plan) (first : Option ℕ) (w : Cluster) (ds : List (Window State Content Row)) : Type 0 where
+  pub windows : AreWindowsOfDifferentParts (step plan.setup) plan.division (bound_of plan first) w ds
+  pub named : AllByRecursion (λ (d : Window State Content Row). d.part < plan.parts) ds
+  pub all : (part : ℕ) → part < plan.parts → IncludesPart ds part
 
 -- The world in which a round begins: the first one in the world before the moment from which on the rounds go, each other in
 -- that to which the windows of all parts in the round before it lead.

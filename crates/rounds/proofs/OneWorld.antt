@@ -1,0 +1,1 @@
+-- Windows of all parts lead to one world, in whichever order they stand.
