@@ -1,5 +1,5 @@
 -- The rows of a part's window in a round are its lot from the moment to which it had run up to its bound; where nothing is left, no rows are.
-use Rattle.std.proofs.Common.{◌≡◌, ◌≢◌, ◌⊎◌, ℕ, zero, suc, ◌+◌, ◌<◌, ◌≤◌, min, Bool, true, false, eqb, List, [], ◌∷◌, ◌++◌, Option, Some, None, append-nil, ap, inl, inr, ◌∙◌, sym, subst, refl, arith}
+use Rattle.std.proofs.Common.{◌≡◌, ◌≢◌, ◌⊎◌, ℕ, suc, ◌+◌, ◌<◌, ◌≤◌, Bool, true, false, eqb, List, [], ◌∷◌, ◌++◌, Option, append-nil, ap, inl, inr, ◌∙◌, sym, subst, refl, arith}
 use Rattle.std.specs.Option.{is_some}
 use Rattle.std.specs.List.{AllByRecursion, filter}
 use Rattle.std.specs.List.Sorted.{IsPermutation}
@@ -9,9 +9,8 @@ use Rattle.std.proofs.lemmas.Bool.Decides.{eqb_tells}
 use Rattle.std.proofs.lemmas.List.Elements.{filter-append}
 use Rattle.std.proofs.lemmas.List.Sorted.{IsPermutation-trans, IsPermutation-append_right}
 use Rattle.base.specs.declared.key.Key.{Key}
-use Rattle.base.specs.Order.{moments-from_not_before}
 use Rattle.base.specs.Run.{handled, trace, run-exists}
-use Rattle.base.specs.World.{IsPending, IsOver, NextStep, Run, settled, outcome, rows_of, events_of}
+use Rattle.base.specs.World.{IsPending, IsOver, Run, settled, outcome, rows_of, events_of}
 use Rattle.base.specs.Rising.{IsRising, IsPlaceBefore}
 use Rattle.base.proofs.Rising.{all_append, all_weaker}
 use Rattle.scenario.specs.Setup.{Setup, IsSound, member_count}
@@ -23,7 +22,6 @@ use Rattle.member.specs.Places.{place_of}
 use Rattle.member.specs.Step.{step}
 use Rattle.member.proofs.Fair.{steps_later, steps_counted}
 use Rattle.member_laws.specs.Runs.{Cluster, IsRunOf, IsSoundCluster}
-use Rattle.windows.specs.Safe.{IsSafe}
 use Rattle.windows.specs.Schedule.{TestedStep, Schedule}
 use Rattle.windows.specs.Parts.{Window, IsWindowOfItsPart, AreWindowsOfDifferentParts, StandsAfter, part_of, is_in, all_keys, all_rows}
 use Rattle.windows.specs.Horizon.{Walk, AreHorizons, length_of}
@@ -32,26 +30,26 @@ use Rattle.windows.proofs.Early.{made_all}
 use Rattle.windows.proofs.Far.{all_both}
 use Rattle.windows.proofs.Horizons.{clear_windows, clear_rows, clear_none_left, horizons_stay}
 use Rattle.windows.proofs.Members.{keeps_delays, sound_opening, sound_stays, receiver_low}
-use Rattle.windows.proofs.Outs.{IsFrom, run_is_schedule}
+use Rattle.windows.proofs.Outs.{IsFrom}
 use Rattle.windows.proofs.Released.{rising_mapped, schedule_keyed}
 use Rattle.windows.proofs.RowOrders.{part_rows_rise}
-use Rattle.windows.proofs.Safety.{holds_after}
+use Rattle.windows.proofs.Safety.{holds_made}
 use Rattle.windows.proofs.Schedules.{with_fact}
 use Rattle.windows.proofs.Sorting.{IsAtMost, IsLess}
 use Rattle.windows.proofs.Wholes.{pending_in}
 use Rattle.rounds.specs.Plan.{Plan, IsPlan, bound_of}
-use Rattle.rounds.specs.Starts.{IsUpTo, IsFirstMoment, IsRound, HasRunTo}
+use Rattle.rounds.specs.Starts.{IsUpTo, IsRound, HasRunTo}
 use Rattle.rounds.specs.Messages.{IsWindowOfRound, BeginsRound}
 use Rattle.rounds.specs.Lots.{is_within, IsLot}
 use Rattle.rounds.proofs.Lots.{keeps_all, keeps_none, within_from, within_parts, some_run, rows_by_place}
 use Rattle.rounds.proofs.OwnRows.{by_places, places_order, less_at_most, own_keys, kept_same}
-use Rattle.rounds.proofs.Reached.{IsLed, led}
-use Rattle.rounds.proofs.Turns.{one_round, round_horizons}
+use Rattle.rounds.proofs.Turns.{bound_in_time, round_horizons}
+use Rattle.rounds.proofs.Reached.{IsLed, run_leads, run_to_bound, run_to_grows, led}
 
 module _ (s : Setup) (sound : IsSound s) (division : ℕ → ℕ) (between : ℕ → ℕ → ℕ) (lies : LiesBetween s division between) where
   -- ---- no event for a part comes before its bound
 
-  module _ (long : (from to : ℕ) (walk : Walk (IsPeopled s division) from to) → 0 < length_of between walk) (bounds : ℕ → ℕ) (part : ℕ) where
+  module _ (bounds : ℕ → ℕ) (part : ℕ) where
     abbrev AreBelow : Cluster → Type 0
     AreBelow w = AreHorizons s.end division (IsPeopled s division) between bounds w
 
@@ -82,48 +80,36 @@ module _ (s : Setup) (sound : IsSound s) (division : ℕ → ℕ) (between : ℕ
         (all_both (λ (e : Key × Content). k.at < e.0.at) (λ (e : Key × Content). e.0.to ≢ k.to → k.at + link_delay s k.to e.0.to ≤ e.0.at) (step s k c t).events
         ((keeps_delays s sound).later k c t) ((keeps_delays s sound).delayed k c t))
 
-    sound_next : (w v : Cluster) (k : Key) (made : List Row) → IsSoundCluster s w → k.at ≤ s.end → NextStep (step s) w k v made → IsSoundCluster s v
-    sound_next w v k made fact in_time next = subst (IsSoundCluster s) (sym next.world) (sound_stays s sound w k next.content fact next.here in_time)
+    module _ (w v : Cluster) (k : Key) (made : List Row) (fact : IsSoundCluster s w) (below : AreBelow w) (is : TestedStep (step s) (IsClearOf s division between) w k v made) where
+      sound_next : IsSoundCluster s v
+      sound_next = subst (IsSoundCluster s) (sym is.world) (sound_stays s sound w k is.content fact is.here is.passes.in_time)
 
-    late_next : (w v : Cluster) (k : Key) (made : List Row) → IsSoundCluster s w → AreBelow w → IsLate w → k.at ≤ s.end → NextStep (step s) w k v made → IsLate v
-    late_next w v k made fact below late in_time next q here =
-        let here_k : IsPending w k = ap is_some next.here in
-        holds_after (step s) (λ r. r.to < member_count s → division r.to ≡ part → bounds part ≤ r.at) w v k made next (λ r there low. late r there)
-        (all_weaker (λ (e : Key × Content). MakesLate k e.0) (λ e. e.0.to < member_count s → division e.0.to ≡ part → bounds part ≤ e.0.at)
-        (λ e makes. makes (receiver_low s w k (get w.pending k) fact refl here_k) (below.clear part k here_k) (late k here_k))
-        (events_of (outcome (step s) w k next.content)) (made_all (step s) MakesLate all_made_late k next.content (get w.members k.to)))
-        q here (receiver_low s v q (get v.pending q) (sound_next w v k made fact in_time next) refl here)
+      below_next : AreBelow v
+      below_next = horizons_stay s division between sound lies bounds w v k made fact below is
 
-    -- the least of all that pends is clear
-    next_clear : (w v : Cluster) (k : Key) (made : List Row) → k.at ≤ s.end → NextStep (step s) w k v made → TestedStep (step s) (IsClearOf s division between) w k v made
-    next_clear w v k made in_time next = record {
-      content = next.content;
-      here = next.here;
-      passes = record {
-        first = record { here = ap is_some next.here; least = λ q here same. next.least q here };
-        in_time = in_time;
-        clear = λ q here walk. let low = moments-from_not_before q k (next.least q here) in let some = long (division q.to) (division k.to) walk in omega arith;
-      };
-      world = next.world;
-      made = next.made;
-    }
+      late_next : IsLate w → IsLate v
+      late_next late q here =
+          let here_k : IsPending w k = ap is_some is.here in
+          holds_made (step s) (λ r. r.to < member_count s → division r.to ≡ part → bounds part ≤ r.at) w k is.content (λ r there low. late r there)
+          (all_weaker (λ (e : Key × Content). MakesLate k e.0) (λ e. e.0.to < member_count s → division e.0.to ≡ part → bounds part ≤ e.0.at)
+          (λ e makes. makes (receiver_low s w k (get w.pending k) fact refl here_k) (below.clear part k here_k) (late k here_k))
+          (events_of (outcome (step s) w k is.content)) (made_all (step s) MakesLate all_made_late k is.content (get w.members k.to)))
+          q (subst (λ (u : Cluster). IsPending u q) is.world here) (receiver_low s v q (get v.pending q) sound_next refl here)
 
-    late_keys : (ks : List Key) (w v : Cluster) (rows : List Row) → IsSoundCluster s w → AreBelow w → IsLate w → Run (step s) s.end w ks rows v
+    late_keys : (ks : List Key) (w v : Cluster) (rows : List Row) → IsSoundCluster s w → AreBelow w → IsLate w → Schedule (step s) (IsClearOf s division between) w ks rows v
         → AllByRecursion (λ (k : Key). division k.to ≡ part → bounds part ≤ k.at) ks
-    late_keys [] w v rows fact below late run = tt
-    late_keys (k ∷ ks) w v rows fact below late run = (
-      late k (ap is_some run.4.here),
-      late_keys ks run.0 v run.2 (sound_next w run.0 k run.1 fact run.3 run.4)
-          (horizons_stay s division between sound lies bounds w run.0 k run.1 fact below (next_clear w run.0 k run.1 run.3 run.4))
-          (late_next w run.0 k run.1 fact below late run.3 run.4) run.5,
+    late_keys [] w v rows fact below late is = tt
+    late_keys (k ∷ ks) w v rows fact below late is = (
+      late k (ap is_some is.3.here),
+      late_keys ks is.0 v is.2 (sound_next w is.0 k is.1 fact below is.3) (below_next w is.0 k is.1 fact below is.3) (late_next w is.0 k is.1 fact below is.3 late) is.4,
     )
 
-    -- the run's rows of the part are no earlier than its bound, where all that pends there is not
-    late_rows : (ks : List Key) (w v : Cluster) (rows : List Row) → IsSoundCluster s w → AreBelow w → IsLate w → Run (step s) s.end w ks rows v
+    -- where all that pends in the part is not before its bound, no row of the part is that clear steps write from there on
+    late_rows : (ks : List Key) (w v : Cluster) (rows : List Row) → IsSoundCluster s w → AreBelow w → IsLate w → Schedule (step s) (IsClearOf s division between) w ks rows v
         → AllByRecursion (λ (row : Row). division row.member ≡ part → bounds part ≤ row.at) rows
-    late_rows ks w v rows fact below late run =
-        schedule_keyed (step s) (steps_later s sound) place_of (steps_counted s sound) (λ k. division k.to ≡ part → bounds part ≤ k.at) (IsSafe s.end None) ks w v rows
-        (late_keys ks w v rows fact below late run) (run_is_schedule (step s) s.end None tt ks w v rows run)
+    late_rows ks w v rows fact below late is =
+        schedule_keyed (step s) (steps_later s sound) place_of (steps_counted s sound) (λ k. division k.to ≡ part → bounds part ≤ k.at) (IsClearOf s division between) ks w v rows
+        (late_keys ks w v rows fact below late is) is
 
   -- ---- in a world to which clear steps have led, a part's up to a moment
 
@@ -151,7 +137,7 @@ module _ (s : Setup) (sound : IsSound s) (division : ℕ → ℕ) (between : ℕ
 
   -- ---- its window there
 
-  module _ (long : (from to : ℕ) (walk : Walk (IsPeopled s division) from to) → 0 < length_of between walk) (bounds : ℕ → ℕ) (w : Cluster) (keys : List Key) (rows : List Row)
+  module _ (run_leads : (ks : List Key) (u v : Cluster) (rows : List Row) → Run (step s) s.end u ks rows v → Schedule (step s) (IsClearOf s division between) u ks rows v) (bounds : ℕ → ℕ) (w : Cluster) (keys : List Key) (rows : List Row)
       (schedule : Schedule (step s) (IsClearOf s division between) (opening s) keys rows w) (whole : IsWholeCluster s w)
       (below : AreHorizons s.end division (IsPeopled s division) between bounds w) (window : Window State Content Row) (runs : IsWindowOfItsPart (step s) division bounds w window)
       (from : ℕ) (early : AllByRecursion (λ (k : Key). division k.to ≡ window.part → k.at < from) keys)
@@ -217,7 +203,7 @@ module _ (s : Setup) (sound : IsSound s) (division : ℕ → ℕ) (between : ℕ
         let high = inside.2 in
         let low = past (eqb-true (division row.member) window.part inside.0) in
         omega arith))
-        (rest_of there.0) (late_rows long bounds window.part (keys_of there.0) there.0 is.last (rest_of there.0) there.3 below_there late_there is.run)
+        (rest_of there.0) (late_rows bounds window.part (keys_of there.0) there.0 is.last (rest_of there.0) there.3 below_there late_there (run_leads (keys_of there.0) there.0 is.last (rest_of there.0) is.run))
 
     kept_in_all : filter (is_within division window.part from bound) (rows ++ (all_rows windows ++ rest_of there.0)) ≡ window.rows
     kept_in_all =
@@ -247,37 +233,6 @@ module _ (s : Setup) (sound : IsSound s) (division : ℕ → ℕ) (between : ℕ
         ∙ kept_same (is_within division window.part from bound) by_places places_order.total run (rows ++ (all_rows windows ++ rest_of there.0))
         (rows_by_place s sound (IsLess by_places) places_order.agrees run is) (all_there run is) (subst (IsRising (IsAtMost by_places)) (sym kept_in_all) rises)
 
--- ---- bounds
-
-bound_in_time : (plan : Plan) (first : Option ℕ) (part : ℕ) → bound_of plan first part ≤ plan.setup.end + 1
-bound_in_time plan None part = omega arith
-bound_in_time plan (Some first) part = omega arith
-
-bound_reaches : (plan : Plan) (first : Option ℕ) (part t : ℕ) → IsUpTo first t → t ≤ plan.setup.end + 1 → t ≤ bound_of plan first part
-bound_reaches plan None part t up low = low
-bound_reaches plan (Some first) part t up low = omega arith
-
-bound_grows : (plan : Plan) (before part : ℕ) (first : Option ℕ) → 0 < plan.way_into part → IsUpTo first (min (before + 1) (plan.setup.end + 1)) → bound_of plan (Some before) part ≤ bound_of plan first part
-bound_grows plan before part None some up = omega arith
-bound_grows plan before part (Some first) some up = omega arith
-
--- a part's bound is no earlier than the moment to which it has run
-bound_from : (plan : Plan) → IsPlan plan → (part round from : ℕ) (w : Cluster) (first : Option ℕ) → IsFirstMoment w first
-    → ((q : Key) → IsPending w q → (t : ℕ) → HasRunTo plan round (plan.division q.to) t → t ≤ q.at) → HasRunTo plan round part from → from ≤ bound_of plan first part
-bound_from plan is part zero from w first pends left has =
-    subst (λ t. t ≤ bound_of plan first part) (sym has) (bound_reaches plan first part plan.since ((pends plan.since).0 (λ q here. left q here plan.since refl)) is.in_time)
-bound_from plan is part (suc before) from w first pends left has = subst (λ t. t ≤ bound_of plan first part) (sym has.3) (by_first has.1 has.2)
-  where
-    by_first : (earlier : Option ℕ) → IsRound plan before has.0 earlier → bound_of plan earlier part ≤ bound_of plan first part
-    by_first None begun =
-        bound_reaches plan first part (plan.setup.end + 1) ((pends (plan.setup.end + 1)).0 (λ q here. left q here (plan.setup.end + 1) (has.0, None, begun, refl))) (omega arith)
-    by_first (Some at) begun =
-        bound_grows plan at part first (is.ways.some part)
-        ((pends (min (at + 1) (plan.setup.end + 1))).0 (λ q here.
-        let late = left q here (bound_of plan (Some at) (plan.division q.to)) (has.0, Some at, begun, refl) in
-        let some = is.ways.some (plan.division q.to) in
-        omega arith))
-
 -- ---- rounds
 
 module _ (plan : Plan) (is : IsPlan plan) (part round from : ℕ) (w : Cluster) (first : Option ℕ) (begins : IsRound plan round w first) (has : HasRunTo plan round part from) where
@@ -290,7 +245,7 @@ module _ (plan : Plan) (is : IsPlan plan) (part round from : ℕ) (w : Cluster) 
       (λ k before same. before from (subst (λ n. HasRunTo plan round n from) (sym same) has)) led_to.keys led_to.early
 
   ordered : from ≤ bound_of plan first part
-  ordered = bound_from plan is part round from w first begins.pends led_to.left has
+  ordered = run_to_grows plan is round part from (bound_of plan first part) has (w, first, begins, refl)
 
   none_left : IsUpTo first (plan.setup.end + 1) → IsLot plan.setup plan.division part from (plan.setup.end + 1) []
   none_left past = record {
@@ -317,7 +272,7 @@ module _ (plan : Plan) (is : IsPlan plan) (round from : ℕ) (window : Window St
     is_run = (some_run plan.setup is.sound).1;
     same =
         window_rows plan.setup is.sound plan.division is.ways.between is.ways.lies
-        (λ i j walk. let short = is.ways.shortest i j walk in let some = is.ways.some j in omega arith)
+        (run_leads plan is)
         (bound_of plan mine.first) mine.world led_there.keys led_there.rows led_there.schedule led_there.whole
         (round_horizons plan round mine.world mine.first is.ways.between is.ways.shortest mine.in_round) window mine.runs from
         (early plan is window.part round from mine.world mine.first mine.in_round has)
@@ -330,8 +285,7 @@ pub lot_of_window : (plan : Plan) (round from to : ℕ) (window : Window State C
 lot_of_window plan round from to window is low mine begun goes =
     let more : round + 1 ≡ suc round = omega arith in
     let next : HasRunTo plan (suc round) window.part to = subst (λ n. HasRunTo plan n window.part to) more goes in
-    let same = one_round plan round mine.world next.0 mine.first next.1 is mine.in_round next.2 in
-    subst (λ t. IsLot plan.setup plan.division window.part from t window.rows) (ap (λ first. bound_of plan first window.part) same.1 ∙ sym next.3) (window_lot plan is round from window mine begun)
+    subst (λ t. IsLot plan.setup plan.division window.part from t window.rows) (sym (run_to_bound plan is round window.part to mine.world mine.first mine.in_round next)) (window_lot plan is round from window mine begun)
 
 pub lot_rest : (plan : Plan) (part round from : ℕ) (first : Option ℕ) (p : Cluster) → IsPlan plan → part < plan.parts → BeginsRound plan part round first p → IsUpTo first (plan.setup.end + 1)
     → HasRunTo plan round part from → IsLot plan.setup plan.division part from (plan.setup.end + 1) []
