@@ -192,12 +192,14 @@ module _ (plan : Plan) (is : IsPlan plan) where
   round_number zero first w round low = omega arith
   round_number (suc before) first w round low =
       let world = round.world in
-      by_first world.1 (record { world = world.3; pends = world.4 }) (λ q here. pends_past world.0 (round_whole before world.0 world.3) world.1 world.4 world.2 world.5 w world.6 q here)
+      by_first world.1 (λ f from soon. round_number before f round.world.0 from soon) (record { world = world.3; pends = world.4 })
+      (λ q here. pends_past world.0 (round_whole before world.0 world.3) world.1 world.4 world.2 world.5 w world.6 q here)
     where
-      by_first : (f : Option ℕ) → IsRound plan before round.world.0 f → ((q : Key) → IsPending w q → bound_of plan f (plan.division q.to) ≤ q.at) → suc before ≤ first
-      by_first None from past = let late = (round.pends (plan.setup.end + 1)).0 past in absurd (omega arith)
-      by_first (Some f) from past =
+      by_first : (f : Option ℕ) → ((g : ℕ) → IsRound plan before round.world.0 (Some g) → g ≤ plan.setup.end → before ≤ g) → IsRound plan before round.world.0 f
+          → ((q : Key) → IsPending w q → bound_of plan f (plan.division q.to) ≤ q.at) → suc before ≤ first
+      by_first None rest from past = let late = (round.pends (plan.setup.end + 1)).0 past in absurd (omega arith)
+      by_first (Some f) rest from past =
           let late = (round.pends (min (f + 1) (plan.setup.end + 1))).0 (λ q here. let h = past q here in let some = is.ways.some (plan.division q.to) in omega arith) in
           let sooner : f < first = omega arith in
-          let rest : before ≤ f = round_number before f round.world.0 from (omega arith) in
+          let more : before ≤ f = rest f from (omega arith) in
           omega arith
