@@ -21,7 +21,7 @@ use Rattle.rounds.specs.Starts.{IsUpTo, IsRound, HasRunTo}
 use Rattle.rounds.specs.Lots.{IsUnworn, HasLasted}
 use Rattle.rounds.proofs.Worlds.{opening_before}
 use Rattle.rounds.proofs.Bounded.{clear_before}
-use Rattle.rounds.proofs.Turns.{one_round, round_whole}
+use Rattle.rounds.proofs.Turns.{one_at, whole_at}
 use Rattle.rounds.proofs.Reached.{IsLed, led, some_run_to, run_to_in_time}
 
 -- where nothing is left up to the end, the round's world is that before the moment after the end
@@ -57,12 +57,16 @@ module _ (plan : Plan) (is : IsPlan plan) (round : ℕ) (lasted : (m : ℕ) → 
 
   unworn_there : IsUnworn world
   unworn_there m t here =
-      let whole = round_whole plan is round world one.begins.in_round.world in
+      let whole = whole_at plan is round world one.begins.in_round.world in
       let own = lasted m (ltb-true m (member_count plan.setup) (sym (whole.peopled m) ∙ ap is_some here)) in
-      let same = (one_round plan is round own.begins.world world own.first one.first own.begins.in_round one.begins.in_round).0 in
+      let same = (one_at plan is round own.begins.world world own.first one.first own.begins.in_round one.begins.in_round).0 in
       own.unworn m t (ap (λ (x : Cluster). get x.members m) own.begins.cut ∙ member_kept plan.division own.begins.world m ∙ ap (λ (x : Cluster). get x.members m) same ∙ here)
 
-  pub world_of_end : (keys : List Key) × (rows : List Row) × (w : Cluster) × Run (step plan.setup) plan.setup.end (opening plan.setup) keys rows w × IsOver plan.setup.end w × IsUnworn w
-  world_of_end =
+  end_there : (keys : List Key) × (rows : List Row) × (w : Cluster) × Run (step plan.setup) plan.setup.end (opening plan.setup) keys rows w × IsOver plan.setup.end w × IsUnworn w
+  end_there =
       let before = over_world plan is round world one.first one.begins.in_round one.past in
       (before.0, before.1, world, before.2.run, over_there, unworn_there)
+
+pub world_of_end : (plan : Plan) (round : ℕ) → IsPlan plan → ((m : ℕ) → m < member_count plan.setup → HasLasted plan (plan.division m) round)
+    → (keys : List Key) × (rows : List Row) × (w : Cluster) × Run (step plan.setup) plan.setup.end (opening plan.setup) keys rows w × IsOver plan.setup.end w × IsUnworn w
+world_of_end plan round is lasted = end_there plan is round lasted

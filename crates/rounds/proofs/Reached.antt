@@ -23,7 +23,7 @@ use Rattle.windows.proofs.Outs.{IsFrom, from_after, handled_from}
 use Rattle.windows.proofs.Wholes.{pending_in}
 use Rattle.rounds.specs.Plan.{Plan, IsPlan, bound_of}
 use Rattle.rounds.specs.Starts.{IsFirstMoment, IsRoundWorld, IsRound, HasRunTo}
-use Rattle.rounds.proofs.Turns.{bound_in_time, bound_upto, some_round, one_round, round_whole, leads_on, pends_past, bound_grows}
+use Rattle.rounds.proofs.Turns.{bound_in_time, bound_upto, some_at, one_at, whole_at, leads_on, pends_past, bound_grows}
 
 -- A schedule of clear steps leads from the opening to this world. In each part it has handled nothing from the moment on up to which the
 -- part has run, and nothing before that moment pends.
@@ -105,7 +105,7 @@ module _ (plan : Plan) (is : IsPlan plan) where
 
   pub some_run_to : (round part : ℕ) → (t : ℕ) × HasRunTo plan round part t
   some_run_to zero part = (plan.since, refl)
-  some_run_to (suc before) part = let from = some_round plan is before in (bound_of plan from.1 part, (from.0, from.1, from.2, refl))
+  some_run_to (suc before) part = let from = some_at plan is before in (bound_of plan from.1 part, (from.0, from.1, from.2, refl))
 
   pub run_to_in_time : (round part t : ℕ) → HasRunTo plan round part t → t ≤ plan.setup.end + 1
   run_to_in_time zero part t to = subst (λ n. n ≤ plan.setup.end + 1) (sym to) is.in_time
@@ -113,7 +113,7 @@ module _ (plan : Plan) (is : IsPlan plan) where
 
   -- it is the bound of the round before
   pub run_to_bound : (before part t : ℕ) (w : Cluster) (first : Option ℕ) → IsRound plan before w first → HasRunTo plan (suc before) part t → t ≡ bound_of plan first part
-  run_to_bound before part t w first round to = to.3 ∙ ap (λ f. bound_of plan f part) (one_round plan is before to.0 w to.1 first to.2 round).1
+  run_to_bound before part t w first round to = to.3 ∙ ap (λ f. bound_of plan f part) (one_at plan is before to.0 w to.1 first to.2 round).1
 
   -- and grows
   pub run_to_grows : (round part t later : ℕ) → HasRunTo plan round part t → HasRunTo plan (suc round) part later → t ≤ later
@@ -125,13 +125,13 @@ module _ (plan : Plan) (is : IsPlan plan) where
   run_to_grows (suc before) part t later to next =
       let world = next.2.world in
       let from : t ≡ bound_of plan world.1 part = run_to_bound before part t world.0 world.1 (record { world = world.3; pends = world.4 }) to in
-      let more : bound_of plan world.1 part ≤ bound_of plan next.1 part = bound_grows plan is world.0 (round_whole plan is before world.0 world.3) world.1 world.4 world.2 world.5 next.0 world.6 next.1 next.2.pends part in
+      let more : bound_of plan world.1 part ≤ bound_of plan next.1 part = bound_grows plan is world.0 (whole_at plan is before world.0 world.3) world.1 world.4 world.2 world.5 next.0 world.6 next.1 next.2.pends part in
       let same = next.3 in
       omega (arith, from, more, same)
 
   leads : (round : ℕ) (w : Cluster) → IsRoundWorld plan round w → IsLed plan is.ways.between round w
   leads zero w world =
-      let whole = round_whole plan is zero w world in
+      let whole = whole_at plan is zero w world in
       record {
         keys = world.0;
         rows = world.1;
@@ -142,8 +142,8 @@ module _ (plan : Plan) (is : IsPlan plan) where
         whole = whole;
       }
   leads (suc before) w world =
-      let whole = round_whole plan is (suc before) w world in
-      let begun = round_whole plan is before world.0 world.3 in
+      let whole = whole_at plan is (suc before) w world in
+      let begun = whole_at plan is before world.0 world.3 in
       let rest = leads before world.0 world.3 in
       let round : IsRound plan before world.0 world.1 = record { world = world.3; pends = world.4 } in
       record {

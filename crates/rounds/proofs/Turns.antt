@@ -152,48 +152,48 @@ module _ (plan : Plan) (is : IsPlan plan) where
               let late = (after (min first (plan.setup.end + 1))).0 (λ q here. let h = past q here in omega arith) in
               omega arith
 
-  pub round_whole : (round : ℕ) (w : Cluster) → IsRoundWorld plan round w → IsWholeCluster plan.setup w
-  round_whole zero w world = whole_before plan.setup is.sound plan.since w world
-  round_whole (suc before) w world = whole_after world.0 (round_whole before world.0 world.3) world.1 world.4 world.2 world.5 w world.6
+  pub whole_at : (round : ℕ) (w : Cluster) → IsRoundWorld plan round w → IsWholeCluster plan.setup w
+  whole_at zero w world = whole_before plan.setup is.sound plan.since w world
+  whole_at (suc before) w world = whole_after world.0 (whole_at before world.0 world.3) world.1 world.4 world.2 world.5 w world.6
 
-  pub one_round_world : (round : ℕ) (w v : Cluster) → IsRoundWorld plan round w → IsRoundWorld plan round v → w ≡ v
-  one_round_world zero w v a b = one_world plan.setup is.sound plan.since w v a b
-  one_round_world (suc before) w v a b =
-      let same : a.0 ≡ b.0 = one_round_world before a.0 b.0 a.3 b.3 in
+  pub one_world_at : (round : ℕ) (w v : Cluster) → IsRoundWorld plan round w → IsRoundWorld plan round v → w ≡ v
+  one_world_at zero w v a b = one_world plan.setup is.sound plan.since w v a b
+  one_world_at (suc before) w v a b =
+      let same : a.0 ≡ b.0 = one_world_at before a.0 b.0 a.3 b.3 in
       let first : a.1 ≡ b.1 = one_first b.0 a.1 b.1 (subst (λ (u : Cluster). IsFirstMoment u a.1) same a.4) b.4 in
       let are : AreWindowsOfAll plan b.1 b.0 a.2 = subst (λ f. AreWindowsOfAll plan f b.0 a.2) first (subst (λ (u : Cluster). AreWindowsOfAll plan a.1 u a.2) same a.5) in
       let stands : StandsAfter plan.division b.0 a.2 w = subst (λ (u : Cluster). StandsAfter plan.division u a.2 w) same a.6 in
-      one_after plan.setup is.sound plan.division (bound_of plan b.1) b.0 (round_whole before b.0 b.3).numbered plan.parts a.2 b.2 are.windows b.5.windows are.named b.5.named are.all b.5.all w v stands b.6
+      one_after plan.setup is.sound plan.division (bound_of plan b.1) b.0 (whole_at before b.0 b.3).numbered plan.parts a.2 b.2 are.windows b.5.windows are.named b.5.named are.all b.5.all w v stands b.6
 
-  pub one_round : (round : ℕ) (w v : Cluster) (first second : Option ℕ) → IsRound plan round w first → IsRound plan round v second → (w ≡ v) × (first ≡ second)
-  one_round round w v first second a b =
-      let same : w ≡ v = one_round_world round w v a.world b.world in
+  pub one_at : (round : ℕ) (w v : Cluster) (first second : Option ℕ) → IsRound plan round w first → IsRound plan round v second → (w ≡ v) × (first ≡ second)
+  one_at round w v first second a b =
+      let same : w ≡ v = one_world_at round w v a.world b.world in
       (same, one_first v first second (subst (λ (u : Cluster). IsFirstMoment u first) same a.pends) b.pends)
 
-  pub some_round : (round : ℕ) → (w : Cluster) × (first : Option ℕ) × IsRound plan round w first
-  some_round zero =
+  pub some_at : (round : ℕ) → (w : Cluster) × (first : Option ℕ) × IsRound plan round w first
+  some_at zero =
       let world = some_world plan.setup is.sound plan.since is.in_time in
       let first = some_first world.0 in
       (world.0, first.0, record { world = world.1; pends = first.1 })
-  some_round (suc before) =
-      let from = some_round before in
+  some_at (suc before) =
+      let from = some_at before in
       let windows = windows_at plan.setup is.sound plan.division from.0 (bound_of plan from.1) plan.parts in
       let are : AreWindowsOfAll plan from.1 from.0 windows = record {
         windows = are_at plan.setup is.sound plan.division from.0 (bound_of plan from.1) plan.parts;
         named = below_at plan.setup is.sound plan.division from.0 (bound_of plan from.1) plan.parts;
         all = all_at plan.setup is.sound plan.division from.0 (bound_of plan from.1) plan.parts;
       } in
-      let after = some_after from.0 (round_whole before from.0 from.2.world) from.1 from.2.pends windows are in
+      let after = some_after from.0 (whole_at before from.0 from.2.world) from.1 from.2.pends windows are in
       let first = some_first after.0 in
       (after.0, first.0, record { world = (from.0, from.1, windows, from.2.world, from.2.pends, are, after.1); pends = first.1 })
 
   -- while something pends up to the end, a round's number is no more than the first moment that pends
-  pub round_number : (round first : ℕ) (w : Cluster) → IsRound plan round w (Some first) → first ≤ plan.setup.end → round ≤ first
-  round_number zero first w round low = omega arith
-  round_number (suc before) first w round low =
+  pub number_at : (round first : ℕ) (w : Cluster) → IsRound plan round w (Some first) → first ≤ plan.setup.end → round ≤ first
+  number_at zero first w round low = omega arith
+  number_at (suc before) first w round low =
       let world = round.world in
-      by_first world.1 (λ f from soon. round_number before f round.world.0 from soon) (record { world = world.3; pends = world.4 })
-      (λ q here. pends_past world.0 (round_whole before world.0 world.3) world.1 world.4 world.2 world.5 w world.6 q here)
+      by_first world.1 (λ f from soon. number_at before f round.world.0 from soon) (record { world = world.3; pends = world.4 })
+      (λ q here. pends_past world.0 (whole_at before world.0 world.3) world.1 world.4 world.2 world.5 w world.6 q here)
     where
       by_first : (f : Option ℕ) → ((g : ℕ) → IsRound plan before round.world.0 (Some g) → g ≤ plan.setup.end → before ≤ g) → IsRound plan before round.world.0 f
           → ((q : Key) → IsPending w q → bound_of plan f (plan.division q.to) ≤ q.at) → suc before ≤ first
@@ -203,3 +203,17 @@ module _ (plan : Plan) (is : IsPlan plan) where
           let sooner : f < first = omega arith in
           let more : before ≤ f = rest f from (omega arith) in
           omega arith
+
+-- ---- the laws
+
+pub some_round : (plan : Plan) (round : ℕ) → IsPlan plan → (w : Cluster) × (first : Option ℕ) × IsRound plan round w first
+some_round plan round is = some_at plan is round
+
+pub one_round : (plan : Plan) (round : ℕ) (w v : Cluster) (first second : Option ℕ) → IsPlan plan → IsRound plan round w first → IsRound plan round v second → (w ≡ v) × (first ≡ second)
+one_round plan round w v first second is a b = one_at plan is round w v first second a b
+
+pub round_whole : (plan : Plan) (round : ℕ) (w : Cluster) (first : Option ℕ) → IsPlan plan → IsRound plan round w first → IsWholeCluster plan.setup w
+round_whole plan round w first is begun = whole_at plan is round w begun.world
+
+pub round_number : (plan : Plan) (round first : ℕ) (w : Cluster) → IsPlan plan → IsRound plan round w (Some first) → first ≤ plan.setup.end → round ≤ first
+round_number plan round first w is begun low = number_at plan is round first w begun low

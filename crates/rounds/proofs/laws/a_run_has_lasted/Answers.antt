@@ -2,4 +2,4 @@ use Rattle.rounds.proofs.Lasting.{world_of_end}
 use Rattle.rounds.proofs.laws.a_run_has_lasted.Goals as goal
 
 pub returns : goal.returns
-returns c = record { world = λ plan round is lasted. world_of_end plan is round lasted }
+returns c = record { world = world_of_end }

@@ -2,22 +2,22 @@ use Rattle.rounds.proofs.Turns.{some_round, one_round, round_opening, round_whol
 use Rattle.rounds.proofs.laws.rounds_follow_each_other.Goals as goal
 
 pub returns-clause-some : goal.returns-clause-some
-returns-clause-some c = λ plan round is. some_round plan is round
+returns-clause-some c = some_round
 
 pub returns-clause-one : goal.returns-clause-one
-returns-clause-one c = λ plan round w v first second is. one_round plan is round w v first second
+returns-clause-one c = one_round
 
 pub returns-clause-opening : goal.returns-clause-opening
 returns-clause-opening c = round_opening
 
 pub returns-clause-whole : goal.returns-clause-whole
-returns-clause-whole c = λ plan round w first is here. round_whole plan is round w here.world
+returns-clause-whole c = round_whole
 
 pub returns-clause-horizons : goal.returns-clause-horizons
-returns-clause-horizons c = λ plan round w first between shortest. round_horizons plan round w first between shortest
+returns-clause-horizons c = round_horizons
 
 pub returns-clause-numbers : goal.returns-clause-numbers
-returns-clause-numbers c = λ plan round first w is. round_number plan is round first w
+returns-clause-numbers c = round_number
 
 pub returns-clause-past : goal.returns-clause-past
 returns-clause-past c = bound_past
