@@ -24,7 +24,7 @@ use Rattle.windows.proofs.Released.{rising_mapped}
 use Rattle.windows.proofs.Sorting.{IsLess}
 use Rattle.rounds.specs.Before.{RunsBefore, IsWorldBefore, AreRowsBefore}
 use Rattle.rounds.proofs.Until.{AreEarly, Until, schedule_until}
-use Rattle.rounds.proofs.Worlds.{one_world, sound_before}
+use Rattle.rounds.proofs.Worlds.{sound_before}
 
 pub rising_last : {A : Type 0} (before : A → A → Type 0) (xs ys : List A) → IsRising before (xs ++ ys) → IsRising before ys
 rising_last before [] ys up = up

@@ -34,7 +34,7 @@ use Rattle.rounds.specs.Starts.{IsUpTo, IsFirstMoment, AreWindowsOfAll, IsRound}
 use Rattle.rounds.specs.Messages.{BeginsRound, IsWindowOfRound, IsLeastAfter, IsMessage, IsOneOf, Message, sender_of, all_events, AreOfAllOthers, IsLeastOfAll}
 use Rattle.rounds.proofs.AllWindows.{windows_in, numbers_in, windows_hold, differ_in, included, units, some_window}
 use Rattle.rounds.proofs.Pending.{late_windows, late_world}
-use Rattle.rounds.proofs.Reached.{IsLed, led}
+use Rattle.rounds.proofs.Reached.{led}
 use Rattle.rounds.proofs.Turns.{some_at, one_at, whole_at, some_after, whole_after, first_horizons, round_opening}
 
 -- ---- windows of different parts in one round

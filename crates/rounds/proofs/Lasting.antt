@@ -22,7 +22,7 @@ use Rattle.rounds.specs.Lots.{IsUnworn, HasLasted}
 use Rattle.rounds.proofs.Worlds.{opening_before}
 use Rattle.rounds.proofs.Bounded.{clear_before}
 use Rattle.rounds.proofs.Turns.{one_at, whole_at}
-use Rattle.rounds.proofs.Reached.{IsLed, led, some_run_to, run_to_in_time}
+use Rattle.rounds.proofs.Reached.{led, some_run_to, run_to_in_time}
 
 -- where nothing is left up to the end, the round's world is that before the moment after the end
 pub over_world : (plan : Plan) (is : IsPlan plan) (round : ℕ) (w : Cluster) (first : Option ℕ) → IsRound plan round w first → IsUpTo first (plan.setup.end + 1) → IsWorldBefore plan.setup (plan.setup.end + 1) w

@@ -1,6 +1,6 @@
 -- How far the run has come as a round begins: by a schedule of clear steps, which have handled in each part just what is before the
 -- moment up to which the part has run.
-use Rattle.std.proofs.Common.{◌≡◌, ◌⊎◌, ℕ, zero, suc, ◌+◌, ◌<◌, ◌≤◌, Bool, true, List, [], ◌∷◌, ◌++◌, Option, Some, None, append_assoc, ap, ◌∙◌, sym, subst, refl, arith}
+use Rattle.std.proofs.Common.{◌≡◌, ℕ, zero, suc, ◌+◌, ◌<◌, ◌≤◌, Bool, true, List, [], ◌∷◌, ◌++◌, Option, append_assoc, ap, ◌∙◌, sym, subst, refl, arith}
 use Rattle.std.specs.Option.{is_some}
 use Rattle.std.specs.List.{AllByRecursion}
 use Rattle.std.proofs.lemmas.Bool.{eqb-true}
@@ -15,14 +15,14 @@ use Rattle.member.specs.Opening.{opening}
 use Rattle.member.specs.Step.{step}
 use Rattle.member_laws.specs.Runs.{Cluster, IsSoundCluster}
 use Rattle.windows.specs.Schedule.{Schedule}
-use Rattle.windows.specs.Horizon.{Walk, length_of}
+use Rattle.windows.specs.Horizon.{length_of}
 use Rattle.windows.specs.Parts.{Window, IsWindowOfItsPart, PartRun, part_of, is_in, all_keys, all_rows}
-use Rattle.windows.specs.Cluster.{IsClearOf, IsPeopled, IsWholeCluster, link_delay}
+use Rattle.windows.specs.Cluster.{IsClearOf, IsWholeCluster, link_delay}
 use Rattle.windows.proofs.Members.{keeps_delays}
 use Rattle.windows.proofs.Outs.{IsFrom, from_after, handled_from}
 use Rattle.windows.proofs.Wholes.{pending_in}
 use Rattle.rounds.specs.Plan.{Plan, IsPlan, bound_of}
-use Rattle.rounds.specs.Starts.{IsFirstMoment, IsRoundWorld, IsRound, HasRunTo}
+use Rattle.rounds.specs.Starts.{IsRoundWorld, IsRound, HasRunTo}
 use Rattle.rounds.proofs.Turns.{bound_in_time, bound_upto, some_at, one_at, whole_at, leads_on, pends_past, bound_grows}
 
 -- A schedule of clear steps leads from the opening to this world. In each part it has handled nothing from the moment on up to which the

@@ -14,7 +14,7 @@ use Rattle.member.specs.Step.{step}
 use Rattle.member_laws.specs.Runs.{Cluster, IsSoundCluster}
 use Rattle.windows.specs.Schedule.{Schedule}
 use Rattle.windows.specs.Horizon.{Walk, AreHorizons, length_of}
-use Rattle.windows.specs.Parts.{Window, IncludesPart, StandsAfter, all_keys, all_rows}
+use Rattle.windows.specs.Parts.{Window, StandsAfter, all_keys, all_rows}
 use Rattle.windows.specs.Cluster.{IsPeopled, IsClearOf, IsWholeCluster}
 use Rattle.windows.proofs.Division.{stands_once}
 use Rattle.windows.proofs.Horizons.{clear_windows, clear_none_left}
