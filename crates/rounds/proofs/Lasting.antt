@@ -1,48 +1,72 @@
 -- Where all parts have come to the end, the run has, and no counter is past its limit.
-use Rattle.std.proofs.Common.{◌≡◌, ℕ, ◌+◌, ◌<◌, cond, List, Option, None, ap, ◌∙◌, sym, refl, arith}
+use Rattle.std.proofs.Common.{◌≡◌, ℕ, ◌+◌, ◌<◌, cond, List, [], Option, None, ap, ◌∙◌, sym, refl, arith}
 use Rattle.std.specs.Option.{is_some}
 use Rattle.std.specs.Cmp.{nat_cmp_total}
 use Rattle.std.specs.FinMap.{get, nat_cmp-IsAntisymmetric}
 use Rattle.std.proofs.lemmas.Bool.{eq-eqb, ltb-true}
+use Rattle.std.proofs.lemmas.List.Elements.{All-from_recursion}
 use Rattle.base.specs.declared.key.Key.{Key}
 use Rattle.base.specs.World.{Run, IsOver}
-use Rattle.scenario.specs.Setup.{Setup, IsSound, member_count}
+use Rattle.base.proofs.Rising.{all_weaker}
+use Rattle.scenario.specs.Setup.{member_count}
 use Rattle.trace.specs.declared.row.Row.{Row}
 use Rattle.member.specs.Opening.{opening}
 use Rattle.member.specs.Step.{step}
 use Rattle.member_laws.specs.Runs.{Cluster}
 use Rattle.windows.specs.Parts.{part_of, is_in}
 use Rattle.windows.proofs.Cuts.{get_retained}
-use Rattle.rounds.specs.Starts.{IsOverBy}
+use Rattle.rounds.specs.Before.{IsWorldBefore}
+use Rattle.rounds.specs.Plan.{Plan, IsPlan}
+use Rattle.rounds.specs.Starts.{IsUpTo, IsRound, HasRunTo}
 use Rattle.rounds.specs.Lots.{IsUnworn, HasLasted}
-use Rattle.rounds.proofs.Worlds.{whole_before}
-use Rattle.rounds.proofs.Turns.{one_round}
+use Rattle.rounds.proofs.Worlds.{opening_before}
+use Rattle.rounds.proofs.Bounded.{clear_before}
+use Rattle.rounds.proofs.Turns.{one_at, whole_at}
+use Rattle.rounds.proofs.Reached.{led, some_run_to, run_to_in_time}
 
-pub over_by_part : (s : Setup) (d : Option ℕ) (division : ℕ → ℕ) (part round : ℕ) → HasLasted s d division part round → IsOverBy s d round
-over_by_part s d division part round lasted = (lasted.begins.start, lasted.begins.world, lasted.first, lasted.begins.in_round, lasted.past)
+-- where nothing is left up to the end, the round's world is that before the moment after the end
+pub over_world : (plan : Plan) (is : IsPlan plan) (round : ℕ) (w : Cluster) (first : Option ℕ) → IsRound plan round w first → IsUpTo first (plan.setup.end + 1) → IsWorldBefore plan.setup (plan.setup.end + 1) w
+over_world plan is round w first begun past =
+    let to = led plan is round w begun.world in
+    clear_before plan.setup is.sound plan.division is.ways.between is.ways.lies 0 (plan.setup.end + 1) (opening plan.setup) w to.keys to.rows
+    ([], [], opening_before plan.setup 0 (λ q here. omega arith)) (omega arith) to.schedule
+    (All-from_recursion (λ (k : Key). k.at < plan.setup.end + 1) to.keys
+    (all_weaker (λ (k : Key). (t : ℕ) → HasRunTo plan round (plan.division k.to) t → k.at < t) (λ (k : Key). k.at < plan.setup.end + 1)
+    (λ k less.
+    let from = some_run_to plan is round (plan.division k.to) in
+    let sooner = less from.0 from.1 in
+    let high = run_to_in_time plan is round (plan.division k.to) from.0 from.1 in
+    omega (arith, sooner, high)) to.keys to.early))
+    ((begun.pends (plan.setup.end + 1)).1 past)
 
 -- a member's state in its part
 member_kept : (division : ℕ → ℕ) (u : Cluster) (m : ℕ) → get (part_of (is_in division (division m)) u).members m ≡ get u.members m
 member_kept division u m =
     get_retained nat_cmp_total nat_cmp-IsAntisymmetric (is_in division (division m)) u.members m ∙ ap (λ b. cond b (get u.members m) None) (eq-eqb (division m) (division m) refl)
 
-module _ (s : Setup) (d : Option ℕ) (division : ℕ → ℕ) (round : ℕ) (sound : IsSound s) (lasted : (m : ℕ) → m < member_count s → HasLasted s d division (division m) round) where
+module _ (plan : Plan) (is : IsPlan plan) (round : ℕ) (lasted : (m : ℕ) → m < member_count plan.setup → HasLasted plan (plan.division m) round) where
   -- the first member's part
-  abbrev one : HasLasted s d division (division 0) round
-  one = lasted 0 sound.members.0
+  abbrev one : HasLasted plan (plan.division 0) round
+  one = lasted 0 is.sound.members.0
 
   abbrev world : Cluster
   world = one.begins.world
 
-  over_there : IsOver s.end world
-  over_there q here = let past = (one.begins.in_round.pends (s.end + 1)).1 one.past q here in omega arith
+  over_there : IsOver plan.setup.end world
+  over_there q here = let past = (one.begins.in_round.pends (plan.setup.end + 1)).1 one.past q here in omega arith
 
   unworn_there : IsUnworn world
   unworn_there m t here =
-      let whole = whole_before s sound one.begins.start world one.begins.in_round.world in
-      let own = lasted m (ltb-true m (member_count s) (sym (whole.peopled m) ∙ ap is_some here)) in
-      let same = (one_round s sound d round own.begins.start one.begins.start own.begins.world world own.first one.first own.begins.in_round one.begins.in_round).1 in
-      own.unworn m t (ap (λ (x : Cluster). get x.members m) own.begins.cut ∙ member_kept division own.begins.world m ∙ ap (λ (x : Cluster). get x.members m) same ∙ here)
+      let whole = whole_at plan is round world one.begins.in_round.world in
+      let own = lasted m (ltb-true m (member_count plan.setup) (sym (whole.peopled m) ∙ ap is_some here)) in
+      let same = (one_at plan is round own.begins.world world own.first one.first own.begins.in_round one.begins.in_round).0 in
+      own.unworn m t (ap (λ (x : Cluster). get x.members m) own.begins.cut ∙ member_kept plan.division own.begins.world m ∙ ap (λ (x : Cluster). get x.members m) same ∙ here)
 
-  pub world_of_end : (keys : List Key) × (rows : List Row) × (w : Cluster) × Run (step s) s.end (opening s) keys rows w × IsOver s.end w × IsUnworn w
-  world_of_end = (one.begins.in_round.world.0, one.begins.in_round.world.1, world, one.begins.in_round.world.2.run, over_there, unworn_there)
+  end_there : (keys : List Key) × (rows : List Row) × (w : Cluster) × Run (step plan.setup) plan.setup.end (opening plan.setup) keys rows w × IsOver plan.setup.end w × IsUnworn w
+  end_there =
+      let before = over_world plan is round world one.first one.begins.in_round one.past in
+      (before.0, before.1, world, before.2.run, over_there, unworn_there)
+
+pub world_of_end : (plan : Plan) (round : ℕ) → IsPlan plan → ((m : ℕ) → m < member_count plan.setup → HasLasted plan (plan.division m) round)
+    → (keys : List Key) × (rows : List Row) × (w : Cluster) × Run (step plan.setup) plan.setup.end (opening plan.setup) keys rows w × IsOver plan.setup.end w × IsUnworn w
+world_of_end plan round is lasted = end_there plan is round lasted

@@ -1,6 +1,9 @@
 pub mod Until
 pub mod Worlds
 pub mod Bounded
+pub mod AllWindows
+pub mod OneWorld
+pub mod Reached
 pub mod Turns
 pub mod Pending
 pub mod Heard

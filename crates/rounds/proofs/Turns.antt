@@ -1,22 +1,31 @@
--- Rounds: there is one of each number, and one alone, and each starts later than the one before while something pends.
-use Rattle.std.proofs.Common.{◌≡◌, ℕ, zero, suc, ◌+◌, ◌<◌, ◌≤◌, Bool, true, false, nat_lt, List, [], ◌∷◌, Option, Some, None, ap, ◌∙◌, sym, subst, refl, arith}
-use Rattle.std.specs.Option.{IfSome, is_some}
-use Rattle.std.specs.FinMap.{entries, get-entries, find}
-use Rattle.std.proofs.lemmas.Bool.{false≢true, ltb-true, ltb-false}
+-- Rounds: there is one of each number, and one alone, in a whole cluster. Their bounds are horizons, and grow from round to round.
+use Rattle.std.proofs.Common.{◌≡◌, ℕ, zero, suc, ◌+◌, ◌<◌, ◌≤◌, min, List, [], ◌∷◌, Option, Some, None, ap, ◌∙◌, sym, subst, refl, arith}
+use Rattle.std.specs.Option.{is_some}
+use Rattle.std.specs.FinMap.{entries, get, contains_key, get-entries, find}
+use Rattle.std.proofs.lemmas.Bool.{false≢true}
 use Rattle.base.specs.declared.key.Key.{Key}
 use Rattle.base.specs.Order.{key_cmp, moments-from_not_before}
 use Rattle.base.specs.World.{IsPending}
 use Rattle.base.specs.Run.{first-from_entries}
-use Rattle.scenario.specs.Setup.{Setup, IsSound}
 use Rattle.trace.specs.declared.row.Row.{Row}
-use Rattle.worker_queue.specs.Queue.{NoneIsBelow}
 use Rattle.member.specs.declared.content.Content.{Content}
-use Rattle.member.specs.Opening.{opening}
-use Rattle.member_laws.specs.Runs.{Cluster, IsRunOf}
-use Rattle.windows.specs.Parts.{IsCommonBound}
-use Rattle.rounds.specs.Before.{IsWorldBefore, AreRowsBefore}
-use Rattle.rounds.specs.Starts.{IsUpTo, IsFirstMoment, round_bound, IsRoundStart, IsRound}
-use Rattle.rounds.proofs.Worlds.{opening_before, over_before, some_world, one_world}
+use Rattle.member.specs.State.{State}
+use Rattle.member.specs.Step.{step}
+use Rattle.member_laws.specs.Runs.{Cluster, IsSoundCluster}
+use Rattle.windows.specs.Schedule.{Schedule}
+use Rattle.windows.specs.Horizon.{Walk, AreHorizons, length_of}
+use Rattle.windows.specs.Parts.{Window, StandsAfter, all_keys, all_rows}
+use Rattle.windows.specs.Cluster.{IsPeopled, IsClearOf, IsWholeCluster}
+use Rattle.windows.proofs.Division.{stands_once}
+use Rattle.windows.proofs.Horizons.{clear_windows, clear_none_left}
+use Rattle.windows.proofs.Members.{receiver_low, numbered_by}
+use Rattle.windows.proofs.PartRuns.{members_settled}
+use Rattle.rounds.specs.Before.{IsWorldBefore}
+use Rattle.rounds.specs.Plan.{Plan, IsPlan, bound_of}
+use Rattle.rounds.specs.Starts.{IsUpTo, IsFirstMoment, AreWindowsOfAll, IsRoundWorld, IsRound}
+use Rattle.rounds.proofs.AllWindows.{windows_at, are_at, below_at, all_at}
+use Rattle.rounds.proofs.OneWorld.{one_after}
+use Rattle.rounds.proofs.Worlds.{some_world, one_world, whole_before}
 
 -- ---- the first moment of a world
 
@@ -48,122 +57,163 @@ from_first w first is = (is first).1 (omega arith)
 pub none_at_all : (w : Cluster) → IsFirstMoment w None → (q : Key) → ¬ (IsPending w q)
 none_at_all w is q here = let h = (is (q.at + 1)).1 tt q here in absurd (omega arith)
 
--- ---- the bound of a round
+-- ---- the bounds of a round
 
-module _ (end : ℕ) where
-  pub bound_in_time : (d first : Option ℕ) → round_bound end d first ≤ end + 1
-  bound_in_time d None = omega arith
-  bound_in_time None (Some first) = omega arith
-  bound_in_time (Some delay) (Some first) = omega arith
+pub bound_in_time : (plan : Plan) (first : Option ℕ) (part : ℕ) → bound_of plan first part ≤ plan.setup.end + 1
+bound_in_time plan None part = omega arith
+bound_in_time plan (Some first) part = omega arith
 
-  pub bound_near : (d : Option ℕ) (w : Cluster) (first : Option ℕ) → IsFirstMoment w first → IfSome d (λ d. (q : Key) → IsPending w q → round_bound end (Some d) first ≤ q.at + d)
-  bound_near None w first is = tt
-  bound_near (Some d) w None is = λ q here. absurd (none_at_all w is q here)
-  bound_near (Some d) w (Some first) is = λ q here. let low = from_first w first is q here in omega arith
+-- it is past what nothing pends before
+pub bound_upto : (plan : Plan) (first : Option ℕ) (part t : ℕ) → t ≤ plan.setup.end + 1 → IsUpTo first t → t ≤ bound_of plan first part
+bound_upto plan None part t low upto = low
+bound_upto plan (Some first) part t low upto = omega arith
 
-  near_again : (d : Option ℕ) (w : Cluster) (first : Option ℕ) → IfSome d (λ d. (q : Key) → IsPending w q → round_bound end (Some d) first ≤ q.at + d)
-      → IfSome d (λ e. (q : Key) → IsPending w q → round_bound end d first ≤ q.at + e)
-  near_again None w first near = tt
-  near_again (Some d) w first near = near
+-- and past the first moment that pends, where that is no later than the end
+pub bound_past : (plan : Plan) (first part : ℕ) → IsPlan plan → first ≤ plan.setup.end → first < bound_of plan (Some first) part
+bound_past plan first part is low = let some = is.ways.some part in omega arith
 
-  pub bound_common : (d : Option ℕ) (w : Cluster) (first : Option ℕ) → IsFirstMoment w first → IsCommonBound end d w (round_bound end d first)
-  bound_common d w first is = record { in_time = bound_in_time d first; near = near_again d w first (bound_near d w first is) }
+pub round_opening : (plan : Plan) (w : Cluster) (first : Option ℕ) → IsWorldBefore plan.setup plan.since w → IsFirstMoment w first → IsRound plan 0 w first
+round_opening plan w first world pends = record { world = world; pends = pends }
 
-  -- it is past what nothing pends before
-  pub bound_past : (d first : Option ℕ) (t : ℕ) → t ≤ end + 1 → IsUpTo first t → t ≤ round_bound end d first
-  bound_past d None t low upto = low
-  bound_past None (Some first) t low upto = low
-  bound_past (Some d) (Some first) t low upto = omega arith
+-- No walk from what pends reaches a part before its bound.
+pub first_horizons : (plan : Plan) (w : Cluster) (first : Option ℕ) (between : ℕ → ℕ → ℕ)
+    → ((from to : ℕ) (walk : Walk (IsPeopled plan.setup plan.division) from to) → plan.way_into to ≤ length_of between walk)
+    → IsFirstMoment w first → AreHorizons plan.setup.end plan.division (IsPeopled plan.setup plan.division) between (bound_of plan first) w
+first_horizons plan w first between shortest pends = record { in_time = bound_in_time plan first; clear = λ part q here walk. clear first pends part q here walk }
+  where
+    clear : (first : Option ℕ) → IsFirstMoment w first → (part : ℕ) (q : Key) → IsPending w q → (walk : Walk (IsPeopled plan.setup plan.division) (plan.division q.to) part)
+        → bound_of plan first part ≤ q.at + length_of between walk
+    clear None pends part q here walk = absurd (none_at_all w pends q here)
+    clear (Some first) pends part q here walk =
+        further (plan.way_into part) (length_of between walk) (shortest (plan.division q.to) part walk) (from_first w first pends q here)
+      where
+        further : (way length : ℕ) → way ≤ length → first ≤ q.at → min (first + way) (plan.setup.end + 1) ≤ q.at + length
+        further way length short low = omega arith
 
-  -- and later, where it is not the moment after the end
-  pub bound_later : (d first : Option ℕ) (t : ℕ) → IfSome d (λ d. 0 < d) → IsUpTo first t → round_bound end d first ≤ end → t < round_bound end d first
-  bound_later d None t some upto low = absurd (omega arith)
-  bound_later None (Some first) t some upto low = absurd (omega arith)
-  bound_later (Some d) (Some first) t some upto low = omega (arith, some)
+pub round_horizons : (plan : Plan) (round : ℕ) (w : Cluster) (first : Option ℕ) (between : ℕ → ℕ → ℕ)
+    → ((from to : ℕ) (walk : Walk (IsPeopled plan.setup plan.division) from to) → plan.way_into to ≤ length_of between walk)
+    → IsRound plan round w first → AreHorizons plan.setup.end plan.division (IsPeopled plan.setup plan.division) between (bound_of plan first) w
+round_horizons plan round w first between shortest is = first_horizons plan w first between shortest is.pends
 
-  pub bound_further : (d : Option ℕ) (first t : ℕ) → IfSome d (λ d. 0 < d) → t ≤ first → first ≤ end → t < round_bound end d (Some first)
-  bound_further None first t some upto low = omega arith
-  bound_further (Some d) first t some upto low = omega (arith, some)
+module _ (plan : Plan) (is : IsPlan plan) where
+  abbrev Leads : Cluster → List Key → List Row → Cluster → Type 0
+  Leads u keys rows v = Schedule (step plan.setup) (IsClearOf plan.setup plan.division is.ways.between) u keys rows v
 
--- ---- rounds
+  same_people : (ks : List Key) (w v : Cluster) (rows : List Row) → Leads w ks rows v → (m : ℕ) → contains_key v.members m ≡ contains_key w.members m
+  same_people [] w v rows run m = ap (λ (u : Cluster). contains_key u.members m) run.0
+  same_people (k ∷ ks) w v rows run m =
+      same_people ks run.0 v run.2 run.4 m ∙ ap (λ (u : Cluster). contains_key u.members m) run.3.world
+      ∙ members_settled (step plan.setup) w k run.3.content (get w.members k.to) refl m
 
-pub opening_round : (s : Setup) (d first : Option ℕ) → IsFirstMoment (opening s) first → IsRound s d 0 0 (opening s) first
-opening_round s d first is = record { starts = refl; world = ([], [], opening_before s 0 (λ q here. omega arith)); pends = is }
+  -- ---- from round to round
 
-pub next_start : (s : Setup) (d : Option ℕ) (round start : ℕ) (w : Cluster) (first : Option ℕ) → IsRound s d round start w first → IsRoundStart s d (round + 1) (round_bound s.end d first)
-next_start s d round start w first is =
-    let same : suc round ≡ round + 1 = omega arith in
-    subst (λ n. IsRoundStart s d n (round_bound s.end d first)) same (start, w, first, is.starts, is.world, is.pends, refl)
+  module _ (u : Cluster) (whole : IsWholeCluster plan.setup u) (first : Option ℕ) (pends : IsFirstMoment u first) (windows : List (Window State Content Row)) (are : AreWindowsOfAll plan first u windows) where
+    pub horizons_here : AreHorizons plan.setup.end plan.division (IsPeopled plan.setup plan.division) is.ways.between (bound_of plan first) u
+    horizons_here = first_horizons plan u first is.ways.between is.ways.shortest pends
 
-pub start_in_time : (s : Setup) (d : Option ℕ) (round start : ℕ) → IsRoundStart s d round start → start ≤ s.end + 1
-start_in_time s d zero start is = omega (arith, is)
-start_in_time s d (suc before) start is = let low = bound_in_time s.end d is.2 in let same = is.6 in omega (arith, low, same)
+    -- there is a world to which the windows of all parts lead
+    there : (v : Cluster) × Leads u (all_keys windows) (all_rows windows) v × StandsAfter plan.division u windows v × IsSoundCluster plan.setup v
+    there = clear_windows plan.setup plan.division is.ways.between (bound_of plan first) u windows is.sound is.ways.lies whole.sound horizons_here are.windows
 
--- just before its start nothing pends in its world
-upto_start : (s : Setup) (t : ℕ) (w : Cluster) (first : Option ℕ) → IsWorldBefore s t w → IsFirstMoment w first → IsUpTo first t
-upto_start s t w first before is = (is t).0 before.2.none
+    pub some_after : (v : Cluster) × StandsAfter plan.division u windows v
+    some_after = (there.0, there.2)
 
-pub round_common : (s : Setup) (d : Option ℕ) (round start : ℕ) (w : Cluster) (first : Option ℕ) → IsRound s d round start w first
-    → IsCommonBound s.end d w (round_bound s.end d first) × (start ≤ round_bound s.end d first)
-round_common s d round start w first is = (
-  bound_common s.end d w first is.pends,
-  bound_past s.end d first start (start_in_time s d round start is.starts) (upto_start s start w first is.world is.pends),
-)
+    module _ (v : Cluster) (stands : StandsAfter plan.division u windows v) where
+      same_there : there.0 ≡ v
+      same_there = stands_once plan.division u there.0 v windows there.2 stands
 
-pub round_over : (s : Setup) (d : Option ℕ) (round start : ℕ) (w : Cluster) (first : Option ℕ) (rows : List Row) → IsSound s → IsRound s d round start w first → IsUpTo first (s.end + 1)
-    → AreRowsBefore s start rows → IsRunOf s rows
-round_over s d round start w first rows sound is past known =
-    let same : w ≡ known.1 = one_world s sound start w known.1 is.world (known.0, rows, known.2) in
-    over_before s start known.0 rows known.1 known.2 (subst (λ (u : Cluster). NoneIsBelow u.pending (s.end + 1)) same ((is.pends (s.end + 1)).1 past))
+      pub leads_on : Leads u (all_keys windows) (all_rows windows) v
+      leads_on = subst (Leads u (all_keys windows) (all_rows windows)) same_there there.1
 
-module _ (s : Setup) (sound : IsSound s) (d : Option ℕ) where
-  pub one_start : (round start other : ℕ) → IsRoundStart s d round start → IsRoundStart s d round other → start ≡ other
-  one_start zero start other a b = a ∙ sym b
-  one_start (suc before) start other a b =
-      let from : a.0 ≡ b.0 = one_start before a.0 b.0 a.3 b.3 in
-      let world : a.1 ≡ b.1 = one_world s sound b.0 a.1 b.1 (subst (λ t. IsWorldBefore s t a.1) from a.4) b.4 in
-      let first : a.2 ≡ b.2 = one_first b.1 a.2 b.2 (subst (λ w. IsFirstMoment w a.2) world a.5) b.5 in
-      a.6 ∙ ap (round_bound s.end d) first ∙ sym b.6
+      sound_there : IsSoundCluster plan.setup v
+      sound_there = subst (IsSoundCluster plan.setup) same_there there.3
 
-  pub one_round : (round start other : ℕ) (w v : Cluster) (first second : Option ℕ) → IsRound s d round start w first → IsRound s d round other v second → (start ≡ other) × (w ≡ v) × (first ≡ second)
-  one_round round start other w v first second a b =
-      let from : start ≡ other = one_start round start other a.starts b.starts in
-      let world : w ≡ v = one_world s sound other w v (subst (λ t. IsWorldBefore s t w) from a.world) b.world in
-      (from, world, one_first v first second (subst (λ x. IsFirstMoment x first) world a.pends) b.pends)
+      pub whole_after : IsWholeCluster plan.setup v
+      whole_after = record {
+        sound = sound_there;
+        numbered = numbered_by plan.setup (IsClearOf plan.setup plan.division is.ways.between) u v (all_keys windows) (all_rows windows) is.sound whole.numbered leads_on;
+        peopled = λ m. same_people (all_keys windows) u v (all_rows windows) leads_on m ∙ whole.peopled m;
+      }
 
-  -- a start has a round
-  pub round_at : (round start : ℕ) → IsRoundStart s d round start → (w : Cluster) × (first : Option ℕ) × IsRound s d round start w first
-  round_at round start is =
-      let world = some_world s sound start (start_in_time s d round start is) in
+      -- nothing before its part's bound pends
+      pub pends_past : (q : Key) → IsPending v q → bound_of plan first (plan.division q.to) ≤ q.at
+      pends_past q here =
+          clear_none_left plan.setup plan.division is.ways.between is.sound is.ways.lies (bound_of plan first) u whole.sound horizons_here windows v are.windows stands q here
+          (are.all (plan.division q.to) (is.below q.to (receiver_low plan.setup v q (get v.pending q) sound_there refl here)))
+
+      -- so the bounds grow
+      pub bound_grows : (next : Option ℕ) → IsFirstMoment v next → (part : ℕ) → bound_of plan first part ≤ bound_of plan next part
+      bound_grows next after part = by_moments first next (λ q here. pends_past q here) after
+        where
+          by_moments : (first next : Option ℕ) → ((q : Key) → IsPending v q → bound_of plan first (plan.division q.to) ≤ q.at) → IsFirstMoment v next → bound_of plan first part ≤ bound_of plan next part
+          by_moments first None past after = bound_in_time plan first part
+          by_moments None (Some next) past after = let late = (after (plan.setup.end + 1)).0 past in omega arith
+          by_moments (Some first) (Some next) past after =
+              let late = (after (min first (plan.setup.end + 1))).0 (λ q here. let h = past q here in omega arith) in
+              omega arith
+
+  pub whole_at : (round : ℕ) (w : Cluster) → IsRoundWorld plan round w → IsWholeCluster plan.setup w
+  whole_at zero w world = whole_before plan.setup is.sound plan.since w world
+  whole_at (suc before) w world = whole_after world.0 (whole_at before world.0 world.3) world.1 world.4 world.2 world.5 w world.6
+
+  pub one_world_at : (round : ℕ) (w v : Cluster) → IsRoundWorld plan round w → IsRoundWorld plan round v → w ≡ v
+  one_world_at zero w v a b = one_world plan.setup is.sound plan.since w v a b
+  one_world_at (suc before) w v a b =
+      let same : a.0 ≡ b.0 = one_world_at before a.0 b.0 a.3 b.3 in
+      let first : a.1 ≡ b.1 = one_first b.0 a.1 b.1 (subst (λ (u : Cluster). IsFirstMoment u a.1) same a.4) b.4 in
+      let are : AreWindowsOfAll plan b.1 b.0 a.2 = subst (λ f. AreWindowsOfAll plan f b.0 a.2) first (subst (λ (u : Cluster). AreWindowsOfAll plan a.1 u a.2) same a.5) in
+      let stands : StandsAfter plan.division b.0 a.2 w = subst (λ (u : Cluster). StandsAfter plan.division u a.2 w) same a.6 in
+      one_after plan.setup is.sound plan.division (bound_of plan b.1) b.0 (whole_at before b.0 b.3).numbered plan.parts a.2 b.2 are.windows b.5.windows are.named b.5.named are.all b.5.all w v stands b.6
+
+  pub one_at : (round : ℕ) (w v : Cluster) (first second : Option ℕ) → IsRound plan round w first → IsRound plan round v second → (w ≡ v) × (first ≡ second)
+  one_at round w v first second a b =
+      let same : w ≡ v = one_world_at round w v a.world b.world in
+      (same, one_first v first second (subst (λ (u : Cluster). IsFirstMoment u first) same a.pends) b.pends)
+
+  pub some_at : (round : ℕ) → (w : Cluster) × (first : Option ℕ) × IsRound plan round w first
+  some_at zero =
+      let world = some_world plan.setup is.sound plan.since is.in_time in
       let first = some_first world.0 in
-      (world.0, first.0, record { starts = is; world = world.1; pends = first.1 })
+      (world.0, first.0, record { world = world.1; pends = first.1 })
+  some_at (suc before) =
+      let from = some_at before in
+      let windows = windows_at plan.setup is.sound plan.division from.0 (bound_of plan from.1) plan.parts in
+      let are : AreWindowsOfAll plan from.1 from.0 windows = record {
+        windows = are_at plan.setup is.sound plan.division from.0 (bound_of plan from.1) plan.parts;
+        named = below_at plan.setup is.sound plan.division from.0 (bound_of plan from.1) plan.parts;
+        all = all_at plan.setup is.sound plan.division from.0 (bound_of plan from.1) plan.parts;
+      } in
+      let after = some_after from.0 (whole_at before from.0 from.2.world) from.1 from.2.pends windows are in
+      let first = some_first after.0 in
+      (after.0, first.0, record { world = (from.0, from.1, windows, from.2.world, from.2.pends, are, after.1); pends = first.1 })
 
-  pub some_start : (round : ℕ) → (start : ℕ) × IsRoundStart s d round start
-  some_start zero = (0, refl)
-  some_start (suc before) =
-      let from = some_start before in
-      let is = round_at before from.0 from.1 in
-      (round_bound s.end d is.1, (from.0, is.0, is.1, is.2.starts, is.2.world, is.2.pends, refl))
-
-  pub some_round : (round : ℕ) → (start : ℕ) × (w : Cluster) × (first : Option ℕ) × IsRound s d round start w first
-  some_round round = let from = some_start round in let is = round_at round from.0 from.1 in (from.0, is.0, is.1, is.2)
-
-module _ (s : Setup) (d : Option ℕ) (some : IfSome d (λ d. 0 < d)) where
-  pub round_later : (round start first : ℕ) (w : Cluster) → IsRound s d round start w (Some first) → first ≤ s.end → start < round_bound s.end d (Some first)
-  round_later round start first w is low = bound_further s.end d first start some (upto_start s start w (Some first) is.world is.pends) low
-
-  -- a start up to the end is no less than its round's number
-  low_start : (round start : ℕ) → IsRoundStart s d round start → start ≤ s.end → round ≤ start
-  low_start zero start is low = omega arith
-  low_start (suc before) start is low =
-      let more : is.0 < round_bound s.end d is.2 = bound_later s.end d is.2 is.0 some (upto_start s is.0 is.1 is.2 is.4 is.5) (omega (arith, is.6, low)) in
-      let same = is.6 in
-      let rest : before ≤ is.0 = low_start before is.0 is.3 (omega (arith, more, same, low)) in
-      omega (arith, more, same, rest)
-
-  pub start_over : (round start : ℕ) → IsRoundStart s d round start → s.end < round → s.end < start
-  start_over round start is past = by_test (nat_lt s.end start) refl
+  -- while something pends up to the end, a round's number is no more than the first moment that pends
+  pub number_at : (round first : ℕ) (w : Cluster) → IsRound plan round w (Some first) → first ≤ plan.setup.end → round ≤ first
+  number_at zero first w round low = omega arith
+  number_at (suc before) first w round low =
+      let world = round.world in
+      by_first world.1 (λ f from soon. number_at before f round.world.0 from soon) (record { world = world.3; pends = world.4 })
+      (λ q here. pends_past world.0 (whole_at before world.0 world.3) world.1 world.4 world.2 world.5 w world.6 q here)
     where
-      by_test : (b : Bool) → nat_lt s.end start ≡ b → s.end < start
-      by_test true h = ltb-true s.end start h
-      by_test false h = let low = ltb-false s.end start h in let more = low_start round start is low in absurd (omega (arith, more, low, past))
+      by_first : (f : Option ℕ) → ((g : ℕ) → IsRound plan before round.world.0 (Some g) → g ≤ plan.setup.end → before ≤ g) → IsRound plan before round.world.0 f
+          → ((q : Key) → IsPending w q → bound_of plan f (plan.division q.to) ≤ q.at) → suc before ≤ first
+      by_first None rest from past = let late = (round.pends (plan.setup.end + 1)).0 past in absurd (omega arith)
+      by_first (Some f) rest from past =
+          let late = (round.pends (min (f + 1) (plan.setup.end + 1))).0 (λ q here. let h = past q here in let some = is.ways.some (plan.division q.to) in omega arith) in
+          let sooner : f < first = omega arith in
+          let more : before ≤ f = rest f from (omega arith) in
+          omega arith
+
+-- ---- the laws
+
+pub some_round : (plan : Plan) (round : ℕ) → IsPlan plan → (w : Cluster) × (first : Option ℕ) × IsRound plan round w first
+some_round plan round is = some_at plan is round
+
+pub one_round : (plan : Plan) (round : ℕ) (w v : Cluster) (first second : Option ℕ) → IsPlan plan → IsRound plan round w first → IsRound plan round v second → (w ≡ v) × (first ≡ second)
+one_round plan round w v first second is a b = one_at plan is round w v first second a b
+
+pub round_whole : (plan : Plan) (round : ℕ) (w : Cluster) (first : Option ℕ) → IsPlan plan → IsRound plan round w first → IsWholeCluster plan.setup w
+round_whole plan round w first is begun = whole_at plan is round w begun.world
+
+pub round_number : (plan : Plan) (round first : ℕ) (w : Cluster) → IsPlan plan → IsRound plan round w (Some first) → first ≤ plan.setup.end → round ≤ first
+round_number plan round first w is begun low = number_at plan is round first w begun low

@@ -1,5 +1,5 @@
--- The rows of the parts of a cluster, round after round.
-use Rattle.std.specs.Prelude.{◌≡◌, ◌≢◌, ℕ, ◌+◌, ◌<◌, List, ◌++◌, Option, Some}
+-- The rows of the parts of a cluster, from one moment up to another.
+use Rattle.std.specs.Prelude.{◌≡◌, ◌≢◌, ℕ, ◌+◌, ◌<◌, ◌≤◌, nat_lt, nat_le, ◌&&◌, Bool, List, Option, Some}
 use Rattle.std.specs.List.{AllByRecursion, filter, flat_map}
 use Rattle.std.specs.FinMap.{get}
 use Rattle.base.specs.Rising.{IsRising}
@@ -7,30 +7,24 @@ use Rattle.scenario.specs.Setup.{Setup, member_count}
 use Rattle.trace.specs.declared.row.Row.{Row}
 use Rattle.member.specs.State.{State}
 use Rattle.member.specs.Worn.{IsWorn}
-use Rattle.member_laws.specs.Runs.{Cluster}
+use Rattle.member_laws.specs.Runs.{Cluster, IsRunOf}
 use Rattle.windows.specs.Parts.{is_in}
-use Rattle.rounds.specs.Before.{AreRowsBefore}
-use Rattle.rounds.specs.Starts.{IsUpTo, IsRoundStart}
+use Rattle.rounds.specs.Plan.{Plan}
+use Rattle.rounds.specs.Starts.{IsUpTo}
 use Rattle.rounds.specs.Messages.{IsOneOf, BeginsRound}
 
--- what the run writes from the start of one round to the start of another
-pub record AreRowsBetween (s : Setup) (delay : Option ℕ) (since until : ℕ) (rows : List Row) : Type 0 where
-  pub from : ℕ
-  pub to : ℕ
-  pub before : List Row
-  pub starts : IsRoundStart s delay since from
-  pub ends : IsRoundStart s delay until to
-  pub known : AreRowsBefore s from before
-  pub together : AreRowsBefore s to (before ++ rows)
+-- a row of a part's members, from one moment on and before another
+abbrev pub is_within : (ℕ → ℕ) → ℕ → ℕ → ℕ → Row → Bool
+is_within division part from to row = is_in division part row.member && (nat_le from row.at && nat_lt row.at to)
 
--- of these rows those of a part's members
-abbrev pub rows_of_part : (ℕ → ℕ) → ℕ → List Row → List Row
-rows_of_part division part rows = filter (λ (row : Row). is_in division part row.member) rows
-
--- A lot of a part: of what the run writes in the rounds from one up to another, not with that, the rows of the part's
--- members.
-abbrev pub IsLot : Setup → Option ℕ → (ℕ → ℕ) → ℕ → ℕ → ℕ → List Row → Type 0
-IsLot s delay division part since until rows = (between : List Row) × AreRowsBetween s delay since until between × (rows ≡ rows_of_part division part between)
+-- A lot of a part: of the rows of the scenario's run those of the part's members from one moment on and before another, which
+-- is no later than the moment after the end.
+pub record IsLot (s : Setup) (division : ℕ → ℕ) (part from to : ℕ) (rows : List Row) : Type 0 where
+  pub ordered : from ≤ to
+  pub in_time : to ≤ s.end + 1
+  pub run : List Row
+  pub is_run : IsRunOf s run
+  pub same : rows ≡ filter (is_within division part from to) run
 
 -- rows that came from a part
 pub record PartRows : Type 0 where
@@ -44,9 +38,9 @@ writer_of lot = lot.part
 abbrev pub every_row : List PartRows → List Row
 every_row = flat_map (λ (lot : PartRows). lot.rows)
 
--- Lots of the same rounds, one of each part with members.
-pub record AreLotsOfAll (s : Setup) (delay : Option ℕ) (division : ℕ → ℕ) (since until : ℕ) (lots : List PartRows) : Type 0 where
-  pub each : AllByRecursion (λ (lot : PartRows). IsLot s delay division lot.part since until lot.rows) lots
+-- Lots from one moment up to another, one of each part with members.
+pub record AreLotsOfAll (s : Setup) (division : ℕ → ℕ) (from to : ℕ) (lots : List PartRows) : Type 0 where
+  pub each : AllByRecursion (λ (lot : PartRows). IsLot s division lot.part from to lot.rows) lots
   pub different : IsRising (λ (a b : PartRows). a.part ≢ b.part) lots
   pub complete : (m : ℕ) → m < member_count s → IsOneOf writer_of lots (division m)
 
@@ -58,9 +52,9 @@ IsUnworn p = (m : ℕ) (t : State) → get p.members m ≡ Some t → ¬ (IsWorn
 
 -- A part has come to the end: nothing is left anywhere up to the end as a round of that number begins, and no counter of the
 -- part's members is past its limit.
-pub record HasLasted (s : Setup) (delay : Option ℕ) (division : ℕ → ℕ) (part round : ℕ) : Type 0 where
+pub record HasLasted (plan : Plan) (part round : ℕ) : Type 0 where
   pub last : Cluster
   pub first : Option ℕ
-  pub begins : BeginsRound s delay division part round first last
-  pub past : IsUpTo first (s.end + 1)
+  pub begins : BeginsRound plan part round first last
+  pub past : IsUpTo first (plan.setup.end + 1)
   pub unworn : IsUnworn last

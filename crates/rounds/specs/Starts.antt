@@ -1,17 +1,15 @@
--- Rounds: in each, all parts run their windows below one bound, which is the next round's start.
-use Rattle.std.specs.Prelude.{◌≡◌, ◌↔◌, ℕ, zero, suc, ◌+◌, ◌<◌, ◌≤◌, Option, Some, None}
-use Rattle.scenario.specs.Setup.{Setup, member_count}
+-- Rounds: in each, every part runs its window below a bound of its own, and the events that went out come to their parts.
+use Rattle.std.specs.Prelude.{◌≡◌, ◌↔◌, ℕ, zero, suc, ◌<◌, ◌≤◌, List, Option, Some, None}
+use Rattle.std.specs.List.{AllByRecursion}
+use Rattle.trace.specs.declared.row.Row.{Row}
 use Rattle.worker_queue.specs.Queue.{NoneIsBelow}
+use Rattle.member.specs.declared.content.Content.{Content}
+use Rattle.member.specs.State.{State}
+use Rattle.member.specs.Step.{step}
 use Rattle.member_laws.specs.Runs.{Cluster}
-use Rattle.windows.specs.Choosing.{safe_bound}
-use Rattle.windows.specs.Cluster.{LiesBetween}
+use Rattle.windows.specs.Parts.{Window, AreWindowsOfDifferentParts, IncludesPart, StandsAfter}
 use Rattle.rounds.specs.Before.{IsWorldBefore}
-
--- A delay that lies between the parts: more than 0, and no more than that of any link between members of different parts.
--- Where it is None, no two members have different parts.
-abbrev pub LiesBetweenParts : Setup → (ℕ → ℕ) → Option ℕ → Type 0
-LiesBetweenParts s division None = (i j : ℕ) → i < member_count s → j < member_count s → division i ≡ division j
-LiesBetweenParts s division (Some delay) = (0 < delay) × LiesBetween s division (λ from to. delay)
+use Rattle.rounds.specs.Plan.{Plan, bound_of}
 
 -- no later than that moment, where there is one
 abbrev pub IsUpTo : Option ℕ → ℕ → Type 0
@@ -22,25 +20,26 @@ IsUpTo (Some at) t = t ≤ at
 abbrev pub IsFirstMoment : Cluster → Option ℕ → Type 0
 IsFirstMoment w first = (t : ℕ) → NoneIsBelow w.pending t ↔ IsUpTo first t
 
--- The bound of a round, where this is the first moment that pends: as far past it as any event takes to another part, and
--- no later than the moment after the end.
-abbrev pub round_bound : ℕ → Option ℕ → Option ℕ → ℕ
-round_bound end delay None = end + 1
-round_bound end delay (Some first) = safe_bound end delay first
+-- The windows of all parts in a world, one of each, below their bounds where this is the first moment that pends.
+pub record AreWindowsOfAll (plan : Plan) (first : Option ℕ) (w : Cluster) (ds : List (Window State Content Row)) : Type 0 where
+  pub windows : AreWindowsOfDifferentParts (step plan.setup) plan.division (bound_of plan first) w ds
+  pub named : AllByRecursion (λ (d : Window State Content Row). d.part < plan.parts) ds
+  pub all : (part : ℕ) → part < plan.parts → IncludesPart ds part
 
--- The first round starts at 0, each other at the bound of the one before it.
-abbrev pub IsRoundStart : Setup → Option ℕ → ℕ → ℕ → Type 0
-IsRoundStart s delay zero start = start ≡ 0
-IsRoundStart s delay (suc before) start =
-    (from : ℕ) × (w : Cluster) × (first : Option ℕ) × IsRoundStart s delay before from × IsWorldBefore s from w × IsFirstMoment w first
-    × (start ≡ round_bound s.end delay first)
+-- The world in which a round begins: the first one in the world before the moment from which on the rounds go, each other in
+-- that to which the windows of all parts in the round before it lead.
+abbrev pub IsRoundWorld : Plan → ℕ → Cluster → Type 0
+IsRoundWorld plan zero w = IsWorldBefore plan.setup plan.since w
+IsRoundWorld plan (suc before) w =
+    (u : Cluster) × (first : Option ℕ) × (windows : List (Window State Content Row))
+    × IsRoundWorld plan before u × IsFirstMoment u first × AreWindowsOfAll plan first u windows × StandsAfter plan.division u windows w
 
--- A round of that number starts at this moment, in the world before it, and this is the first moment that pends there.
-pub record IsRound (s : Setup) (delay : Option ℕ) (round start : ℕ) (w : Cluster) (first : Option ℕ) : Type 0 where
-  pub starts : IsRoundStart s delay round start
-  pub world : IsWorldBefore s start w
+-- A round of that number begins in this world, and this is the first moment that pends there.
+pub record IsRound (plan : Plan) (round : ℕ) (w : Cluster) (first : Option ℕ) : Type 0 where
+  pub world : IsRoundWorld plan round w
   pub pends : IsFirstMoment w first
 
--- as a round of that number begins, nothing is left up to the end
-abbrev pub IsOverBy : Setup → Option ℕ → ℕ → Type 0
-IsOverBy s delay round = (start : ℕ) × (w : Cluster) × (first : Option ℕ) × IsRound s delay round start w first × IsUpTo first (s.end + 1)
+-- the moment up to which a part has run as a round of that number begins
+abbrev pub HasRunTo : Plan → ℕ → ℕ → ℕ → Type 0
+HasRunTo plan zero part t = t ≡ plan.since
+HasRunTo plan (suc before) part t = (w : Cluster) × (first : Option ℕ) × IsRound plan before w first × (t ≡ bound_of plan first part)
