@@ -4,13 +4,16 @@
     tests/cases.py [--program FILE] [--only WORD]
 
 Each case that fails is told with the first line that differs. The last line is `N passed, M failed`, and the
-status is 1 where M is over 0. tests/README.md tells what the data is.
+status is 1 where M is over 0. tests/README.md tells what the data is. The program sees eight free processors, whatever
+else the machine does, so that a run by several workers starts several threads. That needs a C compiler; where there is
+none the first line says so, and the program starts as many threads as it would anyhow.
 """
 
 import os
 import shutil
 import tempfile
 from concurrent.futures import ProcessPoolExecutor
+from pathlib import Path
 
 import commands
 import draws
@@ -28,15 +31,28 @@ import worked
 import writes
 from harness import end, parser_of, program_at
 from program import Program, Wrong
+from stand_in import NO_COMPILER, StandIn
 
 KINDS = (worked, steps, parts, rows, draws, texts, commands, presets, sweeps, pieces, pages, large_pages, long_runs, writes)
 
+# so many processors are free for each call
+FREE = 8
 
-def failure_of(path, room, case):
+
+def environment_in(room):
+    """The environment of the calls, of a library that is made in the room; None where it can't be made."""
+    stand_in = StandIn(Path(room))
+    if not stand_in.is_there:
+        print(f'{NO_COMPILER}: runs by several workers may start fewer threads', flush=True)
+        return None
+    return stand_in.environment(**stand_in.processors(FREE))
+
+
+def failure_of(path, room, environment, case):
     """Runs a case in a new folder of the room; gives what is wrong, or None."""
     folder = tempfile.mkdtemp(dir=room)
     try:
-        case.check(Program(path, folder), *case.arguments)
+        case.check(Program(path, folder, environment), *case.arguments)
     except Wrong as wrong:
         return f'{case.name}: {wrong}'
     except Exception as error:  # a case that can't be run has failed, and the others go on
@@ -48,9 +64,9 @@ def failure_of(path, room, case):
 
 def failures_of(path, room, cases):
     """Runs the cases side by side; gives what is wrong with each, None where nothing is."""
-    count = len(cases)
+    count, environment = len(cases), environment_in(room)
     with ProcessPoolExecutor(os.cpu_count()) as pool:
-        yield from pool.map(failure_of, [path] * count, [room] * count, cases, chunksize=4)
+        yield from pool.map(failure_of, [path] * count, [room] * count, [environment] * count, cases, chunksize=4)
 
 
 def main():
