@@ -12,6 +12,8 @@ standard output. Then standard error has `swimsim: memory`, and no file is made 
 nothing of the page unless both are. Where it was a thread that couldn't be started for it, there is `swimsim: run F4`,
 and nothing is written. Where the start of a thread is refused that the run needs, it must end so.
 
+The same holds where the system has no memory to open a file, each in turn.
+
 The same holds of a run of four sites by several threads, of which each {step}th allocation is refused, and the first
 {first}. There the refusal takes so long that all other threads sleep by then: a thread that fails must wake them. Where
 the run doesn't start several threads this is skipped.
@@ -97,6 +99,9 @@ FIRST, STEP = 30, 11
 # so many microseconds a refusal takes while all other threads come to sleep, and in so many seconds a call ends
 LONG_PAUSE, IN_TIME = 20_000, 60
 
+# what is refused
+KINDS = {'a': 'an allocation', 'o': 'the opening of a file'}
+
 # after so many that went wrong no more are tried
 MANY = 5
 
@@ -151,21 +156,22 @@ def ended(words, folder, wanted, older=None):
     return whole
 
 
-def refuse_each(words, stand_in, what='', numbers=None, older=None, **names):
-    """Refuses each allocation of the program, or those of these numbers; answers how many went well and how many wrong."""
+def refuse_each(words, stand_in, what='', numbers=None, older=None, kind='a', **names):
+    """Refuses each allocation of the program or what else is of the kind, or those of these numbers; answers how many went
+    well and how many wrong."""
     told = words[1] + what
     whole, spared, well, wrong = ended(words, stand_in.folder, (0, b''), older), 0, 0, 0
-    for number, left in refused(words, stand_in, 'a', numbers or itertools.count(1), older, **names):
+    for number, left in refused(words, stand_in, kind, numbers or itertools.count(1), older, **names):
         spared += left == whole
         if left == whole or is_refusal(left, whole, older):
             well += 1
         else:
             wrong += 1
-            print(f'{told}, allocation {number}: status {left[0]}, {left[2]!r}')
+            print(f'{told}, {KINDS[kind]} {number}: status {left[0]}, {left[2]!r}')
         if wrong == MANY:
             print(f'{told}: no more are tried')
             break
-    print(f'{told}: each of {well + wrong} allocations refused in turn; {spared} could be done without')
+    print(f'{told}: {well + wrong} times {KINDS[kind]} refused in turn; {spared} could be done without')
     return well, wrong
 
 
@@ -241,6 +247,8 @@ def main():
         for words in ([*run, '1'], [*run, '1', *page], sweep):
             counts.append(refuse_each(words, stand_in, ' over older files', older=OLDER))
         counts.append(refuse_each([*run, '1', *page], stand_in, ' with a page'))
+        for words, older in itertools.product(([*run, '1'], [*run, '1', *page], sweep), (None, OLDER)):
+            counts.append(refuse_each(words, stand_in, '' if older is None else ' over older files', None, older, 'o'))
         several = refuse_among_several(program, stand_in)
         counts += [several] if several else []
         apart = folder / 'apart.toml'

@@ -9,7 +9,7 @@ from harness import call
 
 # Of the calls of KIND it refuses the one of the number in REFUSED, after so many microseconds as PAUSE says, and leaves
 # a file of the name in SAID once it did. Of the kind `a` is each allocation, of `w` each after a write that failed, of
-# `s` each start of a thread. The file of the name in STARTED gets a byte for each thread that is started, that in
+# `s` each start of a thread, of `o` each opening of a file, which wants memory of the system. The file of the name in STARTED gets a byte for each thread that is started, that in
 # ALLOCATED one for each hundred allocations. There are as many processors as PROCESSORS says, none of a control group,
 # and STAT is read in the place of /proc/stat.
 SOURCE = r'''
@@ -96,6 +96,10 @@ int open(const char *name, int how, ...) {
     va_start(rest, how);
     int mode = va_arg(rest, int);
     va_end(rest);
+    if (is_refused('o')) {
+        errno = ENOMEM;
+        return -1;
+    }
     if (getenv("STAT") && !strcmp(name, "/proc/stat")) name = getenv("STAT");
     if (getenv("STAT") && !strcmp(name, "/proc/self/cgroup")) {
         errno = ENOENT;
