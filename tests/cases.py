@@ -31,28 +31,16 @@ import worked
 import writes
 from harness import end, parser_of, program_at
 from program import Program, Wrong
-from stand_in import NO_COMPILER, StandIn
+from stand_in import StandIn
 
 KINDS = (worked, steps, parts, rows, draws, texts, commands, presets, sweeps, pieces, pages, large_pages, long_runs, writes)
 
-# so many processors are free for each call
-FREE = 8
 
-
-def environment_in(room):
-    """The environment of the calls, of a library that is made in the room; None where it can't be made."""
-    stand_in = StandIn(Path(room))
-    if not stand_in.is_there:
-        print(f'{NO_COMPILER}: runs by several workers may start fewer threads', flush=True)
-        return None
-    return stand_in.environment(**stand_in.processors(FREE))
-
-
-def failure_of(path, room, environment, case):
+def failure_of(path, room, case):
     """Runs a case in a new folder of the room; gives what is wrong, or None."""
     folder = tempfile.mkdtemp(dir=room)
     try:
-        case.check(Program(path, folder, environment), *case.arguments)
+        case.check(Program(path, folder), *case.arguments)
     except Wrong as wrong:
         return f'{case.name}: {wrong}'
     except Exception as error:  # a case that can't be run has failed, and the others go on
@@ -64,9 +52,9 @@ def failure_of(path, room, environment, case):
 
 def failures_of(path, room, cases):
     """Runs the cases side by side; gives what is wrong with each, None where nothing is."""
-    count, environment = len(cases), environment_in(room)
+    count = len(cases)
     with ProcessPoolExecutor(os.cpu_count()) as pool:
-        yield from pool.map(failure_of, [path] * count, [room] * count, [environment] * count, cases, chunksize=4)
+        yield from pool.map(failure_of, [path] * count, [room] * count, cases, chunksize=4)
 
 
 def main():
@@ -76,6 +64,7 @@ def main():
     path = program_at(options.program)
     cases = [case for kind in KINDS for case in kind.cases() if options.only in case.name]
     with tempfile.TemporaryDirectory() as room:
+        StandIn(Path(room)).free_processors()
         failed = 0
         for failure in failures_of(path, room, cases):
             if failure:

@@ -19,10 +19,10 @@ class Wrong(Exception):
 
 
 class Program:
-    """The built program, the folder in which a case runs it, and the environment, None for that of the tests."""
+    """The built program, and the folder in which a case runs it."""
 
-    def __init__(self, path, folder, environment=None):
-        self.path, self.folder, self.environment = path, Path(folder), environment
+    def __init__(self, path, folder):
+        self.path, self.folder = path, Path(folder)
 
     def call(self, words, out=subprocess.PIPE, room=None):
         """Calls the program with these words, and gives its `Ran`. `out` is where its standard output goes;
@@ -31,8 +31,7 @@ class Program:
             resource.setrlimit(resource.RLIMIT_FSIZE, (room, resource.RLIM_INFINITY))
         try:
             # Python ignores the signal of a file that grew too large, and so then does the program
-            how = {'cwd': self.folder, 'env': self.environment, 'stdout': out, 'restore_signals': room is None}
-            return call([self.path, *map(os.fsencode, words)], **how)
+            return call([self.path, *map(os.fsencode, words)], cwd=self.folder, stdout=out, restore_signals=room is None)
         finally:
             if room is not None:
                 resource.setrlimit(resource.RLIMIT_FSIZE, (resource.RLIM_INFINITY, resource.RLIM_INFINITY))

@@ -140,6 +140,13 @@ class StandIn:
         """The environment of a call by the library, with these names."""
         return {**os.environ, 'LD_PRELOAD': str(self.folder / 'stand_in.so'), **{name: str(value) for name, value in names.items()}}
 
+    def free_processors(self):
+        """From now on all that this process calls finds eight free processors, whatever else the machine does."""
+        if self.is_there:
+            os.environ.update(self.environment(**self.processors(8)))
+        else:
+            print(f'{NO_COMPILER}: runs by several workers may start fewer threads', flush=True)
+
     def processors(self, count, busy=0):
         """The names by which so many processors are there, of which other programs keep some busy."""
         stat = self.folder / f'stat-{count}-{busy}'
