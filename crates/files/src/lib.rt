@@ -2,8 +2,8 @@
 //! system.
 #![tactic(auto)]
 
-ghost use Rattle.std.specs.Prelude.{◌≡◌, ◌≢◌, ◌+◌, ℕ, List, [], Option, Some, false, IfOk, IfSome, IsErrOf, OnOk, OnErr};
-ghost use Rattle.files.specs.Files.{KnownFile, Making, Holds, HoldsNow, IsAbsent, ClosesAs, KeepsOthers, KeepsAllOthers, KeepsAllButThree, CannotMake, CannotMakeSecond, CannotMakeThird, AreThreeFiles, AreFourFiles, DifferEach};
+ghost use Rattle.std.specs.Prelude.{◌≡◌, ◌≢◌, ◌+◌, ℕ, List, [], Option, Some, false, IfOk, IfSome, IsErrOf, OnOk, OnErr, take};
+ghost use Rattle.files.specs.Files.{KnownFile, Making, Holds, HoldsNow, IsAbsent, bytes_held, HoldsAtLeast, HoldsBeginning, ClosesAs, KeepsOthers, KeepsAllOthers, KeepsAllButThree, CannotMake, CannotMakeSecond, CannotMakeThird, AreThreeFiles, AreFourFiles, DifferEach};
 ghost use Rattle.trace.specs.Writers.{writer_under, put_failures};
 
 mod identity;
@@ -95,6 +95,25 @@ pub trait Files {
         ensures apart { OnOk result ((making self.old).are_one source.now name.now ≡ false) }
         ensures others { KeepsOthers (known self.old) (known self.new) name.now }
         ensures refused { IsErrOf result FileFault.Refused → CannotMake (making self.old) source.now name.now }
+        ensures making { making self.new ≡ making self.old }
+        ensures counted { refused self.new ≡ refused self.old }
+        ensures same { OnErr result (known self.new ≡ known self.old) };
+
+    /// Opens a file that goes on behind its first `kept` bytes, which stay in place at every moment: what is behind them is cut
+    /// off, and what is written stands there. Where no file has the name and `kept` is 0 it is made. After a fault no file has
+    /// changed. What isn't a plain file, as a pipe, is written as it is.
+    ///
+    /// Faults: `Refused` where it can't be made, is the file of `source` or that of standard output, or holds fewer bytes than
+    /// `kept`; `Memory`.
+    fn make_after(&mut self, source: &str, name: &str, kept: u64) -> Result<Self::Made, FileFault>
+        ensures enough { OnOk result (HoldsAtLeast (known self.old name.now) kept) }
+        ensures beginning { OnOk result (HoldsBeginning (known self.old name.now) (known self.new name.now) kept) }
+        ensures made { IfOk result
+            (λ made. IfSome (known self.old name.now) (λ held. Self.Made.contents made ≡ Some (take kept (bytes_held held)))) }
+        ensures apart { OnOk result ((making self.old).are_one source.now name.now ≡ false) }
+        ensures others { KeepsOthers (known self.old) (known self.new) name.now }
+        ensures refused { IsErrOf result FileFault.Refused → HoldsAtLeast (known self.old name.now) kept
+            → CannotMake (making self.old) source.now name.now }
         ensures making { making self.new ≡ making self.old }
         ensures counted { refused self.new ≡ refused self.old }
         ensures same { OnErr result (known self.new ≡ known self.old) };

@@ -9,7 +9,7 @@ use crate::refusals::Refusals;
 use crate::{FileFault, Files, PairFault, ReadFault, TripleFault};
 use std::alloc::Global;
 use std::fs::{OpenFile, OpenOptions};
-use std::io::{ErrorKind, Write};
+use std::io::{ErrorKind, Seek, SeekFrom, Write};
 use std::{fs, io};
 use trace::{Put, Sink};
 
@@ -38,23 +38,26 @@ struct Opened<F> {
 #[derive(Drop)]
 pub struct SystemFile<F> {
     file: F,
-    is_empty: bool,
+    kept: u64,
+    is_cut: bool,
 }
 
-impl<F: OpenFile + Write> SystemFile<F> {
-    /// Empties the file, if it is one that keeps what it is given, before anything is written to it.
+impl<F: OpenFile + Write + Seek> SystemFile<F> {
+    /// Cuts the file off behind what is kept of it, if it is one that keeps what it is given, before anything is
+    /// written to it. It is never shorter.
     fn begin(&mut self) -> io::Result<()> {
-        if !self.is_empty {
+        if !self.is_cut {
             if self.file.metadata()?.is_file() {
-                self.file.set_len(0)?;
+                self.file.set_len(self.kept)?;
+                let _ = self.file.seek(SeekFrom::Start(self.kept))?;
             }
-            self.is_empty = true;
+            self.is_cut = true;
         }
         Ok(())
     }
 }
 
-impl<F: OpenFile + Write> Write for SystemFile<F> {
+impl<F: OpenFile + Write + Seek> Write for SystemFile<F> {
     fn write(&mut self, buf: &[u8]) -> io::Result<usize> {
         self.begin()?;
         self.file.write(buf)
@@ -67,11 +70,25 @@ impl<F: OpenFile + Write> Write for SystemFile<F> {
 }
 
 impl<F: OpenFile + Write> Opened<F> {
-    /// The file, to be written.
+    /// The file, to be written from its beginning on.
     fn made(self) -> SystemFile<F> {
+        self.made_after(0)
+    }
+
+    /// The file, to be written behind so many bytes.
+    fn made_after(self, kept: u64) -> SystemFile<F> {
         SystemFile {
             file: self.file,
-            is_empty: self.is_new,
+            kept,
+            is_cut: self.is_new,
+        }
+    }
+
+    /// Whether the file has so many bytes. One that doesn't keep what it is given needs none.
+    fn has(&self, kept: u64) -> bool {
+        match self.file.metadata() {
+            Ok(metadata) => !metadata.is_file() || kept <= metadata.len(),
+            Err(_) => false,
         }
     }
 }
@@ -226,6 +243,20 @@ impl<R: std::rt::Files + AllocGlobal> Files for SystemFiles<'_, R> {
             Ok(opened) => Ok(opened.made()),
             Err(fault) => Err(fault),
         }
+    }
+
+    fn make_after(
+        &mut self,
+        source: &str,
+        name: &str,
+        kept: u64,
+    ) -> Result<SystemFile<R::File>, FileFault> {
+        let opened = self.open_apart(name, &self.taken(source))?;
+        if opened.has(kept) {
+            return Ok(opened.made_after(kept));
+        }
+        self.undo(name, opened);
+        Err(FileFault::Refused)
     }
 
     fn make_both(
