@@ -435,6 +435,19 @@ impl Files for MemoryFiles {
         }
     }
 
+    fn make_whole(&mut self, source: &str, name: &str) -> Result<MemoryWriter, FileFault> {
+        self.make(source, name)
+    }
+
+    fn make_both_whole(
+        &mut self,
+        source: &str,
+        first: &str,
+        second: &str,
+    ) -> Result<(MemoryWriter, MemoryWriter), PairFault> {
+        self.make_both(source, first, second)
+    }
+
     fn close(&mut self, name: &str, made: Put<MemoryWriter>)
         ensures closed { ClosesAs (known_of self.old name.now) (known_of self.new name.now) (Some (written_by (writer_under made))) }
         ensures others { KeepsOthers (known_of self.old) (known_of self.new) name.now }
