@@ -36,7 +36,7 @@ impl<F: OpenFile + Write + Drop> Stage<F> {
         if takes_after(&metadata, &file) {
             return Some(Stage { file, name, path });
         }
-        let _ = fs::remove_file(runtime, name.as_path());
+        remove(runtime, file, name.as_path());
         None
     }
 
@@ -66,20 +66,26 @@ impl<F: OpenFile + Write + Drop> Stage<F> {
 
     /// Removes it.
     pub(crate) fn remove<R: Files>(self, runtime: &R) {
-        let _ = fs::remove_file(runtime, self.name.as_path());
+        remove(runtime, self.file, self.name.as_path());
     }
 }
 
 /// Whether a file can be made beside the path of another. None is left.
 pub(crate) fn try_beside<R: Files + AllocGlobal>(runtime: &R, path: Path<'_>) -> io::Result<()> {
     match open_beside(runtime, path) {
-        Ok((_file, name)) => {
-            let _ = fs::remove_file(runtime, name.as_path());
+        Ok((file, name)) => {
+            remove(runtime, file, name.as_path());
             Ok(())
         }
         Err(error) if error.kind() == ErrorKind::AlreadyExists => Ok(()),
         Err(error) => Err(error),
     }
+}
+
+/// Closes a file that was made under this name, and then removes it: a network's file system keeps one that is open.
+fn remove<R: Files, F: Drop>(runtime: &R, file: F, name: Path<'_>) {
+    drop(file);
+    let _ = fs::remove_file(runtime, name);
 }
 
 /// Makes a file beside the path of another, under a name that none had.
