@@ -4,13 +4,16 @@
     tests/cases.py [--program FILE] [--only WORD]
 
 Each case that fails is told with the first line that differs. The last line is `N passed, M failed`, and the
-status is 1 where M is over 0. tests/README.md tells what the data is.
+status is 1 where M is over 0. tests/README.md tells what the data is. The program sees eight free processors, whatever
+else the machine does, so that a run by several workers starts several threads. That needs a C compiler; where there is
+none the first line says so, and the program starts as many threads as it would anyhow.
 """
 
 import os
 import shutil
 import tempfile
 from concurrent.futures import ProcessPoolExecutor
+from pathlib import Path
 
 import commands
 import draws
@@ -28,6 +31,7 @@ import worked
 import writes
 from harness import end, parser_of, program_at
 from program import Program, Wrong
+from stand_in import StandIn
 
 KINDS = (worked, steps, parts, rows, draws, texts, commands, presets, sweeps, pieces, pages, large_pages, long_runs, writes)
 
@@ -60,6 +64,7 @@ def main():
     path = program_at(options.program)
     cases = [case for kind in KINDS for case in kind.cases() if options.only in case.name]
     with tempfile.TemporaryDirectory() as room:
+        StandIn(Path(room)).free_processors()
         failed = 0
         for failure in failures_of(path, room, cases):
             if failure:

@@ -13,6 +13,9 @@ REFUSED = (5, b'', b'swimsim: run F3\n')
 
 WAYS = (['--workers', '2'], ['--workers', '3', '--parts', '3'], ['--workers', '64', '--parts', '64'])
 
+# what has more bytes than each room for a trace
+ROOMS = (0, 1000, 200_000, 1_500_000)
+
 FAR_HEAD = '''version = 1
 seed = 5
 end = {end}
@@ -20,16 +23,16 @@ end = {end}
 period = 100
 timeout = 30
 [link]
-delay = 1000
+delay = {delay}
 '''
 
 
-def far(sites, count, end):
-    """So many sites of so many members, each a thousand ticks from the next, within which a message takes one tick."""
+def far(sites, count, end, delay=1000):
+    """So many sites of so many members, each so many ticks from the next, within which a message takes one tick."""
     names = [f's{nth}' for nth in range(sites)]
     groups = [f'[[group]]\nname = "{name}"\ncount = {count}\n' for name in names]
     paths = [f'[[path]]\nfrom = "{name}"\nto = "{name}"\ndelay = 1\n' for name in names]
-    return FAR_HEAD.format(end=end) + ''.join(groups + paths)
+    return FAR_HEAD.format(end=end, delay=delay) + ''.join(groups + paths)
 
 
 def run(program, way):
@@ -54,10 +57,10 @@ def check_same(program, text, ways):
             expect(f'{told} {name}', seen, whole)
 
 
-def check_cut_off(program, way, room):
+def check_cut_off(program, text, way, room):
     """A trace that has room for so many bytes is a beginning, in the first batch or in a later one. More batches come
     behind it than there is room for on the way: whoever sends comes to its end all the same."""
-    program.keep('s.toml', LONG)
+    program.keep('s.toml', text)
     whole = run(program, [])[1]
     program.keep('t.csv', '')
     ran = program.call(['run', 's.toml', '--trace', 't.csv', '--report', 'r.txt', *way], room=room)
@@ -73,9 +76,9 @@ def divided(deal, count):
 
 def cases():
     yield Case('long run: many rows', check_same, (LONG, WAYS))
-    for way in WAYS:
-        for room in (0, 1000, 200_000, 1_500_000):
-            yield Case(f'long run: {way}, {room} bytes', check_cut_off, (way, room))
+    for about, text in (('one part', LONG), ('four parts', far(4, 64, 20_000))):
+        for way, room in itertools.product(WAYS, ROOMS):
+            yield Case(f'long run: {about}, {way}, {room} bytes', check_cut_off, (text, way, room))
     for first in range(4):
         deals = itertools.product([first], range(4), range(4), range(4))
         ways = [['--workers', str(2 + nth % 3), *divided(deal, 12)] for nth, deal in enumerate(deals)]

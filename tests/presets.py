@@ -1,10 +1,11 @@
-"""What `init PRESET` prints: a scenario that is accepted as it stands and with all that its comments hold,
-names each key of its version, and sets what memberlist 0.2.2's config.go or docs/FORMAT.md has."""
+"""What `init PRESET` prints: the text of tests/presets/PRESET.toml, whose comments were read beside docs/FORMAT.md. It is a
+scenario that is accepted as it stands and with all that its comments hold, names each key of its version, and sets what
+memberlist 0.2.2's config.go or docs/FORMAT.md has."""
 
 import re
 import tomllib
 
-from program import Case, expect, expect_ran
+from program import Case, DATA, expect, expect_ran
 from scenarios import NEWEST_TAKEN, judge, keys_of
 
 NAMES = ('local', 'lan', 'wan', 'swim')
@@ -76,7 +77,7 @@ def accepted(version, members):
 
 def check(program, place):
     ran = program.call(['init', NAMES[place]])
-    expect('status', (ran.status, ran.err), (0, b''))
+    expect_ran(ran, 0, (DATA / 'presets' / f'{NAMES[place]}.toml').read_bytes(), b'')
     text = ran.out.decode()
     document = tomllib.loads(text)
     version = document['version']

@@ -9,7 +9,7 @@ table and its lines. The seed is made of the sources' SHA-256 unless one is give
 tried with each change. Texts are of versions 1 to V of the format; without V to the newest that the program
 takes (NEWEST_TAKEN in tests/scenarios.py). A comparison that fails is told with its text and its first
 differing line. The last line is `N passed, M failed`, and the status is 1 where M is over 0. It needs
-Python 3.11.
+Python 3.11. The program sees eight free processors, as by tests/cases.py.
 """
 
 import hashlib
@@ -23,6 +23,7 @@ import model_sweeps
 import model_text
 from harness import TOP, call, end, parser_of, program_at
 from scenarios import NEWEST_TAKEN, document_of, judge
+from stand_in import StandIn
 
 
 def seed_of_sources():
@@ -165,8 +166,10 @@ def main():
     print(f'seed {seed}, versions 1 to {options.newest}')
     counts = {'run': options.runs, 'far': options.far, 'text': options.texts, 'sweep': options.sweeps}
     cases = [(program, seed, kind, number, options.newest) for kind in counts for number in range(counts[kind])]
-    with ProcessPoolExecutor() as pool:
-        faults = [fault for fault in pool.map(fault_of, cases, chunksize=4) if fault]
+    with tempfile.TemporaryDirectory() as room:
+        StandIn(Path(room)).free_processors()
+        with ProcessPoolExecutor() as pool:
+            faults = [fault for fault in pool.map(fault_of, cases, chunksize=4) if fault]
     print(''.join(faults), end='')
     end(len(cases) - len(faults), len(faults))
 

@@ -1,5 +1,5 @@
-"""Worked runs: scenarios of tests/worked whose whole trace or report was worked out by hand, run in every
-way."""
+"""Worked runs: scenarios of tests/worked whose whole trace or report was worked out by hand, or by the second simulator
+where the text says so, run in every way."""
 
 import re
 
@@ -16,13 +16,15 @@ NUMBERS = (1, 2, 3, 64)
 SEEDS_BY_ALL_WAYS = 3
 
 
-def ways_of(members):
-    """The words of the ways in which a scenario of so many members is run."""
+def ways_of(names):
+    """The words of the ways in which a scenario of members of these names is run."""
+    members, groups = len(names), [name.partition('-')[0] for name in names]
     lists = [[0] * members, range(members), range(members - 1, -1, -1),
-             [63 * (it % 2) for it in range(members)], [63 - it for it in range(members)]]
+             [63 * (it % 2) for it in range(members)], [63 - it for it in range(members)],
+             [list(dict.fromkeys(groups)).index(group) for group in groups]]
     counts = [['--workers', str(workers), '--parts', str(parts)] for workers in NUMBERS for parts in NUMBERS]
     divisions = [['--workers', workers, '--division', ','.join(map(str, parts))]
-                 for parts in lists for workers in ('1', '3')]
+                 for parts in lists for workers in ('1', '3', '5')]
     return [[], ['--workers', '2', '--parts', '2'], *counts, *divisions]
 
 
@@ -82,7 +84,7 @@ def expect_left(name, text, left):
 
 def check(program, name, text, is_by_all_ways):
     """Runs a text of a worked run, in every way or in two, and compares what it leaves."""
-    ways = ways_of(len(scenario_of(text)['members']))
+    ways = ways_of([member['name'] for member in scenario_of(text)['members']])
     expect_left(name, text, run_in(program, text, ways if is_by_all_ways else ways[:2]))
 
 

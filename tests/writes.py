@@ -5,6 +5,7 @@ import threading
 from contextlib import contextmanager
 
 from harness import call
+from long_runs import far
 from program import Case, DATA, expect, expect_ran
 from worked import text_of
 
@@ -13,6 +14,9 @@ SWEEP = ['sweep', 's.toml', '--table', 't.csv', '--seeds', '1..2', '--set', 'swi
 REFUSED = (5, b'', b'swimsim: run F3\n')
 WAYS = ([], ['--workers', '1', '--parts', '2'], ['--workers', '2', '--parts', '2'],
         ['--workers', '3', '--parts', '64'])
+
+# by several parts, where there are several sites
+WAYS_OF_SITES = (['--workers', '2'], ['--workers', '3'], ['--workers', '5'])
 
 # so many sizes of a file are one case
 STEP = 32
@@ -95,9 +99,9 @@ def check_full(program, words, left):
         expect(f'what {name} holds', program.held(name), held)
 
 
-def check_pipe(program, way):
+def check_pipe(program, text, way):
     """Runs into a pipe that is closed after its first bytes: fault 3, and nothing of a report."""
-    program.keep('s.toml', LONG)
+    program.keep('s.toml', text)
     program.keep('r.txt', 'an older report\n')
     os.mkfifo(program.folder / 't.csv')
     taken = []
@@ -192,6 +196,8 @@ def room_cases():
         for way in WAYS:
             for sizes in rooms(longest):
                 yield Case(f'writes: {name} {way}, {sizes} bytes', check_room, (name, way, sizes))
+    for way in WAYS_OF_SITES:
+        yield Case(f'writes: four sites {way}', check_room, ('four-sites', way, range(0, 60_000, 1511)))
     for way in WAYS:
         for sizes in (range(0, 1200, 97), range(1200, 9000, 611)):
             yield Case(f'writes: page {way}, {sizes} bytes', check_page_room, (way, sizes))
@@ -212,7 +218,9 @@ def full_cases():
         yield Case(f'writes: full page {way}', check_full, ([*run, *full_page, *way], whole))
         yield Case(f'writes: no page after a full trace {way}', check_full,
                    ([*run, *full_trace, '--page', 'p.html', *way], {'r.txt': b'', 'p.html': b''}))
-        yield Case(f'writes: closed pipe {way}', check_pipe, (way,))
+        yield Case(f'writes: closed pipe {way}', check_pipe, (LONG, way))
+    for way in WAYS_OF_SITES:
+        yield Case(f'writes: closed pipe, four sites {way}', check_pipe, (far(4, 64, 6000), way))
     yield Case('writes: full table', check_full, (['sweep', 's.toml', '--table', '/dev/full'], {}))
 
 
