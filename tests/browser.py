@@ -3,7 +3,7 @@
 
     tests/browser.py [--program FILE] [--keep FOLDER]
 
-Each page is loaded by headless Chromium (Debian's package `chromium`), 1,200 and 400 pixels wide, in light and in dark, with its
+Each page is loaded by headless Chromium (Debian's package `chromium`), 1,280 and 400 pixels wide, in light and in dark, with its
 tables folded and unfolded: no text may stand outside the page, or over another, or be of its ground's colour; a page may ask for
 nothing from elsewhere. With --keep a picture of each is left in FOLDER. The last line is `N passed, M failed, K skipped`; where
 there is no Chromium all are skipped.
@@ -21,8 +21,8 @@ from program import Program
 
 RUNS = ('crash', 'slow-member-without-lifeguard', 'cut-between-sites', 'rolling-join', 'pauses', 'three-sites-wan', 'quiet')
 SWEEPS = (('slow-member', ['--seeds', '1..5', '--set', 'suspicion.alpha=2,4,6', '--set', 'swim.helpers=0,3']),
-          ('crash', ['--seeds', '1..3']))
-WIDTHS, SCHEMES = (1200, 400), ('light', 'dark')
+          ('crash', ['--seeds', '1..3', '--want', 'out<=0.1', '--want', 'messages<=5']))
+WIDTHS, SCHEMES = (1280, 400), ('light', 'dark')
 SECONDS = 120
 
 # what stands in a page that is wrong, and how that is told; so the looking itself is tried

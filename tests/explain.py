@@ -85,14 +85,24 @@ def hostile(size):
     yield 'a long key', HEAD + million + b' = 1\n' + GROUP, b'unknown key `yyyy', 20
     escaped = b'"\\u001b[31m\\n" = 1\n'
     yield 'control characters', HEAD + escaped + GROUP, b'unknown key `\\u{1b}[31m\\n`', 20
+    unseen = b'"\\u202eab\\u200b\xef\xbb\xbf" = 1\n'
+    yield 'unseen characters', HEAD + unseen + GROUP, b'unknown key `\\u{202e}ab\\u{200b}\\u{feff}`', 20
+    length = b'end = "' + b'9' * 100000 + b'h"\n'
+    yield 'a great length of time', HEAD.replace(b'end = 5000\n', length) + GROUP, b'a whole number of ticks', 20
+    share = b'[[path]]\nfrom = "n"\nto = "n"\nloss = 0.' + b'0' * 100000 + b'1\n'
+    yield 'a small share', HEAD + GROUP + share, b'lost messages in a million: 5 %', 20
+    lengths = b'end = "' + b'1s' * 100000 + b'"\n'
+    yield 'many parts of a length', HEAD.replace(b'end = 5000\n', lengths) + GROUP, b'a whole number of ticks', 20
+    yield 'YAML', b'seed: 1\n' * 100000, b'the text is YAML', 20
+    yield 'JSON', b' \n' * 100000 + b'[ {"seed": 1}]', b'the text is JSON', 20
     yield 'no UTF-8 at all', b'\xff\xfe\x00a', b'the byte 0xff', 20
     yield 'a byte 0', b'a = "\x00"\n', b'error[rule 1]', 20
-    yield 'an empty text', b'', b'6 mistakes', 20
+    yield 'an empty text', b'', b'1 mistake\n', 20
     yield 'no last line feed', b'version', b'error[rule 1]', 20
     yield '10,000 entries of 4,096 members', large + crashes, b'10000 mistakes, 9950 of them not shown', 10
     keys = b''.join(b'k%d = 1\n' % i for i in range(100000))
     yield '100,000 unknown keys', HEAD + keys + GROUP, b'100000 mistakes', 20
-    yield 'a great comment', b'#' + b'x' * size + b'\n', b'6 mistakes', 300
+    yield 'a great comment', b'#' + b'x' * size + b'\n', b'1 mistake\n', 300
     yield 'great nonsense', b'\x7f' * size, b'error[rule 1]', 300
     yield 'a great list', HEAD + b'x = [' + b'1,' * (size // 2) + b']\n' + GROUP, b'unknown list `x`', 300
 

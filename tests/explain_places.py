@@ -12,8 +12,9 @@ KEYS = ('version seed end swim suspicion lifeguard link group path slow crash cu
         'contact from to at until member extra pause gossip stream fallback interval nodes dead push connect again').split()
 VALUES = ('0', '1', '-1', '3', '10.5', '1e3', 'true', '"x"', "'n-1'", '"n-99"', '[]', '[1, {}]', '{}', '{ a = 1 }',
           '1979-05-27', '07:32:00', '9223372036854775807', '99999999999999999999', '"""a\nb"""', '0x10', '1_000',
-          '"10ms"', '\u5b57', 'nan')
-PIECES = ('[', ']', '{', '}', '=', '"', "'", '#', ',', '.', '\n', '\t', '\x01', '\u5b57', '\u2028', '\\', ' ', '[[', ']]')
+          '"10ms"', '"1h30m"', '"0.5 us"', '"2%"', '0.02', '\u5b57', 'nan')
+PIECES = ('[', ']', '{', '}', '=', '"', "'", '#', ',', '.', '\n', '\t', '\x01', '\u5b57', '\u2028', '\u202e', '\ufeff', '\\', ' ', '[[', ']]')
+UNSEEN = (range(0x200b, 0x2010), range(0x2028, 0x202f), range(0x2066, 0x206a), (0xfeff,), range(0xe0000, 0xe0080))
 TABLES = ('[[crash]]\nmember = "n-0"\nat = 10\n', '[[slow]]\nmember = "a-1"\nfrom = 5\nuntil = 2\nextra = 1\n',
           '[[path]]\nfrom = "n"\nto = "north"\n', '[[group]]\nname = "n"\ncount = 2000\n', '[[leave]]\nmember = "n-1"\nat = 0\n',
           '[[cut]]\nfrom = "n-0"\nto = "n"\nat = 9\nuntil = 9\n', '[[group]]\nname = "late"\ncount = 1\nstart = 5\n',
@@ -99,7 +100,7 @@ def shown(name):
         if c in '\t\n\r\\':
             return {'\t': '\\t', '\n': '\\n', '\r': '\\r', '\\': '\\\\'}[c]
         number = ord(c)
-        is_escaped = number < 32 or 127 <= number < 160 or number in (0x2028, 0x2029)
+        is_escaped = number < 32 or 127 <= number < 160 or any(number in span for span in UNSEEN)
         return f'\\u{{{number:x}}}' if is_escaped else c
     return ''.join(map(one, name[:60])) + ('...' if len(name) > 60 else '')
 

@@ -199,6 +199,86 @@ def sizes(uses, room, whole):
     uses.judge('an older trace beside the scenario as report', left[0] == 1 and (folder / 'old').read_bytes() == OLD, left)
 
 
+def removals(uses, room, whole):
+    """Runs that fail while others use their files: nothing is removed that isn't theirs."""
+    folder = folder_of(room, 'removals')
+    (folder / 'victim').write_bytes(OLD)
+    (folder / 'gone').mkdir()
+    os.mkfifo(folder / 'pipe')
+    started = subprocess.Popen([uses.program, *RUN, 't', '--report', 'pipe', '--page', 'gone/p'], cwd=folder,
+                               stdout=subprocess.PIPE, stderr=subprocess.PIPE)
+    time.sleep(1)
+    (folder / 't').unlink(missing_ok=True)
+    (folder / 't').symlink_to('victim')
+    (folder / 'gone').rmdir()
+    (folder / 'pipe').read_bytes()
+    out, err = started.communicate(timeout=20)
+    is_well = started.returncode == 1 and (folder / 'victim').read_bytes() == OLD and (folder / 't').is_symlink()
+    uses.judge('a trace that became a link while the report waited', is_well, (started.returncode, out, err))
+    wrong = []
+    for _ in range(30):
+        (folder / 'u').unlink(missing_ok=True)
+        fails = subprocess.Popen([uses.program, *RUN, 'u', '--report', 'no/folder'], cwd=folder, stderr=subprocess.PIPE)
+        left = uses.call(folder, [*RUN, 'u'])
+        fails.communicate(timeout=20)
+        if (fails.returncode, left[0]) != (1, 0) or not (folder / 'u').exists() or (folder / 'u').read_bytes() != whole:
+            wrong.append((fails.returncode, left))
+    uses.judge('a run that fails beside one on the same trace', not wrong, wrong)
+    left = uses.call(folder, [*RUN, 'new', '--report', 'no/folder'])
+    uses.judge('a failed run makes nothing', left[0] == 1 and not (folder / 'new').exists(), left)
+
+
+def replaced(uses, room, whole):
+    """What reports and pages replace: an old one never stands beside a new trace, and a new one is whole."""
+    folder = folder_of(room, 'replaced')
+    long_run = SCENARIO.replace('end = 3', 'end = 400000').replace('count = 2', 'count = 500')
+    (folder / 'long.toml').write_text(long_run)
+    for name in ('t', 'r', 'p'):
+        (folder / name).write_bytes(OLD)
+    outputs = ['--report', 'r', '--page', 'p']
+    started = subprocess.Popen([uses.program, 'run', 'long.toml', '--trace', 't', *outputs], cwd=folder, stdout=subprocess.PIPE)
+    for _ in range(200):
+        time.sleep(0.05)
+        if (folder / 't').stat().st_size not in (0, len(OLD)):
+            break
+    started.kill()
+    started.communicate()
+    held = [(folder / name).read_bytes() for name in ('r', 'p')]
+    uses.judge('a killed run beside an older report', started.returncode == -9 and held == [b'', b''], held)
+    (folder / 'h').hardlink_to(folder / 'p')
+    (folder / 'l').symlink_to('r')
+    (folder / 'r').chmod(0o600)
+    (folder / 'first').write_bytes(b'')
+    left = uses.call(folder, [*RUN, 'first', '--report', 'first-r', '--page', 'first-p'])
+    report, page = ((folder / f'first-{name}').read_bytes() for name in ('r', 'p'))
+    left = uses.call(folder, [*RUN, 't', '--report', 'l', '--page', 'p'])
+    is_well = left[0] == 0 and (folder / 'l').is_symlink() and (folder / 'r').read_bytes() == report
+    uses.judge('a report through a link', is_well, left)
+    uses.judge('a report keeps its permissions', (folder / 'r').stat().st_mode & 0o777 == 0o600, (folder / 'r').stat())
+    uses.judge('a page that has two names', (folder / 'p').read_bytes() == (folder / 'h').read_bytes() == page, left)
+    wanted = ['first', 'first-p', 'first-r', 'h', 'l', 'long.toml', 'p', 'r', 's.toml', 't']
+    uses.judge('nothing else is left', sorted(os.listdir(folder)) == wanted, os.listdir(folder))
+
+
+def error_stream(uses, room, whole):
+    """Standard error as a file of the run, which would get the run's line in its midst."""
+    folder = folder_of(room, 'error')
+    os.link(folder / 's.toml', folder / 'scenario')
+    for option, words in (('trace', [*RUN, 'e']), ('report', [*RUN, 't', '--report', './e']),
+                          ('page', [*RUN, 't', '--page', 'e']), ('table', ['sweep', 's.toml', '--table', 'e', '--progress'])):
+        with open(folder / 'e', 'wb') as err:
+            left = uses.call(folder, words, stdout=subprocess.PIPE, stderr=err)
+        is_well = left[0] == 1 and (folder / 'e').read_bytes().startswith(b'swimsim: file ') and not (folder / 't').exists()
+        uses.judge(f'the {option} as standard error', is_well, left)
+    left = uses.call(folder, [*RUN, '/dev/stderr'])
+    uses.judge('the trace as standard error, by its own name', left[0] == 1 and left[2] == b'swimsim: file /dev/stderr\n', left)
+    with open('/dev/null', 'wb') as nothing:
+        left = uses.call(folder, [*RUN, '/dev/stderr'], stdout=subprocess.PIPE, stderr=nothing)
+    uses.judge('the trace as standard error that is /dev/null', left[0] == 0, left)
+    ran = subprocess.run(['sh', '-c', '"$0" run s.toml --trace t >out 2>&1', uses.program], cwd=folder)
+    uses.judge('both streams in one file', ran.returncode == 0 and (folder / 'out').read_bytes() == b'rows 6\n', ran)
+
+
 def main():
     uses = Uses(program_at(parser_of(__doc__).parse_args().program))
     with tempfile.TemporaryDirectory() as name:
@@ -208,7 +288,7 @@ def main():
         if status != 0:
             sys.exit(f'hostile: status {status} of a plain run')
         whole = (folder / 't').read_bytes()
-        for group in (names, texts, outputs, pipes, ends, words, sizes):
+        for group in (names, texts, outputs, pipes, ends, words, sizes, removals, replaced, error_stream):
             group(uses, room, whole)
     end(uses.well, uses.wrong)
 

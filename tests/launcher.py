@@ -10,6 +10,7 @@ Each case has a small repository of its own, whose `rt` is a script that says wh
 import hashlib
 import os
 import shutil
+import signal
 import subprocess
 import sys
 import time
@@ -87,11 +88,11 @@ class House:
     def digest(self):
         return sourced('sources_digest', top=self.top)
 
-    def ship(self):
-        """Puts a program into dist/ that says that it is the shipped one."""
+    def ship(self, does='echo shipped "$@"'):
+        """Puts a program into dist/ that says that it is the shipped one, or does something else."""
         program = self.top / 'dist' / 'swimsim-x86_64-linux-gnu'
         program.parent.mkdir()
-        program.write_text('#!/bin/sh\necho shipped "$@"\n')
+        program.write_text(f'#!/bin/sh\n{does}\n')
         program.chmod(0o755)
         sum_of = hashlib.sha256(program.read_bytes()).hexdigest()
         (program.parent / 'PROVENANCE').write_text(f'kit kit-1\nsources {self.digest()}\nprogram {sum_of}\n')
@@ -102,6 +103,12 @@ def the_shipped_program_runs_without_a_kit(house):
     house.ship()
     assert house.run('a', 'b', with_kit=False) == ('shipped a b\n', 0, [])
     assert house.run('--which', with_kit=False)[0].endswith('/dist/swimsim-x86_64-linux-gnu\n')
+
+
+def a_file_that_is_full_by_a_limit_is_no_signal(house):
+    house.ship('while read -r key mask; do [ "$key" = SigIgn: ] && echo "$mask"; done </proc/self/status')
+    ignored = int(house.run(with_kit=False)[0], 16)
+    assert ignored >> (signal.SIGXFSZ - 1) & 1
 
 
 def a_changed_byte_of_it_is_not_run(house):
@@ -276,7 +283,7 @@ def the_longest_chain_goes_first(_):
 
 
 CASES = (
-    the_shipped_program_runs_without_a_kit, a_changed_byte_of_it_is_not_run, changed_sources_are_built,
+    the_shipped_program_runs_without_a_kit, a_file_that_is_full_by_a_limit_is_no_signal, a_changed_byte_of_it_is_not_run, changed_sources_are_built,
     a_changed_test_is_no_reason, what_no_build_reads_is_no_reason, what_a_build_reads_counts, any_path_will_do,
     from_source_takes_its_own, a_new_kit_builds_anew, a_build_tells_its_digest_and_kit, a_refused_crate_is_told,
     without_a_kit_a_build_fails, another_shell_is_told_what_is_wanted, nothing_is_installed_without_a_place, ones_own_build_is_compared,

@@ -5,11 +5,14 @@
 
 For each NAME.txt of tests/meaning/ the scenario is NAME.toml beside it, or that of examples/. The lines must be those
 of NAME.txt and the JSON value that of NAME.json, both with status 0 and nothing on standard error. Then comes a text of
-4,096 members and 10,000 entries, which must be told of in time. The last line is `N passed, M failed`, and the status
+4,096 members and 10,000 entries, which must be told of in time; and quiet runs, whose trace must have as many rows as
+was told, or about as many where chance decides when periods begin. The last line is `N passed, M failed`, and the status
 is 1 where one failed. tests/meaning_expected.py writes these files.
 """
 
 import json
+import os
+import random
 import tempfile
 import time
 from pathlib import Path
@@ -84,6 +87,45 @@ def delay(program):
     return f'{seconds:.1f} seconds' if seconds > SECONDS else ''
 
 
+def quiet(draw, spread, push):
+    """A text in which nothing happens: of one group or two, and of a third that starts after the end."""
+    period = draw.choice((100, 1000))
+    end = draw.randrange(1, 40 * period)
+    return (
+        f'version = {3 if push else draw.choice((1, 2, 3))}\nseed = {draw.randrange(1000)}\nend = {end}\n'
+        f'swim = {{ period = {period}, timeout = {period // 3}, spread = {spread} }}\n'
+        f'link = {{ delay = {draw.randrange(1, period // 7)} }}\n'
+        + (f'gossip = {{ interval = {period // 5}, push = {push} }}\n' if push else '')
+        + f'[[group]]\nname = "a"\ncount = {draw.choice((2, 5, 40))}\n'
+        + draw.choice(('', '[[group]]\nname = "b"\ncount = 3\n'))
+        + draw.choice(('', f'[[group]]\nname = "c"\ncount = 3\nstart = {end + 1}\ncontact = "a-0"\n'))
+    )
+
+
+def rows_differ(program, text, times):
+    """What is wrong with the rows that are told of a quiet text, which may differ by so many times its members; empty
+    where nothing is."""
+    with tempfile.TemporaryDirectory() as room:
+        scenario, report = Path(room) / 'quiet.toml', Path(room) / 'report'
+        scenario.write_text(text)
+        figures = value_of(told(program, JSON, scenario))['figures']
+        call([program, 'run', scenario.name, '--trace', os.devnull, '--report', report.name], cwd=room)
+        rows = next(int(line.split()[1]) for line in report.read_text().splitlines() if line.startswith('rows '))
+    wanted, members = figures['quiet']['rows'], figures['cluster']['members']
+    return f'{wanted} rows are told, {rows} made: {text!r}' if abs(rows - wanted) > times * members else ''
+
+
+def quiet_runs(program):
+    """For quiet runs their names, and what is wrong with the rows that are told of them."""
+    draw = random.Random(1)
+    for number in range(20):
+        yield f'quiet run {number}', rows_differ(program, quiet(draw, 1, 0), 0)
+    for number in range(20):
+        text = quiet(draw, draw.choice((2, 50, 100)), draw.choice((0, 300, 2000)))
+        # each member may ping and push once more or once less, which is answered
+        yield f'quiet run {number} by chance', rows_differ(program, text, 4)
+
+
 def main():
     program = program_at(parser_of(__doc__, TOP / 'swimsim').parse_args().program)
     names = sorted(file.stem for file in ROOM.glob('*.txt'))
@@ -95,7 +137,11 @@ def main():
     late = delay(program)
     failed += bool(late)
     print(f'large: {late or "in time"}')
-    end(len(names) + 1 - failed, failed)
+    cases = list(quiet_runs(program))
+    for name, wrong in cases:
+        failed += bool(wrong)
+        print(f'{name}: {wrong or "as told"}')
+    end(len(names) + 1 + len(cases) - failed, failed)
 
 
 if __name__ == '__main__':

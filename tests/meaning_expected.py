@@ -41,6 +41,11 @@ SAID = {
                           'set probe, suspicion and buddy alike, unless you compare them'),
     'long-spread': ('some members may begin their first period after the end',
                     'lower swim.spread to the period, or raise end'),
+    'no-gossip': ("by memberlist's rules news spreads by [gossip], which is not there", 'add [gossip], as `init lan` prints it'),
+    'odd-confirmations': ('no memberlist has this lifeguard.confirmations with this suspicion.alpha',
+                          'set lifeguard.confirmations to suspicion.alpha less 2'),
+    'quiet-run': ('nothing happens: no loss, no crash, nobody slow, paused, cut off or late',
+                  'nothing, if you ask what a quiet cluster costs; else add what is to happen, as a [[crash]]'),
     'hidden-path': ('a later path names the same two groups and hides this one', 'remove this path or the later one'),
     'lonely-path': ('the group has one member, so it has no link to itself',
                     'remove the path, or add members to the group'),
@@ -58,6 +63,8 @@ SAID = {
     'pause-past-end': ('the pause begins after the end', 'move it before the end, or raise end'),
     'pause-while-down': ('the member is down as its pause begins',
                          'move it before the crash or leave, or remove it'),
+    'long-pause': ('the pause is longer than the shortest suspicion, so others may declare the member dead',
+                   'nothing, if that is what you try; else shorten it or raise suspicion.alpha'),
 }
 
 
@@ -167,26 +174,49 @@ class Cluster:
     def limit(self):
         return self.swim['lambda'] * len(str(len(self.members)))
 
-    def pushes(self, ticks):
-        """How many pushes begin in so many ticks."""
-        if not self.gossip or not self.gossip['push']:
-            return 0
+    def push_wait(self):
+        """From one push of a member to its next; 0 where nobody pushes."""
         doublings = 0
         while 32 * 2 ** doublings < len(self.members):
             doublings += 1
-        return ticks // (self.gossip['push'] * (1 + doublings))
+        return self.gossip['push'] * (1 + doublings) if self.gossip else 0
+
+    def pushes(self, ticks):
+        """How many pushes begin in so many ticks."""
+        return ticks // self.push_wait() if self.push_wait() else 0
+
+    def moments(self, first, wait):
+        """How many moments there are up to the end, from a first one on, each so long after the one before."""
+        return len(range(first, self.end + 1, wait))
+
+    def sent(self, start):
+        """How many messages a member sends, and others in answer, that starts at a moment, if nothing happens."""
+        first = start + (self.swim['spread'] + 1) // 2
+        pings = self.moments(first, self.swim['period'])
+        acks = self.moments(first + self.link['delay'], self.swim['period'])
+        if not self.push_wait():
+            return pings + acks
+        return pings + acks + 2 * self.moments(first + self.gossip['push'] // 2 + self.push_wait(), self.push_wait())
 
     def quiet(self):
         """Messages a period, in a thousand ticks and up to the end, rows and bytes of a run in which nothing happens."""
         count, period = len(self.members), self.swim['period']
         each = 2 if count > 1 else 0  # a ping and an ack, or a push and a pull
-        spans = [max(0, self.end - group.get('start', 0)) for _, group in self.members]
-        messages = each * sum(span // period + self.pushes(span) for span in spans)
-        rows = count + messages
+        starts = [group.get('start', 0) for _, group in self.members]
+        there = sum(start <= self.end for start in starts)
+        messages = sum(map(self.sent, starts)) if there > 1 else 0
+        rows = there + messages
         average = sum(len(name) for name, _ in self.members) // count
         return (each * count + each * self.pushes(count * period),
                 each * count * 1000 // period + each * self.pushes(count * 1000),
                 messages, rows, rows * (24 + 3 * average))
+
+    def is_quiet(self):
+        """Whether nothing happens in the run."""
+        happens = self.slows + self.crashes + self.leaves + self.cuts + self.pauses
+        late = any(group.get('start', 0) for group in self.groups)
+        lost = any(link['loss'] for link in [self.link, *self.paths])
+        return not (happens or late or lost) and self.trip() <= self.swim['timeout']
 
     def loses_all(self, link):
         """Whether every message is lost on a link: what is pushed isn't."""
@@ -209,15 +239,21 @@ def told_of_settings(c):
     switches = {c.lifeguard[name] for name in ('probe', 'suspicion', 'buddy')}
     yield trip > swim['timeout'], 'late-answer', ('swim', None, 'timeout'), (trip, swim['timeout'])
     yield swim['helpers'] > 0 and relay > swim['period'], 'late-relay', ('swim', None, 'period'), (relay, swim['period'])
-    yield c.end < first, 'early-end', (None, None, 'end'), (first, c.end)
+    several = count > 1
+    yield several and c.end < first, 'early-end', (None, None, 'end'), (first, c.end)
     wanted = c.lifeguard['confirmations']
-    yield (c.lifeguard['suspicion'] and c.further() < wanted, 'few-accusers', ('lifeguard', None, 'confirmations'),
+    yield (several and c.lifeguard['suspicion'] and c.further() < wanted, 'few-accusers', ('lifeguard', None, 'confirmations'),
            (max(0, count - 2), wanted))
     others = max(0, count - 2)
-    yield swim['helpers'] > count - 2, 'many-helpers', ('swim', None, 'helpers'), (swim['helpers'], others)
+    yield several and swim['helpers'] > count - 2, 'many-helpers', ('swim', None, 'helpers'), (swim['helpers'], others)
     yield c.loses_all(c.link), 'lost-on-link', ('link', None, 'loss'), None
     yield len(switches) == 2, 'part-of-lifeguard', ('lifeguard', None, None), None
     yield swim['spread'] > c.end, 'long-spread', ('swim', None, 'spread'), (swim['spread'], c.end)
+    alike = max(0, c.suspicion['alpha'] - 2)
+    yield c.is_third and several and c.gossip is None, 'no-gossip', ('gossip', None, None), None
+    yield (c.is_third and several and c.lifeguard['suspicion'] and wanted != alike, 'odd-confirmations',
+           ('lifeguard', None, 'confirmations'), (wanted, alike))
+    yield c.is_quiet(), 'quiet-run', (None, None, 'end'), None
 
 
 def told_of_items(c):
@@ -232,14 +268,14 @@ def told_of_items(c):
         about, late = ('slow', place, None), c.trip() + 2 * slow['extra']
         yield slow['from'] > c.end, 'slow-past-end', about, (slow['from'], c.end)
         yield c.gone.get(slow['member'], slow['from'] + 1) <= slow['from'], 'slow-while-down', about, None
-        yield late > c.swim['timeout'], 'slow-answer', ('slow', place, 'extra'), (late, c.swim['timeout'])
+        yield len(c.members) > 1 and late > c.swim['timeout'], 'slow-answer', ('slow', place, 'extra'), (late, c.swim['timeout'])
     crashed = {it['member']: (it['at'], place) for place, it in enumerate(c.crashes)}
     for name, _ in c.members:
         if name in crashed:
             at, place = crashed[name]
             about = ('crash', place, None)
             yield at > c.end, 'crash-past-end', about, (at, c.end)
-            yield at <= c.end < at + c.least(), 'crash-unconfirmed', about, (at + c.least(), c.end)
+            yield len(c.members) > 1 and at <= c.end < at + c.least(), 'crash-unconfirmed', about, (at + c.least(), c.end)
     for table, items in (('leave', c.leaves), ('cut', c.cuts)):
         for place, item in enumerate(items):
             yield item['at'] > c.end, f'{table}-past-end', (table, place, None), (item['at'], c.end)
@@ -247,6 +283,8 @@ def told_of_items(c):
         about, begins = ('pause', place, None), pause['from']
         yield begins > c.end, 'pause-past-end', about, (begins, c.end)
         yield c.gone.get(pause['member'], begins + 1) <= begins, 'pause-while-down', about, None
+        lasts = pause['until'] - begins
+        yield len(c.members) > 1 and lasts > c.least(), 'long-pause', about, (lasts, c.least())
 
 
 def warnings(c):
@@ -302,8 +340,7 @@ def lines(c, file):
         yield f'accusers {accusers} ticks {c.lasts(accusers)}'
     for health, (period, timeout) in enumerate(c.paces()):
         yield f'health {health} period {period} timeout {timeout}'
-    if c.lifeguard['probe']:
-        yield f'nack {c.nack()}'
+    yield f'nack {c.nack()}'
     limit = c.limit()
     yield f'news messages {limit} all {limit * len(c.members)} carry {c.swim["carry"]}'
     if c.gossip:

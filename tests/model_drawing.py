@@ -4,12 +4,23 @@ Written from docs/PAGES.md alone; how they look is the style's, which isn't mode
 """
 
 import html
+import unicodedata
 
 
 # ---- Numbers and words ----
 
+# characters that are invisible or turn the direction of others, beside control characters, each from and to which
+HIDDEN = ((0xad, 0xad), (0x61c, 0x61c), (0x200b, 0x200f), (0x2028, 0x202e), (0x2060, 0x206f), (0xfeff, 0xfeff), (0xe0000, 0xe007f))
+
+
+def is_hidden(character):
+    number = ord(character)
+    return unicodedata.category(character) == 'Cc' or any(first <= number <= last for first, last in HIDDEN)
+
+
 def escaped(text):
-    return html.escape(text, quote=True).replace('&#x27;', '&#39;')
+    shown = html.escape(text, quote=True).replace('&#x27;', '&#39;')
+    return ''.join(f'\\u{{{ord(it):x}}}' if is_hidden(it) else it for it in shown)
 
 
 def grouped(number):
@@ -20,6 +31,11 @@ def place(value, most):
     """Where a value stands on an axis, in percent."""
     parts = 10000 if value >= most else value * 10000 // most
     return f'{parts // 100}.{parts % 100:02}%'
+
+
+def heads(values):
+    """The heads of columns."""
+    return ''.join(f'<th scope="col">{value}</th>' for value in values)
 
 
 def cells(tag, values):
@@ -106,3 +122,13 @@ def rule(kind, at, most):
 
 def dot(kind, at, most):
     return f'<path class="halo" d="M{at} {most // 2}h0"/><path class="dot {kind}" d="M{at} {most // 2}h0"/>'
+
+
+# ---- Pages ----
+
+def page_opening(name, kind, style):
+    """A page up to the words of its heading. A browser takes the styles within it, and loads and runs nothing."""
+    return ('<!DOCTYPE html>\n<html lang="en"><head><meta charset="utf-8">'
+            '<meta http-equiv="Content-Security-Policy" content="default-src \'none\'; style-src \'unsafe-inline\'">'
+            '<meta name="viewport" content="width=device-width,initial-scale=1">'
+            f'<title>{escaped(name)}{kind}</title><style>{style}</style></head>\n<body><main><header><h1>')

@@ -66,7 +66,7 @@ class Page:
         text = '1 member crashed' if crashed == 1 else f'{crashed} members crashed'
         if not found:
             return text + ', and nobody found out. '
-        text += f', {len(found)} of them were found' if len(found) < crashed else ''
+        text += f', {len(found)} of them {"was" if len(found) == 1 else "were"} found' if len(found) < crashed else ''
         upto = f' to {grouped(max(found))}' if max(found) > min(found) else ''
         return f'{text}: first held dead after {grouped(min(found))}{upto} ticks. '
 

@@ -1,5 +1,5 @@
-"""The page of a sweep, a second time: what `sweep --page` writes of the objects that `sweep --jsonl` prints, and of
-what `spread_of` adds to them.
+"""The page of a sweep, a second time: what `sweep --page` writes of the objects that `sweep --jsonl` prints, of
+what `spread_of` adds to them, and of what is wanted.
 
 Written from docs/PAGES.md ("The page of a sweep"); how it looks is the style's, which isn't modelled but taken as it stands.
 """
@@ -7,7 +7,8 @@ Written from docs/PAGES.md ("The page of a sweep"); how it looks is the style's,
 import itertools
 from collections import namedtuple
 
-from model_drawing import axis_across, axis_up, cells, escaped, figure, grouped, place, plot
+from model_drawing import FIGURE_END, axis_across, axis_up, cells, escaped, figure, grouped, heads, page_opening, place, plot
+from model_sweeps import more_runs
 from model_sweep_times import times_figure
 
 # what the figures of keys show of a case, and how its 5th percentile, median and 95th percentile are called in its JSON object
@@ -15,8 +16,24 @@ STATISTICS = (('First suspected', 'suspect'), ('First confirmed', 'confirm'), ('
 # so many cases are told in words, and so many lines drawn in a plot, at the most
 MOST_TOLD, MOST_LINES = 12, 8
 
-# a case: its figures, and where it is on the front, of those with a median
-Front = namedtuple('Front', 'median place')
+# the statistics of which something may be wanted, in words
+WANTED = {
+    'out': 'share of runs with a false death',
+    'suspect_p50': 'ticks until a crash is first suspected, median',
+    'confirm_p50': 'ticks until a crash is first confirmed, median',
+    'confirm_p99': 'ticks until a crash is first confirmed, 99th percentile',
+    'confirm_greatest': 'ticks until a crash is first confirmed, greatest',
+    'last_p50': 'ticks until a crash is last confirmed, median',
+    'last_greatest': 'ticks until a crash is last confirmed, greatest',
+    'false_suspect': 'false suspicions per run',
+    'thrown_out': 'false deaths in all runs',
+    'messages': 'messages per member per 1,000 ticks',
+}
+# how far a safe setting's interval reaches at most, in thousandths
+SAFE = 50
+
+# a case on the front: where it stands across, and its place among all
+Front = namedtuple('Front', 'across place')
 # how times spread: their 5th percentile, median and 95th percentile, each in ticks or None
 Spread = namedtuple('Spread', 'early median late')
 
@@ -33,7 +50,12 @@ class Shown:
         self.false, self.messages = hundredths(told['false_suspect']), hundredths(told['messages'])
         self.low, self.high = round(10 * told['share_low']), round(10 * told['share_high'])
         self.share = self.runs_with * 1000 // self.runs
+        self.deaths = told['thrown_out'] * 100 // self.runs
         self.is_best = told['front']
+        self.told = told
+
+    def safety(self):
+        return 'safe' if self.high <= SAFE else 'unsafe' if self.low > SAFE else 'unknown'
 
 
 def hundredths(rate):
@@ -62,8 +84,17 @@ def of_runs(case):
     return f'{grouped(case.runs_with)} of {grouped(case.runs)}'
 
 
-def folded(summary, heads):
-    return (f'<details><summary>{summary}</summary><div class="wide"><table><thead><tr>{cells("th", heads)}</tr></thead><tbody>')
+def counted(number, one, many):
+    return f'{grouped(number)} {one if number == 1 else many}'
+
+
+def row_head(words):
+    return f'<th scope="row">{words}</th>'
+
+
+def folded(summary, caption, columns):
+    return (f'<details><summary>{summary}</summary><div class="wide"><table><caption>{caption}</caption>'
+            f'<thead><tr>{heads(columns)}</tr></thead><tbody>')
 
 
 FOLDED_END = '</tbody></table></div></details></section>\n'
@@ -74,13 +105,18 @@ FOLDED_END = '</tbody></table></div></details></section>\n'
 class Page:
     """The page of a sweep of these settings, with so many seeds, or at most so many, over the cases in their order."""
 
-    def __init__(self, settings, seeds, at_most, cases):
+    def __init__(self, settings, seeds, at_most, cases, wants):
         self.settings, self.seeds, self.cases = settings, seeds, [Shown(told) for told in cases]
         self.at_most, self.all_told = at_most, cases
         self.choices = list(itertools.product(*(values for _, values in settings)))
-        on_front = [Front(case.confirmed, at) for at, case in enumerate(self.cases)
-                    if case.is_best and case.confirmed is not None]
+        self.wants, self.crashed = wants, any(told['crashes'] for told in cases)
+        on_front = [Front(self.across(case), at) for at, case in enumerate(self.cases)
+                    if case.is_best and self.across(case) is not None]
         self.front = sorted(on_front)
+
+    def across(self, case):
+        """Where a case stands across the front: by its median, or by its messages where no run has a crash."""
+        return case.confirmed if self.crashed else case.messages
 
     def told(self, at, but=None):
         """The settings of a case, all but one."""
@@ -90,71 +126,133 @@ class Page:
     def name(self, at):
         return self.told(at) if self.settings else 'the scenario as it is'
 
-    # what to take, in words
+    # what is wanted, and the answer
+
+    def question(self):
+        if not self.wants:
+            return ''
+        text = figure('answer', 'The question and its answer')
+        text += '<p class="lead">Is there a setting with</p><ul class="goals">'
+        for want in self.wants:
+            text += f'<li>{WANTED[want.partition("<=")[0]]}: <code>{escaped(want)}</code></li>'
+        return text + '</ul>\n' + self.answer() + FIGURE_END
+
+    def answer(self):
+        best = [at for at, case in enumerate(self.cases) if case.told['best']]
+        may = [at for at, case in enumerate(self.cases) if case.told['meets'] == 'may']
+        if best:
+            return ('<p class="lead">Yes. Of the settings that are shown to meet all of this, the best is</p><ol class="answers">'
+                    f'{self.item(best[0])}</ol>\n{self.caution(best[0])}')
+        if not may:
+            return '<p class="lead">No. Each setting that was tried is shown to miss one of these goals.</p>\n'
+        text = ('<p class="lead">No setting is shown to meet all of this yet. These may; so many more runs of each would decide, if '
+                'its share of runs with a false death stays as it is:</p><ol class="answers">')
+        return text + ''.join(self.open_item(at) for at in may) + '</ol>\n'
+
+    def caution(self, at):
+        safety, interval_of_share = self.cases[at].safety(), '95&nbsp;% interval of its share of runs with a false death'
+        if safety == 'safe':
+            return ''
+        told = (f'But it is unsafe: the whole {interval_of_share} is above 5&nbsp;%.' if safety == 'unsafe' else
+                f'Whether it is safe is unknown: the {interval_of_share} reaches above 5&nbsp;%.')
+        return f'<p class="lead">{told} The goals allow that.</p>\n'
+
+    def open_item(self, at):
+        # a setting that may meet all is open in the share alone
+        more = more_runs([want for want in self.wants if want.startswith('out<=')], self.cases[at].told)
+        told = ('no number of runs would decide: its share of runs with a false death is the goal itself' if more == '-' else
+                f'<b>{more}</b> more {"run" if more == 1 else "runs"} would decide')
+        return f'<li class="unknown"><span class="number">{grouped(at + 1)}</span><code>{self.name(at)}</code><span>{told}</span></li>'
+
+    # the trade-off, in words
 
     def summary(self):
-        text = (f'<p class="soft">Settings tried: {grouped(len(self.choices))}. '
-                f'Seeds for each: {"at most " if self.at_most else ""}{grouped(self.seeds)}.</p>\n')
+        text = figure('trade-off', 'The trade-off')
+        text += (f'<p class="soft">Settings tried: {grouped(len(self.choices))}. '
+                 f'Seeds for each: {"at most " if self.at_most else ""}{grouped(self.seeds)}.</p>\n')
+        return text + self.trade_off() + FIGURE_END
+
+    def trade_off(self):
         if not self.front:
-            return text + '<p class="lead">No case confirms half of its crashes.</p>\n'
-        text += ('<p class="lead">Take one of these. Each other setting that confirms half of its crashes is no faster and no '
-                 'safer than one of them. The further down, the slower and the safer.</p><ol class="answers">')
-        text += ''.join(self.answer(at) for _, at in self.front[:MOST_TOLD]) + '</ol>\n'
+            none = 'No setting confirms half of its crashes.' if self.crashed else 'Each run ends at moment 0, so there is nothing to compare.'
+            return f'<p class="lead">{none}</p>\n'
+        text = ('<p class="lead">These settings confirm half of their crashes, and no other setting beats them: none is at least as '
+                'fast and at least as safe, and better in one of the two. The further down, the slower and the safer.</p>'
+                if self.crashed else
+                '<p class="lead">No run has a crash, so settings are compared by their false deaths and their messages. No other '
+                'setting beats these: none sends at most as many messages and is at least as safe, and is better in one of the '
+                'two. The further down, the more messages and the safer.</p>')
+        text += ('<p class="soft">A false death: a member that has neither crashed nor left is declared dead. Safe: the whole '
+                 '95&nbsp;% interval of the share of runs with a false death is at most 5&nbsp;%. Unsafe: the whole interval is '
+                 'above 5&nbsp;%. Unknown: only a part of it is, so more runs would decide.</p><ol class="answers">')
+        text += ''.join(self.item(at) for _, at in self.front[:MOST_TOLD]) + '</ol>\n'
         if len(self.front) > MOST_TOLD:
-            text += f'<p class="soft">And more on the front: {grouped(len(self.front) - MOST_TOLD)}, starred in the table.</p>\n'
+            more = counted(len(self.front) - MOST_TOLD, 'more setting is', 'more settings are')
+            text += f'<p class="soft">{more} on the front; the table of all settings has a star there.</p>\n'
         return text
 
-    def answer(self, at):
+    def item(self, at):
         case = self.cases[at]
-        return (f'<li><span class="number">{grouped(at + 1)}</span><code>{self.name(at)}</code>'
-                f'<span>confirms in <b>{grouped(case.confirmed)}</b> ticks</span>'
-                f'<span>healthy thrown out in <b>{of_runs(case)}</b> runs ({interval(case)})</span></li>')
+        speed = (f'<span>first confirmed after <b>{time(case.confirmed)}</b> ticks, median</span>' if self.crashed else
+                 f'<span><b>{rate(case.deaths)}</b> false deaths per run</span>')
+        return (f'<li class="{case.safety()}"><span class="number">{grouped(at + 1)}</span><code>{self.name(at)}</code>{speed}'
+                f'<span>a false death in <b>{of_runs(case)}</b> runs ({interval(case)})</span>'
+                f'<span><b>{rate(case.messages)}</b> messages per member per 1,000 ticks</span>'
+                f'<b class="safety">{case.safety()}</b></li>')
 
-    # every case by its speed and its safety
+    # every case by its speed, or its messages, and its safety
 
     def front_figure(self):
-        across = max([1] + [case.confirmed or 0 for case in self.cases])
+        across = max([1] + [self.across(case) or 0 for case in self.cases])
         across += across // 16
         up = max([10] + [case.high for case in self.cases])
-        text = figure('front', 'Fast or safe: every setting')
-        text += ('<p class="soft">Each dot is a setting: the further left, the faster; the lower, the safer. Up: the share of runs '
-                 'in which a healthy member was thrown out, with its 95&nbsp;% interval as a bar. A larger dot sends more '
-                 'messages. The numbered dots, joined by a line, are on the front: no other setting is as good in both and '
-                 'better in one.</p><div class="chart">')
+        left, larger, title, told, unit = (
+            ('the faster', 'A larger dot sends more messages. ', 'by its speed and its safety',
+             'the median time until a crash is first confirmed', 'ticks until a crash is first confirmed, median')
+            if self.crashed else
+            ('the fewer messages', '', 'by its messages and its safety', 'messages per member', 'messages per member per 100,000 ticks'))
+        text = figure('front', f'{"Fast" if self.crashed else "Few messages"} or safe: every setting')
+        text += (f'<p class="soft">Each dot is a setting: the further left, {left}; the lower, the safer. Up: the share of runs '
+                 f'with a false death, with its 95&nbsp;% interval as a bar. {larger}The numbered dots, joined by a line, are on '
+                 'the front: no other setting is as good in both and better in one.</p><div class="chart">')
         text += axis_up(up, percent) + '<div class="plane">'
-        text += plot('cases', across, up, 'Every setting by its speed and its safety',
-                     'Across: the median time until a crash is first confirmed. Up: the share of runs in which a healthy '
-                     'member was thrown out. The table beneath has the settings on the front.')
+        text += plot('cases', across, up, f'Every setting {title}',
+                     f'Across: {told}. Up: the share of runs with a false death. The table beneath has the settings on the front.')
         text += ''.join(self.dot(case, up) for case in self.cases if not case.is_best) + self.joined(up)
         text += ''.join(self.dot(case, up) for case in self.cases if case.is_best) + '</svg>' + self.numbers(across, up)
-        text += '</div>' + axis_across(across, 'ticks until a crash is first confirmed, median') + '</div>'
+        text += '</div>' + axis_across(across, unit) + '</div>'
         return text + self.front_table()
 
     def dot(self, case, up):
-        if case.confirmed is None:
+        across = self.across(case)
+        if across is None:
             return ''
         best = ' best' if case.is_best else ''
         most = max([1] + [it.messages or 0 for it in self.cases])
         size = min((case.messages or 0) // (most // 5 + 1), 4) + 1
-        return (f'<path class="span{best}" d="M{case.confirmed} {up - case.high}V{up - case.low}"/>'
-                f'<path class="point r{size}{best}" d="M{case.confirmed} {up - case.share}h0"/>')
+        return (f'<path class="span{best}" d="M{across} {up - case.high}V{up - case.low}"/>'
+                f'<path class="point r{size}{best}" d="M{across} {up - case.share}h0"/>')
 
     def joined(self, up):
-        points = [f'{"L" if nth else "M"}{median} {up - self.cases[at].share}' for nth, (median, at) in enumerate(self.front)]
+        points = [f'{"L" if nth else "M"}{across} {up - self.cases[at].share}' for nth, (across, at) in enumerate(self.front)]
         return f'<path class="joined" d="{"".join(points)}"/>'
 
     def numbers(self, across, up):
-        return ''.join(f'<span class="number" aria-hidden="true" style="left:{place(median, across)};'
-                       f'bottom:{place(self.cases[at].share, up)}">{grouped(at + 1)}</span>' for median, at in self.front)
+        return ''.join(f'<span class="number" aria-hidden="true" style="left:{place(mine, across)};'
+                       f'bottom:{place(self.cases[at].share, up)}">{grouped(at + 1)}</span>' for mine, at in self.front)
 
     def front_table(self):
-        text = folded('The front in numbers', ('', 'setting', 'confirmed, median', 'runs with a healthy member thrown out',
-                                               'their share', '95&nbsp;% interval', 'messages a member and 1,000 ticks'))
+        text = folded('The front in numbers', 'The settings on the front',
+                      ('number', 'setting', 'confirmed, median', 'runs with a false death', 'their share', '95&nbsp;% interval',
+                       'false deaths per run', 'messages per member per 1,000 ticks'))
         for _, at in self.front:
             case = self.cases[at]
-            text += '<tr>' + cells('td', (grouped(at + 1), self.name(at), time(case.confirmed), of_runs(case),
-                                          percent(case.share), interval(case), rate(case.messages))) + '</tr>'
+            values = (self.name(at), time(case.confirmed), *self.shares(case), rate(case.messages))
+            text += f'<tr>{row_head(grouped(at + 1))}{cells("td", values)}</tr>'
         return text + FOLDED_END
+
+    def shares(self, case):
+        return of_runs(case), percent(case.share), interval(case), rate(case.deaths)
 
     # how the times of those on the front spread
 
@@ -175,23 +273,23 @@ class Page:
     # all cases
 
     def table(self):
-        heads = ['', *(escaped(key) for key, _ in self.settings), 'confirmed, median', 'runs with a healthy member thrown out',
-                 'their share', '95&nbsp;% interval', 'suspected, median', 'confirmed, 99th percentile', 'confirmed, greatest',
-                 'last confirmed, median', 'last confirmed, greatest', 'false suspicions a run',
-                 'messages a member and 1,000 ticks']
+        columns = ['number', *(escaped(key) for key, _ in self.settings), 'confirmed, median', 'runs with a false death',
+                   'their share', '95&nbsp;% interval', 'false deaths per run', 'suspected, median', 'confirmed, 99th percentile',
+                   'confirmed, greatest', 'last confirmed, median', 'last confirmed, greatest', 'false suspicions per run',
+                   'messages per member per 1,000 ticks']
         text = figure('cases', 'All settings')
         text += ('<p class="soft">Times are in ticks since the crash, over all crashes of all runs; a dash stands where too few '
                  'crashes were detected. Starred settings are on the front.</p>')
-        text += f'<div class="wide"><table><thead><tr>{cells("th", heads)}</tr></thead><tbody>\n'
+        text += f'<div class="wide"><table><caption>All settings</caption><thead><tr>{heads(columns)}</tr></thead><tbody>\n'
         text += ''.join(self.row(at, case) for at, case in enumerate(self.cases))
         return text + '</tbody></table></div></section>\n'
 
     def row(self, at, case):
         begin, star = ('<tr class="best">', '&#9733;&nbsp;') if case.is_best else ('<tr>', '')
         times = (case.suspected, case.late, case.latest, case.last, case.last_latest)
-        values = (f'{star}{grouped(at + 1)}', *map(word, self.choices[at]), time(case.confirmed), of_runs(case),
-                  percent(case.share), interval(case), *map(time, times), rate(case.false), rate(case.messages))
-        return begin + cells('td', values) + '</tr>\n'
+        values = (*map(word, self.choices[at]), time(case.confirmed), *self.shares(case), *map(time, times), rate(case.false),
+                  rate(case.messages))
+        return f'{begin}{row_head(star + grouped(at + 1))}{cells("td", values)}</tr>\n'
 
 
 class KeyFigure:
@@ -224,7 +322,8 @@ class KeyFigure:
                      f'<code>{self.other_keys(line, 0)}</code></li>')
         text += '</ul>'
         if self.others > MOST_LINES:
-            text += f'<p class="soft">Not drawn are {grouped(self.others - MOST_LINES)} more; the table of all settings has them.</p>'
+            more = counted(self.others - MOST_LINES, 'more line is', 'more lines are')
+            text += f'<p class="soft">{more} not drawn; the table of all settings has all figures.</p>'
         text += '<div class="many">' + ''.join(self.plot(nth, title) for nth, (title, _) in enumerate(STATISTICS)) + '</div>'
         return text + self.table()
 
@@ -273,8 +372,8 @@ class KeyFigure:
     def table(self):
         suspected, confirmed, last = (tuple(f'{what}, {which}' for which in ('5th percentile', 'median', '95th percentile'))
                                       for what in ('suspected', 'confirmed', 'last confirmed'))
-        text = folded('These figures in numbers', ('value', 'other keys', *suspected, *confirmed, 'confirmed, 99th percentile',
-                                                   *last, 'last confirmed, greatest'))
+        text = folded('These figures in numbers', 'What is drawn, in ticks',
+                      ('value', 'other keys', *suspected, *confirmed, 'confirmed, 99th percentile', *last, 'last confirmed, greatest'))
         for line in self.lines:
             for nth, value in enumerate(self.values):
                 case = self.case(line, nth)
@@ -289,12 +388,10 @@ def word(value):
     return str(value).lower()
 
 
-def page_of(name, release, style, settings, seeds, at_most, cases):
-    """The page of the sweep of a file of this name."""
-    page = Page(settings, seeds, at_most, cases)
-    head = ('<!DOCTYPE html>\n<html lang="en"><head><meta charset="utf-8">'
-            '<meta name="viewport" content="width=device-width,initial-scale=1">'
-            f'<title>{escaped(name)} - swimsim sweep</title><style>{style}</style></head>\n'
-            f'<body><main><header><h1>Which setting of {escaped(name)}?</h1></header>\n')
+def page_of(name, release, style, settings, seeds, at_most, cases, wants=()):
+    """The page of the sweep of a file of this name, of which this is wanted."""
+    page = Page(settings, seeds, at_most, cases, wants)
+    head = page_opening(name, ' - swimsim sweep', style) + f'Which setting of {escaped(name)}?</h1></header>\n'
     end = f'<footer class="soft">swimsim {escaped(release)}</footer></main></body></html>\n'
-    return head + page.summary() + page.front_figure() + page.times_figure() + page.key_figures() + page.table() + end
+    times = page.times_figure() + page.key_figures() if page.crashed else ''
+    return head + page.question() + page.summary() + page.front_figure() + times + page.table() + end

@@ -3,7 +3,7 @@
 Written from docs/PAGES.md ("The page of a sweep").
 """
 
-from model_drawing import FIGURE_END, PLOT_END, axis_across, axis_up, cells, figure, grouped, plot, rule
+from model_drawing import FIGURE_END, PLOT_END, axis_across, axis_up, cells, figure, grouped, heads, plot, rule
 from model_sweeps import percentile
 
 # so many bins have the times of a case, and so many cases are drawn, at the most
@@ -72,13 +72,14 @@ def times_figure(cases):
     drawn = [Times(*case) for case in cases[:MOST_DRAWN]]
     across = max([1] + [case.end() for case in drawn])
     text = figure('times', 'How the times to confirm spread')
-    text += ('<p class="soft">For each setting on the front: how many crashes of all its runs were first confirmed after how '
-             'many ticks. A bar is as wide as the span of ticks that it counts, and all charts reach as far as the latest of '
+    text += ('<p class="soft">For each of the fastest settings on the front, at most 12: how many crashes of all its runs were '
+             'first confirmed after how many ticks. A bar is as wide as the span of ticks that it counts, and all charts reach as far as the latest of '
              'these times; the upright rule is the median.</p>')
     text += '<div class="many">' + ''.join(case.chart(across) for case in drawn) + '</div>'
     if len(cases) > MOST_DRAWN:
-        text += f'<p class="soft">And more on the front, not drawn: {grouped(len(cases) - MOST_DRAWN)}.</p>'
-    heads = ('setting', 'ticks until first confirmed', 'crashes')
-    text += ('<details><summary>These times in numbers</summary><div class="wide"><table><thead><tr>'
-             f'{cells("th", heads)}</tr></thead><tbody>')
+        more = len(cases) - MOST_DRAWN
+        text += f'<p class="soft">{grouped(more)} more {"setting on the front is" if more == 1 else "settings on the front are"} not drawn.</p>'
+    text += ('<details><summary>These times in numbers</summary><div class="wide"><table>'
+             '<caption>How many crashes were first confirmed when</caption><thead><tr>'
+             f'{heads(("setting", "ticks until first confirmed", "crashes"))}</tr></thead><tbody>')
     return text + ''.join(case.rows() for case in drawn) + '</tbody></table></div></details>' + FIGURE_END

@@ -214,9 +214,9 @@ def cases_text(settings, cases):
     widths = [max(map(len, [key, *map(word, values)])) for key, values in settings]
     widths += [*(max(8, len(name)) for name in names), len('front')]
     lines = [[*(key for key, _ in settings), *names, 'front']]
-    all_told = told_of_cases(cases)
+    all_told, costs = told_of_cases(cases), costs_of(cases)
     for (case, _), told in zip(cases, all_told):
-        mark = '-' if any(beats(other, told) for other in all_told) else '*'
+        mark = '-' if any(beats(other, told, costs) for other in all_told) else '*'
         lines.append([*map(word, case), *(told[name] for name in names), mark])
     return ''.join('  '.join(str(item).rjust(width) for item, width in zip(line, widths)) + '\n'
                    for line in lines)
@@ -232,14 +232,24 @@ def figure(told, name):
     return inf if told[name] == '-' else Fraction(told[name])
 
 
-def place_of(told):
-    """By what a case is compared with others: the median time to confirm, and the share of runs with members thrown out."""
-    return figure(told, 'confirm_p50'), Fraction(told['runs_with'], told['runs'])
+def has_crash(cases):
+    """Whether some run of the sweep has a crash."""
+    return any(figures['crashes'] for _, runs in cases for _, figures in runs)
 
 
-def beats(one, other):
+def costs_of(cases):
+    """The figure by which cases are compared, beside the share of runs with a false death."""
+    return 'confirm_p50' if has_crash(cases) else 'messages'
+
+
+def share_of(told):
+    return Fraction(told['runs_with'], told['runs'])
+
+
+def beats(one, other, costs):
     """Whether the one case is at most as great in both, and less in one."""
-    return place_of(one) != place_of(other) and all(mine <= its for mine, its in zip(place_of(one), place_of(other)))
+    mine, its = ((figure(told, costs), share_of(told)) for told in (one, other))
+    return mine != its and mine[0] <= its[0] and mine[1] <= its[1]
 
 
 # ---- What cases answer ----
@@ -293,7 +303,9 @@ def answer_text(wants, settings, cases):
         found = {answers[want][number] for want in wants}
         if found == {'shown'}:
             lines.append(f'meets: {name}')
-            meeting.append((figure(all_told[number], 'confirm_p50'), figure(all_told[number], 'messages'), number, name))
+            told = all_told[number]
+            first = figure(told, 'confirm_p50') if has_crash(cases) else share_of(told)
+            meeting.append((first, figure(told, 'messages'), number, name))
         elif 'refuted' not in found:
             lines.append(f'may: {name} more_runs={more_runs(wants, all_told[number])}')
     lines.append(f'best: {min(meeting)[3] if meeting else "none"}')

@@ -10,8 +10,8 @@ EXAMPLES = DATA.parent / 'examples'
 SHOWN = ('crash', 'slow-member', 'slow-member-without-lifeguard', 'cut-between-sites', 'rolling-join', 'rolling-restart', 'pauses',
          'three-sites-wan', 'quiet')
 WAYS = ([], ['--workers', '2'], ['--workers', '3', '--parts', '3'])
-# a name that is no markup in the page
-NAME = '<script>&"it\'s".toml'
+# a name that is no markup in the page, and of which all is seen
+NAME = '<script>&"it\'s"\u202e.toml'
 
 
 def check(program, text):

@@ -145,7 +145,7 @@ def check_told(program, sweep, count):
     names = [f'piece-{number}.csv' for number in range(count, 0, -1)]
     for number, name in enumerate(reversed(names), 1):
         program.call(['sweep', 's.toml', '--table', name, '--shard', f'{number}/{count}', *options])
-    for told in ([], wants, ['--jsonl'], [*wants, '--jsonl']):
+    for told in (wants, [*wants, '--jsonl'], [], ['--jsonl']):
         whole = program.call(['sweep', 's.toml', '--table', 'w.csv', '--page', 'w.html', *options, *told])
         for page in ([], ['--page', 'p.html', '--name', 's.toml']):
             ran = program.call(['join', *names, '--table', 't.csv', *page, *told])

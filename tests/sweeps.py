@@ -5,6 +5,7 @@ import json
 from math import prod
 
 import texts
+from model_drawing import escaped
 from model_sweep_page import page_of
 from model_sweep_times import spread_of
 from model_sweeps import answer_text, cases_text, swept, table_of
@@ -13,6 +14,8 @@ from scenarios import document_of
 from worked import text_of
 
 FOLDER = DATA / 'sweeps'
+# a name that is no markup in the page, and of which all is seen
+NAME = '<b>\u202elmot.\u200b\x7f'
 WORKERS = ([], ['--workers', '1'], ['--workers', '2'], ['--workers', '3'], ['--workers', '64'])
 
 
@@ -111,30 +114,36 @@ def check(program, sweep):
     objects = objects_of(lines, keys)
     expect_ran(program.call([*words, '--jsonl']), 0, objects, b'', 'objects ')
     expect('table beside objects', program.held('t.csv'), table)
-    check_page(program, [*words, '--page', 'p.html'], sweep, lines, objects, spreads)
+    plain = check_page(program, [*words, '--page', 'p.html'], sweep, lines, objects, spreads)
     expect('table beside the page', program.held('t.csv'), table)
-    check_read(program, wants, lines)
+    check_read(program, wants, lines, plain)
 
 
-def check_read(program, wants, lines):
-    """Reads the table of the sweep, beside its page: `page` makes that page, and `join` gives its lines and itself."""
+def check_read(program, wants, lines, plain):
+    """Reads the table of the sweep, beside its page: `page` makes that page without what is wanted, and `join` gives its lines,
+    its page and itself."""
     expect_ran(program.call(['page', 't.csv', '--out', 'q.html', '--name', 's.toml']), 0, b'', b'', 'page of the table ')
-    expect('page of the table', program.held('q.html'), program.held('p.html'))
-    expect_ran(program.call(['join', 't.csv', '--table', 'u.csv', *wants]), 0, lines, b'', 'join of the table ')
+    expect('page of the table', program.held('q.html'), plain)
+    program.call(['page', 't.csv', '--out', 'q.html', '--name', NAME])
+    expect('page by a name', program.held('q.html'), plain.replace(b's.toml', escaped(NAME).encode()))
+    words = ['join', 't.csv', '--table', 'u.csv', '--page', 'r.html', '--name', 's.toml', *wants]
+    expect_ran(program.call(words), 0, lines, b'', 'join of the table ')
     expect('join of the table', program.held('u.csv'), program.held('t.csv'))
+    expect('page of the join', program.held('r.html'), program.held('p.html'))
 
 
 def check_page(program, words, sweep, lines, objects, spreads):
     """Compares the page of a sweep with the model's, over these objects of its cases, and how their times spread; its style
-    is taken as it stands."""
+    is taken as it stands. Answers the page without what is wanted."""
     expect_ran(program.call(words), 0, lines, b'', 'page ')
     page = program.held('p.html')
     style = page.partition(b'<style>')[2].partition(b'</style>')[0].decode()
     release = program.call(['--version']).out.split()[1].decode()
     told = [{**json.loads(line), **spread} for line, spread in zip(objects.splitlines(), spreads, strict=True)]
     seeds = len(seeds_of(sweep.get('seeds')) or [0])
-    wanted = page_of('s.toml', release, style, settings_of(sweep['set']), seeds, 'until' in sweep, told)
-    expect('page', page, wanted.encode())
+    shown = ('s.toml', release, style, settings_of(sweep['set']), seeds, 'until' in sweep, told)
+    expect('page', page, page_of(*shown, sweep.get('want', [])).encode())
+    return page_of(*shown).encode()
 
 
 def cases():

@@ -51,7 +51,7 @@ def begin(program, name):
 
 def check_room(program, name, way, sizes):
     """Runs with room for so many bytes in each file: where the trace has too little, it is a beginning and
-    the report is empty; where the report has, the trace is whole and the report is a beginning."""
+    the report is empty; where the report has, the trace is whole and the report is empty. Nothing else is left."""
     trace, report = of(name, 'trace'), of(name, 'report')
     for room in sizes:
         begin(program, name)
@@ -60,12 +60,13 @@ def check_room(program, name, way, sizes):
         rows = f'rows {trace.count(10) - 1}\n'.encode()
         expect_ran(ran, *((0, rows, b'') if is_done else REFUSED), what=f'{room} bytes, ')
         expect(f'{room} bytes, trace', program.held('t.csv'), trace[:room])
-        expect(f'{room} bytes, report', program.held('r.txt'), report[:room] if room >= len(trace) else b'')
+        expect(f'{room} bytes, report', program.held('r.txt'), report if room >= max(len(trace), len(report)) else b'')
+        expect(f'{room} bytes, names', sorted(os.listdir(program.folder)), ['r.txt', 's.toml', 't.csv'])
 
 
 def check_page_room(program, way, sizes):
-    """Runs with room for so many bytes in each file and a page longer than the trace and the report: once these have room, they are
-    whole and the page is a beginning; before, there is nothing of it."""
+    """Runs with room for so many bytes in each file and a page longer than the trace and the report: these are whole once they
+    have room, and there is nothing of the page. Nothing else is left."""
     words = ['run', 's.toml', '--trace', 't.csv', '--report', 'r.txt', '--page', 'p.html', *way]
     begin(program, 'two-members')
     program.call(words)
@@ -74,8 +75,9 @@ def check_page_room(program, way, sizes):
         program.keep('p.html', 'an older page\n')
         expect_ran(program.call(words, room=room), *REFUSED, what=f'{room} bytes, ')
         expect(f'{room} bytes, trace', program.held('t.csv'), trace[:room])
-        expect(f'{room} bytes, report', program.held('r.txt'), report[:room] if room >= len(trace) else b'')
-        expect(f'{room} bytes, page', program.held('p.html'), page[:room] if room >= max(len(trace), len(report)) else b'')
+        expect(f'{room} bytes, report', program.held('r.txt'), report if room >= max(len(trace), len(report)) else b'')
+        expect(f'{room} bytes, page', program.held('p.html'), b'')
+        expect(f'{room} bytes, names', sorted(os.listdir(program.folder)), ['p.html', 'r.txt', 's.toml', 't.csv'])
 
 
 def check_table_room(program, workers, sizes):

@@ -8,7 +8,7 @@ use Rattle.answers.specs.declared.statistic.Statistic.TheVariants.{Out}
 use Rattle.answers.specs.declared.want.Want.{Want}
 use Rattle.answers.specs.Statistics.{figure_of, parts_of}
 use Rattle.answers.specs.Bounds.{is_up_to, is_past, runs_that_tell}
-use Rattle.answers.specs.Front.{no_later}
+use Rattle.answers.specs.Front.{has_crash, is_no_more_often, no_later}
 
 -- a case has at most 1,000,000 runs, and members are thrown out in some of them
 pub record HasFewRuns (case : CaseSummary) : Type 0 where
@@ -49,12 +49,19 @@ more_runs (want ∷ wants) case =
     else option_map (λ runs. runs - case.runs) (runs_that_tell want.most case.runs_with case.runs)
 
 -- one case is better than another: it confirms sooner by the median, or as soon with fewer messages
-abbrev pub is_better : CaseSummary → CaseSummary → Bool
-is_better a b = not (no_later b.confirm_p50 a.confirm_p50) || (no_later a.confirm_p50 b.confirm_p50 && not (no_later b.messages a.messages))
+abbrev pub is_sooner : CaseSummary → CaseSummary → Bool
+is_sooner a b = not (no_later b.confirm_p50 a.confirm_p50) || (no_later a.confirm_p50 b.confirm_p50 && not (no_later b.messages a.messages))
+
+-- where no run of the sweep has a crash: a lesser share of its runs has a false death, or as great a one with fewer messages
+abbrev pub is_safer : CaseSummary → CaseSummary → Bool
+is_safer a b = not (is_no_more_often b a) || (is_no_more_often a b && not (no_later b.messages a.messages))
+
+abbrev pub is_better : Bool → CaseSummary → CaseSummary → Bool
+is_better crashed a b = if crashed then is_sooner a b else is_safer a b
 
 -- the case meets all that is wanted, and of the others that do none is better
 abbrev pub is_best : List Want → List CaseSummary → CaseSummary → Bool
-is_best wants all case = meets wants case && not (list_any (λ other. meets wants other && is_better other case) all)
+is_best wants all case = meets wants case && not (list_any (λ other. meets wants other && is_better (has_crash all) other case) all)
 
 -- the first case that is best stands at this place
 pub record IsFirstBest (wants : List Want) (all : List CaseSummary) (place : ℕ) : Type 0 where

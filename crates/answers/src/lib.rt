@@ -11,8 +11,8 @@ mod statistic;
 mod telling;
 mod want;
 
-pub use choice::{best_of, may_meet, meets};
-pub use front::is_on_front;
+pub use choice::{best_of, may_meet, meets, more_runs};
+pub use front::{has_crash, is_on_front};
 pub use marks::{push_header, push_marked};
 pub use reading::{WantFault, read_wants};
 pub use statistic::Statistic;

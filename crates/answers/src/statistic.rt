@@ -73,7 +73,7 @@ impl Statistic {
 }
 
 /// A time as a figure.
-fn ticks(time: Option<u64>) -> Option<u128>
+pub(crate) fn ticks(time: Option<u64>) -> Option<u128>
     ensures { result ≡ time }
 {
     match time {

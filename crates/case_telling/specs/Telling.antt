@@ -1,8 +1,9 @@
 -- How the cases of a sweep are told, and the page of them.
-use Rattle.std.specs.Prelude.{◌≡◌, ℕ, Bool, List, false, true, map}
+use Rattle.std.specs.Prelude.{◌≡◌, ℕ, Bool, List, Option, false, true, map}
 use Rattle.cases.specs.Sweep.{Sweep}
 use Rattle.answers.specs.Answers.{AddsAnswer}
 use Rattle.answers.specs.Front.{is_on_front}
+use Rattle.answers.specs.Wants.{IsBestOf}
 use Rattle.answers.specs.declared.want.Want.{Want}
 use Rattle.case_json.specs.Objects.{TellsObjects}
 use Rattle.figures.specs.declared.summary.CaseSummary.{CaseSummary}
@@ -18,6 +19,9 @@ TellsCases false revived plan wants cases text = AddsAnswer plan.settings wants 
 abbrev pub front_of : List CaseSummary → List Bool
 front_of cases = map (λ case. is_on_front case cases) cases
 
--- the text is the page of these cases of a sweep of the scenario with this name, made by a release
-abbrev pub IsSweepPage : List ℕ → List ℕ → Sweep → List CaseSummary → List ℕ → Type 0
-IsSweepPage name release plan cases text = text ≡ page_text name release plan cases (front_of cases)
+-- The text is the page of these cases of a sweep of the scenario with this name, made by a release, where this is wanted: it answers by the same best case as
+-- the lines and the objects.
+pub record IsSweepPage (name release : List ℕ) (plan : Sweep) (wants : List Want) (cases : List CaseSummary) (text : List ℕ) : Type 0 where
+  pub best : Option ℕ
+  pub chosen : IsBestOf wants cases best
+  pub shown : text ≡ page_text name release plan wants best cases (front_of cases)

@@ -1,31 +1,37 @@
 //! The page of the cases of a sweep.
-ghost use Rattle.std.specs.Prelude.{◌≡◌, ◌<◌, ◌^◌, ◌+◌, IfOk, OnOk, OnErr, length, string_bytes};
+ghost use Rattle.std.specs.Prelude.{◌≡◌, All, ◌<◌, ◌^◌, ◌+◌, IfOk, OnOk, OnErr, length, string_bytes};
 ghost use Rattle.std.specs.Io.KnownBytes.{Appends};
+ghost use Rattle.answers.specs.Wants.{HasFewRuns, IsBounded};
 ghost use Rattle.cases.specs.Sweep.{case_count};
 ghost use Rattle.trace.specs.Sinks.{AppendsBeginning, failure_if_stopped};
 ghost use Rattle.case_telling.specs.Telling.{IsSweepPage, front_of};
 
-use answers::is_on_front;
+use answers::{Want, best_of, is_on_front};
 use base::Memory;
 use cases::Plan;
 use figures::CaseSummary;
 use std::alloc::Global;
-use sweep_page::{SweepShown, page};
+use sweep_page::{Question, SweepShown, page};
 use trace::{Sink, Stopped, put_all};
 
-/// The page of the cases of a sweep, which tells of the scenario and the release what `shown` says. There must be a summary
-/// for each case, in their order.
+/// The page of the cases of a sweep, which tells of the scenario and the release what `shown` says, and answers what is wanted
+/// as the lines do. There must be a summary for each case, in their order.
 pub fn cases_page(
     alloc: Global,
     shown: &SweepShown<'_>,
     plan: &Plan,
+    wants: &[Want<'_>],
     cases: &[CaseSummary],
 ) -> Result<String, Memory>
+    requires wants { All IsBounded wants.now }
+    requires few { All HasFewRuns cases.now }
     requires all { length cases.now ≡ case_count plan.now.settings }
-    ensures { IfOk result (λ text. IsSweepPage shown.now.name.now shown.now.release.now plan.now cases.now (string_bytes text)) }
+    ensures { IfOk result (λ text. IsSweepPage shown.now.name.now shown.now.release.now plan.now wants.now cases.now (string_bytes text)) }
 {
+    let best = best_of(wants, cases);
     let front = front_of(alloc, cases)?;
-    page(alloc, shown, plan, cases, front.as_slice())
+    let question = Question { wants, best };
+    page(alloc, shown, plan, &question, cases, front.as_slice())
 }
 
 /// Which cases no other beats.

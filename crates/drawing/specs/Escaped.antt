@@ -1,9 +1,29 @@
 -- A text as HTML and SVG show it.
-use Rattle.std.specs.Prelude.{ℕ, Bool, ◌||◌, ◌==◌, if◌then◌else◌, List, codes, encode_utf8}
+use Rattle.std.specs.Prelude.{ℕ, Bool, false, ◌||◌, ◌&&◌, ◌==◌, nat_le, if◌then◌else◌, List, ◌++◌, codes, encode_utf8}
+use Rattle.std.specs.Char.{is_control}
+use Rattle.std.specs.Fmt.{digits}
 use Rattle.std.specs.List.{flat_map}
 use Rattle.std.specs.Str.{chars}
 
--- a character that HTML would take for markup, by its name; every other one as itself
+-- the number lies between two others
+abbrev pub is_between : ℕ → ℕ → ℕ → Bool
+is_between low high c = nat_le low c && nat_le c high
+
+-- The character is invisible, or turns the direction of others: the soft hyphen, the mark of Arabic letters, joiners and marks of directions, separators
+-- and embeddings of directions, invisible operators and isolates, the byte order mark, and tags.
+abbrev pub is_hidden_format : ℕ → Bool
+is_hidden_format c =
+    c == 0xAD || (c == 0x61C || (is_between 0x200B 0x200F c || (is_between 0x2028 0x202E c || (is_between 0x2060 0x206F c || (c == 0xFEFF || is_between 0xE0000 0xE007F c)))))
+
+-- it is that, or a control character
+abbrev pub is_hidden : ℕ → Bool
+is_hidden c = is_control c || is_hidden_format c
+
+-- its number in base 16, as Rust's texts escape it
+unfoldable pub hidden_char : ℕ → List ℕ
+hidden_char c = codes "\\u{" ++ digits 16 false c ++ codes "}"
+
+-- a character that HTML would take for markup, by its name; one that is hidden, by its number; every other one as itself
 abbrev pub escaped_char : ℕ → List ℕ
 escaped_char c =
     if c == 38 then codes "&amp;"
@@ -11,6 +31,7 @@ escaped_char c =
     else if c == 62 then codes "&gt;"
     else if c == 34 then codes "&quot;"
     else if c == 39 then codes "&#39;"
+    else if is_hidden c then hidden_char c
     else encode_utf8 c
 
 -- each character of a text, escaped so

@@ -1,4 +1,4 @@
-//! Drawing: texts escaped, numbers grouped, axes with round ticks, and shapes as inline SVG. Shapes
+//! Drawing: heads of pages, texts escaped, numbers grouped, axes with round ticks, and shapes as inline SVG. Shapes
 //! are drawn in the units of the data, and stretched over the room that a page gives them; words
 //! stand beside them as HTML, so that they stay as large as the reader's text.
 #![tactic(auto)]
@@ -8,6 +8,7 @@ mod escape;
 mod laws;
 mod legend;
 mod number;
+mod page;
 mod palette;
 mod round;
 mod shapes;
@@ -17,6 +18,7 @@ pub use escape::{push_escaped, push_markup};
 pub use laws::escaped_texts_are_no_markup;
 pub use legend::{push_counted, push_entry};
 pub use number::{push_grouped, push_place};
+pub use page::open_page;
 pub use palette::drawing_style;
 pub use round::round_step;
 pub use shapes::{

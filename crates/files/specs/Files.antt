@@ -1,5 +1,5 @@
 -- What files tell of the names that they are asked for.
-use Rattle.std.specs.Prelude.{◌≡◌, ◌≢◌, ◌⊎◌, ℕ, Bool, true, false, List, Option, Some, None, IfSome}
+use Rattle.std.specs.Prelude.{◌≡◌, ◌≢◌, ◌≤◌, ◌⊎◌, ℕ, Bool, true, false, List, [], Option, Some, None, IfSome, length, take}
 
 -- what is known of a name: nothing, that no file has it, or what its file holds
 abbrev pub KnownFile : Type 0
@@ -16,6 +16,19 @@ IsAbsent known = IfSome known (λ held. held ≡ None)
 -- where it was known what the name stood for, its file holds these bytes now
 abbrev pub HoldsNow : KnownFile → KnownFile → List ℕ → Type 0
 HoldsNow old new bytes = IfSome old (λ _. new ≡ Some (Some bytes))
+
+-- the bytes of a name's file, none where no file has it
+abbrev pub bytes_held : Option (List ℕ) → List ℕ
+bytes_held (Some bytes) = bytes
+bytes_held None = []
+
+-- where it is known, the file holds this many bytes or more
+abbrev pub HoldsAtLeast : KnownFile → ℕ → Type 0
+HoldsAtLeast known count = IfSome known (λ held. count ≤ length (bytes_held held))
+
+-- where it was known what the name stood for, its file holds so many of its first bytes now, and no others
+abbrev pub HoldsBeginning : KnownFile → KnownFile → ℕ → Type 0
+HoldsBeginning old new count = IfSome old (λ held. new ≡ Some (Some (take count (bytes_held held))))
 
 -- a writer that tells what it holds closed, under a name that is known to have a file, which then holds that
 abbrev pub ClosesAs : KnownFile → KnownFile → Option (List ℕ) → Type 0

@@ -31,7 +31,7 @@ impl Identity {
 
     /// That of a file with these metadata. A terminal, `/dev/null` and the like have none: what is written to
     /// them is never written over.
-    fn of(metadata: &Metadata) -> Option<Identity> {
+    pub(crate) fn of(metadata: &Metadata) -> Option<Identity> {
         if metadata.file_type().is_char_device() {
             return None;
         }
@@ -40,4 +40,9 @@ impl Identity {
             inode: metadata.ino(),
         })
     }
+}
+
+/// Whether a file is one of these. One that the system doesn't distinguish is none of them.
+pub(crate) fn is_among(identity: Option<Identity>, others: &[Option<Identity>]) -> bool {
+    identity.is_some() && others.contains(&identity)
 }

@@ -3,209 +3,342 @@ ghost use Rattle.std.specs.Prelude.{◌≡◌, ◌+◌, None};
 ghost use Rattle.files.specs.System.{runtime_of, system_refused, unknown};
 ghost use Rattle.trace.specs.Writers.{put_failures};
 
-use crate::identity::Identity;
+use crate::identity::{Identity, is_among};
+use crate::leads::{Found, Lead, find};
 use crate::reading::{fault_of, read_fault, read_whole};
 use crate::refusals::Refusals;
+use crate::stages::try_beside;
+use crate::written::SystemFile;
 use crate::{FileFault, Files, PairFault, ReadFault, TripleFault};
 use std::alloc::Global;
 use std::fs::{OpenFile, OpenOptions};
-use std::io::{ErrorKind, Write};
+use std::io::ErrorKind;
+use std::path::PathBuf;
 use std::{fs, io};
 use trace::{Put, Sink};
 
-/// The name of standard output among the system's files.
+/// The names of standard output and standard error among the system's files.
 const STANDARD_OUTPUT: &str = "/dev/stdout";
 
-/// The files of a runtime's system. None is made that is the file of the source, that of standard output or one
-/// made beside it, whatever its names are.
+const STANDARD_ERROR: &str = "/dev/stderr";
+
+/// The files of a runtime's system. None is made that is the file of the source, that of standard output or of
+/// standard error, or one made beside it, whatever its names are. Nothing is removed but what no other program knows.
 #[derive(Drop)]
 pub struct SystemFiles<'r, R> {
     runtime: &'r R,
-    // the file that standard output goes to
+    // the files that standard output and standard error go to
     output: Option<Identity>,
+    error: Option<Identity>,
+    // the files that were read
+    inputs: Vec<Option<Identity>>,
     refusals: Refusals,
+}
+
+/// Files that aren't to be made, where the system distinguishes them from all others.
+#[derive(Clone, Copy)]
+struct Taken<'t> {
+    source: Option<Identity>,
+    output: Option<Identity>,
+    error: Option<Identity>,
+    // those that were read
+    inputs: &'t [Option<Identity>],
+}
+
+impl Taken<'_> {
+    /// Whether a file is one of these.
+    fn has(&self, identity: Option<Identity>) -> bool {
+        is_among(identity, &[self.source, self.output, self.error])
+            || is_among(identity, self.inputs)
+    }
 }
 
 /// A file that is open to be written, and holds what it held before.
 #[derive(Drop)]
 struct Opened<F> {
     file: F,
+    path: PathBuf,
     is_new: bool,
     identity: Option<Identity>,
 }
 
-/// A file that was made. It holds what it held before until it is written, flushed or closed.
-#[derive(Drop)]
-pub struct SystemFile<F> {
-    file: F,
-    is_empty: bool,
-}
-
-impl<F: OpenFile + Write> SystemFile<F> {
-    /// Empties the file, if it is one that keeps what it is given, before anything is written to it.
-    fn begin(&mut self) -> io::Result<()> {
-        if !self.is_empty {
-            if self.file.metadata()?.is_file() {
-                self.file.set_len(0)?;
+impl<F: OpenFile + Drop> Opened<F> {
+    /// Empties the file now, if it is one that keeps what it is given. Where that fails it is emptied at the first write.
+    fn empty(&self) {
+        if let Ok(metadata) = self.file.metadata() {
+            if metadata.is_file() {
+                let _ = self.file.set_len(0);
             }
-            self.is_empty = true;
         }
-        Ok(())
-    }
-}
-
-impl<F: OpenFile + Write> Write for SystemFile<F> {
-    fn write(&mut self, buf: &[u8]) -> io::Result<usize> {
-        self.begin()?;
-        self.file.write(buf)
     }
 
-    fn flush(&mut self) -> io::Result<()> {
-        self.begin()?;
-        self.file.flush()
-    }
-}
-
-impl<F: OpenFile + Write> Opened<F> {
-    /// The file, to be written.
-    fn made(self) -> SystemFile<F> {
-        SystemFile {
-            file: self.file,
-            is_empty: self.is_new,
+    /// Whether the file has so many bytes. One that doesn't keep what it is given needs none.
+    fn has(&self, kept: u64) -> bool {
+        match self.file.metadata() {
+            Ok(metadata) => !metadata.is_file() || kept <= metadata.len(),
+            Err(_) => false,
         }
     }
 }
 
 impl<'r, R: std::rt::Files + AllocGlobal> SystemFiles<'r, R> {
-    /// The files that the runtime reaches. Where standard output goes is seen now, before any file is opened.
+    /// The files that the runtime reaches. Where standard output and standard error go is seen now, before any file is
+    /// opened.
     pub fn new(runtime: &'r R) -> SystemFiles<'r, R>
         ensures { runtime_of result ≡ runtime.entry }
     {
         let output = Identity::of_name(runtime, STANDARD_OUTPUT);
+        let error = Identity::of_name(runtime, STANDARD_ERROR);
         SystemFiles {
             runtime,
             output,
+            error,
+            inputs: Vec::new(runtime.alloc()),
             refusals: Refusals::new(),
         }
     }
 
-    /// Opens a file to be written, and tells whether it is new.
-    fn open(&self, name: &str) -> io::Result<(R::File, bool)> {
-        let mut options = OpenOptions::new();
-        options.write(true).create_new(true);
-        match options.open(self.runtime, name) {
-            Ok(file) => Ok((file, true)),
-            Err(error) if error.kind() == ErrorKind::AlreadyExists => self.open_old(name),
-            Err(error) => Err(error),
+    /// The file of a name, which is that of the source, that of standard output and that of standard error.
+    fn taken(&self, source: &str) -> Taken<'static> {
+        Taken {
+            source: Identity::of_name(self.runtime, source),
+            output: self.output,
+            error: self.error,
+            inputs: &[],
         }
     }
 
-    /// The same of a name that is there: it may be a link to a file that isn't, which is then new.
-    fn open_old(&self, name: &str) -> io::Result<(R::File, bool)> {
+    /// The same, and all files that were read.
+    fn taken_or_read(&self, source: &str) -> Taken<'_> {
+        Taken {
+            inputs: self.inputs.as_slice(),
+            ..self.taken(source)
+        }
+    }
+
+    /// Notes a file that is read.
+    fn note(&mut self, file: &R::File) -> Result<(), ReadFault>
+        ensures { system_refused self.new ≡ system_refused self.old }
+    {
+        match self.inputs.push(Identity::of_file(file)) {
+            Ok(()) => Ok(()),
+            Err(_) => Err(ReadFault::Memory),
+        }
+    }
+
+    /// Finds where a name leads, unless it is to one of these files. Where it leads to none, one can be made there.
+    fn find(&self, name: &str, taken: Taken<'_>) -> Result<Found<R::File>, FileFault> {
+        let found = find(self.runtime, name)?;
+        if taken.has(found.lead.identity()) {
+            return Err(FileFault::Refused);
+        }
+        if let Lead::Missing(_) = &found.lead {
+            if let Err(error) = try_beside(self.runtime, found.path.as_path()) {
+                return Err(fault_of(&error));
+            }
+        }
+        Ok(found)
+    }
+
+    /// The same of two names, which lead to two files.
+    fn find_both(
+        &self,
+        first: &str,
+        second: &str,
+        taken: Taken<'_>,
+    ) -> Result<(Found<R::File>, Found<R::File>), PairFault> {
+        let one = of_first(self.find(first, taken))?;
+        let other = of_second(self.find(second, taken))?;
+        if other.lead.is_one(&one.lead) {
+            return Err(PairFault::Second);
+        }
+        Ok((one, other))
+    }
+
+    /// The same of three names, which lead to three files.
+    fn find_three(
+        &self,
+        first: &str,
+        second: &str,
+        third: &str,
+        taken: Taken<'_>,
+    ) -> Result<(Found<R::File>, Found<R::File>, Found<R::File>), TripleFault> {
+        let (one, other) = of_pair(self.find_both(first, second, taken))?;
+        let last = of_third(self.find(third, taken))?;
+        if last.lead.is_one(&one.lead) || last.lead.is_one(&other.lead) {
+            return Err(TripleFault::Third);
+        }
+        Ok((one, other, last))
+    }
+
+    /// Opens what was found, where it isn't open yet. No file is made.
+    fn open_found(&self, name: &str, found: Found<R::File>) -> Result<Found<R::File>, FileFault> {
+        match found.lead {
+            Lead::Closed(identity) => match self.open_old(name) {
+                Ok(file) => Ok(Found {
+                    path: found.path,
+                    lead: Lead::Open(file, identity),
+                }),
+                Err(error) => Err(fault_of(&error)),
+            },
+            lead => Ok(Found {
+                path: found.path,
+                lead,
+            }),
+        }
+    }
+
+    /// Opens a file that is there to be written.
+    fn open_old(&self, name: &str) -> io::Result<R::File> {
         let mut options = OpenOptions::new();
         options.write(true);
-        match options.open(self.runtime, name) {
-            Ok(file) => Ok((file, false)),
-            Err(error) if error.kind() == ErrorKind::NotFound => {
-                options.create(true);
-                Ok((options.open(self.runtime, name)?, true))
+        options.open(self.runtime, name)
+    }
+
+    /// Makes a file that wasn't there, and tells whether it is new: it may be there by now.
+    fn open_new(&self, path: &str) -> io::Result<(R::File, bool)> {
+        let mut options = OpenOptions::new();
+        options.write(true).create_new(true);
+        match options.open(self.runtime, path) {
+            Ok(file) => Ok((file, true)),
+            Err(error) if error.kind() == ErrorKind::AlreadyExists => {
+                let mut options = OpenOptions::new();
+                options.write(true).create(true);
+                Ok((options.open(self.runtime, path)?, false))
             }
             Err(error) => Err(error),
         }
     }
 
-    /// Opens a file to be written, unless it is one of these.
-    fn open_apart(
+    /// The file that was found, made where there is none, unless it is one of these by now.
+    fn open(
         &self,
-        name: &str,
-        others: &[Option<Identity>],
+        found: Found<R::File>,
+        taken: Taken<'_>,
+        made: [Option<Identity>; 2],
     ) -> Result<Opened<R::File>, FileFault> {
-        let (file, is_new) = match self.open(name) {
-            Ok(opened) => opened,
-            Err(error) => return Err(fault_of(&error)),
+        let Found { path, lead } = found;
+        let (file, is_new) = match lead {
+            Lead::Open(file, _) => (file, false),
+            _ => match self.open_new(path.as_str()) {
+                Ok(opened) => opened,
+                Err(error) => return Err(fault_of(&error)),
+            },
         };
         let identity = Identity::of_file(&file);
-        if identity.is_some() && others.contains(&identity) {
+        if taken.has(identity) || is_among(identity, &made) {
             return Err(FileFault::Refused);
         }
         Ok(Opened {
             file,
+            path,
             is_new,
             identity,
         })
     }
 
-    /// Opens two files to be written, or neither, unless one of them is one of these, or the second the first.
+    /// Opens the file of one name to be written, as `make_after` says.
+    fn open_one(
+        &self,
+        name: &str,
+        taken: Taken<'_>,
+        kept: u64,
+    ) -> Result<Opened<R::File>, FileFault> {
+        let found = self.find(name, taken)?;
+        let found = self.open_found(name, found)?;
+        if 0 < kept && found.lead.is_missing() {
+            return Err(FileFault::Refused);
+        }
+        let opened = self.open(found, taken, [None, None])?;
+        if !opened.has(kept) {
+            return Err(FileFault::Refused);
+        }
+        Ok(opened)
+    }
+
+    /// Opens those of two names, as `make_both` says.
     fn open_both(
         &self,
         first: &str,
         second: &str,
-        others: [Option<Identity>; 2],
+        taken: Taken<'_>,
     ) -> Result<(Opened<R::File>, Opened<R::File>), PairFault> {
-        let [read, output] = others;
-        let opened = match self.open_apart(first, &[read, output]) {
-            Ok(opened) => opened,
-            Err(FileFault::Refused) => return Err(PairFault::First),
-            Err(FileFault::Memory) => return Err(PairFault::Memory),
-        };
-        match self.open_apart(second, &[read, output, opened.identity]) {
-            Ok(other) => Ok((opened, other)),
-            Err(fault) => {
-                self.undo(first, opened);
-                match fault {
-                    FileFault::Refused => Err(PairFault::Second),
-                    FileFault::Memory => Err(PairFault::Memory),
-                }
-            }
-        }
+        let (one, other) = self.find_both(first, second, taken)?;
+        let one = of_first(self.open_found(first, one))?;
+        let other = of_second(self.open_found(second, other))?;
+        let one = of_first(self.open(one, taken, [None, None]))?;
+        let other = of_second(self.open(other, taken, [one.identity, None]))?;
+        Ok((one, other))
     }
 
-    /// Opens three files to be written, or none, unless one of them is one of these, or an earlier one.
+    /// Opens those of three names, as `make_three` says.
     fn open_three(
         &self,
         first: &str,
         second: &str,
         third: &str,
-        others: [Option<Identity>; 2],
+        taken: Taken<'_>,
     ) -> Result<(Opened<R::File>, Opened<R::File>, Opened<R::File>), TripleFault> {
-        let [read, output] = others;
-        let (opened, other) = match self.open_both(first, second, [read, output]) {
-            Ok(opened) => opened,
-            Err(PairFault::First) => return Err(TripleFault::First),
-            Err(PairFault::Second) => return Err(TripleFault::Second),
-            Err(PairFault::Memory) => return Err(TripleFault::Memory),
-        };
-        match self.open_apart(third, &[read, output, opened.identity, other.identity]) {
-            Ok(last) => Ok((opened, other, last)),
-            Err(fault) => {
-                self.undo(second, other);
-                self.undo(first, opened);
-                match fault {
-                    FileFault::Refused => Err(TripleFault::Third),
-                    FileFault::Memory => Err(TripleFault::Memory),
-                }
-            }
-        }
+        let (one, other, last) = self.find_three(first, second, third, taken)?;
+        let one = of_pair(of_first(self.open_found(first, one)))?;
+        let other = of_pair(of_second(self.open_found(second, other)))?;
+        let last = of_third(self.open_found(third, last))?;
+        let one = of_pair(of_first(self.open(one, taken, [None, None])))?;
+        let other = of_pair(of_second(self.open(other, taken, [one.identity, None])))?;
+        let last = of_third(self.open(last, taken, [one.identity, other.identity]))?;
+        Ok((one, other, last))
     }
 
-    /// Removes a file that was opened under the name, where there was none before.
-    fn undo(&self, name: &str, opened: Opened<R::File>) {
-        if opened.is_new {
-            // the name may be a link, which stays
-            if let Ok(path) = fs::canonicalize(self.runtime, name) {
-                let _ = fs::remove_file(self.runtime, path);
-            }
-        }
+    /// The file, to be written in place, behind so many bytes.
+    fn in_place(&self, opened: Opened<R::File>, kept: u64) -> SystemFile<'r, R, R::File> {
+        SystemFile::in_place(self.runtime, opened.file, kept, opened.is_new)
     }
 
-    /// The file of a name, which is that of the source, and that of standard output.
-    fn taken(&self, source: &str) -> [Option<Identity>; 2] {
-        [Identity::of_name(self.runtime, source), self.output]
+    /// The file, to be written beside its name.
+    fn beside(&self, opened: Opened<R::File>) -> SystemFile<'r, R, R::File> {
+        SystemFile::beside(self.runtime, opened.file, opened.path)
     }
 }
 
-impl<R: std::rt::Files + AllocGlobal> Files for SystemFiles<'_, R> {
-    type Made = SystemFile<R::File>;
+/// What came of the first of two files.
+fn of_first<T: Drop>(outcome: Result<T, FileFault>) -> Result<T, PairFault> {
+    match outcome {
+        Ok(made) => Ok(made),
+        Err(FileFault::Refused) => Err(PairFault::First),
+        Err(FileFault::Memory) => Err(PairFault::Memory),
+    }
+}
+
+/// What came of the second of two.
+fn of_second<T: Drop>(outcome: Result<T, FileFault>) -> Result<T, PairFault> {
+    match outcome {
+        Ok(made) => Ok(made),
+        Err(FileFault::Refused) => Err(PairFault::Second),
+        Err(FileFault::Memory) => Err(PairFault::Memory),
+    }
+}
+
+/// What came of the first two of three.
+fn of_pair<T: Drop>(outcome: Result<T, PairFault>) -> Result<T, TripleFault> {
+    match outcome {
+        Ok(made) => Ok(made),
+        Err(PairFault::First) => Err(TripleFault::First),
+        Err(PairFault::Second) => Err(TripleFault::Second),
+        Err(PairFault::Memory) => Err(TripleFault::Memory),
+    }
+}
+
+/// What came of the third.
+fn of_third<T: Drop>(outcome: Result<T, FileFault>) -> Result<T, TripleFault> {
+    match outcome {
+        Ok(made) => Ok(made),
+        Err(FileFault::Refused) => Err(TripleFault::Third),
+        Err(FileFault::Memory) => Err(TripleFault::Memory),
+    }
+}
+
+impl<'r, R: std::rt::Files + AllocGlobal> Files for SystemFiles<'r, R> {
+    type Made = SystemFile<'r, R, R::File>;
 
     // no contract can say what a system's files hold
     ghost known = { λ files name. None };
@@ -216,16 +349,27 @@ impl<R: std::rt::Files + AllocGlobal> Files for SystemFiles<'_, R> {
 
     fn read(&mut self, alloc: Global, name: &str) -> Result<Vec<u8>, ReadFault> {
         match fs::open(self.runtime, name) {
-            Ok(mut file) => read_whole(alloc, &mut file),
+            Ok(mut file) => {
+                self.note(&file)?;
+                read_whole(alloc, &mut file)
+            }
             Err(error) => Err(read_fault(&error)),
         }
     }
 
-    fn make(&mut self, source: &str, name: &str) -> Result<SystemFile<R::File>, FileFault> {
-        match self.open_apart(name, &self.taken(source)) {
-            Ok(opened) => Ok(opened.made()),
-            Err(fault) => Err(fault),
-        }
+    fn make(&mut self, source: &str, name: &str) -> Result<SystemFile<'r, R, R::File>, FileFault> {
+        let opened = self.open_one(name, self.taken(source), 0)?;
+        Ok(self.in_place(opened, 0))
+    }
+
+    fn make_after(
+        &mut self,
+        source: &str,
+        name: &str,
+        kept: u64,
+    ) -> Result<SystemFile<'r, R, R::File>, FileFault> {
+        let opened = self.open_one(name, self.taken(source), kept)?;
+        Ok(self.in_place(opened, kept))
     }
 
     fn make_both(
@@ -233,9 +377,11 @@ impl<R: std::rt::Files + AllocGlobal> Files for SystemFiles<'_, R> {
         source: &str,
         first: &str,
         second: &str,
-    ) -> Result<(SystemFile<R::File>, SystemFile<R::File>), PairFault> {
-        let (opened, other) = self.open_both(first, second, self.taken(source))?;
-        Ok((opened.made(), other.made()))
+    ) -> Result<(SystemFile<'r, R, R::File>, SystemFile<'r, R, R::File>), PairFault> {
+        let (one, other) = self.open_both(first, second, self.taken(source))?;
+        other.empty();
+        one.empty();
+        Ok((self.in_place(one, 0), self.beside(other)))
     }
 
     fn make_three(
@@ -246,21 +392,43 @@ impl<R: std::rt::Files + AllocGlobal> Files for SystemFiles<'_, R> {
         third: &str,
     ) -> Result<
         (
-            SystemFile<R::File>,
-            SystemFile<R::File>,
-            SystemFile<R::File>,
+            SystemFile<'r, R, R::File>,
+            SystemFile<'r, R, R::File>,
+            SystemFile<'r, R, R::File>,
         ),
         TripleFault,
     > {
-        let (opened, other, last) = self.open_three(first, second, third, self.taken(source))?;
-        Ok((opened.made(), other.made(), last.made()))
+        let (one, other, last) = self.open_three(first, second, third, self.taken(source))?;
+        last.empty();
+        other.empty();
+        one.empty();
+        Ok((self.in_place(one, 0), self.beside(other), self.beside(last)))
     }
 
-    fn close(&mut self, name: &str, made: Put<SystemFile<R::File>>)
-        ensures refused { system_refused self.new ≡ system_refused self.old + put_failures made }
+    fn make_whole(
+        &mut self,
+        source: &str,
+        name: &str,
+    ) -> Result<SystemFile<'r, R, R::File>, FileFault> {
+        let opened = self.open_one(name, self.taken_or_read(source), 0)?;
+        Ok(self.beside(opened))
+    }
+
+    fn make_both_whole(
+        &mut self,
+        source: &str,
+        first: &str,
+        second: &str,
+    ) -> Result<(SystemFile<'r, R, R::File>, SystemFile<'r, R, R::File>), PairFault> {
+        let (one, other) = self.open_both(first, second, self.taken_or_read(source))?;
+        Ok((self.beside(one), self.beside(other)))
+    }
+
+    fn close(&mut self, name: &str, made: Put<SystemFile<'r, R, R::File>>)
+        ensures refused { system_refused self.new ≡ system_refused self.old + put_failures made.entry }
     {
         let _ = name;
         self.refusals.add(made.failures());
-        let _ = made.into_inner().begin();
+        made.into_inner().end();
     }
 }

@@ -1,6 +1,6 @@
 //! Files and writers over memory, which fail where a test wants them to.
-ghost use Rattle.std.specs.Prelude.{◌≡◌, ◌≢◌, ◌≤◌, ◌+◌, ℕ, List, [], Some, None, true, false, bytes_eq, find, option_map, position, IfOk, IfSome, IsErrOf, OnOk, OnErr};
-ghost use Rattle.files.specs.Files.{ClosesAs, KeepsOthers, KeepsAllOthers, KeepsAllButThree, CannotMake, CannotMakeSecond, CannotMakeThird, AreThreeFiles, AreFourFiles};
+ghost use Rattle.std.specs.Prelude.{◌≡◌, ◌≢◌, ◌≤◌, ◌+◌, ℕ, List, [], Some, None, true, false, bytes_eq, find, option_map, position, IfOk, IfSome, IsErrOf, OnOk, OnErr, length, take, ◌<◌};
+ghost use Rattle.files.specs.Files.{bytes_held, ClosesAs, KeepsOthers, KeepsAllOthers, KeepsAllButThree, CannotMake, CannotMakeSecond, CannotMakeThird, AreThreeFiles, AreFourFiles};
 ghost use Rattle.files.specs.Memory.{written_by, writer_fails, has_name, has_place, kept_bytes, known_of, can_make, making_of, made_fail, memory_refused, with_locked, with_fails, KeepsPlaces};
 ghost use Rattle.trace.specs.Writers.{writer_under, put_failures};
 
@@ -18,7 +18,7 @@ pub enum Failing {
     Never,
     /// At the write of this number, counted from 1.
     AtWrite(u64),
-    /// Once it has taken this many bytes.
+    /// Once it holds this many bytes.
     After(usize),
     /// At each flush.
     AtFlush,
@@ -38,8 +38,16 @@ impl MemoryWriter {
         ensures empty { written_by result ≡ [] }
         ensures fails { writer_fails result ≡ fails }
     {
+        MemoryWriter::after(Vec::new(alloc), fails)
+    }
+
+    /// A writer that goes on behind bytes that are there.
+    fn after(bytes: Vec<u8>, fails: Failing) -> MemoryWriter
+        ensures there { written_by result ≡ bytes.items }
+        ensures fails { writer_fails result ≡ fails }
+    {
         MemoryWriter {
-            bytes: Vec::new(alloc),
+            bytes,
             writes: 0,
             fails,
         }
@@ -170,6 +178,24 @@ impl MemoryFiles {
         match &self.file(name)?.bytes {
             Some(bytes) => Some(bytes.as_slice()),
             None => None,
+        }
+    }
+
+    /// So many of the first bytes of a file. One that isn't there has none.
+    ///
+    /// Faults: `Refused` where it has fewer; `Memory`.
+    fn beginning(&self, name: &str, count: u64) -> Result<Vec<u8>, FileFault>
+        ensures made { IfOk result (λ bytes. bytes.items ≡ take count (bytes_held (kept_bytes self.now name.now))) }
+        ensures enough { OnOk result (count ≤ length (bytes_held (kept_bytes self.now name.now))) }
+        ensures refused { IsErrOf result FileFault.Refused → length (bytes_held (kept_bytes self.now name.now)) < count }
+    {
+        let held = self.bytes(name).unwrap_or(&[]);
+        if (held.len() as u64) < count {
+            return Err(FileFault::Refused);
+        }
+        match Vec::from_slice(self.alloc, &held[..count as usize]) {
+            Ok(bytes) => Ok(bytes),
+            Err(_) => Err(FileFault::Memory),
         }
     }
 
@@ -366,6 +392,22 @@ impl Files for MemoryFiles {
         }
     }
 
+    fn make_after(
+        &mut self,
+        source: &str,
+        name: &str,
+        kept: u64,
+    ) -> Result<MemoryWriter, FileFault> {
+        if !self.may_make(source, name) {
+            return Err(FileFault::Refused);
+        }
+        let written = self.beginning(name, kept)?;
+        match self.keep(name, written.as_slice()) {
+            Ok(()) => Ok(MemoryWriter::after(written, self.fails)),
+            Err(_) => Err(FileFault::Memory),
+        }
+    }
+
     fn make_both(
         &mut self,
         source: &str,
@@ -391,6 +433,19 @@ impl Files for MemoryFiles {
             Ok(()) => Ok((self.writer(), self.writer(), self.writer())),
             Err(_) => Err(TripleFault::Memory),
         }
+    }
+
+    fn make_whole(&mut self, source: &str, name: &str) -> Result<MemoryWriter, FileFault> {
+        self.make(source, name)
+    }
+
+    fn make_both_whole(
+        &mut self,
+        source: &str,
+        first: &str,
+        second: &str,
+    ) -> Result<(MemoryWriter, MemoryWriter), PairFault> {
+        self.make_both(source, first, second)
     }
 
     fn close(&mut self, name: &str, made: Put<MemoryWriter>)

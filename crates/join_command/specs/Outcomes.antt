@@ -63,7 +63,7 @@ AppendsBoth old new table page_old page_new shown = Appends old new table × App
 
 -- the text is a page of the cases, which calls the scenario as the words say
 abbrev pub IsJoinPage : List ℕ → JoinWords → Sweep → List CaseSummary → List ℕ → Type 0
-IsJoinPage release join plan cases text = IsSweepPage (scenario_name join.name (name_at join.files.items join.table 0)).now release plan cases text
+IsJoinPage release join plan cases text = IsSweepPage (scenario_name join.name (name_at join.files.items join.table 0)).now release plan join.wants.items cases text
 
 -- the table and a page of the cases were stored
 abbrev pub StoresPaged : List ℕ → Text → Shelf → Shelf → Making → JoinWords → Sweep → List CaseSummary → List ℕ → Type 0
@@ -92,7 +92,7 @@ DoesJoin release words before after making lines = (join : JoinWords) × AsksFor
 
 -- the text is a page of the cases, which calls the scenario as the words say
 abbrev pub IsPiecesPage : List ℕ → PageWords → Sweep → List CaseSummary → List ℕ → Type 0
-IsPiecesPage release page plan cases text = IsSweepPage (scenario_name page.name (name_at page.files.items page.page 0)).now release plan cases text
+IsPiecesPage release page plan cases text = IsSweepPage (scenario_name page.name (name_at page.files.items page.page 0)).now release plan [] cases text
 
 -- a page of the cases was stored
 abbrev pub StoresPage : List ℕ → Shelf → Shelf → Making → PageWords → Sweep → List CaseSummary → Type 0

@@ -102,6 +102,8 @@ fn store_asked<'a, F: Files>(
     whole: &Whole,
     files: &mut F,
 ) -> Result<(), Failure<'a>>
+    requires wants { All IsBounded words.now.wants.items }
+    requires few { All HasFewRuns whole.now.joined.cases.items }
     requires all { length whole.now.joined.cases.items ≡ case_count whole.now.joined.plan.settings }
     ensures done { OnOk result (StoresAsked words.now.page release.now.version.now (F.known files.old) (F.known files.new) (F.making files.old) words.now
         whole.now.joined.plan whole.now.joined.cases.items whole.now.table.items) }
@@ -127,6 +129,8 @@ fn store_paged<'a, F: Files>(
     page: &'a str,
     files: &mut F,
 ) -> Result<(), Failure<'a>>
+    requires wants { All IsBounded words.now.wants.items }
+    requires few { All HasFewRuns whole.now.joined.cases.items }
     requires all { length whole.now.joined.cases.items ≡ case_count whole.now.joined.plan.settings }
     ensures done { OnOk result (StoresPaged release.now.version.now page.entry.now (F.known files.old) (F.known files.new) (F.making files.old) words.now
         whole.now.joined.plan whole.now.joined.cases.items whole.now.table.items) }
@@ -135,7 +139,14 @@ fn store_paged<'a, F: Files>(
         whole.now.joined.plan whole.now.joined.cases.items whole.now.table.items) }
 {
     let source = name_at(words.files.as_slice(), words.table, 0);
-    let text = page_of(alloc, release, words.name, source, &whole.joined)?;
+    let text = page_of(
+        alloc,
+        release,
+        words.name,
+        source,
+        words.wants.as_slice(),
+        &whole.joined,
+    )?;
     store_both(
         source,
         words.table,

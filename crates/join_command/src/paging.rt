@@ -1,11 +1,13 @@
 //! A page of the cases that the pieces of a sweep came to.
-ghost use Rattle.std.specs.Prelude.{◌≡◌, ◌<◌, IfOk, IfErr, OnOk, length, string_bytes};
+ghost use Rattle.std.specs.Prelude.{◌≡◌, All, ◌<◌, IfOk, IfErr, OnOk, length, string_bytes};
+ghost use Rattle.answers.specs.Wants.{HasFewRuns, IsBounded};
 ghost use Rattle.cases.specs.Sweep.{case_count};
 ghost use Rattle.case_telling.specs.Telling.{IsSweepPage};
 ghost use Rattle.join_command.specs.Outcomes.{FailsToStorePage, PageFails, PagesAll, StoresPage, scenario_name};
 
 use crate::reading::{gather, name_at};
 use crate::storing::store;
+use answers::Want;
 use base::Memory;
 use case_telling::{SweepShown, cases_page};
 use command_line::{Failure, PageWords, Release};
@@ -45,6 +47,7 @@ fn store_page<'a, F: Files>(
     joined: &Joined,
     files: &mut F,
 ) -> Result<(), Failure<'a>>
+    requires few { All HasFewRuns joined.now.cases.items }
     requires all { length joined.now.cases.items ≡ case_count joined.now.plan.settings }
     ensures done { OnOk result (StoresPage release.now.version.now (F.known files.old) (F.known files.new) (F.making files.old) words.now
         joined.now.plan joined.now.cases.items) }
@@ -53,28 +56,31 @@ fn store_page<'a, F: Files>(
         joined.now.plan joined.now.cases.items) }
 {
     let source = name_at(words.files.as_slice(), words.page, 0);
-    let text = page_of(alloc, release, words.name, source, joined)?;
+    let text = page_of(alloc, release, words.name, source, &[], joined)?;
     store(source, words.page, text.as_bytes(), files)
 }
 
-/// The page of the cases, which calls the scenario by a name, or as its source where none is given.
+/// The page of the cases, which calls the scenario by a name, or as its source where none is given, and answers what is wanted.
 pub(crate) fn page_of(
     alloc: Global,
     release: &Release<'_>,
     name: Option<&str>,
     source: &str,
+    wants: &[Want<'_>],
     joined: &Joined,
 ) -> Result<String, Failure<'static>>
+    requires wants { All IsBounded wants.now }
+    requires few { All HasFewRuns joined.now.cases.items }
     requires all { length joined.now.cases.items ≡ case_count joined.now.plan.settings }
     ensures page { IfOk result
-        (λ text. IsSweepPage (scenario_name name.entry source.entry).now release.now.version.now joined.now.plan joined.now.cases.items (string_bytes text)) }
+        (λ text. IsSweepPage (scenario_name name.entry source.entry).now release.now.version.now joined.now.plan wants.now joined.now.cases.items (string_bytes text)) }
     ensures refused { IfErr result (λ failure. failure ≡ Failure.Memory) }
 {
     let shown = SweepShown {
         name: name.unwrap_or(source),
         release: release.version,
     };
-    match cases_page(alloc, &shown, &joined.plan, joined.cases.as_slice()) {
+    match cases_page(alloc, &shown, &joined.plan, wants, joined.cases.as_slice()) {
         Ok(text) => Ok(text),
         Err(Memory) => Err(Failure::Memory),
     }

@@ -11,3 +11,7 @@ push_period s = option_map_or (λ g. period_among g.push (member_count s)) s.gos
 -- how many pushes begin in so many ticks, rounded down
 abbrev pub pushes_in : Setup → ℕ → ℕ
 pushes_in s ticks = if nat_lt 0 (push_period s) then ticks / push_period s else 0
+
+-- the middle of the numbers below `push`, of which chance picks one; 0 where nobody pushes
+abbrev pub half_push : Setup → ℕ
+half_push s = option_map_or (λ g. g.push / 2) s.gossip 0

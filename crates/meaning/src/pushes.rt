@@ -1,7 +1,7 @@
 ghost use Rattle.std.specs.Prelude.{◌≡◌, ◌≤◌, ◌^◌, ◌*◌, count_by, nat_lt};
 ghost use Rattle.scenario.specs.Setup.{member_count};
 ghost use Rattle.member.specs.Step.{doublings_to};
-ghost use Rattle.meaning.specs.Pushes.{push_period, pushes_in};
+ghost use Rattle.meaning.specs.Pushes.{half_push, push_period, pushes_in};
 
 use scenario::Scenario;
 
@@ -24,6 +24,17 @@ pub(crate) fn pushes_in(scenario: &Scenario, ticks: u64) -> u64
 {
     let period = push_period(scenario);
     if period > 0 { ticks / period } else { 0 }
+}
+
+/// Half of `push`, the middle of the numbers below it; 0 where nobody pushes.
+pub(crate) fn half_push(scenario: &Scenario) -> u64
+    ensures value { result ≡ half_push scenario.now }
+    ensures short { result ≤ 2 ^ 24 }
+{
+    match scenario.gossip() {
+        Some(gossip) => gossip.push / 2,
+        None => 0,
+    }
 }
 
 /// How often 32 is doubled until it isn't below a number of members.

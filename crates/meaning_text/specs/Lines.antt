@@ -93,9 +93,9 @@ health_line s h = line (codes "health" ∷ decimal h ∷ codes "period" ∷ deci
 unfoldable pub health_lines : Setup → List ℕ
 health_lines s = flat_map (health_line s) (range_with_len 0 (worst_health s + 1))
 
--- after how long a helper says that it has no answer, with LHA-Probe
+-- after how long a helper says that it has no answer; without LHA-Probe none says so
 unfoldable pub nack_line : Setup → List ℕ
-nack_line s = if s.lifeguard.probe then count_line (codes "nack") (nack_delay_of s.lifeguard.nack_percent s.swim.timeout) else []
+nack_line s = count_line (codes "nack") (nack_delay_of s.lifeguard.nack_percent s.swim.timeout)
 
 -- how far an update spreads, in these numbers
 unfoldable pub news_words : ℕ → ℕ → ℕ → List ℕ

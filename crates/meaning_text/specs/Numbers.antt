@@ -32,6 +32,10 @@ cut_at s k = option_map_or (λ c. c.at) (slice_get s.cuts k) 0
 abbrev pub pause_from : Setup → ℕ → ℕ
 pause_from s k = option_map_or (λ p. p.from) (slice_get s.pauses k) 0
 
+-- how long that pause lasts
+abbrev pub pause_length : Setup → ℕ → ℕ
+pause_length s k = option_map_or (λ p. p.until - p.from) (slice_get s.pauses k) 0
+
 unfoldable pub numbers_of : Setup → ℕ → Warning → Option Pair
 numbers_of s trip warning.LateAnswer = compared trip s.swim.timeout
 numbers_of s trip warning.LateRelay = compared (s.swim.timeout + 2 * trip) s.swim.period
@@ -41,6 +45,9 @@ numbers_of s trip warning.ManyHelpers = compared s.swim.helpers (member_count s 
 numbers_of s trip warning.LostOnLink = None
 numbers_of s trip warning.PartOfLifeguard = None
 numbers_of s trip warning.LongSpread = compared s.swim.spread s.end
+numbers_of s trip warning.NoGossip = None
+numbers_of s trip warning.OddConfirmations = compared s.lifeguard.confirmations (s.suspicion.alpha - 2)
+numbers_of s trip warning.QuietRun = None
 numbers_of s trip (warning.HiddenPath k) = None
 numbers_of s trip (warning.LonelyPath k) = None
 numbers_of s trip (warning.LostOnPath k) = None
@@ -53,3 +60,4 @@ numbers_of s trip (warning.LeavePastEnd k) = compared (leave_at s k) s.end
 numbers_of s trip (warning.CutPastEnd k) = compared (cut_at s k) s.end
 numbers_of s trip (warning.PausePastEnd k) = compared (pause_from s k) s.end
 numbers_of s trip (warning.PauseWhileDown k) = None
+numbers_of s trip (warning.LongPause k) = compared (pause_length s k) (least_suspicion s)

@@ -1,5 +1,5 @@
 ghost use Rattle.std.specs.Prelude.{◌≡◌, ◌≤◌, ◌^◌};
-ghost use Rattle.meaning_text.specs.Numbers.{compared, numbers_of, crash_at, slow_from, slow_extra, leave_at, cut_at, pause_from};
+ghost use Rattle.meaning_text.specs.Numbers.{compared, numbers_of, crash_at, slow_from, slow_extra, leave_at, cut_at, pause_from, pause_length};
 
 use base::MemberId;
 use meaning::{item_at, least_suspicion};
@@ -57,6 +57,16 @@ pub(crate) fn numbers_of(warning: Warning, scenario: &Scenario, trip: u64) -> Op
         Warning::LeavePastEnd(place) => compared(u128::from(leave_at(scenario, place)), end),
         Warning::CutPastEnd(place) => compared(u128::from(cut_at(scenario, place)), end),
         Warning::PausePastEnd(place) => compared(u128::from(pause_from(scenario, place)), end),
+        Warning::LongPause(place) => compared(
+            u128::from(pause_length(scenario, place)),
+            least_suspicion(scenario),
+        ),
+        Warning::OddConfirmations => compared(
+            u128::from(scenario.lifeguard().confirmations),
+            scenario.suspicion().alpha.saturating_sub(2),
+        ),
+        Warning::NoGossip => None,
+        Warning::QuietRun => None,
         Warning::LostOnLink => None,
         Warning::PartOfLifeguard => None,
         Warning::HiddenPath(_) => None,
@@ -128,6 +138,16 @@ fn pause_from(scenario: &Scenario, place: usize) -> u64
 {
     match item_at(scenario.pauses(), place) {
         Some(pause) => pause.from.ticks(),
+        None => 0,
+    }
+}
+
+/// How long the pause at this place lasts.
+fn pause_length(scenario: &Scenario, place: usize) -> u64
+    ensures { result ≡ pause_length scenario.now place }
+{
+    match item_at(scenario.pauses(), place) {
+        Some(pause) => pause.until.ticks().saturating_sub(pause.from.ticks()),
         None => 0,
     }
 }

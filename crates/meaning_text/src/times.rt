@@ -73,16 +73,12 @@ fn push_pace(text: &mut String, scenario: &Scenario, health: u64) -> Result<(), 
     writeln!(text, "health {health} period {period} timeout {timeout}")
 }
 
-/// Appends after how long a helper says that it has no answer, with LHA-Probe.
+/// Appends after how long a helper says that it has no answer; without LHA-Probe none says so.
 #[tactic(auto, unfolding(crate::specs::Lines::nack_line))]
 pub(crate) fn push_nack(text: &mut String, scenario: &Scenario) -> Result<(), AllocError>
     ensures { OnOk result (string_bytes text.new ≡ string_bytes text.old ++ nack_line scenario.now) }
 {
-    if scenario.lifeguard().probe {
-        push_count(text, "nack", nack_delay(scenario))
-    } else {
-        Ok(())
-    }
+    push_count(text, "nack", nack_delay(scenario))
 }
 
 /// Appends how far an update spreads.

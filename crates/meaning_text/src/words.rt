@@ -17,6 +17,9 @@ pub fn kind_of(warning: Warning) -> &'static str
         Warning::LostOnLink => "lost-on-link",
         Warning::PartOfLifeguard => "part-of-lifeguard",
         Warning::LongSpread => "long-spread",
+        Warning::NoGossip => "no-gossip",
+        Warning::OddConfirmations => "odd-confirmations",
+        Warning::QuietRun => "quiet-run",
         Warning::HiddenPath(_) => "hidden-path",
         Warning::LonelyPath(_) => "lonely-path",
         Warning::LostOnPath(_) => "lost-on-path",
@@ -29,6 +32,7 @@ pub fn kind_of(warning: Warning) -> &'static str
         Warning::CutPastEnd(_) => "cut-past-end",
         Warning::PausePastEnd(_) => "pause-past-end",
         Warning::PauseWhileDown(_) => "pause-while-down",
+        Warning::LongPause(_) => "long-pause",
     }
 }
 
@@ -46,6 +50,11 @@ pub(crate) fn reason_of(warning: Warning) -> &'static str
         Warning::LostOnLink => "every message is lost on each link that no path names",
         Warning::PartOfLifeguard => "a part of Lifeguard is on and a part is off",
         Warning::LongSpread => "some members may begin their first period after the end",
+        Warning::NoGossip => "by memberlist's rules news spreads by [gossip], which is not there",
+        Warning::OddConfirmations =>
+            "no memberlist has this lifeguard.confirmations with this suspicion.alpha",
+        Warning::QuietRun =>
+            "nothing happens: no loss, no crash, nobody slow, paused, cut off or late",
         Warning::HiddenPath(_) => "a later path names the same two groups and hides this one",
         Warning::LonelyPath(_) => "the group has one member, so it has no link to itself",
         Warning::LostOnPath(_) => "every message is lost on this path",
@@ -58,6 +67,8 @@ pub(crate) fn reason_of(warning: Warning) -> &'static str
         Warning::CutPastEnd(_) => "the cut begins after the end",
         Warning::PausePastEnd(_) => "the pause begins after the end",
         Warning::PauseWhileDown(_) => "the member is down as its pause begins",
+        Warning::LongPause(_) =>
+            "the pause is longer than the shortest suspicion, so others may declare the member dead",
     }
 }
 
@@ -76,6 +87,10 @@ pub fn remedy_of(warning: Warning) -> &'static str
         Warning::LostOnLink => "lower link.loss, or use a cut that ends",
         Warning::PartOfLifeguard => "set probe, suspicion and buddy alike, unless you compare them",
         Warning::LongSpread => "lower swim.spread to the period, or raise end",
+        Warning::NoGossip => "add [gossip], as `init lan` prints it",
+        Warning::OddConfirmations => "set lifeguard.confirmations to suspicion.alpha less 2",
+        Warning::QuietRun =>
+            "nothing, if you ask what a quiet cluster costs; else add what is to happen, as a [[crash]]",
         Warning::HiddenPath(_) => "remove this path or the later one",
         Warning::LonelyPath(_) => "remove the path, or add members to the group",
         Warning::LostOnPath(_) => "lower its loss, or use a cut that ends",
@@ -89,5 +104,7 @@ pub fn remedy_of(warning: Warning) -> &'static str
         Warning::CutPastEnd(_) => "move it before the end, or raise end",
         Warning::PausePastEnd(_) => "move it before the end, or raise end",
         Warning::PauseWhileDown(_) => "move it before the crash or leave, or remove it",
+        Warning::LongPause(_) =>
+            "nothing, if that is what you try; else shorten it or raise suspicion.alpha",
     }
 }

@@ -1,13 +1,18 @@
 //! The mistakes of a scenario text in words: as lines for people, and as JSON.
 #![tactic(auto)]
 
+mod aliases;
 mod as_json;
 mod as_lines;
 mod choice;
 mod context;
+mod decimal;
 mod excerpt;
+mod foreign;
+mod lengths;
 mod names;
 mod nearest;
+mod numbers;
 mod rows;
 mod shape_words;
 mod shown;

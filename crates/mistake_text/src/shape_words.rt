@@ -1,6 +1,9 @@
 //! The words of mistakes of rules 1 to 5.
+use crate::aliases::{Alias, alias_label, alias_of};
 use crate::context::Context;
+use crate::foreign::foreign_kind;
 use crate::nearest::nearest_key;
+use crate::numbers::{LOSS, whole_label};
 use crate::rows::{
     default_text, found_text, header_text, home_text, keys_text, told_version, version_number,
     version_of, wanted_text,
@@ -11,9 +14,6 @@ use schema::{FormatKey, KeyRule, Kind, Section, Version};
 use std::alloc::{AllocError, Global};
 use toml_places::Span;
 
-/// What is counted in `loss`.
-const LOSS: &str = "`loss` counts lost messages in a million: 5 % is 50000";
-
 /// Rule 1.
 pub(crate) fn document_words(
     context: &Context<'_>,
@@ -23,7 +23,22 @@ pub(crate) fn document_words(
         return byte_words(context, mistake.span);
     }
     let fault = context.mistakes.fault.as_str();
-    Words::fixed(context.alloc, "the text is no TOML document", fault, "")
+    match foreign_kind(context.text) {
+        Some(kind) => foreign_words(context.alloc, kind, fault),
+        None => Words::fixed(context.alloc, "the text is no TOML document", fault, ""),
+    }
+}
+
+/// Rule 1: the text is of another kind.
+fn foreign_words(alloc: Global, kind: &str, fault: &str) -> Result<Words, AllocError> {
+    Words::of(
+        format!(in alloc; "the text is {kind}, and a scenario is TOML"),
+        String::from_str(alloc, fault),
+        String::from_str(
+            alloc,
+            "`init` prints a scenario to begin with; docs/FORMAT.md has its keys",
+        ),
+    )
 }
 
 /// Rule 1: a byte isn't of UTF-8.
@@ -46,8 +61,19 @@ pub(crate) fn missing_words(
     Words::of(
         missing_message(context.alloc, home, row),
         missing_label(context, row),
-        keys_note(context, home, "needs", true),
+        missing_note(context, home, row),
     )
+}
+
+/// Which keys the table needs; of a text without a version, why nothing else is told.
+fn missing_note(context: &Context<'_>, home: Home, row: KeyRule) -> Result<String, AllocError> {
+    if row.key == FormatKey::Version {
+        return String::from_str(
+            context.alloc,
+            "the version decides which keys there are; the rest is judged once it is there",
+        );
+    }
+    keys_note(context, home, "needs", true)
 }
 
 /// The keys of a table, or those of them that are required.
@@ -143,11 +169,40 @@ pub(crate) fn unknown_words(
     span: Span,
 ) -> Result<Words, AllocError> {
     let name = context.name(span)?;
+    match alias_of(context.alloc, home, name.as_str())? {
+        Some(alias) => alias_words(context, home, found, span, alias),
+        None => Words::of(
+            unknown_message(context, home, found, span),
+            unknown_label(context, home, name.as_str()),
+            keys_note(context, home, "has", false),
+        ),
+    }
+}
+
+/// Rule 3: the format has another name for a key.
+fn alias_words(
+    context: &Context<'_>,
+    home: Home,
+    found: Found,
+    span: Span,
+    alias: Alias,
+) -> Result<Words, AllocError> {
     Words::of(
         unknown_message(context, home, found, span),
-        unknown_label(context, home, name.as_str()),
-        keys_note(context, home, "has", false),
+        alias_label(context.alloc, version_of(context), alias),
+        alias_note(context, home, alias),
     )
+}
+
+/// Where the names of memberlist stand, or the keys of the table.
+fn alias_note(context: &Context<'_>, home: Home, alias: Alias) -> Result<String, AllocError> {
+    match alias {
+        Alias::Key { .. } | Alias::Tables => String::from_str(
+            context.alloc,
+            "docs/MEMBERLIST.md has memberlist's names beside these",
+        ),
+        Alias::End | Alias::Until => keys_note(context, home, "has", false),
+    }
 }
 
 /// What is unknown, and where.
@@ -280,56 +335,12 @@ fn kind_label(
 ) -> Result<String, AllocError> {
     let alloc = context.alloc;
     match row.kind {
-        Kind::Whole { .. } => whole_label(context, row.key, found, span),
+        Kind::Whole { .. } => whole_label(context, row, found, span),
         Kind::Switch => String::from_str(alloc, "write true or false, without quotes"),
         Kind::Text => String::from_str(alloc, "write a name in quotes"),
         Kind::Table(_) => table_form(alloc, row.key, found),
         Kind::List(_) => list_form(alloc, row.key, found),
     }
-}
-
-/// What to write in place of a value that isn't a whole number.
-fn whole_label(
-    context: &Context<'_>,
-    key: FormatKey,
-    found: Found,
-    span: Span,
-) -> Result<String, AllocError> {
-    let alloc = context.alloc;
-    if key == FormatKey::Loss {
-        return String::from_str(alloc, LOSS);
-    }
-    if found != Found::Text {
-        return String::from_str(alloc, "write a whole number");
-    }
-    let name = context.name(span)?;
-    digits_label(alloc, name.as_str())
-}
-
-/// What to write in place of a string.
-fn digits_label(alloc: Global, name: &str) -> Result<String, AllocError> {
-    let digits = leading_digits(name);
-    if digits.is_empty() {
-        return String::from_str(alloc, "write a whole number, without quotes");
-    }
-    if digits.len() == name.len() {
-        return format!(in alloc; "write {digits}, without quotes");
-    }
-    format!(in alloc; "write {digits}, a number of ticks; a tick is the simulation's own unit")
-}
-
-/// The digits at the start of a text, if they are few.
-fn leading_digits(text: &str) -> &str {
-    for at in 0..text.len() {
-        let is_digit = match text.as_bytes().get(at) {
-            Some(byte) => byte.is_ascii_digit(),
-            None => false,
-        };
-        if !is_digit || at > 20 {
-            return text.get(..at).unwrap_or("");
-        }
-    }
-    text
 }
 
 /// How a table is written.

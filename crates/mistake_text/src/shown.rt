@@ -45,7 +45,7 @@ fn push_shown(shown: &mut String, c: char) -> Result<(), AllocError> {
         '\t' => shown.push_str("\\t"),
         '\n' => shown.push_str("\\n"),
         '\r' => shown.push_str("\\r"),
-        _ if breaks_line(c) => push_escape(shown, c),
+        _ if breaks_line(c) || is_unseen(c) => push_escape(shown, c),
         _ => shown.push(c),
     }
 }
@@ -59,6 +59,16 @@ fn push_escape(shown: &mut String, c: char) -> Result<(), AllocError> {
 /// Whether a character ends a line or changes what stands there.
 fn breaks_line(c: char) -> bool {
     c.is_control() || c == '\u{2028}' || c == '\u{2029}'
+}
+
+/// Whether a character isn't seen: it has no width, or turns the direction of what stands round it.
+fn is_unseen(c: char) -> bool {
+    let number = u32::from(c);
+    (0x200b..=0x200f).contains(&number)
+        || (0x202a..=0x202e).contains(&number)
+        || (0x2066..=0x2069).contains(&number)
+        || number == 0xfeff
+        || (0xe0000..=0xe007f).contains(&number)
 }
 
 /// The first characters of a text, at most so many.

@@ -85,17 +85,16 @@ fn judge_timeout(walk: &mut Walk<'_>) -> Result<(), Memory> {
     Ok(())
 }
 
-/// Judges the contact of a group, where it is a member or may be one.
+/// Judges the contact of a group, whomever it names.
 fn judge_contact(walk: &mut Walk<'_>, roster: &Roster, group: usize) -> Result<(), Memory> {
     let Some((name, place)) = walk.text(group, FormatKey::Contact) else {
         return Ok(());
     };
-    let named = roster.find(name);
     let span = walk.places.value(place);
-    if named != Named::Nobody && walk.number(Section::Group, group, FormatKey::Start) == Some(0) {
+    if walk.number(Section::Group, group, FormatKey::Start) == Some(0) {
         return walk.add(9, Cause::NeedlessContact, span);
     }
-    if let Named::Member(seat) = named
+    if let Named::Member(seat) = roster.find(name)
         && let Some(start) = seat.start
         && start > 0
     {

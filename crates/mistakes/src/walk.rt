@@ -1,5 +1,5 @@
 //! The walk over the places of a text, which finds its mistakes.
-use crate::cause::{Cause, Found};
+use crate::cause::{Cause, Found, Home};
 use crate::departures::judge_departures;
 use crate::list::{Mistake, Mistakes};
 use crate::members::{Known, Roster};
@@ -195,8 +195,48 @@ fn walk_over(alloc: Global, text: &str, rule: u8) -> Result<Mistakes, Memory> {
     walk_places(alloc, &places, rule)
 }
 
-/// The same, by the places of the document.
+/// The same, by the places of the document. Which keys a text has depends on its version, so a text without
+/// one has that mistake alone.
 fn walk_places(alloc: Global, places: &Places, rule: u8) -> Result<Mistakes, Memory> {
+    match missing_version(places) {
+        Some(mistake) => alone(alloc, mistake, rule),
+        None => walk_all(alloc, places, rule),
+    }
+}
+
+/// The mistake of a document without a version, at the start of the text.
+fn missing_version(places: &Places) -> Option<Mistake> {
+    if places
+        .child(Places::TOP, FormatKey::Version.text())
+        .is_some()
+    {
+        return None;
+    }
+    let row = row_of(Section::Top.rows(Version::Three), FormatKey::Version)?;
+    let home = Home {
+        section: Section::Top,
+        key: None,
+    };
+    Some(Mistake {
+        rule: 2,
+        cause: Cause::MissingKey { home, row },
+        span: Span { start: 0, end: 0 },
+    })
+}
+
+/// A single mistake of a document that is refused by a rule.
+fn alone(alloc: Global, mistake: Mistake, rule: u8) -> Result<Mistakes, Memory> {
+    Ok(Mistakes {
+        list: listed(alloc, mistake)?,
+        rule,
+        version: Version::One,
+        groups: IndexMap::new(alloc),
+        fault: String::new(alloc),
+    })
+}
+
+/// All mistakes of a document that has a version.
+fn walk_all(alloc: Global, places: &Places, rule: u8) -> Result<Mistakes, Memory> {
     let mut walk = Walk {
         alloc,
         places,

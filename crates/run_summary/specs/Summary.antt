@@ -1,5 +1,5 @@
 -- What happened, in a few words.
-use Rattle.std.specs.Prelude.{ℕ, Bool, nat_lt, nat_eq, if◌then◌else◌, Option, Some, None, List, [], ◌∷◌, ◌++◌, codes, decimal, length, count_by, min, max}
+use Rattle.std.specs.Prelude.{ℕ, Bool, nat_le, nat_lt, nat_eq, if◌then◌else◌, Option, Some, None, List, [], ◌∷◌, ◌++◌, codes, decimal, length, count_by, min, max}
 use Rattle.std.specs.Option.{is_some}
 use Rattle.std.specs.List.{reduce}
 use Rattle.schema.specs.declared.schema.Version.{Version}
@@ -27,7 +27,9 @@ crashed_words count = if nat_eq count 1 then codes "1 member crashed" else decim
 unfoldable pub found_words : ℕ → ℕ → List ℕ
 found_words count found =
     if nat_eq found 0 then codes ", and nobody found out. "
-    else if nat_lt found count then codes ", " ++ decimal found ++ codes " of them were found" else []
+    else if nat_le count found then []
+    else if nat_eq found 1 then codes ", 1 of them was found"
+    else codes ", " ++ decimal found ++ codes " of them were found"
 
 -- the greatest time, where it is another than the least
 abbrev pub greatest_words : ℕ → ℕ → List ℕ

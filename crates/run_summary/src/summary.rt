@@ -116,10 +116,13 @@ fn push_found(text: &mut String, count: usize, found: usize) -> Result<(), Alloc
     if found == 0 {
         return text.push_str(", and nobody found out. ");
     }
-    if found < count {
-        return write!(text, ", {found} of them were found");
+    if found >= count {
+        return Ok(());
     }
-    Ok(())
+    if found == 1 {
+        return text.push_str(", 1 of them was found");
+    }
+    write!(text, ", {found} of them were found")
 }
 
 fn least_latency(crashes: &[Departure]) -> Option<u64>

@@ -36,6 +36,20 @@ rate_words rate = option_map_or hundredths_words rate (codes "-")
 unfoldable pub runs_words : CaseSummary → List ℕ
 runs_words case = grouped case.runs_with ++ markup (codes " of ") ++ grouped case.runs
 
+-- a case's false deaths per run, with two digits and rounded down
+unfoldable pub deaths_words : CaseSummary → List ℕ
+deaths_words case =
+    decimal (case.thrown_out / max case.runs 1) ++ codes "." ++ decimal (case.thrown_out % max case.runs 1 * 10 / max case.runs 1)
+    ++ decimal (case.thrown_out % max case.runs 1 * 100 / max case.runs 1 % 10)
+
+-- the words for one thing, or for several
+unfoldable pub noun_words : ℕ → List ℕ → List ℕ → List ℕ
+noun_words n one many = if n == 1 then markup one else markup many
+
+-- a number of things
+unfoldable pub count_words : ℕ → List ℕ → List ℕ → List ℕ
+count_words n one many = grouped n ++ noun_words n one many
+
 -- an interval of shares, in thousandths
 unfoldable pub interval_words : ℕ → ℕ → List ℕ
 interval_words low high = percent_words low ++ markup (codes " to ") ++ percent_words high

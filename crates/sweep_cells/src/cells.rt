@@ -3,7 +3,7 @@ ghost use Rattle.std.specs.Prelude.{◌≡◌, ◌<◌, ◌++◌, OnOk, slice_ge
 ghost use Rattle.std.specs.String.{string_bytes};
 ghost use Rattle.cases.specs.Sweep.{case_count};
 ghost use Rattle.sweep_cells.specs.Cells.{cell, time_cell};
-ghost use Rattle.sweep_cells.specs.Words.{time_words, whole_percent, tenth_percent, percent_words, hundredths_words, rate_words, runs_words, interval_words, number_words, settings_words, settings_at, thousandths, share_of};
+ghost use Rattle.sweep_cells.specs.Words.{time_words, whole_percent, tenth_percent, percent_words, hundredths_words, rate_words, runs_words, deaths_words, count_words, noun_words, interval_words, number_words, settings_words, settings_at, thousandths, share_of};
 
 use base::Memory;
 use cases::{Choice, Plan, settings_text};
@@ -83,6 +83,40 @@ pub fn push_runs_with(text: &mut String, case: &CaseSummary) -> Result<(), Alloc
     push_grouped(text, case.runs_with)?;
     push_markup(text, " of ")?;
     push_grouped(text, case.runs)
+}
+
+/// Appends how many false deaths there were per run, with two digits and rounded down.
+#[tactic(auto, unfolding(crate::specs::Words::deaths_words))]
+pub fn push_deaths(text: &mut String, case: &CaseSummary) -> Result<(), AllocError>
+    ensures { OnOk result (string_bytes text.new ≡ string_bytes text.old ++ deaths_words case.now) }
+{
+    let runs = u128::from(case.runs).max(1);
+    let whole = case.thrown_out / runs;
+    let rest = case.thrown_out % runs;
+    let tenth = rest * 10 / runs;
+    let last = rest * 100 / runs % 10;
+    write!(text, "{whole}.{tenth}{last}")
+}
+
+/// Appends a number of things: the number, and the words for one or for several.
+#[tactic(auto, unfolding(crate::specs::Words::count_words))]
+pub fn push_count(text: &mut String, count: u64, one: &str, many: &str) -> Result<(), AllocError>
+    ensures { OnOk result (string_bytes text.new ≡ string_bytes text.old ++ count_words count one.now many.now) }
+{
+    push_grouped(text, count)?;
+    push_noun(text, count, one, many)
+}
+
+/// Appends the words for one thing, or for several.
+#[tactic(auto, unfolding(crate::specs::Words::noun_words))]
+fn push_noun(text: &mut String, count: u64, one: &str, many: &str) -> Result<(), AllocError>
+    ensures { OnOk result (string_bytes text.new ≡ string_bytes text.old ++ noun_words count one.now many.now) }
+{
+    if count == 1 {
+        push_markup(text, one)
+    } else {
+        push_markup(text, many)
+    }
 }
 
 /// Appends the 95 % interval of a share, in thousandths.

@@ -83,16 +83,16 @@ pub record StoresPaged (tree : Data) (mark : List ℕ) (sweep : SweepWords) (rel
   pub told : AreSummedUp sweep.plan.until sweep.plan made cases
   pub text : TellsCases sweep.jsonl (tells_revived tree) sweep.plan sweep.wants.items cases lines
   pub shown : List ℕ
-  pub is : IsSweepPage sweep.file.now release sweep.plan cases shown
+  pub is : IsSweepPage sweep.file.now release sweep.plan sweep.wants.items cases shown
   pub paged : HoldsNow (before page) (after page) shown
   pub others : KeepsAllOthers before after sweep.table.now page
 
 -- a page of the cases was appended; or a beginning of one, or nothing
 abbrev pub WritesPage : SweepWords → List ℕ → List CaseSummary → Option (List ℕ) → Option (List ℕ) → Type 0
-WritesPage sweep release cases old new = (text : List ℕ) × IsSweepPage sweep.file.now release sweep.plan cases text × Appends old new text
+WritesPage sweep release cases old new = (text : List ℕ) × IsSweepPage sweep.file.now release sweep.plan sweep.wants.items cases text × Appends old new text
 
 abbrev pub BeginsPage : SweepWords → List ℕ → List CaseSummary → Option (List ℕ) → Option (List ℕ) → Type 0
-BeginsPage sweep release cases old new = Keeps old new ⊎ ((text : List ℕ) × IsSweepPage sweep.file.now release sweep.plan cases text × AppendsBeginning old new text)
+BeginsPage sweep release cases old new = Keeps old new ⊎ ((text : List ℕ) × IsSweepPage sweep.file.now release sweep.plan sweep.wants.items cases text × AppendsBeginning old new text)
 
 -- the same of what was appended to what was held
 pub record MakesPaged (tree : Data) (mark : List ℕ) (sweep : SweepWords) (release : List ℕ) (old new page_old page_new : Option (List ℕ)) (lines : List ℕ) : Type 0 where
@@ -103,7 +103,7 @@ pub record MakesPaged (tree : Data) (mark : List ℕ) (sweep : SweepWords) (rele
 
 -- a text is a page of the cases of these runs
 abbrev pub IsPageOfRuns : (sweep : SweepWords) → RunsBy sweep.plan.until → List ℕ → Type 0
-IsPageOfRuns sweep made text = (release : List ℕ) × (cases : List CaseSummary) × AreSummedUp sweep.plan.until sweep.plan made cases × IsSweepPage sweep.file.now release sweep.plan cases text
+IsPageOfRuns sweep made text = (release : List ℕ) × (cases : List CaseSummary) × AreSummedUp sweep.plan.until sweep.plan made cases × IsSweepPage sweep.file.now release sweep.plan sweep.wants.items cases text
 
 -- a beginning was appended: of the table, and nothing of a page; or the whole table, and a beginning of a page
 pub record BeginsPaged (tree : Data) (mark : List ℕ) (sweep : SweepWords) (old new page_old page_new : Option (List ℕ)) : Type 0 where

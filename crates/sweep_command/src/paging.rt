@@ -2,7 +2,7 @@
 ghost use Rattle.std.specs.Prelude.{◌≡◌, ◌<◌, ◌≤◌, ◌^◌, ◌+◌, All, false, length, IfOk, IfErr, OnOk, OnErr, string_bytes};
 ghost use Rattle.toml.specs.Data.{Data};
 ghost use Rattle.toml.specs.View.{view};
-ghost use Rattle.answers.specs.Wants.{IsBounded};
+ghost use Rattle.answers.specs.Wants.{HasFewRuns, IsBounded};
 ghost use Rattle.cases.specs.Sweep.{Sweep, case_count};
 ghost use Rattle.files.specs.Files.{AreThreeFiles};
 ghost use Rattle.trace.specs.Writers.{put_failures, writer_under};
@@ -157,7 +157,7 @@ fn tell_both<S: Sink, U: Sink, P: Progress>(
     Ok(lines)
 }
 
-/// Writes a page of the cases.
+/// Writes a page of the cases, which answers what is wanted.
 fn write_page<U: Sink>(
     alloc: Global,
     release: &Release<'_>,
@@ -165,6 +165,8 @@ fn write_page<U: Sink>(
     cases: &[CaseSummary],
     out: &mut U,
 ) -> Result<(), Fault>
+    requires wants { All IsBounded words.now.wants.items }
+    requires few { All HasFewRuns cases.now }
     requires all { length cases.now ≡ case_count words.now.plan.settings }
     requires countable { U.failed out.old < 2 ^ 63 }
     ensures whole { OnOk result (WritesPage words.now release.now.version.now cases.now (U.held out.old) (U.held out.new)) }
@@ -176,7 +178,7 @@ fn write_page<U: Sink>(
         name: words.file,
         release: release.version,
     };
-    let text = cases_page(alloc, &shown, &words.plan, cases)?;
+    let text = cases_page(alloc, &shown, &words.plan, &words.wants, cases)?;
     match put_text(text.as_bytes(), out) {
         Ok(()) => Ok(()),
         Err(Stopped) => Err(Fault::Write),

@@ -10,13 +10,13 @@ use Rattle.cases.specs.declared.choice.Choice.{Choice}
 use Rattle.cases.specs.declared.values.SettingValue.{SettingValue}
 use Rattle.drawing.specs.Axes.{axis_up}
 use Rattle.drawing.specs.Escaped.{escaped, markup}
-use Rattle.drawing.specs.Numbers.{grouped, place as place_on}
+use Rattle.drawing.specs.Numbers.{place as place_on}
 use Rattle.drawing.specs.Shapes.{figure_opening, figure_end, plot_opening, plot_end}
 use Rattle.figures.specs.declared.summary.CaseSummary.{CaseSummary}
 use Rattle.sweep_keys.specs.Lines.{key_lines, case_place, width, middle, across, shared_out, statistic_words, early, median, late}
 use Rattle.sweep_cells.specs.Paths.{path_start, path_step}
 use Rattle.sweep_cells.specs.Cells.{cell, time_cell}
-use Rattle.sweep_cells.specs.Words.{settings_words}
+use Rattle.sweep_cells.specs.Words.{count_words, settings_words}
 use Rattle.sweep_keys.specs.declared.lines.KeyLines.{KeyLines}
 use Rattle.sweep_keys.specs.declared.statistic.Statistic.{Statistic}
 use Rattle.sweep_keys.specs.declared.statistic.Statistic.TheVariants.{Suspected, Confirmed, Last}
@@ -43,7 +43,7 @@ legend_entry settings k key line = sample line ++ others_at settings key (case_p
 
 -- so many lines aren't drawn
 unfoldable pub more_undrawn : ℕ → List ℕ
-more_undrawn more = markup (codes "<p class=\"soft\">Not drawn are ") ++ grouped more ++ markup (codes " more; the table of all settings has them.</p>")
+more_undrawn more = markup (codes "<p class=\"soft\">") ++ count_words more (codes " more line is") (codes " more lines are") ++ markup (codes " not drawn; the table of all settings has all figures.</p>")
 
 -- nothing where all are
 unfoldable pub undrawn_words : ℕ → List ℕ
@@ -192,7 +192,7 @@ line_row settings cases k key values line place = option_map_or (key_row setting
 
 -- what the columns are
 unfoldable pub key_heads : List ℕ
-key_heads = codes "<details><summary>These figures in numbers</summary><div class=\"wide\"><table><thead><tr><th>value</th><th>other keys</th><th>suspected, 5th percentile</th><th>suspected, median</th><th>suspected, 95th percentile</th><th>confirmed, 5th percentile</th><th>confirmed, median</th><th>confirmed, 95th percentile</th><th>confirmed, 99th percentile</th><th>last confirmed, 5th percentile</th><th>last confirmed, median</th><th>last confirmed, 95th percentile</th><th>last confirmed, greatest</th></tr></thead><tbody>"
+key_heads = codes "<details><summary>These figures in numbers</summary><div class=\"wide\"><table><caption>What is drawn, in ticks</caption><thead><tr><th scope=\"col\">value</th><th scope=\"col\">other keys</th><th scope=\"col\">suspected, 5th percentile</th><th scope=\"col\">suspected, median</th><th scope=\"col\">suspected, 95th percentile</th><th scope=\"col\">confirmed, 5th percentile</th><th scope=\"col\">confirmed, median</th><th scope=\"col\">confirmed, 95th percentile</th><th scope=\"col\">confirmed, 99th percentile</th><th scope=\"col\">last confirmed, 5th percentile</th><th scope=\"col\">last confirmed, median</th><th scope=\"col\">last confirmed, 95th percentile</th><th scope=\"col\">last confirmed, greatest</th></tr></thead><tbody>"
 
 -- the rows of a line
 unfoldable pub line_rows : List KeyValues → List CaseSummary → KeyLines → ℕ → List SettingValue → ℕ → List ℕ

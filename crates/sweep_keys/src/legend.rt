@@ -7,9 +7,9 @@ ghost use Rattle.sweep_keys.specs.Keys.{without, others_words, others_at, sample
 use crate::lines::KeyLines;
 use base::Memory;
 use cases::{Choice, Plan};
-use drawing::{push_grouped, push_markup};
+use drawing::push_markup;
 use std::alloc::{AllocError, Global};
-use sweep_cells::push_settings;
+use sweep_cells::{push_count, push_settings};
 
 /// Appends what each line is: the values of the other keys.
 #[tactic(auto, unfolding(crate::specs::Keys::legend))]
@@ -93,9 +93,12 @@ fn push_undrawn(text: &mut String, more: usize) -> Result<(), AllocError>
 fn push_more(text: &mut String, more: usize) -> Result<(), AllocError>
     ensures { OnOk result (string_bytes text.new ≡ string_bytes text.old ++ more_undrawn more) }
 {
-    push_markup(text, "<p class=\"soft\">Not drawn are ")?;
-    push_grouped(text, more as u64)?;
-    push_markup(text, " more; the table of all settings has them.</p>")
+    push_markup(text, "<p class=\"soft\">")?;
+    push_count(text, more as u64, " more line is", " more lines are")?;
+    push_markup(
+        text,
+        " not drawn; the table of all settings has all figures.</p>",
+    )
 }
 
 /// Appends the settings of the case at a place without one of its keys.

@@ -63,13 +63,21 @@ fn push_heads(text: &mut String) -> Result<(), AllocError>
     ensures { OnOk result (string_bytes text.new ≡ string_bytes text.old ++ key_heads) }
 {
     text.push_str(
-        "<details><summary>These figures in numbers</summary><div class=\"wide\"><table><thead><tr>\
-         <th>value</th><th>other keys</th><th>suspected, 5th percentile</th>\
-         <th>suspected, median</th><th>suspected, 95th percentile</th>\
-         <th>confirmed, 5th percentile</th><th>confirmed, median</th>\
-         <th>confirmed, 95th percentile</th><th>confirmed, 99th percentile</th>\
-         <th>last confirmed, 5th percentile</th><th>last confirmed, median</th>\
-         <th>last confirmed, 95th percentile</th><th>last confirmed, greatest</th>\
+        "<details><summary>These figures in numbers</summary><div class=\"wide\"><table>\
+         <caption>What is drawn, in ticks</caption><thead><tr>\
+         <th scope=\"col\">value</th>\
+         <th scope=\"col\">other keys</th>\
+         <th scope=\"col\">suspected, 5th percentile</th>\
+         <th scope=\"col\">suspected, median</th>\
+         <th scope=\"col\">suspected, 95th percentile</th>\
+         <th scope=\"col\">confirmed, 5th percentile</th>\
+         <th scope=\"col\">confirmed, median</th>\
+         <th scope=\"col\">confirmed, 95th percentile</th>\
+         <th scope=\"col\">confirmed, 99th percentile</th>\
+         <th scope=\"col\">last confirmed, 5th percentile</th>\
+         <th scope=\"col\">last confirmed, median</th>\
+         <th scope=\"col\">last confirmed, 95th percentile</th>\
+         <th scope=\"col\">last confirmed, greatest</th>\
          </tr></thead><tbody>",
     )
 }

@@ -58,9 +58,9 @@ placed_in_order p [] up = (tt, tt)
 placed_in_order p (q ∷ more) up =
     elim (cases_Bool (comes_before p q)) as (λ _. IsInOrder (placed p (q ∷ more))) [
       | inl is ↦
-          let first : IsAtMost p q = not_after p.time p.place q.time q.place is in
+          let first : IsAtMost p q = not_after p.across p.place q.across q.place is in
           subst IsInOrder (sym (cond-true _ _ _ is))
-          ((first, weaker (IsAtMost q) (IsAtMost p) (λ r low. in_a_row p.time p.place q.time q.place r.time r.place first low) more up.0), up)
+          ((first, weaker (IsAtMost q) (IsAtMost p) (λ r low. in_a_row p.across p.place q.across q.place r.across r.place first low) more up.0), up)
       | inr late ↦ subst IsInOrder (sym (cond-false _ _ _ late)) (all_placed (IsAtMost q) p more late up.0, placed_in_order p more up.1)
     ]
 
@@ -111,7 +111,7 @@ no_earlier x y xs ys up same =
     elim (cases_Bool (comes_before y x)) as (λ _. comes_before y x ≡ false) [
       | inl is ↦
           let one : counted x y ≡ 1 = cond-true _ _ _ is in
-          let own : counted x x ≡ 0 = cond-false _ _ _ (before_itself x.time x.place) in
+          let own : counted x x ≡ 0 = cond-false _ _ _ (before_itself x.across x.place) in
           let none : sum_by (counted x) xs ≡ 0 = no_item (counted x) xs (weaker (IsAtMost x) (λ z. counted x z ≡ 0) (λ z low. cond-false _ _ _ low) xs up) in
           let there = sum_by-cons (counted x) y ys in
           let here = sum_by-cons (counted x) x xs in
@@ -140,7 +140,7 @@ module _ (P : FrontPoint → Type 0) (same : (p q : FrontPoint) → P p → P q 
   one_order (x ∷ xs) (y ∷ ys) up also often ps qs =
       let not_less = no_earlier x y xs ys up.0 (often (counted x)) in
       let not_more = no_earlier y x ys xs also.0 (sym (often (counted y))) in
-      let first : y ≡ x = same y x qs.0 ps.0 (one_place y.time y.place x.time x.place not_less not_more) in
+      let first : y ≡ x = same y x qs.0 ps.0 (one_place y.across y.place x.across x.place not_less not_more) in
       let rest = one_order xs ys up.1 also.1 (rest_as_often x y xs ys first often) ps.1 qs.1 in
       λ i. first i ∷ rest i
 
@@ -156,7 +156,7 @@ module _ (cmp : FrontPoint → FrontPoint → Ordering) (compares : (a b : Front
   below_all x [] sorted up = tt
   below_all x (y ∷ ys) sorted up =
       let first : IsAtMost x y = compares y x (sorted 0 x (omega arith) (omega arith)) in
-      (first, weaker (IsAtMost y) (IsAtMost x) (λ z low. in_a_row x.time x.place y.time y.place z.time z.place first low) ys up.0)
+      (first, weaker (IsAtMost y) (IsAtMost x) (λ z low. in_a_row x.across x.place y.across y.place z.across z.place first low) ys up.0)
 
   from_sorted : (xs : List FrontPoint) → IsSorted cmp xs → IsInOrder xs
   from_sorted [] sorted = tt
@@ -169,12 +169,12 @@ rest_cmp a b =
 
 -- the derived order
 abbrev pub point_cmp : FrontPoint → FrontPoint → Ordering
-point_cmp a b = ordering_then (nat_cmp a.time b.time) (ordering_then (nat_cmp a.place b.place) (rest_cmp a b))
+point_cmp a b = ordering_then (nat_cmp a.across b.across) (ordering_then (nat_cmp a.place b.place) (rest_cmp a b))
 
 -- cases that are told apart by their places, sorted
 pub sorted_by_speed : (P : FrontPoint → Type 0) → ((p q : FrontPoint) → P p → P q → p.place ≡ q.place → p ≡ q) → (xs ys : List FrontPoint) → AllByRecursion P xs → IsPermutation xs ys
     → IsSorted point_cmp ys → ys ≡ by_speed xs
 sorted_by_speed P same xs ys all moved sorted =
-    one_order P same (by_speed xs) ys (in_order xs) (from_sorted point_cmp (λ a b none. by_cmp a.time a.place b.time b.place (rest_cmp a b) none) ys sorted)
+    one_order P same (by_speed xs) ys (in_order xs) (from_sorted point_cmp (λ a b none. by_cmp a.across a.place b.across b.place (rest_cmp a b) none) ys sorted)
     (λ f. sum_by-IsPermutation f xs ys moved ∙ sym (sum_by_speed f xs))
     (all_by_speed P xs all) (recursion_from_All P ys (All-permutation P xs ys moved (All-from_recursion P xs all)))

@@ -10,16 +10,16 @@ use Rattle.drawing.specs.Rounds.{round_step}
 use Rattle.drawing.specs.Shapes.{figure_opening, figure_end, plot_opening, plot_end}
 use Rattle.figures.specs.declared.summary.CaseSummary.{CaseSummary}
 use Rattle.sweep_cells.specs.Words.{percent_words, rate_words, thousandths, share_of, number_words, settings_at}
-use Rattle.sweep_page.specs.Points.{is_marked}
+use Rattle.sweep_page.specs.Points.{across_of, is_marked}
 use Rattle.sweep_cells.specs.Paths.{path_start, path_step}
 use Rattle.sweep_cells.specs.Cells.{time_cell}
 use Rattle.sweep_page.specs.Table.{share_cells}
 use Rattle.sweep_page.specs.declared.front.Reach.{Reach}
 use Rattle.sweep_page.specs.declared.front_points.FrontPoint.{FrontPoint}
 
--- the slowest case that has a median time; 1 at least
-abbrev pub slowest : List CaseSummary → ℕ
-slowest cases = fold (λ (most : ℕ) (case : CaseSummary). max most (unwrap_or case.confirm_p50 0)) 1 cases
+-- the case that is farthest across; 1 at least
+abbrev pub farthest : Bool → List CaseSummary → ℕ
+farthest crashed cases = fold (λ (most : ℕ) (case : CaseSummary). max most (unwrap_or (across_of crashed case) 0)) 1 cases
 
 -- the greatest upper end of an interval; a percent at least
 abbrev pub highest : List CaseSummary → ℕ
@@ -29,13 +29,13 @@ highest cases = fold (λ (most : ℕ) (case : CaseSummary). max most (thousandth
 abbrev pub most_messages : List CaseSummary → ℕ
 most_messages cases = fold (λ (most : ℕ) (case : CaseSummary). max most (unwrap_or case.messages 0)) 1 cases
 
--- a sixteenth past the slowest case, that its mark is whole; an axis reaches a billion billions at most
+-- a sixteenth past the farthest case, that its mark is whole; an axis reaches a billion billions at most
 abbrev pub past : ℕ → ℕ
-past time = min time (10 ^ 18) + min time (10 ^ 18) / 16
+past far = min far (10 ^ 18) + min far (10 ^ 18) / 16
 
 -- how far the plot reaches: across, up, and by the sizes of its dots
-unfoldable pub reach_of : List CaseSummary → Reach
-reach_of cases = record { across = past (slowest cases); up = highest cases; messages = most_messages cases }
+unfoldable pub reach_of : Bool → List CaseSummary → Reach
+reach_of crashed cases = record { across = past (farthest crashed cases); up = highest cases; messages = most_messages cases; crashed = crashed }
 
 -- the class of what is on the front
 unfoldable pub best_class : Bool → List ℕ
@@ -55,15 +55,15 @@ share_dot class size at middle =
 unfoldable pub size_of : Option ℕ → ℕ → ℕ
 size_of messages most = min (min (unwrap_or messages 0) most / (most / 5 + 1)) 4 + 1
 
--- a case's bar and dot over its time; heights count from the top
+-- a case's bar and dot over where it stands across; heights count from the top
 unfoldable pub mark_over : Reach → Bool → CaseSummary → ℕ → List ℕ
-mark_over reach best case time =
-    interval_bar (best_class best) (min time reach.across) (reach.up - thousandths case.share_high) (reach.up - thousandths case.share_low)
-    ++ share_dot (best_class best) (size_of case.messages reach.messages) (min time reach.across) (reach.up - share_of case)
+mark_over reach best case across =
+    interval_bar (best_class best) (min across reach.across) (reach.up - thousandths case.share_high) (reach.up - thousandths case.share_low)
+    ++ share_dot (best_class best) (size_of case.messages reach.messages) (min across reach.across) (reach.up - share_of case)
 
--- nothing where it has no median time
+-- nothing where it stands nowhere
 unfoldable pub case_mark : Reach → Bool → CaseSummary → List ℕ
-case_mark reach best case = option_map_or (mark_over reach best case) case.confirm_p50 []
+case_mark reach best case = option_map_or (mark_over reach best case) (across_of reach.crashed case) []
 
 -- the case at a place is on the front where those are asked for, or not on it where the others are
 abbrev pub is_among : List Bool → Bool → ℕ → Bool
@@ -79,7 +79,7 @@ all_marks reach cases front best = flat_map (mark_at reach cases front best) (ra
 
 -- the line through the front goes on to a case; it begins at the first
 unfoldable pub joint : Reach → ℕ → FrontPoint → List ℕ
-joint reach place p = if place == 0 then path_start (min p.time reach.across) (reach.up - p.share) else path_step (min p.time reach.across) (reach.up - p.share)
+joint reach place p = if place == 0 then path_start (min p.across reach.across) (reach.up - p.share) else path_step (min p.across reach.across) (reach.up - p.share)
 
 -- the one at a place
 unfoldable pub joint_at : Reach → List FrontPoint → ℕ → List ℕ
@@ -93,7 +93,7 @@ joined reach points =
 -- the number of a case on the front, beside its dot
 unfoldable pub number_mark : Reach → FrontPoint → List ℕ
 number_mark reach p =
-    markup (codes "<span class=\"number\" aria-hidden=\"true\" style=\"left:") ++ place_on p.time reach.across ++ markup (codes ";bottom:") ++ place_on p.share reach.up
+    markup (codes "<span class=\"number\" aria-hidden=\"true\" style=\"left:") ++ place_on p.across reach.across ++ markup (codes ";bottom:") ++ place_on p.share reach.up
     ++ markup (codes "\">") ++ number_words p.place ++ markup (codes "</span>")
 
 -- a tick of the axis of shares
@@ -104,11 +104,23 @@ share_tick up share = markup (codes "<span style=\"bottom:") ++ place_on share u
 unfoldable pub shares_up : ℕ → List ℕ
 shares_up up = markup (codes "<div class=\"up\" aria-hidden=\"true\">") ++ at_ticks (share_tick up) up (round_step up 4) ++ markup (codes "</div>")
 
+-- what is across
+unfoldable pub unit_words : Bool → List ℕ
+unit_words crashed = if crashed then codes "ticks until a crash is first confirmed, median" else codes "messages per member per 100,000 ticks"
+
+-- what a screen reader tells of the plot
+unfoldable pub plane_words : Bool → List ℕ
+plane_words crashed =
+    if crashed then codes "Across: the median time until a crash is first confirmed. Up: the share of runs with a false death. The table beneath has the settings on the front."
+    else codes "Across: messages per member. Up: the share of runs with a false death. The table beneath has the settings on the front."
+
+-- what the plot is called
+unfoldable pub plane_title : Bool → List ℕ
+plane_title crashed = if crashed then codes "Every setting by its speed and its safety" else codes "Every setting by its messages and its safety"
+
 -- the plot begins
 unfoldable pub plane_opening : Reach → List ℕ
-plane_opening reach =
-    plot_opening (codes "cases") reach.across reach.up (codes "Every setting by its speed and its safety")
-    (codes "Across: the median time until a crash is first confirmed. Up: the share of runs in which a healthy member was thrown out. The table beneath has the settings on the front.")
+plane_opening reach = plot_opening (codes "cases") reach.across reach.up (plane_title reach.crashed) (plane_words reach.crashed)
 
 -- the plot: the other cases, the line through the front, those on the front, and their numbers
 unfoldable pub plane : Reach → List CaseSummary → List Bool → List FrontPoint → List ℕ
@@ -119,7 +131,7 @@ plane reach cases front points =
 -- the row of a case on the front
 unfoldable pub front_row : List KeyValues → ℕ → CaseSummary → List ℕ
 front_row settings place case =
-    markup (codes "<tr><td>") ++ number_words place ++ markup (codes "</td><td>") ++ settings_at settings place ++ markup (codes "</td>") ++ time_cell case.confirm_p50
+    markup (codes "<tr><th scope=\"row\">") ++ number_words place ++ markup (codes "</th><td>") ++ settings_at settings place ++ markup (codes "</td>") ++ time_cell case.confirm_p50
     ++ share_cells case ++ markup (codes "<td>") ++ rate_words case.messages ++ markup (codes "</td></tr>")
 
 -- that of a case by its place
@@ -128,23 +140,32 @@ front_row_of settings cases p = option_map_or (front_row settings p.place) (slic
 
 -- what its columns are
 unfoldable pub front_heads : List ℕ
-front_heads = codes "<details><summary>The front in numbers</summary><div class=\"wide\"><table><thead><tr><th></th><th>setting</th><th>confirmed, median</th><th>runs with a healthy member thrown out</th><th>their share</th><th>95&nbsp;% interval</th><th>messages a member and 1,000 ticks</th></tr></thead><tbody>"
+front_heads = codes "<details><summary>The front in numbers</summary><div class=\"wide\"><table><caption>The settings on the front</caption><thead><tr><th scope=\"col\">number</th><th scope=\"col\">setting</th><th scope=\"col\">confirmed, median</th><th scope=\"col\">runs with a false death</th><th scope=\"col\">their share</th><th scope=\"col\">95&nbsp;% interval</th><th scope=\"col\">false deaths per run</th><th scope=\"col\">messages per member per 1,000 ticks</th></tr></thead><tbody>"
 
 -- the figures of the front, folded
 unfoldable pub front_table : List KeyValues → List CaseSummary → List FrontPoint → List ℕ
 front_table settings cases points = front_heads ++ flat_map (front_row_of settings cases) points ++ markup (codes "</tbody></table></div></details>")
 
--- what the plot shows
-unfoldable pub front_words : List ℕ
-front_words = codes "<p class=\"soft\">Each dot is a setting: the further left, the faster; the lower, the safer. Up: the share of runs in which a healthy member was thrown out, with its 95&nbsp;% interval as a bar. A larger dot sends more messages. The numbered dots, joined by a line, are on the front: no other setting is as good in both and better in one.</p>"
+-- what the plot shows, where runs have crashes, and where none has
+unfoldable pub speed_words : List ℕ
+speed_words = codes "<p class=\"soft\">Each dot is a setting: the further left, the faster; the lower, the safer. Up: the share of runs with a false death, with its 95&nbsp;% interval as a bar. A larger dot sends more messages. The numbered dots, joined by a line, are on the front: no other setting is as good in both and better in one.</p>"
+
+unfoldable pub messages_words : List ℕ
+messages_words = codes "<p class=\"soft\">Each dot is a setting: the further left, the fewer messages; the lower, the safer. Up: the share of runs with a false death, with its 95&nbsp;% interval as a bar. The numbered dots, joined by a line, are on the front: no other setting is as good in both and better in one.</p>"
+
+unfoldable pub front_words : Bool → List ℕ
+front_words crashed = if crashed then speed_words else messages_words
 
 -- the plot with its axes
 unfoldable pub front_chart : Reach → List CaseSummary → List Bool → List FrontPoint → List ℕ
 front_chart reach cases front points =
-    markup (codes "<div class=\"chart\">") ++ shares_up reach.up ++ plane reach cases front points
-    ++ axis_across reach.across (codes "ticks until a crash is first confirmed, median") ++ markup (codes "</div>")
+    markup (codes "<div class=\"chart\">") ++ shares_up reach.up ++ plane reach cases front points ++ axis_across reach.across (unit_words reach.crashed) ++ markup (codes "</div>")
+
+-- what the figure is called
+unfoldable pub front_heading : Bool → List ℕ
+front_heading crashed = if crashed then codes "Fast or safe: every setting" else codes "Few messages or safe: every setting"
 
 -- the whole figure
-unfoldable pub front_figure : List KeyValues → List CaseSummary → List Bool → List FrontPoint → List ℕ
-front_figure settings cases front points =
-    figure_opening (codes "front") (codes "Fast or safe: every setting") ++ front_words ++ front_chart (reach_of cases) cases front points ++ front_table settings cases points ++ figure_end
+unfoldable pub front_figure : Bool → List KeyValues → List CaseSummary → List Bool → List FrontPoint → List ℕ
+front_figure crashed settings cases front points =
+    figure_opening (codes "front") (front_heading crashed) ++ front_words crashed ++ front_chart (reach_of crashed cases) cases front points ++ front_table settings cases points ++ figure_end

@@ -1,12 +1,15 @@
 -- The page of a sweep.
-use Rattle.std.specs.Prelude.{ℕ, Bool, List, ◌++◌, codes}
+use Rattle.std.specs.Prelude.{ℕ, Bool, if◌then◌else◌, List, [], ◌++◌, Option, codes}
+use Rattle.answers.specs.Front.{has_crash}
+use Rattle.answers.specs.declared.want.Want.{Want}
 use Rattle.cases.specs.Sweep.{Sweep}
 use Rattle.drawing.specs.Escaped.{escaped, markup}
+use Rattle.drawing.specs.Pages.{page_opening}
 use Rattle.figures.specs.declared.summary.CaseSummary.{CaseSummary}
 use Rattle.sweep_keys.specs.Keys.{key_figures}
 use Rattle.sweep_page.specs.Front.{front_figure}
 use Rattle.sweep_page.specs.Points.{front_points, places_of}
-use Rattle.drawing.specs.Styles.{drawing_style}
+use Rattle.sweep_page.specs.Question.{question}
 use Rattle.sweep_page.specs.Style.{page_style}
 use Rattle.sweep_page.specs.Summary.{summary}
 use Rattle.sweep_page.specs.Table.{table}
@@ -15,20 +18,27 @@ use Rattle.sweep_times.specs.Times.{times_figure}
 
 -- the page begins: its styles, and which scenario it is of
 unfoldable pub page_head : List ℕ → List ℕ
-page_head name =
-    markup (codes "<!DOCTYPE html>\n<html lang=\"en\"><head><meta charset=\"utf-8\"><meta name=\"viewport\" content=\"width=device-width,initial-scale=1\"><title>") ++ escaped name
-    ++ markup (codes " - swimsim sweep</title><style>") ++ markup drawing_style ++ markup page_style ++ markup (codes "</style></head>\n<body><main><header><h1>Which setting of ") ++ escaped name ++ markup (codes "?</h1></header>\n")
+page_head name = page_opening name (codes " - swimsim sweep") page_style ++ markup (codes "Which setting of ") ++ escaped name ++ markup (codes "?</h1></header>\n")
 
 -- it ends by the release of the program
 unfoldable pub page_end : List ℕ → List ℕ
 page_end release = markup (codes "<footer class=\"soft\">swimsim ") ++ escaped release ++ markup (codes "</footer></main></body></html>\n")
 
--- the page from its head to its end, with these cases on the front, in this order
-unfoldable pub page_over : List ℕ → List ℕ → Sweep → List CaseSummary → List Bool → List FrontPoint → List ℕ
-page_over name release sweep cases front points =
-    page_head name ++ summary sweep points ++ front_figure sweep.settings cases front points ++ times_figure sweep.settings cases (places_of points) ++ key_figures sweep.settings cases
-    ++ table sweep.settings cases front ++ page_end release
+-- how times spread, and what each key changes: nothing where no run has a crash
+unfoldable pub time_figures : Sweep → List CaseSummary → List FrontPoint → List ℕ
+time_figures sweep cases points = times_figure sweep.settings cases (places_of points) ++ key_figures sweep.settings cases
 
--- the page of a sweep of the scenario with this name, of the summaries of its cases, and of which are on the front
-abbrev pub page_text : List ℕ → List ℕ → Sweep → List CaseSummary → List Bool → List ℕ
-page_text name release sweep cases front = page_over name release sweep cases front (front_points cases front)
+unfoldable pub times_where : Bool → Sweep → List CaseSummary → List FrontPoint → List ℕ
+times_where crashed sweep cases points = if crashed then time_figures sweep cases points else []
+
+-- the page from its head to its end, with these cases on the front, in this order, and whether a run has a crash
+unfoldable pub page_over : List ℕ → List ℕ → Sweep → List Want → Option ℕ → List CaseSummary → List Bool → Bool → List FrontPoint → List ℕ
+page_over name release sweep wants best cases front crashed points =
+    page_head name ++ question crashed sweep.settings wants cases best ++ summary crashed sweep cases points ++ front_figure crashed sweep.settings cases front points
+    ++ times_where crashed sweep cases points ++ table sweep.settings cases front ++ page_end release
+
+-- the page of a sweep of the scenario with this name, of the summaries of its cases, of which are on the front, and of what is wanted of them: of those that
+-- meet all, the best stands at this place
+abbrev pub page_text : List ℕ → List ℕ → Sweep → List Want → Option ℕ → List CaseSummary → List Bool → List ℕ
+page_text name release sweep wants best cases front =
+    page_over name release sweep wants best cases front (has_crash cases) (front_points (has_crash cases) cases front)

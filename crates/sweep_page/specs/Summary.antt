@@ -1,11 +1,14 @@
--- The answer in words: the cases on the front, the fastest first.
-use Rattle.std.specs.Prelude.{ℕ, ◌-◌, ◌==◌, if◌then◌else◌, min, List, [], ◌++◌, Option, codes, length, slice_get}
+-- The trade-off in words: the cases on the front, the fastest first; where no run has a crash, those of the fewest messages first.
+use Rattle.std.specs.Prelude.{ℕ, Bool, ◌-◌, ◌==◌, if◌then◌else◌, min, List, [], ◌++◌, Option, codes, length, slice_get}
 use Rattle.std.specs.List.{flat_map, range_with_len}
 use Rattle.std.specs.Option.{option_map_or}
 use Rattle.cases.specs.Sweep.{KeyValues, Sweep, case_count, seed_count}
 use Rattle.drawing.specs.Escaped.{markup}
 use Rattle.drawing.specs.Numbers.{grouped}
-use Rattle.sweep_cells.specs.Words.{interval_words, number_words, settings_at}
+use Rattle.drawing.specs.Shapes.{figure_opening, figure_end}
+use Rattle.figures.specs.declared.summary.CaseSummary.{CaseSummary}
+use Rattle.sweep_cells.specs.Words.{count_words}
+use Rattle.sweep_page.specs.Items.{item_at}
 use Rattle.sweep_page.specs.declared.front_points.FrontPoint.{FrontPoint}
 
 -- a case may have fewer seeds where its runs end once its interval is so narrow
@@ -17,42 +20,52 @@ unfoldable pub size_words : Sweep → List ℕ
 size_words sweep =
     markup (codes "<p class=\"soft\">Settings tried: ") ++ grouped (case_count sweep.settings) ++ markup (codes ". Seeds for each: ") ++ at_most sweep.until ++ grouped (seed_count sweep.seeds) ++ markup (codes ".</p>\n")
 
--- how fast a case is, and how safe
-unfoldable pub speed_words : FrontPoint → List ℕ
-speed_words p =
-    markup (codes "</code><span>confirms in <b>") ++ grouped p.time ++ markup (codes "</b> ticks</span><span>healthy thrown out in <b>") ++ grouped p.runs_with
-    ++ markup (codes " of ") ++ grouped p.runs ++ markup (codes "</b> runs (") ++ interval_words p.low p.high ++ markup (codes ")</span></li>")
-
--- a case on the front: its number, its settings, and these
-unfoldable pub answer : List KeyValues → FrontPoint → List ℕ
-answer settings p =
-    markup (codes "<li><span class=\"number\">") ++ number_words p.place ++ markup (codes "</span><code>") ++ settings_at settings p.place ++ speed_words p
-
 -- the one at a place among those on the front
-unfoldable pub answer_at : List KeyValues → List FrontPoint → ℕ → List ℕ
-answer_at settings points place = option_map_or (answer settings) (slice_get points place) []
+unfoldable pub told_at : Bool → List KeyValues → List CaseSummary → List FrontPoint → ℕ → List ℕ
+told_at crashed settings cases points place = option_map_or (λ (p : FrontPoint). item_at crashed settings cases p.place) (slice_get points place) []
 
--- what the list of them is
-unfoldable pub answers_opening : List ℕ
-answers_opening = codes "<p class=\"lead\">Take one of these. Each other setting that confirms half of its crashes is no faster and no safer than one of them. The further down, the slower and the safer.</p><ol class=\"answers\">"
+-- what the list of them is, where runs have crashes, and where none has
+unfoldable pub speed_opening : List ℕ
+speed_opening = codes "<p class=\"lead\">These settings confirm half of their crashes, and no other setting beats them: none is at least as fast and at least as safe, and better in one of the two. The further down, the slower and the safer.</p>"
+
+unfoldable pub messages_opening : List ℕ
+messages_opening = codes "<p class=\"lead\">No run has a crash, so settings are compared by their false deaths and their messages. No other setting beats these: none sends at most as many messages and is at least as safe, and is better in one of the two. The further down, the more messages and the safer.</p>"
+
+unfoldable pub front_opening : Bool → List ℕ
+front_opening crashed = if crashed then speed_opening else messages_opening
+
+-- what the words for how safe a case is mean
+unfoldable pub safety_words : List ℕ
+safety_words = codes "<p class=\"soft\">A false death: a member that has neither crashed nor left is declared dead. Safe: the whole 95&nbsp;% interval of the share of runs with a false death is at most 5&nbsp;%. Unsafe: the whole interval is above 5&nbsp;%. Unknown: only a part of it is, so more runs would decide.</p><ol class=\"answers\">"
 
 -- how many more there are
 unfoldable pub more_words : ℕ → List ℕ
-more_words more = markup (codes "<p class=\"soft\">And more on the front: ") ++ grouped more ++ markup (codes ", starred in the table.</p>\n")
+more_words more =
+    markup (codes "<p class=\"soft\">") ++ count_words more (codes " more setting is") (codes " more settings are") ++ markup (codes " on the front; the table of all settings has a star there.</p>\n")
 
 -- nothing where there are none
 unfoldable pub untold_words : ℕ → List ℕ
 untold_words more = if more == 0 then [] else more_words more
 
 -- the first twelve of them, and how many more there are
-unfoldable pub answers : List KeyValues → List FrontPoint → List ℕ
-answers settings points =
-    answers_opening ++ flat_map (answer_at settings points) (range_with_len 0 (min (length points) 12)) ++ markup (codes "</ol>\n") ++ untold_words (length points - 12)
+unfoldable pub told_words : Bool → List KeyValues → List CaseSummary → List FrontPoint → List ℕ
+told_words crashed settings cases points =
+    front_opening crashed ++ safety_words ++ flat_map (told_at crashed settings cases points) (range_with_len 0 (min (length points) 12)) ++ markup (codes "</ol>\n") ++ untold_words (length points - 12)
 
--- where there are none
-unfoldable pub no_answers : List ℕ
-no_answers = codes "<p class=\"lead\">No case confirms half of its crashes.</p>\n"
+-- where there are none: no case confirms half of its crashes, or none has moments in which messages could be sent
+unfoldable pub unconfirmed_words : List ℕ
+unconfirmed_words = codes "<p class=\"lead\">No setting confirms half of its crashes.</p>\n"
 
--- the answer in words
-unfoldable pub summary : Sweep → List FrontPoint → List ℕ
-summary sweep points = size_words sweep ++ (if length points == 0 then no_answers else answers sweep.settings points)
+unfoldable pub momentless_words : List ℕ
+momentless_words = codes "<p class=\"lead\">Each run ends at moment 0, so there is nothing to compare.</p>\n"
+
+unfoldable pub none_words : Bool → List ℕ
+none_words crashed = if crashed then unconfirmed_words else momentless_words
+
+unfoldable pub front_words_of : Bool → List KeyValues → List CaseSummary → List FrontPoint → List ℕ
+front_words_of crashed settings cases points = if length points == 0 then none_words crashed else told_words crashed settings cases points
+
+-- the section
+unfoldable pub summary : Bool → Sweep → List CaseSummary → List FrontPoint → List ℕ
+summary crashed sweep cases points =
+    figure_opening (codes "trade-off") (codes "The trade-off") ++ size_words sweep ++ front_words_of crashed sweep.settings cases points ++ figure_end

@@ -11,14 +11,14 @@ use Rattle.drawing.specs.Escaped.{escaped, markup}
 use Rattle.drawing.specs.Shapes.{figure_opening, figure_end}
 use Rattle.figures.specs.declared.summary.CaseSummary.{CaseSummary}
 use Rattle.sweep_cells.specs.Cells.{cell, time_cell}
-use Rattle.sweep_cells.specs.Words.{percent_words, hundredths_words, rate_words, runs_words, interval_words, thousandths, share_of, number_words}
+use Rattle.sweep_cells.specs.Words.{deaths_words, percent_words, hundredths_words, rate_words, runs_words, interval_words, thousandths, share_of, number_words}
 use Rattle.sweep_page.specs.Points.{is_marked}
 
 -- the cells that tell how often a case threw out healthy members
 unfoldable pub share_cells : CaseSummary → List ℕ
 share_cells case =
     markup (codes "<td>") ++ runs_words case ++ markup (codes "</td><td>") ++ percent_words (share_of case) ++ markup (codes "</td><td>")
-    ++ interval_words (thousandths case.share_low) (thousandths case.share_high) ++ markup (codes "</td>")
+    ++ interval_words (thousandths case.share_low) (thousandths case.share_high) ++ markup (codes "</td><td>") ++ deaths_words case ++ markup (codes "</td>")
 
 -- the cells of what it cost: false suspicions a run, and messages
 unfoldable pub cost_cells : CaseSummary → List ℕ
@@ -40,12 +40,12 @@ value_cells settings place = option_map_or (λ chosen. flat_map value_cell chose
 
 -- a row begins with the number of its case, which has a star where it is on the front
 unfoldable pub row_opening : Bool → List ℕ
-row_opening marked = if marked then codes "<tr class=\"best\"><td>&#9733;&nbsp;" else codes "<tr><td>"
+row_opening marked = if marked then codes "<tr class=\"best\"><th scope=\"row\">&#9733;&nbsp;" else codes "<tr><th scope=\"row\">"
 
 -- the row of a case
 unfoldable pub row : List KeyValues → ℕ → CaseSummary → Bool → List ℕ
 row settings place case marked =
-    row_opening marked ++ number_words place ++ markup (codes "</td>") ++ value_cells settings place ++ figure_cells case ++ markup (codes "</tr>\n")
+    row_opening marked ++ number_words place ++ markup (codes "</th>") ++ value_cells settings place ++ figure_cells case ++ markup (codes "</tr>\n")
 
 -- the row of the case at a place
 unfoldable pub row_at : List KeyValues → List CaseSummary → List Bool → ℕ → List ℕ
@@ -53,15 +53,15 @@ row_at settings cases front place = option_map_or (λ case. row settings place c
 
 -- the name of a key over its column
 unfoldable pub key_head : KeyValues → List ℕ
-key_head setting = markup (codes "<th>") ++ escaped (key_name setting.key) ++ markup (codes "</th>")
+key_head setting = markup (codes "<th scope=\"col\">") ++ escaped (key_name setting.key) ++ markup (codes "</th>")
 
 -- what the table is
 unfoldable pub table_words : List ℕ
-table_words = codes "<p class=\"soft\">Times are in ticks since the crash, over all crashes of all runs; a dash stands where too few crashes were detected. Starred settings are on the front.</p><div class=\"wide\"><table><thead><tr><th></th>"
+table_words = codes "<p class=\"soft\">Times are in ticks since the crash, over all crashes of all runs; a dash stands where too few crashes were detected. Starred settings are on the front.</p><div class=\"wide\"><table><caption>All settings</caption><thead><tr><th scope=\"col\">number</th>"
 
 -- the words over the figures
 unfoldable pub figure_heads : List ℕ
-figure_heads = codes "<th>confirmed, median</th><th>runs with a healthy member thrown out</th><th>their share</th><th>95&nbsp;% interval</th><th>suspected, median</th><th>confirmed, 99th percentile</th><th>confirmed, greatest</th><th>last confirmed, median</th><th>last confirmed, greatest</th><th>false suspicions a run</th><th>messages a member and 1,000 ticks</th>"
+figure_heads = codes "<th scope=\"col\">confirmed, median</th><th scope=\"col\">runs with a false death</th><th scope=\"col\">their share</th><th scope=\"col\">95&nbsp;% interval</th><th scope=\"col\">false deaths per run</th><th scope=\"col\">suspected, median</th><th scope=\"col\">confirmed, 99th percentile</th><th scope=\"col\">confirmed, greatest</th><th scope=\"col\">last confirmed, median</th><th scope=\"col\">last confirmed, greatest</th><th scope=\"col\">false suspicions per run</th><th scope=\"col\">messages per member per 1,000 ticks</th>"
 
 -- the table: a column for each key and each figure, a row for each case
 unfoldable pub table : List KeyValues → List CaseSummary → List Bool → List ℕ

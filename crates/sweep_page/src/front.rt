@@ -4,9 +4,9 @@ ghost use Rattle.std.specs.List.{flat_map, range_with_len};
 ghost use Rattle.std.specs.String.{string_bytes};
 ghost use Rattle.drawing.specs.Axes.{at_ticks};
 ghost use Rattle.drawing.specs.Rounds.{round_step};
-ghost use Rattle.sweep_page.specs.Front.{slowest, highest, most_messages, reach_of, share_tick, shares_up, plane, plane_opening, front_row, front_row_of, front_heads, front_table, front_words, front_chart, front_figure};
+ghost use Rattle.sweep_page.specs.Front.{farthest, front_heading, highest, messages_words, most_messages, plane_title, plane_words, reach_of, speed_words, unit_words, share_tick, shares_up, plane, plane_opening, front_row, front_row_of, front_heads, front_table, front_words, front_chart, front_figure};
 
-use crate::front_points::FrontPoint;
+use crate::front_points::{FrontPoint, across_of};
 use crate::marks::{push_joined, push_marks, push_numbers};
 use crate::table::push_shares;
 use base::Memory;
@@ -27,39 +27,42 @@ const MOST: u64 = 1_000_000_000_000_000_000;
 /// How far the plot reaches.
 #[derive(Clone, Copy)]
 pub struct Reach {
-    /// Ticks across; past the slowest case.
+    /// Ticks across, or messages in hundredths; past the farthest case.
     pub across: u64,
     /// Thousandths up: the greatest upper end of an interval.
     pub up: u64,
     /// The greatest number of messages, in hundredths.
     pub messages: u128,
+    /// Whether a run of the sweep has a crash.
+    pub crashed: bool,
 }
 
 /// How far a plot of these cases reaches.
 #[tactic(auto, unfolding(crate::specs::Front::reach_of))]
-fn reach_of(cases: &[CaseSummary]) -> Reach
-    ensures is { result ≡ reach_of cases.now }
+fn reach_of(crashed: bool, cases: &[CaseSummary]) -> Reach
+    ensures is { result ≡ reach_of crashed cases.now }
     ensures across { result.across < 2 ^ 63 }
     ensures up { result.up < 2 ^ 63 }
 {
-    let slowest = slowest(cases).min(MOST);
-    let across = slowest + slowest / 16;
+    let farthest = farthest(crashed, cases).min(MOST);
+    let across = farthest + farthest / 16;
     let up = highest(cases);
     let messages = most_messages(cases);
     Reach {
         across,
         up,
         messages,
+        crashed,
     }
 }
 
-/// The slowest median time of a case; 1 at least.
-fn slowest(cases: &[CaseSummary]) -> u64
-    ensures { result ≡ slowest cases.now }
+/// How far across the farthest case stands; 1 at least.
+fn farthest(crashed: bool, cases: &[CaseSummary]) -> u64
+    ensures { result ≡ farthest crashed cases.now }
 {
     let mut most = 1;
     for case in cases {
-        most = most.max(case.confirm_p50.unwrap_or(0));
+        most = most.max(across_of(crashed, case).unwrap_or(0));
     }
     most
 }
@@ -97,12 +100,13 @@ pub(crate) fn push_front(
     cases: &[CaseSummary],
     front: &[bool],
     points: &[FrontPoint],
+    crashed: bool,
 ) -> Result<(), Memory>
-    ensures { OnOk result (string_bytes text.new ≡ string_bytes text.old ++ front_figure plan.now.settings cases.now front.now points.now) }
+    ensures { OnOk result (string_bytes text.new ≡ string_bytes text.old ++ front_figure crashed plan.now.settings cases.now front.now points.now) }
 {
-    let reach = reach_of(cases);
-    open_figure(text, "front", "Fast or safe: every setting")?;
-    push_words(text)?;
+    let reach = reach_of(crashed, cases);
+    open_figure(text, "front", front_heading(crashed))?;
+    push_words(text, crashed)?;
     push_chart(text, cases, front, points, &reach)?;
     push_rows(alloc, text, plan, cases, points)?;
     close_figure(text)?;
@@ -111,14 +115,39 @@ pub(crate) fn push_front(
 
 /// Appends what the plot shows.
 #[tactic(auto, unfolding(crate::specs::Front::front_words))]
-fn push_words(text: &mut String) -> Result<(), AllocError>
-    ensures { OnOk result (string_bytes text.new ≡ string_bytes text.old ++ front_words) }
+fn push_words(text: &mut String, crashed: bool) -> Result<(), AllocError>
+    ensures { OnOk result (string_bytes text.new ≡ string_bytes text.old ++ front_words crashed) }
+{
+    if crashed {
+        push_speed_words(text)
+    } else {
+        push_messages_words(text)
+    }
+}
+
+/// Appends what the plot shows, where runs have crashes.
+#[tactic(auto, unfolding(crate::specs::Front::speed_words))]
+fn push_speed_words(text: &mut String) -> Result<(), AllocError>
+    ensures { OnOk result (string_bytes text.new ≡ string_bytes text.old ++ speed_words) }
 {
     text.push_str(
-        "<p class=\"soft\">Each dot is a setting: the further left, the faster; the lower, the safer. Up: the \
-         share of runs in which a healthy member was thrown out, with its 95&nbsp;% interval as a bar. A larger \
-         dot sends more messages. The numbered dots, joined by a line, are on the front: no other setting \
-         is as good in both and better in one.</p>",
+        "<p class=\"soft\">Each dot is a setting: the further left, the faster; the lower, the \
+         safer. Up: the share of runs with a false death, with its 95&nbsp;% interval as a bar. A \
+         larger dot sends more messages. The numbered dots, joined by a line, are on the front: no \
+         other setting is as good in both and better in one.</p>",
+    )
+}
+
+/// Appends what the plot shows, where no run has a crash.
+#[tactic(auto, unfolding(crate::specs::Front::messages_words))]
+fn push_messages_words(text: &mut String) -> Result<(), AllocError>
+    ensures { OnOk result (string_bytes text.new ≡ string_bytes text.old ++ messages_words) }
+{
+    text.push_str(
+        "<p class=\"soft\">Each dot is a setting: the further left, the fewer messages; the lower, \
+         the safer. Up: the share of runs with a false death, with its 95&nbsp;% interval as a bar. \
+         The numbered dots, joined by a line, are on the front: no other setting is as good in both \
+         and better in one.</p>",
     )
 }
 
@@ -138,11 +167,7 @@ fn push_chart(
     push_markup(text, "<div class=\"chart\">")?;
     push_shares_up(text, reach.up)?;
     push_plane(text, cases, front, points, reach)?;
-    push_across(
-        text,
-        reach.across,
-        "ticks until a crash is first confirmed, median",
-    )?;
+    push_across(text, reach.across, unit_words(reach.crashed))?;
     push_markup(text, "</div>")
 }
 
@@ -207,15 +232,59 @@ fn push_plane(
 fn open_plane(text: &mut String, reach: &Reach) -> Result<(), AllocError>
     ensures { OnOk result (string_bytes text.new ≡ string_bytes text.old ++ plane_opening reach.now) }
 {
-    open_plot(
-        text,
-        "cases",
-        reach.across,
-        reach.up,
-        "Every setting by its speed and its safety",
-        "Across: the median time until a crash is first confirmed. Up: the share of runs in which a healthy member \
-         was thrown out. The table beneath has the settings on the front.",
-    )
+    let title = plane_title(reach.crashed);
+    let words = plane_words(reach.crashed);
+    open_plot(text, "cases", reach.across, reach.up, title, words)
+}
+
+/// What the plot is called.
+#[tactic(auto, unfolding(crate::specs::Front::plane_title))]
+fn plane_title(crashed: bool) -> &'static str
+    ensures { result.now ≡ plane_title crashed }
+{
+    if crashed {
+        "Every setting by its speed and its safety"
+    } else {
+        "Every setting by its messages and its safety"
+    }
+}
+
+/// What a screen reader tells of it.
+#[tactic(auto, unfolding(crate::specs::Front::plane_words))]
+fn plane_words(crashed: bool) -> &'static str
+    ensures { result.now ≡ plane_words crashed }
+{
+    if crashed {
+        "Across: the median time until a crash is first confirmed. Up: the share of runs with a \
+         false death. The table beneath has the settings on the front."
+    } else {
+        "Across: messages per member. Up: the share of runs with a false death. The table beneath \
+         has the settings on the front."
+    }
+}
+
+/// What is across.
+#[tactic(auto, unfolding(crate::specs::Front::unit_words))]
+fn unit_words(crashed: bool) -> &'static str
+    ensures { result.now ≡ unit_words crashed }
+{
+    if crashed {
+        "ticks until a crash is first confirmed, median"
+    } else {
+        "messages per member per 100,000 ticks"
+    }
+}
+
+/// What the figure is called.
+#[tactic(auto, unfolding(crate::specs::Front::front_heading))]
+fn front_heading(crashed: bool) -> &'static str
+    ensures { result.now ≡ front_heading crashed }
+{
+    if crashed {
+        "Fast or safe: every setting"
+    } else {
+        "Few messages or safe: every setting"
+    }
 }
 
 /// Appends the figures of the cases on the front, folded.
@@ -241,10 +310,12 @@ fn push_heads(text: &mut String) -> Result<(), AllocError>
     ensures { OnOk result (string_bytes text.new ≡ string_bytes text.old ++ front_heads) }
 {
     text.push_str(
-        "<details><summary>The front in numbers</summary><div class=\"wide\"><table><thead><tr><th></th>\
-         <th>setting</th><th>confirmed, median</th><th>runs with a healthy member thrown out</th>\
-         <th>their share</th><th>95&nbsp;% interval</th>\
-         <th>messages a member and 1,000 ticks</th></tr></thead><tbody>",
+        "<details><summary>The front in numbers</summary><div class=\"wide\"><table>\
+         <caption>The settings on the front</caption><thead><tr><th scope=\"col\">number</th>\
+         <th scope=\"col\">setting</th><th scope=\"col\">confirmed, median</th>\
+         <th scope=\"col\">runs with a false death</th><th scope=\"col\">their share</th>\
+         <th scope=\"col\">95&nbsp;% interval</th><th scope=\"col\">false deaths per run</th>\
+         <th scope=\"col\">messages per member per 1,000 ticks</th></tr></thead><tbody>",
     )
 }
 
@@ -292,9 +363,9 @@ fn push_row(
 ) -> Result<(), Memory>
     ensures { OnOk result (string_bytes text.new ≡ string_bytes text.old ++ front_row plan.now.settings place case.now) }
 {
-    push_markup(text, "<tr><td>")?;
+    push_markup(text, "<tr><th scope=\"row\">")?;
     push_number(text, place)?;
-    push_markup(text, "</td><td>")?;
+    push_markup(text, "</th><td>")?;
     push_settings_at(alloc, text, plan, place)?;
     push_markup(text, "</td>")?;
     push_time_cell(text, case.confirm_p50)?;

@@ -1,17 +1,18 @@
 //! The cases on the front, by their times.
 ghost use Rattle.std.specs.Prelude.{◌≡◌, ◌++◌, IfOk, OnOk};
-ghost use Rattle.sweep_page.specs.Points.{is_marked, front_cases, front_points, front_point, places_of, point_at, points_at};
+ghost use Rattle.sweep_page.specs.Points.{across_of, is_marked, front_cases, front_points, front_point, places_of, point_at, points_at};
 
 use base::Memory;
 use figures::CaseSummary;
 use std::alloc::Global;
 use sweep_cells::{case_at, share_of, thousandths};
 
-/// A case on the front: the faster one is the less.
+/// A case on the front: the one that is less far across is the less.
 #[derive(Clone, Copy, Debug, PartialEq, Eq, PartialOrd, Ord)]
 pub struct FrontPoint {
-    /// Its median time until a crash was confirmed, in ticks.
-    pub time: u64,
+    /// Its median time until a crash was confirmed, in ticks; its messages per member and 1,000 ticks,
+    /// in hundredths, where no run of the sweep has a crash.
+    pub across: u64,
     /// Its place among the cases.
     pub place: usize,
     /// The share of its runs in which healthy members were thrown out, in thousandths.
@@ -24,17 +25,18 @@ pub struct FrontPoint {
     pub runs: u64,
 }
 
-/// The cases on the front that have a median time, the fastest first; those as fast as each other
-/// stand in the order of their places.
+/// The cases on the front that stand somewhere across, the least far first; those as far as each
+/// other stand in the order of their places. `crashed` is whether a run of the sweep has a crash.
 #[tactic(auto, unfolding(crate::specs::Points::front_points))]
 pub(crate) fn front_points(
     alloc: Global,
     cases: &[CaseSummary],
     front: &[bool],
+    crashed: bool,
 ) -> Result<Vec<FrontPoint>, Memory>
-    ensures { IfOk result (λ points. points.items ≡ front_points cases.now front.now) }
+    ensures { IfOk result (λ points. points.items ≡ front_points crashed cases.now front.now) }
 {
-    let mut points = unordered(alloc, cases, front)?;
+    let mut points = unordered(alloc, cases, front, crashed)?;
     points.sort()?;
     Ok(points)
 }
@@ -44,26 +46,28 @@ fn unordered(
     alloc: Global,
     cases: &[CaseSummary],
     front: &[bool],
+    crashed: bool,
 ) -> Result<Vec<FrontPoint>, Memory>
-    ensures { IfOk result (λ points. points.items ≡ front_cases cases.now front.now) }
+    ensures { IfOk result (λ points. points.items ≡ front_cases crashed cases.now front.now) }
 {
     let mut points = Vec::new(alloc);
     for place in 0..cases.len() {
-        push_point(&mut points, cases, front, place)?;
+        push_point(&mut points, cases, front, crashed, place)?;
     }
     Ok(points)
 }
 
-/// Adds the case at a place, where it is on the front and has a median time.
+/// Adds the case at a place, where it is on the front and stands somewhere across.
 fn push_point(
     points: &mut Vec<FrontPoint>,
     cases: &[CaseSummary],
     front: &[bool],
+    crashed: bool,
     place: usize,
 ) -> Result<(), Memory>
-    ensures { OnOk result (points.new.items ≡ points.old.items ++ points_at cases.now front.now place) }
+    ensures { OnOk result (points.new.items ≡ points.old.items ++ points_at crashed cases.now front.now place) }
 {
-    if let Some(point) = point_at(cases, front, place) {
+    if let Some(point) = point_at(cases, front, crashed, place) {
         points.push(point)?;
     }
     Ok(())
@@ -90,30 +94,50 @@ pub(crate) fn is_marked(front: &[bool], place: usize) -> bool
     }
 }
 
-/// The case at a place, where it is on the front and has a median time.
-fn point_at(cases: &[CaseSummary], front: &[bool], place: usize) -> Option<FrontPoint>
-    ensures { result ≡ point_at cases.now front.now place }
+/// The case at a place, where it is on the front and stands somewhere across.
+fn point_at(
+    cases: &[CaseSummary],
+    front: &[bool],
+    crashed: bool,
+    place: usize,
+) -> Option<FrontPoint>
+    ensures { result ≡ point_at crashed cases.now front.now place }
 {
     if !is_marked(front, place) {
         return None;
     }
     match case_at(cases, place) {
-        Some(case) => front_point(place, &case),
+        Some(case) => front_point(crashed, place, &case),
         None => None,
     }
 }
 
-/// A case as it stands on the front, where it has a median time.
+/// Where a case stands across the front: by its median time, or by its messages where no run has a
+/// crash.
+#[tactic(auto, unfolding(crate::specs::Points::across_of))]
+pub(crate) fn across_of(crashed: bool, case: &CaseSummary) -> Option<u64>
+    ensures { result ≡ across_of crashed case.now }
+{
+    if crashed {
+        return case.confirm_p50;
+    }
+    match case.messages {
+        Some(messages) => Some(messages.min(u128::from(u64::MAX)) as u64),
+        None => None,
+    }
+}
+
+/// A case as it stands on the front, where it stands somewhere across.
 #[tactic(auto, unfolding(crate::specs::Points::front_point))]
-fn front_point(place: usize, case: &CaseSummary) -> Option<FrontPoint>
-    ensures { result ≡ front_point place case.now }
+fn front_point(crashed: bool, place: usize, case: &CaseSummary) -> Option<FrontPoint>
+    ensures { result ≡ front_point crashed place case.now }
 {
     let share = share_of(case);
     let low = thousandths(case.share_low);
     let high = thousandths(case.share_high);
-    match case.confirm_p50 {
-        Some(time) => Some(FrontPoint {
-            time,
+    match across_of(crashed, case) {
+        Some(across) => Some(FrontPoint {
+            across,
             place,
             share,
             low,

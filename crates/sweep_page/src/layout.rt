@@ -11,6 +11,7 @@ h2{font-size:1.15rem;margin:2em 0 .2em}h3{font-size:1rem;margin:1em 0 .2em;overf
 .answers{list-style:none;padding:0;margin:.8em 0}\
 .answers li{display:flex;flex-wrap:wrap;align-items:center;gap:.1rem 1.2rem;background:var(--field);border-left:5px solid var(--one);padding:.35rem .8rem;margin:.3rem 0}\
 .answers code{font-size:1.05rem;font-weight:600;flex:1 1 18rem;overflow-wrap:anywhere}.answers b{font-size:1.05rem}\
+.answers .unknown{border-color:var(--five)}.answers .unsafe{border-color:var(--lost)}.goals{margin:.3em 0 .8em;padding-left:1.4em}\
 .number{min-width:1.7em;height:1.7em;padding:0 .35em;border-radius:1em;background:var(--one);color:#fff;font-size:.85rem;font-weight:600;display:inline-flex;align-items:center;justify-content:center}\
 .chart{display:grid;grid-template-columns:4.5rem 1fr;align-items:stretch;margin-top:.9rem}.chart .plot{height:20rem}.plane{position:relative}\
 .chart .across,.chart .unit{grid-column:2}.plane .number{position:absolute;transform:translate(-50%,-60%);font-size:.72rem;pointer-events:none}\
@@ -33,10 +34,10 @@ h2{font-size:1.15rem;margin:2em 0 .2em}h3{font-size:1rem;margin:1em 0 .2em;overf
 .path.s1,.path.s3,.path.s5,.path.s7{stroke-dasharray:6 4}\
 .sample{width:1.8em;height:.9em;flex:none}.legend code{font-size:.85rem}\
 details{margin:.5em 0}summary{cursor:pointer;color:var(--soft);font-size:.9rem}\
-.wide{overflow-x:auto}table{border-collapse:collapse;font-size:.85rem;margin:.4em 0}\
-th,td{text-align:right;padding:.2em .7em .2em 0;border-bottom:1px solid var(--line);font-variant-numeric:tabular-nums}\
-td{white-space:nowrap}th{color:var(--soft);font-weight:600;vertical-align:bottom;line-height:1.2;min-width:4.5em}th:first-child{min-width:2em}\
-.best td{font-weight:600}tr.best{background:var(--field)}\
+.wide{overflow-x:auto}table{border-collapse:collapse;font-size:.82rem;margin:.4em 0}caption{text-align:left;color:var(--soft)}\
+th,td{text-align:right;padding:.2em .5em .2em 0;border-bottom:1px solid var(--line);font-variant-numeric:tabular-nums}\
+thead th{color:var(--soft);font-weight:600;vertical-align:bottom;line-height:1.2;min-width:3.4em}th{font-weight:400}\
+.best td,.best th{font-weight:600}tr.best{background:var(--field)}\
 @media(max-width:760px){.chart{grid-template-columns:3.4rem 1fr}.plane{height:14rem}}\
 @media print{details{display:none}.answers li,.chart{break-inside:avoid}.number{print-color-adjust:exact}}";
 

@@ -6,7 +6,7 @@ ghost use Rattle.std.specs.String.{string_bytes};
 ghost use Rattle.sweep_page.specs.Front.{best_class, interval_bar, share_dot, size_of, mark_over, case_mark, is_among, mark_at, all_marks, joint, joint_at, joined, number_mark};
 
 use crate::front::Reach;
-use crate::front_points::{FrontPoint, is_marked};
+use crate::front_points::{FrontPoint, across_of, is_marked};
 use drawing::{push_markup, push_place};
 use figures::CaseSummary;
 use std::alloc::AllocError;
@@ -58,7 +58,7 @@ fn is_among(front: &[bool], best: bool, place: usize) -> bool
     if best { marked } else { !marked }
 }
 
-/// Appends a case's bar and dot, where it has a median time.
+/// Appends a case's bar and dot, where it stands somewhere across.
 #[tactic(auto, unfolding(crate::specs::Front::case_mark))]
 fn push_case(
     text: &mut String,
@@ -68,7 +68,7 @@ fn push_case(
 ) -> Result<(), AllocError>
     ensures { OnOk result (string_bytes text.new ≡ string_bytes text.old ++ case_mark reach.now best case.now) }
 {
-    match case.confirm_p50 {
+    match across_of(reach.crashed, case) {
         Some(time) => push_mark_over(text, case, time, best, reach),
         None => Ok(()),
     }
@@ -197,7 +197,7 @@ fn push_joint(
 ) -> Result<(), AllocError>
     ensures { OnOk result (string_bytes text.new ≡ string_bytes text.old ++ joint reach.now place point.now) }
 {
-    let at = point.time.min(reach.across);
+    let at = point.across.min(reach.across);
     let height = reach.up.saturating_sub(point.share);
     if place == 0 {
         push_start(text, at, height)
@@ -229,7 +229,7 @@ fn push_number_mark(text: &mut String, point: &FrontPoint, reach: &Reach) -> Res
         text,
         "<span class=\"number\" aria-hidden=\"true\" style=\"left:",
     )?;
-    push_place(text, point.time, reach.across)?;
+    push_place(text, point.across, reach.across)?;
     push_markup(text, ";bottom:")?;
     push_place(text, point.share, reach.up)?;
     push_markup(text, "\">")?;

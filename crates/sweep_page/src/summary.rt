@@ -1,35 +1,37 @@
-//! The answer in words: the cases on the front.
+//! The trade-off in words: the cases on the front.
 ghost use Rattle.std.specs.Prelude.{◌≡◌, ◌-◌, ◌++◌, OnOk, length, min};
 ghost use Rattle.std.specs.List.{flat_map, range_with_len};
 ghost use Rattle.std.specs.String.{string_bytes};
-ghost use Rattle.sweep_page.specs.Summary.{at_most, size_words, speed_words, more_words, answer, answer_at, answers_opening, untold_words, answers, no_answers, summary};
+ghost use Rattle.sweep_page.specs.Summary.{at_most, front_opening, front_words_of, messages_opening, momentless_words, more_words, none_words, safety_words, size_words, speed_opening, summary, told_at, told_words, unconfirmed_words, untold_words};
 
 use crate::front_points::FrontPoint;
+use crate::items::push_item_at;
 use base::Memory;
 use cases::Plan;
-use drawing::{push_grouped, push_markup};
+use drawing::{close_figure, open_figure, push_grouped, push_markup};
+use figures::CaseSummary;
 use std::alloc::{AllocError, Global};
-use sweep_cells::{push_interval, push_number, push_settings_at};
+use sweep_cells::push_count;
 
 /// How many cases on the front are told of in words.
 const MOST_TOLD: usize = 12;
 
-/// Appends how large the sweep is, and what it answers.
+/// Appends how large the sweep is, and its trade-off. `crashed` is whether a run of it has a crash.
 #[tactic(auto, unfolding(crate::specs::Summary::summary))]
 pub(crate) fn push_summary(
     alloc: Global,
     text: &mut String,
     plan: &Plan,
+    cases: &[CaseSummary],
+    crashed: bool,
     points: &[FrontPoint],
 ) -> Result<(), Memory>
-    ensures { OnOk result (string_bytes text.new ≡ string_bytes text.old ++ summary plan.now points.now) }
+    ensures { OnOk result (string_bytes text.new ≡ string_bytes text.old ++ summary crashed plan.now cases.now points.now) }
 {
+    open_figure(text, "trade-off", "The trade-off")?;
     push_size(text, plan)?;
-    if points.is_empty() {
-        push_none(text)?;
-        return Ok(());
-    }
-    push_answers(alloc, text, plan, points)?;
+    push_front_of(alloc, text, plan, cases, crashed, points)?;
+    close_figure(text)?;
     Ok(())
 }
 
@@ -57,107 +59,159 @@ fn push_at_most(text: &mut String, plan: &Plan) -> Result<(), AllocError>
     }
 }
 
-/// Appends that no case is on the front.
-#[tactic(auto, unfolding(crate::specs::Summary::no_answers))]
-fn push_none(text: &mut String) -> Result<(), AllocError>
-    ensures { OnOk result (string_bytes text.new ≡ string_bytes text.old ++ no_answers) }
-{
-    text.push_str("<p class=\"lead\">No case confirms half of its crashes.</p>\n")
-}
-
-/// Appends the cases on the front, the first of them.
-#[tactic(auto, unfolding(crate::specs::Summary::answers))]
-fn push_answers(
+/// Appends the cases on the front, or that there are none.
+#[tactic(auto, unfolding(crate::specs::Summary::front_words_of))]
+fn push_front_of(
     alloc: Global,
     text: &mut String,
     plan: &Plan,
+    cases: &[CaseSummary],
+    crashed: bool,
     points: &[FrontPoint],
 ) -> Result<(), Memory>
-    ensures { OnOk result (string_bytes text.new ≡ string_bytes text.old ++ answers plan.now.settings points.now) }
+    ensures { OnOk result (string_bytes text.new ≡ string_bytes text.old ++ front_words_of crashed plan.now.settings cases.now points.now) }
 {
-    push_answers_opening(text)?;
-    push_told(alloc, text, plan, points)?;
+    if points.is_empty() {
+        push_none(text, crashed)?;
+        return Ok(());
+    }
+    push_told(alloc, text, plan, cases, crashed, points)
+}
+
+/// Appends that no case is on the front.
+#[tactic(auto, unfolding(crate::specs::Summary::none_words))]
+fn push_none(text: &mut String, crashed: bool) -> Result<(), AllocError>
+    ensures { OnOk result (string_bytes text.new ≡ string_bytes text.old ++ none_words crashed) }
+{
+    if crashed {
+        push_unconfirmed(text)
+    } else {
+        push_momentless(text)
+    }
+}
+
+/// Appends that no case confirms half of its crashes.
+#[tactic(auto, unfolding(crate::specs::Summary::unconfirmed_words))]
+fn push_unconfirmed(text: &mut String) -> Result<(), AllocError>
+    ensures { OnOk result (string_bytes text.new ≡ string_bytes text.old ++ unconfirmed_words) }
+{
+    text.push_str("<p class=\"lead\">No setting confirms half of its crashes.</p>\n")
+}
+
+/// Appends that runs have no moments.
+#[tactic(auto, unfolding(crate::specs::Summary::momentless_words))]
+fn push_momentless(text: &mut String) -> Result<(), AllocError>
+    ensures { OnOk result (string_bytes text.new ≡ string_bytes text.old ++ momentless_words) }
+{
+    text.push_str(
+        "<p class=\"lead\">Each run ends at moment 0, so there is nothing to compare.</p>\n",
+    )
+}
+
+/// Appends the cases on the front, the first of them.
+#[tactic(auto, unfolding(crate::specs::Summary::told_words))]
+fn push_told(
+    alloc: Global,
+    text: &mut String,
+    plan: &Plan,
+    cases: &[CaseSummary],
+    crashed: bool,
+    points: &[FrontPoint],
+) -> Result<(), Memory>
+    ensures { OnOk result (string_bytes text.new ≡ string_bytes text.old ++ told_words crashed plan.now.settings cases.now points.now) }
+{
+    push_front_opening(text, crashed)?;
+    push_safety_words(text)?;
+    push_first(alloc, text, plan, cases, crashed, points)?;
     push_markup(text, "</ol>\n")?;
     push_rest(text, points.len())?;
     Ok(())
 }
 
 /// Appends what the list of them is.
-#[tactic(auto, unfolding(crate::specs::Summary::answers_opening))]
-fn push_answers_opening(text: &mut String) -> Result<(), AllocError>
-    ensures { OnOk result (string_bytes text.new ≡ string_bytes text.old ++ answers_opening) }
+#[tactic(auto, unfolding(crate::specs::Summary::front_opening))]
+fn push_front_opening(text: &mut String, crashed: bool) -> Result<(), AllocError>
+    ensures { OnOk result (string_bytes text.new ≡ string_bytes text.old ++ front_opening crashed) }
+{
+    if crashed {
+        push_speed_opening(text)
+    } else {
+        push_messages_opening(text)
+    }
+}
+
+/// Appends what the list is, where runs have crashes.
+#[tactic(auto, unfolding(crate::specs::Summary::speed_opening))]
+fn push_speed_opening(text: &mut String) -> Result<(), AllocError>
+    ensures { OnOk result (string_bytes text.new ≡ string_bytes text.old ++ speed_opening) }
 {
     text.push_str(
-        "<p class=\"lead\">Take one of these. Each other setting that confirms half of its crashes is no \
-         faster and no safer than one of them. The further down, the slower and the safer.</p>\
-         <ol class=\"answers\">",
+        "<p class=\"lead\">These settings confirm half of their crashes, and no other setting beats \
+         them: none is at least as fast and at least as safe, and better in one of the two. The \
+         further down, the slower and the safer.</p>",
+    )
+}
+
+/// Appends what the list is, where no run has a crash.
+#[tactic(auto, unfolding(crate::specs::Summary::messages_opening))]
+fn push_messages_opening(text: &mut String) -> Result<(), AllocError>
+    ensures { OnOk result (string_bytes text.new ≡ string_bytes text.old ++ messages_opening) }
+{
+    text.push_str(
+        "<p class=\"lead\">No run has a crash, so settings are compared by their false deaths and \
+         their messages. No other setting beats these: none sends at most as many messages and is \
+         at least as safe, and is better in one of the two. The further down, the more messages \
+         and the safer.</p>",
+    )
+}
+
+/// Appends what the words for how safe a case is mean, and begins the list.
+#[tactic(auto, unfolding(crate::specs::Summary::safety_words))]
+fn push_safety_words(text: &mut String) -> Result<(), AllocError>
+    ensures { OnOk result (string_bytes text.new ≡ string_bytes text.old ++ safety_words) }
+{
+    text.push_str(
+        "<p class=\"soft\">A false death: a member that has neither crashed nor left is declared \
+         dead. Safe: the whole 95&nbsp;% interval of the share of runs with a false death is at \
+         most 5&nbsp;%. Unsafe: the whole interval is above 5&nbsp;%. Unknown: only a part of it \
+         is, so more runs would decide.</p><ol class=\"answers\">",
     )
 }
 
 /// Appends the first of these cases.
-fn push_told(
+fn push_first(
     alloc: Global,
     text: &mut String,
     plan: &Plan,
+    cases: &[CaseSummary],
+    crashed: bool,
     points: &[FrontPoint],
 ) -> Result<(), Memory>
-    ensures { OnOk result (string_bytes text.new ≡ string_bytes text.old ++ flat_map (answer_at plan.now.settings points.now) (range_with_len 0 (min (length points.now) 12))) }
+    ensures { OnOk result (string_bytes text.new ≡ string_bytes text.old ++ flat_map (told_at crashed plan.now.settings cases.now points.now) (range_with_len 0 (min (length points.now) 12))) }
 {
     for place in 0..points.len().min(MOST_TOLD) {
-        push_answer_at(alloc, text, plan, points, place)?;
+        push_told_at(alloc, text, plan, cases, crashed, points, place)?;
     }
     Ok(())
 }
 
 /// Appends the case at a place among them.
-#[tactic(auto, unfolding(crate::specs::Summary::answer_at))]
-fn push_answer_at(
+#[tactic(auto, unfolding(crate::specs::Summary::told_at))]
+fn push_told_at(
     alloc: Global,
     text: &mut String,
     plan: &Plan,
+    cases: &[CaseSummary],
+    crashed: bool,
     points: &[FrontPoint],
     place: usize,
 ) -> Result<(), Memory>
-    ensures { OnOk result (string_bytes text.new ≡ string_bytes text.old ++ answer_at plan.now.settings points.now place) }
+    ensures { OnOk result (string_bytes text.new ≡ string_bytes text.old ++ told_at crashed plan.now.settings cases.now points.now place) }
 {
     match points.get(place) {
-        Some(point) => push_answer(alloc, text, plan, point),
+        Some(point) => push_item_at(alloc, text, plan, cases, crashed, point.place),
         None => Ok(()),
     }
-}
-
-/// Appends a case on the front: its settings, how fast it is, and how safe.
-#[tactic(auto, unfolding(crate::specs::Summary::answer))]
-fn push_answer(
-    alloc: Global,
-    text: &mut String,
-    plan: &Plan,
-    point: &FrontPoint,
-) -> Result<(), Memory>
-    ensures { OnOk result (string_bytes text.new ≡ string_bytes text.old ++ answer plan.now.settings point.now) }
-{
-    push_markup(text, "<li><span class=\"number\">")?;
-    push_number(text, point.place)?;
-    push_markup(text, "</span><code>")?;
-    push_settings_at(alloc, text, plan, point.place)?;
-    push_speed(text, point)?;
-    Ok(())
-}
-
-/// Appends how fast a case is, and how safe.
-#[tactic(auto, unfolding(crate::specs::Summary::speed_words))]
-fn push_speed(text: &mut String, point: &FrontPoint) -> Result<(), AllocError>
-    ensures { OnOk result (string_bytes text.new ≡ string_bytes text.old ++ speed_words point.now) }
-{
-    push_markup(text, "</code><span>confirms in <b>")?;
-    push_grouped(text, point.time)?;
-    push_markup(text, "</b> ticks</span><span>healthy thrown out in <b>")?;
-    push_grouped(text, point.runs_with)?;
-    push_markup(text, " of ")?;
-    push_grouped(text, point.runs)?;
-    push_markup(text, "</b> runs (")?;
-    push_interval(text, point.low, point.high)?;
-    push_markup(text, ")</span></li>")
 }
 
 /// Appends how many of so many cases on the front aren't told of.
@@ -183,7 +237,10 @@ fn push_untold(text: &mut String, more: usize) -> Result<(), AllocError>
 fn push_more(text: &mut String, more: usize) -> Result<(), AllocError>
     ensures { OnOk result (string_bytes text.new ≡ string_bytes text.old ++ more_words more) }
 {
-    push_markup(text, "<p class=\"soft\">And more on the front: ")?;
-    push_grouped(text, more as u64)?;
-    push_markup(text, ", starred in the table.</p>\n")
+    push_markup(text, "<p class=\"soft\">")?;
+    push_count(text, more as u64, " more setting is", " more settings are")?;
+    push_markup(
+        text,
+        " on the front; the table of all settings has a star there.</p>\n",
+    )
 }

@@ -12,8 +12,8 @@ use drawing::{close_figure, open_figure, push_escaped, push_markup};
 use figures::CaseSummary;
 use std::alloc::{AllocError, Global};
 use sweep_cells::{
-    case_at, push_cell, push_hundredths, push_interval, push_number, push_percent, push_rate,
-    push_runs_with, push_time_cell, share_of, thousandths,
+    case_at, push_cell, push_deaths, push_hundredths, push_interval, push_number, push_percent,
+    push_rate, push_runs_with, push_time_cell, share_of, thousandths,
 };
 
 /// Appends the table of all cases, those on the front marked.
@@ -48,7 +48,8 @@ fn push_table_words(text: &mut String) -> Result<(), AllocError>
     text.push_str(
         "<p class=\"soft\">Times are in ticks since the crash, over all crashes of all runs; a dash \
          stands where too few crashes were detected. Starred settings are on the front.</p>\
-         <div class=\"wide\"><table><thead><tr><th></th>",
+         <div class=\"wide\"><table><caption>All settings</caption><thead><tr>\
+         <th scope=\"col\">number</th>",
     )
 }
 
@@ -68,7 +69,7 @@ fn push_name(alloc: Global, text: &mut String, setting: &Setting) -> Result<(), 
     ensures { OnOk result (string_bytes text.new ≡ string_bytes text.old ++ key_head setting.now) }
 {
     let name = setting.key().name(alloc)?;
-    push_markup(text, "<th>")?;
+    push_markup(text, "<th scope=\"col\">")?;
     push_escaped(text, name.as_str())?;
     push_markup(text, "</th>")?;
     Ok(())
@@ -80,11 +81,18 @@ fn push_figure_words(text: &mut String) -> Result<(), AllocError>
     ensures { OnOk result (string_bytes text.new ≡ string_bytes text.old ++ figure_heads) }
 {
     text.push_str(
-        "<th>confirmed, median</th><th>runs with a healthy member thrown out</th>\
-         <th>their share</th><th>95&nbsp;% interval</th><th>suspected, median</th>\
-         <th>confirmed, 99th percentile</th><th>confirmed, greatest</th>\
-         <th>last confirmed, median</th><th>last confirmed, greatest</th>\
-         <th>false suspicions a run</th><th>messages a member and 1,000 ticks</th>",
+        "<th scope=\"col\">confirmed, median</th>\
+         <th scope=\"col\">runs with a false death</th>\
+         <th scope=\"col\">their share</th>\
+         <th scope=\"col\">95&nbsp;% interval</th>\
+         <th scope=\"col\">false deaths per run</th>\
+         <th scope=\"col\">suspected, median</th>\
+         <th scope=\"col\">confirmed, 99th percentile</th>\
+         <th scope=\"col\">confirmed, greatest</th>\
+         <th scope=\"col\">last confirmed, median</th>\
+         <th scope=\"col\">last confirmed, greatest</th>\
+         <th scope=\"col\">false suspicions per run</th>\
+         <th scope=\"col\">messages per member per 1,000 ticks</th>",
     )
 }
 
@@ -140,7 +148,7 @@ fn push_row(
 {
     push_row_opening(text, marked)?;
     push_number(text, place)?;
-    push_markup(text, "</td>")?;
+    push_markup(text, "</th>")?;
     push_values(alloc, text, plan, place)?;
     push_figures(text, case)?;
     push_markup(text, "</tr>\n")?;
@@ -153,9 +161,9 @@ fn push_row_opening(text: &mut String, marked: bool) -> Result<(), AllocError>
     ensures { OnOk result (string_bytes text.new ≡ string_bytes text.old ++ row_opening marked) }
 {
     if marked {
-        text.push_str("<tr class=\"best\"><td>&#9733;&nbsp;")
+        text.push_str("<tr class=\"best\"><th scope=\"row\">&#9733;&nbsp;")
     } else {
-        text.push_str("<tr><td>")
+        text.push_str("<tr><th scope=\"row\">")
     }
 }
 
@@ -232,5 +240,7 @@ pub(crate) fn push_shares(text: &mut String, case: &CaseSummary) -> Result<(), A
         thousandths(case.share_low),
         thousandths(case.share_high),
     )?;
+    push_markup(text, "</td><td>")?;
+    push_deaths(text, case)?;
     push_markup(text, "</td>")
 }

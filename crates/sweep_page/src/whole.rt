@@ -1,19 +1,22 @@
 //! The page, from its head to its end.
-ghost use Rattle.std.specs.Prelude.{◌≡◌, ◌++◌, IfOk, OnOk, length};
+ghost use Rattle.std.specs.Prelude.{◌≡◌, ◌++◌, All, IfOk, OnOk, length};
 ghost use Rattle.std.specs.String.{string_bytes};
+ghost use Rattle.answers.specs.Wants.{HasFewRuns, IsBounded};
 ghost use Rattle.cases.specs.Sweep.{case_count};
-ghost use Rattle.sweep_page.specs.Page.{page_head, page_end, page_over, page_text};
+ghost use Rattle.sweep_page.specs.Page.{page_head, page_end, page_over, page_text, time_figures, times_where};
 ghost use Rattle.sweep_page.specs.Points.{places_of};
 ghost use Rattle.sweep_times.specs.Times.{times_figure};
 
 use crate::front::push_front;
 use crate::front_points::{FrontPoint, front_points, places_of};
 use crate::layout::page_style;
+use crate::question::{Question, push_question};
 use crate::summary::push_summary;
 use crate::table::push_table;
+use answers::has_crash;
 use base::Memory;
 use cases::Plan;
-use drawing::{drawing_style, push_escaped, push_markup};
+use drawing::{open_page, push_escaped, push_markup};
 use figures::CaseSummary;
 use std::alloc::{AllocError, Global};
 use sweep_keys::push_keys;
@@ -28,22 +31,29 @@ pub struct SweepShown<'a> {
     pub release: &'a str,
 }
 
-/// The page of a sweep, whole. It takes the summary of each case of the plan, in their order, and
-/// for each whether it is on the front. It fails where memory is refused, and then there is none.
+/// The page of a sweep, whole. It takes the summary of each case of the plan, in their order, for each
+/// whether it is on the front, and what is wanted of a setting with the place of the best that meets
+/// it. It fails where memory is refused, and then there is none.
 pub fn page(
     alloc: Global,
     shown: &SweepShown,
     plan: &Plan,
+    question: &Question<'_>,
     cases: &[CaseSummary],
     front: &[bool],
 ) -> Result<String, Memory>
-    requires { length cases.now ≡ case_count plan.now.settings }
+    requires all { length cases.now ≡ case_count plan.now.settings }
+    requires bounded { All IsBounded question.now.wants.now }
+    requires few { All HasFewRuns cases.now }
     ensures { IfOk result (λ text. string_bytes text
-        ≡ page_text shown.now.name.now shown.now.release.now plan.now cases.now front.now) }
+        ≡ page_text shown.now.name.now shown.now.release.now plan.now question.now.wants.now question.now.best cases.now front.now) }
 {
-    let points = front_points(alloc, cases, front)?;
+    let crashed = has_crash(cases);
+    let points = front_points(alloc, cases, front, crashed)?;
     let mut text = String::new(alloc);
-    push_page(alloc, &mut text, shown, plan, cases, front, &points)?;
+    push_page(
+        alloc, &mut text, shown, plan, question, cases, front, crashed, &points,
+    )?;
     Ok(text)
 }
 
@@ -54,21 +64,59 @@ fn push_page(
     text: &mut String,
     shown: &SweepShown,
     plan: &Plan,
+    question: &Question<'_>,
     cases: &[CaseSummary],
     front: &[bool],
+    crashed: bool,
     points: &[FrontPoint],
 ) -> Result<(), Memory>
-    requires { length cases.now ≡ case_count plan.now.settings }
+    requires all { length cases.now ≡ case_count plan.now.settings }
+    requires bounded { All IsBounded question.now.wants.now }
+    requires few { All HasFewRuns cases.now }
     ensures { OnOk result (string_bytes text.new ≡ string_bytes text.old
-        ++ page_over shown.now.name.now shown.now.release.now plan.now cases.now front.now points.now) }
+        ++ page_over shown.now.name.now shown.now.release.now plan.now question.now.wants.now question.now.best cases.now front.now crashed points.now) }
 {
     push_head(text, shown.name)?;
-    push_summary(alloc, text, plan, points)?;
-    push_front(alloc, text, plan, cases, front, points)?;
-    push_times_of(alloc, text, plan, cases, points)?;
-    push_keys(alloc, text, plan, cases)?;
+    push_question(alloc, text, plan, question, cases, crashed)?;
+    push_summary(alloc, text, plan, cases, crashed, points)?;
+    push_front(alloc, text, plan, cases, front, points, crashed)?;
+    push_times_where(alloc, text, plan, cases, crashed, points)?;
     push_table(alloc, text, plan, cases, front)?;
     push_end(text, shown.release)?;
+    Ok(())
+}
+
+/// Appends what times there are, where some run has a crash.
+#[tactic(auto, unfolding(crate::specs::Page::times_where))]
+fn push_times_where(
+    alloc: Global,
+    text: &mut String,
+    plan: &Plan,
+    cases: &[CaseSummary],
+    crashed: bool,
+    points: &[FrontPoint],
+) -> Result<(), Memory>
+    ensures { OnOk result (string_bytes text.new ≡ string_bytes text.old ++ times_where crashed plan.now cases.now points.now) }
+{
+    if !crashed {
+        return Ok(());
+    }
+    push_time_figures(alloc, text, plan, cases, points)
+}
+
+/// Appends how times spread, and what each key changes.
+#[tactic(auto, unfolding(crate::specs::Page::time_figures))]
+fn push_time_figures(
+    alloc: Global,
+    text: &mut String,
+    plan: &Plan,
+    cases: &[CaseSummary],
+    points: &[FrontPoint],
+) -> Result<(), Memory>
+    ensures { OnOk result (string_bytes text.new ≡ string_bytes text.old ++ time_figures plan.now cases.now points.now) }
+{
+    push_times_of(alloc, text, plan, cases, points)?;
+    push_keys(alloc, text, plan, cases)?;
     Ok(())
 }
 
@@ -93,19 +141,8 @@ fn push_times_of(
 fn push_head(text: &mut String, name: &str) -> Result<(), AllocError>
     ensures { OnOk result (string_bytes text.new ≡ string_bytes text.old ++ page_head name.now) }
 {
-    push_markup(
-        text,
-        "<!DOCTYPE html>\n<html lang=\"en\"><head><meta charset=\"utf-8\">\
-         <meta name=\"viewport\" content=\"width=device-width,initial-scale=1\"><title>",
-    )?;
-    push_escaped(text, name)?;
-    push_markup(text, " - swimsim sweep</title><style>")?;
-    push_markup(text, drawing_style())?;
-    push_markup(text, page_style())?;
-    push_markup(
-        text,
-        "</style></head>\n<body><main><header><h1>Which setting of ",
-    )?;
+    open_page(text, name, " - swimsim sweep", page_style())?;
+    push_markup(text, "Which setting of ")?;
     push_escaped(text, name)?;
     push_markup(text, "?</h1></header>\n")
 }

@@ -8,7 +8,7 @@ use Rattle.drawing.specs.Numbers.{grouped}
 use Rattle.drawing.specs.Shapes.{figure_opening, figure_end}
 use Rattle.figures.specs.declared.histogram.Histogram.{Histogram}
 use Rattle.figures.specs.declared.summary.CaseSummary.{CaseSummary}
-use Rattle.sweep_cells.specs.Words.{number_words}
+use Rattle.sweep_cells.specs.Words.{count_words, number_words}
 use Rattle.sweep_times.specs.Bins.{axis_reach, bin_start, bin_end, never_confirmed}
 use Rattle.sweep_times.specs.Charts.{charts}
 
@@ -50,7 +50,7 @@ rows_at cases place = option_map_or (case_rows place) (slice_get cases place) []
 
 -- what the columns are
 unfoldable pub times_heads : List ℕ
-times_heads = codes "<details><summary>These times in numbers</summary><div class=\"wide\"><table><thead><tr><th>setting</th><th>ticks until first confirmed</th><th>crashes</th></tr></thead><tbody>"
+times_heads = codes "<details><summary>These times in numbers</summary><div class=\"wide\"><table><caption>How many crashes were first confirmed when</caption><thead><tr><th scope=\"col\">setting</th><th scope=\"col\">ticks until first confirmed</th><th scope=\"col\">crashes</th></tr></thead><tbody>"
 
 -- the bins of the cases at these places in numbers, folded
 unfoldable pub times_table : List CaseSummary → List ℕ → List ℕ
@@ -58,11 +58,11 @@ times_table cases places = times_heads ++ flat_map (rows_at cases) places ++ mar
 
 -- what the charts show
 unfoldable pub times_words : List ℕ
-times_words = codes "<p class=\"soft\">For each setting on the front: how many crashes of all its runs were first confirmed after how many ticks. A bar is as wide as the span of ticks that it counts, and all charts reach as far as the latest of these times; the upright rule is the median.</p>"
+times_words = codes "<p class=\"soft\">For each of the fastest settings on the front, at most 12: how many crashes of all its runs were first confirmed after how many ticks. A bar is as wide as the span of ticks that it counts, and all charts reach as far as the latest of these times; the upright rule is the median.</p>"
 
 -- so many more are on the front
 unfoldable pub more_words : ℕ → List ℕ
-more_words more = markup (codes "<p class=\"soft\">And more on the front, not drawn: ") ++ grouped more ++ markup (codes ".</p>")
+more_words more = markup (codes "<p class=\"soft\">") ++ count_words more (codes " more setting on the front is") (codes " more settings on the front are") ++ markup (codes " not drawn.</p>")
 
 -- nothing where all are drawn
 unfoldable pub undrawn_words : ℕ → List ℕ

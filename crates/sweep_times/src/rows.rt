@@ -30,8 +30,10 @@ fn push_heads(text: &mut String) -> Result<(), AllocError>
     ensures { OnOk result (string_bytes text.new ≡ string_bytes text.old ++ times_heads) }
 {
     text.push_str(
-        "<details><summary>These times in numbers</summary><div class=\"wide\"><table><thead><tr>\
-         <th>setting</th><th>ticks until first confirmed</th><th>crashes</th></tr></thead><tbody>",
+        "<details><summary>These times in numbers</summary><div class=\"wide\"><table>\
+         <caption>How many crashes were first confirmed when</caption><thead><tr>\
+         <th scope=\"col\">setting</th><th scope=\"col\">ticks until first confirmed</th>\
+         <th scope=\"col\">crashes</th></tr></thead><tbody>",
     )
 }
 

@@ -8,9 +8,10 @@ use crate::charts::push_charts;
 use crate::rows::push_rows;
 use base::Memory;
 use cases::Plan;
-use drawing::{close_figure, open_figure, push_grouped, push_markup};
+use drawing::{close_figure, open_figure, push_markup};
 use figures::CaseSummary;
 use std::alloc::{AllocError, Global};
+use sweep_cells::push_count;
 
 /// How many cases are drawn.
 const MOST_DRAWN: usize = 12;
@@ -72,8 +73,8 @@ fn push_words(text: &mut String) -> Result<(), AllocError>
     ensures { OnOk result (string_bytes text.new ≡ string_bytes text.old ++ times_words) }
 {
     text.push_str(
-        "<p class=\"soft\">For each setting on the front: how many crashes of all its runs were first confirmed \
-         after how many ticks. A bar is as wide as the span of ticks that it counts, and all charts reach as \
+        "<p class=\"soft\">For each of the fastest settings on the front, at most 12: how many crashes of all its \
+         runs were first confirmed after how many ticks. A bar is as wide as the span of ticks that it counts, and all charts reach as \
          far as the latest of these times; the upright rule is the median.</p>",
     )
 }
@@ -94,7 +95,12 @@ fn push_undrawn(text: &mut String, more: usize) -> Result<(), AllocError>
 fn push_more(text: &mut String, more: usize) -> Result<(), AllocError>
     ensures { OnOk result (string_bytes text.new ≡ string_bytes text.old ++ more_words more) }
 {
-    push_markup(text, "<p class=\"soft\">And more on the front, not drawn: ")?;
-    push_grouped(text, more as u64)?;
-    push_markup(text, ".</p>")
+    push_markup(text, "<p class=\"soft\">")?;
+    push_count(
+        text,
+        more as u64,
+        " more setting on the front is",
+        " more settings on the front are",
+    )?;
+    push_markup(text, " not drawn.</p>")
 }

@@ -55,6 +55,7 @@ pub(crate) fn span_of(
         About::LinkLoss => key_in(places, "link", "loss"),
         About::Lifeguard => table_of(places, "lifeguard"),
         About::Spread => key_in(places, "swim", "spread"),
+        About::Gossip => table_of(places, "gossip"),
         About::Path(number) => item_of(places, "path", number),
         About::PathLoss(number) => key_of_item(places, "path", number, "loss"),
         About::Slow(number) => item_of(places, "slow", number),

@@ -12,7 +12,7 @@ use Rattle.meaning.specs.Each.{made_of_each}
 use Rattle.meaning.specs.Groups.{groups_of, is_hidden}
 use Rattle.warnings.specs.declared.warning.Warning.{Warning}
 use Rattle.warnings.specs.declared.warning.Warning.TheVariants as warning
-use Rattle.warnings.specs.Conditions.{is_answer_late, is_relay_late, is_end_early, are_accusers_few, are_helpers_many, is_lost, is_in_part, is_spread_long, is_lonely, is_past, is_down, is_slow_answer_late, is_unconfirmed}
+use Rattle.warnings.specs.Conditions.{is_answer_late, is_relay_late, is_end_early, are_accusers_few, are_helpers_many, is_lost, is_in_part, is_spread_long, is_lonely, is_past, is_down, is_slow_answer_late, is_unconfirmed, is_without_gossip, are_confirmations_odd, is_run_quiet, is_pause_long}
 
 -- a warning where its condition holds
 abbrev pub told_if : Bool → Warning → List Warning
@@ -28,6 +28,13 @@ told_of_settings s trip =
     ++ told_if (is_lost s s.link) warning.LostOnLink
     ++ told_if (is_in_part s.lifeguard) warning.PartOfLifeguard
     ++ told_if (is_spread_long s) warning.LongSpread
+
+-- of the version's rules, and of the run as a whole
+unfoldable pub told_of_run : Setup → ℕ → List Warning
+told_of_run s trip =
+    told_if (is_without_gossip s) warning.NoGossip
+    ++ told_if (are_confirmations_odd s) warning.OddConfirmations
+    ++ told_if (is_run_quiet s trip) warning.QuietRun
 
 unfoldable pub told_of_path : Setup → ℕ → Path → List Warning
 told_of_path s k p =
@@ -53,7 +60,10 @@ unfoldable pub told_of_cut : Setup → ℕ → Cut → List Warning
 told_of_cut s k c = told_if (is_past s c.at) (warning.CutPastEnd k)
 
 unfoldable pub told_of_pause : Setup → ℕ → Pause → List Warning
-told_of_pause s k p = told_if (is_past s p.from) (warning.PausePastEnd k) ++ told_if (is_down s p.member p.from) (warning.PauseWhileDown k)
+told_of_pause s k p =
+    told_if (is_past s p.from) (warning.PausePastEnd k)
+    ++ told_if (is_down s p.member p.from) (warning.PauseWhileDown k)
+    ++ told_if (is_pause_long s p) (warning.LongPause k)
 
 -- what is told of the crashes of the first n members
 abbrev pub crashes_below : Setup → ℕ → List Warning
@@ -62,9 +72,9 @@ crashes_below s n = flat_map (λ m. told_of_crash s m (crash_of s m)) (range_wit
 abbrev pub told_of_crashes : Setup → List Warning
 told_of_crashes s = crashes_below s (member_count s)
 
--- First those of single settings, then those of the items of lists: paths, slow times, crashes, leaves, cuts and pauses, each in the order of the text, crashes in that of the members.
+-- First those of single settings and of the whole run, then those of the items of lists: paths, slow times, crashes, leaves, cuts and pauses, each in the order of the text, crashes in that of the members.
 abbrev pub warnings_of : Setup → ℕ → List Warning
 warnings_of s trip =
-    told_of_settings s trip ++ made_of_each (told_of_path s) s.paths ++ made_of_each (told_of_slow s trip) s.slows
+    told_of_settings s trip ++ told_of_run s trip ++ made_of_each (told_of_path s) s.paths ++ made_of_each (told_of_slow s trip) s.slows
     ++ told_of_crashes s ++ made_of_each (told_of_leave s) s.leaves ++ made_of_each (told_of_cut s) s.cuts
     ++ made_of_each (told_of_pause s) s.pauses

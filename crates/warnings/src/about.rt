@@ -15,6 +15,7 @@ pub enum About {
     LinkLoss,
     Lifeguard,
     Spread,
+    Gossip,
     Path(usize),
     PathLoss(usize),
     Slow(usize),
@@ -38,6 +39,9 @@ pub fn about_of(warning: Warning) -> About
         Warning::LostOnLink => About::LinkLoss,
         Warning::PartOfLifeguard => About::Lifeguard,
         Warning::LongSpread => About::Spread,
+        Warning::NoGossip => About::Gossip,
+        Warning::OddConfirmations => About::Confirmations,
+        Warning::QuietRun => About::End,
         Warning::HiddenPath(place) => About::Path(place),
         Warning::LonelyPath(place) => About::Path(place),
         Warning::LostOnPath(place) => About::PathLoss(place),
@@ -50,6 +54,7 @@ pub fn about_of(warning: Warning) -> About
         Warning::CutPastEnd(place) => About::Cut(place),
         Warning::PausePastEnd(place) => About::Pause(place),
         Warning::PauseWhileDown(place) => About::Pause(place),
+        Warning::LongPause(place) => About::Pause(place),
     }
 }
 

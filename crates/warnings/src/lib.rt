@@ -8,6 +8,7 @@ mod list;
 mod members;
 mod paths;
 mod pauses;
+mod run;
 mod settings;
 mod slows;
 mod warning;

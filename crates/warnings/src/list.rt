@@ -4,6 +4,7 @@ ghost use Rattle.warnings.specs.Told.{warnings_of, told_if};
 use crate::events::{push_crashes, push_cuts, push_leaves};
 use crate::paths::push_paths;
 use crate::pauses::push_pauses;
+use crate::run::push_run;
 use crate::settings::push_settings;
 use crate::slows::push_slows;
 use crate::warning::Warning;
@@ -11,8 +12,8 @@ use base::Memory;
 use scenario::Scenario;
 use std::alloc::Global;
 
-/// What the scenario is warned of, in the order of `Warning`'s cases for its single settings, and
-/// then of the items of its lists: paths, slow times, crashes, leaves, cuts, pauses. `trip` is the greatest
+/// What the scenario is warned of, in the order of `Warning`'s cases for its single settings and the whole run,
+/// and then of the items of its lists: paths, slow times, crashes, leaves, cuts, pauses. `trip` is the greatest
 /// round trip of a pair of its members.
 pub(crate) fn warnings_of(
     alloc: Global,
@@ -24,6 +25,7 @@ pub(crate) fn warnings_of(
 {
     let mut told = Vec::new(alloc);
     push_settings(&mut told, scenario, trip)?;
+    push_run(&mut told, scenario, trip)?;
     push_paths(alloc, &mut told, scenario)?;
     push_slows(&mut told, scenario, trip)?;
     push_crashes(&mut told, scenario)?;

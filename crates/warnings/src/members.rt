@@ -1,9 +1,16 @@
 ghost use Rattle.std.specs.Prelude.{◌≡◌};
-ghost use Rattle.warnings.specs.Conditions.{is_past, is_down, has_come, is_unconfirmed};
+ghost use Rattle.warnings.specs.Conditions.{are_several, is_past, is_down, has_come, is_unconfirmed};
 
 use base::{MemberId, Moment};
 use meaning::least_suspicion;
 use scenario::Scenario;
+
+/// Whether there are two members: one alone probes nobody and is suspected by nobody.
+pub(crate) fn are_several(scenario: &Scenario) -> bool
+    ensures { result ≡ are_several scenario.now }
+{
+    scenario.members() > 1
+}
 
 /// Whether a moment is after the end.
 pub(crate) fn is_past(scenario: &Scenario, at: Moment) -> bool
@@ -35,5 +42,5 @@ pub(crate) fn is_unconfirmed(scenario: &Scenario, at: Moment) -> bool
     ensures { result ≡ is_unconfirmed scenario.now at }
 {
     let end = scenario.end().ticks();
-    at.ticks() <= end && end < at.ticks() + least_suspicion(scenario)
+    are_several(scenario) && at.ticks() <= end && end < at.ticks() + least_suspicion(scenario)
 }

@@ -1,13 +1,14 @@
 ghost use Rattle.std.specs.Prelude.{◌≡◌, ◌++◌, OnOk};
 ghost use Rattle.meaning.specs.Each.{made_at, made_of_each};
+ghost use Rattle.warnings.specs.Conditions.{is_pause_long};
 ghost use Rattle.warnings.specs.Told.{told_of_pause};
 
 use crate::list::push_if;
-use crate::members::{is_down, is_past};
+use crate::members::{are_several, is_down, is_past};
 use crate::warning::Warning;
 use base::Memory;
-use meaning::item_at;
-use scenario::Scenario;
+use meaning::{item_at, least_suspicion};
+use scenario::{Pause, Scenario};
 
 /// Appends what is told of each pause.
 pub(crate) fn push_pauses(told: &mut Vec<Warning>, scenario: &Scenario) -> Result<(), Memory>
@@ -28,6 +29,7 @@ fn push_pause(told: &mut Vec<Warning>, scenario: &Scenario, place: usize) -> Res
     let Some(pause) = item_at(scenario.pauses(), place) else {
         return Ok(());
     };
+    let long = is_pause_long(scenario, &pause);
     push_if(
         told,
         is_past(scenario, pause.from),
@@ -37,5 +39,15 @@ fn push_pause(told: &mut Vec<Warning>, scenario: &Scenario, place: usize) -> Res
         told,
         is_down(scenario, pause.member, pause.from),
         Warning::PauseWhileDown(place),
-    )
+    )?;
+    push_if(told, long, Warning::LongPause(place))
+}
+
+/// Whether others may declare the member dead while it is paused.
+fn is_pause_long(scenario: &Scenario, pause: &Pause) -> bool
+    ensures { result ≡ is_pause_long scenario.now pause.now }
+{
+    let least = u128::from(least_suspicion(scenario));
+    let from = u128::from(pause.from.ticks());
+    are_several(scenario) && from + least < u128::from(pause.until.ticks())
 }

@@ -3,6 +3,7 @@ ghost use Rattle.warnings.specs.Conditions.{is_answer_late, is_relay_late, is_en
 ghost use Rattle.warnings.specs.Told.{told_of_settings};
 
 use crate::list::push_if;
+use crate::members::are_several;
 use crate::warning::Warning;
 use base::Memory;
 use meaning::{least_suspicion, most_accusers, push_period};
@@ -37,7 +38,7 @@ pub(crate) fn push_settings(
 }
 
 /// Whether the greatest round trip is longer than the timeout.
-fn is_answer_late(scenario: &Scenario, trip: u64) -> bool
+pub(crate) fn is_answer_late(scenario: &Scenario, trip: u64) -> bool
     ensures { result ≡ is_answer_late scenario.now trip }
 {
     trip > scenario.swim().timeout
@@ -56,7 +57,8 @@ fn is_relay_late(scenario: &Scenario, trip: u64) -> bool
 fn is_end_early(scenario: &Scenario) -> bool
     ensures { result ≡ is_end_early scenario.now }
 {
-    scenario.end().ticks() < 1 + scenario.period() + least_suspicion(scenario)
+    are_several(scenario)
+        && scenario.end().ticks() < 1 + scenario.period() + least_suspicion(scenario)
 }
 
 /// Whether fewer members can accuse than are wanted.
@@ -64,14 +66,16 @@ fn are_accusers_few(scenario: &Scenario) -> bool
     ensures { result ≡ are_accusers_few scenario.now }
 {
     let lifeguard = scenario.lifeguard();
-    lifeguard.suspicion && most_accusers(scenario) < lifeguard.confirmations
+    are_several(scenario)
+        && lifeguard.suspicion
+        && most_accusers(scenario) < lifeguard.confirmations
 }
 
 /// Whether fewer members can help than are asked.
 fn are_helpers_many(scenario: &Scenario) -> bool
     ensures { result ≡ are_helpers_many scenario.now }
 {
-    (scenario.members() as u64) < scenario.swim().helpers + 2
+    are_several(scenario) && (scenario.members() as u64) < scenario.swim().helpers + 2
 }
 
 /// Whether a link loses every message: pushes, where there are any, aren't lost by it.

@@ -4,7 +4,7 @@ ghost use Rattle.meaning.specs.Each.{made_at, made_of_each};
 ghost use Rattle.warnings.specs.Told.{told_of_slow};
 
 use crate::list::push_if;
-use crate::members::{is_down, is_past};
+use crate::members::{are_several, is_down, is_past};
 use crate::warning::Warning;
 use base::Memory;
 use meaning::item_at;
@@ -59,5 +59,5 @@ fn is_slow_answer_late(scenario: &Scenario, trip: u64, slow: &Slow) -> bool
     ensures { result ≡ is_slow_answer_late scenario.now trip slow.now }
 {
     let added = u128::from(slow.extra) * 2;
-    u128::from(trip) + added > u128::from(scenario.swim().timeout)
+    are_several(scenario) && u128::from(trip) + added > u128::from(scenario.swim().timeout)
 }

@@ -18,6 +18,12 @@ pub enum Warning {
     PartOfLifeguard,
     /// Members may begin their first period after the end.
     LongSpread,
+    /// Nobody gossips, by memberlist's rules.
+    NoGossip,
+    /// No memberlist has this number of accusers with this `alpha`.
+    OddConfirmations,
+    /// Nothing happens in the run.
+    QuietRun,
     /// A later path of the same two groups hides this one.
     HiddenPath(usize),
     /// A path from a group to itself that has but one member.
@@ -42,4 +48,6 @@ pub enum Warning {
     PausePastEnd(usize),
     /// A pause of a member that is down as it begins.
     PauseWhileDown(usize),
+    /// A pause that lasts longer than the least suspicion.
+    LongPause(usize),
 }

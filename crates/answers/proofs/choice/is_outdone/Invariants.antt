@@ -6,4 +6,4 @@ use Rattle.answers.proofs.choice.is_outdone.Given as goal
 
 -- none so far outdoes the case
 abbrev pub invariant-loop-other : goal.invariant-loop-other
-invariant-loop-other l = list_any (λ other. meets l.wants other && is_better other l.case) (take l.other-index l.cases) ≡ false
+invariant-loop-other l = list_any (λ other. meets l.wants other && is_better l.crashed other l.case) (take l.other-index l.cases) ≡ false

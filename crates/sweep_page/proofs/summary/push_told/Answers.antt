@@ -1,14 +1,7 @@
-use Rattle.std.proofs.Common.{◌++◌, ◌∙◌, ap, arith}
-use Rattle.std.specs.List.{flat_map, range_with_len}
-use Rattle.std.specs.String.{string_bytes}
-use Rattle.drawing.proofs.Ranges.{place_more}
-use Rattle.sweep_page.specs.Summary.{answer_at}
+use Rattle.drawing.proofs.Pushes.{and_then}
+use Rattle.sweep_page.specs.Summary.{told_words}
 use Rattle.sweep_page.proofs.summary.push_told.Goals as goal
 
-pub loop-place-preserved : goal.loop-place-preserved
-loop-place-preserved c = place_more (answer_at c.args.plan.now.settings c.args.points.now) c.loop-place.place _ _ _ c.loop-place.invariant c.in_ok-push_answer_at.ensures
-
 pub returns : goal.returns
-returns c =
-    c.loop-place.invariant
-    ∙ ap (λ n. string_bytes c.args.text.now ++ flat_map (answer_at c.args.plan.now.settings c.args.points.now) (range_with_len 0 n)) (omega (arith, c.loop-place-test.false, c.loop-place.auto.place-end, c.min-place-end.ensures))
+unfolding told_words
+returns c = and_then _ _ _ (and_then _ _ _ (and_then _ _ _ (and_then _ _ _ c.in_ok-push_front_opening.ensures c.in_ok-push_safety_words.ensures) c.in_ok-push_first.ensures) c.in_ok-push_markup.ensures) c.in_ok-push_rest.ensures

@@ -1,7 +1,0 @@
-use Rattle.std.proofs.Common.{◌≡◌, ℕ, max, fold, take}
-use Rattle.std.specs.Prelude.{unwrap_or}
-use Rattle.figures.specs.declared.summary.CaseSummary.{CaseSummary}
-use Rattle.sweep_page.proofs.front.slowest.Given as goal
-
-abbrev pub invariant-loop-case : goal.invariant-loop-case
-invariant-loop-case l = (l.most ≡ fold (λ (most : ℕ) (case : CaseSummary). max most (unwrap_or case.confirm_p50 0)) 1 (take l.case-index l.cases))

@@ -1,0 +1,7 @@
+use Rattle.drawing.proofs.Pushes.{and_then, and_last}
+use Rattle.sweep_page.specs.Items.{deaths_span}
+use Rattle.sweep_page.proofs.items.push_false_deaths.Goals as goal
+
+pub returns : goal.returns
+unfolding deaths_span
+returns c = and_last _ _ _ _ c.push_markup-2.result (and_then _ _ _ c.in_ok-push_markup.ensures c.in_ok-push_deaths.ensures) c.push_markup-2.ensures

@@ -1,0 +1,8 @@
+use Rattle.std.proofs.Common.{◌≡◌, false, take}
+use Rattle.std.specs.List.{list_any}
+use Rattle.answers.specs.Wants.{may_meet}
+use Rattle.sweep_page.proofs.question.is_open.Given as goal
+
+-- none so far may meet all
+abbrev pub invariant-loop-case : goal.invariant-loop-case
+invariant-loop-case l = list_any (may_meet l.wants) (take l.case-index l.cases) ≡ false

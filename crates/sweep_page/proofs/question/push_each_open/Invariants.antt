@@ -1,0 +1,8 @@
+use Rattle.std.proofs.Common.{◌≡◌, ◌++◌}
+use Rattle.std.specs.List.{flat_map, range_with_len}
+use Rattle.std.specs.String.{string_bytes}
+use Rattle.sweep_page.specs.Question.{open_item_at}
+use Rattle.sweep_page.proofs.question.push_each_open.Given as goal
+
+abbrev pub invariant-loop-place : goal.invariant-loop-place
+invariant-loop-place l = string_bytes l.text ≡ string_bytes l.fn.text ++ flat_map (open_item_at l.plan.settings l.wants l.cases) (range_with_len 0 l.place)

@@ -1,8 +1,0 @@
-use Rattle.std.proofs.Common.{◌≡◌, ◌++◌}
-use Rattle.std.specs.List.{flat_map, range_with_len}
-use Rattle.std.specs.String.{string_bytes}
-use Rattle.sweep_page.specs.Summary.{answer_at}
-use Rattle.sweep_page.proofs.summary.push_told.Given as goal
-
-abbrev pub invariant-loop-place : goal.invariant-loop-place
-invariant-loop-place l = string_bytes l.text ≡ string_bytes l.fn.text ++ flat_map (answer_at l.plan.settings l.points) (range_with_len 0 l.place)

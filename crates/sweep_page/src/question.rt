@@ -1,0 +1,356 @@
+//! What is wanted of a setting, and the answer.
+ghost use Rattle.std.specs.Prelude.{◌≡◌, ◌++◌, All, OnOk, decimal, length};
+ghost use Rattle.std.specs.List.{flat_map, range_with_len};
+ghost use Rattle.std.specs.String.{string_bytes};
+ghost use Rattle.answers.specs.Wants.{HasFewRuns, IsBounded};
+ghost use Rattle.sweep_page.specs.Question.{answer, best_answer, goal_item, goals_words, is_open, more_needed, needed_words, no_answer, open_answer, open_item, open_item_at, open_item_of, question, question_figure, runs_needed, statistic_words, unmet_answer};
+
+use crate::items::{push_caution_at, push_item_at};
+use answers::{Statistic, Want, may_meet, more_runs};
+use base::Memory;
+use cases::Plan;
+use drawing::{close_figure, open_figure, push_escaped, push_markup};
+use figures::CaseSummary;
+use std::alloc::{AllocError, Global};
+use sweep_cells::{push_number, push_settings_at};
+
+/// What is wanted of a setting, and the best that meets it.
+#[derive(Clone, Copy)]
+pub struct Question<'a> {
+    /// What is wanted.
+    pub wants: &'a [Want<'a>],
+    /// The place of the best case, where one meets all.
+    pub best: Option<usize>,
+}
+
+/// Appends what is wanted, and the answer; nothing where nothing is wanted. `crashed` is whether a run
+/// of the sweep has a crash.
+#[tactic(auto, unfolding(crate::specs::Question::question))]
+pub(crate) fn push_question(
+    alloc: Global,
+    text: &mut String,
+    plan: &Plan,
+    asked: &Question<'_>,
+    cases: &[CaseSummary],
+    crashed: bool,
+) -> Result<(), Memory>
+    requires bounded { All IsBounded asked.now.wants.now }
+    requires few { All HasFewRuns cases.now }
+    ensures { OnOk result (string_bytes text.new ≡ string_bytes text.old
+        ++ question crashed plan.now.settings asked.now.wants.now cases.now asked.now.best) }
+{
+    if asked.wants.is_empty() {
+        return Ok(());
+    }
+    push_question_figure(alloc, text, plan, asked, cases, crashed)
+}
+
+/// Appends the section.
+#[tactic(auto, unfolding(crate::specs::Question::question_figure))]
+fn push_question_figure(
+    alloc: Global,
+    text: &mut String,
+    plan: &Plan,
+    asked: &Question<'_>,
+    cases: &[CaseSummary],
+    crashed: bool,
+) -> Result<(), Memory>
+    requires bounded { All IsBounded asked.now.wants.now }
+    requires few { All HasFewRuns cases.now }
+    ensures { OnOk result (string_bytes text.new ≡ string_bytes text.old
+        ++ question_figure crashed plan.now.settings asked.now.wants.now cases.now asked.now.best) }
+{
+    open_figure(text, "answer", "The question and its answer")?;
+    push_goals(text, asked.wants)?;
+    push_answer(alloc, text, plan, asked, cases, crashed)?;
+    close_figure(text)?;
+    Ok(())
+}
+
+/// Appends what is wanted, in words.
+#[tactic(auto, unfolding(crate::specs::Question::goals_words))]
+fn push_goals(text: &mut String, wants: &[Want<'_>]) -> Result<(), AllocError>
+    ensures { OnOk result (string_bytes text.new ≡ string_bytes text.old ++ goals_words wants.now) }
+{
+    push_markup(
+        text,
+        "<p class=\"lead\">Is there a setting with</p><ul class=\"goals\">",
+    )?;
+    push_each_goal(text, wants)?;
+    push_markup(text, "</ul>\n")
+}
+
+/// Appends each that is wanted.
+fn push_each_goal(text: &mut String, wants: &[Want<'_>]) -> Result<(), AllocError>
+    ensures { OnOk result (string_bytes text.new ≡ string_bytes text.old ++ flat_map goal_item wants.now) }
+{
+    for want in wants {
+        push_goal(text, want)?;
+    }
+    Ok(())
+}
+
+/// Appends one that is wanted.
+#[tactic(auto, unfolding(crate::specs::Question::goal_item))]
+fn push_goal(text: &mut String, want: &Want<'_>) -> Result<(), AllocError>
+    ensures { OnOk result (string_bytes text.new ≡ string_bytes text.old ++ goal_item want.now) }
+{
+    let words = statistic_words(want.statistic);
+    push_markup(text, "<li>")?;
+    push_markup(text, words)?;
+    push_markup(text, ": <code>")?;
+    push_escaped(text, want.word)?;
+    push_markup(text, "</code></li>")
+}
+
+/// What a statistic is, in words.
+#[tactic(auto, unfolding(crate::specs::Question::statistic_words))]
+fn statistic_words(statistic: Statistic) -> &'static str
+    ensures { result.now ≡ statistic_words statistic }
+{
+    match statistic {
+        Statistic::Out => "share of runs with a false death",
+        Statistic::SuspectP50 => "ticks until a crash is first suspected, median",
+        Statistic::ConfirmP50 => "ticks until a crash is first confirmed, median",
+        Statistic::ConfirmP99 => "ticks until a crash is first confirmed, 99th percentile",
+        Statistic::ConfirmGreatest => "ticks until a crash is first confirmed, greatest",
+        Statistic::LastP50 => "ticks until a crash is last confirmed, median",
+        Statistic::LastGreatest => "ticks until a crash is last confirmed, greatest",
+        Statistic::FalseSuspect => "false suspicions per run",
+        Statistic::ThrownOut => "false deaths in all runs",
+        Statistic::Messages => "messages per member per 1,000 ticks",
+    }
+}
+
+/// Appends the answer.
+fn push_answer(
+    alloc: Global,
+    text: &mut String,
+    plan: &Plan,
+    asked: &Question<'_>,
+    cases: &[CaseSummary],
+    crashed: bool,
+) -> Result<(), Memory>
+    requires bounded { All IsBounded asked.now.wants.now }
+    requires few { All HasFewRuns cases.now }
+    ensures { OnOk result (string_bytes text.new ≡ string_bytes text.old
+        ++ answer crashed plan.now.settings asked.now.wants.now cases.now asked.now.best) }
+{
+    match asked.best {
+        Some(place) => push_best(alloc, text, plan, cases, crashed, place),
+        None => push_unmet(alloc, text, plan, asked.wants, cases),
+    }
+}
+
+/// Appends the best case.
+#[tactic(auto, unfolding(crate::specs::Question::best_answer))]
+fn push_best(
+    alloc: Global,
+    text: &mut String,
+    plan: &Plan,
+    cases: &[CaseSummary],
+    crashed: bool,
+    place: usize,
+) -> Result<(), Memory>
+    ensures { OnOk result (string_bytes text.new ≡ string_bytes text.old ++ best_answer crashed plan.now.settings cases.now place) }
+{
+    push_markup(
+        text,
+        "<p class=\"lead\">Yes. Of the settings that are shown to meet all of this, the best \
+         is</p><ol class=\"answers\">",
+    )?;
+    push_item_at(alloc, text, plan, cases, crashed, place)?;
+    push_markup(text, "</ol>\n")?;
+    push_caution_at(text, cases, place)?;
+    Ok(())
+}
+
+/// Appends which cases may meet all, or that none can.
+#[tactic(auto, unfolding(crate::specs::Question::unmet_answer))]
+fn push_unmet(
+    alloc: Global,
+    text: &mut String,
+    plan: &Plan,
+    wants: &[Want<'_>],
+    cases: &[CaseSummary],
+) -> Result<(), Memory>
+    requires bounded { All IsBounded wants.now }
+    requires few { All HasFewRuns cases.now }
+    ensures { OnOk result (string_bytes text.new ≡ string_bytes text.old ++ unmet_answer plan.now.settings wants.now cases.now) }
+{
+    if is_open(wants, cases) {
+        return push_open(alloc, text, plan, wants, cases);
+    }
+    push_no_answer(text)?;
+    Ok(())
+}
+
+/// Whether some case may meet all.
+fn is_open(wants: &[Want<'_>], cases: &[CaseSummary]) -> bool
+    requires bounded { All IsBounded wants.now }
+    requires few { All HasFewRuns cases.now }
+    ensures { result ≡ is_open wants.now cases.now }
+{
+    for case in cases {
+        if may_meet(wants, case) {
+            return true;
+        }
+    }
+    false
+}
+
+/// Appends that no case can.
+#[tactic(auto, unfolding(crate::specs::Question::no_answer))]
+fn push_no_answer(text: &mut String) -> Result<(), AllocError>
+    ensures { OnOk result (string_bytes text.new ≡ string_bytes text.old ++ no_answer) }
+{
+    text.push_str(
+        "<p class=\"lead\">No. Each setting that was tried is shown to miss one of these goals.</p>\n",
+    )
+}
+
+/// Appends which cases may meet all.
+#[tactic(auto, unfolding(crate::specs::Question::open_answer))]
+fn push_open(
+    alloc: Global,
+    text: &mut String,
+    plan: &Plan,
+    wants: &[Want<'_>],
+    cases: &[CaseSummary],
+) -> Result<(), Memory>
+    requires bounded { All IsBounded wants.now }
+    requires few { All HasFewRuns cases.now }
+    ensures { OnOk result (string_bytes text.new ≡ string_bytes text.old ++ open_answer plan.now.settings wants.now cases.now) }
+{
+    push_markup(
+        text,
+        "<p class=\"lead\">No setting is shown to meet all of this yet. These may; so many more runs \
+         of each would decide, if its share of runs with a false death stays as it is:</p>\
+         <ol class=\"answers\">",
+    )?;
+    push_each_open(alloc, text, plan, wants, cases)?;
+    push_markup(text, "</ol>\n")?;
+    Ok(())
+}
+
+/// Appends each of them.
+fn push_each_open(
+    alloc: Global,
+    text: &mut String,
+    plan: &Plan,
+    wants: &[Want<'_>],
+    cases: &[CaseSummary],
+) -> Result<(), Memory>
+    requires bounded { All IsBounded wants.now }
+    requires few { All HasFewRuns cases.now }
+    ensures { OnOk result (string_bytes text.new ≡ string_bytes text.old
+        ++ flat_map (open_item_at plan.now.settings wants.now cases.now) (range_with_len 0 (length cases.now))) }
+{
+    for place in 0..cases.len() {
+        push_open_at(alloc, text, plan, wants, cases, place)?;
+    }
+    Ok(())
+}
+
+/// Appends the case at a place, where it may meet all.
+#[tactic(auto, unfolding(crate::specs::Question::open_item_at))]
+fn push_open_at(
+    alloc: Global,
+    text: &mut String,
+    plan: &Plan,
+    wants: &[Want<'_>],
+    cases: &[CaseSummary],
+    place: usize,
+) -> Result<(), Memory>
+    requires bounded { All IsBounded wants.now }
+    requires few { All HasFewRuns cases.now }
+    ensures { OnOk result (string_bytes text.new ≡ string_bytes text.old ++ open_item_at plan.now.settings wants.now cases.now place) }
+{
+    match cases.get(place) {
+        Some(case) => push_open_case(alloc, text, plan, wants, place, case),
+        None => Ok(()),
+    }
+}
+
+/// Appends a case, where it may meet all.
+#[tactic(auto, unfolding(crate::specs::Question::open_item_of))]
+fn push_open_case(
+    alloc: Global,
+    text: &mut String,
+    plan: &Plan,
+    wants: &[Want<'_>],
+    place: usize,
+    case: &CaseSummary,
+) -> Result<(), Memory>
+    requires bounded { All IsBounded wants.now }
+    requires few { HasFewRuns case.now }
+    ensures { OnOk result (string_bytes text.new ≡ string_bytes text.old ++ open_item_of plan.now.settings wants.now place case.now) }
+{
+    if !may_meet(wants, case) {
+        return Ok(());
+    }
+    push_open_item(alloc, text, plan, place, more_runs(wants, case))
+}
+
+/// Appends a case that may meet all, with how many more runs would decide.
+#[tactic(auto, unfolding(crate::specs::Question::open_item))]
+fn push_open_item(
+    alloc: Global,
+    text: &mut String,
+    plan: &Plan,
+    place: usize,
+    more: Option<u128>,
+) -> Result<(), Memory>
+    ensures { OnOk result (string_bytes text.new ≡ string_bytes text.old ++ open_item plan.now.settings place more) }
+{
+    push_markup(text, "<li class=\"unknown\"><span class=\"number\">")?;
+    push_number(text, place)?;
+    push_markup(text, "</span><code>")?;
+    push_settings_at(alloc, text, plan, place)?;
+    push_markup(text, "</code><span>")?;
+    push_more_needed(text, more)?;
+    push_markup(text, "</span></li>")?;
+    Ok(())
+}
+
+/// Appends how many more runs would decide, or that no number would.
+#[tactic(auto, unfolding(crate::specs::Question::more_needed))]
+fn push_more_needed(text: &mut String, more: Option<u128>) -> Result<(), AllocError>
+    ensures { OnOk result (string_bytes text.new ≡ string_bytes text.old ++ more_needed more) }
+{
+    match more {
+        Some(runs) => push_runs_needed(text, runs),
+        None => text.push_str(
+            "no number of runs would decide: its share of runs with a false death is the goal itself",
+        ),
+    }
+}
+
+/// Appends how many more runs would decide.
+#[tactic(auto, unfolding(crate::specs::Question::runs_needed))]
+fn push_runs_needed(text: &mut String, more: u128) -> Result<(), AllocError>
+    ensures { OnOk result (string_bytes text.new ≡ string_bytes text.old ++ runs_needed more) }
+{
+    push_markup(text, "<b>")?;
+    push_runs(text, more)?;
+    push_markup(text, needed_words(more))
+}
+
+/// The words behind a number of runs.
+#[tactic(auto, unfolding(crate::specs::Question::needed_words))]
+fn needed_words(more: u128) -> &'static str
+    ensures { result.now ≡ needed_words more }
+{
+    if more == 1 {
+        "</b> more run would decide"
+    } else {
+        "</b> more runs would decide"
+    }
+}
+
+/// Appends a number of runs.
+fn push_runs(text: &mut String, runs: u128) -> Result<(), AllocError>
+    ensures { OnOk result (string_bytes text.new ≡ string_bytes text.old ++ decimal runs) }
+{
+    write!(text, "{runs}")
+}
