@@ -9,8 +9,9 @@ a page, and `sweep` with a page are called with the first allocation refused, th
 call needs no more. Each must end well, with all that it writes without a refusal, or with status 5 and nothing on
 standard output. Then standard error has `swimsim: memory`, and no file is made and no older one has changed; or it has
 `swimsim: run F1`, and there is a beginning of the trace, nothing of the report unless the whole trace is there, and
-nothing of the page unless both are. Where it was a thread that couldn't be started for it, there is `swimsim: run F4`,
-and nothing is written. Where the start of a thread is refused that the run needs, it must end so.
+nothing of the page unless both are. No other file is left. Where it was a thread that couldn't be started for it,
+there is `swimsim: run F4`, and nothing is written. Where the start of a thread is refused that the run needs, it must
+end so.
 
 The same holds where the system has no memory to open a file, each in turn.
 
@@ -27,6 +28,7 @@ refuses (stand_in.py); where there is none all is skipped.
 """
 
 import itertools
+import os
 import sys
 import tempfile
 from pathlib import Path
@@ -90,6 +92,9 @@ NOT_WRITTEN = b'swimsim: run F3\n'
 WRITTEN = ('t.csv', 'r.txt', 'p.html')
 OLDER = b'an older file\n'
 
+# the name of a file that is there once something was refused
+SAID = 'said'
+
 # how many refusals after a failed write are tried one by one; after them each hundredth is
 NEXT = 20
 
@@ -112,19 +117,22 @@ def read(path):
 
 def left_by(words, folder, environment=None, older=None):
     """Status, standard output and error, and the trace, the report and the page of the program with these words, None for
-    a file that isn't there. Each file holds what is older before, or isn't there."""
+    a file that isn't there; and the names of other files that it leaves. Each file holds what is older before, or isn't
+    there."""
+    before = {*WRITTEN, SAID, *os.listdir(folder)}
     for name in WRITTEN:
         if older is None:
             (folder / name).unlink(missing_ok=True)
         else:
             (folder / name).write_bytes(older)
-    return *call(words, IN_TIME, env=environment), *(read(folder / name) for name in WRITTEN)
+    ran = call(words, IN_TIME, env=environment)
+    return *ran, *(read(folder / name) for name in WRITTEN), sorted(set(os.listdir(folder)) - before)
 
 
 def is_refusal(left, whole, older):
     """Whether that is what a refusal leaves of what there is without one."""
-    status, out, err, *files = left
-    if status != 5 or out != b'':
+    status, out, err, *files, others = left
+    if status != 5 or out != b'' or others:
         return False
     if err == MEMORY:
         return files == [older] * len(WRITTEN)
@@ -138,7 +146,7 @@ def is_refusal(left, whole, older):
 def refused(words, stand_in, kind, numbers, older=None, **names):
     """What each call of the program leaves that is refused what has this number among what is of the kind, until there
     is none of that number."""
-    said = stand_in.folder / 'said'
+    said = stand_in.folder / SAID
     for number in numbers:
         said.unlink(missing_ok=True)
         environment = stand_in.environment(KIND=kind, SAID=said, REFUSED=number, **names)
