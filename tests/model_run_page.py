@@ -189,7 +189,9 @@ class Page:
         if not latest:
             return ''
         text = figure('spread', 'How the news of a crash spread')
-        text += legend([('suspect', 'have suspected it'), ('dead', 'hold it dead')])
+        text += legend([('suspect', 'have suspected it'), ('dead', 'have declared it dead')])
+        text += ('<p class="soft">Only claims from the moment of the crash on are counted: a member that had declared it dead before '
+                 'isn\'t.</p>')
         if self.series.unwatched:
             text += f'<p class="soft">{len(self.series.unwatched)} more crashed; these are the first {len(watched)} by number.</p>'
         text += '<div class="many">'
@@ -203,13 +205,13 @@ class Page:
         name, width, most = self.series.names[member], MOST_SPANS * step, max(1, len(stay), len(suspected), len(dead))
         text = f'<div><h3>{name}</h3><div class="chart">{axis_up(most)}'
         text += plot('', width, most, name,
-                     'How many members had suspected it, and how many held it dead, by the time since its crash.')
+                     'How many members had suspected it, and how many had declared it dead, by the time since its crash.')
         for kind, times in (('suspect', suspected), ('dead', dead)):
             reached = [sum(time < (nth + 1) * step for time in times) for nth in range(MOST_SPANS)]
             text += line(kind, reached, step, most)
         text += f'{PLOT_END}{axis_across(width, "ticks since the crash")}</div>'
         text += '<div class="wide"><table><tr><th>of those up<th>first<th>50 %<th>90 %<th>99 %<th>all</tr>'
-        text += self.shares('suspected it after', suspected, len(stay)) + self.shares('held it dead after', dead, len(stay))
+        text += self.shares('suspected it after', suspected, len(stay)) + self.shares('declared it dead after', dead, len(stay))
         return text + '</table></div></div>\n'
 
     @staticmethod
