@@ -27,14 +27,10 @@ class Program:
     def call(self, words, out=subprocess.PIPE, room=None):
         """Calls the program with these words, and gives its `Ran`. `out` is where its standard output goes;
         with `room` no file that it writes grows past so many bytes, and such a write is an error."""
-        if room is not None:
-            resource.setrlimit(resource.RLIMIT_FSIZE, (room, resource.RLIM_INFINITY))
-        try:
-            # Python ignores the signal of a file that grew too large, and so then does the program
-            return call([self.path, *map(os.fsencode, words)], cwd=self.folder, stdout=out, restore_signals=room is None)
-        finally:
-            if room is not None:
-                resource.setrlimit(resource.RLIMIT_FSIZE, (resource.RLIM_INFINITY, resource.RLIM_INFINITY))
+        words = [self.path, *map(os.fsencode, words)]
+        if room is None:
+            return call(words, cwd=self.folder, stdout=out)
+        return call_with_room(words, room, cwd=self.folder, stdout=out)
 
     def keep(self, name, text):
         """Makes a file of the folder that holds this text, or these bytes."""
@@ -44,6 +40,16 @@ class Program:
         """The bytes of a file of the folder, or None where it isn't there."""
         path = self.folder / name
         return path.read_bytes() if path.exists() else None
+
+
+def call_with_room(words, room, **how):
+    """Calls a program as `call` does. No file that it writes grows past so many bytes, and such a write is an error."""
+    resource.setrlimit(resource.RLIMIT_FSIZE, (room, resource.RLIM_INFINITY))
+    try:
+        # Python ignores the signal of a file that grew too large, and so then does the program
+        return call(words, restore_signals=False, **how)
+    finally:
+        resource.setrlimit(resource.RLIMIT_FSIZE, (resource.RLIM_INFINITY, resource.RLIM_INFINITY))
 
 
 def expect(what, seen, wanted):

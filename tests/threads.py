@@ -23,8 +23,9 @@ import tempfile
 import traceback
 from pathlib import Path
 
-from harness import TESTS, call, end, parser_of, program_at
+from harness import TESTS, end, parser_of, program_at
 from long_runs import REFUSED, far
+from program import call_with_room
 from stand_in import NO_COMPILER, StandIn
 
 # a run of 1.3 million rows, whose text has 54 MB. A row takes at least 40 bytes of memory: they are 53 MB where all of
@@ -129,9 +130,8 @@ def cut_off(bench):
         whole = bench.trace.read_bytes()
         for limit in LIMITS:
             bench.trace.write_bytes(b'')
-            # Python ignores the signal of a file that grew too large, and so then does the program
-            limited = ['prlimit', f'--fsize={limit}:', *words]
-            ran = call(limited, 120, env=bench.stand_in.environment(**bench.stand_in.processors(5)), restore_signals=False)
+            environment = bench.stand_in.environment(**bench.stand_in.processors(5))
+            ran = call_with_room(words, limit, env=environment)
             assert ran == REFUSED, (workers, limit, ran)
             assert bench.trace.read_bytes() == whole[:limit], (workers, limit)
 
