@@ -9,7 +9,7 @@ from model_run_series import MOST_HEALTH, MOST_SPANS, Series
 from model_text import CONFIRM, SUSPECT
 from scenarios import keys_of
 
-MOST_LANES, MOST_THROWN_OUT = 60, 200
+MOST_LANES, MOST_FALSE_DEATHS = 60, 200
 MESSAGE_CLASSES = {
     'ping': 'one', 'ack': 'two', 'join': 'three', 'nack': 'four', 'ping-req': 'five', 'welcome': 'six', 'bye': 'seven',
     'gossip': 'eight', 'push': 'nine', 'pull': 'ten', 'call': 'eleven', 'answer': 'twelve',
@@ -18,6 +18,11 @@ HEALTH_CLASSES = ('two', 'one', 'six', 'dead')
 # the tables and lists of keys, in the order in which they are told
 TOLD_TABLES = ('swim', 'suspicion', 'lifeguard', 'link', 'gossip', 'stream')
 TABLE_END = '</table></div></details>'
+
+
+def counted(number, one, several):
+    """A number and the words for one thing, or for several."""
+    return f'{grouped(number)} {one if number == 1 else several}'
 
 
 def folded(summary, heads):
@@ -34,7 +39,7 @@ class Page:
         self.lanes = self.series.lanes()
 
     def text(self, release):
-        return (self.summary() + self.lanes_figure() + self.thrown_out() + self.spread() + self.traffic() + self.health()
+        return (self.summary() + self.lanes_figure() + self.false_deaths() + self.spread() + self.traffic() + self.health()
                 + Settings(self.scenario).text(release))
 
     def time_axis(self):
@@ -44,19 +49,23 @@ class Page:
 
     def summary(self):
         series = self.series
-        crashed = [member for member, at in series.crash.items() if at <= series.end]
-        out = sum(story.wrongly_by > 0 for story in series.stories)
-        text = f'<p class="lead">{grouped(len(series.names))} members, {grouped(series.end)} ticks. ' + self.crash_words(len(crashed))
-        text += {0: 'Nobody who was up was held dead.',
-                 1: '<b>1 member was thrown out though it was up.</b>'}.get(
-                     out, f'<b>{out} members were thrown out though they were up.</b>')
-        figures = [('', len(crashed), 'crashed'), ('bad' if out else '', out, 'thrown out though up')]
+        crashed, out = len(series.crash), sum(story.false_deaths > 0 for story in series.stories)
+        text = (f'<p class="lead">{counted(len(series.names), "member", "members")}, {counted(series.end, "tick", "ticks")}. '
+                + self.crash_words(crashed))
+        text += {0: 'No member that was up was declared dead.',
+                 1: '<b>1 member was declared dead while it was up.</b>'}.get(
+                     out, f'<b>{out} members were declared dead while they were up.</b>')
+        deaths, recoveries = series.false_deaths, sum(sum(story.recovered.values()) for story in series.stories)
+        figures = [('', crashed, 'member crashed', 'members crashed'),
+                   ('bad' if out else '', out, 'member with a false death', 'members with a false death'),
+                   ('bad' if deaths else '', deaths, 'false death', 'false deaths')]
         if self.scenario['version'] == 3:
-            figures.append(('', sum(sum(story.taken_back.values()) for story in series.stories), 'taken back'))
-        figures += [('', series.false_suspicions, 'false suspicions'), ('', series.told['refute'], 'refutations'),
-                    ('', series.told['fail'], 'failed probes'), ('', series.worst_health, 'worst health'),
-                    ('', series.rows, 'rows in the trace')]
-        items = ''.join(f'<li class="{kind}"><b>{grouped(count)}</b><span>{words}</span></li>' for kind, count, words in figures)
+            figures.append(('', recoveries, 'time declared alive again', 'times declared alive again'))
+        figures += [('', series.false_suspicions, 'false suspicion', 'false suspicions'),
+                    ('', series.told['refute'], 'refutation', 'refutations'), ('', series.told['fail'], 'failed probe', 'failed probes'),
+                    ('', series.worst_health, 'worst health', 'worst health'), ('', series.rows, 'row in the trace', 'rows in the trace')]
+        items = ''.join(f'<li class="{kind}"><b>{grouped(count)}</b><span>{one if count == 1 else several}</span></li>'
+                        for kind, count, one, several in figures)
         return f'{text}</p><ul class="figures">{items}</ul>\n'
 
     def crash_words(self, crashed):
@@ -65,31 +74,33 @@ class Page:
             return 'Nobody crashed. '
         text = '1 member crashed' if crashed == 1 else f'{crashed} members crashed'
         if not found:
-            return text + ', and nobody found out. '
-        text += f', {len(found)} of them {"was" if len(found) == 1 else "were"} found' if len(found) < crashed else ''
+            return text + ', undetected. '
+        was = 'was' if len(found) == 1 else 'were'
+        text += f', {len(found)} of them {was} detected' if len(found) < crashed else ''
         upto = f' to {grouped(max(found))}' if max(found) > min(found) else ''
-        return f'{text}: first held dead after {grouped(min(found))}{upto} ticks. '
+        return f'{text}: first declared dead after {grouped(min(found))}{upto} ticks. '
 
     # a lane for each member of whom there is something to tell
 
     def lanes_figure(self):
-        text = figure('lanes', 'Who was suspected, and who was held dead')
+        text = figure('lanes', 'Who was suspected, and who was declared dead')
         if not self.lanes:
-            return f'{text}<p>Nobody was suspected, crashed, left, was slow or paused.</p>{FIGURE_END}'
-        text += ('<p class="soft">One lane a member. Its height is all other members: how many of them suspect it, and how many hold '
-                 'it dead.</p>')
+            return f'{text}<p>No member was suspected, crashed, left, was slow or was paused.</p>{FIGURE_END}'
+        text += ('<p class="soft">One lane per member. Its height stands for all other members: how many of them suspect it, and how '
+                 'many have declared it dead.</p>')
         bands = [('slow', 'it is slow'), ('pause', 'it is paused'), ('cut', 'it is cut off')]
-        text += legend([('suspect', 'suspect it'), ('dead', 'hold it dead'), *(it for it in bands if self.scenario[it[0]])])
-        text += ('<p class="soft">Upright line: it crashes; dashed: it leaves or starts; dotted: others take it back; dot: it '
-                 'refutes.</p>')
+        text += legend([('suspect', 'suspect it'), ('dead', 'have declared it dead'), *(it for it in bands if self.scenario[it[0]])])
+        text += ('<p class="soft">Solid vertical line: the member crashes; dashed: it leaves or starts; dotted: others declare it alive '
+                 'again; dot: it refutes a claim.</p>')
         text += ''.join(self.lane(member) for member in self.lanes[:MOST_LANES])
         text += f'<div class="lane">{self.time_axis()}</div>'
         if len(self.lanes) > MOST_LANES:
-            text += f'<p class="soft">{len(self.lanes) - MOST_LANES} more were suspected by others or depart.</p>'
+            more = len(self.lanes) - MOST_LANES
+            text += f'<p class="soft">{more} {"more member isn" if more == 1 else "more members aren"}\'t shown.</p>'
         return text + self.lane_table() + FIGURE_END
 
     def claims(self, member):
-        """How many others suspect a member in each span, and how many hold it dead."""
+        """How many others suspect a member in each span, and how many have declared it dead."""
         story = self.series.stories[member]
         return [self.series.heights(story.came[what], story.went[what], self.others) for what in (SUSPECT, CONFIRM)]
 
@@ -97,7 +108,7 @@ class Page:
         name, width = self.series.names[member], self.series.width
         suspect, dead = self.claims(member)
         text = f'<div class="lane"><div class="name">{name}</div>'
-        text += plot('', self.past, self.others, name, 'Over time, how many other members suspect it and how many hold it dead.')
+        text += plot('', self.past, self.others, name, 'Over time, how many other members suspect it and how many have declared it dead.')
         text += self.bands(member)
         text += area('suspect', dead, [min(self.others, sum(both)) for both in zip(suspect, dead)], width, self.past, self.others)
         text += area('dead', [0] * len(dead), dead, width, self.past, self.others)
@@ -115,8 +126,8 @@ class Page:
             text += rule('start', start, self.others)
         for kind, moments in (('crash', series.crash), ('leave', series.leave)):
             if member in moments:
-                text += rule(kind, min(moments[member], series.end), self.others)
-        for kind, shape, counts in (('back', rule, story.taken_back), ('refute', dot, story.refuted)):
+                text += rule(kind, moments[member], self.others)
+        for kind, shape, counts in (('back', rule, story.recovered), ('refute', dot, story.refuted)):
             text += ''.join(shape(kind, span * series.width + series.width // 2, self.others) for span in series.spans if counts[span])
         return text
 
@@ -124,18 +135,18 @@ class Page:
         """What befell a member, in words."""
         series, story = self.series, self.series.stories[member]
         words = []
-        if story.wrongly_by:
-            back = sum(story.taken_back.values())
-            words.append(f'<b>thrown out though up</b> by {grouped(story.wrongly_by)}, first at {grouped(story.first_confirm[0])}'
-                         + (f', taken back by {grouped(back)}' if back else ''))
+        if story.false_deaths:
+            back = sum(story.recovered.values())
+            words.append(f'<b>{counted(story.false_deaths, "false death", "false deaths")}</b>, first at {grouped(story.first_confirm[0])}'
+                         + (f', declared alive again {counted(back, "time", "times")}' if back else ''))
         if member in series.crash or member in series.leave:
             gone = f'crashed at {grouped(series.crash[member])}' if member in series.crash else f'left at {grouped(series.leave[member])}'
-            found = f'held dead from {grouped(story.first_confirm[0])}' if story.first_confirm else 'found by nobody'
+            found = f'first declared dead at {grouped(story.first_confirm[0])}' if story.first_confirm else 'never declared dead'
             words.append(f'{gone}, {found}')
-        return '; '.join(words) or ('suspected, and refuted it' if story.last_refute else 'never held dead')
+        return '; '.join(words) or ('suspected, and refuted it' if story.last_refute else 'never declared dead')
 
     def lane_table(self):
-        text = folded('The lanes as a table', '<th>member<th>from moment<th>suspect it<th>hold it dead')
+        text = folded('The lanes as a table', '<th>member<th>from moment<th>suspect it<th>have declared it dead')
         for member in self.lanes[:MOST_LANES]:
             last = 0, 0
             for span, both in enumerate(zip(*self.claims(member))):
@@ -144,23 +155,23 @@ class Page:
                 last = both
         return text + TABLE_END
 
-    # who was thrown out
+    # who was declared dead while it was up
 
-    def thrown_out(self):
-        members = [member for member in self.lanes if self.series.stories[member].wrongly_by]
+    def false_deaths(self):
+        members = [member for member in self.lanes if self.series.stories[member].false_deaths]
         if not members:
             return ''
-        text = figure('thrown-out', 'Thrown out though up')
-        text += ('<div class="wide"><table><tr><th>member<th>first held dead<th>by<th>line of the trace<th>times<th>taken back'
-                 '<th>then it was<th>probes of it that failed<th>last refuted<th>line</tr>\n')
-        return text + ''.join(map(self.thrown_out_row, members[:MOST_THROWN_OUT])) + '</table></div>' + FIGURE_END
+        text = figure('false-deaths', 'False deaths')
+        text += ('<div class="wide"><table><tr><th>member<th>first declared dead<th>by<th>line of the trace<th>false deaths'
+                 '<th>declared alive again<th>its state then<th>failed probes of it<th>last refutation<th>line of the trace</tr>\n')
+        return text + ''.join(map(self.false_deaths_row, members[:MOST_FALSE_DEATHS])) + '</table></div>' + FIGURE_END
 
-    def thrown_out_row(self, member):
+    def false_deaths_row(self, member):
         story = self.series.stories[member]
         moment, accuser, place = story.first_confirm
         refuted = f'<td>{grouped(story.last_refute[0])}<td>{story.last_refute[1]}' if story.last_refute else '<td>never<td>'
         return (f'<tr><td>{self.series.names[member]}<td>{grouped(moment)}<td>{self.series.names[accuser]}<td>{place}'
-                f'<td>{grouped(story.wrongly_by)}<td>{grouped(sum(story.taken_back.values()))}<td>{self.condition(member, moment)}'
+                f'<td>{grouped(story.false_deaths)}<td>{grouped(sum(story.recovered.values()))}<td>{self.condition(member, moment)}'
                 f'<td>{grouped(story.failed_probes)}{refuted}\n')
 
     def condition(self, member, moment):
@@ -178,7 +189,9 @@ class Page:
         if not latest:
             return ''
         text = figure('spread', 'How the news of a crash spread')
-        text += legend([('suspect', 'have suspected it'), ('dead', 'hold it dead')])
+        text += legend([('suspect', 'have suspected it'), ('dead', 'have declared it dead')])
+        text += ('<p class="soft">Only claims from the moment of the crash on are counted: a member that had declared it dead before '
+                 'isn\'t.</p>')
         if self.series.unwatched:
             text += f'<p class="soft">{len(self.series.unwatched)} more crashed; these are the first {len(watched)} by number.</p>'
         text += '<div class="many">'
@@ -192,13 +205,13 @@ class Page:
         name, width, most = self.series.names[member], MOST_SPANS * step, max(1, len(stay), len(suspected), len(dead))
         text = f'<div><h3>{name}</h3><div class="chart">{axis_up(most)}'
         text += plot('', width, most, name,
-                     'How many members had suspected it, and how many held it dead, by the time since its crash.')
+                     'How many members had suspected it, and how many had declared it dead, by the time since its crash.')
         for kind, times in (('suspect', suspected), ('dead', dead)):
             reached = [sum(time < (nth + 1) * step for time in times) for nth in range(MOST_SPANS)]
             text += line(kind, reached, step, most)
         text += f'{PLOT_END}{axis_across(width, "ticks since the crash")}</div>'
         text += '<div class="wide"><table><tr><th>of those up<th>first<th>50 %<th>90 %<th>99 %<th>all</tr>'
-        text += self.shares('suspected it after', suspected, len(stay)) + self.shares('held it dead after', dead, len(stay))
+        text += self.shares('suspected it after', suspected, len(stay)) + self.shares('declared it dead after', dead, len(stay))
         return text + '</table></div></div>\n'
 
     @staticmethod
@@ -269,7 +282,7 @@ class Page:
 
 
 class Settings:
-    """What was run: each key of the scenario, those in bold that aren't the default."""
+    """What was run: each key of the scenario, those in bold that aren't the default, and what it has happen."""
 
     def __init__(self, scenario):
         self.scenario = scenario
@@ -278,7 +291,7 @@ class Settings:
     def text(self, release):
         keys = ''.join(self.key(name, self.scenario[name], None) for name in ('version', 'seed', 'end'))
         keys += ''.join(self.table(name) for name in TOLD_TABLES)
-        keys += ''.join(map(self.group, self.scenario['group'])) + ''.join(map(self.path, self.scenario['path']))
+        keys += ''.join(map(self.group, self.scenario['group'])) + ''.join(map(self.path, self.scenario['path'])) + self.events()
         text = figure('settings', 'What was run') + '<p class="soft">What isn\'t the default is in bold.</p>'
         return f'{text}<ul class="keys">{keys}</ul><p class="soft">swimsim {escaped(release)}</p>{FIGURE_END}'
 
@@ -303,6 +316,21 @@ class Settings:
         link, own = ([entry[key] for key in ('delay', 'jitter', 'loss')] for entry in (self.scenario['link'], path))
         told = 'delay {}, jitter {}, loss {}'.format(*map(grouped, own))
         return self.item(f'path {path["from"]} to {path["to"]}: {told}', link != own)
+
+    def events(self):
+        """What happens to each member, and the cuts."""
+        told = {member['name']: [] for member in self.scenario['members']}
+        for what in ('crash', 'leave'):
+            for entry in self.scenario[what]:
+                told[entry['member']].append(f'{what} at {grouped(entry["at"])}')
+        for what in ('slow', 'pause'):
+            for entry in self.scenario[what]:
+                begun = f'slow by {grouped(entry["extra"])}' if what == 'slow' else 'paused'
+                told[entry['member']].append(f'{begun} from {grouped(entry["from"])} until {grouped(entry["until"])}')
+        words = [f'{name}: {event}' for name, events in told.items() for event in events]
+        words += [f'cut {cut["from"]} to {cut["to"]} from {grouped(cut["at"])} until {grouped(cut["until"])}'
+                  for cut in self.scenario['cut']]
+        return ''.join(self.item(escaped(it), False) for it in words)
 
 
 def page_of(name, release, style, scenario, rows):

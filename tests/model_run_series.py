@@ -15,10 +15,10 @@ class Story:
 
     def __init__(self):
         self.came, self.went = ({what: Counter() for what in (SUSPECT, CONFIRM)} for _ in range(2))
-        self.refuted, self.taken_back = Counter(), Counter()
+        self.refuted, self.recovered = Counter(), Counter()
         self.first_confirm = self.last_refute = None
-        self.wrongly_by = self.failed_probes = 0
-        # when each member first suspected it, and first held it dead, since its crash
+        self.false_deaths = self.failed_probes = 0
+        # when each member first suspected it, and first declared it dead, since its crash
         self.learned = {SUSPECT: {}, CONFIRM: {}}
 
 
@@ -32,14 +32,15 @@ class Series:
         self.width = (self.end + MOST_SPANS) // MOST_SPANS
         self.spans = range(self.end // self.width + 1)
         self.stories = [Story() for _ in self.names]
-        self.crash, self.leave = ({self.numbers[entry['member']]: entry['at'] for entry in scenario[what]}
+        # what comes after the end never happens
+        self.crash, self.leave = ({self.numbers[entry['member']]: entry['at'] for entry in scenario[what] if entry['at'] <= self.end}
                                   for what in ('crash', 'leave'))
-        crashed = sorted(member for member, at in self.crash.items() if at <= self.end)
+        crashed = sorted(self.crash)
         self.watched, self.unwatched = crashed[:MOST_WATCHED], crashed[MOST_WATCHED:]
         self.kinds = messages_of(scenario['version'])
         self.sent, self.lost = ({kind: Counter() for kind in self.kinds} for _ in range(2))
         self.better, self.worse = (defaultdict(Counter) for _ in range(2))
-        self.false_suspicions = len(false_rows(scenario, rows, SUSPECT)[0])
+        self.false_suspicions, self.false_deaths = (len(false_rows(scenario, rows, what)[0]) for what in (SUSPECT, CONFIRM))
         self.told = Counter(row.what for row in rows)
         self.worst_health = max((row.value for row in rows if row.what == 'health'), default=0)
         self.found = {}
@@ -72,7 +73,7 @@ class Series:
     def count_claim(self, row, span, states):
         """Counts what a member holds another for, where that changes."""
         story, before = self.stories[row.about], states.get((row.member, row.about), ALIVE)
-        story.taken_back[span] += row.what == ALIVE and before == CONFIRM
+        story.recovered[span] += row.what == ALIVE and before == CONFIRM
         if row.what != before:
             states[row.member, row.about] = row.what
             if row.what != ALIVE:
@@ -87,22 +88,22 @@ class Series:
             story.learned[row.what].setdefault(row.member, row.moment - self.crash[row.about])
         if row.what == CONFIRM:
             story.first_confirm = story.first_confirm or (row.moment, row.member, place + 2)
-            story.wrongly_by += row.about not in departed
+            story.false_deaths += row.about not in departed
             if row.about in departed and row.about in self.crash:
                 self.found.setdefault(row.about, row.moment - self.crash[row.about])
 
     def heights(self, came, went, most):
-        """How many are in a state in each span: the more of those at its two ends, or who came where there are none at both."""
+        """How many are in a state in each span: the more of those at its two ends, or, where there are none at both, 1 where one came."""
         heights, before = [], 0
         for span in self.spans:
             after = before + came[span] - went[span]
-            heights.append(min(most, max(before, after) or came[span]))
+            heights.append(min(most, max(before, after) or min(1, came[span])))
             before = after
         return heights
 
     def stays(self, member):
         """Whether a member neither crashes nor leaves by the end."""
-        return min(self.crash.get(member, self.end + 1), self.leave.get(member, self.end + 1)) > self.end
+        return member not in self.crash and member not in self.leave
 
     def those(self, what, member):
         """The entries of a list of the scenario that are about a member."""
@@ -113,13 +114,12 @@ class Series:
         return [cut for cut in self.scenario['cut'] if group in (cut['from'], cut['to'])]
 
     def lanes(self):
-        """The members that have a lane, in their order: those first that most hold dead wrongly, then who departs first, then of whom
+        """The members that have a lane, in their order: those first with the most false deaths, then who departs first, then of whom
         there are most claims."""
         lanes = []
         for member, story in enumerate(self.stories):
             claims = sum(count for what in (SUSPECT, CONFIRM) for count in story.came[what].values())
             moment = self.crash.get(member, self.leave.get(member))
-            departs = moment is not None and moment <= self.end
-            if claims or departs or self.those('slow', member) or self.those('pause', member):
-                lanes.append((-story.wrongly_by, moment if departs else 2**64, -claims, member))
+            if claims or moment is not None or self.those('slow', member) or self.those('pause', member):
+                lanes.append((-story.false_deaths, 2**64 if moment is None else moment, -claims, member))
         return [member for *_, member in sorted(lanes)]

@@ -45,6 +45,7 @@ fn kind_label(alloc: Global, key: FormatKey) -> Result<String, AllocError> {
 
 /// What to write in place of a string.
 fn text_label(alloc: Global, row: KeyRule, text: &str) -> Result<String, AllocError> {
+    let text = text.trim();
     if is_whole(text) {
         return format!(in alloc; "write {text}, without quotes");
     }
@@ -76,7 +77,7 @@ fn is_time(key: FormatKey) -> bool {
 
 /// What to write in place of a share of all messages, as `0.02` or `2%`.
 fn share_label(alloc: Global, text: &str) -> Result<String, AllocError> {
-    match lost_of_million(text.trim()) {
+    match lost_of_million(text) {
         Some(lost) => format!(in alloc; "write {lost} (lost messages in a million)"),
         None => String::from_str(alloc, LOSS),
     }

@@ -7,9 +7,9 @@ abbrev pub level : (ℕ → ℕ) → (ℕ → ℕ) → ℕ → ℕ → ℕ
 level came went first zero = first
 level came went first (suc span) = level came went first span + came span - went span
 
--- what is shown of a span: the greater of the numbers at its ends or, where both are 0, how often members came to the state
+-- what is shown of a span: the greater of the numbers at its ends or, where both are 0, 1 where some member came to the state
 abbrev pub shown : ℕ → ℕ → ℕ → ℕ
-shown before came after = if nat_eq (max before after) 0 then came else max before after
+shown before came after = if nat_eq (max before after) 0 then min came 1 else max before after
 
 -- how high a span is drawn, where nothing is higher than `most`
 abbrev pub height : (ℕ → ℕ) → (ℕ → ℕ) → ℕ → ℕ → ℕ → ℕ

@@ -10,6 +10,7 @@ use Rattle.drawing.specs.Legends.{entry}
 use Rattle.drawing.specs.Shapes.{figure_opening, figure_end}
 use Rattle.run_lanes.specs.declared.chosen.Chosen.{Chosen}
 use Rattle.run_lanes.specs.Choice.{times_of}
+use Rattle.run_lanes.specs.Numbers.{by_number}
 use Rattle.run_lanes.specs.Heights.{before}
 use Rattle.run_lanes.specs.Lanes.{lane, held_heights}
 
@@ -20,15 +21,15 @@ entry_where there class words = if there then entry class words else []
 -- what the colours of the lanes stand for, where some member is slow, paused or cut off
 unfoldable pub lane_legend : Bool → Bool → Bool → List ℕ
 lane_legend slow paused cut =
-    entry (codes "suspect") (codes "suspect it") ++ entry (codes "dead") (codes "hold it dead") ++ entry_where slow (codes "slow") (codes "it is slow")
+    entry (codes "suspect") (codes "suspect it") ++ entry (codes "dead") (codes "have declared it dead") ++ entry_where slow (codes "slow") (codes "it is slow")
     ++ entry_where paused (codes "pause") (codes "it is paused") ++ entry_where cut (codes "cut") (codes "it is cut off")
 
 -- what the lanes show
 unfoldable pub lane_words : Setup → List ℕ
 lane_words s =
-    codes "<p class=\"soft\">One lane a member. Its height is all other members: how many of them suspect it, and how many hold it dead.</p><ul class=\"legend\">"
+    codes "<p class=\"soft\">One lane per member. Its height stands for all other members: how many of them suspect it, and how many have declared it dead.</p><ul class=\"legend\">"
     ++ lane_legend (not (nat_eq (length s.slows) 0)) (not (nat_eq (length s.pauses) 0)) (not (nat_eq (length s.cuts) 0))
-    ++ codes "</ul><p class=\"soft\">Upright line: it crashes; dashed: it leaves or starts; dotted: others take it back; dot: it refutes.</p>"
+    ++ codes "</ul><p class=\"soft\">Solid vertical line: the member crashes; dashed: it leaves or starts; dotted: others declare it alive again; dot: it refutes a claim.</p>"
 
 -- the axis of time
 abbrev pub time_axis : Setup → List ℕ
@@ -38,11 +39,14 @@ time_axis s = axis_across (max s.end 1) (codes "moment, in ticks")
 unfoldable pub lane_axis : Setup → List ℕ
 lane_axis s = codes "<div class=\"lane\">" ++ time_axis s ++ codes "</div>"
 
--- how many have no lane, where 60 have one
-unfoldable pub lane_rest : ℕ → List ℕ
-lane_rest all = if nat_le all 60 then [] else codes "<p class=\"soft\">" ++ decimal (all - 60) ++ codes " more were suspected by others or depart.</p>"
+-- how many more would have a lane, where 60 have one
+unfoldable pub more_words : ℕ → List ℕ
+more_words more = codes "<p class=\"soft\">" ++ decimal more ++ by_number more (codes " more member isn't shown.</p>") (codes " more members aren't shown.</p>")
 
--- one row of the table: how many suspect a member from a moment on, and how many hold it dead
+abbrev pub lane_rest : ℕ → List ℕ
+lane_rest all = if nat_le all 60 then [] else more_words (all - 60)
+
+-- one row of the table: how many suspect a member from a moment on, and how many have declared it dead
 unfoldable pub table_row : List ℕ → ℕ → ℕ → ℕ → List ℕ
 table_row name from suspected dead =
     codes "<tr><td>" ++ escaped name ++ codes "<td>" ++ decimal from ++ codes "<td>" ++ decimal suspected ++ codes "<td>" ++ decimal dead
@@ -68,7 +72,7 @@ member_rows s rows member =
 -- the lanes of these members as a table
 unfoldable pub lane_table : Setup → List Row → List Chosen → List ℕ
 lane_table s rows lanes =
-    codes "<details><summary>The lanes as a table</summary><div class=\"wide\"><table><tr><th>member<th>from moment<th>suspect it<th>hold it dead</tr>\n"
+    codes "<details><summary>The lanes as a table</summary><div class=\"wide\"><table><tr><th>member<th>from moment<th>suspect it<th>have declared it dead</tr>\n"
     ++ flat_map (λ chosen. member_rows s rows chosen.member) lanes ++ codes "</table></div></details>"
 
 -- one lane
@@ -83,6 +87,6 @@ lanes_of s rows all =
 -- the figure of all that get a lane, in their order
 unfoldable pub lanes_text : Setup → List Row → List Chosen → List ℕ
 lanes_text s rows all =
-    figure_opening (codes "lanes") (codes "Who was suspected, and who was held dead")
-    ++ (if nat_eq (length all) 0 then codes "<p>Nobody was suspected, crashed, left, was slow or paused.</p>" else lanes_of s rows all)
+    figure_opening (codes "lanes") (codes "Who was suspected, and who was declared dead")
+    ++ (if nat_eq (length all) 0 then codes "<p>No member was suspected, crashed, left, was slow or was paused.</p>" else lanes_of s rows all)
     ++ figure_end

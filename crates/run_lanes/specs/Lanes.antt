@@ -11,6 +11,7 @@ use Rattle.reports.specs.Rows.{rows_in_place}
 use Rattle.series.specs.Spans.{span_width, span_count}
 use Rattle.series.specs.Changes.{came, went}
 use Rattle.series.specs.Stories.{claims_of, refutes_in, revives_in}
+use Rattle.series.specs.Watched.{at_by}
 use Rattle.drawing.specs.Shapes.{plot_opening, plot_end, area, band, rule, dot}
 use Rattle.drawing.specs.Escaped.{escaped}
 use Rattle.run_lanes.specs.Told.{story_words}
@@ -55,7 +56,7 @@ abbrev pub held_heights : Setup → List Row → ℕ → ℕ → List ℕ
 held_heights s rows member state =
     heights (λ span. came state span (claims_of s member rows)) (λ span. went state span (claims_of s member rows)) (span_count s) 0 (others s)
 
--- two areas: how many hold the member dead and, on top of that, how many suspect it
+-- two areas: how many have declared the member dead and, on top of that, how many suspect it
 abbrev pub stacked_areas : Setup → List ℕ → List ℕ → List ℕ
 stacked_areas s dead suspected =
     area (codes "suspect") dead (stacked dead suspected (others s)) (span_width s) (moments s) (others s)
@@ -69,9 +70,9 @@ areas s rows member = stacked_areas s (held_heights s rows member 2) (held_heigh
 abbrev pub start_rule : Setup → ℕ → List ℕ
 start_rule s at = if nat_lt 0 at && nat_le at s.end then rule (codes "start") at (others s) else []
 
--- it crashes or leaves, which is drawn at the end where it is later
+-- it crashes or leaves, where it does by the end
 abbrev pub departure_rule : List ℕ → Setup → Option ℕ → List ℕ
-departure_rule class s at = option_map_or (λ moment. rule class (min moment s.end) (others s)) at []
+departure_rule class s at = option_map_or (λ moment. rule class moment (others s)) (at_by s.end at) []
 
 -- the middle of a span
 abbrev pub middle : Setup → ℕ → ℕ
@@ -81,7 +82,7 @@ middle s span = span * span_width s + span_width s / 2
 abbrev pub refute_dot : Setup → List Row → ℕ → ℕ → List ℕ
 refute_dot s rows member span = if nat_lt 0 (count_by (refutes_in s member span) rows) then dot (codes "refute") (middle s span) (others s) else []
 
--- in this span others took it for alive again
+-- in this span others declared it alive again
 abbrev pub back_rule : Setup → List Row → ℕ → ℕ → List ℕ
 back_rule s rows member span = if nat_lt 0 (count_by (revives_in s member span) (rows_in_place rows)) then rule (codes "back") (middle s span) (others s) else []
 
@@ -93,7 +94,7 @@ marks s rows member =
 
 -- what a screen reader is told of a lane
 abbrev pub lane_description : List ℕ
-lane_description = codes "Over time, how many other members suspect it and how many hold it dead."
+lane_description = codes "Over time, how many other members suspect it and how many have declared it dead."
 
 -- the lane of a member of that name begins
 unfoldable pub lane_opening : Setup → List ℕ → List ℕ
@@ -104,7 +105,7 @@ lane_opening s name =
 unfoldable pub lane_plot : Setup → List Row → ℕ → List ℕ
 lane_plot s rows member = lane_opening s (name_of s member) ++ bands s member ++ areas s rows member ++ marks s rows member ++ plot_end
 
--- the lane of a member that was thrown out so often
+-- the lane of a member with so many false deaths
 unfoldable pub lane : Setup → List Row → ℕ → ℕ → List ℕ
 lane s rows member wrongly =
     lane_plot s rows member

@@ -1,4 +1,5 @@
 pub mod Run
+pub mod Numbers
 pub mod Wrongly
 pub mod Heights
 pub mod Choice

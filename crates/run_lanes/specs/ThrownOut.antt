@@ -1,4 +1,4 @@
--- Who was confirmed to have failed though it was up.
+-- False deaths: who declared members dead that were up.
 use Rattle.std.specs.Prelude.{ℕ, Bool, ◌&&◌, nat_lt, nat_le, if◌then◌else◌, Option, Some, None, List, ◌++◌, [], codes, decimal, count_by, nat_eq, flat_map, take, min}
 use Rattle.std.specs.List.{list_any}
 use Rattle.scenario.specs.Setup.{Setup, name_of, group_at, extra_of, awake}
@@ -33,7 +33,7 @@ is_cut_then group at cut = is_cut_of group cut && (nat_le cut.at at && nat_lt at
 abbrev pub is_cut_off : List Cut → ℕ → ℕ → Bool
 is_cut_off cuts group at = list_any (is_cut_then group at) cuts
 
--- what the member was when it was first held dead
+-- what the member was when it was first declared dead
 abbrev pub condition_of : Setup → ℕ → Option Line → List ℕ
 condition_of s member None = codes ""
 condition_of s member (Some line) =
@@ -45,7 +45,7 @@ condition_of s member (Some line) =
 abbrev pub cell : ℕ → List ℕ
 cell number = codes "<td>" ++ grouped number
 
--- the first cells of a row: of whom it is, and who first held it dead
+-- the first cells of a row: of whom it is, and who first declared it dead
 unfoldable pub first_cells : Setup → ℕ → Option Line → List ℕ
 first_cells s member first = codes "<tr><td>" ++ escaped (name_of s member) ++ claim_cells s first
 
@@ -53,7 +53,7 @@ first_cells s member first = codes "<tr><td>" ++ escaped (name_of s member) ++ c
 abbrev pub condition_cell : Setup → ℕ → Option Line → List ℕ
 condition_cell s member first = codes "<td>" ++ condition_of s member first
 
--- the row of a member that was thrown out so often
+-- the row of a member with so many false deaths
 unfoldable pub row : Setup → List Row → ℕ → ℕ → List ℕ
 row s rows member times =
     first_cells s member (first_confirm rows member) ++ cell times ++ cell (times_back s rows member)
@@ -66,17 +66,17 @@ row_of s rows chosen = row s rows chosen.member (times_of chosen)
 
 -- what the columns are
 unfoldable pub columns : List ℕ
-columns = codes "<div class=\"wide\"><table><tr><th>member<th>first held dead<th>by<th>line of the trace<th>times<th>taken back<th>then it was<th>probes of it that failed<th>last refuted<th>line</tr>\n"
+columns = codes "<div class=\"wide\"><table><tr><th>member<th>first declared dead<th>by<th>line of the trace<th>false deaths<th>declared alive again<th>its state then<th>failed probes of it<th>last refutation<th>line of the trace</tr>\n"
 
 -- the table of these
 unfoldable pub thrown_out_figure : Setup → List Row → List Chosen → List ℕ
 thrown_out_figure s rows lanes =
-    figure_opening (codes "thrown-out") (codes "Thrown out though up") ++ columns ++ flat_map (row_of s rows) lanes ++ codes "</table></div>" ++ figure_end
+    figure_opening (codes "false-deaths") (codes "False deaths") ++ columns ++ flat_map (row_of s rows) lanes ++ codes "</table></div>" ++ figure_end
 
--- a member with a lane was thrown out
+-- a member with a lane has a false death
 abbrev pub is_out : Chosen → Bool
 is_out chosen = nat_lt 0 (times_of chosen)
 
--- the table of those of all with a lane that were thrown out, which come first: 200 of them at most, and nothing where there are none
+-- the table of those of all with a lane that have a false death, which come first: 200 of them at most, and nothing where there are none
 abbrev pub thrown_out_text : Setup → List Row → List Chosen → List ℕ
 thrown_out_text s rows all = if nat_eq (count_by is_out all) 0 then [] else thrown_out_figure s rows (take (min (count_by is_out all) 200) all)

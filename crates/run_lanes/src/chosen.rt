@@ -12,7 +12,7 @@ pub(crate) fn first_of(lanes: &[Chosen], most: usize) -> &[Chosen]
     &lanes[..most.min(lanes.len())]
 }
 
-/// A member that gets a lane. Those come first that most members held dead wrongly, then those that
+/// A member that gets a lane. Those come first that have the most false deaths, then those that
 /// depart, in the order in which they do, then those that were suspected most often.
 #[derive(Clone, Copy, Debug, PartialEq, Eq, PartialOrd, Ord)]
 pub struct Chosen {

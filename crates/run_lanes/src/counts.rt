@@ -10,7 +10,7 @@ use series::Flows;
 use std::alloc::Global;
 
 /// How many members are in a state in each of so many spans, where so many are at first: the most at
-/// the span's ends, or, where nobody is then, how often members came to it. None is more than `most`.
+/// the span's ends, or, where nobody is then, 1 where some member came to it. None is more than `most`.
 pub fn heights(
     alloc: Global,
     flows: &Flows,
@@ -49,7 +49,7 @@ fn shown(before: u128, came: u64, after: u128, most: u64) -> u64
 {
     let ends = before.max(after);
     if ends == 0 {
-        return came.min(most);
+        return came.min(1).min(most);
     }
     ends.min(u128::from(most)) as u64
 }

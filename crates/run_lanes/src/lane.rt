@@ -16,7 +16,7 @@ use drawing::{close_plot, open_plot, push_area, push_band, push_dot, push_escape
 use scenario::{Cut, Pause, Slow};
 use std::alloc::{AllocError, Global};
 
-/// Appends the lane of a member that was thrown out so often.
+/// Appends the lane of a member with so many false deaths.
 #[tactic(auto, unfolding(crate::specs::Lanes::lane))]
 pub(crate) fn push_lane(
     alloc: Global,
@@ -85,7 +85,7 @@ fn open_lane_plot(text: &mut String, run: &Run, name: &str) -> Result<(), AllocE
         run.end() + 1,
         run.others(),
         name,
-        "Over time, how many other members suspect it and how many hold it dead.",
+        "Over time, how many other members suspect it and how many have declared it dead.",
     )
 }
 
@@ -215,7 +215,7 @@ fn push_time(
     )
 }
 
-/// Appends how many hold the member dead and, on top of that, how many suspect it.
+/// Appends how many have declared the member dead and, on top of that, how many suspect it.
 #[tactic(auto, unfolding(crate::specs::Lanes::areas))]
 fn push_areas(alloc: Global, text: &mut String, run: &Run, member: MemberId) -> Result<(), Memory>
     requires told { IsTold run.now }
@@ -281,7 +281,7 @@ fn push_start(text: &mut String, run: &Run, at: Moment) -> Result<(), AllocError
     Ok(())
 }
 
-/// Appends that a member departs, where it does.
+/// Appends that a member departs, where it does by the end.
 fn push_departure(
     text: &mut String,
     run: &Run,
@@ -291,13 +291,13 @@ fn push_departure(
     requires { IsTold run.now }
     ensures { OnOk result (string_bytes text.new ≡ string_bytes text.old ++ departure_rule class.now run.now.scenario.now at) }
 {
-    match at {
-        Some(at) => push_rule(text, class, at.ticks().min(run.end()), run.others()),
+    match run.by_end(at) {
+        Some(at) => push_rule(text, class, at.ticks(), run.others()),
         None => Ok(()),
     }
 }
 
-/// Appends when others took the member for alive again.
+/// Appends when others declared the member alive again.
 #[tactic(auto, using(crate::proofs::Steps::each_more))]
 fn push_backs(text: &mut String, run: &Run, member: MemberId) -> Result<(), AllocError>
     requires told { IsTold run.now }

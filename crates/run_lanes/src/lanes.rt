@@ -3,11 +3,12 @@ ghost use Rattle.std.specs.Prelude.{◌≡◌, ◌<◌, ◌≤◌, ◌^◌, ◌+
 ghost use Rattle.std.specs.String.{string_bytes};
 ghost use Rattle.scenario.specs.Setup.{member_count};
 ghost use Rattle.run_lanes.specs.Run.{IsTold};
-ghost use Rattle.run_lanes.specs.LaneTable.{entry_where, lane_legend, lane_words, time_axis, lane_axis, lane_rest, table_row, span_row, span_rows, member_rows, lane_table, lane_at, lanes_of, lanes_text};
+ghost use Rattle.run_lanes.specs.LaneTable.{entry_where, lane_legend, lane_words, time_axis, lane_axis, more_words, lane_rest, table_row, span_row, span_rows, member_rows, lane_table, lane_at, lanes_of, lanes_text};
 
 use crate::chosen::{Chosen, first_of};
 use crate::counts::before;
 use crate::lane::push_lane;
+use crate::numbers::by_number;
 use crate::run::Run;
 use base::{MemberId, Memory};
 use drawing::{close_figure, open_figure, push_across, push_entry, push_escaped};
@@ -23,7 +24,11 @@ pub fn push_lanes(alloc: Global, text: &mut String, run: &Run, all: &[Chosen]) -
     requires within { All (λ lane. lane.member < member_count run.now.scenario.now) all.now }
     ensures { OnOk result (string_bytes text.new ≡ string_bytes text.old ++ lanes_text run.now.scenario.now run.now.tallies.now all.now) }
 {
-    open_figure(text, "lanes", "Who was suspected, and who was held dead")?;
+    open_figure(
+        text,
+        "lanes",
+        "Who was suspected, and who was declared dead",
+    )?;
     push_body(alloc, text, run, all)?;
     close_figure(text)?;
     Ok(())
@@ -34,10 +39,10 @@ fn push_body(alloc: Global, text: &mut String, run: &Run, all: &[Chosen]) -> Res
     requires told { IsTold run.now }
     requires within { All (λ lane. lane.member < member_count run.now.scenario.now) all.now }
     ensures { OnOk result (string_bytes text.new ≡ string_bytes text.old
-        ++ (if nat_eq (length all.now) 0 then codes "<p>Nobody was suspected, crashed, left, was slow or paused.</p>" else lanes_of run.now.scenario.now run.now.tallies.now all.now)) }
+        ++ (if nat_eq (length all.now) 0 then codes "<p>No member was suspected, crashed, left, was slow or was paused.</p>" else lanes_of run.now.scenario.now run.now.tallies.now all.now)) }
 {
     if all.is_empty() {
-        text.push_str("<p>Nobody was suspected, crashed, left, was slow or paused.</p>")?;
+        text.push_str("<p>No member was suspected, crashed, left, was slow or was paused.</p>")?;
         return Ok(());
     }
     push_all(alloc, text, run, all)
@@ -75,11 +80,11 @@ fn push_words(text: &mut String, run: &Run) -> Result<(), AllocError>
     ensures { OnOk result (string_bytes text.new ≡ string_bytes text.old ++ lane_words run.now.scenario.now) }
 {
     text.push_str(
-        "<p class=\"soft\">One lane a member. Its height is all other members: how many of them suspect it, and how many hold it dead.</p><ul class=\"legend\">",
+        "<p class=\"soft\">One lane per member. Its height stands for all other members: how many of them suspect it, and how many have declared it dead.</p><ul class=\"legend\">",
     )?;
     push_legend_of(text, run)?;
     text.push_str(
-        "</ul><p class=\"soft\">Upright line: it crashes; dashed: it leaves or starts; dotted: others take it back; dot: it refutes.</p>",
+        "</ul><p class=\"soft\">Solid vertical line: the member crashes; dashed: it leaves or starts; dotted: others declare it alive again; dot: it refutes a claim.</p>",
     )?;
     Ok(())
 }
@@ -106,10 +111,11 @@ fn push_legend(
     ensures { OnOk result (string_bytes text.new ≡ string_bytes text.old ++ lane_legend is_slow is_paused is_cut) }
 {
     push_entry(text, "suspect", "suspect it")?;
-    push_entry(text, "dead", "hold it dead")?;
+    push_entry(text, "dead", "have declared it dead")?;
     push_entry_where(text, is_slow, "slow", "it is slow")?;
     push_entry_where(text, is_paused, "pause", "it is paused")?;
-    push_entry_where(text, is_cut, "cut", "it is cut off")
+    push_entry_where(text, is_cut, "cut", "it is cut off")?;
+    Ok(())
 }
 
 /// Appends an entry of a legend, where what it stands for is there.
@@ -127,19 +133,27 @@ fn push_entry_where(
     Ok(())
 }
 
-/// Appends how many members have no lane.
-#[tactic(auto, unfolding(crate::specs::LaneTable::lane_rest))]
+/// Appends how many more members would have a lane.
 fn push_rest(text: &mut String, all: usize) -> Result<(), AllocError>
     ensures { OnOk result (string_bytes text.new ≡ string_bytes text.old ++ lane_rest all) }
 {
     if all <= LANES {
         return Ok(());
     }
-    let more = all - LANES;
-    write!(
-        text,
-        "<p class=\"soft\">{more} more were suspected by others or depart.</p>"
-    )
+    push_more(text, (all - LANES) as u64)
+}
+
+/// Appends that so many more members would have a lane.
+#[tactic(auto, unfolding(crate::specs::LaneTable::more_words))]
+fn push_more(text: &mut String, more: u64) -> Result<(), AllocError>
+    ensures { OnOk result (string_bytes text.new ≡ string_bytes text.old ++ more_words more) }
+{
+    write!(text, "<p class=\"soft\">{more}")?;
+    text.push_str(by_number(
+        more,
+        " more member isn't shown.</p>",
+        " more members aren't shown.</p>",
+    ))
 }
 
 /// Appends the axis below the lanes.
@@ -168,7 +182,7 @@ fn push_table(alloc: Global, text: &mut String, run: &Run, lanes: &[Chosen]) -> 
     ensures { OnOk result (string_bytes text.new ≡ string_bytes text.old ++ lane_table run.now.scenario.now run.now.tallies.now lanes.now) }
 {
     text.push_str(
-        "<details><summary>The lanes as a table</summary><div class=\"wide\"><table><tr><th>member<th>from moment<th>suspect it<th>hold it dead</tr>\n",
+        "<details><summary>The lanes as a table</summary><div class=\"wide\"><table><tr><th>member<th>from moment<th>suspect it<th>have declared it dead</tr>\n",
     )?;
     push_each_rows(alloc, text, run, lanes)?;
     text.push_str("</table></div></details>")?;
@@ -254,7 +268,7 @@ fn push_span(
     push_row(text, name, span as u64 * width, suspected[span], dead[span])
 }
 
-/// Appends one row: how many suspect a member from a moment on, and how many hold it dead.
+/// Appends one row: how many suspect a member from a moment on, and how many have declared it dead.
 #[tactic(auto, unfolding(crate::specs::LaneTable::table_row))]
 fn push_row(
     text: &mut String,

@@ -1,5 +1,5 @@
 //! A run, as its page tells of it, and its figures of members: a lane for each that was accused, and the
-//! table of those that were thrown out though they were up.
+//! table of false deaths.
 #![tactic(auto)]
 
 mod chosen;
@@ -7,6 +7,7 @@ mod claims;
 mod counts;
 mod lane;
 mod lanes;
+mod numbers;
 mod run;
 mod thrown_out;
 mod told;
@@ -15,5 +16,6 @@ pub use chosen::{Chosen, all_chosen};
 pub use claims::claims_by_member;
 pub use counts::{axis_height, before, flat, greatest, heights, stacked};
 pub use lanes::{push_lanes, push_time_axis};
+pub use numbers::by_number;
 pub use run::Run;
 pub use thrown_out::push_thrown_out;

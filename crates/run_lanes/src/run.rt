@@ -3,11 +3,12 @@ ghost use Rattle.std.specs.Prelude.{◌≡◌, ◌+◌, ◌-◌, ◌*◌, ◌/�
 ghost use Rattle.scenario.specs.Setup.{member_count};
 ghost use Rattle.series.specs.Spans.{span_width, span_count};
 ghost use Rattle.series.specs.Stories.{IsStoryOf};
+ghost use Rattle.series.specs.Watched.{at_by};
 ghost use Rattle.run_lanes.specs.Lanes.{held_heights};
 ghost use Rattle.run_lanes.specs.Told.{first_confirm, last_refute};
 
 use crate::counts::heights;
-use base::{MemberId, Memory};
+use base::{MemberId, Memory, Moment};
 use reports::Tallies;
 use scenario::Scenario;
 use series::{Line, Series, Story};
@@ -55,6 +56,16 @@ impl<'a> Run<'a> {
         ensures small { result ≤ 2 ^ 40 }
     {
         self.scenario.end().ticks()
+    }
+
+    /// When something happens, where it does by the end: what comes later never happens.
+    pub(crate) fn by_end(&self, at: Option<Moment>) -> Option<Moment>
+        ensures { result ≡ at_by self.now.scenario.now.end at }
+    {
+        match at {
+            Some(at) if at <= self.scenario.end() => Some(at),
+            _ => None,
+        }
     }
 
     /// How long each span is, in ticks.

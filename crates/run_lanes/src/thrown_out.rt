@@ -1,4 +1,4 @@
-//! Who was confirmed to have failed though it was up.
+//! False deaths: who declared members dead that were up.
 ghost use Rattle.std.specs.Prelude.{◌≡◌, ◌<◌, ◌≤◌, ◌++◌, OnOk, IfSome, All, count_by, flat_map, take, min};
 ghost use Rattle.std.specs.String.{string_bytes};
 ghost use Rattle.scenario.specs.Setup.{Setup, member_count};
@@ -18,7 +18,7 @@ use std::alloc::AllocError;
 /// The most rows of the table.
 const ROWS: usize = 200;
 
-/// Appends the table of those of these members that were thrown out: they come first.
+/// Appends the table of those of these members that have a false death: they come first.
 pub fn push_thrown_out(text: &mut String, run: &Run, all: &[Chosen]) -> Result<(), AllocError>
     requires told { IsTold run.now }
     requires within { All (λ lane. lane.member < member_count run.now.scenario.now) all.now }
@@ -31,7 +31,7 @@ pub fn push_thrown_out(text: &mut String, run: &Run, all: &[Chosen]) -> Result<(
     push_figure(text, run, first_of(all, out.min(ROWS)))
 }
 
-/// How many of these were thrown out.
+/// How many of these have a false death.
 fn count_out(all: &[Chosen]) -> usize
     ensures value { result ≡ count_by is_out all.now }
 {
@@ -45,7 +45,7 @@ fn push_figure(text: &mut String, run: &Run, lanes: &[Chosen]) -> Result<(), All
     requires within { All (λ lane. lane.member < member_count run.now.scenario.now) lanes.now }
     ensures { OnOk result (string_bytes text.new ≡ string_bytes text.old ++ thrown_out_figure run.now.scenario.now run.now.tallies.now lanes.now) }
 {
-    open_figure(text, "thrown-out", "Thrown out though up")?;
+    open_figure(text, "false-deaths", "False deaths")?;
     push_head(text)?;
     push_rows(text, run, lanes)?;
     text.push_str("</table></div>")?;
@@ -59,7 +59,7 @@ fn push_head(text: &mut String) -> Result<(), AllocError>
     ensures { OnOk result (string_bytes text.new ≡ string_bytes text.old ++ columns) }
 {
     text.push_str(
-        "<div class=\"wide\"><table><tr><th>member<th>first held dead<th>by<th>line of the trace<th>times<th>taken back<th>then it was<th>probes of it that failed<th>last refuted<th>line</tr>\n",
+        "<div class=\"wide\"><table><tr><th>member<th>first declared dead<th>by<th>line of the trace<th>false deaths<th>declared alive again<th>its state then<th>failed probes of it<th>last refutation<th>line of the trace</tr>\n",
     )
 }
 
@@ -92,7 +92,7 @@ fn push_row(text: &mut String, run: &Run, member: MemberId, times: u64) -> Resul
     Ok(())
 }
 
-/// Appends the first cells of a row: of whom it is, and who first held it dead.
+/// Appends the first cells of a row: of whom it is, and who first declared it dead.
 #[tactic(auto, unfolding(crate::specs::ThrownOut::first_cells))]
 fn push_first_cells(
     text: &mut String,
@@ -109,7 +109,7 @@ fn push_first_cells(
     push_claim(text, run, first)
 }
 
-/// Appends what the member was when it was first held dead.
+/// Appends what the member was when it was first declared dead.
 fn push_condition(
     text: &mut String,
     run: &Run,
@@ -162,7 +162,7 @@ fn push_refute(text: &mut String, last: Option<Line>) -> Result<(), AllocError>
     write!(text, "<td>{number}")
 }
 
-/// What the member was when it was first held dead.
+/// What the member was when it was first declared dead.
 fn condition_at(run: &Run, member: MemberId, first: Option<Line>) -> &'static str
     requires { member < member_count run.now.scenario.now }
     ensures { result.now ≡ condition_of run.now.scenario.now member first }

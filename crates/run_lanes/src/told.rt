@@ -5,16 +5,19 @@ ghost use Rattle.scenario.specs.Setup.{member_count};
 ghost use Rattle.reports.specs.Rows.{rows_in_place};
 ghost use Rattle.series.specs.Stories.{revives_in};
 ghost use Rattle.drawing.specs.Numbers.{grouped};
+ghost use Rattle.run_lanes.specs.Numbers.{by_number};
 ghost use Rattle.run_lanes.specs.Run.{IsTold};
-ghost use Rattle.run_lanes.specs.Told.{story_words, times_back, out_words, departed_words, from_first, back_words, wrongly_words, departure_words, found_words, unharmed_words};
+ghost use Rattle.series.specs.Watched.{at_by};
+ghost use Rattle.run_lanes.specs.Told.{story_words, times_back, out_words, departed_words, from_first, back_words, again_words, death_words, wrongly_words, departure_words, found_at, found_words, unharmed_words};
 
+use crate::numbers::by_number;
 use crate::run::Run;
 use base::{MemberId, Moment};
 use drawing::push_grouped;
 use series::Line;
 use std::alloc::AllocError;
 
-/// Appends what happened to the member, which was thrown out so often though it was up.
+/// Appends what happened to the member, which has so many false deaths.
 #[tactic(auto, unfolding(crate::specs::Told::story_words))]
 pub(crate) fn push_told(
     text: &mut String,
@@ -33,12 +36,12 @@ pub(crate) fn push_told(
         wrongly > 0,
         run.first_confirm(member),
         run.last_refute(member),
-        run.scenario.crash(member),
-        run.scenario.leave(member),
+        run.by_end(run.scenario.crash(member)),
+        run.by_end(run.scenario.leave(member)),
     )
 }
 
-/// How often others took a member for alive again, as far as 64 bits hold it.
+/// How often others declared a member alive again, as far as 64 bits hold it.
 pub(crate) fn times_back(run: &Run, member: MemberId) -> u64
     requires told { IsTold run.now }
     requires within { member < member_count run.now.scenario.now }
@@ -61,7 +64,7 @@ fn revived_in(run: &Run, member: MemberId, span: usize) -> u64
     run.story(member).revived(span)
 }
 
-/// Appends that the member was thrown out so often, where it was.
+/// Appends the false deaths of a member, where it has some.
 fn push_out(text: &mut String, times: u64, back: u64, first: Option<Line>) -> Result<(), AllocError>
     ensures { OnOk result (string_bytes text.new ≡ string_bytes text.old ++ out_words times back first) }
 {
@@ -71,7 +74,7 @@ fn push_out(text: &mut String, times: u64, back: u64, first: Option<Line>) -> Re
     Ok(())
 }
 
-/// Appends how and when the member departed and when others found that, after other words or alone;
+/// Appends how and when the member departed and when others declared it dead, after other words or alone;
 /// or what became of it where it didn't depart.
 #[tactic(auto, unfolding(crate::specs::Told::departed_words))]
 fn push_departed(
@@ -98,8 +101,8 @@ fn push_departed(
     push_unharmed(text, last)
 }
 
-/// Appends how often the member was held dead though it was up, how often it was taken back, and when
-/// it was first held dead.
+/// Appends how often others declared the member dead while it was up, when they first did, and how
+/// often they declared it alive again.
 #[tactic(auto, unfolding(crate::specs::Told::wrongly_words))]
 fn push_wrongly(
     text: &mut String,
@@ -109,13 +112,23 @@ fn push_wrongly(
 ) -> Result<(), AllocError>
     ensures { OnOk result (string_bytes text.new ≡ string_bytes text.old ++ wrongly_words times back first) }
 {
-    text.push_str("<b>thrown out though up</b> by ")?;
-    push_grouped(text, times)?;
+    push_deaths(text, times)?;
     push_first(text, first)?;
     push_back(text, back)
 }
 
-/// Appends when the member was first held dead, where it was.
+/// Appends how many false deaths a member has.
+#[tactic(auto, unfolding(crate::specs::Told::death_words))]
+fn push_deaths(text: &mut String, times: u64) -> Result<(), AllocError>
+    ensures { OnOk result (string_bytes text.new ≡ string_bytes text.old ++ death_words times) }
+{
+    text.push_str("<b>")?;
+    push_grouped(text, times)?;
+    text.push_str(by_number(times, " false death</b>", " false deaths</b>"))?;
+    Ok(())
+}
+
+/// Appends when the member was first declared dead, where it was.
 fn push_first(text: &mut String, first: Option<Line>) -> Result<(), AllocError>
     ensures { OnOk result (string_bytes text.new ≡ string_bytes text.old ++ from_first (codes ", first at ") first) }
 {
@@ -128,7 +141,7 @@ fn push_first(text: &mut String, first: Option<Line>) -> Result<(), AllocError>
     }
 }
 
-/// Appends how often the member was taken back, where it was.
+/// Appends how often the member was declared alive again, where it was.
 fn push_back(text: &mut String, times: u64) -> Result<(), AllocError>
     ensures { OnOk result (string_bytes text.new ≡ string_bytes text.old ++ back_words times) }
 {
@@ -138,12 +151,14 @@ fn push_back(text: &mut String, times: u64) -> Result<(), AllocError>
     Ok(())
 }
 
-/// Appends that the member was taken back so often.
+/// Appends that the member was declared alive again so often.
+#[tactic(auto, unfolding(crate::specs::Told::again_words))]
 fn push_times_back(text: &mut String, times: u64) -> Result<(), AllocError>
-    ensures { OnOk result (string_bytes text.new ≡ string_bytes text.old ++ (codes ", taken back by " ++ grouped times)) }
+    ensures { OnOk result (string_bytes text.new ≡ string_bytes text.old ++ again_words times) }
 {
-    text.push_str(", taken back by ")?;
+    text.push_str(", declared alive again ")?;
     push_grouped(text, times)?;
+    text.push_str(by_number(times, " time", " times"))?;
     Ok(())
 }
 
@@ -164,27 +179,33 @@ fn push_departure(
     push_grouped(text, at.ticks())
 }
 
-/// Appends when others found a crash or a leave.
-#[tactic(auto, unfolding(crate::specs::Told::found_words))]
+/// Appends when others first declared a member dead that crashed or left.
 fn push_found(text: &mut String, first: Option<Line>) -> Result<(), AllocError>
     ensures { OnOk result (string_bytes text.new ≡ string_bytes text.old ++ found_words first) }
 {
     match first {
-        Some(line) => {
-            text.push_str(", held dead from ")?;
-            push_grouped(text, line.at.ticks())
-        }
-        None => text.push_str(", found by nobody"),
+        Some(line) => push_found_at(text, line.at.ticks()),
+        None => text.push_str(", never declared dead"),
     }
 }
 
-/// Appends what became of a member that neither departed nor was thrown out.
+/// Appends that others first declared it dead then.
+#[tactic(auto, unfolding(crate::specs::Told::found_at))]
+fn push_found_at(text: &mut String, at: u64) -> Result<(), AllocError>
+    ensures { OnOk result (string_bytes text.new ≡ string_bytes text.old ++ found_at at) }
+{
+    text.push_str(", first declared dead at ")?;
+    push_grouped(text, at)?;
+    Ok(())
+}
+
+/// Appends what became of a member that neither departed nor has a false death.
 #[tactic(auto, unfolding(crate::specs::Told::unharmed_words))]
 fn push_unharmed(text: &mut String, last: Option<Line>) -> Result<(), AllocError>
     ensures { OnOk result (string_bytes text.new ≡ string_bytes text.old ++ unharmed_words last) }
 {
     match last {
         Some(_) => text.push_str("suspected, and refuted it"),
-        None => text.push_str("never held dead"),
+        None => text.push_str("never declared dead"),
     }
 }

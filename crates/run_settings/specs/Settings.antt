@@ -1,6 +1,5 @@
 -- What was run: the scenario's numbers and switches, those that aren't as where their keys are missing in bold.
-use Rattle.std.specs.Prelude.{ℕ, Bool, false, not, ◌&&◌, nat_lt, nat_eq, if◌then◌else◌, Option, Some, None, List, [], ◌++◌, codes, flat_map, slice_get}
-use Rattle.std.specs.Option.{option_map_or}
+use Rattle.std.specs.Prelude.{ℕ, Bool, false, not, ◌&&◌, nat_lt, nat_eq, if◌then◌else◌, Option, Some, None, List, [], ◌++◌, codes, flat_map}
 use Rattle.schema.specs.Schema.{key_rules_of, spelling_of}
 use Rattle.schema.specs.declared.schema.Version.{Version}
 use Rattle.schema.specs.declared.schema.Version.TheVariants.{One, Two, Three}
@@ -22,6 +21,7 @@ use Rattle.scenario.specs.declared.settings.Stream.{Stream}
 use Rattle.drawing.specs.Escaped.{escaped}
 use Rattle.drawing.specs.Numbers.{grouped}
 use Rattle.drawing.specs.Shapes.{figure_opening, figure_end}
+use Rattle.run_settings.specs.Events.{group_name, events}
 
 -- an entry begins; one that isn't as where its key is missing stands out
 abbrev pub chip_opening : Bool → List ℕ
@@ -142,10 +142,6 @@ start_words at = if nat_lt 0 at then codes ", start " ++ grouped at else []
 unfoldable pub group_entry : Group → List ℕ
 group_entry g = chip_opening (nat_lt 0 g.start) ++ codes "group " ++ escaped g.name ++ codes ": count " ++ grouped g.count ++ start_words g.start ++ codes "</li>"
 
--- the name of the group of a number
-abbrev pub group_name : List Group → ℕ → List ℕ
-group_name groups number = option_map_or (λ g. g.name) (slice_get groups number) []
-
 -- the link isn't the one of all pairs
 abbrev pub is_other_link : Link → Link → Bool
 is_other_link link usual = not (nat_eq link.delay usual.delay && (nat_eq link.jitter usual.jitter && nat_eq link.loss usual.loss))
@@ -170,12 +166,16 @@ unfoldable pub top_entries : Setup → List ℕ
 top_entries s =
     chip (codes "") (codes "version") (version_number s.version) None ++ chip (codes "") (codes "seed") s.seed None ++ chip (codes "") (codes "end") s.end None
 
--- the keys of all tables, groups and paths
+-- the paths, and what the scenario has happen
+unfoldable pub last_entries : Setup → List ℕ
+last_entries s = flat_map (path_entry s) s.paths ++ events s
+
+-- the keys of all tables, groups and paths, and what the scenario has happen
 unfoldable pub entries : Setup → List ℕ
 entries s =
     top_entries s ++ section_entries s (codes "swim.") section.Swim ++ section_entries s (codes "suspicion.") section.Suspicion
     ++ section_entries s (codes "lifeguard.") section.Lifeguard ++ section_entries s (codes "link.") section.Link
-    ++ third_entries s s.version ++ flat_map group_entry s.groups ++ flat_map (path_entry s) s.paths
+    ++ third_entries s s.version ++ flat_map group_entry s.groups ++ last_entries s
 
 -- the figure, and which program ran it
 unfoldable pub settings_text : Setup → List ℕ → List ℕ

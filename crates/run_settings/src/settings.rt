@@ -3,8 +3,10 @@ ghost use Rattle.std.specs.Prelude.{◌≡◌, ◌++◌, OnOk, flat_map, map};
 ghost use Rattle.std.specs.String.{string_bytes};
 ghost use Rattle.schema.specs.Schema.{spelling_of};
 ghost use Rattle.scenario.specs.SetupOf.{group_of};
-ghost use Rattle.run_settings.specs.Settings.{chip_opening, is_changed, chip, switch, default_of, is_switched, entry_of, key_entry, section_entries, gossip_entries, third_entries, group_entry, start_words, group_name, path_entry, is_other_link, link_words, version_number, top_entries, entries, settings_text};
+ghost use Rattle.run_settings.specs.Events.{group_name};
+ghost use Rattle.run_settings.specs.Settings.{chip_opening, is_changed, chip, switch, default_of, is_switched, entry_of, key_entry, section_entries, gossip_entries, third_entries, group_entry, start_words, path_entry, is_other_link, link_words, version_number, top_entries, last_entries, entries, settings_text};
 
+use crate::events::push_events;
 use crate::values::{switch_of, value_of};
 use drawing::{close_figure, open_figure, push_escaped, push_grouped};
 use scenario::{Group, Link, Path, Scenario, Version};
@@ -30,7 +32,7 @@ pub fn push_settings(
     Ok(())
 }
 
-/// Appends the keys of all tables, groups and paths.
+/// Appends the keys of all tables, groups and paths, and what the scenario has happen.
 #[tactic(auto, unfolding(crate::specs::Settings::entries))]
 fn push_entries(text: &mut String, scenario: &Scenario) -> Result<(), AllocError>
     ensures { OnOk result (string_bytes text.new ≡ string_bytes text.old ++ entries scenario.now) }
@@ -42,7 +44,16 @@ fn push_entries(text: &mut String, scenario: &Scenario) -> Result<(), AllocError
     push_section(text, scenario, "link.", Section::Link)?;
     push_third(text, scenario)?;
     push_groups(text, scenario.groups())?;
-    push_paths(text, scenario, scenario.paths())
+    push_last(text, scenario)
+}
+
+/// Appends the paths, and what the scenario has happen.
+#[tactic(auto, unfolding(crate::specs::Settings::last_entries))]
+fn push_last(text: &mut String, scenario: &Scenario) -> Result<(), AllocError>
+    ensures { OnOk result (string_bytes text.new ≡ string_bytes text.old ++ last_entries scenario.now) }
+{
+    push_paths(text, scenario, scenario.paths())?;
+    push_events(text, scenario)
 }
 
 /// Appends the keys that stand above all tables.
@@ -305,7 +316,7 @@ fn push_path(text: &mut String, scenario: &Scenario, path: &Path) -> Result<(), 
 }
 
 /// The name of the group of a number.
-fn group_name(groups: &[Group], number: usize) -> &str
+pub(crate) fn group_name(groups: &[Group], number: usize) -> &str
     ensures { result.now ≡ group_name (map group_of groups.now) number }
 {
     match groups.get(number) {

@@ -1,5 +1,5 @@
 -- How the news of crashes spread: for each crash that is watched, how many of those who stay had suspected the member, and
--- how many held it dead, by the time since it crashed.
+-- how many declared it dead, by the time since it crashed.
 use Rattle.std.specs.Prelude.{ℕ, Bool, ◌+◌, ◌-◌, ◌/◌, ◌&&◌, not, nat_lt, nat_le, nat_eq, if◌then◌else◌, Option, Some, None, List, [], ◌++◌, codes, decimal, map, flat_map, filter_map, count_by, max, option_map, unwrap_or, slice_index_or}
 use Rattle.std.specs.List.{range_with_len, fold}
 use Rattle.std.specs.Option.{is_some, option_map_or}
@@ -51,7 +51,7 @@ greatest_of_all s number = fold (λ most member. max most (number member)) 0 (ra
 abbrev pub last_learned : Setup → (ℕ → Option ℕ) → ℕ
 last_learned s learned = greatest_of_all s (λ member. unwrap_or (learned member) 0)
 
--- how long after a member's crash the last other one suspected it or held it dead, where the crash is watched
+-- how long after a member's crash the last other one suspected it or declared it dead, where the crash is watched
 abbrev pub last_told : Setup → List Row → ℕ → ℕ → ℕ
 last_told s rows subject from = max (last_learned s (told_after rows what.Suspect subject from)) (last_learned s (told_after rows what.Confirm subject from))
 
@@ -88,9 +88,9 @@ shares staying times =
 unfoldable pub chart_opening : List ℕ → ℕ → ℕ → List ℕ
 chart_opening name width most =
     codes "<div class=\"chart\">" ++ axis_up most
-    ++ plot_opening (codes "") width most name (codes "How many members had suspected it, and how many held it dead, by the time since its crash.")
+    ++ plot_opening (codes "") width most name (codes "How many members had suspected it, and how many had declared it dead, by the time since its crash.")
 
--- how many had suspected the member, and how many held it dead, by the end of each step, in such a plot
+-- how many had suspected the member, and how many declared it dead, by the end of each step, in such a plot
 unfoldable pub spread_chart : List ℕ → ℕ → ℕ → ℕ → List ℕ → List ℕ → List ℕ
 spread_chart name width most step suspected dead =
     chart_opening name width most ++ line (codes "suspect") suspected step most ++ line (codes "dead") dead step most
@@ -108,11 +108,11 @@ share_cells shares = time_cell shares.first ++ time_cell shares.half ++ time_cel
 unfoldable pub share_row : List ℕ → ShareTimes → List ℕ
 share_row words shares = codes "<tr><td>" ++ words ++ share_cells shares
 
--- after which times shares of those who stay had suspected the member, and held it dead
+-- after which times shares of those who stay had suspected the member, and declared it dead
 unfoldable pub share_table : ShareTimes → ShareTimes → List ℕ
 share_table suspected dead =
     codes "<div class=\"wide\"><table><tr><th>of those up<th>first" ++ codes "<th>50 %<th>90 %<th>99 %<th>all</tr>"
-    ++ share_row (codes "suspected it after") suspected ++ share_row (codes "held it dead after") dead ++ codes "</table></div>"
+    ++ share_row (codes "suspected it after") suspected ++ share_row (codes "declared it dead after") dead ++ codes "</table></div>"
 
 -- what is shown of the crash of a member of that name, where so many stay
 unfoldable pub crash_part : List ℕ → ℕ → ℕ → List ℕ → ShareTimes → List ℕ → ShareTimes → List ℕ
@@ -121,7 +121,7 @@ crash_part name staying step suspected suspecting dead confirming =
     ++ spread_chart name (axis_height (step_start step 120)) (axis_height staying) step suspected dead
     ++ share_table suspecting confirming ++ codes "</div>\n"
 
--- the same by when members suspected it and when they held it dead
+-- the same by when members suspected it and when they declared it dead
 abbrev pub crash_text : Setup → List ℕ → ℕ → (ℕ → Option ℕ) → (ℕ → Option ℕ) → List ℕ
 crash_text s name step suspected dead =
     crash_part name (staying s) step (reached (times s suspected) step) (shares (staying s) (times s suspected)) (reached (times s dead) step) (shares (staying s) (times s dead))
@@ -133,9 +133,11 @@ told_crash s rows step member from = crash_text s (name_of s member) step (told_
 abbrev pub watched_crash : Setup → List Row → ℕ → ℕ → List ℕ
 watched_crash s rows step member = option_map_or (told_crash s rows step member) (watched s member) []
 
--- what the colours stand for
+-- what the colours stand for, and what is counted
 unfoldable pub spread_legend : List ℕ
-spread_legend = codes "<ul class=\"legend\">" ++ entry (codes "suspect") (codes "have suspected it") ++ entry (codes "dead") (codes "hold it dead") ++ codes "</ul>"
+spread_legend =
+    codes "<ul class=\"legend\">" ++ entry (codes "suspect") (codes "have suspected it") ++ entry (codes "dead") (codes "have declared it dead")
+    ++ codes "</ul><p class=\"soft\">Only claims from the moment of the crash on are counted: a member that had declared it dead before isn't.</p>"
 
 -- how many crashes aren't watched, where there are more than 12
 unfoldable pub unwatched_words : ℕ → List ℕ

@@ -50,15 +50,17 @@ fn push_figure(alloc: Global, text: &mut String, run: &Run, step: u64) -> Result
     Ok(())
 }
 
-/// Appends what the colours stand for.
+/// Appends what the colours stand for, and what is counted.
 #[tactic(auto, unfolding(crate::specs::Spread::spread_legend))]
 fn push_legend(text: &mut String) -> Result<(), AllocError>
     ensures { OnOk result (string_bytes text.new ≡ string_bytes text.old ++ spread_legend) }
 {
     text.push_str("<ul class=\"legend\">")?;
     push_entry(text, "suspect", "have suspected it")?;
-    push_entry(text, "dead", "hold it dead")?;
-    text.push_str("</ul>")?;
+    push_entry(text, "dead", "have declared it dead")?;
+    text.push_str(
+        "</ul><p class=\"soft\">Only claims from the moment of the crash on are counted: a member that had declared it dead before isn't.</p>",
+    )?;
     Ok(())
 }
 
@@ -145,7 +147,7 @@ fn push_crash(
     Ok(())
 }
 
-/// Appends the same, where so many stay, by how they suspected the member and held it dead.
+/// Appends the same, where so many stay, by how they suspected the member and declared it dead.
 #[tactic(auto, unfolding(crate::specs::Spread::crash_part))]
 fn push_part(
     text: &mut String,
@@ -231,7 +233,7 @@ fn open_chart(text: &mut String, name: &str, width: u64, most: u64) -> Result<()
 /// Begins its shapes.
 fn open_shapes(text: &mut String, name: &str, width: u64, most: u64) -> Result<(), AllocError>
     ensures { OnOk result (string_bytes text.new ≡ string_bytes text.old
-        ++ plot_opening (codes "") width most name.now (codes "How many members had suspected it, and how many held it dead, by the time since its crash.")) }
+        ++ plot_opening (codes "") width most name.now (codes "How many members had suspected it, and how many had declared it dead, by the time since its crash.")) }
 {
     open_plot(
         text,
@@ -239,7 +241,7 @@ fn open_shapes(text: &mut String, name: &str, width: u64, most: u64) -> Result<(
         width,
         most,
         name,
-        "How many members had suspected it, and how many held it dead, by the time since its crash.",
+        "How many members had suspected it, and how many had declared it dead, by the time since its crash.",
     )
 }
 
@@ -256,7 +258,7 @@ fn push_reached(
     push_line(text, class, news.reached.as_slice(), step, most)
 }
 
-/// Appends after which times shares of those who stay had suspected the member and held it dead.
+/// Appends after which times shares of those who stay had suspected the member and declared it dead.
 #[tactic(auto, unfolding(crate::specs::Spread::share_table))]
 fn push_shares(text: &mut String, suspected: ShareTimes, dead: ShareTimes) -> Result<(), AllocError>
     ensures { OnOk result (string_bytes text.new ≡ string_bytes text.old ++ share_table suspected dead) }
@@ -264,7 +266,7 @@ fn push_shares(text: &mut String, suspected: ShareTimes, dead: ShareTimes) -> Re
     text.push_str("<div class=\"wide\"><table><tr><th>of those up<th>first")?;
     text.push_str("<th>50 %<th>90 %<th>99 %<th>all</tr>")?;
     push_row(text, "suspected it after", suspected)?;
-    push_row(text, "held it dead after", dead)?;
+    push_row(text, "declared it dead after", dead)?;
     text.push_str("</table></div>")?;
     Ok(())
 }

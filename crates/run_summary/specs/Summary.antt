@@ -1,5 +1,5 @@
 -- What happened, in a few words.
-use Rattle.std.specs.Prelude.{ℕ, Bool, nat_le, nat_lt, nat_eq, if◌then◌else◌, Option, Some, None, List, [], ◌∷◌, ◌++◌, codes, decimal, length, count_by, min, max}
+use Rattle.std.specs.Prelude.{ℕ, Bool, nat_lt, nat_eq, if◌then◌else◌, Option, Some, None, List, [], ◌∷◌, ◌++◌, codes, decimal, length, count_by, min, max}
 use Rattle.std.specs.Option.{is_some}
 use Rattle.std.specs.List.{reduce}
 use Rattle.schema.specs.declared.schema.Version.{Version}
@@ -13,23 +13,27 @@ use Rattle.reports.specs.Departures.{crashes_of, latencies_of}
 use Rattle.reports.specs.Revivals.{revivals}
 use Rattle.reports.specs.FalsePositives.{ways_to_depart, false_positives}
 use Rattle.drawing.specs.Numbers.{grouped}
+use Rattle.run_lanes.specs.Numbers.{by_number}
 use Rattle.run_lanes.specs.Wrongly.{count_out}
 
 -- how large the cluster is and how long it ran
 unfoldable pub size_words : Setup → List ℕ
-size_words s = grouped (member_count s) ++ codes " members, " ++ grouped s.end ++ codes " ticks. "
+size_words s =
+    grouped (member_count s) ++ by_number (member_count s) (codes " member, ") (codes " members, ") ++ grouped s.end ++ by_number s.end (codes " tick. ") (codes " ticks. ")
 
 -- how many crashed
 unfoldable pub crashed_words : ℕ → List ℕ
 crashed_words count = if nat_eq count 1 then codes "1 member crashed" else decimal count ++ codes " members crashed"
 
--- how many of them were found
+-- how many of them were detected, where not all were
+unfoldable pub some_found : ℕ → List ℕ
+some_found found = codes ", " ++ decimal found ++ by_number found (codes " of them was detected") (codes " of them were detected")
+
+-- how many of so many were detected
 unfoldable pub found_words : ℕ → ℕ → List ℕ
 found_words count found =
-    if nat_eq found 0 then codes ", and nobody found out. "
-    else if nat_le count found then []
-    else if nat_eq found 1 then codes ", 1 of them was found"
-    else codes ", " ++ decimal found ++ codes " of them were found"
+    if nat_eq found 0 then codes ", undetected. "
+    else if nat_lt found count then some_found found else []
 
 -- the greatest time, where it is another than the least
 abbrev pub greatest_words : ℕ → ℕ → List ℕ
@@ -37,9 +41,9 @@ greatest_words least greatest = if nat_lt least greatest then codes " to " ++ gr
 
 -- how soon: between these times
 unfoldable pub between_words : ℕ → ℕ → List ℕ
-between_words least greatest = codes ": first held dead after " ++ grouped least ++ greatest_words least greatest ++ codes " ticks. "
+between_words least greatest = codes ": first declared dead after " ++ grouped least ++ greatest_words least greatest ++ codes " ticks. "
 
--- the same, where some were found
+-- the same, where some were detected
 unfoldable pub latency_words : Option ℕ → Option ℕ → List ℕ
 latency_words (Some least) (Some greatest) = between_words least greatest
 latency_words _ _ = []
@@ -48,57 +52,65 @@ latency_words _ _ = []
 abbrev pub is_found : Departure → Bool
 is_found crash = is_some crash.detection.confirm
 
--- how many crashed, and how soon they were found
+-- how many crashed, and how soon they were detected
 unfoldable pub crash_words : List Departure → List ℕ
 crash_words crashes =
     if nat_eq (length crashes) 0 then codes "Nobody crashed. "
     else crashed_words (length crashes) ++ found_words (length crashes) (count_by is_found crashes)
     ++ latency_words (reduce min (latencies_of crashes)) (reduce max (latencies_of crashes))
 
--- how many were thrown out
+-- how many members have a false death
 unfoldable pub out_words : ℕ → List ℕ
 out_words out =
-    if nat_eq out 0 then codes "Nobody who was up was held dead."
-    else if nat_eq out 1 then codes "<b>1 member was thrown out though it was up.</b>"
-    else codes "<b>" ++ decimal out ++ codes " members were thrown out though they were up.</b>"
+    if nat_eq out 0 then codes "No member that was up was declared dead."
+    else if nat_eq out 1 then codes "<b>1 member was declared dead while it was up.</b>"
+    else codes "<b>" ++ decimal out ++ codes " members were declared dead while they were up.</b>"
 
 -- a figure begins, with its class
 unfoldable pub figure_start : List ℕ → List ℕ
 figure_start class = codes "<li class=\"" ++ class ++ codes "\"><b>"
 
--- a figure: its class, the number and its words
-unfoldable pub figure : List ℕ → ℕ → List ℕ → List ℕ
-figure class number words = figure_start class ++ grouped number ++ codes "</b><span>" ++ words ++ codes "</span></li>"
+-- a figure: its class, the number, and its words for one and for several
+unfoldable pub figure : List ℕ → ℕ → List ℕ → List ℕ → List ℕ
+figure class number one several = figure_start class ++ grouped number ++ codes "</b><span>" ++ by_number number one several ++ codes "</span></li>"
 
--- the class of the figure of those who were thrown out
+-- the class of a figure of false deaths
 abbrev pub out_class : ℕ → List ℕ
 out_class out = if nat_lt 0 out then codes "bad" else codes ""
 
--- how often members were taken back, where the version has that
+-- how often members declared others alive again, where the version has that
 abbrev pub back_figure : Version → List Row → List ℕ
 back_figure One rows = []
 back_figure Two rows = []
-back_figure Three rows = figure (codes "") (revivals rows) (codes "taken back")
+back_figure Three rows = figure (codes "") (revivals rows) (codes "time declared alive again") (codes "times declared alive again")
 
--- how many crashed, and how many were thrown out
-unfoldable pub first_figures : ℕ → ℕ → List ℕ
-first_figures crashed out = figure (codes "") crashed (codes "crashed") ++ figure (out_class out) out (codes "thrown out though up")
+-- how many members crashed, how many have a false death, and how many false deaths there are
+unfoldable pub first_figures : ℕ → ℕ → ℕ → List ℕ
+first_figures crashed out deaths =
+    figure (codes "") crashed (codes "member crashed") (codes "members crashed")
+    ++ figure (out_class out) out (codes "member with a false death") (codes "members with a false death")
+    ++ figure (out_class deaths) deaths (codes "false death") (codes "false deaths")
+
+-- the same of these rows, where so many members have a false death
+abbrev pub first_figures_of : ℕ → List Row → List ℕ
+first_figures_of out rows = first_figures (length (crashes_of rows)) out (false_positives ways_to_depart what.Confirm rows)
 
 -- the figures of the protocol and of the trace
 unfoldable pub last_figures : ℕ → ℕ → ℕ → ℕ → ℕ → List ℕ
 last_figures suspicions refutations fails worst rows =
-    figure (codes "") suspicions (codes "false suspicions") ++ figure (codes "") refutations (codes "refutations") ++ figure (codes "") fails (codes "failed probes")
-    ++ figure (codes "") worst (codes "worst health") ++ figure (codes "") rows (codes "rows in the trace")
+    figure (codes "") suspicions (codes "false suspicion") (codes "false suspicions") ++ figure (codes "") refutations (codes "refutation") (codes "refutations")
+    ++ figure (codes "") fails (codes "failed probe") (codes "failed probes") ++ figure (codes "") worst (codes "worst health") (codes "worst health")
+    ++ figure (codes "") rows (codes "row in the trace") (codes "rows in the trace")
 
 -- the same of these rows
 abbrev pub last_figures_of : List Row → List ℕ
 last_figures_of rows = last_figures (false_positives ways_to_depart what.Suspect rows) (count_of what.Refute rows) (count_of what.Fail rows) (worst_health rows) (length rows)
 
--- the figures, where so many were thrown out
+-- the figures, where so many members have a false death
 unfoldable pub figures : Version → ℕ → List Row → List ℕ
-figures version out rows = first_figures (length (crashes_of rows)) out ++ back_figure version rows ++ last_figures_of rows
+figures version out rows = first_figures_of out rows ++ back_figure version rows ++ last_figures_of rows
 
--- what happened, where so many were thrown out
+-- what happened, where so many members have a false death
 unfoldable pub summary_of : Setup → ℕ → List Row → List ℕ
 summary_of s out rows =
     codes "<p class=\"lead\">" ++ size_words s ++ crash_words (crashes_of rows) ++ out_words out

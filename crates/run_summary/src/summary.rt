@@ -5,14 +5,15 @@ ghost use Rattle.std.specs.List.{reduce};
 ghost use Rattle.scenario.specs.Setup.{member_count};
 ghost use Rattle.reports.specs.Departures.{crashes_of, latencies_of};
 ghost use Rattle.drawing.specs.Numbers.{grouped};
+ghost use Rattle.run_lanes.specs.Numbers.{by_number};
 ghost use Rattle.run_lanes.specs.Run.{IsTold};
 ghost use Rattle.run_lanes.specs.Wrongly.{count_out};
-ghost use Rattle.run_summary.specs.Summary.{size_words, crashed_words, found_words, greatest_words, between_words, latency_words, is_found, crash_words, out_words, figure_start, figure, out_class, back_figure, first_figures, last_figures, last_figures_of, figures, summary_of, summary_text};
+ghost use Rattle.run_summary.specs.Summary.{size_words, crashed_words, some_found, found_words, greatest_words, between_words, latency_words, is_found, crash_words, out_words, figure_start, figure, out_class, back_figure, first_figures, first_figures_of, last_figures, last_figures_of, figures, summary_of, summary_text};
 
 use base::Memory;
 use drawing::push_grouped;
 use reports::{Departure, Tallies, false_positive_count};
-use run_lanes::{Run, claims_by_member};
+use run_lanes::{Run, by_number, claims_by_member};
 use scenario::Version;
 use std::alloc::{AllocError, Global};
 use trace::What;
@@ -27,7 +28,7 @@ pub fn push_summary(alloc: Global, text: &mut String, run: &Run) -> Result<(), M
     Ok(())
 }
 
-/// How many members were thrown out though they were up.
+/// How many members have a false death: somebody declared them dead while they were up.
 fn members_out(alloc: Global, run: &Run) -> Result<u64, Memory>
     requires { IsTold run.now }
     ensures { IfOk result (λ out. out ≡ count_out (member_count run.now.scenario.now) run.now.tallies.now) }
@@ -44,7 +45,7 @@ fn count_some(numbers: &[u64]) -> u64
     numbers.iter().filter(|number| **number > 0).count() as u64
 }
 
-/// Appends what happened, where so many were thrown out.
+/// Appends what happened, where so many members have a false death.
 #[tactic(auto, unfolding(crate::specs::Summary::summary_of))]
 fn push_all(text: &mut String, run: &Run, out: u64) -> Result<(), AllocError>
     requires { IsTold run.now }
@@ -66,13 +67,20 @@ fn push_size(text: &mut String, run: &Run) -> Result<(), AllocError>
     requires { IsTold run.now }
     ensures { OnOk result (string_bytes text.new ≡ string_bytes text.old ++ size_words run.now.scenario.now) }
 {
-    push_grouped(text, run.members() as u64)?;
-    text.push_str(" members, ")?;
-    push_grouped(text, run.end())?;
-    text.push_str(" ticks. ")
+    push_with(text, run.members() as u64, " member, ", " members, ")?;
+    push_with(text, run.end(), " tick. ", " ticks. ")?;
+    Ok(())
 }
 
-/// Appends how many crashed, and how soon they were found.
+/// Appends a number and its words, for one or for several.
+fn push_with(text: &mut String, number: u64, one: &str, several: &str) -> Result<(), AllocError>
+    ensures { OnOk result (string_bytes text.new ≡ string_bytes text.old ++ (grouped number ++ by_number number one.now several.now)) }
+{
+    push_grouped(text, number)?;
+    text.push_str(by_number(number, one, several))
+}
+
+/// Appends how many crashed, and how soon they were detected.
 #[tactic(auto, unfolding(crate::specs::Summary::crash_words))]
 fn push_crashes(text: &mut String, crashes: &[Departure]) -> Result<(), AllocError>
     ensures { OnOk result (string_bytes text.new ≡ string_bytes text.old ++ crash_words crashes.now) }
@@ -98,7 +106,7 @@ fn push_crashed(text: &mut String, count: usize) -> Result<(), AllocError>
     }
 }
 
-/// How many of these crashes were found.
+/// How many of these crashes were detected: somebody declared the member dead.
 fn count_found(crashes: &[Departure]) -> usize
     ensures { result ≡ count_by is_found crashes.now }
 {
@@ -108,21 +116,32 @@ fn count_found(crashes: &[Departure]) -> usize
         .count()
 }
 
-/// Appends how many of so many crashes were found.
+/// Appends how many of so many crashes were detected.
 #[tactic(auto, unfolding(crate::specs::Summary::found_words))]
 fn push_found(text: &mut String, count: usize, found: usize) -> Result<(), AllocError>
     ensures { OnOk result (string_bytes text.new ≡ string_bytes text.old ++ found_words count found) }
 {
     if found == 0 {
-        return text.push_str(", and nobody found out. ");
+        return text.push_str(", undetected. ");
     }
-    if found >= count {
-        return Ok(());
+    if found < count {
+        return push_some_found(text, found);
     }
-    if found == 1 {
-        return text.push_str(", 1 of them was found");
-    }
-    write!(text, ", {found} of them were found")
+    Ok(())
+}
+
+/// Appends that only so many of the crashes were detected.
+#[tactic(auto, unfolding(crate::specs::Summary::some_found))]
+fn push_some_found(text: &mut String, found: usize) -> Result<(), AllocError>
+    ensures { OnOk result (string_bytes text.new ≡ string_bytes text.old ++ some_found found) }
+{
+    write!(text, ", {found}")?;
+    text.push_str(by_number(
+        found as u64,
+        " of them was detected",
+        " of them were detected",
+    ))?;
+    Ok(())
 }
 
 fn least_latency(crashes: &[Departure]) -> Option<u64>
@@ -137,7 +156,7 @@ fn greatest_latency(crashes: &[Departure]) -> Option<u64>
     crashes.iter().filter_map(|crash| crash.latency()).max()
 }
 
-/// Appends how long it took until crashes were found, at least and at most, where some were.
+/// Appends how long it took until crashes were detected, at least and at most, where some were.
 #[tactic(auto, unfolding(crate::specs::Summary::latency_words))]
 fn push_latencies(
     text: &mut String,
@@ -155,12 +174,12 @@ fn push_latencies(
     push_between(text, least, greatest)
 }
 
-/// Appends between which times crashes were found.
+/// Appends between which times crashes were detected.
 #[tactic(auto, unfolding(crate::specs::Summary::between_words))]
 fn push_between(text: &mut String, least: u64, greatest: u64) -> Result<(), AllocError>
     ensures { OnOk result (string_bytes text.new ≡ string_bytes text.old ++ between_words least greatest) }
 {
-    text.push_str(": first held dead after ")?;
+    text.push_str(": first declared dead after ")?;
     push_grouped(text, least)?;
     push_greatest(text, least, greatest)?;
     text.push_str(" ticks. ")?;
@@ -186,24 +205,24 @@ fn push_to(text: &mut String, greatest: u64) -> Result<(), AllocError>
     Ok(())
 }
 
-/// Appends how many were thrown out.
+/// Appends how many members have a false death.
 #[tactic(auto, unfolding(crate::specs::Summary::out_words))]
 fn push_out(text: &mut String, out: u64) -> Result<(), AllocError>
     ensures { OnOk result (string_bytes text.new ≡ string_bytes text.old ++ out_words out) }
 {
     if out == 0 {
-        return text.push_str("Nobody who was up was held dead.");
+        return text.push_str("No member that was up was declared dead.");
     }
     if out == 1 {
-        return text.push_str("<b>1 member was thrown out though it was up.</b>");
+        return text.push_str("<b>1 member was declared dead while it was up.</b>");
     }
     write!(
         text,
-        "<b>{out} members were thrown out though they were up.</b>"
+        "<b>{out} members were declared dead while they were up.</b>"
     )
 }
 
-/// Appends the figures, where so many were thrown out.
+/// Appends the figures, where so many members have a false death.
 #[tactic(auto, unfolding(crate::specs::Summary::figures))]
 fn push_figures(
     text: &mut String,
@@ -219,28 +238,55 @@ fn push_figures(
     Ok(())
 }
 
-/// Appends how many crashed, and how many were thrown out.
+/// Appends how many members crashed, how many have a false death, and how many false deaths there are.
 fn push_first_of(text: &mut String, tallies: &Tallies, out: u64) -> Result<(), AllocError>
-    ensures { OnOk result (string_bytes text.new ≡ string_bytes text.old ++ first_figures (length (crashes_of tallies.now)) out) }
+    ensures { OnOk result (string_bytes text.new ≡ string_bytes text.old ++ first_figures_of out tallies.now) }
 {
-    push_first(text, tallies.crashes().len() as u64, out)
+    push_first(
+        text,
+        tallies.crashes().len() as u64,
+        out,
+        false_positive_count(tallies, What::Confirm) as u64,
+    )
 }
 
-/// Appends that so many crashed, and that so many were thrown out.
+/// Appends these figures.
 #[tactic(auto, unfolding(crate::specs::Summary::first_figures))]
-fn push_first(text: &mut String, crashed: u64, out: u64) -> Result<(), AllocError>
-    ensures { OnOk result (string_bytes text.new ≡ string_bytes text.old ++ first_figures crashed out) }
+fn push_first(text: &mut String, crashed: u64, out: u64, deaths: u64) -> Result<(), AllocError>
+    ensures { OnOk result (string_bytes text.new ≡ string_bytes text.old ++ first_figures crashed out deaths) }
 {
-    push_figure(text, "", crashed, "crashed")?;
+    push_figure(text, "", crashed, "member crashed", "members crashed")?;
     push_out_figure(text, out)?;
+    push_death_figure(text, deaths)?;
     Ok(())
 }
 
-/// Appends the figure of those who were thrown out.
+/// Appends the figure of the members that have a false death.
 fn push_out_figure(text: &mut String, out: u64) -> Result<(), AllocError>
-    ensures { OnOk result (string_bytes text.new ≡ string_bytes text.old ++ figure (out_class out) out (codes "thrown out though up")) }
+    ensures { OnOk result (string_bytes text.new ≡ string_bytes text.old
+        ++ figure (out_class out) out (codes "member with a false death") (codes "members with a false death")) }
 {
-    push_figure(text, out_class(out), out, "thrown out though up")
+    push_figure(
+        text,
+        out_class(out),
+        out,
+        "member with a false death",
+        "members with a false death",
+    )
+}
+
+/// Appends the figure of the false deaths.
+fn push_death_figure(text: &mut String, deaths: u64) -> Result<(), AllocError>
+    ensures { OnOk result (string_bytes text.new ≡ string_bytes text.old
+        ++ figure (out_class deaths) deaths (codes "false death") (codes "false deaths")) }
+{
+    push_figure(
+        text,
+        out_class(deaths),
+        deaths,
+        "false death",
+        "false deaths",
+    )
 }
 
 /// Appends the figures of the protocol and of the trace.
@@ -269,40 +315,52 @@ fn push_last(
 ) -> Result<(), AllocError>
     ensures { OnOk result (string_bytes text.new ≡ string_bytes text.old ++ last_figures suspicions refutations fails worst rows) }
 {
-    push_figure(text, "", suspicions, "false suspicions")?;
-    push_figure(text, "", refutations, "refutations")?;
-    push_figure(text, "", fails, "failed probes")?;
-    push_figure(text, "", worst, "worst health")?;
-    push_figure(text, "", rows, "rows in the trace")?;
+    push_figure(text, "", suspicions, "false suspicion", "false suspicions")?;
+    push_figure(text, "", refutations, "refutation", "refutations")?;
+    push_figure(text, "", fails, "failed probe", "failed probes")?;
+    push_figure(text, "", worst, "worst health", "worst health")?;
+    push_figure(text, "", rows, "row in the trace", "rows in the trace")?;
     Ok(())
 }
 
-/// The class of the figure of those who were thrown out.
+/// The class of a figure of false deaths.
 fn out_class(out: u64) -> &'static str
     ensures { result.now ≡ out_class out }
 {
     if out > 0 { "bad" } else { "" }
 }
 
-/// Appends how often members were taken for alive again, where the version has that.
+/// Appends how often members declared others alive again, where the version has that.
 fn push_back(text: &mut String, version: Version, tallies: &Tallies) -> Result<(), AllocError>
     ensures { OnOk result (string_bytes text.new ≡ string_bytes text.old ++ back_figure version tallies.now) }
 {
     match version {
         Version::One | Version::Two => Ok(()),
-        Version::Three => push_figure(text, "", tallies.revivals(), "taken back"),
+        Version::Three => push_figure(
+            text,
+            "",
+            tallies.revivals(),
+            "time declared alive again",
+            "times declared alive again",
+        ),
     }
 }
 
-/// Appends one figure.
+/// Appends one figure, with its words for one and for several.
 #[tactic(auto, unfolding(crate::specs::Summary::figure))]
-fn push_figure(text: &mut String, class: &str, number: u64, words: &str) -> Result<(), AllocError>
-    ensures { OnOk result (string_bytes text.new ≡ string_bytes text.old ++ figure class.now number words.now) }
+fn push_figure(
+    text: &mut String,
+    class: &str,
+    number: u64,
+    one: &str,
+    several: &str,
+) -> Result<(), AllocError>
+    ensures { OnOk result (string_bytes text.new ≡ string_bytes text.old ++ figure class.now number one.now several.now) }
 {
     open_figure(text, class)?;
     push_grouped(text, number)?;
     text.push_str("</b><span>")?;
-    text.push_str(words)?;
+    text.push_str(by_number(number, one, several))?;
     text.push_str("</span></li>")?;
     Ok(())
 }

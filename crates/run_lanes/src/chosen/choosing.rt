@@ -83,7 +83,7 @@ fn chosen(run: &Run, number: u16, wrongly: u64) -> Option<Chosen>
     None
 }
 
-/// How often members came to suspect a member, or to hold it dead, as far as 64 bits hold it.
+/// How often members came to suspect a member, or declared it dead, as far as 64 bits hold it.
 fn times_accused(run: &Run, member: MemberId) -> u64
     requires told { IsTold run.now }
     requires within { member < member_count run.now.scenario.now }

@@ -15,6 +15,9 @@ use Rattle.sweep_command.proofs.paging.tell_both.Goals as goal
 pub cases_told-requires-clause-few : goal.cases_told-requires-clause-few
 cases_told-requires-clause-few g c = subst (All HasFewRuns) (sym c.deref-2.ensures.value) (few_runs_each _ _ _ _ _ _ _ c.requires.asked c.in_ok-cases.ensures.whole)
 
+pub write_page-requires-clause-few : goal.write_page-requires-clause-few
+write_page-requires-clause-few g c = subst (All HasFewRuns) (sym c.deref-3.ensures.value) (few_runs_each _ _ _ _ _ _ _ c.requires.asked c.in_ok-cases.ensures.whole)
+
 pub returns-clause-whole : goal.returns-clause-whole
 returns-clause-whole g c = record {
   cases = c.in_ok-cases.cases.items;
