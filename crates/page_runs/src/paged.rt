@@ -29,7 +29,13 @@ use whole_runs::the_run_is_one;
 /// of that. Where there is a `watch` it is told how far the run has come, as far as it takes that.
 ///
 /// Faults: as of `run_shared`; `Write` also where the page's sink failed.
-pub fn run_with_page<A: Sink, B: Sink, C: Sink, W: Write, R: Threads + Wait + Sync + Files + AllocGlobal>(
+pub fn run_with_page<
+    A: Sink,
+    B: Sink,
+    C: Sink,
+    W: Write,
+    R: Threads + Wait + Sync + Files + AllocGlobal,
+>(
     rt: &R,
     alloc: Global,
     scenario: &Scenario,

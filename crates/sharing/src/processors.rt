@@ -46,7 +46,10 @@ fn idle_processors<R: Files + AllocGlobal>(rt: &R) -> Option<usize> {
 /// The processors that the control group of this process may keep busy.
 fn share_of_group<R: Files + AllocGlobal>(rt: &R) -> Option<usize> {
     let own = fs::read_to_string(rt, OWN_GROUP).ok()?;
-    let path = own.as_str().lines().find_map(|line| line.strip_prefix("0::"))?;
+    let path = own
+        .as_str()
+        .lines()
+        .find_map(|line| line.strip_prefix("0::"))?;
     let file = format!(in rt.alloc(); "{GROUPS}{path}/cpu.max").ok()?;
     let most = fs::read_to_string(rt, file.as_str()).ok()?;
     quota_in(most.as_str())

@@ -68,7 +68,12 @@ pub fn run_shared<A: Sink, B: Sink, R: Threads + Wait + Sync + Files + AllocGlob
 /// come: that and the tallies of the rows are whole where it succeeds.
 ///
 /// Faults: as of `run_shared`.
-pub fn run_shared_gathered<A: Sink, B: Sink, C: GatherRows, R: Threads + Wait + Sync + Files + AllocGlobal>(
+pub fn run_shared_gathered<
+    A: Sink,
+    B: Sink,
+    C: GatherRows,
+    R: Threads + Wait + Sync + Files + AllocGlobal,
+>(
     rt: &R,
     alloc: Global,
     scenario: &Scenario,
